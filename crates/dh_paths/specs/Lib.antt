@@ -1,0 +1,5 @@
+pub mod Texts
+pub mod Escapes
+pub mod Places
+pub mod Slugs
+pub mod Targets

@@ -1,0 +1,59 @@
+ghost use Rattle.std.specs.Prelude.{◌≡◌, IfOk, IsTrue};
+ghost use Rattle.dh_paths.specs.Texts.{is_ref_name, Parses};
+
+use crate::classes::all_no_control;
+use crate::fault::TextFault;
+use std::alloc::{AllocError, Global};
+use std::marker::Model;
+
+fn passes_ref_name(text: &str) -> bool
+    ensures { result ≡ is_ref_name text.now }
+{
+    let bytes = text.as_bytes();
+    1 <= bytes.len() && bytes.len() <= 255 && all_no_control(bytes)
+}
+
+/// The name of a branch or a tag as its repository has it: 1 to 255 bytes with no control byte.
+#[derive(Drop)]
+pub struct RefName {
+    inner: String,
+}
+
+impl Model for RefName {
+    ghost use Rattle.std.specs.Prelude.{List, ℕ, string_bytes, IsTrue};
+    ghost use Rattle.dh_paths.specs.Texts.{is_ref_name};
+
+    ghost Value = { List ℕ };
+
+    ghost view = { λ t. string_bytes t.inner };
+
+    ghost invariant = { λ t. IsTrue (is_ref_name (string_bytes t.inner)) };
+}
+
+impl RefName {
+    pub fn parse(alloc: Global, text: &str) -> Result<RefName, TextFault>
+        ensures { Parses is_ref_name TextFault.BadRef text.now result }
+    {
+        if !passes_ref_name(text) {
+            return Err(TextFault::BadRef);
+        }
+        Ok(RefName {
+            inner: String::from_str(alloc, text)?,
+        })
+    }
+
+    pub fn as_str(&self) -> &str
+        ensures text { result.now ≡ self.now }
+        ensures checked { IsTrue (is_ref_name self.now) }
+    {
+        self.inner.as_str()
+    }
+
+    pub fn try_copy(&self, alloc: Global) -> Result<RefName, AllocError>
+        ensures { IfOk result (λ copy. copy ≡ self.now) }
+    {
+        Ok(RefName {
+            inner: String::from_str(alloc, self.inner.as_str())?,
+        })
+    }
+}

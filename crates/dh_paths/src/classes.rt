@@ -1,0 +1,29 @@
+//! Tests that several texts share.
+
+ghost use Rattle.std.specs.Prelude.{◌≡◌};
+ghost use Rattle.std.specs.List.{list_all};
+ghost use Rattle.dh_paths.specs.Texts.{first_byte, last_byte, is_lower_or_digit, is_no_control};
+
+pub fn lower_or_digit(byte: u8) -> bool
+    ensures { result ≡ is_lower_or_digit byte }
+{
+    matches!(byte, b'a'..=b'z' | b'0'..=b'9')
+}
+
+pub fn first_of(bytes: &[u8]) -> u8
+    ensures { result ≡ first_byte bytes.now }
+{
+    bytes.first().copied().unwrap_or(0)
+}
+
+pub fn last_of(bytes: &[u8]) -> u8
+    ensures { result ≡ last_byte bytes.now }
+{
+    bytes.last().copied().unwrap_or(0)
+}
+
+pub fn all_no_control(bytes: &[u8]) -> bool
+    ensures { result ≡ list_all is_no_control bytes.now }
+{
+    bytes.iter().all(|b| *b >= 32 && *b != 127)
+}
