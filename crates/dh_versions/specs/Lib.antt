@@ -1,0 +1,2 @@
+pub mod Release
+pub mod Aliases

@@ -1,0 +1,24 @@
+use dh_paths::{RefName, Slug};
+
+/// What a version comes from.
+#[derive(Clone, Copy, Debug, PartialEq, Eq)]
+pub enum Kind {
+    Branch,
+    Tag,
+}
+
+/// A version of a project's documentation.
+#[derive(Drop)]
+pub struct Version {
+    /// Its name in addresses.
+    pub slug: Slug,
+    pub kind: Kind,
+    /// The name of the branch or tag.
+    pub name: RefName,
+    /// Pages of an inactive version are not served.
+    pub active: bool,
+    /// A hidden version is served and left out of lists.
+    pub hidden: bool,
+    /// A private version is served only to those who hold a pass for it.
+    pub private: bool,
+}
