@@ -1,0 +1,97 @@
+-- What automation rules do with a new version.
+use Rattle.std.specs.Prelude.{◌≡◌, ◌⊎◌, ℕ, ◌<◌, ◌+◌, nat_le, length, List, [], ◌∷◌, Bool, true, false, ◌&&◌, ◌||◌, Option, Some, None, Result, Err, IsOk, ⊤, slice_get, filter, map}
+use Rattle.std.specs.List.{list_any, filter_map}
+use Rattle.dh_versions.specs.declared.version.Kind.{Kind}
+use Rattle.dh_versions.specs.declared.version.Kind.TheVariants.{Branch, Tag}
+use Rattle.dh_rules.specs.Patterns.{is_expression, is_match, MayBeRefused, MayBeRefusedPattern}
+use Rattle.dh_rules.specs.declared.fault.CheckFault.{CheckFault}
+use Rattle.dh_rules.specs.declared.fault.CheckFault.TheVariants.{BadPattern}
+use Rattle.dh_rules.specs.declared.pattern.Pattern.{Pattern}
+use Rattle.dh_rules.specs.declared.pattern.Pattern.TheVariants.{All, SemVer, Custom}
+use Rattle.dh_rules.specs.declared.rule.Action.{Action}
+use Rattle.dh_rules.specs.declared.rule.Action.TheVariants.{Activate, Hide, Public, Private, Default}
+use Rattle.dh_rules.specs.declared.rule.Rule.{Rule}
+use Rattle.dh_rules.specs.declared.rule.Fresh.{Fresh}
+
+abbrev pub same_kind : Kind → Kind → Bool
+same_kind Branch Branch = true
+same_kind Branch Tag = false
+same_kind Tag Branch = false
+same_kind Tag Tag = true
+
+-- whether the rule is for versions of this kind and its pattern matches this name
+abbrev pub is_met : Rule → Kind → List ℕ → Bool
+is_met rule kind name = same_kind rule.kind kind && is_match rule.pattern name
+
+-- hiding a version and setting it as default activate it too
+abbrev pub activates : Action → Bool
+activates Activate = true
+activates Hide = true
+activates Default = true
+activates Public = false
+activates Private = false
+
+abbrev pub hides : Action → Bool
+hides Hide = true
+hides Activate = false
+hides Public = false
+hides Private = false
+hides Default = false
+
+abbrev pub chooses : Action → Bool
+chooses Default = true
+chooses Activate = false
+chooses Hide = false
+chooses Public = false
+chooses Private = false
+
+-- whether the action makes a version private, if it speaks of that
+abbrev pub privacy_of : Action → Option Bool
+privacy_of Public = Some false
+privacy_of Private = Some true
+privacy_of Activate = None
+privacy_of Hide = None
+privacy_of Default = None
+
+-- the actions of the rules that are met
+abbrev pub actions_met : List Rule → Kind → List ℕ → List Action
+actions_met rules kind name = map (λ r. r.action) (filter (λ r. is_met r kind name) rules)
+
+-- the last of a list, or what was before
+abbrev pub last_said : List Bool → Bool → Bool
+last_said [] before = before
+last_said (x ∷ rest) before = last_said rest x
+
+-- a new version after the rules: of all that are met, active, hidden or chosen if one of them says so or it was before, and private as the last that speaks of it says
+abbrev pub after_rules : List Rule → Fresh → Fresh
+after_rules rules fresh =
+    let actions = actions_met rules fresh.kind fresh.name in
+    record fresh {
+      active = fresh.active || list_any activates actions;
+      hidden = fresh.hidden || list_any hides actions;
+      private = last_said (filter_map privacy_of actions) fresh.private;
+      chosen = fresh.chosen || list_any chooses actions;
+    }
+
+-- a command may add the rule: a custom text is an expression of at most 200 bytes
+abbrev pub is_allowed : Pattern → Bool
+is_allowed All = true
+is_allowed SemVer = true
+is_allowed (Custom text) = nat_le (length text) 200 && is_expression text
+
+-- the pattern is custom, and over 200 bytes or one that `regex` may refuse
+abbrev pub IsBad : Pattern → Type 0
+IsBad All = ⊥
+IsBad SemVer = ⊥
+IsBad (Custom text) = (200 < length text) ⊎ MayBeRefused text
+
+-- what the check answers without asking `regex`: it passes other patterns, and refuses a custom text over 200 bytes
+abbrev pub AnswersUnasked : Pattern → Result ⊤ CheckFault → Type 0
+AnswersUnasked All answer = IsOk answer
+AnswersUnasked SemVer answer = IsOk answer
+AnswersUnasked (Custom text) answer = 200 < length text → answer ≡ Err BadPattern
+
+-- at this place, from 1, stands a rule of the kind with a custom pattern that `regex` may refuse
+abbrev pub MayBeRefusedAt : List Rule → Kind → ℕ → Type 0
+MayBeRefusedAt rules kind place =
+    (before : ℕ) × (rule : Rule) × (place ≡ before + 1) × (slice_get rules before ≡ Some rule) × (rule.kind ≡ kind) × MayBeRefusedPattern rule.pattern

@@ -1,0 +1,79 @@
+//! Rules, and the new versions that they act on.
+
+ghost use Rattle.std.specs.Prelude.{◌≡◌, IsTrue, OnOk};
+
+use crate::fault::CheckFault;
+use crate::pattern::{Pattern, compiled};
+use dh_paths::RefName;
+use dh_versions::Kind;
+use std::alloc::Global;
+
+/// The most bytes that the text of a custom pattern may have.
+pub const MAX_EXPRESSION: usize = 200;
+
+/// What a rule does with a new version.
+#[derive(Clone, Copy, Debug, PartialEq, Eq)]
+pub enum Action {
+    Activate,
+    /// Hides the version, and activates it.
+    Hide,
+    Public,
+    Private,
+    /// Sets the version as default, and activates it.
+    Default,
+}
+
+impl Action {
+    ghost use Rattle.dh_rules.specs.Rules.{activates};
+
+    /// Hiding a version and setting it as default activate it too.
+    pub fn activates(self) -> bool
+        ensures { result ≡ activates self }
+    {
+        matches!(self, Action::Activate | Action::Hide | Action::Default)
+    }
+}
+
+/// An automation rule of a project.
+#[derive(Drop)]
+pub struct Rule {
+    /// The rule is for versions of this kind.
+    pub kind: Kind,
+    pub pattern: Pattern,
+    pub action: Action,
+}
+
+impl Rule {
+    ghost use Rattle.dh_rules.specs.Rules.{is_allowed, IsBad, AnswersUnasked};
+
+    /// Whether a command may add the rule.
+    pub fn check(&self, alloc: Global) -> Result<(), CheckFault>
+        ensures ok { OnOk result (IsTrue (is_allowed self.now.pattern)) }
+        ensures bad { result ≡ Err CheckFault.BadPattern → IsBad self.now.pattern }
+        ensures unasked { AnswersUnasked self.now.pattern result }
+    {
+        let Pattern::Custom(text) = &self.pattern else {
+            return Ok(());
+        };
+        if text.as_str().len() > MAX_EXPRESSION {
+            return Err(CheckFault::BadPattern);
+        }
+        match compiled(alloc, text.as_str())? {
+            Some(_) => Ok(()),
+            None => Err(CheckFault::BadPattern),
+        }
+    }
+}
+
+/// A new version before it is stored.
+#[derive(Drop)]
+pub struct Fresh {
+    pub kind: Kind,
+    /// The name of the branch or tag.
+    pub name: RefName,
+    pub active: bool,
+    pub hidden: bool,
+    pub private: bool,
+    /// Whether a rule set it as default.
+    pub chosen: bool,
+}
