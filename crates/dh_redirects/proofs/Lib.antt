@@ -1,0 +1,4 @@
+pub mod TextLemmas
+pub mod FillLemmas
+pub mod LocationLemmas
+pub mod LawLemmas

@@ -1,0 +1,38 @@
+//! The other name of a file: `install/` and `install.html`.
+
+ghost use Rattle.std.specs.Prelude.{◌≡◌, IfOk, Some, None, MatchOption};
+ghost use Rattle.dh_redirects.specs.Locations.{stem, html_file, clean_file};
+
+use dh_paths::Text;
+use std::alloc::{AllocError, Global};
+
+/// What stands before the end, where something does.
+fn stem_of<'a>(file: &'a str, end: &str) -> Option<&'a str>
+    ensures { MatchOption result (stem end.now file.now ≡ None) (λ p. stem end.now file.now ≡ Some p.now) }
+{
+    let Some(stem) = file.strip_suffix(end) else {
+        return None;
+    };
+    if stem.is_empty() { None } else { Some(stem) }
+}
+
+pub fn html_of(alloc: Global, file: &str) -> Result<Option<Text>, AllocError>
+    ensures { IfOk result (λ r. r ≡ html_file file.now) }
+{
+    match stem_of(file, "/index.html").or(stem_of(file, "/")) {
+        Some(stem) => Ok(Some(Text::wrap(format!(in alloc; "{stem}.html")?))),
+        None => Ok(None),
+    }
+}
+
+pub fn clean_of(alloc: Global, file: &str) -> Result<Option<Text>, AllocError>
+    ensures { IfOk result (λ r. r ≡ clean_file file.now) }
+{
+    if file == "index.html" {
+        return Ok(Some(Text::wrap(String::new(alloc))));
+    }
+    match stem_of(file, "/index.html").or(stem_of(file, ".html")) {
+        Some(stem) => Ok(Some(Text::wrap(format!(in alloc; "{stem}/")?))),
+        None => Ok(None),
+    }
+}

@@ -1,0 +1,16 @@
+//! Redirects of a documentation host: which are accepted, and where each leads.
+#![tactic(auto)]
+
+mod files;
+mod fill;
+pub mod laws;
+pub mod query;
+pub mod redirect;
+pub mod result;
+mod texts;
+
+pub use query::with_query;
+pub use redirect::{Asked, BadRedirect, Location, Parts, Redirect, RedirectKind};
+
+#[cfg(test)]
+mod tests;

@@ -1,0 +1,120 @@
+ghost use Rattle.std.specs.Prelude.{◌≡◌};
+ghost use Rattle.std.specs.Result.{result_err};
+
+use crate::texts::{absolute, early_star, final_star, holds_splat, path, short_text};
+use dh_paths::{Lang, Slug, Text};
+use thiserror::Error;
+
+/// What a redirect compares and changes (Read the Docs, Redirects).
+#[derive(Clone, Copy, Debug, PartialEq, Eq)]
+pub enum RedirectKind {
+    /// Compares From with `/` and the file, in every language and version.
+    Page,
+    /// Compares From with the whole path.
+    Exact,
+    /// `install/` leads to `install.html`.
+    CleanToHtml,
+    /// `install.html` leads to `install/`.
+    HtmlToClean,
+}
+
+/// A redirect of a project. The kinds that change the file have an empty From and To.
+#[derive(Drop)]
+pub struct Redirect {
+    pub kind: RedirectKind,
+    /// From: a path, whose final `*` stands for any rest.
+    pub source: Text,
+    /// To: a path or an absolute URL, where each `:splat` stands for that rest.
+    pub target: Text,
+    /// 301 or 302.
+    pub status: u16,
+    /// Whether it applies to pages that exist, too.
+    pub force: bool,
+}
+
+/// Why a redirect is refused. The first that is true is told, where `UnusedText` comes before `BadStatus`.
+#[derive(Clone, Copy, Debug, PartialEq, Eq, Error)]
+pub enum BadRedirect {
+    #[error("From is no path of at most 512 bytes without control bytes")]
+    BadSource,
+    #[error("From has a `*` before its end")]
+    EarlyStar,
+    #[error("To is no path and no absolute URL of at most 512 bytes without control bytes")]
+    BadTarget,
+    #[error("To has a `:splat`, and From does not end in `*`")]
+    SplatWithoutStar,
+    #[error("the status is neither 301 nor 302")]
+    BadStatus,
+    #[error("a redirect of this kind has no From and no To")]
+    UnusedText,
+}
+
+/// What a request asks for.
+#[derive(Drop)]
+pub struct Asked {
+    /// The path, percent-decoded.
+    pub path: Text,
+    /// What stands after the first `?`, as sent.
+    pub query: Option<Text>,
+    /// There where the path is `/language/version/file`, the language is one of the project's and the version's name resolves.
+    pub parts: Option<Parts>,
+}
+
+/// The parts of a path `/language/version/file`, decoded.
+#[derive(Drop)]
+pub struct Parts {
+    pub lang: Lang,
+    pub name: Slug,
+    pub file: Text,
+}
+
+/// Where a redirect leads: its status, and the text of the `Location` field.
+#[derive(Drop)]
+pub struct Location {
+    pub status: u16,
+    pub text: Text,
+}
+
+impl RedirectKind {
+    ghost use Rattle.dh_redirects.specs.Redirects.{has_texts};
+
+    /// Whether redirects of this kind have a From and a To.
+    pub fn has_texts(self) -> bool
+        ensures { result ≡ has_texts self }
+    {
+        matches!(self, RedirectKind::Page | RedirectKind::Exact)
+    }
+}
+
+impl Redirect {
+    ghost use Rattle.dh_redirects.specs.Redirects.{first_fault};
+
+    /// Tells the first fault of a redirect.
+    #[tactic(auto, unfolding(crate::specs::Redirects::first_fault))]
+    pub fn check(&self) -> Result<(), BadRedirect>
+        ensures { result_err result ≡ first_fault self.now }
+    {
+        let source = self.source.as_str();
+        let target = self.target.as_str();
+        if self.kind.has_texts() {
+            if !path(source) || !short_text(source) {
+                return Err(BadRedirect::BadSource);
+            }
+            if early_star(source) {
+                return Err(BadRedirect::EarlyStar);
+            }
+            if !short_text(target) || !(path(target) || absolute(target)) {
+                return Err(BadRedirect::BadTarget);
+            }
+            if holds_splat(target) && !final_star(source) {
+                return Err(BadRedirect::SplatWithoutStar);
+            }
+        } else if !source.is_empty() || !target.is_empty() {
+            return Err(BadRedirect::UnusedText);
+        }
+        if self.status != 301 && self.status != 302 {
+            return Err(BadRedirect::BadStatus);
+        }
+        Ok(())
+    }
+}
