@@ -1,0 +1,3 @@
+pub mod FileLemmas
+pub mod WireLemmas
+pub mod Written

@@ -1,0 +1,28 @@
+-- What a project shows its caller: the version that a name stands for, the page at a path.
+use Rattle.std.specs.Prelude.{ℕ, Bool, true, false, ◌&&◌, if◌then◌else◌, Option, None, List, codes}
+use Rattle.std.specs.List.{find}
+use Rattle.std.specs.Option.{option_map, option_or}
+use Rattle.std.specs.Str.{bytes_eq}
+use Rattle.dh_reply.specs.declared.answer.Named.{Named}
+use Rattle.dh_reply.specs.declared.answer.Page.{Page}
+use Rattle.dh_reply.specs.declared.seen_project.SeenProject.{SeenProject}
+use Rattle.dh_reply.specs.declared.seen_project.StoredPage.{StoredPage}
+
+-- the alias of that name (Read the Docs, Versions)
+abbrev pub alias_of : SeenProject → List ℕ → Option Named
+alias_of p name =
+    if bytes_eq name (codes "latest") then option_map (λ s. record { slug = s; alias = true }) p.latest
+    else if bytes_eq name (codes "stable") then option_map (λ s. record { slug = s; alias = true }) p.stable
+    else None
+
+-- the visible version with that slug, else the alias of that name
+unfoldable pub resolved : SeenProject → List ℕ → Option Named
+resolved p name = option_or (option_map (λ s. record { slug = s; alias = false }) (find (λ s. bytes_eq s name) p.slugs)) (alias_of p name)
+
+-- the page is at that path of that version in that language
+abbrev pub stands_at : List ℕ → List ℕ → List ℕ → StoredPage → Bool
+stands_at lang slug path s = bytes_eq s.lang lang && bytes_eq s.slug slug && bytes_eq s.path path
+
+-- the page at that path of that version in that language
+unfoldable pub page_at : SeenProject → List ℕ → List ℕ → List ℕ → Option Page
+page_at p lang slug path = option_map (λ (s : StoredPage). s.page) (find (stands_at lang slug path) p.pages)

@@ -1,0 +1,115 @@
+//! The texts and replies of the table's cases.
+
+ghost use Rattle.std.specs.Prelude.{◌≡◌, ◌++◌, IfOk, OnOk, string_bytes};
+ghost use Rattle.dh_reply.specs.Replies.{page_reply, with_query, redirect, address, indexed, known_lang, both_of, slash_added};
+
+use crate::answer::{Named, Page, Reply};
+use dh_paths::{Bytes, Lang, Slug, Text, encode_path};
+use std::alloc::{AllocError, Global};
+
+#[tactic(auto, unfolding(crate::specs::Replies::page_reply))]
+pub fn make_page_reply(status: u16, page: Page) -> Reply
+    ensures { result ≡ page_reply status page }
+{
+    Reply {
+        status,
+        location: None,
+        allow: None,
+        media: Some(page.media),
+        body: page.body,
+    }
+}
+
+fn add_query(to: &mut String, query: &Option<Text>) -> Result<(), AllocError>
+    ensures { OnOk result (string_bytes to.new ≡ with_query (string_bytes to.old) query.now) }
+{
+    if let Some(query) = query {
+        to.push('?')?;
+        to.push_str(query.as_str())?;
+    }
+    Ok(())
+}
+
+#[tactic(auto, unfolding(crate::specs::Replies::redirect))]
+fn make_redirect(alloc: Global, mut to: String, query: &Option<Text>) -> Result<Reply, AllocError>
+    ensures { IfOk result (λ r. r ≡ redirect (string_bytes to) query.now) }
+{
+    add_query(&mut to, query)?;
+    Ok(Reply {
+        status: 302,
+        location: Some(Text::wrap(to)),
+        allow: None,
+        media: None,
+        body: Bytes::wrap(Vec::new(alloc)),
+    })
+}
+
+#[tactic(auto, unfolding(crate::specs::Replies::address))]
+fn make_address(alloc: Global, lang: &str, name: &str, file: &str) -> Result<String, AllocError>
+    ensures { IfOk result (λ to. string_bytes to ≡ address lang.now name.now file.now) }
+{
+    let mut to = String::new(alloc);
+    to.push('/')?;
+    to.push_str(lang)?;
+    to.push('/')?;
+    to.push_str(name)?;
+    to.push('/')?;
+    to.push_str(encode_path(alloc, file)?.as_str())?;
+    Ok(to)
+}
+
+/// To the file in the language and version.
+pub fn make_home(
+    alloc: Global,
+    lang: &str,
+    name: &str,
+    file: &str,
+    query: &Option<Text>,
+) -> Result<Reply, AllocError>
+    ensures { IfOk result (λ r. r ≡ redirect (address lang.now name.now file.now) query.now) }
+{
+    make_redirect(alloc, make_address(alloc, lang, name, file)?, query)
+}
+
+/// To the same path with a slash at its end.
+pub fn make_slashed(alloc: Global, path: &str, query: &Option<Text>) -> Result<Reply, AllocError>
+    ensures { IfOk result (λ r. r ≡ slash_added path.now query.now) }
+{
+    let mut to = encode_path(alloc, path)?;
+    to.push('/')?;
+    make_redirect(alloc, to, query)
+}
+
+#[tactic(auto, unfolding(crate::specs::Replies::indexed))]
+pub fn make_indexed(alloc: Global, file: &str) -> Result<String, AllocError>
+    ensures { IfOk result (λ path. string_bytes path ≡ indexed file.now) }
+{
+    let mut path = String::from_str(alloc, file)?;
+    if file.is_empty() || file.ends_with('/') {
+        path.push_str("index.html")?;
+    }
+    Ok(path)
+}
+
+pub fn joined(alloc: Global, front: &str, back: &str) -> Result<String, AllocError>
+    ensures { IfOk result (λ text. string_bytes text ≡ front.now ++ back.now) }
+{
+    let mut text = String::from_str(alloc, front)?;
+    text.push_str(back)?;
+    Ok(text)
+}
+
+pub fn take_lang(langs: Vec<Lang>, lang: &str) -> Option<Lang>
+    ensures { result ≡ known_lang langs.items lang.now }
+{
+    langs.into_iter().find(|known| known.as_str() == lang)
+}
+
+pub fn both(lang: Option<Lang>, named: Option<Named>) -> Option<(Lang, Slug)>
+    ensures { result ≡ both_of lang named }
+{
+    match (lang, named) {
+        (Some(lang), Some(named)) => Some((lang, named.slug)),
+        _ => None,
+    }
+}

@@ -1,0 +1,181 @@
+ghost use Rattle.std.specs.Prelude.{◌≡◌, IfOk, true, false};
+ghost use Rattle.std.specs.Option.{option_copied, option_map};
+ghost use Rattle.std.specs.List.{find};
+ghost use Rattle.std.specs.Str.{bytes_eq};
+ghost use Rattle.std.proofs.Common.{◌∙◌, refl};
+ghost use Rattle.dh_reply.specs.SeenProject.{alias_of, resolved, stands_at, page_at};
+
+use crate::answer::{Named, Page};
+use crate::fault::Fault;
+use crate::lookup::Lookup;
+use crate::seen_project::{SeenProject, StoredPage};
+use dh_paths::{Bytes, Lang, Slug, Text};
+use std::alloc::{AllocError, Global};
+
+/// The plain list form of one project as one caller sees it, or of none.
+#[derive(Drop)]
+pub struct Seen {
+    pub project: Option<SeenProject>,
+}
+
+fn copy_page(alloc: Global, page: &Page) -> Result<Page, AllocError>
+    ensures { IfOk result (λ copy. copy ≡ page.now) }
+{
+    Ok(Page {
+        media: Text::copy_of(alloc, page.media.as_str())?,
+        body: Bytes::copy_of(alloc, page.body.as_slice())?,
+    })
+}
+
+fn copy_langs(alloc: Global, langs: &[Lang]) -> Result<Vec<Lang>, AllocError>
+    ensures { IfOk result (λ copy. copy.items ≡ langs.now) }
+{
+    let mut copy = Vec::new(alloc);
+    for lang in langs {
+        copy.push(lang.try_copy(alloc)?)?;
+    }
+    Ok(copy)
+}
+
+fn copy_text(alloc: Global, text: &Option<Text>) -> Result<Option<Text>, AllocError>
+    ensures { IfOk result (λ copy. copy ≡ text.now) }
+{
+    match text {
+        Some(text) => Ok(Some(Text::copy_of(alloc, text.as_str())?)),
+        None => Ok(None),
+    }
+}
+
+fn find_slug<'a>(slugs: &'a [Slug], name: &str) -> Option<&'a Slug>
+    ensures { option_copied result ≡ find (λ slug. bytes_eq slug name.now) slugs.now }
+{
+    slugs.iter().find(|slug| slug.as_str() == name)
+}
+
+fn stands(page: &StoredPage, lang: &Lang, slug: &Slug, path: &str) -> bool
+    ensures { result ≡ stands_at lang.now slug.now path.now page.now }
+{
+    page.lang.as_str() == lang.as_str()
+        && page.slug.as_str() == slug.as_str()
+        && page.path.as_str() == path
+}
+
+fn find_page<'a>(
+    pages: &'a [StoredPage],
+    lang: &Lang,
+    slug: &Slug,
+    path: &str,
+) -> Option<&'a StoredPage>
+    ensures { option_copied result ≡ find (stands_at lang.now slug.now path.now) pages.now }
+{
+    pages.iter().find(|page| stands(page, lang, slug, path))
+}
+
+fn alias_to(alloc: Global, slug: &Option<Slug>) -> Result<Option<Named>, AllocError>
+    ensures { IfOk result (λ n. n ≡ option_map (λ s. record { slug = s; alias = true }) slug.now) }
+{
+    match slug {
+        Some(slug) => Ok(Some(Named {
+            slug: slug.try_copy(alloc)?,
+            alias: true,
+        })),
+        None => Ok(None),
+    }
+}
+
+fn find_alias(alloc: Global, project: &SeenProject, name: &str) -> Result<Option<Named>, AllocError>
+    ensures { IfOk result (λ n. n ≡ alias_of project.now name.now) }
+{
+    match name {
+        "latest" => alias_to(alloc, &project.latest),
+        "stable" => alias_to(alloc, &project.stable),
+        _ => Ok(None),
+    }
+}
+
+#[tactic(auto, unfolding(crate::specs::SeenProject::resolved))]
+fn find_name(alloc: Global, project: &SeenProject, name: &str) -> Result<Option<Named>, AllocError>
+    ensures { IfOk result (λ n. n ≡ resolved project.now name.now) }
+{
+    match find_slug(project.slugs.as_slice(), name) {
+        Some(slug) => Ok(Some(Named {
+            slug: slug.try_copy(alloc)?,
+            alias: false,
+        })),
+        None => find_alias(alloc, project, name),
+    }
+}
+
+#[tactic(auto, unfolding(crate::specs::SeenProject::page_at))]
+fn page_of(
+    alloc: Global,
+    project: &SeenProject,
+    lang: &Lang,
+    slug: &Slug,
+    path: &str,
+) -> Result<Option<Page>, AllocError>
+    ensures { IfOk result (λ o. o ≡ page_at project.now lang.now slug.now path.now) }
+{
+    match find_page(project.pages.as_slice(), lang, slug, path) {
+        Some(stored) => Ok(Some(copy_page(alloc, &stored.page)?)),
+        None => Ok(None),
+    }
+}
+
+impl Lookup for Seen {
+    ghost content = { λ seen. seen.project };
+
+    ghost doubt = { λ _. 0 };
+
+    ghost leads = { λ a b. b ≡ a };
+
+    ghost keeps = { λ a b. b ≡ a };
+
+    ghost can_fail = { false };
+
+    ghost leads_at = { λ a. refl };
+
+    ghost keeps_at = { λ a. refl };
+
+    ghost leads_on = { λ a b c p q. q ∙ p };
+
+    ghost keeps_on = { λ a b c p q. q ∙ p };
+
+    fn known(&mut self) -> Result<bool, Fault> {
+        Ok(self.project.is_some())
+    }
+
+    fn name(&mut self, alloc: Global, name: &str) -> Result<Option<Named>, Fault> {
+        match &self.project {
+            Some(project) => Ok(find_name(alloc, project, name)?),
+            None => Ok(None),
+        }
+    }
+
+    fn default(&mut self, alloc: Global) -> Result<Option<Text>, Fault> {
+        match &self.project {
+            Some(project) => Ok(copy_text(alloc, &project.default)?),
+            None => Ok(None),
+        }
+    }
+
+    fn langs(&mut self, alloc: Global) -> Result<Vec<Lang>, Fault> {
+        match &self.project {
+            Some(project) => Ok(copy_langs(alloc, project.langs.as_slice())?),
+            None => Ok(Vec::new(alloc)),
+        }
+    }
+
+    fn page(
+        &mut self,
+        alloc: Global,
+        lang: &Lang,
+        slug: &Slug,
+        path: &str,
+    ) -> Result<Option<Page>, Fault> {
+        match &self.project {
+            Some(project) => Ok(page_of(alloc, project, lang, slug, path)?),
+            None => Ok(None),
+        }
+    }
+}

@@ -1,0 +1,29 @@
+use crate::answer::Page;
+use crate::items::Items;
+use dh_paths::{Lang, PagePath, Slug, Text};
+
+/// A page and where it stands in its project.
+#[derive(Drop)]
+pub struct StoredPage {
+    pub lang: Lang,
+    pub slug: Slug,
+    pub path: PagePath,
+    pub page: Page,
+}
+
+/// One project as one caller sees it.
+#[derive(Drop)]
+pub struct SeenProject {
+    /// The main one first.
+    pub langs: Items<Lang>,
+    /// The slugs of the visible versions.
+    pub slugs: Items<Slug>,
+    /// Those of the visible versions.
+    pub pages: Items<StoredPage>,
+    /// The version that the alias `latest` stands for.
+    pub latest: Option<Slug>,
+    /// The version that the alias `stable` stands for.
+    pub stable: Option<Slug>,
+    /// The name that `/` leads to.
+    pub default: Option<Text>,
+}

@@ -1,0 +1,180 @@
+use super::*;
+use dh_paths::{Bytes, Lang, PagePath, Slug, Text, TextFault};
+use std::alloc::Global;
+use std::test::Fail;
+
+const HTML: &str = "text/html; charset=utf-8";
+
+fn stored(alloc: Global, path: &str, body: &[u8]) -> Result<StoredPage, TextFault> {
+    Ok(StoredPage {
+        lang: Lang::parse(alloc, "en")?,
+        slug: Slug::parse(alloc, "main")?,
+        path: PagePath::parse(alloc, path)?,
+        page: Page {
+            media: Text::copy_of(alloc, HTML)?,
+            body: Bytes::copy_of(alloc, body)?,
+        },
+    })
+}
+
+/// A project of the branch `main` in `en`, with three pages.
+fn sample(alloc: Global) -> Result<Seen, TextFault> {
+    let mut langs = Vec::new(alloc);
+    langs.push(Lang::parse(alloc, "en")?)?;
+    let mut slugs = Vec::new(alloc);
+    slugs.push(Slug::parse(alloc, "main")?)?;
+    let mut pages = Vec::new(alloc);
+    pages.push(stored(alloc, "index.html", b"<h1>Index</h1>\n")?)?;
+    pages.push(stored(alloc, "install.html", b"<h1>Install</h1>\n")?)?;
+    pages.push(stored(alloc, "guide/index.html", b"<h1>Guide</h1>\n")?)?;
+    Ok(Seen {
+        project: Some(SeenProject {
+            langs: Items::wrap(langs),
+            slugs: Items::wrap(slugs),
+            pages: Items::wrap(pages),
+            latest: Some(Slug::parse(alloc, "main")?),
+            stable: None,
+            default: Some(Text::copy_of(alloc, "latest")?),
+        }),
+    })
+}
+
+/// The reply to a read; over a `Seen` no call answers `Store`.
+fn answered(
+    alloc: Global,
+    seen: &mut Seen,
+    path: &str,
+    query: Option<&str>,
+) -> Result<Reply, Fault> {
+    let query = match query {
+        Some(query) => Some(Text::copy_of(alloc, query)?),
+        None => None,
+    };
+    let path = Text::copy_of(alloc, path)?;
+    match reply(alloc, seen, &Read { path, query }) {
+        Ok(reply) => Ok(reply),
+        Err(Fault::Memory) => Err(Fault::Memory),
+        Err(Fault::Store) => unreachable!(),
+    }
+}
+
+/// Whether the read is answered by the page with that body.
+fn shows(alloc: Global, path: &str, query: Option<&str>, body: &[u8]) -> Result<bool, Fail> {
+    let mut seen = sample(alloc)?;
+    let reply = answered(alloc, &mut seen, path, query)?;
+    Ok(reply.status == 200 && reply.body.as_slice() == body)
+}
+
+/// Whether the read is redirected to that address.
+fn leads_to(alloc: Global, path: &str, query: Option<&str>, to: &str) -> Result<bool, Fail> {
+    let mut seen = sample(alloc)?;
+    let reply = answered(alloc, &mut seen, path, query)?;
+    Ok(
+        reply.status == 302
+            && reply
+                .location
+                .is_some_and(|location| location.as_str() == to),
+    )
+}
+
+/// Whether the read is answered by the host's 404.
+fn is_missing(alloc: Global, seen: &mut Seen, path: &str) -> Result<bool, Fault> {
+    let reply = answered(alloc, seen, path, None)?;
+    Ok(reply.status == 404 && reply.body.as_slice() == b"404 Not Found\n".as_slice())
+}
+
+#[test]
+fn pages(rt: HostRuntime) -> Result<(), Fail> {
+    let alloc = rt.alloc();
+    assert!(rt;
+        shows(
+            alloc,
+            "/en/latest/install.html",
+            None,
+            b"<h1>Install</h1>\n"
+        )?
+    );
+    assert!(rt; shows(alloc, "/en/latest/guide/", Some("x"), b"<h1>Guide</h1>\n")?);
+    Ok(())
+}
+
+#[test]
+fn redirects(rt: HostRuntime) -> Result<(), Fail> {
+    let alloc = rt.alloc();
+    assert!(rt; leads_to(alloc, "/en/latest", None, "/en/latest/")?);
+    assert!(rt; leads_to(alloc, "/en/latest/guide", None, "/en/latest/guide/")?);
+    assert!(rt; leads_to(alloc, "/", Some("a=1"), "/en/latest/?a=1")?);
+    assert!(rt; leads_to(alloc, "/page/a b.html", None, "/en/latest/a%20b.html")?);
+    Ok(())
+}
+
+#[test]
+fn not_found(rt: HostRuntime) -> Result<(), Fail> {
+    let alloc = rt.alloc();
+    let mut seen = sample(alloc)?;
+    assert!(rt; is_missing(alloc, &mut seen, "/en/latest/absent.html")?);
+    assert!(rt; is_missing(alloc, &mut seen, "/en/9.9.9/")?);
+    assert!(rt; is_missing(alloc, &mut seen, "/robots.txt")?);
+    assert!(rt; is_missing(alloc, &mut seen, "/_/versions")?);
+    let mut none = Seen { project: None };
+    assert!(rt; is_missing(alloc, &mut none, "/en/latest/")?);
+    Ok(())
+}
+
+fn install(alloc: Global, head: bool) -> Result<Vec<u8>, Fail> {
+    let mut seen = sample(alloc)?;
+    let reply = answered(alloc, &mut seen, "/en/latest/install.html", None)?;
+    Ok(reply_bytes(alloc, &reply, head)?)
+}
+
+#[test]
+fn bytes(rt: HostRuntime) -> Result<(), Fail> {
+    let alloc = rt.alloc();
+    let get =
+        "HTTP/1.1 200 OK\r\nContent-Type: text/html; charset=utf-8\r\nContent-Length: 17\r\nConnection: close\r\n\r\n<h1>Install</h1>\n";
+    let head =
+        "HTTP/1.1 200 OK\r\nContent-Type: text/html; charset=utf-8\r\nContent-Length: 17\r\nConnection: close\r\n\r\n";
+    assert_eq!(rt; install(alloc, false)?.as_slice(), get.as_bytes());
+    assert_eq!(rt; install(alloc, true)?.as_slice(), head.as_bytes());
+    Ok(())
+}
+
+#[test]
+fn faults(rt: HostRuntime) -> Result<(), Fail> {
+    let alloc = rt.alloc();
+    let refused = reply_bytes(alloc, &fault_reply(alloc, 405, Some(Allow::Post))?, false)?;
+    let want =
+        "HTTP/1.1 405 Method Not Allowed\r\nAllow: POST\r\nContent-Type: text/plain; charset=utf-8\r\nContent-Length: 23\r\nConnection: close\r\n\r\n405 Method Not Allowed\n";
+    assert_eq!(rt; refused.as_slice(), want.as_bytes());
+    let unavailable = reply_bytes(alloc, &fault_reply(alloc, 503, None)?, false)?;
+    assert_eq!(rt; unavailable_bytes(false), unavailable.as_slice());
+    Ok(())
+}
+
+#[test]
+fn names(rt: HostRuntime) -> Result<(), Fail> {
+    let alloc = rt.alloc();
+    let mut seen = sample(alloc)?;
+    assert!(rt; seen.known()?);
+    let latest = seen.name(alloc, "latest")?.ok_or("latest")?;
+    assert_eq!(rt; latest.slug.as_str(), "main");
+    assert!(rt; latest.alias);
+    assert!(rt; seen.name(alloc, "stable")?.is_none());
+    Ok(())
+}
+
+#[test]
+fn lookups(rt: HostRuntime) -> Result<(), Fail> {
+    let alloc = rt.alloc();
+    let mut seen = sample(alloc)?;
+    let default = seen.default(alloc)?.ok_or("default")?;
+    assert_eq!(rt; default.as_str(), "latest");
+    assert_eq!(rt; seen.langs(alloc)?.len(), 1);
+    let lang = Lang::parse(alloc, "en")?;
+    let slug = Slug::parse(alloc, "main")?;
+    let page = seen
+        .page(alloc, &lang, &slug, "guide/index.html")?
+        .ok_or("page")?;
+    assert_eq!(rt; page.body.as_slice().len(), 15);
+    Ok(())
+}
