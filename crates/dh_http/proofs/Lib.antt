@@ -1,0 +1,5 @@
+pub mod Lines
+pub mod Ends
+pub mod Named
+pub mod Whole
+pub mod Asking
