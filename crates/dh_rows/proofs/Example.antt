@@ -1,0 +1,82 @@
+-- What the statements on notes ask and do, wherever their table stands.
+use Rattle.std.proofs.Common.{◌≡◌, ℕ, ℤ, pos, List, [], ◌∷◌, map, filter, not, codes, false, Some, refl}
+use Rattle.std.proofs.Math.Bool.{and-true}
+use Rattle.sqlite_value.specs.declared.value.Value.TheVariants.{Null, Int, Text}
+use Rattle.sqlite_value.specs.Order.{Row}
+use Rattle.sqlite_sql.specs.Term.{lit, col}
+use Rattle.sqlite_schema.specs.declared.schema.Schema.{Schema}
+use Rattle.sqlite_tied.specs.Compute.{everything}
+use Rattle.sqlite.specs.State.{State}
+use Rattle.dh_rows.specs.Keyed.{IsFreeKey, added}
+use Rattle.dh_rows.specs.Places.{IsFree, IsUnmentioned, Keeps, records_of}
+use Rattle.sqlite.specs.Does.{lacks_sequence}
+use Rattle.dh_rows.specs.Example.{Note, note_table, notes, is_of, is_note}
+use Rattle.dh_rows.proofs.Effects.{IsSimple}
+use Rattle.dh_rows.proofs.Texts.{ArePlain}
+use Rattle.dh_rows.proofs.Read.{delete_of, select_of, insert_of}
+use Rattle.dh_rows.proofs.Equal.{equal_text, equal_int}
+use Rattle.dh_rows.proofs.Create.{IsCreate, makes, Creates, creates}
+use Rattle.dh_rows.proofs.Asks.{Writes, Answers, delete, insert, select}
+
+-- ---- once for the table
+
+note_simple : IsSimple note_table
+note_simple = refl
+
+note_plain : ArePlain note_table.columns
+note_plain = ((refl, refl), ((refl, refl), ((refl, refl), tt)))
+
+note_back : (x : Note) (n : ℤ) → notes.decode (Int n ∷ notes.encode x) ≡ x
+note_back x n = refl
+
+-- ---- DELETE
+
+abbrev drop_text : List ℕ
+drop_text = codes "DELETE FROM note WHERE name = ?1 AND place = ?2"
+
+drop_read : delete_of note_table drop_text ≡ Some ((0, 0) ∷ (1, 1) ∷ [])
+unfolding everything
+drop_read = refl
+
+-- ---- SELECT
+
+abbrev list_text : List ℕ
+list_text = codes "SELECT name, place, text FROM note WHERE name = ?1 ORDER BY name, place"
+
+list_read : select_of note_table list_text ≡ Some (0 ∷ 1 ∷ 2 ∷ [], (0, 0) ∷ [], 0 ∷ 1 ∷ [])
+unfolding everything
+list_read = refl
+
+-- ---- INSERT
+
+abbrev add_text : List ℕ
+add_text = codes "INSERT INTO note VALUES (?1, ?2, ?3)"
+
+add_read : (schema : Schema) (tree : ℕ) → insert_of schema (record note_table { tree = tree }) add_text ≡ Some (lit Null ∷ col 0 0 ∷ col 0 1 ∷ col 0 2 ∷ [], 4)
+unfolding everything
+add_read schema tree = refl
+
+module _ (s : State) (keeps : Keeps note_table notes s.now) where
+  pub drops : (name : List ℕ) (place : ℕ) → Writes s drop_text (Text name ∷ Int (pos place) ∷ []) note_table notes (filter (λ x. not (is_note name place x)))
+  drops name place = delete note_table note_simple note_plain notes s keeps drop_text _ drop_read _ (is_note name place) (λ n x. rw (equal_text x.name name, equal_int (pos x.place) (pos place), and-true) refl)
+
+  abbrev pub shown : Note → Row
+  shown x = Text x.name ∷ Int (pos x.place) ∷ Text x.text ∷ []
+
+  pub lists : (name : List ℕ) → Answers s list_text (Text name ∷ []) (map shown (filter (is_of name) (records_of notes note_table.name s.now)))
+  lists name = select note_table note_simple note_plain notes s keeps list_text _ _ _ list_read _ (is_of name) shown (λ n x. rw (equal_text x.name name, and-true) refl) (λ n x. refl) (λ x y. refl)
+
+  pub adds : (x : Note) → IsFreeKey notes.key x (records_of notes note_table.name s.now) → Writes s add_text (notes.encode x) note_table notes (added notes.key x)
+  adds x free = insert note_table note_simple note_plain notes s keeps add_text _ _ (add_read _ _) x (note_back x) (tt, (tt, (tt, tt))) refl free
+
+-- ---- CREATE TABLE
+
+abbrev create_text : List ℕ
+create_text = codes "CREATE TABLE note (name TEXT NOT NULL, place INTEGER NOT NULL, text TEXT NOT NULL, PRIMARY KEY (name, place)) STRICT"
+
+create_read : IsCreate create_text note_table
+unfolding everything
+create_read = makes refl refl refl refl refl refl refl refl
+
+pub made : (s : State) → IsFree s.now.schema note_table.name → IsUnmentioned s.now.schema note_table.name → lacks_sequence s.now.schema ≡ false → Creates s create_text note_table
+made s free unmentioned counted = creates note_table create_text create_read refl refl s free unmentioned counted

@@ -1,0 +1,418 @@
+-- The meaning of our texts, by their shape: any list of columns, of equalities joined by AND and of sort keys.
+use Rattle.std.proofs.Common.{◌≡◌, ℕ, zero, suc, ◌+◌, ◌-◌, ◌*◌, ◌^◌, ◌≤◌, ◌<◌, pos, negsuc, List, [], ◌∷◌, ◌++◌, ◌==◌, ◌&&◌, nat_lt, nat_le, map, length, Bool, true, false, cond, Option, None, Some, Ok, refl, sym, ap, ap₂, subst, ◌∙◌, slice_get, unwrap_or, option_map, is_some, arith, append_assoc, length-append, add-one, append-nil, lt-ltb, lit≤}
+use Rattle.std.specs.List.{AllByRecursion, position_from}
+use Rattle.std.proofs.lemmas.Bool.{lt-leb}
+use Rattle.std.proofs.lemmas.List.{map-append}
+use Rattle.sqlite_keyed.proofs.ListLemmas.{all-slice_get, all-append}
+use Rattle.sqlite_value.specs.declared.value.Value.TheVariants.{Int}
+use Rattle.sqlite_value.specs.declared.keys.Key.{Key}
+use Rattle.sqlite_value.specs.declared.keys.Collation.TheVariants.{Binary}
+use Rattle.sqlite_ast.specs.declared.Expr.{Expr, out-Expr}
+use Rattle.sqlite_ast.specs.declared.Expr.TheOpen.{Expr-F, Shown-F}
+use Rattle.sqlite_ast.specs.declared.Shown.{Shown, out-Shown}
+use Rattle.sqlite_ast.specs.declared.Source.{Source, out-Source}
+use Rattle.sqlite_ast.specs.declared.Core.{Core, out-Core}
+use Rattle.sqlite_ast.specs.declared.Select.{Select, out-Select}
+use Rattle.sqlite_ast.specs.declared.Sort.{Sort, out-Sort}
+use Rattle.sqlite_ast.specs.declared.Rows.{Rows}
+use Rattle.sqlite_ast.specs.declared.Origin.TheVariants as origin
+use Rattle.sqlite_ast.specs.declared.Binary.TheVariants.{Eq, And}
+use Rattle.sqlite_ast.specs.declared.Statement.TheVariants as written
+use Rattle.sqlite_ast.specs.declared.Conflict.TheVariants as conflict
+use Rattle.sqlite_syntax.specs.declared.statement.Parsed.{Parsed}
+use Rattle.sqlite_sql.specs.declared.ops.BinaryOp.TheVariants as by
+use Rattle.sqlite_sql.specs.Term.{Term, lit, col, op2}
+use Rattle.sqlite_schema.specs.declared.schema.Kind.{Kind}
+use Rattle.sqlite_schema.specs.declared.schema.Kind.TheVariants as kind
+use Rattle.sqlite_schema.specs.declared.schema.Column.{Column as Declared}
+use Rattle.sqlite_schema.specs.declared.schema.Table.{Table}
+use Rattle.sqlite_schema.specs.declared.schema.Schema.{Schema}
+use Rattle.sqlite_schema.specs.declared.command.Command.{Command}
+use Rattle.sqlite_schema.specs.declared.command.Command.TheVariants as command
+use Rattle.sqlite_schema.specs.declared.command.Source.TheVariants.{Values}
+use Rattle.sqlite_schema.specs.Names.{table_named, column_named}
+use Rattle.sqlite_draft.specs.declared.join.Step.TheVariants.{Inner}
+use Rattle.sqlite_draft.specs.declared.query.Draft.{Draft}
+use Rattle.sqlite_typing.specs.Types.{Slots, class_in, row_classes, term_class, are_tests, are_typed}
+use Rattle.sqlite_resolve.specs.declared.compare.Affinity.TheVariants as affinity
+use Rattle.sqlite_resolve.specs.declared.state.State.{State}
+use Rattle.sqlite_resolve.specs.declared.state.Passes.TheVariants as hands
+use Rattle.sqlite_resolve.specs.declared.scope.Output.{Output}
+use Rattle.sqlite_resolve.specs.Lowering.{fresh, max_budget, alone}
+use Rattle.sqlite_resolve.specs.Scope.{Context, column_at}
+use Rattle.sqlite_resolve.specs.Terms.{conjuncts}
+use Rattle.sqlite_resolve.specs.Body.{tests, outputs, outputs_from, is_column}
+use Rattle.sqlite_resolve.specs.Order.{sorts, sorts_from, peeled, alias_in, written_on, is_numeral}
+use Rattle.sqlite_resolve.specs.Select.{ungrouped, named as named_to}
+use Rattle.sqlite_resolve.specs.Write.{simple as drafted, deleted}
+use Rattle.sqlite_resolve.specs.Program.{program}
+use Rattle.sqlite_resolve.specs.Compare.{compared, affinity_of, of_column, of_kind, converted, converted_by, spelled, may_be_text, is_parameter}
+use Rattle.sqlite_resolve.specs.Expr.{lower, lower_to, passes, combine, tests_truth, tests_alias, wanted_truth}
+use Rattle.sqlite_resolve.specs.Compile.{first, new_rows, small, read as resolve_read}
+use Rattle.sqlite.specs.Listing.{understood, reads_listing}
+use Rattle.sqlite.specs.Given.{IsPlain}
+use Rattle.dh_rows.specs.Calls.{command_of}
+use Rattle.dh_rows.specs.Places.{tree_of, table_in, Stands}
+use Rattle.dh_rows.proofs.Terms.{equals, wanted, rising, from_table, columns_at}
+use Rattle.dh_rows.proofs.Effects.{IsSimple}
+use Rattle.dh_rows.proofs.Steps.{begun, ended, binary, column_end, equal_end, node_as, column_as, both_as, tests_as, columned_as, deleted_as, equal_as}
+use Rattle.dh_rows.proofs.Choose.{seen, bound_at, seen_as, heading_as, bounds_as, joins_as, shown_as, sort_as, body_as, named_as, read_as, select_means}
+use Rattle.dh_rows.proofs.Meaning.{delete_means, insert_means}
+
+-- ---- the shapes
+
+-- each column is strict, and compares by bytes
+abbrev pub ArePlain : List Declared → Type 0
+ArePlain = AllByRecursion (λ c. (c.is_strict ≡ true) × (c.collation ≡ Binary))
+
+-- the expression names the column at this place of the table
+pub data IsColumn (t : Table) : Expr → ℕ → Type 0 where
+  named : {e : Expr} {name : List ℕ} {k : ℕ} {c : Declared} → out-Expr e ≡ Expr-F.Column None name → column_named t name ≡ Some k → slice_get t.columns k ≡ Some c → IsColumn t e k
+
+-- `column = ?n`: the column and the parameter, each counted from 0
+pub data IsEqual (t : Table) : Expr → ℕ × ℕ → Type 0 where
+  equal : {e a b : Expr} {k m n : ℕ} → out-Expr e ≡ Expr-F.Binary Eq a b → IsColumn t a k → out-Expr b ≡ Expr-F.Parameter m → m - 1 ≡ n → IsEqual t e (k, n)
+
+-- equalities joined by AND
+pub data IsTest (t : Table) : Expr → List (ℕ × ℕ) → Type 0 where
+  one : {e : Expr} {w : ℕ × ℕ} → IsEqual t e w → IsTest t e (w ∷ [])
+  both : {e l r : Expr} {ws : List (ℕ × ℕ)} {w : ℕ × ℕ} → out-Expr e ≡ Expr-F.Binary And l r → IsTest t l ws → IsEqual t r w → IsTest t e (ws ++ w ∷ [])
+
+-- a WHERE, or none
+pub data IsWhere (t : Table) : Option Expr → List (ℕ × ℕ) → Type 0 where
+  all : IsWhere t None []
+  only : {e : Expr} {ws : List (ℕ × ℕ)} → IsTest t e ws → IsWhere t (Some e) ws
+
+-- bare columns after SELECT
+pub data AreShown (t : Table) : List Shown → List ℕ → Type 0 where
+  none : AreShown t [] []
+  next : {s : Shown} {e : Expr} {text : List ℕ} {k : ℕ} {ss : List Shown} {ks : List ℕ} → out-Shown s ≡ Shown-F.One e None text → IsColumn t e k → AreShown t ss ks → AreShown t (s ∷ ss) (k ∷ ks)
+
+-- bare columns after ORDER BY
+pub data AreSorts (t : Table) : List Sort → List ℕ → Type 0 where
+  none : AreSorts t [] []
+  next : {s : Sort} {e : Expr} {k : ℕ} {ss : List Sort} {ks : List ℕ} → (out-Sort s).key ≡ e → (out-Sort s).descending ≡ false → (out-Sort s).nulls_first ≡ None → IsColumn t e k → AreSorts t ss ks → AreSorts t (s ∷ ss) (k ∷ ks)
+
+-- the text's meaning at a schema
+pub record Means (schema : Schema) (text : List ℕ) (k : Command) : Type 0 where
+  pub is : command_of (understood schema text) ≡ k
+  pub plain : IsPlain (understood schema text)
+
+-- ---- expressions
+
+-- a text of this shape, with these columns and parameters in its WHERE
+pub data IsDelete (t : Table) (text : List ℕ) (ws : List (ℕ × ℕ)) : Type 0 where
+  deletes : {p : Parsed} {test : Option Expr} → first text ≡ Ok p → p.statement ≡ written.Delete t.name test [] → p.formats ≡ [] → IsWhere t test ws → length ws ≤ 100 → IsDelete t text ws
+
+-- the parts of a SELECT of this shape
+pub data IsChoice (t : Table) (q : Select) (ks : List ℕ) (ws : List (ℕ × ℕ)) (os : List ℕ) : Type 0 where
+  chooses : {core : Core} {src : Source} {ss : List Shown} {test : Option Expr} {by_order : List Sort} → (out-Select q).with ≡ [] → (out-Select q).others ≡ [] → (out-Select q).limit ≡ None → (out-Select q).offset ≡ None → (out-Select q).first ≡ core
+      → (out-Core core).from ≡ src ∷ [] → (out-Source src).origin ≡ origin.Table t.name → (out-Source src).alias ≡ None → (out-Source src).using ≡ [] → (out-Source src).on ≡ None → (out-Source src).is_left ≡ false
+      → (out-Core core).shown ≡ ss → AreShown t ss ks → length ks ≤ 100 → (out-Core core).filter ≡ test → IsWhere t test ws → length ws ≤ 100
+      → (out-Core core).group ≡ [] → (out-Core core).having ≡ None → (out-Core core).distinct ≡ false → (out-Select q).order ≡ by_order → AreSorts t by_order os → length os ≤ 100 → IsChoice t q ks ws os
+
+-- a text of this shape: the columns that it shows, those of its WHERE with their parameters, and those that it sorts by
+pub data IsSelect (t : Table) (text : List ℕ) (ks : List ℕ) (ws : List (ℕ × ℕ)) (os : List ℕ) : Type 0 where
+  selects : {p : Parsed} {q : Select} → first text ≡ Ok p → p.statement ≡ written.Select q → p.formats ≡ [] → IsChoice t q ks ws os → IsSelect t text ks ws os
+
+-- a text of this shape, and the terms of its one row after the rowid
+pub data IsInsert (schema : Schema) (t : Table) (tree : ℕ) (text : List ℕ) (terms : List Term) (width : ℕ) : Type 0 where
+  adds : {p : Parsed} {columns : List (List ℕ)} {rows : Rows} → first text ≡ Ok p → p.statement ≡ written.Insert conflict.Abort t.name columns rows [] [] → p.formats ≡ []
+      → new_rows schema (record t { tree = tree }) (small p.names + small []) columns rows ≡ Ok (Values terms width) → IsInsert schema t tree text terms width
+
+-- what reading may change: it spends of the budget, and takes no slot, step or aggregate
+pub record Follows (s after : State) (cost : ℕ) : Type 0 where
+  pub next : after.next ≡ s.next
+  pub steps : after.steps ≡ s.steps
+  pub aggregates : after.aggregates ≡ s.aggregates
+  pub budget : s.budget ≤ after.budget + cost
+
+follows_on : {s t u : State} {m n : ℕ} → Follows s t m → Follows t u n → Follows s u (m + n)
+follows_on p q = record { next = q.next ∙ p.next; steps = q.steps ∙ p.steps; aggregates = q.aggregates ∙ p.aggregates; budget = omega (arith, p.budget, q.budget) }
+
+flat : (b : Bool) → cond b affinity.None affinity.None ≡ affinity.None
+flat true = refl
+flat false = refl
+
+left_same : (b : Bool) (k : Kind) (x : Term) → converted_by (cond b affinity.None (of_kind k)) affinity.None x ≡ x
+left_same true k x = refl
+left_same false kind.Integer x = refl
+left_same false kind.Real x = refl
+left_same false kind.Text x = refl
+left_same false kind.Blob x = refl
+left_same false kind.Any x = refl
+
+right_same : (b : Bool) (k : Kind) (n : ℕ) → converted_by affinity.None (cond b affinity.None (of_kind k)) (col 0 n) ≡ col 0 n
+unfolding may_be_text spelled
+right_same true k n = refl
+right_same false kind.Integer n = refl
+right_same false kind.Real n = refl
+right_same false kind.Text n = refl
+right_same false kind.Blob n = refl
+right_same false kind.Any n = refl
+
+nonempty : {t : Table} {e : Expr} {ws : List (ℕ × ℕ)} → IsTest t e ws → 1 ≤ length ws
+nonempty (one it) = omega arith
+nonempty (both {ws = ws} {w = w} out left right) = omega (arith, length-append ws (w ∷ []))
+
+enough : (n : ℕ) → 1 < n → nat_lt 1 n ≡ true
+enough n h = lt-ltb 1 n h
+
+-- what the result calls a column
+abbrev pub name_at : Table → ℕ → List ℕ
+name_at t k = unwrap_or (option_map (λ c. c.name) (slice_get t.columns k)) []
+
+abbrev pub out_at : Table → ℕ → Output
+out_at t k = record { name = name_at t k; is_alias = false; is_column = true; term = col 1 (suc k); carried = binary }
+
+no_alias : (t : Table) (name : List ℕ) (from : ℕ) (ks : List ℕ) → position_from (λ (o : Output). o.is_alias && Rattle.sqlite_schema.specs.Names.same_name o.name name) from (map (out_at t) ks) ≡ None
+no_alias t name from [] = refl
+no_alias t name from (k ∷ ks) = no_alias t name (from + 1) ks
+
+module _ (schema : Schema) (t : Table) (stands : Stands schema t) (simple : IsSimple t) (plain : ArePlain t.columns) where
+  abbrev its : Table
+  its = table_in schema t
+
+  abbrev at : ℕ
+  at = stands.at
+
+  abbrev cx : List Output → Bool → Context
+  cx = seen schema t.name at
+
+  no_key : its.key ≡ None
+  no_key = ap (λ (u : Table). u.key) simple
+
+  there : slice_get schema.tables at ≡ Some its
+  there = stands.has.stands
+
+  has_column : (k : ℕ) (c : Declared) → slice_get t.columns k ≡ Some c → column_at schema 1 at k ≡ Ok (col 1 (suc k), binary)
+  has_column k c e =
+      let how = (all-slice_get _ t.columns k c e plain).1 in
+      columned_as schema at its there no_key k c e ∙ rw (add-one k, how) refl
+
+  lowers_column : (shows : List Output) (may : Bool) (e : Expr) (k : ℕ) → IsColumn t e k → (d : ℕ) (s : State) → 1 < s.budget → lower_to (suc d) (cx shows may) e s ≡ Ok (col 1 (suc k), column_end s)
+  unfolding lower_to passes
+  lowers_column shows may e k (named {name = name} {c = c} out is has) d s h =
+      node_as (lower_to d) (cx shows may) e s (record (begun s) { last = binary }) (col 1 (suc k)) hands.All (enough s.budget h) (rw out refl)
+      (column_as (lower_to d) (cx shows may) e (begun s) name 1 at k (col 1 (suc k)) binary out (seen_as schema t.name at its stands.has.named there shows may name k is) (has_column k c has))
+
+  made : (shows : List Output) (may : Bool) (k n : ℕ) (c : Declared) → slice_get t.columns k ≡ Some c → (s : State) → combine (cx shows may) Eq Binary (col 1 (suc k)) (col 0 n) s ≡ Ok (equals k n, s)
+  unfolding combine compared affinity_of of_column converted is_parameter
+  made shows may k n c has s =
+      let strict = (all-slice_get _ t.columns k c has plain).0 in
+      rw (there, has, strict, flat (n == 0)) (ap₂ (λ x y. Ok (op2 (by.Compare Rattle.sqlite_sql.specs.declared.ops.CompareOp.TheVariants.Eq Binary) x y, s)) (left_same _ c.kind (col 1 (suc k))) (right_same _ c.kind n))
+
+  lowers_equal : (shows : List Output) (may : Bool) (e : Expr) (w : ℕ × ℕ) → IsEqual t e w → (d : ℕ) (s : State) → 2 ≤ d → 4 ≤ s.budget → lower_to d (cx shows may) e s ≡ Ok (equals w.0 w.1, equal_end s)
+  lowers_equal shows may e w it zero s deep h = absurd (omega arith)
+  lowers_equal shows may e w it (suc zero) s deep h = absurd (omega arith)
+  lowers_equal shows may e w (equal {a = a} {b = b} {k = k} {m = m} {n = n} out (named {name = name} {c = c} left is has) right less) (suc (suc d)) s deep h =
+      equal_as (cx shows may) at d e a b s name k n m less (enough s.budget (omega arith)) (enough (s.budget - 1) (omega arith)) (enough (s.budget - 1 - 1) (omega arith)) out left right
+      (seen_as schema t.name at its stands.has.named there shows may name k is) (has_column k c has) (made shows may k n c has)
+
+  equal_follows : (s : State) → Follows s (equal_end s) 3
+  equal_follows s = record { next = refl; steps = refl; aggregates = refl; budget = omega arith }
+
+  record Lowered (shows : List Output) (may : Bool) (e : Expr) (ws : List (ℕ × ℕ)) (d : ℕ) (s : State) : Type 0 where
+    term : Term
+    after : State
+    is : lower_to d (cx shows may) e s ≡ Ok (term, after)
+    parts : conjuncts term ≡ wanted ws
+    follows : Follows s after (5 * length ws)
+
+  lowers : (shows : List Output) (may : Bool) (e : Expr) (ws : List (ℕ × ℕ)) → IsTest t e ws → (d : ℕ) (s : State) → length ws < d → 5 * length ws ≤ s.budget → Lowered shows may e ws d s
+  unfolding lower_to passes tests_truth tests_alias wanted_truth combine
+  lowers shows may e ws (one {w = w} it) d s deep h =
+      record { term = equals w.0 w.1; after = equal_end s; is = lowers_equal shows may e w it d s (omega arith) (omega arith); parts = refl; follows = record { next = refl; steps = refl; aggregates = refl; budget = omega arith } }
+  lowers shows may e ws (both out left right) zero s deep h = absurd (omega arith)
+  lowers shows may e vs (both {l = l} {r = r} {ws = ws} {w = w} out left right) (suc d) s deep h =
+      let size : length (ws ++ w ∷ []) ≡ length ws + 1 = length-append ws (w ∷ []) in
+      let some = nonempty left in
+      let x = lowers shows may l ws left d (begun s) (omega arith) (omega arith) in
+      let y = lowers_equal shows may r w right d x.after (omega arith) (omega (arith, x.follows.budget)) in
+      record {
+        term = op2 by.And x.term (equals w.0 w.1);
+        after = ended s hands.Nothing (equal_end x.after);
+        is = node_as (lower_to d) (cx shows may) e s (equal_end x.after) (op2 by.And x.term (equals w.0 w.1)) hands.Nothing (enough s.budget (omega arith)) (rw out refl)
+            (both_as (lower_to d) (cx shows may) e (begun s) x.after (equal_end x.after) (equal_end x.after) And l r x.term (equals w.0 w.1) (op2 by.And x.term (equals w.0 w.1)) out refl refl refl x.is y refl);
+        parts = ap (λ l. l ++ equals w.0 w.1 ∷ []) x.parts ∙ sym (map-append _ ws (w ∷ []));
+        follows = record { next = x.follows.next; steps = x.follows.steps; aggregates = x.follows.aggregates; budget = omega (arith, x.follows.budget) };
+      }
+
+  record Tested (shows : List Output) (may : Bool) (test : Option Expr) (ws : List (ℕ × ℕ)) (s : State) : Type 0 where
+    after : State
+    is : tests lower (cx shows may) [] test s ≡ Ok (wanted ws, after)
+    follows : Follows s after (5 * length ws)
+
+  tested : (shows : List Output) (may : Bool) (test : Option Expr) (ws : List (ℕ × ℕ)) → IsWhere t test ws → length ws ≤ 100 → (s : State) → 1000 ≤ s.budget → Tested shows may test ws s
+  unfolding tests
+  tested shows may test ws all few s h = record { after = s; is = refl; follows = record { next = refl; steps = refl; aggregates = refl; budget = omega arith } }
+  tested shows may test ws (only {e = e} it) few s h =
+      let x = lowers shows may e ws it 700 s (omega arith) (omega arith) in
+      record { after = x.after; is = tests_as lower (cx shows may) e s x.after [] x.term x.is ∙ ap (λ l. Ok (l, x.after)) x.parts; follows = x.follows }
+
+  -- ---- SELECT's columns
+
+  name_is : (k : ℕ) (c : Declared) → slice_get t.columns k ≡ Some c → c.name ≡ name_at t k
+  name_is k c e = rw e refl
+
+  record Listed (done : List Output) (ss : List Shown) (ks : List ℕ) (s : State) : Type 0 where
+    after : State
+    is : outputs_from lower (cx [] true) (bound_at t.name at ∷ []) done ss s ≡ Ok (done ++ map (out_at t) ks, after)
+    follows : Follows s after (length ks)
+
+  listed : (done : List Output) (ss : List Shown) (ks : List ℕ) → AreShown t ss ks → (s : State) → 2 * length ks ≤ s.budget → Listed done ss ks s
+  unfolding is_column
+  listed done ss ks none s h = record { after = s; is = ap (λ l. Ok (l, s)) (sym (append-nil done)); follows = record { next = refl; steps = refl; aggregates = refl; budget = omega arith } }
+  listed done ss' ks' (next {s = sh} {e = e} {text = text} {k = k} {ss = ss} {ks = ks} out (named {name = name} {c = c} names is has) more) s h =
+      let low = lowers_column [] true e k (named names is has) 699 s (omega arith) in
+      let head = heading_as schema t.name at its stands.has.named there [] true e text name k c names (seen_as schema t.name at its stands.has.named there [] true name k is) has ∙ name_is k c has in
+      let one = shown_as (cx [] true) (bound_at t.name at ∷ []) done sh e text (name_at t k) s (column_end s) (col 1 (suc k)) out low head (rw names refl) in
+      let rest = listed (done ++ out_at t k ∷ []) ss ks more (column_end s) (omega arith) in
+      record {
+        after = rest.after;
+        is = rw one (rest.is ∙ ap (λ l. Ok (l, rest.after)) (append_assoc done (out_at t k ∷ []) (map (out_at t) ks)));
+        follows = record { next = rest.follows.next; steps = rest.follows.steps; aggregates = rest.follows.aggregates; budget = omega (arith, rest.follows.budget) };
+      }
+
+  -- ---- ORDER BY
+
+  record Sorted (shows : List Output) (done : List (Term × Key)) (ss : List Sort) (ks : List ℕ) (s : State) : Type 0 where
+    after : State
+    is : sorts_from lower (cx shows false) shows done ss s ≡ Ok (done ++ map rising ks, after)
+    follows : Follows s after (length ks)
+
+  sorted : (outs : List ℕ) (done : List (Term × Key)) (ss : List Sort) (ks : List ℕ) → AreSorts t ss ks → (s : State) → 2 * length ks ≤ s.budget → Sorted (map (out_at t) outs) done ss ks s
+  unfolding peeled alias_in written_on is_numeral alone
+  sorted outs done ss ks none s h = record { after = s; is = ap (λ l. Ok (l, s)) (sym (append-nil done)); follows = record { next = refl; steps = refl; aggregates = refl; budget = omega arith } }
+  sorted outs done ss' ks' (next {s = so} {e = e} {k = k} {ss = ss} {ks = ks} key down nulls (named {name = name} {c = c} names is has) more) s h =
+      let shows = map (out_at t) outs in
+      let low = lowers_column shows false e k (named names is has) 699 s (omega arith) in
+      let one = sort_as (cx shows false) shows done so e s (column_end s) (suc k) key down nulls (rw names refl) (rw names (no_alias t name 0 outs)) (rw names refl) low (rw names refl) in
+      let rest = sorted outs (done ++ rising k ∷ []) ss ks more (column_end s) (omega arith) in
+      record {
+        after = rest.after;
+        is = rw one (rest.is ∙ ap (λ l. Ok (l, rest.after)) (append_assoc done (rising k ∷ []) (map rising ks)));
+        follows = record { next = rest.follows.next; steps = rest.follows.steps; aggregates = rest.follows.aggregates; budget = omega (arith, rest.follows.budget) };
+      }
+
+  -- ---- types
+
+  abbrev Within : ℕ → Type 0
+  Within k = (c : Declared) × (slice_get t.columns k ≡ Some c)
+
+  abbrev slots : Slots
+  slots = row_classes its ∷ []
+
+  class_at : (cs : List Declared) (k : ℕ) (c : Declared) → slice_get cs k ≡ Some c → slice_get (map class_in cs) k ≡ Some (class_in c)
+  class_at [] k c e = absurd (cc)
+  class_at (d ∷ ds) zero c e = let same : d ≡ c = cc in ap (λ x. Some (class_in x)) same
+  class_at (d ∷ ds) (suc k) c e = class_at ds k c e
+
+  strict_class : (c : Declared) → c.is_strict ≡ true → class_in c ≡ Rattle.sqlite_typing.specs.Types.column_class c.kind
+  strict_class c e = rw e refl
+
+  column_typed : (k : ℕ) → Within k → is_some (term_class [] slots (col 1 (suc k))) ≡ true
+  column_typed k h = rw (class_at t.columns k h.0 h.1) refl
+
+  compares : (k : Kind) → is_some (Rattle.sqlite_typing.specs.Types.compared (Rattle.sqlite_typing.specs.Types.column_class k) Rattle.sqlite_typing.specs.Types.no_class) ≡ true
+  compares kind.Integer = refl
+  compares kind.Real = refl
+  compares kind.Text = refl
+  compares kind.Blob = refl
+  compares kind.Any = refl
+
+  test_typed : (w : ℕ × ℕ) → Within w.0 → is_some (term_class [] slots (equals w.0 w.1)) ≡ true
+  test_typed w h =
+      let strict = (all-slice_get _ t.columns w.0 h.0 h.1 plain).0 in
+      rw (class_at t.columns w.0 h.0 h.1, strict_class h.0 strict) (compares h.0.kind)
+
+  all_tests : (ws : List (ℕ × ℕ)) → AllByRecursion (λ w. Within w.0) ws → are_tests [] slots (wanted ws) ≡ true
+  all_tests [] h = refl
+  all_tests (w ∷ ws) h = rw (test_typed w h.0) (all_tests ws h.1)
+
+  all_shown : (ks : List ℕ) → AllByRecursion Within ks → are_typed [] slots (columns_at ks) ≡ true
+  all_shown [] h = refl
+  all_shown (k ∷ ks) h = rw (column_typed k h.0) (all_shown ks h.1)
+
+  all_sorts : (ks : List ℕ) → AllByRecursion Within ks → are_typed [] slots (map (λ (x : Term × Key). x.0) (map rising ks)) ≡ true
+  all_sorts [] h = refl
+  all_sorts (k ∷ ks) h = rw (column_typed k h.0) (all_sorts ks h.1)
+
+  tests_within : (e : Expr) (ws : List (ℕ × ℕ)) → IsTest t e ws → AllByRecursion (λ w. Within w.0) ws
+  tests_within e ws (one (equal out (named names is has) right less)) = ((_, has), tt)
+  tests_within e vs (both {l = l} {ws = ws} out left (equal o (named names is has) right less)) = all-append (λ w. Within w.0) ws _ (tests_within l ws left) ((_, has), tt)
+
+  where_within : (test : Option Expr) (ws : List (ℕ × ℕ)) → IsWhere t test ws → AllByRecursion (λ w. Within w.0) ws
+  where_within test ws all = tt
+  where_within test ws (only {e = e} it) = tests_within e ws it
+
+  shown_within : (ss : List Shown) (ks : List ℕ) → AreShown t ss ks → AllByRecursion Within ks
+  shown_within ss ks none = tt
+  shown_within ss' ks' (next {ss = ss} {ks = ks} out (named names is has) more) = ((_, has), shown_within ss ks more)
+
+  sorts_within : (ss : List Sort) (ks : List ℕ) → AreSorts t ss ks → AllByRecursion Within ks
+  sorts_within ss ks none = tt
+  sorts_within ss' ks' (next {ss = ss} {ks = ks} key down nulls (named names is has) more) = ((_, has), sorts_within ss ks more)
+
+  small' : nat_le (2 ^ 31) (tree_of schema t.name) ≡ false
+  small' = lt-leb (2 ^ 31) (tree_of schema t.name) stands.stored
+
+  accepts : (d : Draft) (ws : List (ℕ × ℕ)) (shown : List Term) (order : List (Term × Key)) → d ≡ record (drafted (Inner (tree_of schema t.name) ∷ []) (wanted ws) shown) { order = order }
+      → are_tests [] slots (wanted ws) ≡ true → are_typed [] slots shown ≡ true → are_typed [] slots (map (λ (x : Term × Key). x.0) order) ≡ true
+      → program schema [] d ≡ Ok (record { lets = []; body = from_table (tree_of schema t.name) (wanted ws) shown order })
+  unfolding program
+  accepts d ws shown order is a b c = rw is (rw (small', stands.has.found, a, b, c) refl)
+
+  columns_same : (ks : List ℕ) → map (λ (o : Output). o.term) (map (out_at t) ks) ≡ columns_at ks
+  columns_same [] = refl
+  columns_same (k ∷ ks) = ap (λ l. col 1 (suc k) ∷ l) (columns_same ks)
+
+  names_same : (ks : List ℕ) → map (λ (o : Output). o.name) (map (out_at t) ks) ≡ map (name_at t) ks
+  names_same [] = refl
+  names_same (k ∷ ks) = ap (λ l. name_at t k ∷ l) (names_same ks)
+
+  -- ---- DELETE FROM t WHERE ..
+
+  pub delete_is : (text : List ℕ) (ws : List (ℕ × ℕ)) → IsDelete t text ws → Means schema text (command.Delete at (record { lets = []; body = from_table (tree_of schema t.name) (wanted ws) (col 1 0 ∷ []) [] }))
+  delete_is text ws (deletes {p = p} {test = test} parse is formats filter few) =
+      let x = tested [] false test ws filter few (fresh 2 max_budget) (lit≤ tt) in
+      let gone = deleted_as schema at its there no_key test x.after (wanted ws) x.is in
+      let none : deleted schema at its test ≡ Ok (drafted (Inner its.tree ∷ []) (wanted ws) (col 1 0 ∷ [])) = gone ∙ ap (λ steps. Ok (drafted (Inner its.tree ∷ steps) (wanted ws) (col 1 0 ∷ []))) x.follows.steps in
+      let typed = accepts _ ws (col 1 0 ∷ []) [] refl (all_tests ws (where_within test ws filter)) refl refl in
+      let means = delete_means schema p t.name test is formats at its _ _ stands.has.named there none typed text parse in
+      record { is = ap command_of means; plain = subst IsPlain (sym means) (refl, refl) }
+
+  -- ---- SELECT .. FROM t WHERE .. ORDER BY ..
+
+  pub select_is : (text : List ℕ) (ks : List ℕ) (ws : List (ℕ × ℕ)) (os : List ℕ) → IsSelect t text ks ws os
+      → Means schema text (command.Select (record { lets = []; body = from_table (tree_of schema t.name) (wanted ws) (columns_at ks) (map rising os) }) (map (name_at t) ks)) × (reads_listing schema text ≡ false)
+  unfolding outputs sorts ungrouped
+  select_is text ks ws os (selects {p = p} {q = q} parse is formats (chooses {core = core} {src = src} {ss = ss} {test = test} {by_order = by_order} bare others limit offset first_is from origin_is alias using on left shows_are shows few_shown filter_is filter few group having distinct order_is sort few_sorts)) =
+      let s1 : State = record (fresh 1 max_budget) { next = 2 } in
+      let columns = map (out_at t) ks in
+      let x = listed [] ss ks shows s1 (omega arith) in
+      let y = tested columns false test ws filter few x.after (omega (arith, x.follows.budget)) in
+      let z = sorted ks [] by_order os sort y.after (omega (arith, x.follows.budget, y.follows.budget)) in
+      let whole = body_as schema core (fresh 1 max_budget) s1 x.after x.after y.after (bound_at t.name at ∷ []) columns (record { steps = Inner its.tree ∷ []; filter = [] }) (wanted ws)
+      (rw from (bounds_as schema t.name at its stands.has.named there src (fresh 1 max_budget) origin_is alias using refl)) (rw shows_are x.is)
+      (rw from (joins_as schema t.name at its stands.has.named there columns false src x.after on using left)) (rw filter_is y.is) in
+      let aggregates : (length y.after.aggregates == 0) ≡ true = rw (y.follows.aggregates, x.follows.aggregates) refl in
+      let steps : z.after.steps ≡ [] = z.follows.steps ∙ y.follows.steps ∙ x.follows.steps in
+      let page : Term × Term = (lit (Int (negsuc 0)), lit (Int (pos 0))) in
+      let draft : Draft = ungrouped ((Inner its.tree ∷ []) ++ z.after.steps) (wanted ws) columns false (map rising os) (lit (Int (negsuc 0))) (lit (Int (pos 0))) in
+      let one : named_to schema core (out-Select q).order page ≡ Ok (draft, map (λ (o : Output). o.name) columns, map (λ (o : Output). o.carried.collation) columns) =
+      rw order_is (named_as schema core by_order page _ y.after z.after (map rising os) whole group having distinct aggregates z.is) in
+      let is_drafted : draft ≡ record (drafted (Inner (tree_of schema t.name) ∷ []) (wanted ws) (columns_at ks)) { order = map rising os } = rw (steps, columns_same ks) refl in
+      let typed = accepts draft ws (columns_at ks) (map rising os) is_drafted (all_tests ws (where_within test ws filter)) (all_shown ks (shown_within ss ks shows)) (all_sorts os (sorts_within by_order os sort)) in
+      let read : resolve_read schema q ≡ Ok (command.Select (record { lets = []; body = from_table (tree_of schema t.name) (wanted ws) (columns_at ks) (map rising os) }) (map (name_at t) ks)) =
+      read_as schema q core src t.name draft _ _ _ bare others limit offset first_is from origin_is one typed ∙ ap (λ names. Ok (command.Select (record { lets = []; body = from_table (tree_of schema t.name) (wanted ws) (columns_at ks) (map rising os) }) names)) (names_same ks) in
+      let both = select_means schema p q _ text parse is formats read in
+      (record { is = ap command_of both.0; plain = subst IsPlain (sym both.0) (refl, refl) }, both.1)
+
+  -- ---- INSERT INTO t VALUES (..)
+
+  pub insert_is : (text : List ℕ) (terms : List Term) (width : ℕ) → IsInsert schema t (tree_of schema t.name) text terms width → Means schema text (command.Insert at (Values terms width))
+  insert_is text terms width (adds {p = p} {columns = columns} {rows = rows} parse is formats source) =
+      let unstamped : its.stamps.formats ≡ [] = ap (λ (u : Table). u.stamps.formats) simple in
+      let means = insert_means schema p t.name columns rows is formats at its stands.has.named there unstamped text (Values terms width) parse source in
+      record { is = ap command_of means; plain = subst IsPlain (sym means) (refl, refl) }

@@ -1,0 +1,11 @@
+use Rattle.dh_rows.proofs.Calls.{changed, changed_leaves, was}
+use Rattle.dh_rows.proofs.statements.change.Goals as goal
+
+pub returns-clause-ok : goal.returns-clause-ok
+returns-clause-ok g c = changed g.S.Store c.args.conn.now c.run.new.conn c.args.sql.now _ c.run.result _ c.run.ensures.survives c.requires.plain c.requires.edits c.run.ensures.ok
+
+pub returns-clause-was : goal.returns-clause-was
+returns-clause-was g c = was g.S.Store c.args.conn.now c.run.new.conn _ _ c.run.result _ c.run.ensures.survives c.run.ensures.ok c.run.ensures.err
+
+pub returns-clause-crash : goal.returns-clause-crash
+returns-clause-crash g c = changed_leaves g.S.Store c.args.conn.now c.run.new.conn c.args.sql.now _ c.run.ensures.survives c.requires.plain c.requires.edits
