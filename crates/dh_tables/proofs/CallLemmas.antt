@@ -1,0 +1,169 @@
+-- From what a statement does to the database to what it does to the lists, and what stays true of the tables.
+use Rattle.std.proofs.Common.{◌≡◌, inl, inr, ℕ, Bool, true, false, cond, List, map, Option, Result, Ok, Err, IfOk, OnOk, OnErr, slice_get, refl, sym, ap, subst, ◌∙◌, true≢false}
+use Rattle.sqlite_value.specs.Order.{Row}
+use Rattle.dh_reply.specs.declared.fault.Fault.{Fault}
+use Rattle.sqlite_trees.specs.declared.store.Store.{Ghosts}
+use Rattle.sqlite.specs.Effect.{Database}
+use Rattle.sqlite.specs.State.{HasCleanDisk}
+use Rattle.sqlite.specs.Held.{Held, state}
+use Rattle.dh_rows.specs.Calls.{whole, Edits, Keep, AreOurs, IsHonest, LeavesTrees, Leaves, Shows, IsSame, IsUndone, IsRefused, Becomes, committed}
+use Rattle.dh_rows.proofs.Views.{changes, leaves, leaves_now}
+use Rattle.dh_tables.specs.Lists.{Lists}
+use Rattle.dh_tables.specs.Tables.{Holds, lists_of}
+
+module _ {S : Type 0} (g : Ghosts S) (old new : Held S) where
+  -- ---- the lists
+
+  pub shown : (now last : Database) (mode : Bool) → Shows g whole old new now last mode → Shows g lists_of old new (lists_of now) (lists_of last) mode
+  shown now last mode it = record { was_honest = it.was_honest; is_open = it.is_open; now_is = ap lists_of it.now_is; last_is = ap lists_of it.last_is; mode = it.mode }
+
+  pub refused : IsRefused g whole old new → IsRefused g lists_of old new
+  refused (inl it) = inl (shown _ _ _ it)
+  refused (inr it) = inr (shown _ _ _ it)
+
+  pub on_ok : {T E P Q : Type 0} → (P → Q) → (r : Result T E) → OnOk r P → OnOk r Q
+  on_ok f (Ok x) p = f p
+  on_ok f (Err e) p = tt
+
+  pub on_err : {T E P Q : Type 0} → (P → Q) → (r : Result T E) → OnErr r P → OnErr r Q
+  on_err f (Ok x) p = tt
+  on_err f (Err e) p = f p
+
+  -- ---- the invariant
+
+  pub keeps : (now last : Database) (mode : Bool) → Shows g whole old new now last mode → Holds now → Holds last → now.schema ≡ last.schema → (mode ≡ false → now ≡ last) → Keep Holds (state g new)
+  keeps now last mode it a b same settled = record {
+    now = subst Holds (sym it.now_is) a;
+    last = subst Holds (sym it.last_is) b;
+    steady = ap (λ (d : Database). d.schema) it.now_is ∙ same ∙ sym (ap (λ (d : Database). d.schema) it.last_is);
+    settled = λ out. it.now_is ∙ settled (sym it.mode ∙ out) ∙ sym it.last_is;
+  }
+
+  pub same_keeps : Keep Holds (state g old) → IsSame g whole old new → Keep Holds (state g new)
+  same_keeps k it = keeps _ _ _ it k.now k.last k.steady k.settled
+
+  pub refused_keeps : Keep Holds (state g old) → IsRefused g whole old new → Keep Holds (state g new)
+  refused_keeps k (inl it) = same_keeps k it
+  refused_keeps k (inr it) = keeps _ _ _ it k.last k.last refl (λ _. refl)
+
+  by_result : {T E P Q C : Type 0} (r : Result T E) → (P → C) → (Q → C) → OnOk r P → OnErr r Q → C
+  by_result (Ok x) f h p q = f p
+  by_result (Err e) f h p q = h q
+
+  -- the tables stay ours over a call
+  pub stay_ours : {T E : Type 0} (P : Type 0) (r : Result T E) → AreOurs Holds (state g old) → (IsHonest g new → IsHonest g old)
+      → (IsHonest g old → HasCleanDisk (state g new) → OnOk r P) → (IsHonest g new → OnErr r (IsRefused g whole old new)) → (Keep Holds (state g old) → P → Keep Holds (state g new))
+      → AreOurs Holds (state g new)
+  stay_ours P r ours was ok err step clean live =
+      let honest : IsHonest g old = was (clean, live) in
+      by_result r (λ p. step (ours honest.0 honest.1) p) (λ q. refused_keeps (ours honest.0 honest.1) q) (ok honest clean) (err (clean, live))
+
+  pub begun_keeps : Keep Holds (state g old) → Shows g whole old new (state g old).now (state g old).committed true → Keep Holds (state g new)
+  begun_keeps k it = keeps _ _ _ it k.now k.last k.steady (λ e. absurd (true≢false e))
+
+  pub done_keeps : Keep Holds (state g old) → Shows g whole old new (state g old).now (state g old).now false → Keep Holds (state g new)
+  done_keeps k it = keeps _ _ _ it k.now k.now refl (λ _. refl)
+
+  pub undone_keeps : Keep Holds (state g old) → IsUndone g whole old new → Keep Holds (state g new)
+  undone_keeps k it = keeps _ _ _ it k.last k.last refl (λ _. refl)
+
+  pub undone_ours : {T E : Type 0} (r : Result T E) → AreOurs Holds (state g old) → (IsHonest g new → IsHonest g old)
+      → (IsHonest g new → OnOk r (IsUndone g whole old new)) → (IsHonest g new → OnErr r (IsRefused g whole old new)) → AreOurs Holds (state g new)
+  undone_ours r ours was ok err clean live =
+      let honest : IsHonest g old = was (clean, live) in
+      by_result r (λ p. undone_keeps (ours honest.0 honest.1) p) (λ q. refused_keeps (ours honest.0 honest.1) q) (ok (clean, live)) (err (clean, live))
+
+  -- a read leaves the tables ours
+  pub read_ours : {T E : Type 0} (r : Result T E) → AreOurs Holds (state g old) → (IsHonest g new → IsHonest g old) → (IsHonest g old → HasCleanDisk (state g new) → OnOk r (IsSame g whole old new)) → (IsHonest g new → OnErr r (IsRefused g whole old new)) → AreOurs Holds (state g new)
+  read_ours r ours was same err = stay_ours _ r ours was same err same_keeps
+
+  pub commit_leaves : AreOurs Holds (state g old) → LeavesTrees g old new (λ db. db ≡ (state g old).now.trees) → Leaves g lists_of old new (λ w. w ≡ lists_of (state g old).now)
+  commit_leaves ours left = leaves_now g lists_of old new (λ honest. (ours honest.0 honest.1).steady) left
+
+-- ---- the value of a read
+
+pub first_value : {X E : Type 0} {R : Type 0} {P : List R → Type 0} (encode : X → R) (r : Result (Option X) E) (ys : List X) (v : Option X) → IfOk r (λ o. (xs : List X) → ((rows : List R) → P rows → rows ≡ map encode xs) → o ≡ slice_get xs 0)
+    → ((rows : List R) → P rows → rows ≡ map encode ys) → slice_get ys 0 ≡ v → IfOk r (λ o. o ≡ v)
+first_value encode (Ok o) ys v h reads e = h ys reads ∙ e
+first_value encode (Err x) ys v h reads e = tt
+
+pub all_value : {X V E : Type 0} {R : Type 0} {P : List R → Type 0} (encode : X → R) (items : V → List X) (r : Result V E) (ys : List X) → IfOk r (λ v. (xs : List X) → ((rows : List R) → P rows → rows ≡ map encode xs) → items v ≡ xs)
+    → ((rows : List R) → P rows → rows ≡ map encode ys) → IfOk r (λ v. items v ≡ ys)
+all_value encode items (Ok v) ys h reads = h ys reads
+all_value encode items (Err x) ys h reads = tt
+
+-- ---- a write
+
+-- the tables stay ours, and their lists change so
+pub record Changed (db after : Database) (change : Lists → Lists) : Type 0 where
+  pub holds : Holds after
+  pub schema : after.schema ≡ db.schema
+  pub lists : lists_of after ≡ change (lists_of db)
+
+module _ {S : Type 0} (g : Ghosts S) (old new : Held S) (ours : AreOurs Holds (state g old)) (sql : List ℕ) (params : Row) (change : Lists → Lists)
+    (effect : IsHonest g old → (after : Database) → Edits (state g old) sql params after → Changed (state g old).now after change) where
+  abbrev Ran : Result (Unit {0}) Fault → Type 0
+  Ran r = IsHonest g old → HasCleanDisk (state g new) → OnOk r (Becomes g whole old new (state g new).now × Edits (state g old) sql params (state g new).now)
+
+  both : IsHonest g old → (after : Database) → Edits (state g old) sql params after → (after.schema ≡ (state g old).now.schema) × (lists_of after ≡ change (lists_of (state g old).now))
+  both honest after it = let e = effect honest after it in (e.schema, e.lists)
+
+  pub written : (r : Result (Unit {0}) Fault) → Ran r → IsHonest g old → HasCleanDisk (state g new) → OnOk r (Becomes g lists_of old new (change (lists_of (state g old).now)))
+  written r ran honest clean = changes g lists_of old new sql params (change (lists_of (state g old).now)) both r (ran honest) honest clean
+
+  pub write_leaves : LeavesTrees g old new (λ db. (old.in_transaction ≡ false) × (after : Database) × Edits (state g old) sql params after × (db ≡ after.trees))
+      → Leaves g lists_of old new (λ w. (old.in_transaction ≡ false) × (w ≡ change (lists_of (state g old).now)))
+  write_leaves left = leaves g lists_of old new sql params (change (lists_of (state g old).now)) both (λ honest. (ours honest.0 honest.1).steady) left
+
+  after_write : Keep Holds (state g old) → (now : Database) → Changed (state g old).now now change → (b : Bool) → Shows g whole old new now (cond b (state g old).committed now) b → Keep Holds (state g new)
+  after_write k now e true it = keeps g old new now (state g old).committed true it e.holds k.last (e.schema ∙ k.steady) (λ x. absurd (true≢false x))
+  after_write k now e false it = keeps g old new now now false it e.holds e.holds refl (λ _. refl)
+
+  pub written_ours : (r : Result (Unit {0}) Fault) → (IsHonest g new → IsHonest g old) → Ran r → (IsHonest g new → OnErr r (IsRefused g whole old new)) → AreOurs Holds (state g new)
+  written_ours r was ran err clean live =
+      let honest : IsHonest g old = was (clean, live) in
+      let k = ours honest.0 honest.1 in
+      by_result g old new r (λ p. after_write k (state g new).now (effect honest (state g new).now p.1) old.in_transaction p.0) (λ q. refused_keeps g old new k q) (ran honest clean) (err (clean, live))
+
+-- ---- two changes within a transaction
+
+module _ {S : Type 0} (g : Ghosts S) (old middle new : Held S) where
+  becomes_on : (v w : Lists) → old.in_transaction ≡ true → Becomes g lists_of old middle v → Becomes g lists_of middle new w → Becomes g lists_of old new w
+  becomes_on v w within a b = record {
+    was_honest = a.was_honest;
+    is_open = b.is_open;
+    now_is = b.now_is;
+    last_is =
+        b.last_is ∙ ap (λ t. cond t (committed g lists_of middle) w) (a.mode ∙ within) ∙ a.last_is ∙ ap (λ t. cond t (committed g lists_of old) v) within
+        ∙ sym (ap (λ t. cond t (committed g lists_of old) w) within);
+    mode = b.mode ∙ a.mode;
+  }
+
+  pub two_ok : {E : Type 0} (r : Result (Unit {0}) E) (first second whole : Lists → Lists) → ((l : Lists) → second (first l) ≡ whole l) → old.in_transaction ≡ true → Becomes g lists_of old middle (first (lists_of (state g old).now))
+      → OnOk r (Becomes g lists_of middle new (second (lists_of (state g middle).now))) → OnOk r (Becomes g lists_of old new (whole (lists_of (state g old).now)))
+  two_ok (Ok u) first second whole same within a b =
+      subst (λ w. Becomes g lists_of old new w) (ap second a.now_is ∙ same (lists_of (state g old).now)) (becomes_on (first (lists_of (state g old).now)) (second (lists_of (state g middle).now)) within a b)
+  two_ok (Err e) first second whole same within a b = tt
+
+-- ---- making tables
+
+pub made_ok : {T E Q R : Type 0} (P : Type 0) (r : Result T E) → (Q → R) → OnOk r (P × Q) → OnOk r (P × R)
+made_ok P (Ok x) f h = (h.0, f h.1)
+made_ok P (Err e) f h = tt
+
+-- a last step, after which outside a transaction all is committed
+pub settles : {S T E : Type 0} (P : Type 0) (g : Ghosts S) (middle new : Held S) (mode : Bool) (r : Result T E) → HasCleanDisk (state g new) → middle.in_transaction ≡ mode → OnOk r (Becomes g whole middle new (state g new).now × P)
+    → OnOk r (IsHonest g new × (new.in_transaction ≡ mode) × (mode ≡ false → (state g new).now ≡ (state g new).committed) × P)
+settles P g middle new mode (Ok x) clean same h =
+    ((clean, h.0.is_open), h.0.mode ∙ same, λ out. sym (h.0.last_is ∙ ap (λ b. cond b (state g middle).committed (state g new).now) (same ∙ out)), h.1)
+settles P g middle new mode (Err e) clean same h = tt
+
+pub settles_on : {T E : Type 0} (H Q P : Type 0) (before middle after : Bool) (r : Result T E) → middle ≡ before → OnOk r (H × (after ≡ middle) × (middle ≡ false → Q) × P) → OnOk r (H × (after ≡ before) × (before ≡ false → Q) × P)
+settles_on H Q P before middle after (Ok x) same h = (h.0, h.1 ∙ same, λ out. h.2 (same ∙ out), h.3)
+settles_on H Q P before middle after (Err e) same h = tt
+
+-- what is committed is what was made
+pub committed_made : {S T E : Type 0} (P : Database → Type 0) (g : Ghosts S) (middle new : Held S) (r : Result T E) → HasCleanDisk (state g new) → P (state g middle).now → OnOk r (Shows g whole middle new (state g middle).now (state g middle).now false)
+    → OnOk r (IsHonest g new × (new.in_transaction ≡ false) × ((state g new).now ≡ (state g new).committed) × P (state g new).now)
+committed_made P g middle new (Ok x) clean made h = ((clean, h.is_open), h.mode, h.now_is ∙ sym h.last_is, subst P (sym h.now_is) made)
+committed_made P g middle new (Err e) clean made h = tt

@@ -1,0 +1,9 @@
+pub mod AnswerLemmas
+pub mod ReadingLemmas
+pub mod CallLemmas
+pub mod Matching
+pub mod Statements
+pub mod Keys
+pub mod Made
+pub mod Finding
+pub mod SeenLemmas

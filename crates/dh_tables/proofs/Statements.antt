@@ -1,0 +1,429 @@
+-- What our statements ask and do.
+use Rattle.std.proofs.Common.{◌≡◌, ℕ, ℤ, List, [], ◌∷◌, map, filter, not, codes, false, Some, refl, ◌∙◌}
+use Rattle.std.specs.Str.{bytes_eq}
+use Rattle.sqlite_schema.specs.Names.{same_name}
+use Rattle.sqlite_value.specs.declared.value.Value.TheVariants.{Null, Int, Text}
+use Rattle.sqlite_sql.specs.Term.{lit, col}
+use Rattle.sqlite_schema.specs.declared.schema.Schema.{Schema}
+use Rattle.sqlite_tied.specs.Compute.{everything}
+use Rattle.sqlite.specs.Effect.{Database}
+use Rattle.sqlite.specs.State.{State}
+use Rattle.dh_rows.specs.Keyed.{IsFreeKey, added, flag}
+use Rattle.dh_rows.proofs.Effects.{IsSimple, Turns, other_keeps}
+use Rattle.dh_rows.proofs.Texts.{ArePlain}
+use Rattle.dh_rows.proofs.Read.{delete_of, select_of, insert_of}
+use Rattle.dh_rows.proofs.Asks.{Writes, Answers, delete, insert, select}
+use Rattle.dh_tables.specs.declared.records.ProjectRow.{ProjectRow}
+use Rattle.dh_tables.specs.declared.records.LangRow.{LangRow}
+use Rattle.dh_tables.specs.declared.records.VersionRow.{VersionRow}
+use Rattle.dh_tables.specs.declared.records.PageRow.{PageRow}
+use Rattle.dh_tables.specs.declared.records.UsedRow.{UsedRow}
+use Rattle.dh_tables.specs.declared.records.Operation.{Operation}
+use Rattle.dh_tables.specs.Codings.{is_upload, projects, langs, versions, pages, used}
+use Rattle.dh_tables.specs.Tables.{Holds, lists_of, meta, meta_table, project_table, lang_table, version_table, page_table, used_table}
+use Rattle.dh_tables.specs.Lists.{is_project, is_lang_of, is_version_of, is_version, is_page_of, is_page_in, is_page, is_used, same_op}
+use Rattle.dh_tables.proofs.Matching.{equal_text, equal_op, one, two, three, four, flag_back, kind_back, op_back}
+use Rattle.dh_tables.proofs.CallLemmas.{Changed}
+
+meta_not_project : same_name meta_table.name project_table.name ≡ false
+unfolding everything
+meta_not_project = refl
+
+lang_not_project : same_name lang_table.name project_table.name ≡ false
+unfolding everything
+lang_not_project = refl
+
+version_not_project : same_name version_table.name project_table.name ≡ false
+unfolding everything
+version_not_project = refl
+
+page_not_project : same_name page_table.name project_table.name ≡ false
+unfolding everything
+page_not_project = refl
+
+used_not_project : same_name used_table.name project_table.name ≡ false
+unfolding everything
+used_not_project = refl
+
+meta_not_lang : same_name meta_table.name lang_table.name ≡ false
+unfolding everything
+meta_not_lang = refl
+
+project_not_lang : same_name project_table.name lang_table.name ≡ false
+unfolding everything
+project_not_lang = refl
+
+version_not_lang : same_name version_table.name lang_table.name ≡ false
+unfolding everything
+version_not_lang = refl
+
+page_not_lang : same_name page_table.name lang_table.name ≡ false
+unfolding everything
+page_not_lang = refl
+
+used_not_lang : same_name used_table.name lang_table.name ≡ false
+unfolding everything
+used_not_lang = refl
+
+meta_not_version : same_name meta_table.name version_table.name ≡ false
+unfolding everything
+meta_not_version = refl
+
+project_not_version : same_name project_table.name version_table.name ≡ false
+unfolding everything
+project_not_version = refl
+
+lang_not_version : same_name lang_table.name version_table.name ≡ false
+unfolding everything
+lang_not_version = refl
+
+page_not_version : same_name page_table.name version_table.name ≡ false
+unfolding everything
+page_not_version = refl
+
+used_not_version : same_name used_table.name version_table.name ≡ false
+unfolding everything
+used_not_version = refl
+
+meta_not_page : same_name meta_table.name page_table.name ≡ false
+unfolding everything
+meta_not_page = refl
+
+project_not_page : same_name project_table.name page_table.name ≡ false
+unfolding everything
+project_not_page = refl
+
+lang_not_page : same_name lang_table.name page_table.name ≡ false
+unfolding everything
+lang_not_page = refl
+
+version_not_page : same_name version_table.name page_table.name ≡ false
+unfolding everything
+version_not_page = refl
+
+used_not_page : same_name used_table.name page_table.name ≡ false
+unfolding everything
+used_not_page = refl
+
+meta_not_used : same_name meta_table.name used_table.name ≡ false
+unfolding everything
+meta_not_used = refl
+
+project_not_used : same_name project_table.name used_table.name ≡ false
+unfolding everything
+project_not_used = refl
+
+lang_not_used : same_name lang_table.name used_table.name ≡ false
+unfolding everything
+lang_not_used = refl
+
+version_not_used : same_name version_table.name used_table.name ≡ false
+unfolding everything
+version_not_used = refl
+
+page_not_used : same_name page_table.name used_table.name ≡ false
+unfolding everything
+page_not_used = refl
+
+-- ---- project
+
+project_simple : IsSimple project_table
+project_simple = refl
+
+project_plain : ArePlain project_table.columns
+project_plain = ((refl, refl), ((refl, refl), ((refl, refl), ((refl, refl), ((refl, refl), tt)))))
+
+project_back : (x : ProjectRow) (n : ℤ) → projects.decode (Int n ∷ projects.encode x) ≡ x
+project_back x n = rw (flag_back x.new_private) refl
+
+-- the other tables keep their records
+project_changed : (db after : Database) (change : List ProjectRow → List ProjectRow) → Holds db → Turns project_table projects change db after → Changed db after (λ l. record l { projects = change l.projects })
+project_changed db after change had it =
+    let m = other_keeps it meta_table meta had.meta meta_not_project in
+    let lang = other_keeps it lang_table langs had.langs lang_not_project in
+    let version = other_keeps it version_table versions had.versions version_not_project in
+    let page = other_keeps it page_table pages had.pages page_not_project in
+    let used = other_keeps it used_table used had.used used_not_project in
+    record { holds = record { meta = m.0; number = m.1 ∙ had.number; projects = it.keeps; langs = lang.0; versions = version.0; pages = page.0; used = used.0 }; schema = it.schema; lists = λ i. record { projects = it.records i; langs = lang.1 i; versions = version.1 i; pages = page.1 i; used = used.1 i } }
+
+-- ---- lang
+
+lang_simple : IsSimple lang_table
+lang_simple = refl
+
+lang_plain : ArePlain lang_table.columns
+lang_plain = ((refl, refl), ((refl, refl), ((refl, refl), tt)))
+
+lang_back : (x : LangRow) (n : ℤ) → langs.decode (Int n ∷ langs.encode x) ≡ x
+lang_back x n = refl
+
+-- the other tables keep their records
+lang_changed : (db after : Database) (change : List LangRow → List LangRow) → Holds db → Turns lang_table langs change db after → Changed db after (λ l. record l { langs = change l.langs })
+lang_changed db after change had it =
+    let m = other_keeps it meta_table meta had.meta meta_not_lang in
+    let project = other_keeps it project_table projects had.projects project_not_lang in
+    let version = other_keeps it version_table versions had.versions version_not_lang in
+    let page = other_keeps it page_table pages had.pages page_not_lang in
+    let used = other_keeps it used_table used had.used used_not_lang in
+    record { holds = record { meta = m.0; number = m.1 ∙ had.number; projects = project.0; langs = it.keeps; versions = version.0; pages = page.0; used = used.0 }; schema = it.schema; lists = λ i. record { projects = project.1 i; langs = it.records i; versions = version.1 i; pages = page.1 i; used = used.1 i } }
+
+-- ---- version
+
+version_simple : IsSimple version_table
+version_simple = refl
+
+version_plain : ArePlain version_table.columns
+version_plain = ((refl, refl), ((refl, refl), ((refl, refl), ((refl, refl), ((refl, refl), ((refl, refl), ((refl, refl), tt)))))))
+
+version_back : (x : VersionRow) (n : ℤ) → versions.decode (Int n ∷ versions.encode x) ≡ x
+version_back x n = rw (kind_back x.version.kind, flag_back x.version.active, flag_back x.version.hidden, flag_back x.version.private) refl
+
+-- the other tables keep their records
+version_changed : (db after : Database) (change : List VersionRow → List VersionRow) → Holds db → Turns version_table versions change db after → Changed db after (λ l. record l { versions = change l.versions })
+version_changed db after change had it =
+    let m = other_keeps it meta_table meta had.meta meta_not_version in
+    let project = other_keeps it project_table projects had.projects project_not_version in
+    let lang = other_keeps it lang_table langs had.langs lang_not_version in
+    let page = other_keeps it page_table pages had.pages page_not_version in
+    let used = other_keeps it used_table used had.used used_not_version in
+    record { holds = record { meta = m.0; number = m.1 ∙ had.number; projects = project.0; langs = lang.0; versions = it.keeps; pages = page.0; used = used.0 }; schema = it.schema; lists = λ i. record { projects = project.1 i; langs = lang.1 i; versions = it.records i; pages = page.1 i; used = used.1 i } }
+
+-- ---- page
+
+page_simple : IsSimple page_table
+page_simple = refl
+
+page_plain : ArePlain page_table.columns
+page_plain = ((refl, refl), ((refl, refl), ((refl, refl), ((refl, refl), ((refl, refl), ((refl, refl), tt))))))
+
+page_back : (x : PageRow) (n : ℤ) → pages.decode (Int n ∷ pages.encode x) ≡ x
+page_back x n = refl
+
+-- the other tables keep their records
+page_changed : (db after : Database) (change : List PageRow → List PageRow) → Holds db → Turns page_table pages change db after → Changed db after (λ l. record l { pages = change l.pages })
+page_changed db after change had it =
+    let m = other_keeps it meta_table meta had.meta meta_not_page in
+    let project = other_keeps it project_table projects had.projects project_not_page in
+    let lang = other_keeps it lang_table langs had.langs lang_not_page in
+    let version = other_keeps it version_table versions had.versions version_not_page in
+    let used = other_keeps it used_table used had.used used_not_page in
+    record { holds = record { meta = m.0; number = m.1 ∙ had.number; projects = project.0; langs = lang.0; versions = version.0; pages = it.keeps; used = used.0 }; schema = it.schema; lists = λ i. record { projects = project.1 i; langs = lang.1 i; versions = version.1 i; pages = it.records i; used = used.1 i } }
+
+-- ---- used
+
+used_simple : IsSimple used_table
+used_simple = refl
+
+used_plain : ArePlain used_table.columns
+used_plain = ((refl, refl), ((refl, refl), ((refl, refl), ((refl, refl), ((refl, refl), tt)))))
+
+used_back : (x : UsedRow) (n : ℤ) → used.decode (Int n ∷ used.encode x) ≡ x
+used_back x n = rw (op_back x.op) refl
+
+-- the other tables keep their records
+used_changed : (db after : Database) (change : List UsedRow → List UsedRow) → Holds db → Turns used_table used change db after → Changed db after (λ l. record l { used = change l.used })
+used_changed db after change had it =
+    let m = other_keeps it meta_table meta had.meta meta_not_used in
+    let project = other_keeps it project_table projects had.projects project_not_used in
+    let lang = other_keeps it lang_table langs had.langs lang_not_used in
+    let version = other_keeps it version_table versions had.versions version_not_used in
+    let page = other_keeps it page_table pages had.pages page_not_used in
+    record { holds = record { meta = m.0; number = m.1 ∙ had.number; projects = project.0; langs = lang.0; versions = version.0; pages = page.0; used = it.keeps }; schema = it.schema; lists = λ i. record { projects = project.1 i; langs = lang.1 i; versions = version.1 i; pages = page.1 i; used = it.records i } }
+
+abbrev pub project_text : List ℕ
+project_text = codes "SELECT host, main, branch, wkey, private FROM project WHERE host = ?1 ORDER BY host"
+
+project_read : select_of project_table project_text ≡ Some (0 ∷ 1 ∷ 2 ∷ 3 ∷ 4 ∷ [], (0, 0) ∷ [], 0 ∷ [])
+unfolding everything
+project_read = refl
+
+pub project_answers : (s : State) → Holds s.now → (host : List ℕ) → Answers s project_text (Text host ∷ []) (map projects.encode (filter (is_project host) (lists_of s.now).projects))
+project_answers s had host =
+    select project_table project_simple project_plain projects s had.projects project_text _ _ _ project_read _ (is_project host) projects.encode
+    (λ n x. rw (equal_text x.host host) (one (bytes_eq x.host host))) (λ n x. refl) (λ x y. refl)
+
+abbrev pub langs_text : List ℕ
+langs_text = codes "SELECT host, lang, place FROM lang WHERE host = ?1 ORDER BY host, place"
+
+langs_read : select_of lang_table langs_text ≡ Some (0 ∷ 1 ∷ 2 ∷ [], (0, 0) ∷ [], 0 ∷ 2 ∷ [])
+unfolding everything
+langs_read = refl
+
+pub langs_answers : (s : State) → Holds s.now → (host : List ℕ) → Answers s langs_text (Text host ∷ []) (map langs.encode (filter (is_lang_of host) (lists_of s.now).langs))
+langs_answers s had host =
+    select lang_table lang_simple lang_plain langs s had.langs langs_text _ _ _ langs_read _ (is_lang_of host) langs.encode
+    (λ n x. rw (equal_text x.host host) (one (bytes_eq x.host host))) (λ n x. refl) (λ x y. refl)
+
+abbrev pub version_text : List ℕ
+version_text = codes "SELECT host, slug, name, kind, active, hidden, private FROM version WHERE host = ?1 AND slug = ?2 ORDER BY host, slug"
+
+version_read : select_of version_table version_text ≡ Some (0 ∷ 1 ∷ 2 ∷ 3 ∷ 4 ∷ 5 ∷ 6 ∷ [], (0, 0) ∷ (1, 1) ∷ [], 0 ∷ 1 ∷ [])
+unfolding everything
+version_read = refl
+
+pub version_answers : (s : State) → Holds s.now → (host slug : List ℕ) → Answers s version_text (Text host ∷ Text slug ∷ []) (map versions.encode (filter (is_version host slug) (lists_of s.now).versions))
+version_answers s had host slug =
+    select version_table version_simple version_plain versions s had.versions version_text _ _ _ version_read _ (is_version host slug) versions.encode
+    (λ n x. rw (equal_text x.host host, equal_text x.version.slug slug) (two (bytes_eq x.host host) (bytes_eq x.version.slug slug))) (λ n x. refl) (λ x y. refl)
+
+abbrev pub versions_text : List ℕ
+versions_text = codes "SELECT host, slug, name, kind, active, hidden, private FROM version WHERE host = ?1 ORDER BY host, slug"
+
+versions_read : select_of version_table versions_text ≡ Some (0 ∷ 1 ∷ 2 ∷ 3 ∷ 4 ∷ 5 ∷ 6 ∷ [], (0, 0) ∷ [], 0 ∷ 1 ∷ [])
+unfolding everything
+versions_read = refl
+
+pub versions_answers : (s : State) → Holds s.now → (host : List ℕ) → Answers s versions_text (Text host ∷ []) (map versions.encode (filter (is_version_of host) (lists_of s.now).versions))
+versions_answers s had host =
+    select version_table version_simple version_plain versions s had.versions versions_text _ _ _ versions_read _ (is_version_of host) versions.encode
+    (λ n x. rw (equal_text x.host host) (one (bytes_eq x.host host))) (λ n x. refl) (λ x y. refl)
+
+abbrev pub page_text : List ℕ
+page_text = codes "SELECT host, slug, lang, path, media, body FROM page WHERE host = ?1 AND slug = ?2 AND lang = ?3 AND path = ?4 ORDER BY host, slug, lang, path"
+
+page_read : select_of page_table page_text ≡ Some (0 ∷ 1 ∷ 2 ∷ 3 ∷ 4 ∷ 5 ∷ [], (0, 0) ∷ (1, 1) ∷ (2, 2) ∷ (3, 3) ∷ [], 0 ∷ 1 ∷ 2 ∷ 3 ∷ [])
+unfolding everything
+page_read = refl
+
+pub page_answers : (s : State) → Holds s.now → (host slug lang path : List ℕ) → Answers s page_text (Text host ∷ Text slug ∷ Text lang ∷ Text path ∷ []) (map pages.encode (filter (is_page host slug lang path) (lists_of s.now).pages))
+page_answers s had host slug lang path =
+    select page_table page_simple page_plain pages s had.pages page_text _ _ _ page_read _ (is_page host slug lang path) pages.encode
+    (λ n x. rw (equal_text x.host host, equal_text x.slug slug, equal_text x.lang lang, equal_text x.path path) (four (bytes_eq x.host host) (bytes_eq x.slug slug) (bytes_eq x.lang lang) (bytes_eq x.path path))) (λ n x. refl) (λ x y. refl)
+
+abbrev pub used_text : List ℕ
+used_text = codes "SELECT host, slug, op, retry, answer FROM used WHERE host = ?1 AND slug = ?2 AND op = ?3 AND retry = ?4 ORDER BY host, slug, op, retry"
+
+used_read : select_of used_table used_text ≡ Some (0 ∷ 1 ∷ 2 ∷ 3 ∷ 4 ∷ [], (0, 0) ∷ (1, 1) ∷ (2, 2) ∷ (3, 3) ∷ [], 0 ∷ 1 ∷ 2 ∷ 3 ∷ [])
+unfolding everything
+used_read = refl
+
+pub used_answers : (s : State) → Holds s.now → (host slug : List ℕ) (op : Operation) (retry : List ℕ) → Answers s used_text (Text host ∷ Text slug ∷ flag (is_upload op) ∷ Text retry ∷ []) (map used.encode (filter (is_used host slug op retry) (lists_of s.now).used))
+used_answers s had host slug op retry =
+    select used_table used_simple used_plain used s had.used used_text _ _ _ used_read _ (is_used host slug op retry) used.encode
+    (λ n x. rw (equal_text x.host host, equal_text x.slug slug, equal_op x.op op, equal_text x.retry retry) (four (bytes_eq x.host host) (bytes_eq x.slug slug) (same_op x.op op) (bytes_eq x.retry retry))) (λ n x. refl) (λ x y. refl)
+
+abbrev pub add_project_text : List ℕ
+add_project_text = codes "INSERT INTO project VALUES (?1, ?2, ?3, ?4, ?5)"
+
+add_project_read : (schema : Schema) (tree : ℕ) → insert_of schema (record project_table { tree = tree }) add_project_text ≡ Some (lit Null ∷ col 0 0 ∷ col 0 1 ∷ col 0 2 ∷ col 0 3 ∷ col 0 4 ∷ [], 6)
+unfolding everything
+add_project_read schema tree = refl
+
+pub add_project_writes : (s : State) → Holds s.now → (x : ProjectRow) → IsFreeKey projects.key x (lists_of s.now).projects → Writes s add_project_text (projects.encode x) project_table projects (added projects.key x)
+add_project_writes s had x free = insert project_table project_simple project_plain projects s had.projects add_project_text _ _ (add_project_read _ _) x (project_back x) (tt, (tt, (tt, (tt, (tt, tt))))) refl free
+
+pub add_project_changes : (s : State) → Holds s.now → (x : ProjectRow) → IsFreeKey projects.key x (lists_of s.now).projects → (after : Database) → Rattle.dh_rows.specs.Calls.Edits s add_project_text (projects.encode x) after
+    → Changed s.now after (λ l. record l { projects = added projects.key x l.projects })
+add_project_changes s had x free after it = project_changed s.now after (added projects.key x) had ((add_project_writes s had x free).turns after it)
+
+abbrev pub add_lang_text : List ℕ
+add_lang_text = codes "INSERT INTO lang VALUES (?1, ?2, ?3)"
+
+add_lang_read : (schema : Schema) (tree : ℕ) → insert_of schema (record lang_table { tree = tree }) add_lang_text ≡ Some (lit Null ∷ col 0 0 ∷ col 0 1 ∷ col 0 2 ∷ [], 4)
+unfolding everything
+add_lang_read schema tree = refl
+
+pub add_lang_writes : (s : State) → Holds s.now → (x : LangRow) → IsFreeKey langs.key x (lists_of s.now).langs → Writes s add_lang_text (langs.encode x) lang_table langs (added langs.key x)
+add_lang_writes s had x free = insert lang_table lang_simple lang_plain langs s had.langs add_lang_text _ _ (add_lang_read _ _) x (lang_back x) (tt, (tt, (tt, tt))) refl free
+
+pub add_lang_changes : (s : State) → Holds s.now → (x : LangRow) → IsFreeKey langs.key x (lists_of s.now).langs → (after : Database) → Rattle.dh_rows.specs.Calls.Edits s add_lang_text (langs.encode x) after
+    → Changed s.now after (λ l. record l { langs = added langs.key x l.langs })
+add_lang_changes s had x free after it = lang_changed s.now after (added langs.key x) had ((add_lang_writes s had x free).turns after it)
+
+abbrev pub add_version_text : List ℕ
+add_version_text = codes "INSERT INTO version VALUES (?1, ?2, ?3, ?4, ?5, ?6, ?7)"
+
+add_version_read : (schema : Schema) (tree : ℕ) → insert_of schema (record version_table { tree = tree }) add_version_text ≡ Some (lit Null ∷ col 0 0 ∷ col 0 1 ∷ col 0 2 ∷ col 0 3 ∷ col 0 4 ∷ col 0 5 ∷ col 0 6 ∷ [], 8)
+unfolding everything
+add_version_read schema tree = refl
+
+pub add_version_writes : (s : State) → Holds s.now → (x : VersionRow) → IsFreeKey versions.key x (lists_of s.now).versions → Writes s add_version_text (versions.encode x) version_table versions (added versions.key x)
+add_version_writes s had x free = insert version_table version_simple version_plain versions s had.versions add_version_text _ _ (add_version_read _ _) x (version_back x) (tt, (tt, (tt, (tt, (tt, (tt, (tt, tt))))))) refl free
+
+pub add_version_changes : (s : State) → Holds s.now → (x : VersionRow) → IsFreeKey versions.key x (lists_of s.now).versions → (after : Database) → Rattle.dh_rows.specs.Calls.Edits s add_version_text (versions.encode x) after
+    → Changed s.now after (λ l. record l { versions = added versions.key x l.versions })
+add_version_changes s had x free after it = version_changed s.now after (added versions.key x) had ((add_version_writes s had x free).turns after it)
+
+abbrev pub add_page_text : List ℕ
+add_page_text = codes "INSERT INTO page VALUES (?1, ?2, ?3, ?4, ?5, ?6)"
+
+add_page_read : (schema : Schema) (tree : ℕ) → insert_of schema (record page_table { tree = tree }) add_page_text ≡ Some (lit Null ∷ col 0 0 ∷ col 0 1 ∷ col 0 2 ∷ col 0 3 ∷ col 0 4 ∷ col 0 5 ∷ [], 7)
+unfolding everything
+add_page_read schema tree = refl
+
+pub add_page_writes : (s : State) → Holds s.now → (x : PageRow) → IsFreeKey pages.key x (lists_of s.now).pages → Writes s add_page_text (pages.encode x) page_table pages (added pages.key x)
+add_page_writes s had x free = insert page_table page_simple page_plain pages s had.pages add_page_text _ _ (add_page_read _ _) x (page_back x) (tt, (tt, (tt, (tt, (tt, (tt, tt)))))) refl free
+
+pub add_page_changes : (s : State) → Holds s.now → (x : PageRow) → IsFreeKey pages.key x (lists_of s.now).pages → (after : Database) → Rattle.dh_rows.specs.Calls.Edits s add_page_text (pages.encode x) after
+    → Changed s.now after (λ l. record l { pages = added pages.key x l.pages })
+add_page_changes s had x free after it = page_changed s.now after (added pages.key x) had ((add_page_writes s had x free).turns after it)
+
+abbrev pub keep_text : List ℕ
+keep_text = codes "INSERT INTO used VALUES (?1, ?2, ?3, ?4, ?5)"
+
+keep_read : (schema : Schema) (tree : ℕ) → insert_of schema (record used_table { tree = tree }) keep_text ≡ Some (lit Null ∷ col 0 0 ∷ col 0 1 ∷ col 0 2 ∷ col 0 3 ∷ col 0 4 ∷ [], 6)
+unfolding everything
+keep_read schema tree = refl
+
+pub keep_writes : (s : State) → Holds s.now → (x : UsedRow) → IsFreeKey used.key x (lists_of s.now).used → Writes s keep_text (used.encode x) used_table used (added used.key x)
+keep_writes s had x free = insert used_table used_simple used_plain used s had.used keep_text _ _ (keep_read _ _) x (used_back x) (tt, (tt, (tt, (tt, (tt, tt))))) refl free
+
+pub keep_changes : (s : State) → Holds s.now → (x : UsedRow) → IsFreeKey used.key x (lists_of s.now).used → (after : Database) → Rattle.dh_rows.specs.Calls.Edits s keep_text (used.encode x) after
+    → Changed s.now after (λ l. record l { used = added used.key x l.used })
+keep_changes s had x free after it = used_changed s.now after (added used.key x) had ((keep_writes s had x free).turns after it)
+
+abbrev pub drop_pages_of_text : List ℕ
+drop_pages_of_text = codes "DELETE FROM page WHERE host = ?1 AND slug = ?2"
+
+drop_pages_of_read : delete_of page_table drop_pages_of_text ≡ Some ((0, 0) ∷ (1, 1) ∷ [])
+unfolding everything
+drop_pages_of_read = refl
+
+pub drop_pages_of_writes : (s : State) → Holds s.now → (host slug : List ℕ) → Writes s drop_pages_of_text (Text host ∷ Text slug ∷ []) page_table pages (filter (λ x. not (is_page_of host slug x)))
+drop_pages_of_writes s had host slug = delete page_table page_simple page_plain pages s had.pages drop_pages_of_text _ drop_pages_of_read _ (is_page_of host slug) (λ n x. rw (equal_text x.host host, equal_text x.slug slug) (two (bytes_eq x.host host) (bytes_eq x.slug slug)))
+
+pub drop_pages_of_changes : (s : State) → Holds s.now → (host slug : List ℕ) → (after : Database) → Rattle.dh_rows.specs.Calls.Edits s drop_pages_of_text (Text host ∷ Text slug ∷ []) after
+    → Changed s.now after (λ l. record l { pages = filter (λ x. not (is_page_of host slug x)) l.pages })
+drop_pages_of_changes s had host slug after it = page_changed s.now after (filter (λ x. not (is_page_of host slug x))) had ((drop_pages_of_writes s had host slug).turns after it)
+
+abbrev pub drop_pages_in_text : List ℕ
+drop_pages_in_text = codes "DELETE FROM page WHERE host = ?1 AND slug = ?2 AND lang = ?3"
+
+drop_pages_in_read : delete_of page_table drop_pages_in_text ≡ Some ((0, 0) ∷ (1, 1) ∷ (2, 2) ∷ [])
+unfolding everything
+drop_pages_in_read = refl
+
+pub drop_pages_in_writes : (s : State) → Holds s.now → (host slug lang : List ℕ) → Writes s drop_pages_in_text (Text host ∷ Text slug ∷ Text lang ∷ []) page_table pages (filter (λ x. not (is_page_in host slug lang x)))
+drop_pages_in_writes s had host slug lang = delete page_table page_simple page_plain pages s had.pages drop_pages_in_text _ drop_pages_in_read _ (is_page_in host slug lang) (λ n x. rw (equal_text x.host host, equal_text x.slug slug, equal_text x.lang lang) (three (bytes_eq x.host host) (bytes_eq x.slug slug) (bytes_eq x.lang lang)))
+
+pub drop_pages_in_changes : (s : State) → Holds s.now → (host slug lang : List ℕ) → (after : Database) → Rattle.dh_rows.specs.Calls.Edits s drop_pages_in_text (Text host ∷ Text slug ∷ Text lang ∷ []) after
+    → Changed s.now after (λ l. record l { pages = filter (λ x. not (is_page_in host slug lang x)) l.pages })
+drop_pages_in_changes s had host slug lang after it = page_changed s.now after (filter (λ x. not (is_page_in host slug lang x))) had ((drop_pages_in_writes s had host slug lang).turns after it)
+
+abbrev pub drop_page_text : List ℕ
+drop_page_text = codes "DELETE FROM page WHERE host = ?1 AND slug = ?2 AND lang = ?3 AND path = ?4"
+
+drop_page_read : delete_of page_table drop_page_text ≡ Some ((0, 0) ∷ (1, 1) ∷ (2, 2) ∷ (3, 3) ∷ [])
+unfolding everything
+drop_page_read = refl
+
+pub drop_page_writes : (s : State) → Holds s.now → (host slug lang path : List ℕ) → Writes s drop_page_text (Text host ∷ Text slug ∷ Text lang ∷ Text path ∷ []) page_table pages (filter (λ x. not (is_page host slug lang path x)))
+drop_page_writes s had host slug lang path = delete page_table page_simple page_plain pages s had.pages drop_page_text _ drop_page_read _ (is_page host slug lang path) (λ n x. rw (equal_text x.host host, equal_text x.slug slug, equal_text x.lang lang, equal_text x.path path) (four (bytes_eq x.host host) (bytes_eq x.slug slug) (bytes_eq x.lang lang) (bytes_eq x.path path)))
+
+pub drop_page_changes : (s : State) → Holds s.now → (host slug lang path : List ℕ) → (after : Database) → Rattle.dh_rows.specs.Calls.Edits s drop_page_text (Text host ∷ Text slug ∷ Text lang ∷ Text path ∷ []) after
+    → Changed s.now after (λ l. record l { pages = filter (λ x. not (is_page host slug lang path x)) l.pages })
+drop_page_changes s had host slug lang path after it = page_changed s.now after (filter (λ x. not (is_page host slug lang path x))) had ((drop_page_writes s had host slug lang path).turns after it)
+
+abbrev pub drop_version_text : List ℕ
+drop_version_text = codes "DELETE FROM version WHERE host = ?1 AND slug = ?2"
+
+drop_version_read : delete_of version_table drop_version_text ≡ Some ((0, 0) ∷ (1, 1) ∷ [])
+unfolding everything
+drop_version_read = refl
+
+pub drop_version_writes : (s : State) → Holds s.now → (host slug : List ℕ) → Writes s drop_version_text (Text host ∷ Text slug ∷ []) version_table versions (filter (λ x. not (is_version host slug x)))
+drop_version_writes s had host slug = delete version_table version_simple version_plain versions s had.versions drop_version_text _ drop_version_read _ (is_version host slug) (λ n x. rw (equal_text x.host host, equal_text x.version.slug slug) (two (bytes_eq x.host host) (bytes_eq x.version.slug slug)))
+
+pub drop_version_changes : (s : State) → Holds s.now → (host slug : List ℕ) → (after : Database) → Rattle.dh_rows.specs.Calls.Edits s drop_version_text (Text host ∷ Text slug ∷ []) after
+    → Changed s.now after (λ l. record l { versions = filter (λ x. not (is_version host slug x)) l.versions })
+drop_version_changes s had host slug after it = version_changed s.now after (filter (λ x. not (is_version host slug x))) had ((drop_version_writes s had host slug).turns after it)

@@ -1,0 +1,26 @@
+use Rattle.dh_rows.specs.Calls.{IsHonest}
+use Rattle.std.proofs.Common.{◌∙◌}
+use Rattle.dh_tables.proofs.CallLemmas.{settles}
+use Rattle.dh_tables.proofs.making.make_rest.Goals as goal
+
+pub make_page-requires : goal.make_page-requires
+make_page-requires g c honest = (c.in_ok-make_version.ensures.ok (c.make_version.ensures.was honest) honest.0).1
+
+pub make_used-requires : goal.make_used-requires
+make_used-requires g c honest = (c.in_ok-make_page.ensures.ok (c.make_page.ensures.was honest) honest.0).1
+
+pub number-requires : goal.number-requires
+number-requires g c honest = (c.in_ok-make_used.ensures.ok (c.make_used.ensures.was honest) honest.0).1
+
+pub returns-clause-ok : goal.returns-clause-ok
+returns-clause-ok g c honest clean =
+    let clean3 = c.number.ensures.clean clean in
+    let clean2 = c.make_used.ensures.clean clean3 in
+    let clean1 = c.make_page.ensures.clean clean2 in
+    let o1 = c.in_ok-make_version.ensures.ok honest clean1 in
+    let h1 : IsHonest g.S.Store c.make_version.new.conn = (clean1, o1.0.is_open) in
+    let o2 = c.in_ok-make_page.ensures.ok h1 clean2 in
+    let h2 : IsHonest g.S.Store c.make_page.new.conn = (clean2, o2.0.is_open) in
+    let o3 = c.in_ok-make_used.ensures.ok h2 clean3 in
+    let h3 : IsHonest g.S.Store c.make_used.new.conn = (clean3, o3.0.is_open) in
+    settles _ g.S.Store c.make_used.new.conn c.number.new.conn c.args.conn.now.in_transaction c.number.result clean (o3.0.mode ∙ o2.0.mode ∙ o1.0.mode) (c.number.ensures.ok h3 clean)

@@ -1,0 +1,7 @@
+pub mod Answers
+pub mod World
+pub mod Seen
+pub mod Lists
+pub mod Codings
+pub mod Tables
+pub mod Making

@@ -1,0 +1,15 @@
+//! The records of a documentation host, in SQL tables over any store.
+#![tactic(auto)]
+
+pub mod answer;
+mod making;
+mod query;
+mod reading;
+pub mod records;
+pub mod tables;
+#[cfg(test)]
+mod tests;
+
+pub use answer::Answer;
+pub use records::{LangRow, Operation, PageRow, ProjectRow, UsedRow, VersionRow};
+pub use tables::{Tables, TablesFault};

@@ -1,0 +1,195 @@
+ghost use Rattle.std.specs.Prelude.{◌≡◌, ◌↔◌, [], ◌∷◌, false, true, IsTrue, OnOk, OnErr};
+ghost use Rattle.sqlite.specs.Held.{state};
+ghost use Rattle.sqlite.specs.State.{HasCleanDisk};
+ghost use Rattle.dh_rows.specs.Calls.{IsHonest, Shows, Becomes, IsRefused, whole};
+ghost use Rattle.dh_rows.specs.Places.{IsFree, IsUnmentioned};
+ghost use Rattle.dh_tables.specs.Making.{CanMake, IsReady, IsMade};
+ghost use Rattle.dh_tables.specs.Tables.{meta_table, project_table, lang_table, version_table, page_table, used_table};
+
+use crate::query::{fault_of, write};
+use dh_reply::Fault;
+use dh_rows::{is_free, is_unmentioned, keeps_counts};
+use sqlite::{Alter, Connection, params};
+use sqlite_schema::schema::Schema;
+
+fn make_meta<S: Alter>(conn: &mut Connection<S>) -> Result<(), Fault>
+    requires { IsHonest S.Store conn.old → IsReady ([]) (meta_table ∷ project_table ∷ lang_table ∷ version_table ∷ page_table ∷ used_table ∷ []) (state S.Store conn.old).now }
+    ensures ok { IsHonest S.Store conn.old → HasCleanDisk (state S.Store conn.new) → OnOk result (Becomes S.Store whole conn.old conn.new (state S.Store conn.new).now × IsReady (meta_table ∷ []) (project_table ∷ lang_table ∷ version_table ∷ page_table ∷ used_table ∷ []) (state S.Store conn.new).now) }
+    ensures err { IsHonest S.Store conn.new → OnErr result (IsRefused S.Store whole conn.old conn.new) }
+    ensures clean { HasCleanDisk (state S.Store conn.new) → HasCleanDisk (state S.Store conn.old) }
+    ensures was { IsHonest S.Store conn.new → IsHonest S.Store conn.old }
+{
+    write(
+        conn,
+        "CREATE TABLE meta (schema INTEGER NOT NULL) STRICT",
+        &[],
+    )
+}
+
+fn make_project<S: Alter>(conn: &mut Connection<S>) -> Result<(), Fault>
+    requires { IsHonest S.Store conn.old → IsReady (meta_table ∷ []) (project_table ∷ lang_table ∷ version_table ∷ page_table ∷ used_table ∷ []) (state S.Store conn.old).now }
+    ensures ok { IsHonest S.Store conn.old → HasCleanDisk (state S.Store conn.new) → OnOk result (Becomes S.Store whole conn.old conn.new (state S.Store conn.new).now × IsReady (project_table ∷ meta_table ∷ []) (lang_table ∷ version_table ∷ page_table ∷ used_table ∷ []) (state S.Store conn.new).now) }
+    ensures err { IsHonest S.Store conn.new → OnErr result (IsRefused S.Store whole conn.old conn.new) }
+    ensures clean { HasCleanDisk (state S.Store conn.new) → HasCleanDisk (state S.Store conn.old) }
+    ensures was { IsHonest S.Store conn.new → IsHonest S.Store conn.old }
+{
+    write(
+        conn,
+        "CREATE TABLE project (host TEXT NOT NULL, main TEXT NOT NULL, branch TEXT NOT NULL, wkey TEXT NOT NULL, private INTEGER NOT NULL, PRIMARY KEY (host)) STRICT",
+        &[],
+    )
+}
+
+fn make_lang<S: Alter>(conn: &mut Connection<S>) -> Result<(), Fault>
+    requires { IsHonest S.Store conn.old → IsReady (project_table ∷ meta_table ∷ []) (lang_table ∷ version_table ∷ page_table ∷ used_table ∷ []) (state S.Store conn.old).now }
+    ensures ok { IsHonest S.Store conn.old → HasCleanDisk (state S.Store conn.new) → OnOk result (Becomes S.Store whole conn.old conn.new (state S.Store conn.new).now × IsReady (lang_table ∷ project_table ∷ meta_table ∷ []) (version_table ∷ page_table ∷ used_table ∷ []) (state S.Store conn.new).now) }
+    ensures err { IsHonest S.Store conn.new → OnErr result (IsRefused S.Store whole conn.old conn.new) }
+    ensures clean { HasCleanDisk (state S.Store conn.new) → HasCleanDisk (state S.Store conn.old) }
+    ensures was { IsHonest S.Store conn.new → IsHonest S.Store conn.old }
+{
+    write(
+        conn,
+        "CREATE TABLE lang (host TEXT NOT NULL, lang TEXT NOT NULL, place INTEGER NOT NULL, PRIMARY KEY (host, lang)) STRICT",
+        &[],
+    )
+}
+
+fn make_version<S: Alter>(conn: &mut Connection<S>) -> Result<(), Fault>
+    requires { IsHonest S.Store conn.old → IsReady (lang_table ∷ project_table ∷ meta_table ∷ []) (version_table ∷ page_table ∷ used_table ∷ []) (state S.Store conn.old).now }
+    ensures ok { IsHonest S.Store conn.old → HasCleanDisk (state S.Store conn.new) → OnOk result (Becomes S.Store whole conn.old conn.new (state S.Store conn.new).now × IsReady (version_table ∷ lang_table ∷ project_table ∷ meta_table ∷ []) (page_table ∷ used_table ∷ []) (state S.Store conn.new).now) }
+    ensures err { IsHonest S.Store conn.new → OnErr result (IsRefused S.Store whole conn.old conn.new) }
+    ensures clean { HasCleanDisk (state S.Store conn.new) → HasCleanDisk (state S.Store conn.old) }
+    ensures was { IsHonest S.Store conn.new → IsHonest S.Store conn.old }
+{
+    write(
+        conn,
+        "CREATE TABLE version (host TEXT NOT NULL, slug TEXT NOT NULL, name TEXT NOT NULL, kind INTEGER NOT NULL, active INTEGER NOT NULL, hidden INTEGER NOT NULL, private INTEGER NOT NULL, PRIMARY KEY (host, slug)) STRICT",
+        &[],
+    )
+}
+
+fn make_page<S: Alter>(conn: &mut Connection<S>) -> Result<(), Fault>
+    requires { IsHonest S.Store conn.old → IsReady (version_table ∷ lang_table ∷ project_table ∷ meta_table ∷ []) (page_table ∷ used_table ∷ []) (state S.Store conn.old).now }
+    ensures ok { IsHonest S.Store conn.old → HasCleanDisk (state S.Store conn.new) → OnOk result (Becomes S.Store whole conn.old conn.new (state S.Store conn.new).now × IsReady (page_table ∷ version_table ∷ lang_table ∷ project_table ∷ meta_table ∷ []) (used_table ∷ []) (state S.Store conn.new).now) }
+    ensures err { IsHonest S.Store conn.new → OnErr result (IsRefused S.Store whole conn.old conn.new) }
+    ensures clean { HasCleanDisk (state S.Store conn.new) → HasCleanDisk (state S.Store conn.old) }
+    ensures was { IsHonest S.Store conn.new → IsHonest S.Store conn.old }
+{
+    write(
+        conn,
+        "CREATE TABLE page (host TEXT NOT NULL, slug TEXT NOT NULL, lang TEXT NOT NULL, path TEXT NOT NULL, media TEXT NOT NULL, body BLOB NOT NULL, PRIMARY KEY (host, slug, lang, path)) STRICT",
+        &[],
+    )
+}
+
+fn make_used<S: Alter>(conn: &mut Connection<S>) -> Result<(), Fault>
+    requires { IsHonest S.Store conn.old → IsReady (page_table ∷ version_table ∷ lang_table ∷ project_table ∷ meta_table ∷ []) (used_table ∷ []) (state S.Store conn.old).now }
+    ensures ok { IsHonest S.Store conn.old → HasCleanDisk (state S.Store conn.new) → OnOk result (Becomes S.Store whole conn.old conn.new (state S.Store conn.new).now × IsReady (used_table ∷ page_table ∷ version_table ∷ lang_table ∷ project_table ∷ meta_table ∷ []) ([]) (state S.Store conn.new).now) }
+    ensures err { IsHonest S.Store conn.new → OnErr result (IsRefused S.Store whole conn.old conn.new) }
+    ensures clean { HasCleanDisk (state S.Store conn.new) → HasCleanDisk (state S.Store conn.old) }
+    ensures was { IsHonest S.Store conn.new → IsHonest S.Store conn.old }
+{
+    write(
+        conn,
+        "CREATE TABLE used (host TEXT NOT NULL, slug TEXT NOT NULL, op INTEGER NOT NULL, retry TEXT NOT NULL, answer TEXT NOT NULL, PRIMARY KEY (host, slug, op, retry)) STRICT",
+        &[],
+    )
+}
+
+/// Writes the number of the schema.
+fn number<S: Alter>(conn: &mut Connection<S>) -> Result<(), Fault>
+    requires { IsHonest S.Store conn.old → IsReady (used_table ∷ page_table ∷ version_table ∷ lang_table ∷ project_table ∷ meta_table ∷ []) [] (state S.Store conn.old).now }
+    ensures ok { IsHonest S.Store conn.old → HasCleanDisk (state S.Store conn.new) → OnOk result (Becomes S.Store whole conn.old conn.new (state S.Store conn.new).now × IsMade (state S.Store conn.new).now) }
+    ensures err { IsHonest S.Store conn.new → OnErr result (IsRefused S.Store whole conn.old conn.new) }
+    ensures clean { HasCleanDisk (state S.Store conn.new) → HasCleanDisk (state S.Store conn.old) }
+    ensures was { IsHonest S.Store conn.new → IsHonest S.Store conn.old }
+{
+    write(conn, "INSERT INTO meta VALUES (?1)", params![1i64])
+}
+
+fn make_first<S: Alter>(conn: &mut Connection<S>) -> Result<(), Fault>
+    requires { IsHonest S.Store conn.old → IsReady ([]) (meta_table ∷ project_table ∷ lang_table ∷ version_table ∷ page_table ∷ used_table ∷ []) (state S.Store conn.old).now }
+    ensures ok { IsHonest S.Store conn.old → HasCleanDisk (state S.Store conn.new) → OnOk result (IsHonest S.Store conn.new × (conn.new.in_transaction ≡ conn.old.in_transaction) × (conn.old.in_transaction ≡ false → (state S.Store conn.new).now ≡ (state S.Store conn.new).committed) × IsReady (lang_table ∷ project_table ∷ meta_table ∷ []) (version_table ∷ page_table ∷ used_table ∷ []) (state S.Store conn.new).now) }
+    ensures clean { HasCleanDisk (state S.Store conn.new) → HasCleanDisk (state S.Store conn.old) }
+    ensures was { IsHonest S.Store conn.new → IsHonest S.Store conn.old }
+{
+    make_meta(conn)?;
+    make_project(conn)?;
+    make_lang(conn)
+}
+
+fn make_rest<S: Alter>(conn: &mut Connection<S>) -> Result<(), Fault>
+    requires { IsHonest S.Store conn.old → IsReady (lang_table ∷ project_table ∷ meta_table ∷ []) (version_table ∷ page_table ∷ used_table ∷ []) (state S.Store conn.old).now }
+    ensures ok { IsHonest S.Store conn.old → HasCleanDisk (state S.Store conn.new) → OnOk result (IsHonest S.Store conn.new × (conn.new.in_transaction ≡ conn.old.in_transaction) × (conn.old.in_transaction ≡ false → (state S.Store conn.new).now ≡ (state S.Store conn.new).committed) × IsMade (state S.Store conn.new).now) }
+    ensures clean { HasCleanDisk (state S.Store conn.new) → HasCleanDisk (state S.Store conn.old) }
+    ensures was { IsHonest S.Store conn.new → IsHonest S.Store conn.old }
+{
+    make_version(conn)?;
+    make_page(conn)?;
+    make_used(conn)?;
+    number(conn)
+}
+
+/// Makes the tables, with no record in them.
+pub fn make_tables<S: Alter>(conn: &mut Connection<S>) -> Result<(), Fault>
+    requires { IsHonest S.Store conn.old → IsReady ([]) (meta_table ∷ project_table ∷ lang_table ∷ version_table ∷ page_table ∷ used_table ∷ []) (state S.Store conn.old).now }
+    ensures ok { IsHonest S.Store conn.old → HasCleanDisk (state S.Store conn.new) → OnOk result (IsHonest S.Store conn.new × (conn.new.in_transaction ≡ conn.old.in_transaction) × (conn.old.in_transaction ≡ false → (state S.Store conn.new).now ≡ (state S.Store conn.new).committed) × IsMade (state S.Store conn.new).now) }
+    ensures clean { HasCleanDisk (state S.Store conn.new) → HasCleanDisk (state S.Store conn.old) }
+    ensures was { IsHonest S.Store conn.new → IsHonest S.Store conn.old }
+{
+    make_first(conn)?;
+    make_rest(conn)
+}
+
+fn can_have(schema: &Schema, name: &[u8]) -> bool
+    ensures { IsTrue result ↔ (IsFree schema.now name.now × IsUnmentioned schema.now name.now) }
+{
+    is_free(schema, name) && is_unmentioned(schema, name)
+}
+
+/// Whether the tables can be made among those that are there.
+pub fn can_make(schema: &Schema) -> bool
+    ensures { IsTrue result ↔ CanMake schema.now }
+{
+    can_have(schema, b"meta")
+        && can_have(schema, b"project")
+        && can_have(schema, b"lang")
+        && can_have(schema, b"version")
+        && can_have(schema, b"page")
+        && can_have(schema, b"used")
+        && keeps_counts(schema)
+}
+
+/// Makes the tables in a transaction of their own.
+pub fn make_at_once<S: Alter>(conn: &mut Connection<S>) -> Result<(), Fault>
+    requires { CanMake (state S.Store conn.old).now.schema }
+    ensures ok { IsHonest S.Store conn.old → HasCleanDisk (state S.Store conn.new) → OnOk result (IsHonest S.Store conn.new × (conn.new.in_transaction ≡ false) × ((state S.Store conn.new).now ≡ (state S.Store conn.new).committed) × IsMade (state S.Store conn.new).now) }
+    ensures clean { HasCleanDisk (state S.Store conn.new) → HasCleanDisk (state S.Store conn.old) }
+    ensures was { IsHonest S.Store conn.new → IsHonest S.Store conn.old }
+{
+    begin(conn)?;
+    make_tables(conn)?;
+    commit(conn)
+}
+
+fn begin<S: Alter>(conn: &mut Connection<S>) -> Result<(), Fault>
+    ensures ok { IsHonest S.Store conn.old → HasCleanDisk (state S.Store conn.new) → OnOk result (Shows S.Store whole conn.old conn.new (state S.Store conn.old).now (state S.Store conn.old).committed true) }
+    ensures clean { HasCleanDisk (state S.Store conn.new) → HasCleanDisk (state S.Store conn.old) }
+    ensures was { IsHonest S.Store conn.new → IsHonest S.Store conn.old }
+{
+    match dh_rows::begin(conn) {
+        Ok(()) => Ok(()),
+        Err(fault) => Err(fault_of(fault)),
+    }
+}
+
+fn commit<S: Alter>(conn: &mut Connection<S>) -> Result<(), Fault>
+    ensures ok { IsHonest S.Store conn.old → HasCleanDisk (state S.Store conn.new) → OnOk result (Shows S.Store whole conn.old conn.new (state S.Store conn.old).now (state S.Store conn.old).now false) }
+    ensures clean { HasCleanDisk (state S.Store conn.new) → HasCleanDisk (state S.Store conn.old) }
+    ensures was { IsHonest S.Store conn.new → IsHonest S.Store conn.old }
+{
+    match dh_rows::commit(conn) {
+        Ok(()) => Ok(()),
+        Err(fault) => Err(fault_of(fault)),
+    }
+}

@@ -1,0 +1,237 @@
+ghost use Rattle.std.specs.Prelude.{◌≡◌, List, map, slice_get, string_bytes, IfOk};
+ghost use Rattle.sqlite_value.specs.declared.value.Value.TheVariants.{Int, Text as SqlText, Blob};
+ghost use Rattle.sqlite_value.specs.Order.{column};
+ghost use Rattle.dh_rows.specs.Keyed.{Coding, flag};
+ghost use Rattle.dh_tables.specs.Codings as spec;
+
+use crate::records::{LangRow, Operation, PageRow, ProjectRow, UsedRow, VersionRow};
+use dh_paths::{Bytes, HostName, Lang, PagePath, RefName, Slug, Text, TextFault, Token};
+use dh_reply::{Fault, Page};
+use dh_versions::{Kind, Version};
+use sqlite::{Error, ErrorCode, Row};
+use std::alloc::Global;
+
+fn fault_of(error: Error) -> Fault {
+    match error {
+        Error::SqliteFailure(ErrorCode::OutOfMemory) => Fault::Memory,
+        _ => Fault::Store,
+    }
+}
+
+/// A text that is no value of its type breaks a rule of the rows, so it is a fault of the store.
+fn fault_of_text(fault: TextFault) -> Fault {
+    match fault {
+        TextFault::Memory => Fault::Memory,
+        _ => Fault::Store,
+    }
+}
+
+fn text_at(row: &Row, at: usize) -> Result<String, Fault>
+    ensures { IfOk result (λ s. column row.now at ≡ SqlText (string_bytes s)) }
+{
+    match row.get(at) {
+        Ok(text) => Ok(text),
+        Err(error) => Err(fault_of(error)),
+    }
+}
+
+fn flag_at(row: &Row, at: usize) -> Result<bool, Fault>
+    ensures { IfOk result (λ b. spec.flag_in row.now at ≡ b) }
+{
+    match row.get(at) {
+        Ok(flag) => Ok(flag),
+        Err(error) => Err(fault_of(error)),
+    }
+}
+
+fn number_at(row: &Row, at: usize) -> Result<u32, Fault>
+    ensures { IfOk result (λ n. spec.number_in (column row.now at) ≡ n) }
+{
+    match row.get(at) {
+        Ok(number) => Ok(number),
+        Err(error) => Err(fault_of(error)),
+    }
+}
+
+fn body_at(row: &Row, at: usize) -> Result<Bytes, Fault>
+    ensures { IfOk result (λ b. spec.text_in row.now at ≡ b) }
+{
+    match row.get(at) {
+        Ok(body) => Ok(Bytes::wrap(body)),
+        Err(error) => Err(fault_of(error)),
+    }
+}
+
+fn host_at(alloc: Global, row: &Row, at: usize) -> Result<HostName, Fault>
+    ensures { IfOk result (λ t. spec.text_in row.now at ≡ t) }
+{
+    match HostName::parse(alloc, text_at(row, at)?.as_str()) {
+        Ok(host) => Ok(host),
+        Err(fault) => Err(fault_of_text(fault)),
+    }
+}
+
+fn lang_at(alloc: Global, row: &Row, at: usize) -> Result<Lang, Fault>
+    ensures { IfOk result (λ t. spec.text_in row.now at ≡ t) }
+{
+    match Lang::parse(alloc, text_at(row, at)?.as_str()) {
+        Ok(lang) => Ok(lang),
+        Err(fault) => Err(fault_of_text(fault)),
+    }
+}
+
+fn slug_at(alloc: Global, row: &Row, at: usize) -> Result<Slug, Fault>
+    ensures { IfOk result (λ t. spec.text_in row.now at ≡ t) }
+{
+    match Slug::parse(alloc, text_at(row, at)?.as_str()) {
+        Ok(slug) => Ok(slug),
+        Err(fault) => Err(fault_of_text(fault)),
+    }
+}
+
+fn ref_at(alloc: Global, row: &Row, at: usize) -> Result<RefName, Fault>
+    ensures { IfOk result (λ t. spec.text_in row.now at ≡ t) }
+{
+    match RefName::parse(alloc, text_at(row, at)?.as_str()) {
+        Ok(name) => Ok(name),
+        Err(fault) => Err(fault_of_text(fault)),
+    }
+}
+
+fn path_at(alloc: Global, row: &Row, at: usize) -> Result<PagePath, Fault>
+    ensures { IfOk result (λ t. spec.text_in row.now at ≡ t) }
+{
+    match PagePath::parse(alloc, text_at(row, at)?.as_str()) {
+        Ok(path) => Ok(path),
+        Err(fault) => Err(fault_of_text(fault)),
+    }
+}
+
+fn token_at(alloc: Global, row: &Row, at: usize) -> Result<Token, Fault>
+    ensures { IfOk result (λ t. spec.text_in row.now at ≡ t) }
+{
+    match Token::parse(alloc, text_at(row, at)?.as_str()) {
+        Ok(token) => Ok(token),
+        Err(fault) => Err(fault_of_text(fault)),
+    }
+}
+
+/// A record of a table.
+pub trait Record: Drop {
+    /// How it is kept in its columns.
+    ghost coding: { Coding Self };
+
+    /// The record whose columns these are.
+    fn read(alloc: Global, row: &Row) -> Result<Self, Fault>
+        ensures { IfOk result (λ x. (y : Self) → row.now ≡ coding.encode y → x ≡ y) };
+}
+
+impl Record for ProjectRow {
+    ghost coding = { spec.projects };
+
+    fn read(alloc: Global, row: &Row) -> Result<ProjectRow, Fault> {
+        Ok(ProjectRow {
+            host: host_at(alloc, row, 0)?,
+            main: lang_at(alloc, row, 1)?,
+            branch: ref_at(alloc, row, 2)?,
+            wkey: token_at(alloc, row, 3)?,
+            new_private: flag_at(row, 4)?,
+        })
+    }
+}
+
+impl Record for LangRow {
+    ghost coding = { spec.langs };
+
+    fn read(alloc: Global, row: &Row) -> Result<LangRow, Fault> {
+        Ok(LangRow {
+            host: host_at(alloc, row, 0)?,
+            lang: lang_at(alloc, row, 1)?,
+            place: number_at(row, 2)?,
+        })
+    }
+}
+
+fn version_in(alloc: Global, row: &Row) -> Result<Version, Fault>
+    ensures { IfOk result (λ v. (y : VersionRow) → row.now ≡ spec.versions.encode y → v ≡ y.version) }
+{
+    Ok(Version {
+        slug: slug_at(alloc, row, 1)?,
+        name: ref_at(alloc, row, 2)?,
+        kind: if flag_at(row, 3)? {
+            Kind::Tag
+        } else {
+            Kind::Branch
+        },
+        active: flag_at(row, 4)?,
+        hidden: flag_at(row, 5)?,
+        private: flag_at(row, 6)?,
+    })
+}
+
+impl Record for VersionRow {
+    ghost coding = { spec.versions };
+
+    fn read(alloc: Global, row: &Row) -> Result<VersionRow, Fault> {
+        Ok(VersionRow {
+            host: host_at(alloc, row, 0)?,
+            version: version_in(alloc, row)?,
+        })
+    }
+}
+
+impl Record for PageRow {
+    ghost coding = { spec.pages };
+
+    fn read(alloc: Global, row: &Row) -> Result<PageRow, Fault> {
+        Ok(PageRow {
+            host: host_at(alloc, row, 0)?,
+            slug: slug_at(alloc, row, 1)?,
+            lang: lang_at(alloc, row, 2)?,
+            path: path_at(alloc, row, 3)?,
+            page: Page {
+                media: Text::wrap(text_at(row, 4)?),
+                body: body_at(row, 5)?,
+            },
+        })
+    }
+}
+
+impl Record for UsedRow {
+    ghost coding = { spec.used };
+
+    fn read(alloc: Global, row: &Row) -> Result<UsedRow, Fault> {
+        Ok(UsedRow {
+            host: host_at(alloc, row, 0)?,
+            slug: slug_at(alloc, row, 1)?,
+            op: if flag_at(row, 2)? {
+                Operation::Upload
+            } else {
+                Operation::Push
+            },
+            retry: token_at(alloc, row, 3)?,
+            answer: Text::wrap(text_at(row, 4)?),
+        })
+    }
+}
+
+/// The record of the first row, where there is one.
+pub fn first<R: Record>(alloc: Global, rows: &[Row]) -> Result<Option<R>, Fault>
+    ensures { IfOk result (λ o. (xs : List R) → rows.now ≡ map R.coding.encode xs → o ≡ slice_get xs 0) }
+{
+    match rows.first() {
+        Some(row) => Ok(Some(R::read(alloc, row)?)),
+        None => Ok(None),
+    }
+}
+
+/// The records of all rows.
+pub fn all<R: Record>(alloc: Global, rows: &[Row]) -> Result<Vec<R>, Fault>
+    ensures { IfOk result (λ v. (xs : List R) → rows.now ≡ map R.coding.encode xs → v.items ≡ xs) }
+{
+    let mut found = Vec::new(alloc);
+    for row in rows {
+        found.push(R::read(alloc, row)?)?;
+    }
+    Ok(found)
+}

@@ -1,0 +1,78 @@
+ghost use Rattle.std.specs.Prelude.{◌≡◌};
+ghost use Rattle.dh_tables.specs.Codings as coding;
+
+use dh_paths::{HostName, Lang, PagePath, RefName, Slug, Text, Token};
+use dh_reply::Page;
+use dh_versions::{Kind, Version};
+
+/// A project, but for its lists.
+#[derive(Drop)]
+pub struct ProjectRow {
+    pub host: HostName,
+    /// The language that its own addresses lead to.
+    pub main: Lang,
+    /// The name of the default branch.
+    pub branch: RefName,
+    /// The key that pushes and uploads carry.
+    pub wkey: Token,
+    /// Whether a new version is private.
+    pub new_private: bool,
+}
+
+/// A language of a project.
+#[derive(Drop)]
+pub struct LangRow {
+    pub host: HostName,
+    pub lang: Lang,
+    /// From 1, which is the main one's.
+    pub place: u32,
+}
+
+/// A version under its host.
+#[derive(Drop)]
+pub struct VersionRow {
+    pub host: HostName,
+    pub version: Version,
+}
+
+/// A page under its host.
+#[derive(Drop)]
+pub struct PageRow {
+    pub host: HostName,
+    pub slug: Slug,
+    pub lang: Lang,
+    pub path: PagePath,
+    pub page: Page,
+}
+
+/// The commands that carry a retry key.
+#[derive(Clone, Copy, Debug, PartialEq, Eq)]
+pub enum Operation {
+    Push,
+    Upload,
+}
+
+impl Operation {
+    pub fn is_upload(self) -> bool
+        ensures { result ≡ coding.is_upload self }
+    {
+        self == Operation::Upload
+    }
+}
+
+pub(crate) fn is_tag(kind: Kind) -> bool
+    ensures { result ≡ coding.is_tag kind }
+{
+    kind == Kind::Tag
+}
+
+/// The first answer to a retry key.
+#[derive(Drop)]
+pub struct UsedRow {
+    pub host: HostName,
+    pub slug: Slug,
+    pub op: Operation,
+    pub retry: Token,
+    /// As JSON.
+    pub answer: Text,
+}

@@ -1,0 +1,474 @@
+ghost use Rattle.std.specs.Prelude.{◌≡◌, option_map, true, false, map, filter, not, find, ◌≢◌, IfOk, IfErr, OnOk, OnErr};
+ghost use Rattle.sqlite.specs.Held.{state};
+ghost use Rattle.sqlite.specs.State.{HasCleanDisk};
+ghost use Rattle.dh_rows.specs.Calls.{IsHonest, Shows, Becomes, IsSame, IsUndone, IsRefused, Leaves, seen, committed};
+ghost use Rattle.dh_rows.specs.Keyed.{IsFreeKey, added, put};
+ghost use Rattle.dh_tables.specs.Codings as coding;
+ghost use Rattle.dh_tables.specs.Lists as spec;
+ghost use Rattle.dh_tables.specs.Making.{CanMake, no_lists};
+ghost use Rattle.dh_tables.specs.Tables.{lists_of};
+ghost use Rattle.sqlite.specs.Steps.{over_memory};
+ghost use Rattle.std.specs.FinMap.{empty};
+
+use crate::making::{can_make, make_at_once, make_tables};
+use crate::query::{all_records, fault_of, first_record, write};
+use crate::records::{LangRow, Operation, PageRow, ProjectRow, UsedRow, VersionRow, is_tag};
+use dh_paths::{HostName, Lang, PagePath, Slug, Token};
+use dh_reply::Fault;
+use sqlite::{Alter, Connection, MemStore, params};
+use std::alloc::Global;
+use std::marker::Model;
+use thiserror::Error;
+
+/// The records of all hosts, over any store, among whatever other tables it holds.
+pub struct Tables<S: Alter> {
+    conn: Connection<S>,
+}
+
+impl<S: Alter + Drop> Drop for Tables<S> {
+    fn drop(self) {
+        let Tables { conn: _ } = self;
+    }
+}
+
+impl<S: Alter> Model for Tables<S> {
+    ghost use Rattle.sqlite.specs.Held.{Held, held_code, state};
+    ghost use Rattle.dh_rows.specs.Calls.{AreOurs};
+    ghost use Rattle.dh_tables.specs.Tables.{Holds};
+
+    ghost Value = { Held S };
+
+    ghost coded = { held_code S.code };
+
+    ghost view = { λ t. t.conn };
+
+    ghost invariant = { λ t. AreOurs Holds (state S.Store t.conn) };
+}
+
+impl<S: Alter> Tables<S> {
+    /// Begins a transaction. Within one it is refused.
+    pub fn begin(&mut self) -> Result<(), Fault>
+        ensures ok { IsHonest S.Store self.old → HasCleanDisk (state S.Store self.new) → OnOk result (Shows S.Store lists_of self.old self.new (seen S.Store lists_of self.old) (committed S.Store lists_of self.old) true) }
+        ensures err { IsHonest S.Store self.new → OnErr result (IsRefused S.Store lists_of self.old self.new) }
+        ensures clean { HasCleanDisk (state S.Store self.new) → HasCleanDisk (state S.Store self.old) }
+        ensures was { IsHonest S.Store self.new → IsHonest S.Store self.old }
+        ensures crash { Leaves S.Store lists_of self.old self.new (λ w. ⊥) }
+    {
+        match dh_rows::begin(&mut self.conn) {
+            Ok(()) => Ok(()),
+            Err(fault) => Err(fault_of(fault)),
+        }
+    }
+
+    /// Commits what was changed since the begin.
+    pub fn commit(&mut self) -> Result<(), Fault>
+        ensures ok { IsHonest S.Store self.old → HasCleanDisk (state S.Store self.new) → OnOk result (Shows S.Store lists_of self.old self.new (seen S.Store lists_of self.old) (seen S.Store lists_of self.old) false) }
+        ensures err { IsHonest S.Store self.new → OnErr result (IsRefused S.Store lists_of self.old self.new) }
+        ensures clean { HasCleanDisk (state S.Store self.new) → HasCleanDisk (state S.Store self.old) }
+        ensures was { IsHonest S.Store self.new → IsHonest S.Store self.old }
+        ensures crash { Leaves S.Store lists_of self.old self.new (λ w. w ≡ seen S.Store lists_of self.old) }
+    {
+        match dh_rows::commit(&mut self.conn) {
+            Ok(()) => Ok(()),
+            Err(fault) => Err(fault_of(fault)),
+        }
+    }
+
+    /// Goes back to the begin. Outside a transaction it does nothing.
+    pub fn back(&mut self) -> Result<(), Fault>
+        ensures ok { IsHonest S.Store self.new → OnOk result (IsUndone S.Store lists_of self.old self.new) }
+        ensures err { IsHonest S.Store self.new → OnErr result (IsRefused S.Store lists_of self.old self.new) }
+        ensures clean { HasCleanDisk (state S.Store self.new) → HasCleanDisk (state S.Store self.old) }
+        ensures was { IsHonest S.Store self.new → IsHonest S.Store self.old }
+        ensures crash { Leaves S.Store lists_of self.old self.new (λ w. ⊥) }
+    {
+        match dh_rows::back(&mut self.conn) {
+            Ok(()) => Ok(()),
+            Err(fault) => Err(fault_of(fault)),
+        }
+    }
+
+    /// The project under a host.
+    pub fn project(&mut self, alloc: Global, host: &HostName) -> Result<Option<ProjectRow>, Fault>
+        ensures value { IsHonest S.Store self.old → HasCleanDisk (state S.Store self.new) → IfOk result (λ o. o ≡ find (spec.is_project host.now) (seen S.Store lists_of self.old).projects) }
+        ensures same { IsHonest S.Store self.old → HasCleanDisk (state S.Store self.new) → OnOk result (IsSame S.Store lists_of self.old self.new) }
+        ensures err { IsHonest S.Store self.new → OnErr result (IsRefused S.Store lists_of self.old self.new) }
+        ensures clean { HasCleanDisk (state S.Store self.new) → HasCleanDisk (state S.Store self.old) }
+        ensures was { IsHonest S.Store self.new → IsHonest S.Store self.old }
+        ensures crash { Leaves S.Store lists_of self.old self.new (λ w. ⊥) }
+    {
+        first_record(
+            &mut self.conn,
+            alloc,
+            "SELECT host, main, branch, wkey, private FROM project WHERE host = ?1 ORDER BY host",
+            params![host.as_str()],
+        )
+    }
+
+    /// The languages of a project, in the order of their places.
+    pub fn langs(&mut self, alloc: Global, host: &HostName) -> Result<Vec<LangRow>, Fault>
+        ensures value { IsHonest S.Store self.old → HasCleanDisk (state S.Store self.new) → IfOk result (λ o. o.items ≡ filter (spec.is_lang_of host.now) (seen S.Store lists_of self.old).langs) }
+        ensures same { IsHonest S.Store self.old → HasCleanDisk (state S.Store self.new) → OnOk result (IsSame S.Store lists_of self.old self.new) }
+        ensures err { IsHonest S.Store self.new → OnErr result (IsRefused S.Store lists_of self.old self.new) }
+        ensures clean { HasCleanDisk (state S.Store self.new) → HasCleanDisk (state S.Store self.old) }
+        ensures was { IsHonest S.Store self.new → IsHonest S.Store self.old }
+        ensures crash { Leaves S.Store lists_of self.old self.new (λ w. ⊥) }
+    {
+        all_records(
+            &mut self.conn,
+            alloc,
+            "SELECT host, lang, place FROM lang WHERE host = ?1 ORDER BY host, place",
+            params![host.as_str()],
+        )
+    }
+
+    /// The version with this slug.
+    pub fn version(
+        &mut self,
+        alloc: Global,
+        host: &HostName,
+        slug: &Slug,
+    ) -> Result<Option<VersionRow>, Fault>
+        ensures value { IsHonest S.Store self.old → HasCleanDisk (state S.Store self.new) → IfOk result (λ o. o ≡ find (spec.is_version host.now slug.now) (seen S.Store lists_of self.old).versions) }
+        ensures same { IsHonest S.Store self.old → HasCleanDisk (state S.Store self.new) → OnOk result (IsSame S.Store lists_of self.old self.new) }
+        ensures err { IsHonest S.Store self.new → OnErr result (IsRefused S.Store lists_of self.old self.new) }
+        ensures clean { HasCleanDisk (state S.Store self.new) → HasCleanDisk (state S.Store self.old) }
+        ensures was { IsHonest S.Store self.new → IsHonest S.Store self.old }
+        ensures crash { Leaves S.Store lists_of self.old self.new (λ w. ⊥) }
+    {
+        first_record(
+            &mut self.conn,
+            alloc,
+            "SELECT host, slug, name, kind, active, hidden, private FROM version WHERE host = ?1 AND slug = ?2 ORDER BY host, slug",
+            params![host.as_str(), slug.as_str()],
+        )
+    }
+
+    /// The versions of a project, in the order of their slugs.
+    pub fn versions(&mut self, alloc: Global, host: &HostName) -> Result<Vec<VersionRow>, Fault>
+        ensures value { IsHonest S.Store self.old → HasCleanDisk (state S.Store self.new) → IfOk result (λ o. o.items ≡ filter (spec.is_version_of host.now) (seen S.Store lists_of self.old).versions) }
+        ensures same { IsHonest S.Store self.old → HasCleanDisk (state S.Store self.new) → OnOk result (IsSame S.Store lists_of self.old self.new) }
+        ensures err { IsHonest S.Store self.new → OnErr result (IsRefused S.Store lists_of self.old self.new) }
+        ensures clean { HasCleanDisk (state S.Store self.new) → HasCleanDisk (state S.Store self.old) }
+        ensures was { IsHonest S.Store self.new → IsHonest S.Store self.old }
+        ensures crash { Leaves S.Store lists_of self.old self.new (λ w. ⊥) }
+    {
+        all_records(
+            &mut self.conn,
+            alloc,
+            "SELECT host, slug, name, kind, active, hidden, private FROM version WHERE host = ?1 ORDER BY host, slug",
+            params![host.as_str()],
+        )
+    }
+
+    /// The page at a path of a version in a language.
+    pub fn page(
+        &mut self,
+        alloc: Global,
+        host: &HostName,
+        slug: &Slug,
+        lang: &Lang,
+        path: &str,
+    ) -> Result<Option<PageRow>, Fault>
+        ensures value { IsHonest S.Store self.old → HasCleanDisk (state S.Store self.new) → IfOk result (λ o. o ≡ find (spec.is_page host.now slug.now lang.now path.now) (seen S.Store lists_of self.old).pages) }
+        ensures same { IsHonest S.Store self.old → HasCleanDisk (state S.Store self.new) → OnOk result (IsSame S.Store lists_of self.old self.new) }
+        ensures err { IsHonest S.Store self.new → OnErr result (IsRefused S.Store lists_of self.old self.new) }
+        ensures clean { HasCleanDisk (state S.Store self.new) → HasCleanDisk (state S.Store self.old) }
+        ensures was { IsHonest S.Store self.new → IsHonest S.Store self.old }
+        ensures crash { Leaves S.Store lists_of self.old self.new (λ w. ⊥) }
+    {
+        first_record(
+            &mut self.conn,
+            alloc,
+            "SELECT host, slug, lang, path, media, body FROM page WHERE host = ?1 AND slug = ?2 AND lang = ?3 AND path = ?4 ORDER BY host, slug, lang, path",
+            params![host.as_str(), slug.as_str(), lang.as_str(), path],
+        )
+    }
+
+    /// Adds a project, whose host is free.
+    pub fn add_project(&mut self, project: &ProjectRow) -> Result<(), Fault>
+        requires free { IsHonest S.Store self.old → IsFreeKey coding.projects.key project.now (seen S.Store lists_of self.old).projects }
+        ensures ok { IsHonest S.Store self.old → HasCleanDisk (state S.Store self.new) → OnOk result (Becomes S.Store lists_of self.old self.new (record (seen S.Store lists_of self.old) { projects = added coding.projects.key project.now (seen S.Store lists_of self.old).projects })) }
+        ensures err { IsHonest S.Store self.new → OnErr result (IsRefused S.Store lists_of self.old self.new) }
+        ensures clean { HasCleanDisk (state S.Store self.new) → HasCleanDisk (state S.Store self.old) }
+        ensures was { IsHonest S.Store self.new → IsHonest S.Store self.old }
+        ensures crash { Leaves S.Store lists_of self.old self.new (λ w. (self.old.in_transaction ≡ false) × (w ≡ record (seen S.Store lists_of self.old) { projects = added coding.projects.key project.now (seen S.Store lists_of self.old).projects })) }
+    {
+        write(
+            &mut self.conn,
+            "INSERT INTO project VALUES (?1, ?2, ?3, ?4, ?5)",
+            params![
+                project.host.as_str(),
+                project.main.as_str(),
+                project.branch.as_str(),
+                project.wkey.as_str(),
+                project.new_private
+            ],
+        )
+    }
+
+    /// Adds a language, whose place is free, and which the project has not.
+    pub fn add_lang(&mut self, lang: &LangRow) -> Result<(), Fault>
+        requires free { IsHonest S.Store self.old → IsFreeKey coding.langs.key lang.now (seen S.Store lists_of self.old).langs }
+        ensures ok { IsHonest S.Store self.old → HasCleanDisk (state S.Store self.new) → OnOk result (Becomes S.Store lists_of self.old self.new (record (seen S.Store lists_of self.old) { langs = added coding.langs.key lang.now (seen S.Store lists_of self.old).langs })) }
+        ensures err { IsHonest S.Store self.new → OnErr result (IsRefused S.Store lists_of self.old self.new) }
+        ensures clean { HasCleanDisk (state S.Store self.new) → HasCleanDisk (state S.Store self.old) }
+        ensures was { IsHonest S.Store self.new → IsHonest S.Store self.old }
+        ensures crash { Leaves S.Store lists_of self.old self.new (λ w. (self.old.in_transaction ≡ false) × (w ≡ record (seen S.Store lists_of self.old) { langs = added coding.langs.key lang.now (seen S.Store lists_of self.old).langs })) }
+    {
+        write(
+            &mut self.conn,
+            "INSERT INTO lang VALUES (?1, ?2, ?3)",
+            params![lang.host.as_str(), lang.lang.as_str(), lang.place],
+        )
+    }
+
+    /// The first answer to a retry key.
+    pub fn used(
+        &mut self,
+        alloc: Global,
+        host: &HostName,
+        slug: &Slug,
+        op: Operation,
+        retry: &Token,
+    ) -> Result<Option<UsedRow>, Fault>
+        ensures value { IsHonest S.Store self.old → HasCleanDisk (state S.Store self.new) → IfOk result (λ o. o ≡ find (spec.is_used host.now slug.now op retry.now) (seen S.Store lists_of self.old).used) }
+        ensures same { IsHonest S.Store self.old → HasCleanDisk (state S.Store self.new) → OnOk result (IsSame S.Store lists_of self.old self.new) }
+        ensures err { IsHonest S.Store self.new → OnErr result (IsRefused S.Store lists_of self.old self.new) }
+        ensures clean { HasCleanDisk (state S.Store self.new) → HasCleanDisk (state S.Store self.old) }
+        ensures was { IsHonest S.Store self.new → IsHonest S.Store self.old }
+        ensures crash { Leaves S.Store lists_of self.old self.new (λ w. ⊥) }
+    {
+        first_record(
+            &mut self.conn,
+            alloc,
+            "SELECT host, slug, op, retry, answer FROM used WHERE host = ?1 AND slug = ?2 AND op = ?3 AND retry = ?4 ORDER BY host, slug, op, retry",
+            params![host.as_str(), slug.as_str(), op.is_upload(), retry.as_str()],
+        )
+    }
+
+    /// Keeps the first answer to a retry key, which is free.
+    pub fn keep(&mut self, used: &UsedRow) -> Result<(), Fault>
+        requires free { IsHonest S.Store self.old → IsFreeKey coding.used.key used.now (seen S.Store lists_of self.old).used }
+        ensures ok { IsHonest S.Store self.old → HasCleanDisk (state S.Store self.new) → OnOk result (Becomes S.Store lists_of self.old self.new (record (seen S.Store lists_of self.old) { used = added coding.used.key used.now (seen S.Store lists_of self.old).used })) }
+        ensures err { IsHonest S.Store self.new → OnErr result (IsRefused S.Store lists_of self.old self.new) }
+        ensures clean { HasCleanDisk (state S.Store self.new) → HasCleanDisk (state S.Store self.old) }
+        ensures was { IsHonest S.Store self.new → IsHonest S.Store self.old }
+        ensures crash { Leaves S.Store lists_of self.old self.new (λ w. (self.old.in_transaction ≡ false) × (w ≡ record (seen S.Store lists_of self.old) { used = added coding.used.key used.now (seen S.Store lists_of self.old).used })) }
+    {
+        write(
+            &mut self.conn,
+            "INSERT INTO used VALUES (?1, ?2, ?3, ?4, ?5)",
+            params![
+                used.host.as_str(),
+                used.slug.as_str(),
+                used.op.is_upload(),
+                used.retry.as_str(),
+                used.answer.as_str()
+            ],
+        )
+    }
+
+    /// Adds a version, whose slug is free.
+    fn add_version(&mut self, row: &VersionRow) -> Result<(), Fault>
+        requires free { IsHonest S.Store self.old → IsFreeKey coding.versions.key row.now (seen S.Store lists_of self.old).versions }
+        ensures ok { IsHonest S.Store self.old → HasCleanDisk (state S.Store self.new) → OnOk result (Becomes S.Store lists_of self.old self.new (record (seen S.Store lists_of self.old) { versions = added coding.versions.key row.now (seen S.Store lists_of self.old).versions })) }
+        ensures err { IsHonest S.Store self.new → OnErr result (IsRefused S.Store lists_of self.old self.new) }
+        ensures clean { HasCleanDisk (state S.Store self.new) → HasCleanDisk (state S.Store self.old) }
+        ensures was { IsHonest S.Store self.new → IsHonest S.Store self.old }
+        ensures crash { Leaves S.Store lists_of self.old self.new (λ w. (self.old.in_transaction ≡ false) × (w ≡ record (seen S.Store lists_of self.old) { versions = added coding.versions.key row.now (seen S.Store lists_of self.old).versions })) }
+    {
+        write(
+            &mut self.conn,
+            "INSERT INTO version VALUES (?1, ?2, ?3, ?4, ?5, ?6, ?7)",
+            params![
+                row.host.as_str(),
+                row.version.slug.as_str(),
+                row.version.name.as_str(),
+                is_tag(row.version.kind),
+                row.version.active,
+                row.version.hidden,
+                row.version.private
+            ],
+        )
+    }
+
+    /// Adds a page, whose key is free.
+    fn add_page(&mut self, row: &PageRow) -> Result<(), Fault>
+        requires free { IsHonest S.Store self.old → IsFreeKey coding.pages.key row.now (seen S.Store lists_of self.old).pages }
+        ensures ok { IsHonest S.Store self.old → HasCleanDisk (state S.Store self.new) → OnOk result (Becomes S.Store lists_of self.old self.new (record (seen S.Store lists_of self.old) { pages = added coding.pages.key row.now (seen S.Store lists_of self.old).pages })) }
+        ensures err { IsHonest S.Store self.new → OnErr result (IsRefused S.Store lists_of self.old self.new) }
+        ensures clean { HasCleanDisk (state S.Store self.new) → HasCleanDisk (state S.Store self.old) }
+        ensures was { IsHonest S.Store self.new → IsHonest S.Store self.old }
+        ensures crash { Leaves S.Store lists_of self.old self.new (λ w. (self.old.in_transaction ≡ false) × (w ≡ record (seen S.Store lists_of self.old) { pages = added coding.pages.key row.now (seen S.Store lists_of self.old).pages })) }
+    {
+        write(
+            &mut self.conn,
+            "INSERT INTO page VALUES (?1, ?2, ?3, ?4, ?5, ?6)",
+            params![
+                row.host.as_str(),
+                row.slug.as_str(),
+                row.lang.as_str(),
+                row.path.as_str(),
+                row.page.media.as_str(),
+                row.page.body.as_slice()
+            ],
+        )
+    }
+
+    /// Removes a version, if it is there.
+    fn drop_version(&mut self, host: &HostName, slug: &Slug) -> Result<(), Fault>
+        ensures ok { IsHonest S.Store self.old → HasCleanDisk (state S.Store self.new) → OnOk result (Becomes S.Store lists_of self.old self.new (record (seen S.Store lists_of self.old) { versions = filter (λ x. not (spec.is_version host.now slug.now x)) (seen S.Store lists_of self.old).versions })) }
+        ensures err { IsHonest S.Store self.new → OnErr result (IsRefused S.Store lists_of self.old self.new) }
+        ensures clean { HasCleanDisk (state S.Store self.new) → HasCleanDisk (state S.Store self.old) }
+        ensures was { IsHonest S.Store self.new → IsHonest S.Store self.old }
+        ensures crash { Leaves S.Store lists_of self.old self.new (λ w. (self.old.in_transaction ≡ false) × (w ≡ record (seen S.Store lists_of self.old) { versions = filter (λ x. not (spec.is_version host.now slug.now x)) (seen S.Store lists_of self.old).versions })) }
+    {
+        write(
+            &mut self.conn,
+            "DELETE FROM version WHERE host = ?1 AND slug = ?2",
+            params![host.as_str(), slug.as_str()],
+        )
+    }
+
+    /// Removes a page, if it is there.
+    fn drop_page(
+        &mut self,
+        host: &HostName,
+        slug: &Slug,
+        lang: &Lang,
+        path: &PagePath,
+    ) -> Result<(), Fault>
+        ensures ok { IsHonest S.Store self.old → HasCleanDisk (state S.Store self.new) → OnOk result (Becomes S.Store lists_of self.old self.new (record (seen S.Store lists_of self.old) { pages = filter (λ x. not (spec.is_page host.now slug.now lang.now path.now x)) (seen S.Store lists_of self.old).pages })) }
+        ensures err { IsHonest S.Store self.new → OnErr result (IsRefused S.Store lists_of self.old self.new) }
+        ensures clean { HasCleanDisk (state S.Store self.new) → HasCleanDisk (state S.Store self.old) }
+        ensures was { IsHonest S.Store self.new → IsHonest S.Store self.old }
+        ensures crash { Leaves S.Store lists_of self.old self.new (λ w. (self.old.in_transaction ≡ false) × (w ≡ record (seen S.Store lists_of self.old) { pages = filter (λ x. not (spec.is_page host.now slug.now lang.now path.now x)) (seen S.Store lists_of self.old).pages })) }
+    {
+        write(
+            &mut self.conn,
+            "DELETE FROM page WHERE host = ?1 AND slug = ?2 AND lang = ?3 AND path = ?4",
+            params![host.as_str(), slug.as_str(), lang.as_str(), path.as_str()],
+        )
+    }
+
+    /// Removes the pages of a version.
+    fn drop_pages_of(&mut self, host: &HostName, slug: &Slug) -> Result<(), Fault>
+        ensures ok { IsHonest S.Store self.old → HasCleanDisk (state S.Store self.new) → OnOk result (Becomes S.Store lists_of self.old self.new (record (seen S.Store lists_of self.old) { pages = filter (λ x. not (spec.is_page_of host.now slug.now x)) (seen S.Store lists_of self.old).pages })) }
+        ensures err { IsHonest S.Store self.new → OnErr result (IsRefused S.Store lists_of self.old self.new) }
+        ensures clean { HasCleanDisk (state S.Store self.new) → HasCleanDisk (state S.Store self.old) }
+        ensures was { IsHonest S.Store self.new → IsHonest S.Store self.old }
+        ensures crash { Leaves S.Store lists_of self.old self.new (λ w. (self.old.in_transaction ≡ false) × (w ≡ record (seen S.Store lists_of self.old) { pages = filter (λ x. not (spec.is_page_of host.now slug.now x)) (seen S.Store lists_of self.old).pages })) }
+    {
+        write(
+            &mut self.conn,
+            "DELETE FROM page WHERE host = ?1 AND slug = ?2",
+            params![host.as_str(), slug.as_str()],
+        )
+    }
+
+    /// Removes the pages of a version in a language.
+    fn drop_pages_in(&mut self, host: &HostName, slug: &Slug, lang: &Lang) -> Result<(), Fault>
+        ensures ok { IsHonest S.Store self.old → HasCleanDisk (state S.Store self.new) → OnOk result (Becomes S.Store lists_of self.old self.new (record (seen S.Store lists_of self.old) { pages = filter (λ x. not (spec.is_page_in host.now slug.now lang.now x)) (seen S.Store lists_of self.old).pages })) }
+        ensures err { IsHonest S.Store self.new → OnErr result (IsRefused S.Store lists_of self.old self.new) }
+        ensures clean { HasCleanDisk (state S.Store self.new) → HasCleanDisk (state S.Store self.old) }
+        ensures was { IsHonest S.Store self.new → IsHonest S.Store self.old }
+        ensures crash { Leaves S.Store lists_of self.old self.new (λ w. (self.old.in_transaction ≡ false) × (w ≡ record (seen S.Store lists_of self.old) { pages = filter (λ x. not (spec.is_page_in host.now slug.now lang.now x)) (seen S.Store lists_of self.old).pages })) }
+    {
+        write(
+            &mut self.conn,
+            "DELETE FROM page WHERE host = ?1 AND slug = ?2 AND lang = ?3",
+            params![host.as_str(), slug.as_str(), lang.as_str()],
+        )
+    }
+
+    /// Removes the pages of a version, in one language or in all.
+    pub fn drop_pages(
+        &mut self,
+        host: &HostName,
+        slug: &Slug,
+        lang: Option<&Lang>,
+    ) -> Result<(), Fault>
+        ensures ok { IsHonest S.Store self.old → HasCleanDisk (state S.Store self.new) → OnOk result (Becomes S.Store lists_of self.old self.new (record (seen S.Store lists_of self.old) { pages = filter (λ x. not (spec.is_page_under host.now slug.now (option_map (λ l. l.now) lang.entry) x)) (seen S.Store lists_of self.old).pages })) }
+        ensures err { IsHonest S.Store self.new → OnErr result (IsRefused S.Store lists_of self.old self.new) }
+        ensures clean { HasCleanDisk (state S.Store self.new) → HasCleanDisk (state S.Store self.old) }
+        ensures was { IsHonest S.Store self.new → IsHonest S.Store self.old }
+        ensures crash { Leaves S.Store lists_of self.old self.new (λ w. (self.old.in_transaction ≡ false) × (w ≡ record (seen S.Store lists_of self.old) { pages = filter (λ x. not (spec.is_page_under host.now slug.now (option_map (λ l. l.now) lang.entry) x)) (seen S.Store lists_of self.old).pages })) }
+    {
+        match lang {
+            Some(lang) => self.drop_pages_in(host, slug, lang),
+            None => self.drop_pages_of(host, slug),
+        }
+    }
+
+    /// Adds a version, or puts it in place of the one with its slug. A refused call may leave that one removed until `back`.
+    pub fn put_version(&mut self, row: &VersionRow) -> Result<(), Fault>
+        requires within { IsHonest S.Store self.old → self.old.in_transaction ≡ true }
+        ensures ok { IsHonest S.Store self.old → HasCleanDisk (state S.Store self.new) → OnOk result (Becomes S.Store lists_of self.old self.new (record (seen S.Store lists_of self.old) { versions = put coding.versions.key row.now (seen S.Store lists_of self.old).versions })) }
+        ensures err { IsHonest S.Store self.new → OnErr result (IsHonest S.Store self.old × (committed S.Store lists_of self.new ≡ committed S.Store lists_of self.old)) }
+        ensures clean { HasCleanDisk (state S.Store self.new) → HasCleanDisk (state S.Store self.old) }
+        ensures was { IsHonest S.Store self.new → IsHonest S.Store self.old }
+        ensures crash { Leaves S.Store lists_of self.old self.new (λ w. ⊥) }
+    {
+        self.drop_version(&row.host, &row.version.slug)?;
+        self.add_version(row)
+    }
+
+    /// Adds a page, or puts it in place of the one with its path. A refused call may leave that one removed until `back`.
+    pub fn put_page(&mut self, row: &PageRow) -> Result<(), Fault>
+        requires within { IsHonest S.Store self.old → self.old.in_transaction ≡ true }
+        ensures ok { IsHonest S.Store self.old → HasCleanDisk (state S.Store self.new) → OnOk result (Becomes S.Store lists_of self.old self.new (record (seen S.Store lists_of self.old) { pages = put coding.pages.key row.now (seen S.Store lists_of self.old).pages })) }
+        ensures err { IsHonest S.Store self.new → OnErr result (IsHonest S.Store self.old × (committed S.Store lists_of self.new ≡ committed S.Store lists_of self.old)) }
+        ensures clean { HasCleanDisk (state S.Store self.new) → HasCleanDisk (state S.Store self.old) }
+        ensures was { IsHonest S.Store self.new → IsHonest S.Store self.old }
+        ensures crash { Leaves S.Store lists_of self.old self.new (λ w. ⊥) }
+    {
+        self.drop_page(&row.host, &row.slug, &row.lang, &row.path)?;
+        self.add_page(row)
+    }
+}
+
+/// Why tables could not be made.
+#[derive(Clone, Copy, Debug, PartialEq, Eq, Error)]
+pub enum TablesFault {
+    /// One of their names is taken, a foreign key names one of them, or a counted (AUTOINCREMENT) table lacks the table that counts for it.
+    #[error("the tables are not ours")]
+    NotOurs,
+    #[error("the store failed")]
+    Store,
+    #[error("out of memory")]
+    Memory,
+}
+
+impl<S: Alter> Tables<S> {
+    /// Makes the tables, in a transaction of their own. A connection that is handed back may still be in it.
+    pub fn create(conn: Connection<S>) -> Result<Tables<S>, (TablesFault, Connection<S>)>
+        ensures honest { IfOk result (λ t. IsHonest S.Store conn → HasCleanDisk (state S.Store t) → IsHonest S.Store t × (t.in_transaction ≡ false)) }
+        ensures none { IfOk result (λ t. IsHonest S.Store conn → HasCleanDisk (state S.Store t) → seen S.Store lists_of t ≡ no_lists) }
+        ensures ours { IfErr result (λ e. CanMake (state S.Store conn).now.schema → e.0 ≢ TablesFault.NotOurs) }
+    {
+        let mut conn = conn;
+        if !can_make(conn.schema()) {
+            return Err((TablesFault::NotOurs, conn));
+        }
+        match make_at_once(&mut conn) {
+            Ok(()) => Ok(Tables { conn }),
+            Err(Fault::Store) => Err((TablesFault::Store, conn)),
+            Err(Fault::Memory) => Err((TablesFault::Memory, conn)),
+        }
+    }
+}
+
+impl Tables<MemStore> {
+    /// Tables in memory, with no record.
+    pub fn in_memory(alloc: Global) -> Result<Tables<MemStore>, Fault>
+        ensures honest { IfOk result (λ t. IsHonest over_memory t) }
+        ensures settled { IfOk result (λ t. t.in_transaction ≡ false) }
+        ensures none { IfOk result (λ t. seen over_memory lists_of t ≡ no_lists) }
+        ensures empty { IfOk result (λ t. spec.world_of (seen over_memory lists_of t) ≡ empty) }
+    {
+        let mut conn = Connection::open_in_memory(alloc)?;
+        make_tables(&mut conn)?;
+        Ok(Tables { conn })
+    }
+}
