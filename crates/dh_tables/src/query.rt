@@ -1,4 +1,4 @@
-ghost use Rattle.std.specs.Prelude.{◌≡◌, ◌⊎◌, List, map, slice_get, false, IfOk, OnOk, OnErr};
+ghost use Rattle.std.specs.Prelude.{◌≡◌, ◌↔◌, ◌⊎◌, List, map, slice_get, false, IfOk, OnOk, OnErr};
 ghost use Rattle.sqlite_value.specs.Order.{Row as Values};
 ghost use Rattle.sqlite.specs.Effect.{Database, Reads};
 ghost use Rattle.sqlite.specs.Given.{IsPlain};
@@ -6,6 +6,7 @@ ghost use Rattle.sqlite.specs.Held.{state};
 ghost use Rattle.sqlite.specs.Listing.{understood, reads_listing};
 ghost use Rattle.sqlite.specs.State.{HasCleanDisk};
 ghost use Rattle.sqlite.specs.Values.{bound};
+ghost use Rattle.dh_rows.specs.declared.fault.Fault.TheVariants as rows;
 ghost use Rattle.dh_rows.specs.Calls.{command_of, IsEdit, Edits, IsHonest, Becomes, IsSame, IsRefused, LeavesTrees, whole};
 
 use crate::reading::{Record, all, first};
@@ -14,7 +15,10 @@ use sqlite::types::ValueRef;
 use sqlite::{Alter, Connection, Row};
 use std::alloc::Global;
 
-pub fn fault_of(fault: dh_rows::Fault) -> Fault {
+/// The same refusal, as the layers above tell it.
+pub fn fault_of(fault: dh_rows::Fault) -> Fault
+    ensures { (result ≡ Fault.Memory) ↔ (fault ≡ rows.Memory) }
+{
     match fault {
         dh_rows::Fault::Store => Fault::Store,
         dh_rows::Fault::Memory => Fault::Memory,

@@ -1,15 +1,17 @@
-ghost use Rattle.std.specs.Prelude.{◌≡◌, option_map, true, false, map, filter, not, find, ◌≢◌, IfOk, IfErr, OnOk, OnErr};
+ghost use Rattle.std.specs.Prelude.{◌≡◌, option_map, true, false, map, filter, not, find, ◌≢◌, IfOk, IfErr, OnOk, OnErr, IsSome};
 ghost use Rattle.sqlite.specs.Held.{state};
 ghost use Rattle.sqlite.specs.State.{HasCleanDisk};
-ghost use Rattle.dh_rows.specs.Calls.{IsHonest, Shows, Becomes, IsSame, IsUndone, IsRefused, Leaves, seen, committed};
+ghost use Rattle.dh_rows.specs.Calls.{IsHonest, Shows, Becomes, IsSame, IsUndone, IsRefused, Leaves, LeavesCommitted, seen, committed};
 ghost use Rattle.dh_rows.specs.Keyed.{IsFreeKey, added, put};
+ghost use Rattle.dh_tables.specs.Answers.{json_of};
 ghost use Rattle.dh_tables.specs.Codings as coding;
 ghost use Rattle.dh_tables.specs.Lists as spec;
-ghost use Rattle.dh_tables.specs.Making.{CanMake, no_lists};
+ghost use Rattle.dh_tables.specs.Making.{CanMake, CommitsNothing, no_lists};
 ghost use Rattle.dh_tables.specs.Tables.{lists_of};
 ghost use Rattle.sqlite.specs.Steps.{over_memory};
 ghost use Rattle.std.specs.FinMap.{empty};
 
+use crate::answer::{Answer, kept_answer};
 use crate::making::{can_make, make_at_once, make_tables};
 use crate::query::{all_records, fault_of, first_record, write};
 use crate::records::{LangRow, Operation, PageRow, ProjectRow, UsedRow, VersionRow, is_tag};
@@ -67,6 +69,7 @@ impl<S: Alter> Tables<S> {
         ensures clean { HasCleanDisk (state S.Store self.new) → HasCleanDisk (state S.Store self.old) }
         ensures was { IsHonest S.Store self.new → IsHonest S.Store self.old }
         ensures crash { Leaves S.Store lists_of self.old self.new (λ w. w ≡ seen S.Store lists_of self.old) }
+        ensures left { IsHonest S.Store self.new → LeavesCommitted S.Store lists_of self.new }
     {
         match dh_rows::commit(&mut self.conn) {
             Ok(()) => Ok(()),
@@ -223,8 +226,8 @@ impl<S: Alter> Tables<S> {
         )
     }
 
-    /// The first answer to a retry key.
-    pub fn used(
+    /// The row of a retry key.
+    fn used_row(
         &mut self,
         alloc: Global,
         host: &HostName,
@@ -247,26 +250,80 @@ impl<S: Alter> Tables<S> {
         )
     }
 
-    /// Keeps the first answer to a retry key, which is free.
-    pub fn keep(&mut self, used: &UsedRow) -> Result<(), Fault>
-        requires free { IsHonest S.Store self.old → IsFreeKey coding.used.key used.now (seen S.Store lists_of self.old).used }
-        ensures ok { IsHonest S.Store self.old → HasCleanDisk (state S.Store self.new) → OnOk result (Becomes S.Store lists_of self.old self.new (record (seen S.Store lists_of self.old) { used = added coding.used.key used.now (seen S.Store lists_of self.old).used })) }
+    /// The first answer to a retry key. A kept text that is no answer's is a fault of the store.
+    pub fn used(
+        &mut self,
+        alloc: Global,
+        host: &HostName,
+        slug: &Slug,
+        op: Operation,
+        retry: &Token,
+    ) -> Result<Option<Answer>, Fault>
+        ensures value { IsHonest S.Store self.old → HasCleanDisk (state S.Store self.new) → IfOk result (λ o. o ≡ option_map spec.kept_answer (find (spec.is_used host.now slug.now op retry.now) (seen S.Store lists_of self.old).used)) }
+        ensures same { IsHonest S.Store self.old → HasCleanDisk (state S.Store self.new) → OnOk result (IsSame S.Store lists_of self.old self.new) }
         ensures err { IsHonest S.Store self.new → OnErr result (IsRefused S.Store lists_of self.old self.new) }
         ensures clean { HasCleanDisk (state S.Store self.new) → HasCleanDisk (state S.Store self.old) }
         ensures was { IsHonest S.Store self.new → IsHonest S.Store self.old }
-        ensures crash { Leaves S.Store lists_of self.old self.new (λ w. (self.old.in_transaction ≡ false) × (w ≡ record (seen S.Store lists_of self.old) { used = added coding.used.key used.now (seen S.Store lists_of self.old).used })) }
+        ensures crash { Leaves S.Store lists_of self.old self.new (λ w. ⊥) }
+    {
+        match self.used_row(alloc, host, slug, op, retry) {
+            Ok(Some(row)) => kept_answer(alloc, row.answer.as_str()),
+            Ok(None) => Ok(None),
+            Err(fault) => Err(fault),
+        }
+    }
+
+    /// Adds the row of a retry key, which is free.
+    fn add_used(
+        &mut self,
+        host: &HostName,
+        slug: &Slug,
+        op: Operation,
+        retry: &Token,
+        answer: &str,
+    ) -> Result<(), Fault>
+        requires free { IsHonest S.Store self.old → IsFreeKey coding.used.key (record { host = host.now; slug = slug.now; op = op; retry = retry.now; answer = answer.now }) (seen S.Store lists_of self.old).used }
+        ensures ok { IsHonest S.Store self.old → HasCleanDisk (state S.Store self.new) → OnOk result (Becomes S.Store lists_of self.old self.new (record (seen S.Store lists_of self.old) { used = added coding.used.key (record { host = host.now; slug = slug.now; op = op; retry = retry.now; answer = answer.now }) (seen S.Store lists_of self.old).used })) }
+        ensures err { IsHonest S.Store self.new → OnErr result (IsRefused S.Store lists_of self.old self.new) }
+        ensures clean { HasCleanDisk (state S.Store self.new) → HasCleanDisk (state S.Store self.old) }
+        ensures was { IsHonest S.Store self.new → IsHonest S.Store self.old }
+        ensures crash { Leaves S.Store lists_of self.old self.new (λ w. (self.old.in_transaction ≡ false) × (w ≡ record (seen S.Store lists_of self.old) { used = added coding.used.key (record { host = host.now; slug = slug.now; op = op; retry = retry.now; answer = answer.now }) (seen S.Store lists_of self.old).used })) }
     {
         write(
             &mut self.conn,
             "INSERT INTO used VALUES (?1, ?2, ?3, ?4, ?5)",
             params![
-                used.host.as_str(),
-                used.slug.as_str(),
-                used.op.is_upload(),
-                used.retry.as_str(),
-                used.answer.as_str()
+                host.as_str(),
+                slug.as_str(),
+                op.is_upload(),
+                retry.as_str(),
+                answer
             ],
         )
+    }
+
+    /// Keeps the first answer to a retry key, which is free. The answer is one that has a JSON text.
+    pub fn keep(
+        &mut self,
+        alloc: Global,
+        host: &HostName,
+        slug: &Slug,
+        op: Operation,
+        retry: &Token,
+        answer: &Answer,
+    ) -> Result<(), Fault>
+        requires told { IsSome (json_of answer.now) }
+        requires free { IsHonest S.Store self.old → IsFreeKey coding.used.key (spec.keeping host.now slug.now op retry.now answer.now) (seen S.Store lists_of self.old).used }
+        ensures ok { IsHonest S.Store self.old → HasCleanDisk (state S.Store self.new) → OnOk result (Becomes S.Store lists_of self.old self.new (record (seen S.Store lists_of self.old) { used = added coding.used.key (spec.keeping host.now slug.now op retry.now answer.now) (seen S.Store lists_of self.old).used })) }
+        ensures err { IsHonest S.Store self.new → OnErr result (IsRefused S.Store lists_of self.old self.new) }
+        ensures clean { HasCleanDisk (state S.Store self.new) → HasCleanDisk (state S.Store self.old) }
+        ensures was { IsHonest S.Store self.new → IsHonest S.Store self.old }
+        ensures crash { Leaves S.Store lists_of self.old self.new (λ w. (self.old.in_transaction ≡ false) × (w ≡ record (seen S.Store lists_of self.old) { used = added coding.used.key (spec.keeping host.now slug.now op retry.now answer.now) (seen S.Store lists_of self.old).used })) }
+    {
+        match answer.json(alloc) {
+            Ok(text) => self.add_used(host, slug, op, retry, text.as_str()),
+            Err(_) => Err(Fault::Memory),
+        }
     }
 
     /// Adds a version, whose slug is free.
@@ -446,6 +503,7 @@ impl<S: Alter> Tables<S> {
         ensures honest { IfOk result (λ t. IsHonest S.Store conn → HasCleanDisk (state S.Store t) → IsHonest S.Store t × (t.in_transaction ≡ false)) }
         ensures none { IfOk result (λ t. IsHonest S.Store conn → HasCleanDisk (state S.Store t) → seen S.Store lists_of t ≡ no_lists) }
         ensures ours { IfErr result (λ e. CanMake (state S.Store conn).now.schema → e.0 ≢ TablesFault.NotOurs) }
+        ensures back { IfErr result (λ e. IsHonest S.Store e.1 → CommitsNothing S.Store conn e.1) }
     {
         let mut conn = conn;
         if !can_make(conn.schema()) {
@@ -456,6 +514,16 @@ impl<S: Alter> Tables<S> {
             Err(Fault::Store) => Err((TablesFault::Store, conn)),
             Err(Fault::Memory) => Err((TablesFault::Memory, conn)),
         }
+    }
+}
+
+impl<S: Alter> Tables<S> {
+    /// The connection as it stands.
+    pub fn into_conn(self) -> Connection<S>
+        ensures { result ≡ self }
+    {
+        let Tables { conn } = self;
+        conn
     }
 }
 

@@ -20,4 +20,4 @@ returns-clause-ok g c honest clean =
     let begun = c.in_ok-begin.ensures.ok honest first in
     let h1 : IsHonest g.S.Store c.begin.new.conn = (first, begun.is_open) in
     let made = c.in_ok-make_tables.ensures.ok h1 second in
-    committed_made IsMade g.S.Store c.make_tables.new.conn c.commit.new.conn c.commit.result clean made.3 (c.commit.ensures.ok made.0 clean)
+    committed_made IsMade g.S.Store c.make_tables.new.conn c.commit.new.conn c.commit.result clean made.1 (c.commit.ensures.ok made.0.honest clean)

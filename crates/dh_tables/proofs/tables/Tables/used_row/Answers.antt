@@ -7,7 +7,7 @@ use Rattle.dh_tables.specs.Tables.{lists_of}
 use Rattle.dh_tables.specs.Lists.{is_used}
 use Rattle.dh_tables.proofs.Finding.{first_that}
 use Rattle.dh_tables.proofs.Statements.{used_answers}
-use Rattle.dh_tables.proofs.tables.Tables.used.Goals as goal
+use Rattle.dh_tables.proofs.tables.Tables.used_row.Goals as goal
 
 pub first_record-requires-clause-plain : goal.first_record-requires-clause-plain
 first_record-requires-clause-plain g c honest = (used_answers (state g.S.Store c.self.inside.conn) (c.self.invariant honest.0 honest.1).now c.args.host.now c.args.slug.now c.args.op c.args.retry.now).plain
