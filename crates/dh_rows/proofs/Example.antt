@@ -8,7 +8,7 @@ use Rattle.sqlite_schema.specs.declared.schema.Schema.{Schema}
 use Rattle.sqlite_tied.specs.Compute.{everything}
 use Rattle.sqlite.specs.State.{State}
 use Rattle.dh_rows.specs.Keyed.{IsFreeKey, added}
-use Rattle.dh_rows.specs.Places.{IsFree, IsUnmentioned, Keeps, records_of}
+use Rattle.dh_rows.specs.Places.{IsFree, IsUnmentioned, ArePlaced, Keeps, records_of}
 use Rattle.sqlite.specs.Does.{lacks_sequence}
 use Rattle.dh_rows.specs.Example.{Note, note_table, notes, is_of, is_note}
 use Rattle.dh_rows.proofs.Effects.{IsSimple}
@@ -78,5 +78,5 @@ create_read : IsCreate create_text note_table
 unfolding everything
 create_read = makes refl refl refl refl refl refl refl refl
 
-pub made : (s : State) → IsFree s.now.schema note_table.name → IsUnmentioned s.now.schema note_table.name → lacks_sequence s.now.schema ≡ false → Creates s create_text note_table
-made s free unmentioned counted = creates note_table create_text create_read refl refl s free unmentioned counted
+pub made : (s : State) → IsFree s.now.schema note_table.name → IsUnmentioned s.now.schema note_table.name → lacks_sequence s.now.schema ≡ false → ArePlaced s.now.schema → Creates s create_text note_table
+made s free unmentioned counted fine = creates note_table create_text create_read refl refl (refl, tt) s free unmentioned counted fine
