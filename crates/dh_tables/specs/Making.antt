@@ -4,7 +4,7 @@ use Rattle.std.specs.List.{AllByRecursion}
 use Rattle.sqlite_schema.specs.declared.schema.Table.{Table}
 use Rattle.sqlite.specs.Does.{lacks_sequence}
 use Rattle.sqlite.specs.Effect.{Database}
-use Rattle.dh_rows.specs.Places.{IsFree, IsUnmentioned, Stands, rows_of}
+use Rattle.dh_rows.specs.Places.{IsFree, IsUnmentioned, ArePlaced, Stands, rows_of}
 use Rattle.dh_tables.specs.Lists.{Lists}
 use Rattle.sqlite_schema.specs.declared.schema.Schema.{Schema}
 use Rattle.dh_tables.specs.Tables.{Holds, lists_of, meta_table, project_table, lang_table, version_table, page_table, used_table}
@@ -15,6 +15,7 @@ pub record IsReady (made left : List Table) (db : Database) : Type 0 where
   pub free : AllByRecursion (λ t. IsFree db.schema t.name × IsUnmentioned db.schema t.name) left
   -- each counted table has the table that counts for it
   pub counted : lacks_sequence db.schema ≡ false
+  pub placed : ArePlaced db.schema
 
 abbrev pub no_lists : Lists
 no_lists = record { projects = []; langs = []; versions = []; pages = []; used = [] }
