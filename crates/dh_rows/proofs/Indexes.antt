@@ -1,5 +1,5 @@
 -- The unique indexes of a table: those that CREATE TABLE makes, and what the one of its key tells.
-use Rattle.std.proofs.Common.{◌≡◌, ◌<◌, ℕ, zero, suc, ◌+◌, ◌==◌, ◌&&◌, ◌||◌, List, [], ◌∷◌, ◌++◌, map, filter, find, Bool, true, false, cond, Option, None, Some, refl, sym, ap, ap₂, ◌∙◌, arith, inl, inr, slice_index_or, length, option_map, bytes_eq, append-nil, ne_eqb, eq-eqb, Ok}
+use Rattle.std.proofs.Common.{◌≡◌, ◌<◌, ℕ, zero, suc, ◌+◌, ◌==◌, ◌&&◌, ◌||◌, List, [], ◌∷◌, ◌++◌, map, filter, find, Bool, true, false, cond, None, Some, refl, ap, ap₂, ◌∙◌, arith, slice_index_or, length, option_map, bytes_eq, append-nil, ne_eqb, eq-eqb, Ok}
 use Rattle.std.specs.List.{AllByRecursion, list_any}
 use Rattle.std.proofs.lemmas.List.Elements.{filter-append}
 use Rattle.sqlite_value.specs.declared.keys.Order.{Order}
@@ -8,7 +8,7 @@ use Rattle.sqlite_value.specs.Order.{Row}
 use Rattle.sqlite_keyed.proofs.ListLemmas.{filter_none}
 use Rattle.sqlite_rules.specs.Lists.{Has}
 use Rattle.sqlite_rules.proofs.ListLemmas.{all_from}
-use Rattle.sqlite_rules.specs.Keys.{conflicts, shares, aims}
+use Rattle.sqlite_rules.specs.Keys.{conflicts, shares}
 use Rattle.sqlite_schema.specs.declared.schema.Table.{Table}
 use Rattle.sqlite_schema.specs.declared.schema.Index.{Index}
 use Rattle.sqlite_schema.specs.declared.schema.Schema.{Schema}

@@ -2,7 +2,6 @@
 use Rattle.std.proofs.Common.{◌≡◌, ◌⊎◌, inl, inr, ℤ, List, [], ◌∷◌, map, filter, Bool, true, false, not, ◌&&◌, cond, is_eq, refl, sym, ap, ap₂, subst, ◌∙◌, true≢false, IsPermutation}
 use Rattle.std.specs.List.{AllByRecursion}
 use Rattle.std.specs.Cmp.{IsTotalOrder, eq_by_cmp_equiv}
-use Rattle.std.proofs.lemmas.Bool.{not-false}
 use Rattle.sqlite_value.specs.declared.value.Value.TheVariants.{Int}
 use Rattle.sqlite_value.specs.Order.{Row, value_cmp}
 use Rattle.sqlite_value.proofs.OrderLemmas.{value_cmp_total}
@@ -13,7 +12,7 @@ use Rattle.sqlite_schema.specs.declared.schema.Keys.{Keys}
 use Rattle.sqlite_rules.specs.Edit.{is_taken, without_all, Applies}
 use Rattle.sqlite_rules.specs.Lists.{Has}
 use Rattle.sqlite_keyed.proofs.ListLemmas.{ascending_weaker, ascending_from_map}
-use Rattle.dh_rows.specs.Keyed.{Coding, IsCoded, IsTableOf, by_key, same_key, IsFreeKey, put, records}
+use Rattle.dh_rows.specs.Keyed.{Coding, IsTableOf, by_key, same_key, put, records}
 use Rattle.dh_rows.proofs.Lists.{by_key_total, adds_row, drops_rows}
 
 -- ---- a test that one element at most passes

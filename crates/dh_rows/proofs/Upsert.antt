@@ -1,5 +1,5 @@
 -- INSERT .. ON CONFLICT (the key) DO UPDATE SET ..: what it means at any schema, and what it does to one table among others.
-use Rattle.std.proofs.Common.{◌≡◌, ◌≢◌, ◌+◌, ◌^◌, ◌&&◌, ◌/◌, ◌==◌, ℕ, ℤ, List, [], ◌∷◌, ◌++◌, length, map, filter, drop, Bool, true, false, not, nat_le, bytes_eq, Option, None, Some, Ok, Err, slice_get, refl, sym, ap, ap₂, subst, ◌∙◌, true≢false, inl, inr, is_eq, codes, append-nil, IsPermutation}
+use Rattle.std.proofs.Common.{◌≡◌, ◌≢◌, ◌+◌, ◌^◌, ◌&&◌, ◌/◌, ◌==◌, ℕ, ℤ, List, [], ◌∷◌, ◌++◌, length, map, filter, Bool, true, false, not, bytes_eq, Option, None, Some, Ok, slice_get, refl, sym, ap, ap₂, subst, ◌∙◌, inl, inr, is_eq, codes, append-nil, IsPermutation}
 use Rattle.std.specs.List.{AllByRecursion}
 use Rattle.std.proofs.lemmas.Bool.{lt-leb}
 use Rattle.std.proofs.lemmas.Cmp.{tied_itself}
@@ -10,7 +10,7 @@ use Rattle.sqlite_value.specs.declared.value.Value.TheVariants.{Null, Int}
 use Rattle.sqlite_value.specs.declared.keys.Collation.TheVariants.{Binary}
 use Rattle.sqlite_value.specs.Keys.{plain}
 use Rattle.sqlite_value.specs.Order.{Row, column, value_cmp}
-use Rattle.sqlite_trees.specs.Tree.{Trees, rowid, has_rowid}
+use Rattle.sqlite_trees.specs.Tree.{rowid, has_rowid}
 use Rattle.sqlite_ast.specs.declared.Upsert.{Upsert as Written}
 use Rattle.sqlite_ast.specs.declared.Rows.{Rows}
 use Rattle.sqlite_ast.specs.declared.Statement.TheVariants as written
@@ -19,7 +19,7 @@ use Rattle.sqlite_syntax.specs.declared.statement.Parsed.{Parsed}
 use Rattle.sqlite_sql.specs.declared.ops.BinaryOp.TheVariants as by
 use Rattle.sqlite_sql.specs.declared.ops.CompareOp.TheVariants as compare
 use Rattle.sqlite_sql.specs.Ops.{binary, is_true}
-use Rattle.sqlite_sql.specs.Term.{Term, lit, col, op2, eval_all}
+use Rattle.sqlite_sql.specs.Term.{Term, col, op2, eval_all}
 use Rattle.sqlite_sql.specs.Query.{IsAnswer, Output}
 use Rattle.sqlite_sql.specs.Program.{overlay}
 use Rattle.sqlite_schema.specs.declared.schema.Table.{Table}
@@ -41,7 +41,6 @@ use Rattle.sqlite_resolve.specs.Given.{upserts, upsert, update, do_update, key_m
 use Rattle.sqlite_resolve.specs.Write.{places, level_of, updated_in, simple as drafted}
 use Rattle.sqlite_resolve.specs.Program.{program}
 use Rattle.sqlite_resolve.specs.Compile.{first, command, returning, timed, shows, with_command, small, new_rows, insert_or_abort, insert_or}
-use Rattle.sqlite_rules.specs.declared.error.Refusal.{Refusal}
 use Rattle.sqlite_rules.specs.declared.error.Rowids.TheVariants.{Chosen, Given}
 use Rattle.sqlite_rules.specs.Edit.{edit_of, id_in, Applies, with_rowid, next_rowid, without_all}
 use Rattle.sqlite_rules.specs.Calls.{ids_of}
@@ -55,11 +54,11 @@ use Rattle.sqlite.specs.Effect.{Database, value_rows}
 use Rattle.sqlite.specs.Given.{IsPlain}
 use Rattle.sqlite.specs.Listing.{understood}
 use Rattle.sqlite.specs.Does.{Does, Tally}
-use Rattle.sqlite.specs.Rows.{Written as Wrote, Task, Tries, TriesEach, Meets, Upserts, Updates, Puts, Clears, shown as laid, nothing, count_of}
+use Rattle.sqlite.specs.Rows.{Written as Wrote, Task, Tries, TriesEach, Meets, Upserts, Puts, Clears, shown as laid, nothing, count_of}
 use Rattle.sqlite.proofs.Callers.{one_step, one_permutation}
 use Rattle.dh_rows.specs.Calls.{command_of}
 use Rattle.dh_rows.specs.Keyed.{Coding, IsCoded, IsTableOf, same_key, put, records}
-use Rattle.dh_rows.specs.Places.{HasTable, IsUnreferred, tree_of, table_in, unique_keys, Stands, Keeps, rows_of, records_of}
+use Rattle.dh_rows.specs.Places.{HasTable, IsUnreferred, tree_of, table_in, unique_keys, Stands, Keeps}
 use Rattle.dh_rows.proofs.Alone.{works_none}
 use Rattle.dh_rows.proofs.Equal.{equal_int}
 use Rattle.dh_rows.proofs.Indexes.{key_found, conflict_is}
@@ -291,7 +290,7 @@ module _ (limit : Option ℕ) (mode : Mode) (db after : Database) (t : Table) {X
         let answer_is : answer ≡ (Int n ∷ Int n ∷ c.encode x) ∷ [] = it.3 ∙ ap (map (λ (o : Output). o.1)) ordered ∙ ap (λ r. eval_all new (given ∷ r ∷ []) ∷ []) is ∙ ap (λ v. v ∷ []) (fits.shows n (Int n ∷ more) (c.decode r) same) in
         by_edit n (n ∷ []) (filter_alike (has_rowid n) (λ r. same_key c.key x (c.decode r)) rows (same_row c x n rows keeps.rows r h has same))
         (subst (λ r. Applies db.schema mode.keys db.trees (record { table = its; gone = n ∷ []; news = r ∷ [] }) after.trees) (cells (Int n) (cast_int n))
-            (subst (λ l. Applies db.schema mode.keys db.trees (edit_of db.trees its (ids_of l) Given 1 l) after.trees) answer_is applies))
+        (subst (λ l. Applies db.schema mode.keys db.trees (edit_of db.trees its (ids_of l) Given 1 l) after.trees) answer_is applies))
 
     by_found : (n : ℤ) (found : List Row) → AreConflicts (Some key) db.schema.indexes its rows (Int n ∷ c.encode x) found → Met mode.keys db after its (c.encode x) (Int n ∷ c.encode x) base new found → Made
     by_found n [] conf met = is_new n (all_from _ rows (λ r h. none r h (same_key c.key x (c.decode r)) refl)) met
