@@ -126,26 +126,6 @@ module _ {S : Type 0} (g : Ghosts S) (old new : Held S) (ours : AreOurs Holds (s
       let k = ours honest.0 honest.1 in
       by_result g old new r (λ p. after_write k (state g new).now (effect honest (state g new).now p.1) old.in_transaction p.0) (λ q. refused_keeps g old new k q) (ran honest clean) (err (clean, live))
 
--- ---- two changes within a transaction
-
-module _ {S : Type 0} (g : Ghosts S) (old middle new : Held S) where
-  becomes_on : (v w : Lists) → old.in_transaction ≡ true → Becomes g lists_of old middle v → Becomes g lists_of middle new w → Becomes g lists_of old new w
-  becomes_on v w within a b = record {
-    was_honest = a.was_honest;
-    is_open = b.is_open;
-    now_is = b.now_is;
-    last_is =
-        b.last_is ∙ ap (λ t. cond t (committed g lists_of middle) w) (a.mode ∙ within) ∙ a.last_is ∙ ap (λ t. cond t (committed g lists_of old) v) within
-        ∙ sym (ap (λ t. cond t (committed g lists_of old) w) within);
-    mode = b.mode ∙ a.mode;
-  }
-
-  pub two_ok : {E : Type 0} (r : Result (Unit {0}) E) (first second whole : Lists → Lists) → ((l : Lists) → second (first l) ≡ whole l) → old.in_transaction ≡ true → Becomes g lists_of old middle (first (lists_of (state g old).now))
-      → OnOk r (Becomes g lists_of middle new (second (lists_of (state g middle).now))) → OnOk r (Becomes g lists_of old new (whole (lists_of (state g old).now)))
-  two_ok (Ok u) first second whole same within a b =
-      subst (λ w. Becomes g lists_of old new w) (ap second a.now_is ∙ same (lists_of (state g old).now)) (becomes_on (first (lists_of (state g old).now)) (second (lists_of (state g middle).now)) within a b)
-  two_ok (Err e) first second whole same within a b = tt
-
 -- ---- making tables
 
 pub made_ok : {T E Q R : Type 0} (P : Type 0) (r : Result T E) → (Q → R) → OnOk r (P × Q) → OnOk r (P × R)

@@ -7,7 +7,7 @@ use Rattle.sqlite_trees.specs.declared.store.Store.{Ghosts}
 use Rattle.sqlite.specs.Effect.{Database}
 use Rattle.sqlite.specs.Held.{Held, state}
 use Rattle.dh_rows.specs.Calls.{IsHonest, whole, committed}
-use Rattle.dh_rows.specs.Places.{IsFree, IsUnmentioned, Stands, rows_of}
+use Rattle.dh_rows.specs.Places.{IsFree, IsUnmentioned, ArePlaced, Stands, rows_of}
 use Rattle.dh_tables.specs.Lists.{Lists}
 use Rattle.sqlite_schema.specs.declared.schema.Schema.{Schema}
 use Rattle.dh_tables.specs.Tables.{Holds, lists_of, meta_table, project_table, lang_table, version_table, page_table, used_table}
@@ -18,6 +18,7 @@ pub record IsReady (made left : List Table) (db : Database) : Type 0 where
   pub free : AllByRecursion (λ t. IsFree db.schema t.name × IsUnmentioned db.schema t.name) left
   -- each counted table has the table that counts for it
   pub counted : lacks_sequence db.schema ≡ false
+  pub placed : ArePlaced db.schema
 
 abbrev pub no_lists : Lists
 no_lists = record { projects = []; langs = []; versions = []; pages = []; used = [] }

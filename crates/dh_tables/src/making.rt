@@ -2,7 +2,7 @@ ghost use Rattle.std.specs.Prelude.{◌≡◌, ◌↔◌, [], ◌∷◌, false, 
 ghost use Rattle.sqlite.specs.Held.{state};
 ghost use Rattle.sqlite.specs.State.{HasCleanDisk};
 ghost use Rattle.dh_rows.specs.Calls.{IsHonest, Shows, Becomes, IsRefused, whole};
-ghost use Rattle.dh_rows.specs.Places.{IsFree, IsUnmentioned};
+ghost use Rattle.dh_rows.specs.Places.{IsFree, IsUnmentioned, ArePlaced};
 ghost use Rattle.dh_tables.specs.Making.{CanMake, IsReady, IsMade, GoesOn, CommitsNothing};
 ghost use Rattle.dh_tables.specs.Tables.{meta_table, project_table, lang_table, version_table, page_table, used_table};
 
@@ -165,7 +165,8 @@ pub fn can_make(schema: &Schema) -> bool
 
 /// Makes the tables in a transaction of their own.
 pub fn make_at_once<S: Alter>(conn: &mut Connection<S>) -> Result<(), Fault>
-    requires { CanMake (state S.Store conn.old).now.schema }
+    requires can { CanMake (state S.Store conn.old).now.schema }
+    requires placed { IsHonest S.Store conn.old → ArePlaced (state S.Store conn.old).now.schema }
     ensures ok { IsHonest S.Store conn.old → HasCleanDisk (state S.Store conn.new) → OnOk result (IsHonest S.Store conn.new × (conn.new.in_transaction ≡ false) × ((state S.Store conn.new).now ≡ (state S.Store conn.new).committed) × IsMade (state S.Store conn.new).now) }
     ensures err { IsHonest S.Store conn.new → OnErr result (CommitsNothing S.Store conn.old conn.new) }
     ensures clean { HasCleanDisk (state S.Store conn.new) → HasCleanDisk (state S.Store conn.old) }

@@ -15,7 +15,7 @@ use crate::answer::{Answer, kept_answer};
 use crate::making::{can_make, make_at_once, make_tables};
 use crate::query::{all_records, fault_of, first_record, write};
 use crate::records::{LangRow, Operation, PageRow, ProjectRow, UsedRow, VersionRow, is_tag};
-use dh_paths::{HostName, Lang, PagePath, Slug, Token};
+use dh_paths::{HostName, Lang, Slug, Token};
 use dh_reply::Fault;
 use sqlite::{Alter, Connection, MemStore, params};
 use std::alloc::Global;
@@ -326,89 +326,6 @@ impl<S: Alter> Tables<S> {
         }
     }
 
-    /// Adds a version, whose slug is free.
-    fn add_version(&mut self, row: &VersionRow) -> Result<(), Fault>
-        requires free { IsHonest S.Store self.old → IsFreeKey coding.versions.key row.now (seen S.Store lists_of self.old).versions }
-        ensures ok { IsHonest S.Store self.old → HasCleanDisk (state S.Store self.new) → OnOk result (Becomes S.Store lists_of self.old self.new (record (seen S.Store lists_of self.old) { versions = added coding.versions.key row.now (seen S.Store lists_of self.old).versions })) }
-        ensures err { IsHonest S.Store self.new → OnErr result (IsRefused S.Store lists_of self.old self.new) }
-        ensures clean { HasCleanDisk (state S.Store self.new) → HasCleanDisk (state S.Store self.old) }
-        ensures was { IsHonest S.Store self.new → IsHonest S.Store self.old }
-        ensures crash { Leaves S.Store lists_of self.old self.new (λ w. (self.old.in_transaction ≡ false) × (w ≡ record (seen S.Store lists_of self.old) { versions = added coding.versions.key row.now (seen S.Store lists_of self.old).versions })) }
-    {
-        write(
-            &mut self.conn,
-            "INSERT INTO version VALUES (?1, ?2, ?3, ?4, ?5, ?6, ?7)",
-            params![
-                row.host.as_str(),
-                row.version.slug.as_str(),
-                row.version.name.as_str(),
-                is_tag(row.version.kind),
-                row.version.active,
-                row.version.hidden,
-                row.version.private
-            ],
-        )
-    }
-
-    /// Adds a page, whose key is free.
-    fn add_page(&mut self, row: &PageRow) -> Result<(), Fault>
-        requires free { IsHonest S.Store self.old → IsFreeKey coding.pages.key row.now (seen S.Store lists_of self.old).pages }
-        ensures ok { IsHonest S.Store self.old → HasCleanDisk (state S.Store self.new) → OnOk result (Becomes S.Store lists_of self.old self.new (record (seen S.Store lists_of self.old) { pages = added coding.pages.key row.now (seen S.Store lists_of self.old).pages })) }
-        ensures err { IsHonest S.Store self.new → OnErr result (IsRefused S.Store lists_of self.old self.new) }
-        ensures clean { HasCleanDisk (state S.Store self.new) → HasCleanDisk (state S.Store self.old) }
-        ensures was { IsHonest S.Store self.new → IsHonest S.Store self.old }
-        ensures crash { Leaves S.Store lists_of self.old self.new (λ w. (self.old.in_transaction ≡ false) × (w ≡ record (seen S.Store lists_of self.old) { pages = added coding.pages.key row.now (seen S.Store lists_of self.old).pages })) }
-    {
-        write(
-            &mut self.conn,
-            "INSERT INTO page VALUES (?1, ?2, ?3, ?4, ?5, ?6)",
-            params![
-                row.host.as_str(),
-                row.slug.as_str(),
-                row.lang.as_str(),
-                row.path.as_str(),
-                row.page.media.as_str(),
-                row.page.body.as_slice()
-            ],
-        )
-    }
-
-    /// Removes a version, if it is there.
-    fn drop_version(&mut self, host: &HostName, slug: &Slug) -> Result<(), Fault>
-        ensures ok { IsHonest S.Store self.old → HasCleanDisk (state S.Store self.new) → OnOk result (Becomes S.Store lists_of self.old self.new (record (seen S.Store lists_of self.old) { versions = filter (λ x. not (spec.is_version host.now slug.now x)) (seen S.Store lists_of self.old).versions })) }
-        ensures err { IsHonest S.Store self.new → OnErr result (IsRefused S.Store lists_of self.old self.new) }
-        ensures clean { HasCleanDisk (state S.Store self.new) → HasCleanDisk (state S.Store self.old) }
-        ensures was { IsHonest S.Store self.new → IsHonest S.Store self.old }
-        ensures crash { Leaves S.Store lists_of self.old self.new (λ w. (self.old.in_transaction ≡ false) × (w ≡ record (seen S.Store lists_of self.old) { versions = filter (λ x. not (spec.is_version host.now slug.now x)) (seen S.Store lists_of self.old).versions })) }
-    {
-        write(
-            &mut self.conn,
-            "DELETE FROM version WHERE host = ?1 AND slug = ?2",
-            params![host.as_str(), slug.as_str()],
-        )
-    }
-
-    /// Removes a page, if it is there.
-    fn drop_page(
-        &mut self,
-        host: &HostName,
-        slug: &Slug,
-        lang: &Lang,
-        path: &PagePath,
-    ) -> Result<(), Fault>
-        ensures ok { IsHonest S.Store self.old → HasCleanDisk (state S.Store self.new) → OnOk result (Becomes S.Store lists_of self.old self.new (record (seen S.Store lists_of self.old) { pages = filter (λ x. not (spec.is_page host.now slug.now lang.now path.now x)) (seen S.Store lists_of self.old).pages })) }
-        ensures err { IsHonest S.Store self.new → OnErr result (IsRefused S.Store lists_of self.old self.new) }
-        ensures clean { HasCleanDisk (state S.Store self.new) → HasCleanDisk (state S.Store self.old) }
-        ensures was { IsHonest S.Store self.new → IsHonest S.Store self.old }
-        ensures crash { Leaves S.Store lists_of self.old self.new (λ w. (self.old.in_transaction ≡ false) × (w ≡ record (seen S.Store lists_of self.old) { pages = filter (λ x. not (spec.is_page host.now slug.now lang.now path.now x)) (seen S.Store lists_of self.old).pages })) }
-    {
-        write(
-            &mut self.conn,
-            "DELETE FROM page WHERE host = ?1 AND slug = ?2 AND lang = ?3 AND path = ?4",
-            params![host.as_str(), slug.as_str(), lang.as_str(), path.as_str()],
-        )
-    }
-
     /// Removes the pages of a version.
     fn drop_pages_of(&mut self, host: &HostName, slug: &Slug) -> Result<(), Fault>
         ensures ok { IsHonest S.Store self.old → HasCleanDisk (state S.Store self.new) → OnOk result (Becomes S.Store lists_of self.old self.new (record (seen S.Store lists_of self.old) { pages = filter (λ x. not (spec.is_page_of host.now slug.now x)) (seen S.Store lists_of self.old).pages })) }
@@ -458,30 +375,49 @@ impl<S: Alter> Tables<S> {
         }
     }
 
-    /// Adds a version, or puts it in place of the one with its slug. A refused call may leave that one removed until `back`.
+    /// Adds a version, or puts it in place of the one with its slug.
     pub fn put_version(&mut self, row: &VersionRow) -> Result<(), Fault>
-        requires within { IsHonest S.Store self.old → self.old.in_transaction ≡ true }
         ensures ok { IsHonest S.Store self.old → HasCleanDisk (state S.Store self.new) → OnOk result (Becomes S.Store lists_of self.old self.new (record (seen S.Store lists_of self.old) { versions = put coding.versions.key row.now (seen S.Store lists_of self.old).versions })) }
-        ensures err { IsHonest S.Store self.new → OnErr result (IsHonest S.Store self.old × (committed S.Store lists_of self.new ≡ committed S.Store lists_of self.old)) }
+        ensures err { IsHonest S.Store self.new → OnErr result (IsRefused S.Store lists_of self.old self.new) }
         ensures clean { HasCleanDisk (state S.Store self.new) → HasCleanDisk (state S.Store self.old) }
         ensures was { IsHonest S.Store self.new → IsHonest S.Store self.old }
-        ensures crash { Leaves S.Store lists_of self.old self.new (λ w. ⊥) }
+        ensures crash { Leaves S.Store lists_of self.old self.new (λ w. (self.old.in_transaction ≡ false) × (w ≡ record (seen S.Store lists_of self.old) { versions = put coding.versions.key row.now (seen S.Store lists_of self.old).versions })) }
     {
-        self.drop_version(&row.host, &row.version.slug)?;
-        self.add_version(row)
+        write(
+            &mut self.conn,
+            "INSERT INTO version VALUES (?1, ?2, ?3, ?4, ?5, ?6, ?7) ON CONFLICT (host, slug) DO UPDATE SET name = ?3, kind = ?4, active = ?5, hidden = ?6, private = ?7",
+            params![
+                row.host.as_str(),
+                row.version.slug.as_str(),
+                row.version.name.as_str(),
+                is_tag(row.version.kind),
+                row.version.active,
+                row.version.hidden,
+                row.version.private
+            ],
+        )
     }
 
-    /// Adds a page, or puts it in place of the one with its path. A refused call may leave that one removed until `back`.
+    /// Adds a page, or puts it in place of the one with its path.
     pub fn put_page(&mut self, row: &PageRow) -> Result<(), Fault>
-        requires within { IsHonest S.Store self.old → self.old.in_transaction ≡ true }
         ensures ok { IsHonest S.Store self.old → HasCleanDisk (state S.Store self.new) → OnOk result (Becomes S.Store lists_of self.old self.new (record (seen S.Store lists_of self.old) { pages = put coding.pages.key row.now (seen S.Store lists_of self.old).pages })) }
-        ensures err { IsHonest S.Store self.new → OnErr result (IsHonest S.Store self.old × (committed S.Store lists_of self.new ≡ committed S.Store lists_of self.old)) }
+        ensures err { IsHonest S.Store self.new → OnErr result (IsRefused S.Store lists_of self.old self.new) }
         ensures clean { HasCleanDisk (state S.Store self.new) → HasCleanDisk (state S.Store self.old) }
         ensures was { IsHonest S.Store self.new → IsHonest S.Store self.old }
-        ensures crash { Leaves S.Store lists_of self.old self.new (λ w. ⊥) }
+        ensures crash { Leaves S.Store lists_of self.old self.new (λ w. (self.old.in_transaction ≡ false) × (w ≡ record (seen S.Store lists_of self.old) { pages = put coding.pages.key row.now (seen S.Store lists_of self.old).pages })) }
     {
-        self.drop_page(&row.host, &row.slug, &row.lang, &row.path)?;
-        self.add_page(row)
+        write(
+            &mut self.conn,
+            "INSERT INTO page VALUES (?1, ?2, ?3, ?4, ?5, ?6) ON CONFLICT (host, slug, lang, path) DO UPDATE SET media = ?5, body = ?6",
+            params![
+                row.host.as_str(),
+                row.slug.as_str(),
+                row.lang.as_str(),
+                row.path.as_str(),
+                row.page.media.as_str(),
+                row.page.body.as_slice()
+            ],
+        )
     }
 }
 
