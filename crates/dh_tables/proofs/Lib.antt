@@ -6,3 +6,9 @@ pub mod Statements
 pub mod Made
 pub mod Finding
 pub mod SeenLemmas
+pub mod RecordLemmas
+pub mod KeyLemmas
+pub mod OrderLemmas
+pub mod RuleLemmas
+pub mod WorldLemmas
+pub mod ChangeLemmas
