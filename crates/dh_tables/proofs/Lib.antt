@@ -3,6 +3,7 @@ pub mod ReadingLemmas
 pub mod CallLemmas
 pub mod Matching
 pub mod Statements
+pub mod Keys
 pub mod Made
 pub mod Finding
 pub mod SeenLemmas
