@@ -6,7 +6,7 @@ use Rattle.sqlite_trees.specs.declared.store.Store.{Ghosts}
 use Rattle.sqlite.specs.Effect.{Database}
 use Rattle.sqlite.specs.State.{HasCleanDisk}
 use Rattle.sqlite.specs.Held.{Held, state}
-use Rattle.dh_rows.specs.Calls.{whole, Edits, Keep, AreOurs, IsHonest, LeavesTrees, Leaves, Shows, IsSame, IsUndone, IsRefused, Becomes, MayLeave, LeavesCommitted, committed}
+use Rattle.dh_rows.specs.Calls.{whole, Edits, Keep, AreOurs, IsHonest, LeavesTrees, Leaves, Shows, IsSame, IsUndone, IsRefused, Becomes}
 use Rattle.dh_rows.proofs.Views.{changes, leaves, leaves_now}
 use Rattle.dh_tables.specs.Lists.{Lists}
 use Rattle.dh_tables.specs.Making.{GoesOn, CommitsNothing}
