@@ -1,5 +1,5 @@
 -- What a change of the lists makes of the world that they spell.
-use Rattle.std.proofs.Common.{◌≡◌, ◌<◌, ◌+◌, Bool, true, false, not, ◌&&◌, cond, List, [], ◌∷◌, ◌++◌, map, filter, find, length, Option, Some, None, IsTrue, is_some, refl, sym, ap, ap₂, ◌∙◌, subst}
+use Rattle.std.proofs.Common.{◌≡◌, ◌<◌, ◌+◌, Bool, true, false, not, ◌&&◌, cond, List, [], ◌∷◌, ◌++◌, map, filter, find, length, Option, Some, None, refl, sym, ap, ap₂, ◌∙◌, subst}
 use Rattle.std.specs.Prelude.{option_map}
 use Rattle.std.specs.List.{AllByRecursion}
 use Rattle.std.specs.Str.{bytes_eq}
@@ -15,8 +15,8 @@ use Rattle.dh_tables.specs.declared.records.PageRow.{PageRow}
 use Rattle.dh_tables.specs.declared.records.UsedRow.{UsedRow}
 use Rattle.dh_tables.specs.Codings as coding
 use Rattle.dh_tables.specs.World.{Text, PageKey, op_code, Project}
-use Rattle.dh_tables.specs.Lists.{Lists, of_host, project_of, world_of, kept_answer, is_project, is_lang_of, is_page_under}
-use Rattle.dh_tables.specs.Rules.{InOrder, has_project, KeepsRules, lies_under}
+use Rattle.dh_tables.specs.Lists.{Lists, project_of, world_of, kept_answer, is_project, is_lang_of, is_page_under}
+use Rattle.dh_tables.specs.Rules.{InOrder, KeepsRules, lies_under}
 use Rattle.dh_tables.proofs.KeyLemmas.{turned, same_version, page_place, same_page, used_place, used_total, used_exact, same_used}
 use Rattle.dh_tables.proofs.SeenLemmas.{get_project, tied_text, text_total, page_total, page_exact}
 use Rattle.dh_tables.proofs.WorldLemmas.{owned_by}
