@@ -39,6 +39,13 @@ row_of lists host p was = go (find (is_project host) lists.projects) refl (sym (
 pub owned_by : (lists : Lists) (host : Text) (p : Project) → get (world_of lists) host ≡ Some p → IsTrue (has_project lists host)
 owned_by lists host p was = ap is_some (row_of lists host p was).1.found
 
+pub no_row : (lists : Lists) (host : Text) → get (world_of lists) host ≡ None → find (is_project host) lists.projects ≡ None
+no_row lists host none = go (find (is_project host) lists.projects) (sym (get_project lists host) ∙ none)
+  where
+    go : (o : Option ProjectRow) → option_map (project_of lists) o ≡ None → o ≡ None
+    go None e = refl
+    go (Some r) e = absurd (cc)
+
 -- what a row says of its project
 pub branch_of : (lists : Lists) (row : ProjectRow) → (project_of lists row).branch ≡ row.branch
 unfolding project_of
