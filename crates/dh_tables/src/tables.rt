@@ -1,4 +1,4 @@
-ghost use Rattle.std.specs.Prelude.{◌≡◌, option_map, true, false, map, filter, not, find, ◌≢◌, IfOk, IfErr, OnOk, OnErr, IsSome};
+ghost use Rattle.std.specs.Prelude.{◌≡◌, option_map, true, false, map, filter, not, find, is_some, ◌≢◌, IfOk, IfErr, OnOk, OnErr, IsSome, IsTrue};
 ghost use Rattle.sqlite.specs.Held.{state};
 ghost use Rattle.sqlite.specs.State.{HasCleanDisk};
 ghost use Rattle.dh_rows.specs.Calls.{IsHonest, Shows, Becomes, IsSame, IsUndone, IsRefused, Leaves, LeavesCommitted, seen, committed};
@@ -8,12 +8,13 @@ ghost use Rattle.dh_tables.specs.Codings as coding;
 ghost use Rattle.dh_tables.specs.Lists as spec;
 ghost use Rattle.dh_tables.specs.Making.{CanMake, CommitsNothing, no_lists};
 ghost use Rattle.dh_tables.specs.Tables.{lists_of};
+ghost use Rattle.dh_tables.specs.View.{IsSettled, RiseBySlug};
 ghost use Rattle.sqlite.specs.Steps.{over_memory};
 ghost use Rattle.std.specs.FinMap.{empty};
 
 use crate::answer::{Answer, kept_answer};
 use crate::making::{can_make, make_at_once, make_tables};
-use crate::query::{all_records, fault_of, first_record, write};
+use crate::query::{all_records, fault_of, first_record, has_record, write};
 use crate::records::{LangRow, Operation, PageRow, ProjectRow, UsedRow, VersionRow, is_tag};
 use dh_paths::{HostName, Lang, Slug, Token};
 use dh_reply::Fault;
@@ -91,6 +92,30 @@ impl<S: Alter> Tables<S> {
         }
     }
 
+    /// Whether no transaction is open.
+    pub fn is_settled(&self) -> bool
+        ensures value { result ≡ not self.now.in_transaction }
+        ensures settled { IsTrue result → IsHonest S.Store self.now → IsSettled S.Store self.now }
+    {
+        self.conn.is_autocommit()
+    }
+
+    /// Whether there is a project under a host.
+    pub fn has_project(&mut self, host: &HostName) -> Result<bool, Fault>
+        ensures value { IsHonest S.Store self.old → HasCleanDisk (state S.Store self.new) → IfOk result (λ b. b ≡ is_some (find (spec.is_project host.now) (seen S.Store lists_of self.old).projects)) }
+        ensures same { IsHonest S.Store self.old → HasCleanDisk (state S.Store self.new) → OnOk result (IsSame S.Store lists_of self.old self.new) }
+        ensures err { IsHonest S.Store self.new → OnErr result (IsRefused S.Store lists_of self.old self.new) }
+        ensures clean { HasCleanDisk (state S.Store self.new) → HasCleanDisk (state S.Store self.old) }
+        ensures was { IsHonest S.Store self.new → IsHonest S.Store self.old }
+        ensures crash { Leaves S.Store lists_of self.old self.new (λ w. ⊥) }
+    {
+        has_record(
+            &mut self.conn,
+            "SELECT host, main, branch, wkey, private FROM project WHERE host = ?1 ORDER BY host",
+            params![host.as_str()],
+        )
+    }
+
     /// The project under a host.
     pub fn project(&mut self, alloc: Global, host: &HostName) -> Result<Option<ProjectRow>, Fault>
         ensures value { IsHonest S.Store self.old → HasCleanDisk (state S.Store self.new) → IfOk result (λ o. o ≡ find (spec.is_project host.now) (seen S.Store lists_of self.old).projects) }
@@ -139,17 +164,35 @@ impl<S: Alter> Tables<S> {
         ensures was { IsHonest S.Store self.new → IsHonest S.Store self.old }
         ensures crash { Leaves S.Store lists_of self.old self.new (λ w. ⊥) }
     {
+        self.version_named(alloc, host, slug.as_str())
+    }
+
+    /// The version whose slug is this text.
+    pub fn version_named(
+        &mut self,
+        alloc: Global,
+        host: &HostName,
+        name: &str,
+    ) -> Result<Option<VersionRow>, Fault>
+        ensures value { IsHonest S.Store self.old → HasCleanDisk (state S.Store self.new) → IfOk result (λ o. o ≡ find (spec.is_version host.now name.now) (seen S.Store lists_of self.old).versions) }
+        ensures same { IsHonest S.Store self.old → HasCleanDisk (state S.Store self.new) → OnOk result (IsSame S.Store lists_of self.old self.new) }
+        ensures err { IsHonest S.Store self.new → OnErr result (IsRefused S.Store lists_of self.old self.new) }
+        ensures clean { HasCleanDisk (state S.Store self.new) → HasCleanDisk (state S.Store self.old) }
+        ensures was { IsHonest S.Store self.new → IsHonest S.Store self.old }
+        ensures crash { Leaves S.Store lists_of self.old self.new (λ w. ⊥) }
+    {
         first_record(
             &mut self.conn,
             alloc,
             "SELECT host, slug, name, kind, active, hidden, private FROM version WHERE host = ?1 AND slug = ?2 ORDER BY host, slug",
-            params![host.as_str(), slug.as_str()],
+            params![host.as_str(), name],
         )
     }
 
     /// The versions of a project, in the order of their slugs.
     pub fn versions(&mut self, alloc: Global, host: &HostName) -> Result<Vec<VersionRow>, Fault>
         ensures value { IsHonest S.Store self.old → HasCleanDisk (state S.Store self.new) → IfOk result (λ o. o.items ≡ filter (spec.is_version_of host.now) (seen S.Store lists_of self.old).versions) }
+        ensures order { IsHonest S.Store self.old → HasCleanDisk (state S.Store self.new) → IfOk result (λ o. RiseBySlug o.items) }
         ensures same { IsHonest S.Store self.old → HasCleanDisk (state S.Store self.new) → OnOk result (IsSame S.Store lists_of self.old self.new) }
         ensures err { IsHonest S.Store self.new → OnErr result (IsRefused S.Store lists_of self.old self.new) }
         ensures clean { HasCleanDisk (state S.Store self.new) → HasCleanDisk (state S.Store self.old) }
