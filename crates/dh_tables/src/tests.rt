@@ -1,5 +1,9 @@
-use crate::{Answer, Tables};
-use dh_paths::{HostName, Slug};
+use crate::{Answer, LangRow, Operation, PageRow, ProjectRow, Tables, TablesFault, VersionRow};
+use dh_paths::{Bytes, HostName, Lang, PagePath, RefName, Slug, Text, TextFault};
+use dh_reply::Page;
+use dh_versions::{Kind, Version};
+use sqlite::Connection;
+use std::alloc::Global;
 use std::test::Fail;
 
 #[test]
@@ -55,5 +59,91 @@ fn new_tables_hold_nothing(rt: HostRuntime) -> Result<(), Fail> {
     tables.begin()?;
     tables.back()?;
     tables.back()?;
+    Ok(())
+}
+
+fn docs(alloc: Global) -> Result<HostName, TextFault> {
+    HostName::parse(alloc, "docs.test")
+}
+
+fn version(alloc: Global, slug: &str, hidden: bool) -> Result<VersionRow, TextFault> {
+    Ok(VersionRow {
+        host: docs(alloc)?,
+        version: Version {
+            slug: Slug::parse(alloc, slug)?,
+            kind: Kind::Tag,
+            name: RefName::parse(alloc, slug)?,
+            active: true,
+            hidden,
+            private: false,
+        },
+    })
+}
+
+fn page(alloc: Global, lang: &str, path: &str, body: &str) -> Result<PageRow, TextFault> {
+    Ok(PageRow {
+        host: docs(alloc)?,
+        slug: Slug::parse(alloc, "1.0")?,
+        lang: Lang::parse(alloc, lang)?,
+        path: PagePath::parse(alloc, path)?,
+        page: Page {
+            media: Text::copy_of(alloc, "text/plain")?,
+            body: Bytes::copy_of(alloc, body.as_bytes())?,
+        },
+    })
+}
+
+#[test]
+fn versions_are_put_and_read(rt: HostRuntime) -> Result<(), Fail> {
+    let alloc = rt.alloc();
+    let host = docs(alloc)?;
+    let mut tables = Tables::in_memory(alloc)?;
+    tables.put_version(&version(alloc, "2.0", false)?)?;
+    tables.put_version(&version(alloc, "1.0", false)?)?;
+    tables.put_version(&version(alloc, "2.0", true)?)?;
+    let versions = tables.versions(alloc, &host)?;
+    assert_eq!(rt; versions.len(), 2);
+    assert_eq!(rt; versions[0].version.slug.as_str(), "1.0");
+    assert_eq!(rt; versions[1].version.slug.as_str(), "2.0");
+    let found = tables.version(alloc, &host, &Slug::parse(alloc, "2.0")?)?;
+    assert!(rt; found.is_some_and(|row| row.version.hidden && row.version.kind == Kind::Tag));
+    assert!(rt;
+        tables
+            .version(alloc, &host, &Slug::parse(alloc, "3.0")?)?
+            .is_none()
+    );
+    Ok(())
+}
+
+#[test]
+fn pages_are_put_and_dropped(rt: HostRuntime) -> Result<(), Fail> {
+    let alloc = rt.alloc();
+    let host = docs(alloc)?;
+    let slug = Slug::parse(alloc, "1.0")?;
+    let en = Lang::parse(alloc, "en")?;
+    let fr = Lang::parse(alloc, "fr")?;
+    let mut tables = Tables::in_memory(alloc)?;
+    tables.put_page(&page(alloc, "en", "a.html", "old")?)?;
+    tables.put_page(&page(alloc, "en", "a.html", "new")?)?;
+    tables.put_page(&page(alloc, "fr", "a.html", "neuf")?)?;
+    let found = tables.page(alloc, &host, &slug, &en, "a.html")?;
+    assert!(rt; found.is_some_and(|row| row.page.body.as_slice() == b"new".as_slice()));
+    assert!(rt; tables.page(alloc, &host, &slug, &en, "b.html")?.is_none());
+    tables.drop_pages(&host, &slug, Some(&en))?;
+    assert!(rt; tables.page(alloc, &host, &slug, &en, "a.html")?.is_none());
+    assert!(rt; tables.page(alloc, &host, &slug, &fr, "a.html")?.is_some());
+    tables.drop_pages(&host, &slug, None)?;
+    assert!(rt; tables.page(alloc, &host, &slug, &fr, "a.html")?.is_none());
+    Ok(())
+}
+
+#[test]
+fn taken_names_are_refused(rt: HostRuntime) -> Result<(), Fail> {
+    let mut conn = Connection::open_in_memory(rt.alloc())?;
+    conn.execute("CREATE TABLE Page (id INTEGER PRIMARY KEY) STRICT", &[])?;
+    assert!(rt; matches!(Tables::create(conn), Err((TablesFault::NotOurs, _))));
+    let mut conn = Connection::open_in_memory(rt.alloc())?;
+    conn.execute("CREATE TABLE other (id INTEGER PRIMARY KEY) STRICT", &[])?;
+    assert!(rt; Tables::create(conn).is_ok());
     Ok(())
 }
