@@ -163,7 +163,15 @@ fn agree<A: Lookup, B: Lookup>(alloc: Global, a: &mut A, b: &mut B) -> Result<bo
     same = same && same_text(&a.default(alloc)?, &b.default(alloc)?);
     same = same && a.langs(alloc)?.len() == b.langs(alloc)?.len();
     for name in [
-        "main", "1.0.0", "1.1.0", "2.0.0", "3.0.0", "4.0.0", "latest", "stable", "not a slug",
+        "main",
+        "1.0.0",
+        "1.1.0",
+        "2.0.0",
+        "3.0.0",
+        "4.0.0",
+        "latest",
+        "stable",
+        "not a slug",
     ] {
         same = same && same_named(&a.name(alloc, name)?, &b.name(alloc, name)?);
     }
