@@ -65,6 +65,7 @@ slug_of host slug rows v e = go (find (is_version host slug) rows) refl e
   where
     own : (r : VersionRow) → find (is_version host slug) rows ≡ Some r → r.version.slug ≡ slug
     own r is = (bytes_eq-Decides r.version.slug slug).0 (last_true (bytes_eq r.host host) (bytes_eq r.version.slug slug) (found_passes (is_version host slug) rows r is))
+
     go : (o : Option VersionRow) → find (is_version host slug) rows ≡ o → if_public o ≡ Some v → v.slug ≡ slug
     go None is e = absurd (no e)
       where
@@ -192,6 +193,7 @@ module _ (lists : Lists) (row : ProjectRow) (pass : Option Text) where
       last : (r : Option Named) → option_map (λ n. codes "stable") r ≡ cond (is_some r) (Some (codes "stable")) None
       last None = refl
       last (Some n) = refl
+
       go : (r : Option Named) → None ≡ option_map (λ n. codes "latest") r → option_map (λ n. codes "stable") (resolved whole (codes "stable")) ≡ cond (is_some r) (Some (codes "latest")) (cond (is_some (resolved whole (codes "stable"))) (Some (codes "stable")) None)
       go None e = last (resolved whole (codes "stable"))
       go (Some n) e = absurd (no e)

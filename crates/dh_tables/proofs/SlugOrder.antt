@@ -97,8 +97,8 @@ kept_entries : {X : Type 0} (es : List (world.Text × X)) (p : world.Text → Bo
 kept_entries es p up =
     let kept = is_sorted-where_key text_cmp p es up in
     ap entries (same_map text_total exact_bytes (retain_keys (from_entries es) p) (from_sorted (where_key text_cmp p es)) (λ q.
-      get-retain_keys (from_entries es) p q (alike p q) ∙ ap (λ o. cond (p q) o None) (get-from_entries text_total es q)
-      ∙ sym (get-from_sorted text_cmp (where_key text_cmp p es) q kept ∙ find-where_key text_cmp p q (alike p q) es)))
+    get-retain_keys (from_entries es) p q (alike p q) ∙ ap (λ o. cond (p q) o None) (get-from_entries text_total es q)
+    ∙ sym (get-from_sorted text_cmp (where_key text_cmp p es) q kept ∙ find-where_key text_cmp p q (alike p q) es)))
     ∙ entries-from_sorted text_cmp (where_key text_cmp p es) kept
 
 -- each entry is found at its key
@@ -171,5 +171,5 @@ visible_entries lists row pass up =
     let sorted : T (is_sorted text_cmp es) = subst T (sym up) tt in
     let seen : world.Text → Bool = is_visible (project_of lists row) pass in
     let told : (e : world.Text × Version) → IsFound es e → seen e.0 ≡ is_public e.1 = λ e found.
-      visible_by lists row pass e.0 ∙ ap (λ m. option_map_or is_public (get m e.0) false) (versions_are lists row) ∙ ap (λ o. option_map_or is_public o false) (get-from_entries text_total es e.0 ∙ found) in
+    visible_by lists row pass e.0 ∙ ap (λ m. option_map_or is_public (get m e.0) false) (versions_are lists row) ∙ ap (λ o. option_map_or is_public o false) (get-from_entries text_total es e.0 ∙ found) in
     ap (λ m. entries (retain_keys m seen)) (versions_are lists row) ∙ kept_entries es seen sorted ∙ same_filter (λ e. seen e.0) (λ e. is_public e.1) es (each told es (each_found es sorted)) ∙ public_entries rows

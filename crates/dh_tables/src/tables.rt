@@ -109,11 +109,9 @@ impl<S: Alter> Tables<S> {
         ensures was { IsHonest S.Store self.new → IsHonest S.Store self.old }
         ensures crash { Leaves S.Store lists_of self.old self.new (λ w. ⊥) }
     {
-        has_record(
-            &mut self.conn,
-            "SELECT host, main, branch, wkey, private FROM project WHERE host = ?1 ORDER BY host",
-            params![host.as_str()],
-        )
+        let sql =
+            "SELECT host, main, branch, wkey, private FROM project WHERE host = ?1 ORDER BY host";
+        has_record(&mut self.conn, sql, params![host.as_str()])
     }
 
     /// The project under a host.

@@ -520,14 +520,6 @@ impl<'a, S: Alter> Lookup for View<'a, S> {
         slug: &Slug,
         path: &str,
     ) -> Result<Option<Page>, Fault> {
-        page_under(
-            self.tables,
-            alloc,
-            &self.host,
-            &self.pass,
-            lang,
-            slug,
-            path,
-        )
+        page_under(self.tables, alloc, &self.host, &self.pass, lang, slug, path)
     }
 }

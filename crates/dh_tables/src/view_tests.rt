@@ -95,34 +95,16 @@ fn lang(alloc: Global) -> Result<LangRow, TextFault> {
     })
 }
 
-/// Within a transaction, else it is a fault.
-fn put_version(tables: &mut Tables<MemStore>, row: &VersionRow) -> Result<(), Fault> {
-    if tables.is_settled() {
-        return Err(Fault::Store);
-    }
-    tables.put_version(row)
-}
-
-/// Within a transaction, else it is a fault.
-fn put_page(tables: &mut Tables<MemStore>, row: &PageRow) -> Result<(), Fault> {
-    if tables.is_settled() {
-        return Err(Fault::Store);
-    }
-    tables.put_page(row)
-}
-
 fn fill(alloc: Global, tables: &mut Tables<MemStore>) -> Result<(), Fail> {
-    tables.begin()?;
-    put_version(tables, &version(alloc, "main", Kind::Branch, PUBLIC)?)?;
-    put_version(tables, &version(alloc, "1.0.0", Kind::Tag, PUBLIC)?)?;
-    put_version(tables, &version(alloc, "1.1.0", Kind::Tag, HIDDEN)?)?;
-    put_version(tables, &version(alloc, "2.0.0", Kind::Tag, PRIVATE)?)?;
-    put_version(tables, &version(alloc, "3.0.0", Kind::Tag, INACTIVE)?)?;
-    put_page(tables, &page(alloc, "main", "index.html")?)?;
-    put_page(tables, &page(alloc, "main", "404.html")?)?;
-    put_page(tables, &page(alloc, "2.0.0", "index.html")?)?;
-    put_page(tables, &page(alloc, "3.0.0", "index.html")?)?;
-    tables.commit()?;
+    tables.put_version(&version(alloc, "main", Kind::Branch, PUBLIC)?)?;
+    tables.put_version(&version(alloc, "1.0.0", Kind::Tag, PUBLIC)?)?;
+    tables.put_version(&version(alloc, "1.1.0", Kind::Tag, HIDDEN)?)?;
+    tables.put_version(&version(alloc, "2.0.0", Kind::Tag, PRIVATE)?)?;
+    tables.put_version(&version(alloc, "3.0.0", Kind::Tag, INACTIVE)?)?;
+    tables.put_page(&page(alloc, "main", "index.html")?)?;
+    tables.put_page(&page(alloc, "main", "404.html")?)?;
+    tables.put_page(&page(alloc, "2.0.0", "index.html")?)?;
+    tables.put_page(&page(alloc, "3.0.0", "index.html")?)?;
     Ok(())
 }
 
@@ -181,7 +163,15 @@ fn agree<A: Lookup, B: Lookup>(alloc: Global, a: &mut A, b: &mut B) -> Result<bo
     same = same && same_text(&a.default(alloc)?, &b.default(alloc)?);
     same = same && a.langs(alloc)?.len() == b.langs(alloc)?.len();
     for name in [
-        "main", "1.0.0", "1.1.0", "2.0.0", "3.0.0", "4.0.0", "latest", "stable", "not a slug",
+        "main",
+        "1.0.0",
+        "1.1.0",
+        "2.0.0",
+        "3.0.0",
+        "4.0.0",
+        "latest",
+        "stable",
+        "not a slug",
     ] {
         same = same && same_named(&a.name(alloc, name)?, &b.name(alloc, name)?);
     }
@@ -230,6 +220,20 @@ fn nothing_is_seen_elsewhere(rt: HostRuntime) -> Result<(), Fail> {
     let mut view = View::new(&mut tables, Some(host), None);
     assert!(rt; agree(alloc, &mut view, &mut Seen { project: None })?);
     let mut view = View::new(view.close(), None, None);
+    assert!(rt; agree(alloc, &mut view, &mut Seen { project: None })?);
+    let _tables = view.close();
+    Ok(())
+}
+
+#[test]
+fn languages_alone_are_no_project(rt: HostRuntime) -> Result<(), Fail> {
+    let alloc = rt.alloc();
+    let mut tables = Tables::in_memory(alloc)?;
+    tables.add_lang(&lang(alloc)?)?;
+    tables.put_version(&version(alloc, "main", Kind::Branch, PUBLIC)?)?;
+    tables.put_page(&page(alloc, "main", "index.html")?)?;
+    let host = HostName::parse(alloc, "docs.test")?;
+    let mut view = View::new(&mut tables, Some(host), None);
     assert!(rt; agree(alloc, &mut view, &mut Seen { project: None })?);
     let _tables = view.close();
     Ok(())
