@@ -1,0 +1,5 @@
+pub mod Refusals
+pub mod Texts
+pub mod Changes
+pub mod Step
+pub mod Checks

@@ -1,0 +1,16 @@
+//! The desk: administrative commands over the tables, each of which changes the world by exactly one step.
+#![tactic(auto)]
+
+mod calls;
+pub mod command;
+pub mod outcome;
+pub mod pages;
+pub mod refusal;
+mod texts;
+mod uploads;
+
+pub use command::Command;
+pub use dh_tables::Answer;
+pub use outcome::Outcome;
+pub use pages::{Pages, UploadedPage};
+pub use refusal::Refusal;
