@@ -7,3 +7,8 @@ pub mod Keys
 pub mod Made
 pub mod Finding
 pub mod SeenLemmas
+pub mod RecordLemmas
+pub mod KeyLemmas
+pub mod OrderLemmas
+pub mod RuleLemmas
+pub mod ChangeLemmas

@@ -1,0 +1,43 @@
+-- The lists of the tables are in the order of their keys, and stay so.
+use Rattle.std.proofs.Common.{◌≡◌, Bool, true, false, not, cond, List, [], ◌∷◌, filter, refl, sym, ap, ◌∙◌, Ordering, Less, Equal, Greater, is_gt, is_eq, true≢false}
+use Rattle.std.specs.Ordering.{ordering_reverse}
+use Rattle.std.specs.List.{AllByRecursion}
+use Rattle.sqlite_value.specs.Order.{Row}
+use Rattle.sqlite_keyed.proofs.ListLemmas.{all_weaker, ascending-filter}
+use Rattle.sqlite.specs.Effect.{Database}
+use Rattle.dh_rows.specs.Keyed.{Coding, IsTableOf, by_key, same_key, IsFreeKey, added, put, records}
+use Rattle.dh_rows.proofs.Lists.{by_key_total, rises-sort}
+use Rattle.dh_tables.specs.Codings as coding
+use Rattle.dh_tables.specs.Rules.{InOrder, AreInOrder}
+use Rattle.dh_tables.specs.Tables.{Holds, lists_of}
+use Rattle.dh_tables.proofs.Keys.{free_after}
+use Rattle.dh_tables.proofs.RecordLemmas.{all_added}
+
+records_in_order : {X : Type 0} (c : Coding X) (rows : List Row) → IsTableOf c rows → InOrder c.key (records c rows)
+records_in_order c rows were = rises-sort (by_key c.key) (by_key_total c.key) _ were.keyed
+
+-- the lists of a database that has our tables
+pub lists_in_order : (db : Database) → Holds db → AreInOrder (lists_of db)
+lists_in_order db h = record {
+  projects = records_in_order coding.projects _ h.projects.rows;
+  langs = records_in_order coding.langs _ h.langs.rows;
+  versions = records_in_order coding.versions _ h.versions.rows;
+  pages = records_in_order coding.pages _ h.pages.rows;
+  used = records_in_order coding.used _ h.used.rows;
+}
+
+module _ {X : Type 0} (key : X → Row) where
+  pub added_in_order : (x : X) (xs : List X) → IsFreeKey key x xs → InOrder key xs → InOrder key (added key x xs)
+  added_in_order x [] free up = (tt, tt)
+  added_in_order x (y ∷ xs) free up = go (by_key key x y) refl (added_in_order x xs free.1 up.1)
+    where
+      go : (o : Ordering) → by_key key x y ≡ o → InOrder key (added key x xs) → InOrder key (cond (is_gt o) (y ∷ added key x xs) (x ∷ y ∷ xs))
+      go Less e more = ((e, all_weaker _ (λ z. by_key key x z ≡ Less) (λ z. (by_key_total key).trans x y z e) xs up.0), up)
+      go Equal e more = absurd (true≢false (sym (ap is_eq e) ∙ free.0))
+      go Greater e more = (all_added _ (by_key key) x xs ((by_key_total key).antisymm y x ∙ ap ordering_reverse e) up.0, more)
+
+  pub filtered_in_order : (p : X → Bool) (xs : List X) → InOrder key xs → InOrder key (filter p xs)
+  filtered_in_order p xs up = ascending-filter _ p xs up
+
+  pub put_in_order : (x : X) (xs : List X) → InOrder key xs → InOrder key (put key x xs)
+  put_in_order x xs up = added_in_order x _ (free_after key x (same_key key x) (λ y. refl) xs) (filtered_in_order _ xs up)

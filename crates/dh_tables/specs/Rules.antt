@@ -1,0 +1,65 @@
+-- What the records keep besides being in the order of their keys.
+use Rattle.std.specs.Prelude.{◌≡◌, Bool, false, ◌&&◌, IsTrue, List, map, filter, length, slice_get, find, Option, Some, None, is_some}
+use Rattle.std.specs.declared.cmp.Ordering.TheVariants.{Less}
+use Rattle.std.specs.List.{AllByRecursion, IsDistinct, list_any, range_with_len}
+use Rattle.std.specs.Option.{option_map_or}
+use Rattle.std.specs.Str.{bytes_eq}
+use Rattle.sqlite_value.specs.Order.{Row}
+use Rattle.sqlite_trees.specs.Tree.{IsAscending}
+use Rattle.dh_paths.specs.Slugs.{slug_from}
+use Rattle.dh_rows.specs.Keyed.{by_key}
+use Rattle.dh_tables.specs.World.{Text, PageKey}
+use Rattle.dh_tables.specs.Codings as coding
+use Rattle.dh_tables.specs.Lists.{Lists, is_project, is_lang_of, is_version}
+use Rattle.dh_tables.specs.declared.records.LangRow.{LangRow}
+
+-- no two records have one key, and each stands before those with a greater key
+abbrev pub InOrder : {X : Type 0} → (X → Row) → List X → Type 0
+InOrder key = IsAscending (λ x y. by_key key x y ≡ Less)
+
+-- each list is in the order of its keys
+pub record AreInOrder (lists : Lists) : Type 0 where
+  pub projects : InOrder coding.projects.key lists.projects
+  pub langs : InOrder coding.langs.key lists.langs
+  pub versions : InOrder coding.versions.key lists.versions
+  pub pages : InOrder coding.pages.key lists.pages
+  pub used : InOrder coding.used.key lists.used
+
+abbrev pub has_project : Lists → Text → Bool
+has_project lists host = is_some (find (is_project host) lists.projects)
+
+-- the languages of a host, in the order of their places
+abbrev pub languages_of : Lists → Text → List Text
+languages_of lists host = map (λ l. l.lang) (filter (is_lang_of host) lists.langs)
+
+abbrev pub has_language : Lists → Text → Text → Bool
+has_language lists host lang = list_any (bytes_eq lang) (languages_of lists host)
+
+-- the version is there, and active
+abbrev pub has_active : Lists → Text → Text → Bool
+has_active lists host slug = option_map_or (λ v. v.version.active) (find (is_version host slug) lists.versions) false
+
+-- The languages of one project: they have the places 1 to n without gaps, none stands twice, and the main one stands first.
+pub record AreLanguages (main : Text) (langs : List LangRow) : Type 0 where
+  pub places : map (λ l. l.place) langs ≡ range_with_len 1 (length langs)
+  pub apart : IsDistinct bytes_eq (map (λ l. l.lang) langs)
+  pub first : slice_get (map (λ l. l.lang) langs) 0 ≡ Some main
+
+-- The rules of the records, beyond what each says for itself.
+pub record KeepsRules (lists : Lists) : Type 0 where
+  -- every host has its project
+  pub langs : AllByRecursion (λ l. IsTrue (has_project lists l.host)) lists.langs
+  pub versions : AllByRecursion (λ v. IsTrue (has_project lists v.host)) lists.versions
+  pub pages : AllByRecursion (λ x. IsTrue (has_project lists x.host)) lists.pages
+  pub used : AllByRecursion (λ u. IsTrue (has_project lists u.host)) lists.used
+  pub languages : AllByRecursion (λ r. AreLanguages r.main (filter (is_lang_of r.host) lists.langs)) lists.projects
+  -- a version's slug comes from its name
+  pub slugs : AllByRecursion (λ v. slug_from v.version.name ≡ Some v.version.slug) lists.versions
+  -- a page's version is there and active, and its language is one of the project's
+  pub active : AllByRecursion (λ x. IsTrue (has_active lists x.host x.slug)) lists.pages
+  pub spoken : AllByRecursion (λ x. IsTrue (has_language lists x.host x.lang)) lists.pages
+
+-- the page is one of this version, and of this language where one is given
+abbrev pub lies_under : Text → Option Text → PageKey → Bool
+lies_under slug None key = bytes_eq key.0 slug
+lies_under slug (Some lang) key = bytes_eq key.0 slug && bytes_eq key.1.0 lang
