@@ -19,6 +19,7 @@ use Rattle.dh_tables.specs.Lists.{Lists, of_host, project_of, world_of, kept_ans
 use Rattle.dh_tables.specs.Rules.{InOrder, has_project, KeepsRules, lies_under}
 use Rattle.dh_tables.proofs.KeyLemmas.{turned, same_version, page_place, same_page, used_place, used_total, used_exact, same_used}
 use Rattle.dh_tables.proofs.SeenLemmas.{get_project, tied_text, text_total, page_total, page_exact}
+use Rattle.dh_tables.proofs.WorldLemmas.{owned_by}
 use Rattle.dh_tables.proofs.RuleLemmas.{places_below, langs_with, find_project, none_of_new}
 use Rattle.dh_tables.proofs.RecordLemmas.{found_passes, none_but_added, added_elsewhere, kept_none, kept_of, put_here, put_there, put_free, dropped_here, dropped_there}
 
@@ -55,14 +56,6 @@ project_changed lists next host p q same was other this =
     there name apart (Some r) e =
         let named : name ≡ r.host = sym ((bytes_eq-Decides r.host name).0 (found_passes (is_project name) lists.projects r e)) in
         ap Some (other r (subst (λ n. bytes_eq host n ≡ false) named apart))
-
--- a host of the world has its project
-pub owned_by : (lists : Lists) (host : Text) (p : Project) → get (world_of lists) host ≡ Some p → IsTrue (has_project lists host)
-owned_by lists host p was = go (find (is_project host) lists.projects) (sym (get_project lists host) ∙ was)
-  where
-    go : (o : Option ProjectRow) → option_map (project_of lists) o ≡ Some p → is_some o ≡ true
-    go None e = absurd (cc)
-    go (Some r) e = refl
 
 -- ---- versions
 

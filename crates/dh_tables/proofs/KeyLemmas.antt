@@ -116,20 +116,23 @@ four_then h s o r =
     eq_then h (ordering_then s (ordering_then o (ordering_then r Equal)))
     ∙ ap (λ b. is_eq h && b) (eq_then s (ordering_then o (ordering_then r Equal)) ∙ ap (λ b. is_eq s && b) (eq_then o (ordering_then r Equal) ∙ ap (λ b. is_eq o && is_eq b) (then-Equal r)))
 
-tied_used : (x y : UsedRow) → eq_by_cmp used_cmp (used_place x) (used_place y) ≡ (bytes_eq y.slug x.slug && (eq_by_cmp nat_cmp (op_code x.op) (op_code y.op) && bytes_eq y.retry x.retry))
-tied_used x y =
-    eq_then (text_cmp x.slug y.slug) _
-    ∙ ap (λ b. is_eq (text_cmp x.slug y.slug) && b) (eq_then (nat_cmp (op_code x.op) (op_code y.op)) (text_cmp x.retry y.retry))
-    ∙ rw (tied_text x.slug y.slug, tied_text x.retry y.retry) refl
+tied_used : (slug : List ℕ) (op : Operation) (retry : List ℕ) (y : UsedRow) → eq_by_cmp used_cmp (slug, (op_code op, retry)) (used_place y) ≡ (bytes_eq y.slug slug && (eq_by_cmp nat_cmp (op_code op) (op_code y.op) && bytes_eq y.retry retry))
+tied_used slug op retry y =
+    eq_then (text_cmp slug y.slug) _
+    ∙ ap (λ b. is_eq (text_cmp slug y.slug) && b) (eq_then (nat_cmp (op_code op) (op_code y.op)) (text_cmp retry y.retry))
+    ∙ rw (tied_text slug y.slug, tied_text retry y.retry) refl
+
+pub tied_used_key : (slug : List ℕ) (op : Operation) (retry : List ℕ) (y : UsedRow) → eq_by_cmp used_cmp (slug, (op_code op, retry)) (used_place y) ≡ (bytes_eq y.slug slug && (same_op y.op op && bytes_eq y.retry retry))
+tied_used_key slug op retry y = tied_used slug op retry y ∙ ap (λ b. bytes_eq y.slug slug && (b && bytes_eq y.retry retry)) (same_ops op y.op)
 
 pub same_used : (x y : UsedRow) → same_key coding.used.key x y ≡ (bytes_eq y.host x.host && eq_by_cmp used_cmp (used_place x) (used_place y))
 same_used x y =
     four_then (value_cmp (Text x.host) (Text y.host)) (value_cmp (Text x.slug) (Text y.slug)) (value_cmp (flag (is_upload x.op)) (flag (is_upload y.op))) (value_cmp (Text x.retry) (Text y.retry))
-    ∙ rw (same_text x.host y.host, same_text x.slug y.slug, same_flag x.op y.op, same_text x.retry y.retry) (ap (λ b. bytes_eq y.host x.host && b) (sym (tied_used x y)))
+    ∙ rw (same_text x.host y.host, same_text x.slug y.slug, same_flag x.op y.op, same_text x.retry y.retry) (ap (λ b. bytes_eq y.host x.host && b) (sym (tied_used x.slug x.op x.retry y)))
 
 pub used_key : (x y : UsedRow) → same_key coding.used.key x y ≡ is_used x.host x.slug x.op x.retry y
 used_key x y =
-    same_used x y ∙ ap (λ b. bytes_eq y.host x.host && b) (tied_used x y ∙ ap (λ b. bytes_eq y.slug x.slug && (b && bytes_eq y.retry x.retry)) (same_ops x.op y.op))
+    same_used x y ∙ ap (λ b. bytes_eq y.host x.host && b) (tied_used_key x.slug x.op x.retry y)
     ∙ sym (grouped (bytes_eq y.host x.host) (bytes_eq y.slug x.slug) (same_op y.op x.op) (bytes_eq y.retry x.retry))
 
 -- a retry key that was not used is a free key

@@ -11,4 +11,5 @@ pub mod RecordLemmas
 pub mod KeyLemmas
 pub mod OrderLemmas
 pub mod RuleLemmas
+pub mod WorldLemmas
 pub mod ChangeLemmas

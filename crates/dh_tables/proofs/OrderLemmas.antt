@@ -7,7 +7,14 @@ use Rattle.sqlite_keyed.proofs.ListLemmas.{all_weaker, ascending-filter}
 use Rattle.sqlite.specs.Effect.{Database}
 use Rattle.dh_rows.specs.Keyed.{Coding, IsTableOf, by_key, same_key, IsFreeKey, added, put, records}
 use Rattle.dh_rows.proofs.Lists.{by_key_total, rises-sort}
+use Rattle.dh_tables.specs.declared.records.ProjectRow.{ProjectRow}
+use Rattle.dh_tables.specs.declared.records.LangRow.{LangRow}
+use Rattle.dh_tables.specs.declared.records.VersionRow.{VersionRow}
+use Rattle.dh_tables.specs.declared.records.PageRow.{PageRow}
+use Rattle.dh_tables.specs.declared.records.UsedRow.{UsedRow}
 use Rattle.dh_tables.specs.Codings as coding
+use Rattle.dh_tables.specs.Lists.{Lists}
+use Rattle.dh_tables.specs.Making.{no_lists}
 use Rattle.dh_tables.specs.Rules.{InOrder, AreInOrder}
 use Rattle.dh_tables.specs.Tables.{Holds, lists_of}
 use Rattle.dh_tables.proofs.Keys.{free_after}
@@ -41,3 +48,27 @@ module _ {X : Type 0} (key : X → Row) where
 
   pub put_in_order : (x : X) (xs : List X) → InOrder key xs → InOrder key (put key x xs)
   put_in_order x xs up = added_in_order x _ (free_after key x (same_key key x) (λ y. refl) xs) (filtered_in_order _ xs up)
+
+-- ---- each change of the lists
+
+pub order_of_none : AreInOrder no_lists
+order_of_none = record { projects = tt; langs = tt; versions = tt; pages = tt; used = tt }
+
+module _ (lists : Lists) (up : AreInOrder lists) where
+  pub order_with_project : (row : ProjectRow) → IsFreeKey coding.projects.key row lists.projects → AreInOrder (record lists { projects = added coding.projects.key row lists.projects })
+  order_with_project row free = record { projects = added_in_order coding.projects.key row lists.projects free up.projects; langs = up.langs; versions = up.versions; pages = up.pages; used = up.used }
+
+  pub order_with_lang : (row : LangRow) → IsFreeKey coding.langs.key row lists.langs → AreInOrder (record lists { langs = added coding.langs.key row lists.langs })
+  order_with_lang row free = record { projects = up.projects; langs = added_in_order coding.langs.key row lists.langs free up.langs; versions = up.versions; pages = up.pages; used = up.used }
+
+  pub order_with_version : (row : VersionRow) → AreInOrder (record lists { versions = put coding.versions.key row lists.versions })
+  order_with_version row = record { projects = up.projects; langs = up.langs; versions = put_in_order coding.versions.key row lists.versions up.versions; pages = up.pages; used = up.used }
+
+  pub order_with_page : (row : PageRow) → AreInOrder (record lists { pages = put coding.pages.key row lists.pages })
+  order_with_page row = record { projects = up.projects; langs = up.langs; versions = up.versions; pages = put_in_order coding.pages.key row lists.pages up.pages; used = up.used }
+
+  pub order_without : (p : PageRow → Bool) → AreInOrder (record lists { pages = filter p lists.pages })
+  order_without p = record { projects = up.projects; langs = up.langs; versions = up.versions; pages = filtered_in_order coding.pages.key p lists.pages up.pages; used = up.used }
+
+  pub order_with_used : (row : UsedRow) → IsFreeKey coding.used.key row lists.used → AreInOrder (record lists { used = added coding.used.key row lists.used })
+  order_with_used row free = record { projects = up.projects; langs = up.langs; versions = up.versions; pages = up.pages; used = added_in_order coding.used.key row lists.used free up.used }

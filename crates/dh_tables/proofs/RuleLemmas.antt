@@ -1,5 +1,5 @@
 -- The rules of the records are kept by each change.
-use Rattle.std.proofs.Common.{◌≡◌, ℕ, zero, suc, ◌<◌, ◌≤◌, ◌+◌, Bool, true, false, ◌&&◌, cond, List, [], ◌∷◌, ◌++◌, map, filter, find, length, slice_get, is_some, is_eq, Option, Some, None, IsTrue, refl, sym, ap, ap₂, ◌∙◌, subst, arith, true≢false, Greater, length-append, map-id}
+use Rattle.std.proofs.Common.{◌≡◌, ℕ, zero, suc, ◌<◌, ◌≤◌, ◌+◌, Bool, true, false, not, ◌&&◌, cond, List, [], ◌∷◌, ◌++◌, map, filter, find, length, slice_get, is_some, is_eq, Option, Some, None, IsTrue, refl, sym, ap, ap₂, ◌∙◌, subst, arith, true≢false, Greater, length-append, map-id}
 use Rattle.std.specs.List.{AllByRecursion, IsDistinct, list_any, range_with_len}
 use Rattle.std.specs.Option.{option_map_or}
 use Rattle.std.specs.Str.{bytes_eq}
@@ -22,10 +22,16 @@ use Rattle.dh_tables.specs.declared.records.UsedRow.{UsedRow}
 use Rattle.dh_tables.specs.Codings as coding
 use Rattle.dh_tables.specs.World.{Text}
 use Rattle.dh_tables.specs.Lists.{Lists, is_project, is_lang_of, is_version, is_page_of}
+use Rattle.dh_tables.specs.Making.{no_lists}
 use Rattle.dh_tables.specs.Rules.{InOrder, has_project, has_language, has_active, AreLanguages, KeepsRules}
 use Rattle.dh_tables.proofs.Keys.{version_key}
 use Rattle.dh_tables.proofs.KeyLemmas.{turned, lang_above, lang_elsewhere}
-use Rattle.dh_tables.proofs.RecordLemmas.{none_found, found_passes, all_added, all_put, find_added, find_put, none_but_added, added_elsewhere, added_last}
+use Rattle.dh_tables.proofs.RecordLemmas.{none_found, found_passes, all_that, all_added, all_put, find_added, find_put, none_but_added, added_elsewhere, added_last}
+
+-- ---- no records
+
+pub rules_of_none : KeepsRules no_lists
+rules_of_none = record { langs = tt; versions = tt; pages = tt; used = tt; languages = tt; slugs = tt; active = tt; spoken = tt }
 
 -- ---- versions
 
@@ -48,22 +54,21 @@ find_version row rows host slug = find_put coding.versions.key (is_version host 
         let slugs = (bytes_eq-Decides y.version.slug slug).0 two.1 ∙ sym ((bytes_eq-Decides row.version.slug slug).0 one.1) in
         version_key row y ∙ and_from _ _ ((bytes_eq-Decides y.host row.host).1 hosts) ((bytes_eq-Decides y.version.slug row.version.slug).1 slugs)
 
--- the version has no pages, as long as it is inactive
-abbrev pub IsBare : VersionRow → List PageRow → Type 0
-IsBare row pages = row.version.active ≡ false → AllByRecursion (λ x. is_page_of row.host row.version.slug x ≡ false) pages
-
--- a version that is not there has no pages
-pub new_is_bare : (lists : Lists) (row : VersionRow) → KeepsRules lists → find (is_version row.host row.version.slug) lists.versions ≡ None → IsBare row lists.pages
-new_is_bare lists row rules none off = all_weaker _ (λ x. is_page_of row.host row.version.slug x ≡ false) apart lists.pages rules.active
+-- a version that is not there, or inactive, has no pages
+pub inactive_is_bare : (lists : Lists) (host slug : Text) → KeepsRules lists → has_active lists host slug ≡ false → AllByRecursion (λ x. is_page_of host slug x ≡ false) lists.pages
+inactive_is_bare lists host slug rules off = all_weaker _ (λ x. is_page_of host slug x ≡ false) apart lists.pages rules.active
   where
-    apart : (x : PageRow) → IsTrue (has_active lists x.host x.slug) → is_page_of row.host row.version.slug x ≡ false
+    apart : (x : PageRow) → IsTrue (has_active lists x.host x.slug) → is_page_of host slug x ≡ false
     apart x shown = false_from_ne_true _ (λ e.
         let both = and_parts _ _ e in
-        let hosts = (bytes_eq-Decides x.host row.host).0 both.0 in
-        let slugs = (bytes_eq-Decides x.slug row.version.slug).0 both.1 in
-        true≢false (sym shown ∙ ap₂ (has_active lists) hosts slugs ∙ ap (λ o. option_map_or (λ (v : VersionRow). v.version.active) o false) none))
+        true≢false (sym shown ∙ ap₂ (has_active lists) ((bytes_eq-Decides x.host host).0 both.0) ((bytes_eq-Decides x.slug slug).0 both.1) ∙ off))
 
-pub rules_with_version : (lists : Lists) (row : VersionRow) → KeepsRules lists → IsTrue (has_project lists row.host) → slug_from row.version.name ≡ Some row.version.slug → IsBare row lists.pages
+-- nor has one whose pages were dropped
+pub dropped_is_bare : (host slug : Text) (rows : List PageRow) → AllByRecursion (λ x. is_page_of host slug x ≡ false) (filter (λ x. not (is_page_of host slug x)) rows)
+dropped_is_bare host slug rows = all_that (λ x. is_page_of host slug x ≡ false) (λ x. not (is_page_of host slug x)) (λ x out. false_from_ne_true _ (λ e. true≢false (sym out ∙ ap not e))) rows
+
+pub rules_with_version : (lists : Lists) (row : VersionRow) → KeepsRules lists → IsTrue (has_project lists row.host) → slug_from row.version.name ≡ Some row.version.slug
+    → (row.version.active ≡ false → AllByRecursion (λ x. is_page_of row.host row.version.slug x ≡ false) lists.pages)
     → KeepsRules (record lists { versions = put coding.versions.key row lists.versions })
 rules_with_version lists row rules host named bare = record {
   langs = rules.langs;
@@ -190,12 +195,12 @@ lang_is_free lists row rules has next = all_weaker _ (λ l. same_key coding.lang
 one_more : (n : ℕ) → range_with_len 1 (n + 1) ≡ range_with_len 1 n ++ (n + 1) ∷ []
 one_more n = sym (map-id _) ∙ map-range_with_len_more (λ k. k) 1 n (n + 1) (omega arith) ∙ ap (λ l. l ++ (n + 1) ∷ []) (map-id _)
 
-more_languages : (main : Text) (ls : List LangRow) (row : LangRow) → AreLanguages main ls → row.place ≡ length ls + 1 → list_any (bytes_eq row.lang) (map (λ l. l.lang) ls) ≡ false → AreLanguages main (ls ++ row ∷ [])
+more_languages : (main : Text) (ls : List LangRow) (row : LangRow) → AreLanguages main ls → row.place ≡ length ls + 1 → list_any (λ t. bytes_eq t row.lang) (map (λ l. l.lang) ls) ≡ false → AreLanguages main (ls ++ row ∷ [])
 more_languages main ls row were next new = record {
   places =
       map-append (λ l. l.place) ls (row ∷ []) ∙ ap₂ (λ a k. a ++ k ∷ []) were.places next
       ∙ sym (one_more (length ls)) ∙ ap (range_with_len 1) (sym (length-append ls (row ∷ [])));
-  apart = subst (IsDistinct bytes_eq) (sym (map-append (λ l. l.lang) ls (row ∷ []))) (IsDistinct-push nat_list_eq_equiv (map (λ l. l.lang) ls) row.lang were.apart new);
+  apart = subst (IsDistinct bytes_eq) (sym (map-append (λ l. l.lang) ls (row ∷ []))) (IsDistinct-push nat_list_eq_equiv (map (λ l. l.lang) ls) row.lang were.apart ((λ i. list_any (λ t. turned row.lang t i) (map (λ l. l.lang) ls)) ∙ new));
   first = ap (λ l. slice_get l 0) (map-append (λ l. l.lang) ls (row ∷ [])) ∙ leads (map (λ l. l.lang) ls) were.first;
 }
   where
@@ -213,7 +218,7 @@ rules_with_lang lists row rules up host next new = record {
   languages = all_weaker _ (λ r. AreLanguages r.main (filter (is_lang_of r.host) after)) still lists.projects rules.languages;
   slugs = rules.slugs;
   active = rules.active;
-  spoken = all_weaker _ (λ x. list_any (bytes_eq x.lang) (map (λ l. l.lang) (filter (is_lang_of x.host) after)) ≡ true) spoken lists.pages rules.spoken;
+  spoken = all_weaker _ (λ x. list_any (λ t. bytes_eq t x.lang) (map (λ l. l.lang) (filter (is_lang_of x.host) after)) ≡ true) spoken lists.pages rules.spoken;
 }
   where
     after : List LangRow
@@ -232,16 +237,16 @@ rules_with_lang lists row rules up host next new = record {
             subst (λ h. AreLanguages r.main (filter (is_lang_of h) after)) same (subst (AreLanguages r.main) (sym here) (more_languages r.main _ row mine next new))
         go false e = subst (AreLanguages r.main) (sym (added_elsewhere (by_key coding.langs.key) (is_lang_of r.host) row lists.langs e)) were
 
-    spoken : (x : PageRow) → IsTrue (has_language lists x.host x.lang) → list_any (bytes_eq x.lang) (map (λ l. l.lang) (filter (is_lang_of x.host) after)) ≡ true
+    spoken : (x : PageRow) → IsTrue (has_language lists x.host x.lang) → list_any (λ t. bytes_eq t x.lang) (map (λ l. l.lang) (filter (is_lang_of x.host) after)) ≡ true
     spoken x was = go (bytes_eq row.host x.host) refl
       where
-        go : (b : Bool) → bytes_eq row.host x.host ≡ b → list_any (bytes_eq x.lang) (map (λ l. l.lang) (filter (is_lang_of x.host) after)) ≡ true
+        go : (b : Bool) → bytes_eq row.host x.host ≡ b → list_any (λ t. bytes_eq t x.lang) (map (λ l. l.lang) (filter (is_lang_of x.host) after)) ≡ true
         go true e =
             let same = (bytes_eq-Decides row.host x.host).0 e in
-            ap (λ h. list_any (bytes_eq x.lang) (map (λ l. l.lang) (filter (is_lang_of h) after))) (sym same) ∙ ap (λ l. list_any (bytes_eq x.lang) (map (λ l. l.lang) l)) here
-            ∙ ap (list_any (bytes_eq x.lang)) (map-append (λ l. l.lang) (filter (is_lang_of row.host) lists.langs) (row ∷ [])) ∙ list_any-append (bytes_eq x.lang) (map (λ l. l.lang) (filter (is_lang_of row.host) lists.langs)) (row.lang ∷ [])
+            ap (λ h. list_any (λ t. bytes_eq t x.lang) (map (λ l. l.lang) (filter (is_lang_of h) after))) (sym same) ∙ ap (λ l. list_any (λ t. bytes_eq t x.lang) (map (λ l. l.lang) l)) here
+            ∙ ap (list_any (λ t. bytes_eq t x.lang)) (map-append (λ l. l.lang) (filter (is_lang_of row.host) lists.langs) (row ∷ [])) ∙ list_any-append (λ t. bytes_eq t x.lang) (map (λ l. l.lang) (filter (is_lang_of row.host) lists.langs)) (row.lang ∷ [])
             ∙ or_left _ _ (ap (λ h. has_language lists h x.lang) same ∙ was)
-        go false e = ap (λ l. list_any (bytes_eq x.lang) (map (λ l. l.lang) l)) (added_elsewhere (by_key coding.langs.key) (is_lang_of x.host) row lists.langs e) ∙ was
+        go false e = ap (λ l. list_any (λ t. bytes_eq t x.lang) (map (λ l. l.lang) l)) (added_elsewhere (by_key coding.langs.key) (is_lang_of x.host) row lists.langs e) ∙ was
 
 -- ---- projects
 
@@ -305,4 +310,4 @@ rules_with_project lists row lang rules new home main place = record {
     other r were apart = subst (AreLanguages r.main) (sym (elsewhere r.host apart)) were
 
     spoken : (x : PageRow) → IsTrue (has_project lists x.host) → IsTrue (has_language lists x.host x.lang) → IsTrue (has_language next x.host x.lang)
-    spoken x has was = ap (λ l. list_any (bytes_eq x.lang) (map (λ l. l.lang) l)) (elsewhere x.host (apart_from_new lists row.host new x.host has)) ∙ was
+    spoken x has was = ap (λ l. list_any (λ t. bytes_eq t x.lang) (map (λ l. l.lang) l)) (elsewhere x.host (apart_from_new lists row.host new x.host has)) ∙ was

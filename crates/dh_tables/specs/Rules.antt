@@ -33,7 +33,7 @@ abbrev pub languages_of : Lists → Text → List Text
 languages_of lists host = map (λ l. l.lang) (filter (is_lang_of host) lists.langs)
 
 abbrev pub has_language : Lists → Text → Text → Bool
-has_language lists host lang = list_any (bytes_eq lang) (languages_of lists host)
+has_language lists host lang = list_any (λ l. bytes_eq l lang) (languages_of lists host)
 
 -- the version is there, and active
 abbrev pub has_active : Lists → Text → Text → Bool
