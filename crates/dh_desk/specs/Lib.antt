@@ -3,3 +3,5 @@ pub mod Texts
 pub mod Changes
 pub mod Step
 pub mod Checks
+pub mod Desk
+pub mod Places

@@ -5,6 +5,7 @@ mod calls;
 pub mod command;
 pub mod outcome;
 pub mod pages;
+mod projects;
 pub mod refusal;
 mod texts;
 mod uploads;
