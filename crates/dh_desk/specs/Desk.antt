@@ -2,7 +2,7 @@
 use Rattle.std.specs.Prelude.{◌≡◌, ◌⊎◌, ℕ, Bool, true, false, Result, Ok, Err, refl}
 use Rattle.std.specs.Coded.{Coded, code_by, coded×, coded_bool}
 use Rattle.sqlite_trees.specs.declared.store.Store.{Ghosts}
-use Rattle.sqlite.specs.Held.{Held}
+use Rattle.sqlite.specs.Held.{Held, held_code}
 use Rattle.dh_rows.specs.Calls.{IsHonest, committed}
 use Rattle.dh_tables.specs.declared.answer.Answer.{Answer}
 use Rattle.dh_tables.specs.World.{World}
@@ -40,8 +40,8 @@ pub record Standing (S : Type 0) : Type 0 where
   pub tables : Held S
   pub closed : Bool
 
-abbrev pub standing_code : {S : Type 0} → Coded (Held S) → Coded (Standing S)
-standing_code {S} code = code_by (Held S × Bool) (coded× code coded_bool) (λ d. (d.tables, d.closed)) (λ p. record { tables = p.0; closed = p.1 }) (λ _. refl)
+abbrev pub standing_code : {S : Type 0} → Coded S → Coded (Standing S)
+standing_code code = code_by (Held _ × Bool) (coded× (held_code code) coded_bool) (λ d. (d.tables, d.closed)) (λ p. record { tables = p.0; closed = p.1 }) (λ _. refl)
 
 -- whether the answer is a fault of the store
 abbrev pub is_fault : Result Answer Refusal → Bool

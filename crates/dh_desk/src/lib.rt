@@ -3,6 +3,7 @@
 
 mod calls;
 pub mod command;
+pub mod desk;
 pub mod outcome;
 pub mod pages;
 mod projects;
@@ -11,6 +12,7 @@ mod texts;
 mod uploads;
 
 pub use command::Command;
+pub use desk::Desk;
 pub use dh_tables::Answer;
 pub use outcome::Outcome;
 pub use pages::{Pages, UploadedPage};
