@@ -1,23 +1,26 @@
 -- What a statement on a table of ours asks and does, from its text alone: one lemma for each shape.
-use Rattle.std.proofs.Common.{◌≡◌, ℕ, ℤ, List, [], ◌∷◌, length, map, filter, not, Bool, false, None, Some, Ok, ◌/◌, sym, subst}
+use Rattle.std.proofs.Common.{◌≡◌, ℕ, ℤ, List, [], ◌∷◌, length, map, filter, not, Bool, true, false, None, Some, Ok, ◌/◌, sym, subst}
 use Rattle.sqlite_value.specs.declared.value.Value.TheVariants.{Null, Int}
 use Rattle.sqlite_value.specs.declared.keys.Key.{Key}
 use Rattle.sqlite_value.specs.Order.{Row}
 use Rattle.sqlite_sql.specs.Term.{Term}
 use Rattle.sqlite_sql.specs.Query.{key_cmp}
 use Rattle.sqlite_schema.specs.declared.schema.Table.{Table}
+use Rattle.sqlite_schema.specs.declared.schema.Schema.{Schema}
+use Rattle.sqlite_typing.specs.Types.{row_classes, are_typed}
 use Rattle.sqlite.specs.Effect.{Database, Reads, value_rows}
 use Rattle.sqlite.specs.Given.{IsPlain}
 use Rattle.sqlite.specs.Listing.{understood, reads_listing}
 use Rattle.sqlite.specs.Does.{Does}
 use Rattle.sqlite.specs.State.{State, mode_of}
 use Rattle.dh_rows.specs.Calls.{command_of, statement_of, IsEdit, Edits}
-use Rattle.dh_rows.specs.Keyed.{Coding, by_key, IsFreeKey, added}
+use Rattle.dh_rows.specs.Keyed.{Coding, by_key, IsFreeKey, added, put}
 use Rattle.dh_rows.specs.Places.{tree_of, table_in, Keeps, records_of}
 use Rattle.dh_rows.proofs.Terms.{wanted, rising, columns_at}
 use Rattle.dh_rows.proofs.Shapes.{matching, outp}
 use Rattle.dh_rows.proofs.Effects.{IsSimple, AreOfKinds, Turns, delete_turns, insert_turns, select_reads}
 use Rattle.dh_rows.proofs.Texts.{ArePlain, name_at, delete_is, select_is, insert_is}
+use Rattle.dh_rows.proofs.Upsert.{IsUpsert, IsKeyOf, Fits, upsert_is, put_turns}
 use Rattle.dh_rows.proofs.Read.{delete_of, is_delete, select_of, is_select, insert_of, is_insert}
 
 -- what `change` asks of a text, and what it then does to one table
@@ -54,6 +57,18 @@ module _ (t : Table) (simple : IsSimple t) (plain : ArePlain t.columns) {X : Typ
         plain = means.plain;
         edits = subst IsEdit (sym means.is) tt;
         turns = λ after it. insert_turns s.step_limit (mode_of s) s.now after t c keeps (c.encode x) (statement_of text (understood s.now.schema text)) it.0 simple x terms width back kinds one free (subst (λ k. Does s.step_limit (mode_of s) (c.encode x) s.now (statement_of text (understood s.now.schema text)) None k (Ok (it.0, after))) means.is it.1);
+      }
+
+  -- INSERT INTO t VALUES (..) ON CONFLICT (the key) DO UPDATE SET .., whose parameters are the columns of the record
+  pub upsert : (key : List ℕ) → IsKeyOf t key → (text : List ℕ) (terms : List Term) (width base : ℕ) (new : List Term) → ((schema : Schema) (tree : ℕ) → IsUpsert schema t tree text terms width base new) → are_typed [] (row_classes t ∷ []) new ≡ true
+      → (x : X) → Fits t c x key base new → value_rows (c.encode x) width (length terms / width) terms ≡ (Null ∷ c.encode x) ∷ []
+      → Writes s text (c.encode x) t c (put c.key x)
+  upsert key is_key text terms width base new read typed x fits one =
+      let means = upsert_is s.now.schema t keeps.stands simple key is_key text terms width base new typed (read s.now.schema (tree_of s.now.schema t.name)) in
+      record {
+        plain = means.plain;
+        edits = subst IsEdit (sym means.is) tt;
+        turns = λ after it. put_turns s.step_limit (mode_of s) s.now after t c keeps x (statement_of text (understood s.now.schema text)) it.0 simple key is_key base new fits terms width one (subst (λ k. Does s.step_limit (mode_of s) (c.encode x) s.now (statement_of text (understood s.now.schema text)) None k (Ok (it.0, after))) means.is it.1);
       }
 
   -- SELECT .. FROM t WHERE .. ORDER BY the whole key

@@ -1,8 +1,9 @@
 -- CREATE TABLE at any schema that lacks the name, and what becomes of the tables that are there.
-use Rattle.std.proofs.Common.{◌≡◌, ◌≢◌, ◌<◌, ◌≤◌, ℕ, zero, suc, ◌+◌, ◌==◌, ◌^◌, ◌&&◌, ◌||◌, List, [], ◌∷◌, ◌++◌, find, codes, Bool, true, false, not, cond, Option, None, Some, Ok, Err, Result, refl, sym, ap, subst, ◌∙◌, slice_get, length, arith, true≢false, inl, inr, ◌⊎◌}
+use Rattle.std.proofs.Common.{◌≡◌, ◌≢◌, ◌<◌, ◌≤◌, ℕ, zero, suc, ◌+◌, ◌==◌, ◌^◌, ◌&&◌, ◌||◌, List, [], ◌∷◌, ◌++◌, map, find, codes, Bool, true, false, not, cond, Option, None, Some, Ok, Err, Result, refl, sym, ap, subst, ◌∙◌, slice_get, length, arith, true≢false, inl, inr, ◌⊎◌}
 use Rattle.std.specs.List.{position_from, AllByRecursion, AllZip, list_any}
 use Rattle.std.proofs.lemmas.Bool.Decides.{eqb_tells}
 use Rattle.sqlite_value.specs.Order.{Row}
+use Rattle.sqlite_value.specs.Keys.{plain}
 use Rattle.sqlite_trees.specs.Tree.{Trees}
 use Rattle.sqlite_rules.specs.Lists.{Has}
 use Rattle.sqlite_schema.specs.declared.schema.Table.{Table}
@@ -27,7 +28,8 @@ use Rattle.sqlite.specs.Given.{IsPlain}
 use Rattle.sqlite.specs.Listing.{understood}
 use Rattle.sqlite.specs.State.{State, mode_of, text_of}
 use Rattle.dh_rows.specs.Calls.{command_of, IsEdit, Edits, EditsAs}
-use Rattle.dh_rows.specs.Places.{IsFree, HasTable, is_at, IsUnreferred, IsUnmentioned, tree_of, table_in, Stands, rows_of}
+use Rattle.dh_rows.specs.Places.{IsFree, HasTable, is_at, IsUnreferred, IsUnmentioned, tree_of, table_in, Stands, unique_keys, ArePlaced, rows_of}
+use Rattle.dh_rows.proofs.Indexes.{placed, keyed_kept, keyed_made}
 use Rattle.dh_rows.proofs.Meaning.{understood_as, compiled_as}
 
 -- ---- the text
@@ -95,6 +97,11 @@ slice_kept (y ∷ ys) more (suc at) x e = slice_kept ys more at x e
 slice_new : {A : Type 0} (xs : List A) (x : A) → slice_get (xs ++ x ∷ []) (length xs) ≡ Some x
 slice_new [] x = refl
 slice_new (y ∷ ys) x = slice_new ys x
+
+slice_has : {A : Type 0} (xs : List A) (at : ℕ) (x : A) → slice_get xs at ≡ Some x → Has xs x
+slice_has [] at x e = absurd (cc)
+slice_has (y ∷ ys) zero x e = inl (let same : y ≡ x = cc in sym same)
+slice_has (y ∷ ys) (suc at) x e = inr (slice_has ys at x e)
 
 all_of : {A : Type 0} (P : A → Type 0) (xs : List A) → ((x : A) → Has xs x → P x) → AllByRecursion P xs
 all_of P [] f = tt
@@ -268,14 +275,15 @@ stored_in db name at table sound has =
     omega (arith, low)
 
 -- the table stands where it is found
-stands_at : (db : Database) (t : Table) (at tree : ℕ) → IsDatabase db → HasTable db.schema t.name at (record t { tree = tree }) → IsUnreferred db.schema tree → Stands db.schema t
-stands_at db t at tree sound has alone =
+stands_at : (db : Database) (t : Table) (at tree : ℕ) → IsDatabase db → HasTable db.schema t.name at (record t { tree = tree }) → IsUnreferred db.schema tree → unique_keys db.schema tree ≡ map (λ places. (places, plain)) t.uniques → Stands db.schema t
+stands_at db t at tree sound has alone keyed =
     let is = tree_is db.schema t.name at (record t { tree = tree }) has in
     record {
       at = at;
       has = subst (λ n. HasTable db.schema t.name at (record t { tree = n })) (sym is) has;
       stored = subst (λ n. n < 2 ^ 31) (sym is) (stored_in db t.name at (record t { tree = tree }) sound has);
       unreferred = subst (IsUnreferred db.schema) (sym is) alone;
+      keyed = ap (unique_keys db.schema) is ∙ keyed;
     }
 
 -- The table is made, with no row, and each table of ours that was there stands as it did.
@@ -285,6 +293,7 @@ pub record Makes (t : Table) (db after : Database) : Type 0 where
   pub empty : rows_of after t.name ≡ []
   pub others : (u : Table) → Stands db.schema u → Stands after.schema u × (rows_of after u.name ≡ rows_of db u.name)
   pub counted : lacks_sequence after.schema ≡ false
+  pub placed : ArePlaced after.schema
 
 went : {B E R : Type 0} {b : B} {Stops : E → Type 0} → ((stop : E) × Stops stop × (Ok b ≡ Err stop)) ⊎ R → R
 went (inl stopped) = absurd (let e = stopped.2 in cc)
@@ -316,28 +325,32 @@ pub record Creates (s : State) (text : List ℕ) (t : Table) : Type 0 where
   pub edits : IsEdit (command_of (understood s.now.schema text))
   pub made : (after : Database) → Edits s text [] after → Makes t s.now after
 
-pub creates : (t : Table) (text : List ℕ) → IsCreate text t → t.references ≡ [] → t.is_counted ≡ false → (s : State) → IsFree s.now.schema t.name → IsUnmentioned s.now.schema t.name → lacks_sequence s.now.schema ≡ false → Creates s text t
-creates t text (makes {p = p} {def = def} read is formats name reserved table sound defined) plain uncounted s free unmentioned counted =
+pub creates : (t : Table) (text : List ℕ) → IsCreate text t → t.references ≡ [] → t.is_counted ≡ false → AllByRecursion (λ o. o ≡ plain) t.orders → (s : State) → IsFree s.now.schema t.name → IsUnmentioned s.now.schema t.name → lacks_sequence s.now.schema ≡ false → ArePlaced s.now.schema → Creates s text t
+creates t text (makes {p = p} {def = def} read is formats name reserved table sound defined) unreferring uncounted bytewise s free unmentioned counted fine =
     let schema = s.now.schema in
     let means = create_means schema p def is formats (subst (IsFree schema) (sym name) free) (ap is_reserved name ∙ reserved) t table sound text read in
     record { plain = subst IsPlain (sym means) (refl, refl); edits = subst (λ r. IsEdit (command_of r)) (sym means) tt; made = λ after edits. go after (subst (EditsAs s text [] after) means edits) }
   where
+    low : (u : Table) → (was : Stands s.now.schema u) → tree_of s.now.schema u.name < next_tree s.now.schema
+    low u was = table_below s.now.schema (table_in s.now.schema u) (slice_has s.now.schema.tables was.at (table_in s.now.schema u) was.has.stands)
+
     go : (after : Database) → EditsAs s text [] after (Ok (with_command p ([], (CreateTable, None)))) → Makes t s.now after
     go after it =
         let schema = s.now.schema in
-        let fine = counts_kept schema t uncounted counted in
-        let made = made_by s _ t it.0 after defined fine it.1 in
+        let counts = counts_kept schema t uncounted counted in
+        let made = made_by s _ t it.0 after defined counts it.1 in
         let has = subst (λ d. HasTable d t.name (length schema.tables) (record t { tree = next_tree schema })) (sym made.0) (table_made schema t free.tables) in
-        let alone = subst (λ d. IsUnreferred d (next_tree schema)) (sym made.0) (unreferred_new schema t unmentioned plain) in
-        let stands = stands_at after t (length schema.tables) (next_tree schema) it.2 has alone in
+        let alone = subst (λ d. IsUnreferred d (next_tree schema)) (sym made.0) (unreferred_new schema t unmentioned unreferring) in
+        let stands = stands_at after t (length schema.tables) (next_tree schema) it.2 has alone (ap (λ d. unique_keys d (next_tree schema)) made.0 ∙ keyed_made schema t fine bytewise) in
         record {
           schema = made.0;
           stands = stands;
           empty = ap after.trees (tree_is after.schema t.name _ _ has) ∙ made.1;
           others = λ u was.
               let kept = subst (λ d. HasTable d u.name was.at (table_in schema u)) (sym made.0) (table_kept schema t u.name was.at (table_in schema u) was.has) in (
-                stands_at after u was.at (tree_of schema u.name) it.2 kept (subst (λ d. IsUnreferred d (tree_of schema u.name)) (sym made.0) (unreferred_kept schema t unmentioned plain _ was.unreferred)),
+                stands_at after u was.at (tree_of schema u.name) it.2 kept (subst (λ d. IsUnreferred d (tree_of schema u.name)) (sym made.0) (unreferred_kept schema t unmentioned unreferring _ was.unreferred)) (ap (λ d. unique_keys d (tree_of schema u.name)) made.0 ∙ keyed_kept schema t (tree_of schema u.name) (low u was) ∙ was.keyed),
                 ap after.trees (tree_is after.schema u.name _ _ kept) ∙ row_kept schema.tables was.at (table_in schema u) s.now.trees after.trees was.has.stands made.2,
               );
-          counted = ap lacks_sequence made.0 ∙ fine;
+          counted = ap lacks_sequence made.0 ∙ counts;
+          placed = placed after it.2;
         }

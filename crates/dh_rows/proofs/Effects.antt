@@ -39,11 +39,11 @@ use Rattle.dh_rows.proofs.Lists.{by_key_total}
 use Rattle.dh_rows.proofs.Shapes.{matching, outp, reads_records, dropped, inserted}
 
 -- a part that gave a value did not stop on the way
-went : {B E R : Type 0} {b : B} {Stops : E → Type 0} → ((stop : E) × Stops stop × (Ok b ≡ Err stop)) ⊎ R → R
+pub went : {B E R : Type 0} {b : B} {Stops : E → Type 0} → ((stop : E) × Stops stop × (Ok b ≡ Err stop)) ⊎ R → R
 went (inl stopped) = absurd (let e = stopped.2 in cc)
 went (inr on) = on
 
-same_ok : {B E : Type 0} {a b : B} → ◌≡◌ {A = Result B E} (Ok a) (Ok b) → a ≡ b
+pub same_ok : {B E : Type 0} {a b : B} → ◌≡◌ {A = Result B E} (Ok a) (Ok b) → a ≡ b
 same_ok e = cc
 
 -- a table that keeps no rowid in a column, no count and no default that reads the time
@@ -70,11 +70,11 @@ either : (b : Bool) (x : Value) → Rattle.std.proofs.Common.cond b x x ≡ x
 either true x = refl
 either false x = refl
 
-cast_null : cast kind.Integer Null ≡ Null
+pub cast_null : cast kind.Integer Null ≡ Null
 unfolding unary
 cast_null = either _ Null
 
-cast_int : (n : ℤ) → cast kind.Integer (Int n) ≡ Int n
+pub cast_int : (n : ℤ) → cast kind.Integer (Int n) ≡ Int n
 unfolding unary
 cast_int n = either _ (Int n)
 
@@ -85,7 +85,7 @@ cast_same kind.Blob v h = refl
 cast_same kind.Any v h = refl
 cast_same _ _ h = absurd h
 
-casts_same : (cs : List Column) (vs : Row) → AreOfKinds cs vs → cast_all cs vs ≡ vs
+pub casts_same : (cs : List Column) (vs : Row) → AreOfKinds cs vs → cast_all cs vs ≡ vs
 casts_same [] [] h = refl
 casts_same (c ∷ cs) (v ∷ vs) h = ap₂ ◌∷◌ (cast_same c.kind v h.0) (casts_same cs vs h.1)
 casts_same _ _ h = absurd h
@@ -158,7 +158,7 @@ other_keeps {db = db} {after = after} it u d keeps apart =
     let rows = it.others u keeps.stands apart in
     (record { stands = subst (λ s. Stands s u) (sym it.schema) keeps.stands; rows = subst (IsTableOf d) (sym rows) keeps.rows }, ap (records d) rows)
 
-turned : {X : Type 0} (t : Table) (c : Coding X) (change : List X → List X) (db after : Database) → Stands db.schema t → after.schema ≡ db.schema
+pub turned : {X : Type 0} (t : Table) (c : Coding X) (change : List X → List X) (db after : Database) → Stands db.schema t → after.schema ≡ db.schema
     → ((u : Table) → Stands db.schema u → same_name u.name t.name ≡ false → after.trees (tree_of db.schema u.name) ≡ rows_of db u.name)
     → IsTableOf c (after.trees (tree_of db.schema t.name)) → records c (after.trees (tree_of db.schema t.name)) ≡ change (records_of c t.name db) → Turns t c change db after
 turned t c change db after stands same others is are =
@@ -180,7 +180,7 @@ module _ (limit : Option ℕ) (mode : Mode) (db after : Database) (t : Table) {X
   abbrev tree : ℕ
   tree = tree_of db.schema t.name
 
-  kept : (next : Trees) → AllByRecursion (λ u. u.tree ≢ tree → next u.tree ≡ db.trees u.tree) db.schema.tables
+  pub kept : (next : Trees) → AllByRecursion (λ u. u.tree ≢ tree → next u.tree ≡ db.trees u.tree) db.schema.tables
       → (u : Table) → Stands db.schema u → same_name u.name t.name ≡ false → next (tree_of db.schema u.name) ≡ rows_of db u.name
   kept next all u stands apart = row_kept next db.trees db.schema.tables tree stands.at (table_in db.schema u) stands.has.stands (trees_apart db.schema t u keeps.stands stands apart) all
 

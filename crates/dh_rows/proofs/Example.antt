@@ -1,22 +1,25 @@
 -- What the statements on notes ask and do, wherever their table stands.
-use Rattle.std.proofs.Common.{◌≡◌, ℕ, ℤ, pos, List, [], ◌∷◌, map, filter, not, codes, false, Some, refl}
+use Rattle.std.proofs.Common.{◌≡◌, ℕ, ℤ, pos, List, [], ◌∷◌, map, filter, not, codes, false, Some, refl, ◌∙◌}
 use Rattle.std.proofs.Math.Bool.{and-true}
 use Rattle.sqlite_value.specs.declared.value.Value.TheVariants.{Null, Int, Text}
 use Rattle.sqlite_value.specs.Order.{Row}
-use Rattle.sqlite_sql.specs.Term.{lit, col}
+use Rattle.sqlite_value.specs.Keys.{first_key}
+use Rattle.std.proofs.lemmas.Bool.{and_parts}
+use Rattle.sqlite_sql.specs.Term.{Term, lit, col}
 use Rattle.sqlite_schema.specs.declared.schema.Schema.{Schema}
 use Rattle.sqlite_tied.specs.Compute.{everything}
 use Rattle.sqlite.specs.State.{State}
-use Rattle.dh_rows.specs.Keyed.{IsFreeKey, added}
-use Rattle.dh_rows.specs.Places.{IsFree, IsUnmentioned, Keeps, records_of}
+use Rattle.dh_rows.specs.Keyed.{IsFreeKey, added, put}
+use Rattle.dh_rows.specs.Places.{IsFree, IsUnmentioned, ArePlaced, Keeps, records_of}
 use Rattle.sqlite.specs.Does.{lacks_sequence}
 use Rattle.dh_rows.specs.Example.{Note, note_table, notes, is_of, is_note}
 use Rattle.dh_rows.proofs.Effects.{IsSimple}
 use Rattle.dh_rows.proofs.Texts.{ArePlain}
 use Rattle.dh_rows.proofs.Read.{delete_of, select_of, insert_of}
-use Rattle.dh_rows.proofs.Equal.{equal_text, equal_int}
+use Rattle.dh_rows.proofs.Equal.{equal_text, equal_int, tied_is, alike_text, alike_int}
 use Rattle.dh_rows.proofs.Create.{IsCreate, makes, Creates, creates}
-use Rattle.dh_rows.proofs.Asks.{Writes, Answers, delete, insert, select}
+use Rattle.dh_rows.proofs.Asks.{Writes, Answers, delete, insert, upsert, select}
+use Rattle.dh_rows.proofs.Upsert.{IsUpsert, puts, IsKeyOf, Fits}
 
 -- ---- once for the table
 
@@ -69,6 +72,36 @@ module _ (s : State) (keeps : Keeps note_table notes s.now) where
   pub adds : (x : Note) → IsFreeKey notes.key x (records_of notes note_table.name s.now) → Writes s add_text (notes.encode x) note_table notes (added notes.key x)
   adds x free = insert note_table note_simple note_plain notes s keeps add_text _ _ (add_read _ _) x (note_back x) (tt, (tt, (tt, tt))) refl free
 
+-- ---- INSERT .. ON CONFLICT
+
+note_key : IsKeyOf note_table (1 ∷ 2 ∷ [])
+note_key = record { primary = refl; uniques = refl; apart = refl; own = refl; among = refl }
+
+abbrev put_text : List ℕ
+put_text = codes "INSERT INTO note VALUES (?1, ?2, ?3) ON CONFLICT (name, place) DO UPDATE SET text = ?3"
+
+abbrev put_new : List Term
+put_new = col 1 0 ∷ col 1 0 ∷ col 1 1 ∷ col 1 2 ∷ col 0 2 ∷ []
+
+put_read : (schema : Schema) (tree : ℕ) → IsUpsert schema note_table tree put_text (lit Null ∷ col 0 0 ∷ col 0 1 ∷ col 0 2 ∷ []) 4 3 put_new
+unfolding everything
+put_read schema tree = puts refl refl refl refl refl refl refl refl (λ cx. refl)
+
+put_fits : (x : Note) → Fits note_table notes x (1 ∷ 2 ∷ []) 3 put_new
+unfolding first_key
+put_fits x = record {
+  back = note_back x;
+  kinds = (tt, (tt, (tt, tt)));
+  agrees = λ n m y. rw (equal_text y.name x.name, equal_int (pos y.place) (pos x.place)) (tied_is (notes.key x) (notes.key y));
+  placed = λ id more. refl;
+  shows = λ n more y same.
+      let parts = and_parts _ _ (tied_is (notes.key x) (notes.key y) ∙ same) in
+      rw (alike_text y.name x.name parts.0, alike_int (pos y.place) (pos x.place) (and_parts _ _ parts.1).0) refl;
+}
+
+pub puts_note : (s : State) → Keeps note_table notes s.now → (x : Note) → Writes s put_text (notes.encode x) note_table notes (put notes.key x)
+puts_note s keeps x = upsert note_table note_simple note_plain notes s keeps (1 ∷ 2 ∷ []) note_key put_text _ 4 3 put_new put_read refl x (put_fits x) refl
+
 -- ---- CREATE TABLE
 
 abbrev create_text : List ℕ
@@ -78,5 +111,5 @@ create_read : IsCreate create_text note_table
 unfolding everything
 create_read = makes refl refl refl refl refl refl refl refl
 
-pub made : (s : State) → IsFree s.now.schema note_table.name → IsUnmentioned s.now.schema note_table.name → lacks_sequence s.now.schema ≡ false → Creates s create_text note_table
-made s free unmentioned counted = creates note_table create_text create_read refl refl s free unmentioned counted
+pub made : (s : State) → IsFree s.now.schema note_table.name → IsUnmentioned s.now.schema note_table.name → lacks_sequence s.now.schema ≡ false → ArePlaced s.now.schema → Creates s create_text note_table
+made s free unmentioned counted fine = creates note_table create_text create_read refl refl (refl, tt) s free unmentioned counted fine

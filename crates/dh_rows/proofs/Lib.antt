@@ -11,7 +11,10 @@ pub mod Texts
 pub mod Read
 pub mod Views
 pub mod Equal
+pub mod Indexes
+pub mod Replaced
 pub mod Create
+pub mod Upsert
 pub mod Asks
 pub mod Example
 pub mod Names

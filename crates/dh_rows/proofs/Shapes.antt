@@ -63,7 +63,7 @@ module _ {X : Type 0} (c : Coding X) (terms : List Term) (shown : List Term) (or
   outp r = output query (params ∷ r ∷ [])
 
   -- the answer is an order of the rows that match
-  answered : (db : Trees) (rows : List Row) → IsAnswer query (overlay db []) params rows
+  pub answered : (db : Trees) (rows : List Row) → IsAnswer query (overlay db []) params rows
       → (ordered : List Output) × IsPermutation (map outp (filter (matching terms params) (db tree))) ordered × IsSorted (output_cmp query) ordered × (rows ≡ map (λ (o : Output). o.1) ordered)
   answered db rows a =
       let staged : a.staged ≡ map (λ r. params ∷ r ∷ []) (filter (matching terms params) (db tree)) = a.grouped ∙ found Null db tree terms params in
@@ -133,7 +133,7 @@ without_each (id ∷ ids) rows = without_each ids (without_rowid id rows) ∙ bo
         go false true e more = rw e more
         go false false e more = rw e (ap (λ l. x ∷ l) more)
 
-filter_same_on : {A : Type 0} (p q : A → Bool) (xs : List A) → AllByRecursion (λ x. p x ≡ q x) xs → filter p xs ≡ filter q xs
+pub filter_same_on : {A : Type 0} (p q : A → Bool) (xs : List A) → AllByRecursion (λ x. p x ≡ q x) xs → filter p xs ≡ filter q xs
 filter_same_on p q [] all = refl
 filter_same_on p q (x ∷ xs) all = ap₂ (λ b l. cond b (x ∷ l) l) all.0 (filter_same_on p q xs all.1)
 

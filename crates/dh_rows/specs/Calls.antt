@@ -74,6 +74,10 @@ module _ {S : Type 0} (g : Ghosts S) where
     abbrev pub MayLeave : Held S → W → Type 0
     MayLeave h w = (db : Trees) × g.recovers h.store db × (w ≡ view (record { schema = (state g h).committed.schema; trees = db }))
 
+    -- a crash at this moment leaves what was seen at the last commit
+    abbrev pub LeavesCommitted : Held S → Type 0
+    LeavesCommitted h = (w : W) → MayLeave h w → w ≡ committed h
+
     module _ (old new : Held S) where
       -- the connection was honest and is open, and shows this now
       pub record Shows (now last : W) (in_transaction : Bool) : Type 0 where

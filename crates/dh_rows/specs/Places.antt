@@ -1,9 +1,10 @@
 -- Where a table stands among others, and what it holds.
-use Rattle.std.specs.Prelude.{◌≡◌, ℕ, ◌<◌, ◌^◌, ◌==◌, Bool, true, false, if◌then◌else◌, List, [], ◌∷◌, find, length, Option, None, Some, slice_get, option_map, option_and_then, unwrap_or}
+use Rattle.std.specs.Prelude.{◌≡◌, ℕ, ◌<◌, ◌^◌, ◌==◌, ◌&&◌, Bool, true, false, if◌then◌else◌, List, [], ◌∷◌, map, filter, find, length, Option, None, Some, slice_get, option_map, option_and_then, unwrap_or}
 use Rattle.std.specs.List.{AllByRecursion}
 use Rattle.sqlite_value.specs.Order.{Row}
 use Rattle.sqlite_value.specs.declared.value.Value.TheVariants.{Null}
 use Rattle.sqlite_value.specs.declared.keys.Collation.TheVariants.{Binary}
+use Rattle.sqlite_value.specs.declared.keys.Order.{Order}
 use Rattle.sqlite_value.specs.Keys.{plain}
 use Rattle.sqlite_schema.specs.declared.schema.Kind.{Kind}
 use Rattle.sqlite_schema.specs.declared.schema.Column.{Column}
@@ -11,6 +12,7 @@ use Rattle.sqlite_schema.specs.declared.schema.Table.{Table}
 use Rattle.sqlite_schema.specs.declared.schema.Schema.{Schema}
 use Rattle.sqlite_schema.specs.Names.{same_name, table_named, view_named, index_named}
 use Rattle.sqlite_schema.specs.Rules.{parent_key, ParentKey}
+use Rattle.sqlite_rules.specs.Lists.{Has}
 use Rattle.sqlite.specs.Effect.{Database}
 use Rattle.dh_rows.specs.Keyed.{Coding, IsTableOf, records}
 
@@ -68,6 +70,14 @@ tree_of schema name = unwrap_or (option_map (λ t. t.tree) (option_and_then (sli
 abbrev pub table_in : Schema → Table → Table
 table_in schema t = record t { tree = tree_of schema t.name }
 
+-- the keys of the unique indexes on a tree: the places of their columns, and the order that they compare by
+abbrev pub unique_keys : Schema → ℕ → List (List ℕ × Order)
+unique_keys schema tree = map (λ i. (i.columns, i.order)) (filter (λ i. i.is_unique && (i.table == tree)) schema.indexes)
+
+-- each index is on a table that is there
+abbrev pub ArePlaced : Schema → Type 0
+ArePlaced schema = AllByRecursion (λ i. (t : Table) × Has schema.tables t × (i.table ≡ t.tree)) schema.indexes
+
 -- The schema has this table at some place, where its tree is its own and no foreign key refers to it.
 pub record Stands (schema : Schema) (t : Table) : Type 0 where
   pub at : ℕ
@@ -75,6 +85,8 @@ pub record Stands (schema : Schema) (t : Table) : Type 0 where
   -- no statement computes it
   pub stored : tree_of schema t.name < 2 ^ 31
   pub unreferred : IsUnreferred schema (tree_of schema t.name)
+  -- its unique indexes are those of its own keys, which compare by bytes
+  pub keyed : unique_keys schema (tree_of schema t.name) ≡ map (λ places. (places, plain)) t.uniques
 
 -- the rows of the table with this name
 abbrev pub rows_of : Database → List ℕ → List Row

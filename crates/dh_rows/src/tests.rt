@@ -43,6 +43,22 @@ fn a_transaction_goes_back(rt: HostRuntime) -> Result<(), Fail> {
 }
 
 #[test]
+fn an_upsert_puts_a_row_in_place(rt: HostRuntime) -> Result<(), Fail> {
+    let mut conn = Connection::open_in_memory(rt.alloc())?;
+    run(&mut conn, CREATE, &[])?;
+    let put =
+        "INSERT INTO note VALUES (?1, ?2, ?3) ON CONFLICT (name, place) DO UPDATE SET text = ?3";
+    run(&mut conn, put, params!["a", 1i64, "x"])?;
+    run(&mut conn, put, params!["a", 2i64, "y"])?;
+    run(&mut conn, put, params!["a", 1i64, "z"])?;
+    let with_text = "SELECT name FROM note WHERE text = ?1";
+    assert_eq!(rt; conn.query_all(with_text, params!["x"])?.len(), 0);
+    assert_eq!(rt; conn.query_all(with_text, params!["y"])?.len(), 1);
+    assert_eq!(rt; conn.query_all(with_text, params!["z"])?.len(), 1);
+    Ok(())
+}
+
+#[test]
 fn a_foreign_key_mentions_a_table(rt: HostRuntime) -> Result<(), Fail> {
     let mut conn = Connection::open_in_memory(rt.alloc())?;
     run(

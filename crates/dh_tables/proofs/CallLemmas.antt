@@ -6,9 +6,10 @@ use Rattle.sqlite_trees.specs.declared.store.Store.{Ghosts}
 use Rattle.sqlite.specs.Effect.{Database}
 use Rattle.sqlite.specs.State.{HasCleanDisk}
 use Rattle.sqlite.specs.Held.{Held, state}
-use Rattle.dh_rows.specs.Calls.{whole, Edits, Keep, AreOurs, IsHonest, LeavesTrees, Leaves, Shows, IsSame, IsUndone, IsRefused, Becomes, committed}
+use Rattle.dh_rows.specs.Calls.{whole, Edits, Keep, AreOurs, IsHonest, LeavesTrees, Leaves, Shows, IsSame, IsUndone, IsRefused, Becomes}
 use Rattle.dh_rows.proofs.Views.{changes, leaves, leaves_now}
 use Rattle.dh_tables.specs.Lists.{Lists}
+use Rattle.dh_tables.specs.Making.{GoesOn, CommitsNothing}
 use Rattle.dh_tables.specs.Tables.{Holds, lists_of}
 
 module _ {S : Type 0} (g : Ghosts S) (old new : Held S) where
@@ -125,42 +126,43 @@ module _ {S : Type 0} (g : Ghosts S) (old new : Held S) (ours : AreOurs Holds (s
       let k = ours honest.0 honest.1 in
       by_result g old new r (λ p. after_write k (state g new).now (effect honest (state g new).now p.1) old.in_transaction p.0) (λ q. refused_keeps g old new k q) (ran honest clean) (err (clean, live))
 
--- ---- two changes within a transaction
-
-module _ {S : Type 0} (g : Ghosts S) (old middle new : Held S) where
-  becomes_on : (v w : Lists) → old.in_transaction ≡ true → Becomes g lists_of old middle v → Becomes g lists_of middle new w → Becomes g lists_of old new w
-  becomes_on v w within a b = record {
-    was_honest = a.was_honest;
-    is_open = b.is_open;
-    now_is = b.now_is;
-    last_is =
-        b.last_is ∙ ap (λ t. cond t (committed g lists_of middle) w) (a.mode ∙ within) ∙ a.last_is ∙ ap (λ t. cond t (committed g lists_of old) v) within
-        ∙ sym (ap (λ t. cond t (committed g lists_of old) w) within);
-    mode = b.mode ∙ a.mode;
-  }
-
-  pub two_ok : {E : Type 0} (r : Result (Unit {0}) E) (first second whole : Lists → Lists) → ((l : Lists) → second (first l) ≡ whole l) → old.in_transaction ≡ true → Becomes g lists_of old middle (first (lists_of (state g old).now))
-      → OnOk r (Becomes g lists_of middle new (second (lists_of (state g middle).now))) → OnOk r (Becomes g lists_of old new (whole (lists_of (state g old).now)))
-  two_ok (Ok u) first second whole same within a b =
-      subst (λ w. Becomes g lists_of old new w) (ap second a.now_is ∙ same (lists_of (state g old).now)) (becomes_on (first (lists_of (state g old).now)) (second (lists_of (state g middle).now)) within a b)
-  two_ok (Err e) first second whole same within a b = tt
-
 -- ---- making tables
 
 pub made_ok : {T E Q R : Type 0} (P : Type 0) (r : Result T E) → (Q → R) → OnOk r (P × Q) → OnOk r (P × R)
 made_ok P (Ok x) f h = (h.0, f h.1)
 made_ok P (Err e) f h = tt
 
--- a last step, after which outside a transaction all is committed
-pub settles : {S T E : Type 0} (P : Type 0) (g : Ghosts S) (middle new : Held S) (mode : Bool) (r : Result T E) → HasCleanDisk (state g new) → middle.in_transaction ≡ mode → OnOk r (Becomes g whole middle new (state g new).now × P)
-    → OnOk r (IsHonest g new × (new.in_transaction ≡ mode) × (mode ≡ false → (state g new).now ≡ (state g new).committed) × P)
-settles P g middle new mode (Ok x) clean same h =
-    ((clean, h.0.is_open), h.0.mode ∙ same, λ out. sym (h.0.last_is ∙ ap (λ b. cond b (state g middle).committed (state g new).now) (same ∙ out)), h.1)
-settles P g middle new mode (Err e) clean same h = tt
+module _ {S : Type 0} (g : Ghosts S) (old middle new : Held S) where
+  pub goes_on : GoesOn g old middle → GoesOn g middle new → GoesOn g old new
+  goes_on a b = record { honest = b.honest; mode = b.mode ∙ a.mode; settled = λ out. b.settled (a.mode ∙ out); waits = λ within. b.waits (a.mode ∙ within) ∙ a.waits within }
 
-pub settles_on : {T E : Type 0} (H Q P : Type 0) (before middle after : Bool) (r : Result T E) → middle ≡ before → OnOk r (H × (after ≡ middle) × (middle ≡ false → Q) × P) → OnOk r (H × (after ≡ before) × (before ≡ false → Q) × P)
-settles_on H Q P before middle after (Ok x) same h = (h.0, h.1 ∙ same, λ out. h.2 (same ∙ out), h.3)
-settles_on H Q P before middle after (Err e) same h = tt
+  pub goes_on_ok : {T E : Type 0} (P : Type 0) (r : Result T E) → GoesOn g old middle → OnOk r (GoesOn g middle new × P) → OnOk r (GoesOn g old new × P)
+  goes_on_ok P (Ok x) a h = (goes_on a h.0, h.1)
+  goes_on_ok P (Err e) a h = tt
+
+  pub nothing_on : IsHonest g old → GoesOn g old middle → old.in_transaction ≡ true → CommitsNothing g middle new → CommitsNothing g old new
+  nothing_on honest a within h = (honest, h.1 ∙ a.waits within)
+
+  pub nothing_on_err : {T E : Type 0} (r : Result T E) → IsHonest g old → GoesOn g old middle → old.in_transaction ≡ true → OnErr r (CommitsNothing g middle new) → OnErr r (CommitsNothing g old new)
+  nothing_on_err (Ok x) honest a within h = tt
+  nothing_on_err (Err e) honest a within h = nothing_on honest a within h
+
+module _ {S : Type 0} (g : Ghosts S) (old new : Held S) where
+  pub went : HasCleanDisk (state g new) → Becomes g whole old new (state g new).now → GoesOn g old new
+  went clean it = record {
+    honest = (clean, it.is_open);
+    mode = it.mode;
+    settled = λ out. sym (it.last_is ∙ ap (λ b. cond b (state g old).committed (state g new).now) out);
+    waits = λ within. it.last_is ∙ ap (λ b. cond b (state g old).committed (state g new).now) within;
+  }
+
+  pub went_ok : {T E : Type 0} (P : Type 0) (r : Result T E) → HasCleanDisk (state g new) → OnOk r (Becomes g whole old new (state g new).now × P) → OnOk r (GoesOn g old new × P)
+  went_ok P (Ok x) clean h = (went clean h.0, h.1)
+  went_ok P (Err e) clean h = tt
+
+  pub refused_nothing : IsRefused g whole old new → CommitsNothing g old new
+  refused_nothing (inl it) = (it.was_honest, it.last_is)
+  refused_nothing (inr it) = (it.was_honest, it.last_is)
 
 -- what is committed is what was made
 pub committed_made : {S T E : Type 0} (P : Database → Type 0) (g : Ghosts S) (middle new : Held S) (r : Result T E) → HasCleanDisk (state g new) → P (state g middle).now → OnOk r (Shows g whole middle new (state g middle).now (state g middle).now false)

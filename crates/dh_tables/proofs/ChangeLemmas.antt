@@ -1,25 +1,27 @@
 -- What a change of the lists makes of the world that they spell.
-use Rattle.std.proofs.Common.{◌≡◌, ◌<◌, ◌+◌, Bool, true, false, not, ◌&&◌, cond, List, [], ◌∷◌, ◌++◌, map, filter, find, length, Option, Some, None, IsTrue, is_some, refl, sym, ap, ap₂, ◌∙◌, subst}
+use Rattle.std.proofs.Common.{◌≡◌, ◌+◌, Bool, true, false, not, ◌&&◌, cond, List, [], ◌∷◌, ◌++◌, map, filter, find, length, Option, Some, None, refl, sym, ap, ap₂, ◌∙◌, subst}
 use Rattle.std.specs.Prelude.{option_map}
-use Rattle.std.specs.List.{AllByRecursion}
 use Rattle.std.specs.Str.{bytes_eq}
-use Rattle.std.specs.FinMap.{empty, get, insert, retain_keys, get-insert, same_map}
+use Rattle.std.specs.FinMap.{FinMap, empty, get, insert, retain_keys, get-insert, same_map}
 use Rattle.std.proofs.lemmas.List.{map-append}
 use Rattle.std.proofs.lemmas.Map.Lookups.{exact_bytes}
 use Rattle.std.proofs.lemmas.Slice.Eq.{bytes_eq-Decides}
 use Rattle.dh_rows.specs.Keyed.{by_key, IsFreeKey, added, put}
+use Rattle.dh_versions.specs.declared.version.Version.{Version}
+use Rattle.dh_reply.specs.declared.answer.Page.{Page}
+use Rattle.dh_tables.specs.declared.answer.Answer.{Answer}
 use Rattle.dh_tables.specs.declared.records.ProjectRow.{ProjectRow}
 use Rattle.dh_tables.specs.declared.records.LangRow.{LangRow}
 use Rattle.dh_tables.specs.declared.records.VersionRow.{VersionRow}
 use Rattle.dh_tables.specs.declared.records.PageRow.{PageRow}
 use Rattle.dh_tables.specs.declared.records.UsedRow.{UsedRow}
 use Rattle.dh_tables.specs.Codings as coding
-use Rattle.dh_tables.specs.World.{Text, PageKey, op_code, Project}
-use Rattle.dh_tables.specs.Lists.{Lists, of_host, project_of, world_of, kept_answer, is_project, is_lang_of, is_page_under}
-use Rattle.dh_tables.specs.Rules.{InOrder, has_project, KeepsRules, lies_under}
+use Rattle.dh_tables.specs.World.{Text, text_cmp, PageKey, page_cmp, used_cmp, op_code, Project}
+use Rattle.dh_tables.specs.Lists.{Lists, project_of, world_of, kept_answer, is_project, is_lang_of, is_page_under}
+use Rattle.dh_tables.specs.Rules.{InOrder, languages_of, KeepsRules, lies_under}
 use Rattle.dh_tables.proofs.KeyLemmas.{turned, same_version, page_place, same_page, used_place, used_total, used_exact, same_used}
 use Rattle.dh_tables.proofs.SeenLemmas.{get_project, tied_text, text_total, page_total, page_exact}
-use Rattle.dh_tables.proofs.WorldLemmas.{owned_by}
+use Rattle.dh_tables.proofs.WorldLemmas.{owned_by, languages_are}
 use Rattle.dh_tables.proofs.RuleLemmas.{places_below, langs_with, find_project, none_of_new}
 use Rattle.dh_tables.proofs.RecordLemmas.{found_passes, none_but_added, added_elsewhere, kept_none, kept_of, put_here, put_there, put_free, dropped_here, dropped_there}
 
@@ -35,114 +37,86 @@ world_changed lists next host q here there =
     go name true e = rw e (subst (λ n. option_map (project_of next) (find (is_project n) next.projects) ≡ Some q) ((bytes_eq-Decides host name).0 e) here)
     go name false e = rw e (there name e ∙ sym (get_project lists name))
 
--- the list of projects stays as it is
-pub project_changed : (lists next : Lists) (host : Text) (p q : Project) → next.projects ≡ lists.projects → get (world_of lists) host ≡ Some p
-    → ((r : ProjectRow) → bytes_eq host r.host ≡ false → project_of next r ≡ project_of lists r)
-    → ((r : ProjectRow) → r.host ≡ host → project_of lists r ≡ p → project_of next r ≡ q)
-    → world_of next ≡ insert (world_of lists) host q
-project_changed lists next host p q same was other this =
-    world_changed lists next host q
+-- The list of projects stays as it is. Of each project one part is made of the records of its host, and that part alone changes, at one host.
+pub part_changed : {M : Type 0} (lists next : Lists) (host : Text) (p : Project) (part : Project → M) (set : Project → M → Project) (before after : Text → M) (f : M → M) → next.projects ≡ lists.projects
+    → ((x : Project) → set x (part x) ≡ x) → ((r : ProjectRow) → part (project_of lists r) ≡ before r.host) → ((r : ProjectRow) → project_of next r ≡ set (project_of lists r) (after r.host))
+    → ((name : Text) → bytes_eq host name ≡ false → after name ≡ before name) → after host ≡ f (before host)
+    → get (world_of lists) host ≡ Some p → world_of next ≡ insert (world_of lists) host (set p (f (part p)))
+part_changed lists next host p part set before after f same whole parts turns elsewhere at_host was =
+    world_changed lists next host (set p (f (part p)))
     (ap (λ rows. option_map (project_of next) (find (is_project host) rows)) same ∙ here (find (is_project host) lists.projects) refl (sym (get_project lists host) ∙ was))
     (λ name apart. ap (λ rows. option_map (project_of next) (find (is_project name) rows)) same ∙ there name apart (find (is_project name) lists.projects) refl)
   where
-    here : (o : Option ProjectRow) → find (is_project host) lists.projects ≡ o → option_map (project_of lists) o ≡ Some p → option_map (project_of next) o ≡ Some q
-    here None e f = absurd (cc)
-    here (Some r) e f =
+    here : (o : Option ProjectRow) → find (is_project host) lists.projects ≡ o → option_map (project_of lists) o ≡ Some p → option_map (project_of next) o ≡ Some (set p (f (part p)))
+    here None e g = absurd (cc)
+    here (Some r) e g =
         let old : project_of lists r ≡ p = cc in
-        ap Some (this r ((bytes_eq-Decides r.host host).0 (found_passes (is_project host) lists.projects r e)) old)
+        let named : r.host ≡ host = (bytes_eq-Decides r.host host).0 (found_passes (is_project host) lists.projects r e) in
+        ap Some (turns r ∙ ap (set (project_of lists r)) (ap after named ∙ at_host ∙ ap f (ap before (sym named) ∙ sym (parts r))) ∙ ap (λ x. set x (f (part x))) old)
 
     there : (name : Text) → bytes_eq host name ≡ false → (o : Option ProjectRow) → find (is_project name) lists.projects ≡ o → option_map (project_of next) o ≡ option_map (project_of lists) o
     there name apart None e = refl
     there name apart (Some r) e =
-        let named : name ≡ r.host = sym ((bytes_eq-Decides r.host name).0 (found_passes (is_project name) lists.projects r e)) in
-        ap Some (other r (subst (λ n. bytes_eq host n ≡ false) named apart))
+        let named : r.host ≡ name = (bytes_eq-Decides r.host name).0 (found_passes (is_project name) lists.projects r e) in
+        ap Some (turns r ∙ ap (set (project_of lists r)) (ap after named ∙ elsewhere name apart ∙ ap before (sym named) ∙ sym (parts r)) ∙ whole (project_of lists r))
 
 -- ---- versions
 
-with_versions : (lists : Lists) (rows : List VersionRow) (r : ProjectRow)
-    → project_of (record lists { versions = rows }) r ≡ record (project_of lists r) { versions = kept_of text_total exact_bytes (λ v. v.host) (λ v. v.version.slug) (λ v. v.version) r.host rows }
+abbrev versions_of : List VersionRow → Text → FinMap text_cmp Version
+versions_of rows host = kept_of text_total exact_bytes (λ v. v.host) (λ v. v.version.slug) (λ v. v.version) host rows
+
+with_versions : (lists : Lists) (rows : List VersionRow) (r : ProjectRow) → project_of (record lists { versions = rows }) r ≡ record (project_of lists r) { versions = versions_of rows r.host }
 unfolding project_of
 with_versions lists rows r = refl
 
-versions_of : (lists : Lists) (r : ProjectRow) → (project_of lists r).versions ≡ kept_of text_total exact_bytes (λ v. v.host) (λ v. v.version.slug) (λ v. v.version) r.host lists.versions
+versions_are : (lists : Lists) (r : ProjectRow) → (project_of lists r).versions ≡ versions_of lists.versions r.host
 unfolding project_of
-versions_of lists r = refl
+versions_are lists r = refl
 
 -- a version is put
 pub world_with_version : (lists : Lists) (row : VersionRow) (p : Project) → get (world_of lists) row.host ≡ Some p
     → world_of (record lists { versions = put coding.versions.key row lists.versions })
     ≡ insert (world_of lists) row.host (record p { versions = insert p.versions row.version.slug row.version })
-world_with_version lists row p was = project_changed lists _ row.host p _ refl was other this
-  where
-    next : Lists
-    next = record lists { versions = put coding.versions.key row lists.versions }
-
-    other : (r : ProjectRow) → bytes_eq row.host r.host ≡ false → project_of next r ≡ project_of lists r
-    other r apart =
-        with_versions lists _ r
-        ∙ ap (λ m. record (project_of lists r) { versions = m })
-        (put_there text_total exact_bytes (λ v. v.host) (λ v. v.version.slug) (λ v. v.version) coding.versions.key same_version row r.host lists.versions apart ∙ sym (versions_of lists r))
-
-    this : (r : ProjectRow) → r.host ≡ row.host → project_of lists r ≡ p → project_of next r ≡ record p { versions = insert p.versions row.version.slug row.version }
-    this r e old =
-        with_versions lists _ r
-        ∙ ap (λ m. record (project_of lists r) { versions = m })
-        (put_here text_total exact_bytes (λ v. v.host) (λ v. v.version.slug) (λ v. v.version) coding.versions.key same_version row r.host lists.versions (sym e) ∙ ap (λ m. insert m row.version.slug row.version) (sym (versions_of lists r)))
-        ∙ ap (λ (x : Project). record x { versions = insert x.versions row.version.slug row.version }) old
+world_with_version lists row p =
+    part_changed lists _ row.host p (λ x. x.versions) (λ x m. record x { versions = m })
+    (versions_of lists.versions) (versions_of (put coding.versions.key row lists.versions)) (λ m. insert m row.version.slug row.version)
+    refl (λ x. refl) (versions_are lists) (with_versions lists _)
+    (λ name. put_there text_total exact_bytes (λ v. v.host) (λ v. v.version.slug) (λ v. v.version) coding.versions.key same_version row name lists.versions)
+    (put_here text_total exact_bytes (λ v. v.host) (λ v. v.version.slug) (λ v. v.version) coding.versions.key same_version row row.host lists.versions refl)
 
 -- ---- pages
 
-with_pages : (lists : Lists) (rows : List PageRow) (r : ProjectRow)
-    → project_of (record lists { pages = rows }) r ≡ record (project_of lists r) { pages = kept_of page_total page_exact (λ x. x.host) page_place (λ x. x.page) r.host rows }
+abbrev pages_of : List PageRow → Text → FinMap page_cmp Page
+pages_of rows host = kept_of page_total page_exact (λ x. x.host) page_place (λ x. x.page) host rows
+
+with_pages : (lists : Lists) (rows : List PageRow) (r : ProjectRow) → project_of (record lists { pages = rows }) r ≡ record (project_of lists r) { pages = pages_of rows r.host }
 unfolding project_of
 with_pages lists rows r = refl
 
-pages_of : (lists : Lists) (r : ProjectRow) → (project_of lists r).pages ≡ kept_of page_total page_exact (λ x. x.host) page_place (λ x. x.page) r.host lists.pages
+pages_are : (lists : Lists) (r : ProjectRow) → (project_of lists r).pages ≡ pages_of lists.pages r.host
 unfolding project_of
-pages_of lists r = refl
+pages_are lists r = refl
 
 -- a page is put
 pub world_with_page : (lists : Lists) (row : PageRow) (p : Project) → get (world_of lists) row.host ≡ Some p
     → world_of (record lists { pages = put coding.pages.key row lists.pages })
     ≡ insert (world_of lists) row.host (record p { pages = insert p.pages (row.slug, (row.lang, row.path)) row.page })
-world_with_page lists row p was = project_changed lists _ row.host p _ refl was other this
-  where
-    next : Lists
-    next = record lists { pages = put coding.pages.key row lists.pages }
-
-    other : (r : ProjectRow) → bytes_eq row.host r.host ≡ false → project_of next r ≡ project_of lists r
-    other r apart =
-        with_pages lists _ r
-        ∙ ap (λ m. record (project_of lists r) { pages = m })
-        (put_there page_total page_exact (λ x. x.host) page_place (λ x. x.page) coding.pages.key same_page row r.host lists.pages apart ∙ sym (pages_of lists r))
-
-    this : (r : ProjectRow) → r.host ≡ row.host → project_of lists r ≡ p → project_of next r ≡ record p { pages = insert p.pages (row.slug, (row.lang, row.path)) row.page }
-    this r e old =
-        with_pages lists _ r
-        ∙ ap (λ m. record (project_of lists r) { pages = m })
-        (put_here page_total page_exact (λ x. x.host) page_place (λ x. x.page) coding.pages.key same_page row r.host lists.pages (sym e) ∙ ap (λ m. insert m (page_place row) row.page) (sym (pages_of lists r)))
-        ∙ ap (λ (x : Project). record x { pages = insert x.pages (page_place row) row.page }) old
+world_with_page lists row p =
+    part_changed lists _ row.host p (λ x. x.pages) (λ x m. record x { pages = m })
+    (pages_of lists.pages) (pages_of (put coding.pages.key row lists.pages)) (λ m. insert m (page_place row) row.page)
+    refl (λ x. refl) (pages_are lists) (with_pages lists _)
+    (λ name. put_there page_total page_exact (λ x. x.host) page_place (λ x. x.page) coding.pages.key same_page row name lists.pages)
+    (put_here page_total page_exact (λ x. x.host) page_place (λ x. x.page) coding.pages.key same_page row row.host lists.pages refl)
 
 -- the pages of a host whose keys pass a test are dropped
 pub world_without : (lists : Lists) (host : Text) (p : Project) (test : PageRow → Bool) (q : PageKey → Bool) → ((x : PageRow) → test x ≡ (bytes_eq x.host host && q (x.slug, (x.lang, x.path)))) → get (world_of lists) host ≡ Some p
     → world_of (record lists { pages = filter (λ x. not (test x)) lists.pages }) ≡ insert (world_of lists) host (record p { pages = retain_keys p.pages (λ k. not (q k)) })
-world_without lists host p test q same was = project_changed lists _ host p _ refl was other this
-  where
-    next : Lists
-    next = record lists { pages = filter (λ x. not (test x)) lists.pages }
-
-    other : (r : ProjectRow) → bytes_eq host r.host ≡ false → project_of next r ≡ project_of lists r
-    other r apart =
-        with_pages lists _ r
-        ∙ ap (λ m. record (project_of lists r) { pages = m })
-        (dropped_there page_total page_exact (λ x. x.host) page_place (λ x. x.page) host test q same r.host lists.pages (turned r.host host ∙ apart) ∙ sym (pages_of lists r))
-
-    this : (r : ProjectRow) → r.host ≡ host → project_of lists r ≡ p → project_of next r ≡ record p { pages = retain_keys p.pages (λ k. not (q k)) }
-    this r e old =
-        with_pages lists _ r
-        ∙ ap (λ m. record (project_of lists r) { pages = m })
-        (dropped_here page_total page_exact (λ x. x.host) page_place (λ x. x.page) host test q same r.host lists.pages e ∙ ap (λ m. retain_keys m (λ k. not (q k))) (sym (pages_of lists r)))
-        ∙ ap (λ (x : Project). record x { pages = retain_keys x.pages (λ k. not (q k)) }) old
+world_without lists host p test q same =
+    part_changed lists _ host p (λ x. x.pages) (λ x m. record x { pages = m })
+    (pages_of lists.pages) (pages_of (filter (λ x. not (test x)) lists.pages)) (λ m. retain_keys m (λ k. not (q k)))
+    refl (λ x. refl) (pages_are lists) (with_pages lists _)
+    (λ name apart. dropped_there page_total page_exact (λ x. x.host) page_place (λ x. x.page) host test q same name lists.pages (turned name host ∙ apart))
+    (dropped_here page_total page_exact (λ x. x.host) page_place (λ x. x.page) host test q same host lists.pages refl)
 
 -- the pages of a version are dropped, in one language or in all
 pub world_without_pages : (lists : Lists) (host slug : Text) (lang : Option Text) (p : Project) → get (world_of lists) host ≡ Some p
@@ -157,82 +131,50 @@ world_without_pages lists host slug (Some lang) p =
 
 -- ---- used keys
 
-with_used : (lists : Lists) (rows : List UsedRow) (r : ProjectRow)
-    → project_of (record lists { used = rows }) r ≡ record (project_of lists r) { used = kept_of used_total used_exact (λ u. u.host) used_place kept_answer r.host rows }
+abbrev used_of : List UsedRow → Text → FinMap used_cmp Answer
+used_of rows host = kept_of used_total used_exact (λ u. u.host) used_place kept_answer host rows
+
+with_used : (lists : Lists) (rows : List UsedRow) (r : ProjectRow) → project_of (record lists { used = rows }) r ≡ record (project_of lists r) { used = used_of rows r.host }
 unfolding project_of
 with_used lists rows r = refl
 
-used_of : (lists : Lists) (r : ProjectRow) → (project_of lists r).used ≡ kept_of used_total used_exact (λ u. u.host) used_place kept_answer r.host lists.used
+used_are : (lists : Lists) (r : ProjectRow) → (project_of lists r).used ≡ used_of lists.used r.host
 unfolding project_of
-used_of lists r = refl
+used_are lists r = refl
+
+-- an answer is put under its retry key
+used_put : (lists : Lists) (row : UsedRow) (p : Project) → get (world_of lists) row.host ≡ Some p
+    → world_of (record lists { used = put coding.used.key row lists.used }) ≡ insert (world_of lists) row.host (record p { used = insert p.used (used_place row) (kept_answer row) })
+used_put lists row p =
+    part_changed lists _ row.host p (λ x. x.used) (λ x m. record x { used = m })
+    (used_of lists.used) (used_of (put coding.used.key row lists.used)) (λ m. insert m (used_place row) (kept_answer row))
+    refl (λ x. refl) (used_are lists) (with_used lists _)
+    (λ name. put_there used_total used_exact (λ u. u.host) used_place kept_answer coding.used.key same_used row name lists.used)
+    (put_here used_total used_exact (λ u. u.host) used_place kept_answer coding.used.key same_used row row.host lists.used refl)
 
 -- the answer to a retry key that was free is kept
 pub world_with_used : (lists : Lists) (row : UsedRow) (p : Project) → IsFreeKey coding.used.key row lists.used → get (world_of lists) row.host ≡ Some p
     → world_of (record lists { used = added coding.used.key row lists.used })
     ≡ insert (world_of lists) row.host (record p { used = insert p.used (row.slug, (op_code row.op, row.retry)) (kept_answer row) })
-world_with_used lists row p free was = project_changed lists _ row.host p _ refl was other this
-  where
-    next : Lists
-    next = record lists { used = added coding.used.key row lists.used }
-
-    changed : (r : ProjectRow) → project_of next r ≡ record (project_of lists r) { used = kept_of used_total used_exact (λ u. u.host) used_place kept_answer r.host (put coding.used.key row lists.used) }
-    changed r = with_used lists _ r ∙ ap (λ rows. record (project_of lists r) { used = kept_of used_total used_exact (λ u. u.host) used_place kept_answer r.host rows }) (sym (put_free coding.used.key row lists.used free))
-
-    other : (r : ProjectRow) → bytes_eq row.host r.host ≡ false → project_of next r ≡ project_of lists r
-    other r apart =
-        changed r
-        ∙ ap (λ m. record (project_of lists r) { used = m })
-        (put_there used_total used_exact (λ u. u.host) used_place kept_answer coding.used.key same_used row r.host lists.used apart ∙ sym (used_of lists r))
-
-    this : (r : ProjectRow) → r.host ≡ row.host → project_of lists r ≡ p → project_of next r ≡ record p { used = insert p.used (used_place row) (kept_answer row) }
-    this r e old =
-        changed r
-        ∙ ap (λ m. record (project_of lists r) { used = m })
-        (put_here used_total used_exact (λ u. u.host) used_place kept_answer coding.used.key same_used row r.host lists.used (sym e) ∙ ap (λ m. insert m (used_place row) (kept_answer row)) (sym (used_of lists r)))
-        ∙ ap (λ (x : Project). record x { used = insert x.used (used_place row) (kept_answer row) }) old
+world_with_used lists row p free was = ap (λ rows. world_of (record lists { used = rows })) (sym (put_free coding.used.key row lists.used free)) ∙ used_put lists row p was
 
 -- ---- languages
 
-spoken : Text → List LangRow → List Text
-spoken host rows = map (λ l. l.lang) (filter (is_lang_of host) rows)
-
-with_langs : (lists : Lists) (rows : List LangRow) (r : ProjectRow) → project_of (record lists { langs = rows }) r ≡ record (project_of lists r) { languages = spoken r.host rows }
-unfolding project_of spoken
-with_langs lists rows r = refl
-
-with_more : (lists : Lists) (more : List ProjectRow) (rows : List LangRow) (r : ProjectRow) → project_of (record lists { projects = more; langs = rows }) r ≡ record (project_of lists r) { languages = spoken r.host rows }
-unfolding project_of spoken
-with_more lists more rows r = refl
-
-langs_of : (lists : Lists) (r : ProjectRow) → (project_of lists r).languages ≡ spoken r.host lists.langs
-unfolding project_of spoken
-langs_of lists r = refl
-
-spoken_there : (row : LangRow) (rows : List LangRow) (host : Text) → bytes_eq row.host host ≡ false → spoken host (added coding.langs.key row rows) ≡ spoken host rows
-unfolding spoken
-spoken_there row rows host apart = ap (map (λ l. l.lang)) (added_elsewhere (by_key coding.langs.key) (is_lang_of host) row rows apart)
-
-spoken_here : (row : LangRow) (rows : List LangRow) → InOrder coding.langs.key rows → AllByRecursion (λ l. is_lang_of row.host l ≡ true → l.place < row.place) rows → spoken row.host (added coding.langs.key row rows) ≡ spoken row.host rows ++ row.lang ∷ []
-unfolding spoken
-spoken_here row rows up behind = ap (map (λ l. l.lang)) (langs_with row rows up behind) ∙ map-append (λ l. l.lang) (filter (is_lang_of row.host) rows) (row ∷ [])
+with_langs : (lists : Lists) (more : List ProjectRow) (rows : List LangRow) (r : ProjectRow)
+    → project_of (record lists { projects = more; langs = rows }) r ≡ record (project_of lists r) { languages = map (λ l. l.lang) (filter (is_lang_of r.host) rows) }
+unfolding project_of
+with_langs lists more rows r = refl
 
 -- a language is added behind those of its project
 pub world_with_lang : (lists : Lists) (row : LangRow) (p : Project) → KeepsRules lists → InOrder coding.langs.key lists.langs → row.place ≡ length (filter (is_lang_of row.host) lists.langs) + 1 → get (world_of lists) row.host ≡ Some p
     → world_of (record lists { langs = added coding.langs.key row lists.langs }) ≡ insert (world_of lists) row.host (record p { languages = p.languages ++ row.lang ∷ [] })
-world_with_lang lists row p rules up last was = project_changed lists _ row.host p _ refl was other this
-  where
-    next : Lists
-    next = record lists { langs = added coding.langs.key row lists.langs }
-
-    other : (r : ProjectRow) → bytes_eq row.host r.host ≡ false → project_of next r ≡ project_of lists r
-    other r apart = with_langs lists _ r ∙ ap (λ l. record (project_of lists r) { languages = l }) (spoken_there row lists.langs r.host apart ∙ sym (langs_of lists r))
-
-    this : (r : ProjectRow) → r.host ≡ row.host → project_of lists r ≡ p → project_of next r ≡ record p { languages = p.languages ++ row.lang ∷ [] }
-    this r e old =
-        with_langs lists _ r
-        ∙ ap (λ l. record (project_of lists r) { languages = l })
-        (ap (λ h. spoken h (added coding.langs.key row lists.langs)) e ∙ spoken_here row lists.langs up (places_below lists row rules (owned_by lists row.host p was) last) ∙ ap (λ l. l ++ row.lang ∷ []) (ap (λ h. spoken h lists.langs) (sym e) ∙ sym (langs_of lists r)))
-        ∙ ap (λ (x : Project). record x { languages = x.languages ++ row.lang ∷ [] }) old
+world_with_lang lists row p rules up last was =
+    part_changed lists _ row.host p (λ x. x.languages) (λ x l. record x { languages = l })
+    (languages_of lists) (λ host. map (λ l. l.lang) (filter (is_lang_of host) (added coding.langs.key row lists.langs))) (λ l. l ++ row.lang ∷ [])
+    refl (λ x. refl) (languages_are lists) (with_langs lists lists.projects _)
+    (λ name apart. ap (map (λ l. l.lang)) (added_elsewhere (by_key coding.langs.key) (is_lang_of name) row lists.langs apart))
+    (ap (map (λ l. l.lang)) (langs_with row lists.langs up (places_below lists row rules (owned_by lists row.host p was) last)) ∙ map-append (λ l. l.lang) (filter (is_lang_of row.host) lists.langs) (row ∷ []))
+    was
 
 -- ---- projects
 
@@ -244,14 +186,13 @@ abbrev begun : Lists → ProjectRow → LangRow → Lists
 begun lists row lang = record lists { projects = added coding.projects.key row lists.projects; langs = added coding.langs.key lang lists.langs }
 
 module _ (lists : Lists) (row : ProjectRow) (lang : LangRow) (rules : KeepsRules lists) (new : find (is_project row.host) lists.projects ≡ None) (home : lang.host ≡ row.host) (main : lang.lang ≡ row.main) where
-  alone : spoken row.host (added coding.langs.key lang lists.langs) ≡ row.main ∷ []
-  unfolding spoken
+  alone : map (λ l. l.lang) (filter (is_lang_of row.host) (added coding.langs.key lang lists.langs)) ≡ row.main ∷ []
   alone =
       ap (map (λ l. l.lang)) (none_but_added (by_key coding.langs.key) (is_lang_of row.host) lang lists.langs ((bytes_eq-Decides lang.host row.host).1 home) (none_of_new (λ l. l.host) lists.langs lists row.host new rules.langs))
       ∙ ap (λ t. t ∷ []) main
 
   begins : project_of (begun lists row lang) row ≡ fresh row
-  unfolding project_of spoken
+  unfolding project_of
   begins = λ i. record {
     languages = alone i;
     branch = row.branch;
@@ -279,8 +220,9 @@ module _ (lists : Lists) (row : ProjectRow) (lang : LangRow) (rules : KeepsRules
       go None e = refl
       go (Some r) e =
           let named : r.host ≡ name = (bytes_eq-Decides r.host name).0 (found_passes (is_project name) lists.projects r e) in
-          ap Some (with_more lists (added coding.projects.key row lists.projects) (added coding.langs.key lang lists.langs) r
-          ∙ ap (λ l. record (project_of lists r) { languages = l }) (spoken_there lang lists.langs r.host (ap₂ bytes_eq home named ∙ apart) ∙ sym (langs_of lists r)))
+          let other = added_elsewhere (by_key coding.langs.key) (is_lang_of r.host) lang lists.langs (ap₂ bytes_eq home named ∙ apart) in
+          ap Some (with_langs lists (added coding.projects.key row lists.projects) (added coding.langs.key lang lists.langs) r
+          ∙ ap (λ l. record (project_of lists r) { languages = l }) (ap (map (λ l. l.lang)) other ∙ sym (languages_are lists r)))
 
 -- a project is added, with its main language
 pub world_with_project : (lists : Lists) (row : ProjectRow) (lang : LangRow) → KeepsRules lists → find (is_project row.host) lists.projects ≡ None → lang.host ≡ row.host → lang.lang ≡ row.main

@@ -1,6 +1,5 @@
 -- The keys of projects, languages and used keys: when two records have one key, and which free keys a search shows.
-use Rattle.std.proofs.Common.{◌≡◌, ℕ, ◌<◌, pos, Bool, true, false, ◌&&◌, cond, List, [], ◌∷◌, find, None, refl, sym, ap, ◌∙◌, arith, Ordering, Less, Equal, Greater, is_eq}
-use Rattle.std.specs.List.{AllByRecursion}
+use Rattle.std.proofs.Common.{◌≡◌, ℕ, ◌<◌, pos, Bool, true, false, ◌&&◌, List, find, None, refl, sym, ap, ◌∙◌, arith, Ordering, Less, Equal, Greater, is_eq}
 use Rattle.std.specs.Str.{bytes_eq}
 use Rattle.std.specs.Ordering.{eq_by_cmp, ordering_then, nat_cmp}
 use Rattle.std.specs.Cmp.{IsTotalOrder, nat_cmp_total, eq_by_cmp_equiv}
@@ -10,7 +9,7 @@ use Rattle.std.proofs.lemmas.Cmp.{on_total, then_total}
 use Rattle.std.proofs.lemmas.Map.Lookups.{exact_bytes, exact_pairs, exact_unsigned}
 use Rattle.std.proofs.lemmas.Map.Text.{is_eq-slice_cmp}
 use Rattle.sqlite_value.specs.declared.value.Value.TheVariants.{Text, Int}
-use Rattle.sqlite_value.specs.Order.{Row, value_cmp}
+use Rattle.sqlite_value.specs.Order.{value_cmp}
 use Rattle.sqlite_value.proofs.OrderLemmas.{value_cmp-Text, value_cmp-Int, then-Equal}
 use Rattle.sqlite_keyed.proofs.ListLemmas.{all_weaker}
 use Rattle.dh_rows.specs.Keyed.{by_key, same_key, flag, IsFreeKey}

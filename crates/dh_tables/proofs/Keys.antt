@@ -8,7 +8,7 @@ use Rattle.std.specs.Str.{bytes_eq}
 use Rattle.sqlite_value.specs.declared.value.Value.TheVariants.{Text}
 use Rattle.sqlite_value.specs.Order.{Row, value_cmp}
 use Rattle.sqlite_value.proofs.OrderLemmas.{value_cmp-Text}
-use Rattle.dh_rows.specs.Keyed.{same_key, IsFreeKey, added, put}
+use Rattle.dh_rows.specs.Keyed.{same_key, IsFreeKey}
 use Rattle.dh_tables.specs.declared.records.VersionRow.{VersionRow}
 use Rattle.dh_tables.specs.declared.records.PageRow.{PageRow}
 use Rattle.dh_tables.specs.Codings.{versions, pages}
@@ -50,6 +50,3 @@ free_after key x test same (y ∷ ys) = go (test y) (same y) (free_after key x t
     go : (b : Bool) → same_key key x y ≡ b → IsFreeKey key x (filter (λ z. not (test z)) ys) → IsFreeKey key x (cond (not b) (y ∷ filter (λ z. not (test z)) ys) (filter (λ z. not (test z)) ys))
     go true e more = more
     go false e more = (e, more)
-
-pub put_is : {X : Type 0} (key : X → Row) (x : X) (test : X → Bool) → ((y : X) → same_key key x y ≡ test y) → (xs : List X) → added key x (filter (λ y. not (test y)) xs) ≡ put key x xs
-put_is key x test same xs = λ i. added key x (filter (λ y. not (sym (same y) i)) xs)

@@ -6,6 +6,7 @@ pub mod Statements
 pub mod Keys
 pub mod Made
 pub mod Finding
+pub mod Known
 pub mod SeenLemmas
 pub mod RecordLemmas
 pub mod KeyLemmas
@@ -13,3 +14,6 @@ pub mod OrderLemmas
 pub mod RuleLemmas
 pub mod WorldLemmas
 pub mod ChangeLemmas
+pub mod ViewLemmas
+pub mod SlugOrder
+pub mod Shown

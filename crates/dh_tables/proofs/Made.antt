@@ -16,7 +16,7 @@ use Rattle.dh_tables.specs.Lists.{world_of}
 use Rattle.sqlite.specs.State.{State}
 use Rattle.dh_rows.specs.Calls.{Edits}
 use Rattle.dh_rows.specs.Keyed.{Coding, IsTableOf, records, added}
-use Rattle.dh_rows.specs.Places.{IsFree, IsUnmentioned, Stands, Keeps, rows_of}
+use Rattle.dh_rows.specs.Places.{IsFree, IsUnmentioned, ArePlaced, Stands, Keeps, rows_of}
 use Rattle.dh_rows.proofs.Asks.{Writes, insert}
 use Rattle.dh_rows.proofs.Create.{IsCreate, makes, Makes, Creates, creates, free_kept, unmentioned_kept}
 use Rattle.dh_rows.proofs.Effects.{IsSimple, other_keeps}
@@ -47,7 +47,7 @@ module _ (t : Table) (plain : t.references ≡ []) (db after : Database) (m : Ma
 
   -- one more table is made
   one_more : (done left : List Table) → IsReady done (t ∷ left) db → AllByRecursion (Spares t) left → IsReady (t ∷ done) left after
-  one_more done left r spares = record { standing = ((m.stands, m.empty), stay done r.standing); free = wait r.free.0.1 left spares r.free.1; counted = m.counted }
+  one_more done left r spares = record { standing = ((m.stands, m.empty), stay done r.standing); free = wait r.free.0.1 left spares r.free.1; counted = m.counted; placed = m.placed }
 
 -- ---- meta
 
@@ -63,7 +63,7 @@ unfolding everything
 meta_spares = ((refl, λ tree. tt), ((refl, λ tree. tt), ((refl, λ tree. tt), ((refl, λ tree. tt), ((refl, λ tree. tt), tt)))))
 
 pub make_meta_asks : (s : State) → IsReady ([]) (meta_table ∷ project_table ∷ lang_table ∷ version_table ∷ page_table ∷ used_table ∷ []) s.now → Creates s make_meta_text meta_table
-make_meta_asks s r = creates meta_table make_meta_text make_meta_read refl refl s r.free.0.0 r.free.0.1 r.counted
+make_meta_asks s r = creates meta_table make_meta_text make_meta_read refl refl tt s r.free.0.0 r.free.0.1 r.counted r.placed
 
 pub make_meta_makes : (s : State) → IsReady ([]) (meta_table ∷ project_table ∷ lang_table ∷ version_table ∷ page_table ∷ used_table ∷ []) s.now → (after : Database) → Edits s make_meta_text [] after → IsReady (meta_table ∷ []) (project_table ∷ lang_table ∷ version_table ∷ page_table ∷ used_table ∷ []) after
 make_meta_makes s r after it = one_more meta_table refl s.now after ((make_meta_asks s r).made after it) ([]) (project_table ∷ lang_table ∷ version_table ∷ page_table ∷ used_table ∷ []) r meta_spares
@@ -82,7 +82,7 @@ unfolding everything
 project_spares = ((refl, λ tree. (refl, tt)), ((refl, λ tree. (refl, tt)), ((refl, λ tree. (refl, tt)), ((refl, λ tree. (refl, tt)), tt))))
 
 pub make_project_asks : (s : State) → IsReady (meta_table ∷ []) (project_table ∷ lang_table ∷ version_table ∷ page_table ∷ used_table ∷ []) s.now → Creates s make_project_text project_table
-make_project_asks s r = creates project_table make_project_text make_project_read refl refl s r.free.0.0 r.free.0.1 r.counted
+make_project_asks s r = creates project_table make_project_text make_project_read refl refl (refl, tt) s r.free.0.0 r.free.0.1 r.counted r.placed
 
 pub make_project_makes : (s : State) → IsReady (meta_table ∷ []) (project_table ∷ lang_table ∷ version_table ∷ page_table ∷ used_table ∷ []) s.now → (after : Database) → Edits s make_project_text [] after → IsReady (project_table ∷ meta_table ∷ []) (lang_table ∷ version_table ∷ page_table ∷ used_table ∷ []) after
 make_project_makes s r after it = one_more project_table refl s.now after ((make_project_asks s r).made after it) (meta_table ∷ []) (lang_table ∷ version_table ∷ page_table ∷ used_table ∷ []) r project_spares
@@ -101,7 +101,7 @@ unfolding everything
 lang_spares = ((refl, λ tree. (refl, tt)), ((refl, λ tree. (refl, tt)), ((refl, λ tree. (refl, tt)), tt)))
 
 pub make_lang_asks : (s : State) → IsReady (project_table ∷ meta_table ∷ []) (lang_table ∷ version_table ∷ page_table ∷ used_table ∷ []) s.now → Creates s make_lang_text lang_table
-make_lang_asks s r = creates lang_table make_lang_text make_lang_read refl refl s r.free.0.0 r.free.0.1 r.counted
+make_lang_asks s r = creates lang_table make_lang_text make_lang_read refl refl (refl, tt) s r.free.0.0 r.free.0.1 r.counted r.placed
 
 pub make_lang_makes : (s : State) → IsReady (project_table ∷ meta_table ∷ []) (lang_table ∷ version_table ∷ page_table ∷ used_table ∷ []) s.now → (after : Database) → Edits s make_lang_text [] after → IsReady (lang_table ∷ project_table ∷ meta_table ∷ []) (version_table ∷ page_table ∷ used_table ∷ []) after
 make_lang_makes s r after it = one_more lang_table refl s.now after ((make_lang_asks s r).made after it) (project_table ∷ meta_table ∷ []) (version_table ∷ page_table ∷ used_table ∷ []) r lang_spares
@@ -120,7 +120,7 @@ unfolding everything
 version_spares = ((refl, λ tree. (refl, tt)), ((refl, λ tree. (refl, tt)), tt))
 
 pub make_version_asks : (s : State) → IsReady (lang_table ∷ project_table ∷ meta_table ∷ []) (version_table ∷ page_table ∷ used_table ∷ []) s.now → Creates s make_version_text version_table
-make_version_asks s r = creates version_table make_version_text make_version_read refl refl s r.free.0.0 r.free.0.1 r.counted
+make_version_asks s r = creates version_table make_version_text make_version_read refl refl (refl, tt) s r.free.0.0 r.free.0.1 r.counted r.placed
 
 pub make_version_makes : (s : State) → IsReady (lang_table ∷ project_table ∷ meta_table ∷ []) (version_table ∷ page_table ∷ used_table ∷ []) s.now → (after : Database) → Edits s make_version_text [] after → IsReady (version_table ∷ lang_table ∷ project_table ∷ meta_table ∷ []) (page_table ∷ used_table ∷ []) after
 make_version_makes s r after it = one_more version_table refl s.now after ((make_version_asks s r).made after it) (lang_table ∷ project_table ∷ meta_table ∷ []) (page_table ∷ used_table ∷ []) r version_spares
@@ -139,7 +139,7 @@ unfolding everything
 page_spares = ((refl, λ tree. (refl, tt)), tt)
 
 pub make_page_asks : (s : State) → IsReady (version_table ∷ lang_table ∷ project_table ∷ meta_table ∷ []) (page_table ∷ used_table ∷ []) s.now → Creates s make_page_text page_table
-make_page_asks s r = creates page_table make_page_text make_page_read refl refl s r.free.0.0 r.free.0.1 r.counted
+make_page_asks s r = creates page_table make_page_text make_page_read refl refl (refl, tt) s r.free.0.0 r.free.0.1 r.counted r.placed
 
 pub make_page_makes : (s : State) → IsReady (version_table ∷ lang_table ∷ project_table ∷ meta_table ∷ []) (page_table ∷ used_table ∷ []) s.now → (after : Database) → Edits s make_page_text [] after → IsReady (page_table ∷ version_table ∷ lang_table ∷ project_table ∷ meta_table ∷ []) (used_table ∷ []) after
 make_page_makes s r after it = one_more page_table refl s.now after ((make_page_asks s r).made after it) (version_table ∷ lang_table ∷ project_table ∷ meta_table ∷ []) (used_table ∷ []) r page_spares
@@ -158,7 +158,7 @@ unfolding everything
 used_spares = tt
 
 pub make_used_asks : (s : State) → IsReady (page_table ∷ version_table ∷ lang_table ∷ project_table ∷ meta_table ∷ []) (used_table ∷ []) s.now → Creates s make_used_text used_table
-make_used_asks s r = creates used_table make_used_text make_used_read refl refl s r.free.0.0 r.free.0.1 r.counted
+make_used_asks s r = creates used_table make_used_text make_used_read refl refl (refl, tt) s r.free.0.0 r.free.0.1 r.counted r.placed
 
 pub make_used_makes : (s : State) → IsReady (page_table ∷ version_table ∷ lang_table ∷ project_table ∷ meta_table ∷ []) (used_table ∷ []) s.now → (after : Database) → Edits s make_used_text [] after → IsReady (used_table ∷ page_table ∷ version_table ∷ lang_table ∷ project_table ∷ meta_table ∷ []) ([]) after
 make_used_makes s r after it = one_more used_table refl s.now after ((make_used_asks s r).made after it) (page_table ∷ version_table ∷ lang_table ∷ project_table ∷ meta_table ∷ []) ([]) r used_spares
@@ -238,6 +238,7 @@ all_ready db e = record {
   standing = tt;
   free = (fresh meta_table db e, (fresh project_table db e, (fresh lang_table db e, (fresh version_table db e, (fresh page_table db e, (fresh used_table db e, tt))))));
   counted = subst (λ d. lacks_sequence d ≡ false) (sym e) refl;
+  placed = subst ArePlaced (sym e) tt;
 }
 
 pub world_empty : world_of no_lists ≡ empty

@@ -260,9 +260,15 @@ find_project row rows host new =
 apart_from_new : (lists : Lists) (host : Text) → find (is_project host) lists.projects ≡ None → (h : Text) → IsTrue (has_project lists h) → bytes_eq h host ≡ false
 apart_from_new lists host new h has = false_from_ne_true _ (λ e. true≢false (sym has ∙ ap (has_project lists) ((bytes_eq-Decides h host).0 e) ∙ ap is_some new))
 
+-- no record lies under a host that has no project
 pub none_of_new : {A : Type 0} (host_of : A → Text) (rows : List A) (lists : Lists) (host : Text) → find (is_project host) lists.projects ≡ None → AllByRecursion (λ a. IsTrue (has_project lists (host_of a))) rows
     → AllByRecursion (λ a. bytes_eq (host_of a) host ≡ false) rows
 none_of_new host_of rows lists host new has = all_weaker _ (λ a. bytes_eq (host_of a) host ≡ false) (λ a. apart_from_new lists host new (host_of a)) rows has
+
+-- the place of the first language of a new project is free
+pub first_lang_is_free : (lists : Lists) (lang : LangRow) → KeepsRules lists → find (is_project lang.host) lists.projects ≡ None → IsFreeKey coding.langs.key lang lists.langs
+first_lang_is_free lists lang rules new =
+    all_weaker _ (λ l. same_key coding.langs.key lang l ≡ false) (lang_elsewhere lang) lists.langs (none_of_new (λ l. l.host) lists.langs lists lang.host new rules.langs)
 
 one_language : (main : Text) (row : LangRow) → row.lang ≡ main → row.place ≡ 1 → AreLanguages main (row ∷ [])
 unfolding IsDistinct

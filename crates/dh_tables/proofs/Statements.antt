@@ -3,16 +3,20 @@ use Rattle.std.proofs.Common.{◌≡◌, ℕ, ℤ, List, [], ◌∷◌, map, fil
 use Rattle.std.specs.Str.{bytes_eq}
 use Rattle.sqlite_schema.specs.Names.{same_name}
 use Rattle.sqlite_value.specs.declared.value.Value.TheVariants.{Null, Int, Text}
-use Rattle.sqlite_sql.specs.Term.{lit, col}
+use Rattle.sqlite_value.specs.Keys.{first_key}
+use Rattle.std.proofs.lemmas.Bool.{and_parts}
+use Rattle.sqlite_sql.specs.Term.{Term, lit, col}
 use Rattle.sqlite_schema.specs.declared.schema.Schema.{Schema}
 use Rattle.sqlite_tied.specs.Compute.{everything}
 use Rattle.sqlite.specs.Effect.{Database}
 use Rattle.sqlite.specs.State.{State}
-use Rattle.dh_rows.specs.Keyed.{IsFreeKey, added, flag}
+use Rattle.dh_rows.specs.Keyed.{IsFreeKey, added, put, flag}
 use Rattle.dh_rows.proofs.Effects.{IsSimple, Turns, other_keeps}
 use Rattle.dh_rows.proofs.Texts.{ArePlain}
 use Rattle.dh_rows.proofs.Read.{delete_of, select_of, insert_of}
-use Rattle.dh_rows.proofs.Asks.{Writes, Answers, delete, insert, select}
+use Rattle.dh_rows.proofs.Asks.{Writes, Answers, delete, insert, upsert, select}
+use Rattle.dh_rows.proofs.Equal.{tied_is, alike_text, equal_text as same_text}
+use Rattle.dh_rows.proofs.Upsert.{IsUpsert, puts, IsKeyOf, Fits}
 use Rattle.dh_tables.specs.declared.records.ProjectRow.{ProjectRow}
 use Rattle.dh_tables.specs.declared.records.LangRow.{LangRow}
 use Rattle.dh_tables.specs.declared.records.VersionRow.{VersionRow}
@@ -330,34 +334,6 @@ pub add_lang_changes : (s : State) → Holds s.now → (x : LangRow) → IsFreeK
     → Changed s.now after (λ l. record l { langs = added langs.key x l.langs })
 add_lang_changes s had x free after it = lang_changed s.now after (added langs.key x) had ((add_lang_writes s had x free).turns after it)
 
-abbrev pub add_version_text : List ℕ
-add_version_text = codes "INSERT INTO version VALUES (?1, ?2, ?3, ?4, ?5, ?6, ?7)"
-
-add_version_read : (schema : Schema) (tree : ℕ) → insert_of schema (record version_table { tree = tree }) add_version_text ≡ Some (lit Null ∷ col 0 0 ∷ col 0 1 ∷ col 0 2 ∷ col 0 3 ∷ col 0 4 ∷ col 0 5 ∷ col 0 6 ∷ [], 8)
-unfolding everything
-add_version_read schema tree = refl
-
-pub add_version_writes : (s : State) → Holds s.now → (x : VersionRow) → IsFreeKey versions.key x (lists_of s.now).versions → Writes s add_version_text (versions.encode x) version_table versions (added versions.key x)
-add_version_writes s had x free = insert version_table version_simple version_plain versions s had.versions add_version_text _ _ (add_version_read _ _) x (version_back x) (tt, (tt, (tt, (tt, (tt, (tt, (tt, tt))))))) refl free
-
-pub add_version_changes : (s : State) → Holds s.now → (x : VersionRow) → IsFreeKey versions.key x (lists_of s.now).versions → (after : Database) → Rattle.dh_rows.specs.Calls.Edits s add_version_text (versions.encode x) after
-    → Changed s.now after (λ l. record l { versions = added versions.key x l.versions })
-add_version_changes s had x free after it = version_changed s.now after (added versions.key x) had ((add_version_writes s had x free).turns after it)
-
-abbrev pub add_page_text : List ℕ
-add_page_text = codes "INSERT INTO page VALUES (?1, ?2, ?3, ?4, ?5, ?6)"
-
-add_page_read : (schema : Schema) (tree : ℕ) → insert_of schema (record page_table { tree = tree }) add_page_text ≡ Some (lit Null ∷ col 0 0 ∷ col 0 1 ∷ col 0 2 ∷ col 0 3 ∷ col 0 4 ∷ col 0 5 ∷ [], 7)
-unfolding everything
-add_page_read schema tree = refl
-
-pub add_page_writes : (s : State) → Holds s.now → (x : PageRow) → IsFreeKey pages.key x (lists_of s.now).pages → Writes s add_page_text (pages.encode x) page_table pages (added pages.key x)
-add_page_writes s had x free = insert page_table page_simple page_plain pages s had.pages add_page_text _ _ (add_page_read _ _) x (page_back x) (tt, (tt, (tt, (tt, (tt, (tt, tt)))))) refl free
-
-pub add_page_changes : (s : State) → Holds s.now → (x : PageRow) → IsFreeKey pages.key x (lists_of s.now).pages → (after : Database) → Rattle.dh_rows.specs.Calls.Edits s add_page_text (pages.encode x) after
-    → Changed s.now after (λ l. record l { pages = added pages.key x l.pages })
-add_page_changes s had x free after it = page_changed s.now after (added pages.key x) had ((add_page_writes s had x free).turns after it)
-
 abbrev pub keep_text : List ℕ
 keep_text = codes "INSERT INTO used VALUES (?1, ?2, ?3, ?4, ?5)"
 
@@ -400,30 +376,72 @@ pub drop_pages_in_changes : (s : State) → Holds s.now → (host slug lang : Li
     → Changed s.now after (λ l. record l { pages = filter (λ x. not (is_page_in host slug lang x)) l.pages })
 drop_pages_in_changes s had host slug lang after it = page_changed s.now after (filter (λ x. not (is_page_in host slug lang x))) had ((drop_pages_in_writes s had host slug lang).turns after it)
 
-abbrev pub drop_page_text : List ℕ
-drop_page_text = codes "DELETE FROM page WHERE host = ?1 AND slug = ?2 AND lang = ?3 AND path = ?4"
+-- ---- records put in place of those with their keys
 
-drop_page_read : delete_of page_table drop_page_text ≡ Some ((0, 0) ∷ (1, 1) ∷ (2, 2) ∷ (3, 3) ∷ [])
+version_key : IsKeyOf version_table (1 ∷ 2 ∷ [])
+version_key = record { primary = refl; uniques = refl; apart = refl; own = refl; among = refl }
+
+abbrev pub put_version_text : List ℕ
+put_version_text = codes "INSERT INTO version VALUES (?1, ?2, ?3, ?4, ?5, ?6, ?7) ON CONFLICT (host, slug) DO UPDATE SET name = ?3, kind = ?4, active = ?5, hidden = ?6, private = ?7"
+
+abbrev put_version_new : List Term
+put_version_new = col 1 0 ∷ col 1 0 ∷ col 1 1 ∷ col 1 2 ∷ col 0 2 ∷ col 0 3 ∷ col 0 4 ∷ col 0 5 ∷ col 0 6 ∷ []
+
+put_version_read : (schema : Schema) (tree : ℕ) → IsUpsert schema version_table tree put_version_text (lit Null ∷ col 0 0 ∷ col 0 1 ∷ col 0 2 ∷ col 0 3 ∷ col 0 4 ∷ col 0 5 ∷ col 0 6 ∷ []) 8 7 put_version_new
 unfolding everything
-drop_page_read = refl
+put_version_read schema tree = puts refl refl refl refl refl refl refl refl (λ cx. refl)
 
-pub drop_page_writes : (s : State) → Holds s.now → (host slug lang path : List ℕ) → Writes s drop_page_text (Text host ∷ Text slug ∷ Text lang ∷ Text path ∷ []) page_table pages (filter (λ x. not (is_page host slug lang path x)))
-drop_page_writes s had host slug lang path = delete page_table page_simple page_plain pages s had.pages drop_page_text _ drop_page_read _ (is_page host slug lang path) (λ n x. rw (equal_text x.host host, equal_text x.slug slug, equal_text x.lang lang, equal_text x.path path) (four (bytes_eq x.host host) (bytes_eq x.slug slug) (bytes_eq x.lang lang) (bytes_eq x.path path)))
+put_version_fits : (x : VersionRow) → Fits version_table versions x (1 ∷ 2 ∷ []) 7 put_version_new
+unfolding first_key
+put_version_fits x = record {
+  back = version_back x;
+  kinds = (tt, (tt, (tt, (tt, (tt, (tt, (tt, tt)))))));
+  agrees = λ n m y. rw (same_text y.host x.host, same_text y.version.slug x.version.slug) (tied_is (versions.key x) (versions.key y));
+  placed = λ id more. refl;
+  shows = λ n more y same.
+      let host = and_parts _ _ (tied_is (versions.key x) (versions.key y) ∙ same) in
+      let slug = and_parts _ _ host.1 in
+      rw (alike_text y.host x.host host.0, alike_text y.version.slug x.version.slug slug.0) refl;
+}
 
-pub drop_page_changes : (s : State) → Holds s.now → (host slug lang path : List ℕ) → (after : Database) → Rattle.dh_rows.specs.Calls.Edits s drop_page_text (Text host ∷ Text slug ∷ Text lang ∷ Text path ∷ []) after
-    → Changed s.now after (λ l. record l { pages = filter (λ x. not (is_page host slug lang path x)) l.pages })
-drop_page_changes s had host slug lang path after it = page_changed s.now after (filter (λ x. not (is_page host slug lang path x))) had ((drop_page_writes s had host slug lang path).turns after it)
+pub put_version_writes : (s : State) → Holds s.now → (x : VersionRow) → Writes s put_version_text (versions.encode x) version_table versions (put versions.key x)
+put_version_writes s had x = upsert version_table version_simple version_plain versions s had.versions (1 ∷ 2 ∷ []) version_key put_version_text _ 8 7 put_version_new put_version_read refl x (put_version_fits x) refl
 
-abbrev pub drop_version_text : List ℕ
-drop_version_text = codes "DELETE FROM version WHERE host = ?1 AND slug = ?2"
+pub put_version_changes : (s : State) → Holds s.now → (x : VersionRow) → (after : Database) → Rattle.dh_rows.specs.Calls.Edits s put_version_text (versions.encode x) after
+    → Changed s.now after (λ l. record l { versions = put versions.key x l.versions })
+put_version_changes s had x after it = version_changed s.now after (put versions.key x) had ((put_version_writes s had x).turns after it)
 
-drop_version_read : delete_of version_table drop_version_text ≡ Some ((0, 0) ∷ (1, 1) ∷ [])
+page_key : IsKeyOf page_table (1 ∷ 2 ∷ 3 ∷ 4 ∷ [])
+page_key = record { primary = refl; uniques = refl; apart = refl; own = refl; among = refl }
+
+abbrev pub put_page_text : List ℕ
+put_page_text = codes "INSERT INTO page VALUES (?1, ?2, ?3, ?4, ?5, ?6) ON CONFLICT (host, slug, lang, path) DO UPDATE SET media = ?5, body = ?6"
+
+abbrev put_page_new : List Term
+put_page_new = col 1 0 ∷ col 1 0 ∷ col 1 1 ∷ col 1 2 ∷ col 1 3 ∷ col 1 4 ∷ col 0 4 ∷ col 0 5 ∷ []
+
+put_page_read : (schema : Schema) (tree : ℕ) → IsUpsert schema page_table tree put_page_text (lit Null ∷ col 0 0 ∷ col 0 1 ∷ col 0 2 ∷ col 0 3 ∷ col 0 4 ∷ col 0 5 ∷ []) 7 6 put_page_new
 unfolding everything
-drop_version_read = refl
+put_page_read schema tree = puts refl refl refl refl refl refl refl refl (λ cx. refl)
 
-pub drop_version_writes : (s : State) → Holds s.now → (host slug : List ℕ) → Writes s drop_version_text (Text host ∷ Text slug ∷ []) version_table versions (filter (λ x. not (is_version host slug x)))
-drop_version_writes s had host slug = delete version_table version_simple version_plain versions s had.versions drop_version_text _ drop_version_read _ (is_version host slug) (λ n x. rw (equal_text x.host host, equal_text x.version.slug slug) (two (bytes_eq x.host host) (bytes_eq x.version.slug slug)))
+put_page_fits : (x : PageRow) → Fits page_table pages x (1 ∷ 2 ∷ 3 ∷ 4 ∷ []) 6 put_page_new
+unfolding first_key
+put_page_fits x = record {
+  back = page_back x;
+  kinds = (tt, (tt, (tt, (tt, (tt, (tt, tt))))));
+  agrees = λ n m y. rw (same_text y.host x.host, same_text y.slug x.slug, same_text y.lang x.lang, same_text y.path x.path) (tied_is (pages.key x) (pages.key y));
+  placed = λ id more. refl;
+  shows = λ n more y same.
+      let host = and_parts _ _ (tied_is (pages.key x) (pages.key y) ∙ same) in
+      let slug = and_parts _ _ host.1 in
+      let lang = and_parts _ _ slug.1 in
+      let path = and_parts _ _ lang.1 in
+      rw (alike_text y.host x.host host.0, alike_text y.slug x.slug slug.0, alike_text y.lang x.lang lang.0, alike_text y.path x.path path.0) refl;
+}
 
-pub drop_version_changes : (s : State) → Holds s.now → (host slug : List ℕ) → (after : Database) → Rattle.dh_rows.specs.Calls.Edits s drop_version_text (Text host ∷ Text slug ∷ []) after
-    → Changed s.now after (λ l. record l { versions = filter (λ x. not (is_version host slug x)) l.versions })
-drop_version_changes s had host slug after it = version_changed s.now after (filter (λ x. not (is_version host slug x))) had ((drop_version_writes s had host slug).turns after it)
+pub put_page_writes : (s : State) → Holds s.now → (x : PageRow) → Writes s put_page_text (pages.encode x) page_table pages (put pages.key x)
+put_page_writes s had x = upsert page_table page_simple page_plain pages s had.pages (1 ∷ 2 ∷ 3 ∷ 4 ∷ []) page_key put_page_text _ 7 6 put_page_new put_page_read refl x (put_page_fits x) refl
+
+pub put_page_changes : (s : State) → Holds s.now → (x : PageRow) → (after : Database) → Rattle.dh_rows.specs.Calls.Edits s put_page_text (pages.encode x) after
+    → Changed s.now after (λ l. record l { pages = put pages.key x l.pages })
+put_page_changes s had x after it = page_changed s.now after (put pages.key x) had ((put_page_writes s had x).turns after it)

@@ -1,5 +1,5 @@
 -- What the project of a host says of the lists that spell it, and projects put back one after the other.
-use Rattle.std.proofs.Common.{◌≡◌, ℕ, Bool, true, false, ◌&&◌, cond, List, [], ◌∷◌, map, filter, find, length, is_some, Option, Some, None, IsTrue, refl, sym, ap, ◌∙◌, subst, is_eq}
+use Rattle.std.proofs.Common.{◌≡◌, Bool, true, false, ◌&&◌, cond, filter, find, length, is_some, Option, Some, None, IsTrue, refl, sym, ap, ◌∙◌, is_eq}
 use Rattle.std.specs.Prelude.{option_map}
 use Rattle.std.specs.Option.{option_map_or}
 use Rattle.std.specs.List.{list_any}
@@ -19,7 +19,7 @@ use Rattle.dh_tables.specs.Lists.{Lists, of_host, project_of, world_of, kept_ans
 use Rattle.dh_tables.specs.Rules.{has_project, languages_of, has_language, has_active}
 use Rattle.dh_tables.proofs.KeyLemmas.{used_place, used_total, tied_used_key}
 use Rattle.dh_tables.proofs.RecordLemmas.{found_passes}
-use Rattle.dh_tables.proofs.SeenLemmas.{found_in, find_in_filter, find_same, get_project, get_version, get_page, tied_text, text_total}
+use Rattle.dh_tables.proofs.SeenLemmas.{found_in, find_in_filter, find_same, get_project, get_version, get_page, text_total}
 
 -- ---- the row of a project
 
@@ -38,6 +38,13 @@ row_of lists host p was = go (find (is_project host) lists.projects) refl (sym (
 
 pub owned_by : (lists : Lists) (host : Text) (p : Project) → get (world_of lists) host ≡ Some p → IsTrue (has_project lists host)
 owned_by lists host p was = ap is_some (row_of lists host p was).1.found
+
+pub no_row : (lists : Lists) (host : Text) → get (world_of lists) host ≡ None → find (is_project host) lists.projects ≡ None
+no_row lists host none = go (find (is_project host) lists.projects) (sym (get_project lists host) ∙ none)
+  where
+    go : (o : Option ProjectRow) → option_map (project_of lists) o ≡ None → o ≡ None
+    go None e = refl
+    go (Some r) e = absurd (cc)
 
 -- what a row says of its project
 pub branch_of : (lists : Lists) (row : ProjectRow) → (project_of lists row).branch ≡ row.branch

@@ -6,3 +6,4 @@ pub mod Codings
 pub mod Rules
 pub mod Tables
 pub mod Making
+pub mod View

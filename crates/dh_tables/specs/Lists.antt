@@ -4,7 +4,7 @@ use Rattle.std.specs.Str.{bytes_eq}
 use Rattle.std.specs.FinMap.{empty, from_entries}
 use Rattle.dh_tables.specs.declared.answer.Answer.{Answer}
 use Rattle.dh_tables.specs.declared.answer.Answer.TheVariants.{Done}
-use Rattle.dh_tables.specs.Answers.{answer_of}
+use Rattle.dh_tables.specs.Answers.{answer_of, json_of}
 use Rattle.dh_tables.specs.World.{Text, Project, World, op_code}
 use Rattle.dh_tables.specs.declared.records.ProjectRow.{ProjectRow}
 use Rattle.dh_tables.specs.declared.records.LangRow.{LangRow}
@@ -65,6 +65,10 @@ is_used host slug op retry r = bytes_eq r.host host && bytes_eq r.slug slug && s
 -- the answer that a row keeps; of a text that is no answer's it is `Done`, which no call keeps
 abbrev pub kept_answer : UsedRow → Answer
 kept_answer r = unwrap_or (answer_of r.answer) Done
+
+-- the row that keeps an answer
+abbrev pub keeping : Text → Text → Operation → Text → Answer → UsedRow
+keeping host slug op retry answer = record { host = host; slug = slug; op = op; retry = retry; answer = unwrap_or (json_of answer) [] }
 
 -- the project of a row, from the records of its host
 unfoldable pub project_of : Lists → ProjectRow → Project

@@ -6,6 +6,7 @@ ghost use Rattle.serde_json.specs.Find.{get, as_bool};
 ghost use Rattle.dh_tables.specs.Answers as spec;
 
 use dh_paths::{Slug, TextFault};
+use dh_reply::Fault;
 use serde_json::{Value, json};
 use std::alloc::{AllocError, Global};
 
@@ -54,6 +55,18 @@ impl Answer {
                 }
             }
         }
+    }
+}
+
+/// The answer that a kept text tells.
+pub(crate) fn kept_answer(alloc: Global, text: &str) -> Result<Option<Answer>, Fault>
+    ensures told { IfOk result (λ o. o ≡ spec.answer_of text.now) }
+    ensures some { IfOk result (λ o. IsSome o) }
+{
+    match Answer::read(alloc, text) {
+        Ok(Some(answer)) => Ok(Some(answer)),
+        Ok(None) => Err(Fault::Store),
+        Err(_) => Err(Fault::Memory),
     }
 }
 

@@ -9,7 +9,11 @@ pub mod records;
 pub mod tables;
 #[cfg(test)]
 mod tests;
+mod view;
+#[cfg(test)]
+mod view_tests;
 
 pub use answer::Answer;
 pub use records::{LangRow, Operation, PageRow, ProjectRow, UsedRow, VersionRow};
 pub use tables::{Tables, TablesFault};
+pub use view::{View, doubt_is_of_the_store};

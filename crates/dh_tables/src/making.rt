@@ -2,8 +2,8 @@ ghost use Rattle.std.specs.Prelude.{◌≡◌, ◌↔◌, [], ◌∷◌, false, 
 ghost use Rattle.sqlite.specs.Held.{state};
 ghost use Rattle.sqlite.specs.State.{HasCleanDisk};
 ghost use Rattle.dh_rows.specs.Calls.{IsHonest, Shows, Becomes, IsRefused, whole};
-ghost use Rattle.dh_rows.specs.Places.{IsFree, IsUnmentioned};
-ghost use Rattle.dh_tables.specs.Making.{CanMake, IsReady, IsMade};
+ghost use Rattle.dh_rows.specs.Places.{IsFree, IsUnmentioned, ArePlaced};
+ghost use Rattle.dh_tables.specs.Making.{CanMake, IsReady, IsMade, GoesOn, CommitsNothing};
 ghost use Rattle.dh_tables.specs.Tables.{meta_table, project_table, lang_table, version_table, page_table, used_table};
 
 use crate::query::{fault_of, write};
@@ -109,7 +109,8 @@ fn number<S: Alter>(conn: &mut Connection<S>) -> Result<(), Fault>
 
 fn make_first<S: Alter>(conn: &mut Connection<S>) -> Result<(), Fault>
     requires { IsHonest S.Store conn.old → IsReady ([]) (meta_table ∷ project_table ∷ lang_table ∷ version_table ∷ page_table ∷ used_table ∷ []) (state S.Store conn.old).now }
-    ensures ok { IsHonest S.Store conn.old → HasCleanDisk (state S.Store conn.new) → OnOk result (IsHonest S.Store conn.new × (conn.new.in_transaction ≡ conn.old.in_transaction) × (conn.old.in_transaction ≡ false → (state S.Store conn.new).now ≡ (state S.Store conn.new).committed) × IsReady (lang_table ∷ project_table ∷ meta_table ∷ []) (version_table ∷ page_table ∷ used_table ∷ []) (state S.Store conn.new).now) }
+    ensures ok { IsHonest S.Store conn.old → HasCleanDisk (state S.Store conn.new) → OnOk result (GoesOn S.Store conn.old conn.new × IsReady (lang_table ∷ project_table ∷ meta_table ∷ []) (version_table ∷ page_table ∷ used_table ∷ []) (state S.Store conn.new).now) }
+    ensures err { IsHonest S.Store conn.new → conn.old.in_transaction ≡ true → OnErr result (CommitsNothing S.Store conn.old conn.new) }
     ensures clean { HasCleanDisk (state S.Store conn.new) → HasCleanDisk (state S.Store conn.old) }
     ensures was { IsHonest S.Store conn.new → IsHonest S.Store conn.old }
 {
@@ -120,7 +121,8 @@ fn make_first<S: Alter>(conn: &mut Connection<S>) -> Result<(), Fault>
 
 fn make_rest<S: Alter>(conn: &mut Connection<S>) -> Result<(), Fault>
     requires { IsHonest S.Store conn.old → IsReady (lang_table ∷ project_table ∷ meta_table ∷ []) (version_table ∷ page_table ∷ used_table ∷ []) (state S.Store conn.old).now }
-    ensures ok { IsHonest S.Store conn.old → HasCleanDisk (state S.Store conn.new) → OnOk result (IsHonest S.Store conn.new × (conn.new.in_transaction ≡ conn.old.in_transaction) × (conn.old.in_transaction ≡ false → (state S.Store conn.new).now ≡ (state S.Store conn.new).committed) × IsMade (state S.Store conn.new).now) }
+    ensures ok { IsHonest S.Store conn.old → HasCleanDisk (state S.Store conn.new) → OnOk result (GoesOn S.Store conn.old conn.new × IsMade (state S.Store conn.new).now) }
+    ensures err { IsHonest S.Store conn.new → conn.old.in_transaction ≡ true → OnErr result (CommitsNothing S.Store conn.old conn.new) }
     ensures clean { HasCleanDisk (state S.Store conn.new) → HasCleanDisk (state S.Store conn.old) }
     ensures was { IsHonest S.Store conn.new → IsHonest S.Store conn.old }
 {
@@ -133,7 +135,8 @@ fn make_rest<S: Alter>(conn: &mut Connection<S>) -> Result<(), Fault>
 /// Makes the tables, with no record in them.
 pub fn make_tables<S: Alter>(conn: &mut Connection<S>) -> Result<(), Fault>
     requires { IsHonest S.Store conn.old → IsReady ([]) (meta_table ∷ project_table ∷ lang_table ∷ version_table ∷ page_table ∷ used_table ∷ []) (state S.Store conn.old).now }
-    ensures ok { IsHonest S.Store conn.old → HasCleanDisk (state S.Store conn.new) → OnOk result (IsHonest S.Store conn.new × (conn.new.in_transaction ≡ conn.old.in_transaction) × (conn.old.in_transaction ≡ false → (state S.Store conn.new).now ≡ (state S.Store conn.new).committed) × IsMade (state S.Store conn.new).now) }
+    ensures ok { IsHonest S.Store conn.old → HasCleanDisk (state S.Store conn.new) → OnOk result (GoesOn S.Store conn.old conn.new × IsMade (state S.Store conn.new).now) }
+    ensures err { IsHonest S.Store conn.new → conn.old.in_transaction ≡ true → OnErr result (CommitsNothing S.Store conn.old conn.new) }
     ensures clean { HasCleanDisk (state S.Store conn.new) → HasCleanDisk (state S.Store conn.old) }
     ensures was { IsHonest S.Store conn.new → IsHonest S.Store conn.old }
 {
@@ -162,8 +165,10 @@ pub fn can_make(schema: &Schema) -> bool
 
 /// Makes the tables in a transaction of their own.
 pub fn make_at_once<S: Alter>(conn: &mut Connection<S>) -> Result<(), Fault>
-    requires { CanMake (state S.Store conn.old).now.schema }
+    requires can { CanMake (state S.Store conn.old).now.schema }
+    requires placed { IsHonest S.Store conn.old → ArePlaced (state S.Store conn.old).now.schema }
     ensures ok { IsHonest S.Store conn.old → HasCleanDisk (state S.Store conn.new) → OnOk result (IsHonest S.Store conn.new × (conn.new.in_transaction ≡ false) × ((state S.Store conn.new).now ≡ (state S.Store conn.new).committed) × IsMade (state S.Store conn.new).now) }
+    ensures err { IsHonest S.Store conn.new → OnErr result (CommitsNothing S.Store conn.old conn.new) }
     ensures clean { HasCleanDisk (state S.Store conn.new) → HasCleanDisk (state S.Store conn.old) }
     ensures was { IsHonest S.Store conn.new → IsHonest S.Store conn.old }
 {
@@ -174,6 +179,7 @@ pub fn make_at_once<S: Alter>(conn: &mut Connection<S>) -> Result<(), Fault>
 
 fn begin<S: Alter>(conn: &mut Connection<S>) -> Result<(), Fault>
     ensures ok { IsHonest S.Store conn.old → HasCleanDisk (state S.Store conn.new) → OnOk result (Shows S.Store whole conn.old conn.new (state S.Store conn.old).now (state S.Store conn.old).committed true) }
+    ensures err { IsHonest S.Store conn.new → OnErr result (IsRefused S.Store whole conn.old conn.new) }
     ensures clean { HasCleanDisk (state S.Store conn.new) → HasCleanDisk (state S.Store conn.old) }
     ensures was { IsHonest S.Store conn.new → IsHonest S.Store conn.old }
 {
@@ -185,6 +191,7 @@ fn begin<S: Alter>(conn: &mut Connection<S>) -> Result<(), Fault>
 
 fn commit<S: Alter>(conn: &mut Connection<S>) -> Result<(), Fault>
     ensures ok { IsHonest S.Store conn.old → HasCleanDisk (state S.Store conn.new) → OnOk result (Shows S.Store whole conn.old conn.new (state S.Store conn.old).now (state S.Store conn.old).now false) }
+    ensures err { IsHonest S.Store conn.new → OnErr result (IsRefused S.Store whole conn.old conn.new) }
     ensures clean { HasCleanDisk (state S.Store conn.new) → HasCleanDisk (state S.Store conn.old) }
     ensures was { IsHonest S.Store conn.new → IsHonest S.Store conn.old }
 {

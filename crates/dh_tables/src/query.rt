@@ -1,4 +1,4 @@
-ghost use Rattle.std.specs.Prelude.{◌≡◌, ◌⊎◌, List, map, slice_get, false, IfOk, OnOk, OnErr};
+ghost use Rattle.std.specs.Prelude.{◌≡◌, ◌↔◌, ◌⊎◌, List, map, slice_get, is_some, false, IfOk, OnOk, OnErr};
 ghost use Rattle.sqlite_value.specs.Order.{Row as Values};
 ghost use Rattle.sqlite.specs.Effect.{Database, Reads};
 ghost use Rattle.sqlite.specs.Given.{IsPlain};
@@ -6,6 +6,7 @@ ghost use Rattle.sqlite.specs.Held.{state};
 ghost use Rattle.sqlite.specs.Listing.{understood, reads_listing};
 ghost use Rattle.sqlite.specs.State.{HasCleanDisk};
 ghost use Rattle.sqlite.specs.Values.{bound};
+ghost use Rattle.dh_rows.specs.declared.fault.Fault.TheVariants as rows;
 ghost use Rattle.dh_rows.specs.Calls.{command_of, IsEdit, Edits, IsHonest, Becomes, IsSame, IsRefused, LeavesTrees, whole};
 
 use crate::reading::{Record, all, first};
@@ -14,7 +15,10 @@ use sqlite::types::ValueRef;
 use sqlite::{Alter, Connection, Row};
 use std::alloc::Global;
 
-pub fn fault_of(fault: dh_rows::Fault) -> Fault {
+/// The same refusal, as the layers above tell it.
+pub fn fault_of(fault: dh_rows::Fault) -> Fault
+    ensures { (result ≡ Fault.Memory) ↔ (fault ≡ rows.Memory) }
+{
     match fault {
         dh_rows::Fault::Store => Fault::Store,
         dh_rows::Fault::Memory => Fault::Memory,
@@ -61,6 +65,27 @@ pub fn all_records<S: Alter, R: Record>(
 {
     match dh_rows::select(conn, sql, params) {
         Ok(rows) => all(alloc, &rows),
+        Err(fault) => Err(fault_of(fault)),
+    }
+}
+
+/// Whether a query answers a row.
+pub fn has_record<S: Alter>(
+    conn: &mut Connection<S>,
+    sql: &str,
+    params: &[ValueRef<'_>],
+) -> Result<bool, Fault>
+    requires plain { IsHonest S.Store conn.old → IsPlain (understood (state S.Store conn.old).now.schema sql.now) }
+    requires listing { IsHonest S.Store conn.old → reads_listing (state S.Store conn.old).now.schema sql.now ≡ false }
+    ensures value { IsHonest S.Store conn.old → HasCleanDisk (state S.Store conn.new) → IfOk result (λ b. (rows : List Values) × Reads (command_of (understood (state S.Store conn.old).now.schema sql.now)) (state S.Store conn.old).now (bound params.now) rows × (b ≡ is_some (slice_get rows 0))) }
+    ensures same { IsHonest S.Store conn.old → HasCleanDisk (state S.Store conn.new) → OnOk result (IsSame S.Store whole conn.old conn.new) }
+    ensures err { IsHonest S.Store conn.new → OnErr result (IsRefused S.Store whole conn.old conn.new) }
+    ensures clean { HasCleanDisk (state S.Store conn.new) → HasCleanDisk (state S.Store conn.old) }
+    ensures was { IsHonest S.Store conn.new → IsHonest S.Store conn.old }
+    ensures crash { LeavesTrees S.Store conn.old conn.new (λ db. ⊥) }
+{
+    match dh_rows::select(conn, sql, params) {
+        Ok(rows) => Ok(rows.first().is_some()),
         Err(fault) => Err(fault_of(fault)),
     }
 }

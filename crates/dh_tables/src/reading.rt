@@ -4,19 +4,13 @@ ghost use Rattle.sqlite_value.specs.Order.{column};
 ghost use Rattle.dh_rows.specs.Keyed.{Coding, flag};
 ghost use Rattle.dh_tables.specs.Codings as spec;
 
+use crate::query::fault_of;
 use crate::records::{LangRow, Operation, PageRow, ProjectRow, UsedRow, VersionRow};
 use dh_paths::{Bytes, HostName, Lang, PagePath, RefName, Slug, Text, TextFault, Token};
 use dh_reply::{Fault, Page};
 use dh_versions::{Kind, Version};
-use sqlite::{Error, ErrorCode, Row};
+use sqlite::Row;
 use std::alloc::Global;
-
-fn fault_of(error: Error) -> Fault {
-    match error {
-        Error::SqliteFailure(ErrorCode::OutOfMemory) => Fault::Memory,
-        _ => Fault::Store,
-    }
-}
 
 /// A text that is no value of its type breaks a rule of the rows, so it is a fault of the store.
 fn fault_of_text(fault: TextFault) -> Fault {
@@ -31,7 +25,7 @@ fn text_at(row: &Row, at: usize) -> Result<String, Fault>
 {
     match row.get(at) {
         Ok(text) => Ok(text),
-        Err(error) => Err(fault_of(error)),
+        Err(error) => Err(fault_of(error.into())),
     }
 }
 
@@ -40,7 +34,7 @@ fn flag_at(row: &Row, at: usize) -> Result<bool, Fault>
 {
     match row.get(at) {
         Ok(flag) => Ok(flag),
-        Err(error) => Err(fault_of(error)),
+        Err(error) => Err(fault_of(error.into())),
     }
 }
 
@@ -49,7 +43,7 @@ fn number_at(row: &Row, at: usize) -> Result<u32, Fault>
 {
     match row.get(at) {
         Ok(number) => Ok(number),
-        Err(error) => Err(fault_of(error)),
+        Err(error) => Err(fault_of(error.into())),
     }
 }
 
@@ -58,7 +52,7 @@ fn body_at(row: &Row, at: usize) -> Result<Bytes, Fault>
 {
     match row.get(at) {
         Ok(body) => Ok(Bytes::wrap(body)),
-        Err(error) => Err(fault_of(error)),
+        Err(error) => Err(fault_of(error.into())),
     }
 }
 

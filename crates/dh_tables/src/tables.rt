@@ -1,19 +1,22 @@
-ghost use Rattle.std.specs.Prelude.{◌≡◌, option_map, true, false, map, filter, not, find, ◌≢◌, IfOk, IfErr, OnOk, OnErr};
+ghost use Rattle.std.specs.Prelude.{◌≡◌, option_map, true, false, map, filter, not, find, is_some, ◌≢◌, IfOk, IfErr, OnOk, OnErr, IsSome, IsTrue};
 ghost use Rattle.sqlite.specs.Held.{state};
 ghost use Rattle.sqlite.specs.State.{HasCleanDisk};
-ghost use Rattle.dh_rows.specs.Calls.{IsHonest, Shows, Becomes, IsSame, IsUndone, IsRefused, Leaves, seen, committed};
+ghost use Rattle.dh_rows.specs.Calls.{IsHonest, Shows, Becomes, IsSame, IsUndone, IsRefused, Leaves, LeavesCommitted, seen, committed};
 ghost use Rattle.dh_rows.specs.Keyed.{IsFreeKey, added, put};
+ghost use Rattle.dh_tables.specs.Answers.{json_of};
 ghost use Rattle.dh_tables.specs.Codings as coding;
 ghost use Rattle.dh_tables.specs.Lists as spec;
-ghost use Rattle.dh_tables.specs.Making.{CanMake, no_lists};
+ghost use Rattle.dh_tables.specs.Making.{CanMake, CommitsNothing, no_lists};
 ghost use Rattle.dh_tables.specs.Tables.{lists_of};
+ghost use Rattle.dh_tables.specs.View.{IsSettled, RiseBySlug};
 ghost use Rattle.sqlite.specs.Steps.{over_memory};
 ghost use Rattle.std.specs.FinMap.{empty};
 
+use crate::answer::{Answer, kept_answer};
 use crate::making::{can_make, make_at_once, make_tables};
-use crate::query::{all_records, fault_of, first_record, write};
+use crate::query::{all_records, fault_of, first_record, has_record, write};
 use crate::records::{LangRow, Operation, PageRow, ProjectRow, UsedRow, VersionRow, is_tag};
-use dh_paths::{HostName, Lang, PagePath, Slug, Token};
+use dh_paths::{HostName, Lang, Slug, Token};
 use dh_reply::Fault;
 use sqlite::{Alter, Connection, MemStore, params};
 use std::alloc::Global;
@@ -67,6 +70,7 @@ impl<S: Alter> Tables<S> {
         ensures clean { HasCleanDisk (state S.Store self.new) → HasCleanDisk (state S.Store self.old) }
         ensures was { IsHonest S.Store self.new → IsHonest S.Store self.old }
         ensures crash { Leaves S.Store lists_of self.old self.new (λ w. w ≡ seen S.Store lists_of self.old) }
+        ensures left { IsHonest S.Store self.new → LeavesCommitted S.Store lists_of self.new }
     {
         match dh_rows::commit(&mut self.conn) {
             Ok(()) => Ok(()),
@@ -86,6 +90,30 @@ impl<S: Alter> Tables<S> {
             Ok(()) => Ok(()),
             Err(fault) => Err(fault_of(fault)),
         }
+    }
+
+    /// Whether no transaction is open.
+    pub fn is_settled(&self) -> bool
+        ensures value { result ≡ not self.now.in_transaction }
+        ensures settled { IsTrue result → IsHonest S.Store self.now → IsSettled S.Store self.now }
+    {
+        self.conn.is_autocommit()
+    }
+
+    /// Whether there is a project under a host.
+    pub fn has_project(&mut self, host: &HostName) -> Result<bool, Fault>
+        ensures value { IsHonest S.Store self.old → HasCleanDisk (state S.Store self.new) → IfOk result (λ b. b ≡ is_some (find (spec.is_project host.now) (seen S.Store lists_of self.old).projects)) }
+        ensures same { IsHonest S.Store self.old → HasCleanDisk (state S.Store self.new) → OnOk result (IsSame S.Store lists_of self.old self.new) }
+        ensures err { IsHonest S.Store self.new → OnErr result (IsRefused S.Store lists_of self.old self.new) }
+        ensures clean { HasCleanDisk (state S.Store self.new) → HasCleanDisk (state S.Store self.old) }
+        ensures was { IsHonest S.Store self.new → IsHonest S.Store self.old }
+        ensures crash { Leaves S.Store lists_of self.old self.new (λ w. ⊥) }
+    {
+        has_record(
+            &mut self.conn,
+            "SELECT host, main, branch, wkey, private FROM project WHERE host = ?1 ORDER BY host",
+            params![host.as_str()],
+        )
     }
 
     /// The project under a host.
@@ -136,17 +164,35 @@ impl<S: Alter> Tables<S> {
         ensures was { IsHonest S.Store self.new → IsHonest S.Store self.old }
         ensures crash { Leaves S.Store lists_of self.old self.new (λ w. ⊥) }
     {
+        self.version_named(alloc, host, slug.as_str())
+    }
+
+    /// The version whose slug is this text.
+    pub fn version_named(
+        &mut self,
+        alloc: Global,
+        host: &HostName,
+        name: &str,
+    ) -> Result<Option<VersionRow>, Fault>
+        ensures value { IsHonest S.Store self.old → HasCleanDisk (state S.Store self.new) → IfOk result (λ o. o ≡ find (spec.is_version host.now name.now) (seen S.Store lists_of self.old).versions) }
+        ensures same { IsHonest S.Store self.old → HasCleanDisk (state S.Store self.new) → OnOk result (IsSame S.Store lists_of self.old self.new) }
+        ensures err { IsHonest S.Store self.new → OnErr result (IsRefused S.Store lists_of self.old self.new) }
+        ensures clean { HasCleanDisk (state S.Store self.new) → HasCleanDisk (state S.Store self.old) }
+        ensures was { IsHonest S.Store self.new → IsHonest S.Store self.old }
+        ensures crash { Leaves S.Store lists_of self.old self.new (λ w. ⊥) }
+    {
         first_record(
             &mut self.conn,
             alloc,
             "SELECT host, slug, name, kind, active, hidden, private FROM version WHERE host = ?1 AND slug = ?2 ORDER BY host, slug",
-            params![host.as_str(), slug.as_str()],
+            params![host.as_str(), name],
         )
     }
 
     /// The versions of a project, in the order of their slugs.
     pub fn versions(&mut self, alloc: Global, host: &HostName) -> Result<Vec<VersionRow>, Fault>
         ensures value { IsHonest S.Store self.old → HasCleanDisk (state S.Store self.new) → IfOk result (λ o. o.items ≡ filter (spec.is_version_of host.now) (seen S.Store lists_of self.old).versions) }
+        ensures order { IsHonest S.Store self.old → HasCleanDisk (state S.Store self.new) → IfOk result (λ o. RiseBySlug o.items) }
         ensures same { IsHonest S.Store self.old → HasCleanDisk (state S.Store self.new) → OnOk result (IsSame S.Store lists_of self.old self.new) }
         ensures err { IsHonest S.Store self.new → OnErr result (IsRefused S.Store lists_of self.old self.new) }
         ensures clean { HasCleanDisk (state S.Store self.new) → HasCleanDisk (state S.Store self.old) }
@@ -223,8 +269,8 @@ impl<S: Alter> Tables<S> {
         )
     }
 
-    /// The first answer to a retry key.
-    pub fn used(
+    /// The row of a retry key.
+    fn used_row(
         &mut self,
         alloc: Global,
         host: &HostName,
@@ -247,109 +293,80 @@ impl<S: Alter> Tables<S> {
         )
     }
 
-    /// Keeps the first answer to a retry key, which is free.
-    pub fn keep(&mut self, used: &UsedRow) -> Result<(), Fault>
-        requires free { IsHonest S.Store self.old → IsFreeKey coding.used.key used.now (seen S.Store lists_of self.old).used }
-        ensures ok { IsHonest S.Store self.old → HasCleanDisk (state S.Store self.new) → OnOk result (Becomes S.Store lists_of self.old self.new (record (seen S.Store lists_of self.old) { used = added coding.used.key used.now (seen S.Store lists_of self.old).used })) }
+    /// The first answer to a retry key. A kept text that is no answer's is a fault of the store.
+    pub fn used(
+        &mut self,
+        alloc: Global,
+        host: &HostName,
+        slug: &Slug,
+        op: Operation,
+        retry: &Token,
+    ) -> Result<Option<Answer>, Fault>
+        ensures value { IsHonest S.Store self.old → HasCleanDisk (state S.Store self.new) → IfOk result (λ o. o ≡ option_map spec.kept_answer (find (spec.is_used host.now slug.now op retry.now) (seen S.Store lists_of self.old).used)) }
+        ensures same { IsHonest S.Store self.old → HasCleanDisk (state S.Store self.new) → OnOk result (IsSame S.Store lists_of self.old self.new) }
         ensures err { IsHonest S.Store self.new → OnErr result (IsRefused S.Store lists_of self.old self.new) }
         ensures clean { HasCleanDisk (state S.Store self.new) → HasCleanDisk (state S.Store self.old) }
         ensures was { IsHonest S.Store self.new → IsHonest S.Store self.old }
-        ensures crash { Leaves S.Store lists_of self.old self.new (λ w. (self.old.in_transaction ≡ false) × (w ≡ record (seen S.Store lists_of self.old) { used = added coding.used.key used.now (seen S.Store lists_of self.old).used })) }
+        ensures crash { Leaves S.Store lists_of self.old self.new (λ w. ⊥) }
+    {
+        match self.used_row(alloc, host, slug, op, retry) {
+            Ok(Some(row)) => kept_answer(alloc, row.answer.as_str()),
+            Ok(None) => Ok(None),
+            Err(fault) => Err(fault),
+        }
+    }
+
+    /// Adds the row of a retry key, which is free.
+    fn add_used(
+        &mut self,
+        host: &HostName,
+        slug: &Slug,
+        op: Operation,
+        retry: &Token,
+        answer: &str,
+    ) -> Result<(), Fault>
+        requires free { IsHonest S.Store self.old → IsFreeKey coding.used.key (record { host = host.now; slug = slug.now; op = op; retry = retry.now; answer = answer.now }) (seen S.Store lists_of self.old).used }
+        ensures ok { IsHonest S.Store self.old → HasCleanDisk (state S.Store self.new) → OnOk result (Becomes S.Store lists_of self.old self.new (record (seen S.Store lists_of self.old) { used = added coding.used.key (record { host = host.now; slug = slug.now; op = op; retry = retry.now; answer = answer.now }) (seen S.Store lists_of self.old).used })) }
+        ensures err { IsHonest S.Store self.new → OnErr result (IsRefused S.Store lists_of self.old self.new) }
+        ensures clean { HasCleanDisk (state S.Store self.new) → HasCleanDisk (state S.Store self.old) }
+        ensures was { IsHonest S.Store self.new → IsHonest S.Store self.old }
+        ensures crash { Leaves S.Store lists_of self.old self.new (λ w. (self.old.in_transaction ≡ false) × (w ≡ record (seen S.Store lists_of self.old) { used = added coding.used.key (record { host = host.now; slug = slug.now; op = op; retry = retry.now; answer = answer.now }) (seen S.Store lists_of self.old).used })) }
     {
         write(
             &mut self.conn,
             "INSERT INTO used VALUES (?1, ?2, ?3, ?4, ?5)",
             params![
-                used.host.as_str(),
-                used.slug.as_str(),
-                used.op.is_upload(),
-                used.retry.as_str(),
-                used.answer.as_str()
+                host.as_str(),
+                slug.as_str(),
+                op.is_upload(),
+                retry.as_str(),
+                answer
             ],
         )
     }
 
-    /// Adds a version, whose slug is free.
-    fn add_version(&mut self, row: &VersionRow) -> Result<(), Fault>
-        requires free { IsHonest S.Store self.old → IsFreeKey coding.versions.key row.now (seen S.Store lists_of self.old).versions }
-        ensures ok { IsHonest S.Store self.old → HasCleanDisk (state S.Store self.new) → OnOk result (Becomes S.Store lists_of self.old self.new (record (seen S.Store lists_of self.old) { versions = added coding.versions.key row.now (seen S.Store lists_of self.old).versions })) }
-        ensures err { IsHonest S.Store self.new → OnErr result (IsRefused S.Store lists_of self.old self.new) }
-        ensures clean { HasCleanDisk (state S.Store self.new) → HasCleanDisk (state S.Store self.old) }
-        ensures was { IsHonest S.Store self.new → IsHonest S.Store self.old }
-        ensures crash { Leaves S.Store lists_of self.old self.new (λ w. (self.old.in_transaction ≡ false) × (w ≡ record (seen S.Store lists_of self.old) { versions = added coding.versions.key row.now (seen S.Store lists_of self.old).versions })) }
-    {
-        write(
-            &mut self.conn,
-            "INSERT INTO version VALUES (?1, ?2, ?3, ?4, ?5, ?6, ?7)",
-            params![
-                row.host.as_str(),
-                row.version.slug.as_str(),
-                row.version.name.as_str(),
-                is_tag(row.version.kind),
-                row.version.active,
-                row.version.hidden,
-                row.version.private
-            ],
-        )
-    }
-
-    /// Adds a page, whose key is free.
-    fn add_page(&mut self, row: &PageRow) -> Result<(), Fault>
-        requires free { IsHonest S.Store self.old → IsFreeKey coding.pages.key row.now (seen S.Store lists_of self.old).pages }
-        ensures ok { IsHonest S.Store self.old → HasCleanDisk (state S.Store self.new) → OnOk result (Becomes S.Store lists_of self.old self.new (record (seen S.Store lists_of self.old) { pages = added coding.pages.key row.now (seen S.Store lists_of self.old).pages })) }
-        ensures err { IsHonest S.Store self.new → OnErr result (IsRefused S.Store lists_of self.old self.new) }
-        ensures clean { HasCleanDisk (state S.Store self.new) → HasCleanDisk (state S.Store self.old) }
-        ensures was { IsHonest S.Store self.new → IsHonest S.Store self.old }
-        ensures crash { Leaves S.Store lists_of self.old self.new (λ w. (self.old.in_transaction ≡ false) × (w ≡ record (seen S.Store lists_of self.old) { pages = added coding.pages.key row.now (seen S.Store lists_of self.old).pages })) }
-    {
-        write(
-            &mut self.conn,
-            "INSERT INTO page VALUES (?1, ?2, ?3, ?4, ?5, ?6)",
-            params![
-                row.host.as_str(),
-                row.slug.as_str(),
-                row.lang.as_str(),
-                row.path.as_str(),
-                row.page.media.as_str(),
-                row.page.body.as_slice()
-            ],
-        )
-    }
-
-    /// Removes a version, if it is there.
-    fn drop_version(&mut self, host: &HostName, slug: &Slug) -> Result<(), Fault>
-        ensures ok { IsHonest S.Store self.old → HasCleanDisk (state S.Store self.new) → OnOk result (Becomes S.Store lists_of self.old self.new (record (seen S.Store lists_of self.old) { versions = filter (λ x. not (spec.is_version host.now slug.now x)) (seen S.Store lists_of self.old).versions })) }
-        ensures err { IsHonest S.Store self.new → OnErr result (IsRefused S.Store lists_of self.old self.new) }
-        ensures clean { HasCleanDisk (state S.Store self.new) → HasCleanDisk (state S.Store self.old) }
-        ensures was { IsHonest S.Store self.new → IsHonest S.Store self.old }
-        ensures crash { Leaves S.Store lists_of self.old self.new (λ w. (self.old.in_transaction ≡ false) × (w ≡ record (seen S.Store lists_of self.old) { versions = filter (λ x. not (spec.is_version host.now slug.now x)) (seen S.Store lists_of self.old).versions })) }
-    {
-        write(
-            &mut self.conn,
-            "DELETE FROM version WHERE host = ?1 AND slug = ?2",
-            params![host.as_str(), slug.as_str()],
-        )
-    }
-
-    /// Removes a page, if it is there.
-    fn drop_page(
+    /// Keeps the first answer to a retry key, which is free. The answer is one that has a JSON text.
+    pub fn keep(
         &mut self,
+        alloc: Global,
         host: &HostName,
         slug: &Slug,
-        lang: &Lang,
-        path: &PagePath,
+        op: Operation,
+        retry: &Token,
+        answer: &Answer,
     ) -> Result<(), Fault>
-        ensures ok { IsHonest S.Store self.old → HasCleanDisk (state S.Store self.new) → OnOk result (Becomes S.Store lists_of self.old self.new (record (seen S.Store lists_of self.old) { pages = filter (λ x. not (spec.is_page host.now slug.now lang.now path.now x)) (seen S.Store lists_of self.old).pages })) }
+        requires told { IsSome (json_of answer.now) }
+        requires free { IsHonest S.Store self.old → IsFreeKey coding.used.key (spec.keeping host.now slug.now op retry.now answer.now) (seen S.Store lists_of self.old).used }
+        ensures ok { IsHonest S.Store self.old → HasCleanDisk (state S.Store self.new) → OnOk result (Becomes S.Store lists_of self.old self.new (record (seen S.Store lists_of self.old) { used = added coding.used.key (spec.keeping host.now slug.now op retry.now answer.now) (seen S.Store lists_of self.old).used })) }
         ensures err { IsHonest S.Store self.new → OnErr result (IsRefused S.Store lists_of self.old self.new) }
         ensures clean { HasCleanDisk (state S.Store self.new) → HasCleanDisk (state S.Store self.old) }
         ensures was { IsHonest S.Store self.new → IsHonest S.Store self.old }
-        ensures crash { Leaves S.Store lists_of self.old self.new (λ w. (self.old.in_transaction ≡ false) × (w ≡ record (seen S.Store lists_of self.old) { pages = filter (λ x. not (spec.is_page host.now slug.now lang.now path.now x)) (seen S.Store lists_of self.old).pages })) }
+        ensures crash { Leaves S.Store lists_of self.old self.new (λ w. (self.old.in_transaction ≡ false) × (w ≡ record (seen S.Store lists_of self.old) { used = added coding.used.key (spec.keeping host.now slug.now op retry.now answer.now) (seen S.Store lists_of self.old).used })) }
     {
-        write(
-            &mut self.conn,
-            "DELETE FROM page WHERE host = ?1 AND slug = ?2 AND lang = ?3 AND path = ?4",
-            params![host.as_str(), slug.as_str(), lang.as_str(), path.as_str()],
-        )
+        match answer.json(alloc) {
+            Ok(text) => self.add_used(host, slug, op, retry, text.as_str()),
+            Err(_) => Err(Fault::Memory),
+        }
     }
 
     /// Removes the pages of a version.
@@ -401,30 +418,49 @@ impl<S: Alter> Tables<S> {
         }
     }
 
-    /// Adds a version, or puts it in place of the one with its slug. A refused call may leave that one removed until `back`.
+    /// Adds a version, or puts it in place of the one with its slug.
     pub fn put_version(&mut self, row: &VersionRow) -> Result<(), Fault>
-        requires within { IsHonest S.Store self.old → self.old.in_transaction ≡ true }
         ensures ok { IsHonest S.Store self.old → HasCleanDisk (state S.Store self.new) → OnOk result (Becomes S.Store lists_of self.old self.new (record (seen S.Store lists_of self.old) { versions = put coding.versions.key row.now (seen S.Store lists_of self.old).versions })) }
-        ensures err { IsHonest S.Store self.new → OnErr result (IsHonest S.Store self.old × (committed S.Store lists_of self.new ≡ committed S.Store lists_of self.old)) }
+        ensures err { IsHonest S.Store self.new → OnErr result (IsRefused S.Store lists_of self.old self.new) }
         ensures clean { HasCleanDisk (state S.Store self.new) → HasCleanDisk (state S.Store self.old) }
         ensures was { IsHonest S.Store self.new → IsHonest S.Store self.old }
-        ensures crash { Leaves S.Store lists_of self.old self.new (λ w. ⊥) }
+        ensures crash { Leaves S.Store lists_of self.old self.new (λ w. (self.old.in_transaction ≡ false) × (w ≡ record (seen S.Store lists_of self.old) { versions = put coding.versions.key row.now (seen S.Store lists_of self.old).versions })) }
     {
-        self.drop_version(&row.host, &row.version.slug)?;
-        self.add_version(row)
+        write(
+            &mut self.conn,
+            "INSERT INTO version VALUES (?1, ?2, ?3, ?4, ?5, ?6, ?7) ON CONFLICT (host, slug) DO UPDATE SET name = ?3, kind = ?4, active = ?5, hidden = ?6, private = ?7",
+            params![
+                row.host.as_str(),
+                row.version.slug.as_str(),
+                row.version.name.as_str(),
+                is_tag(row.version.kind),
+                row.version.active,
+                row.version.hidden,
+                row.version.private
+            ],
+        )
     }
 
-    /// Adds a page, or puts it in place of the one with its path. A refused call may leave that one removed until `back`.
+    /// Adds a page, or puts it in place of the one with its path.
     pub fn put_page(&mut self, row: &PageRow) -> Result<(), Fault>
-        requires within { IsHonest S.Store self.old → self.old.in_transaction ≡ true }
         ensures ok { IsHonest S.Store self.old → HasCleanDisk (state S.Store self.new) → OnOk result (Becomes S.Store lists_of self.old self.new (record (seen S.Store lists_of self.old) { pages = put coding.pages.key row.now (seen S.Store lists_of self.old).pages })) }
-        ensures err { IsHonest S.Store self.new → OnErr result (IsHonest S.Store self.old × (committed S.Store lists_of self.new ≡ committed S.Store lists_of self.old)) }
+        ensures err { IsHonest S.Store self.new → OnErr result (IsRefused S.Store lists_of self.old self.new) }
         ensures clean { HasCleanDisk (state S.Store self.new) → HasCleanDisk (state S.Store self.old) }
         ensures was { IsHonest S.Store self.new → IsHonest S.Store self.old }
-        ensures crash { Leaves S.Store lists_of self.old self.new (λ w. ⊥) }
+        ensures crash { Leaves S.Store lists_of self.old self.new (λ w. (self.old.in_transaction ≡ false) × (w ≡ record (seen S.Store lists_of self.old) { pages = put coding.pages.key row.now (seen S.Store lists_of self.old).pages })) }
     {
-        self.drop_page(&row.host, &row.slug, &row.lang, &row.path)?;
-        self.add_page(row)
+        write(
+            &mut self.conn,
+            "INSERT INTO page VALUES (?1, ?2, ?3, ?4, ?5, ?6) ON CONFLICT (host, slug, lang, path) DO UPDATE SET media = ?5, body = ?6",
+            params![
+                row.host.as_str(),
+                row.slug.as_str(),
+                row.lang.as_str(),
+                row.path.as_str(),
+                row.page.media.as_str(),
+                row.page.body.as_slice()
+            ],
+        )
     }
 }
 
@@ -446,6 +482,7 @@ impl<S: Alter> Tables<S> {
         ensures honest { IfOk result (λ t. IsHonest S.Store conn → HasCleanDisk (state S.Store t) → IsHonest S.Store t × (t.in_transaction ≡ false)) }
         ensures none { IfOk result (λ t. IsHonest S.Store conn → HasCleanDisk (state S.Store t) → seen S.Store lists_of t ≡ no_lists) }
         ensures ours { IfErr result (λ e. CanMake (state S.Store conn).now.schema → e.0 ≢ TablesFault.NotOurs) }
+        ensures back { IfErr result (λ e. IsHonest S.Store e.1 → CommitsNothing S.Store conn e.1) }
     {
         let mut conn = conn;
         if !can_make(conn.schema()) {
@@ -456,6 +493,16 @@ impl<S: Alter> Tables<S> {
             Err(Fault::Store) => Err((TablesFault::Store, conn)),
             Err(Fault::Memory) => Err((TablesFault::Memory, conn)),
         }
+    }
+}
+
+impl<S: Alter> Tables<S> {
+    /// The connection as it stands.
+    pub fn into_conn(self) -> Connection<S>
+        ensures { result ≡ self }
+    {
+        let Tables { conn } = self;
+        conn
     }
 }
 

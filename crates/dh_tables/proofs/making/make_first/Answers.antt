@@ -1,6 +1,5 @@
 use Rattle.dh_rows.specs.Calls.{IsHonest}
-use Rattle.std.proofs.Common.{◌∙◌}
-use Rattle.dh_tables.proofs.CallLemmas.{settles}
+use Rattle.dh_tables.proofs.CallLemmas.{went, went_ok, goes_on, goes_on_ok}
 use Rattle.dh_tables.proofs.making.make_first.Goals as goal
 
 pub make_project-requires : goal.make_project-requires
@@ -17,4 +16,6 @@ returns-clause-ok g c honest clean =
     let h1 : IsHonest g.S.Store c.make_meta.new.conn = (clean1, o1.0.is_open) in
     let o2 = c.in_ok-make_project.ensures.ok h1 clean2 in
     let h2 : IsHonest g.S.Store c.make_project.new.conn = (clean2, o2.0.is_open) in
-    settles _ g.S.Store c.make_project.new.conn c.make_lang.new.conn c.args.conn.now.in_transaction c.make_lang.result clean (o2.0.mode ∙ o1.0.mode) (c.make_lang.ensures.ok h2 clean)
+    let w1 = went g.S.Store c.args.conn.now c.make_meta.new.conn clean1 o1.0 in
+    let w2 = goes_on g.S.Store c.args.conn.now c.make_meta.new.conn c.make_project.new.conn w1 (went g.S.Store c.make_meta.new.conn c.make_project.new.conn clean2 o2.0) in
+    goes_on_ok g.S.Store c.args.conn.now c.make_project.new.conn c.make_lang.new.conn _ c.make_lang.result w2 (went_ok g.S.Store c.make_project.new.conn c.make_lang.new.conn _ c.make_lang.result clean (c.make_lang.ensures.ok h2 clean))

@@ -1,6 +1,5 @@
 use Rattle.dh_rows.specs.Calls.{IsHonest}
-use Rattle.std.proofs.Common.{◌∙◌}
-use Rattle.dh_tables.proofs.CallLemmas.{settles}
+use Rattle.dh_tables.proofs.CallLemmas.{went, went_ok, goes_on, goes_on_ok}
 use Rattle.dh_tables.proofs.making.make_rest.Goals as goal
 
 pub make_page-requires : goal.make_page-requires
@@ -23,4 +22,7 @@ returns-clause-ok g c honest clean =
     let h2 : IsHonest g.S.Store c.make_page.new.conn = (clean2, o2.0.is_open) in
     let o3 = c.in_ok-make_used.ensures.ok h2 clean3 in
     let h3 : IsHonest g.S.Store c.make_used.new.conn = (clean3, o3.0.is_open) in
-    settles _ g.S.Store c.make_used.new.conn c.number.new.conn c.args.conn.now.in_transaction c.number.result clean (o3.0.mode ∙ o2.0.mode ∙ o1.0.mode) (c.number.ensures.ok h3 clean)
+    let w1 = went g.S.Store c.args.conn.now c.make_version.new.conn clean1 o1.0 in
+    let w2 = goes_on g.S.Store c.args.conn.now c.make_version.new.conn c.make_page.new.conn w1 (went g.S.Store c.make_version.new.conn c.make_page.new.conn clean2 o2.0) in
+    let w3 = goes_on g.S.Store c.args.conn.now c.make_page.new.conn c.make_used.new.conn w2 (went g.S.Store c.make_page.new.conn c.make_used.new.conn clean3 o3.0) in
+    goes_on_ok g.S.Store c.args.conn.now c.make_used.new.conn c.number.new.conn _ c.number.result w3 (went_ok g.S.Store c.make_used.new.conn c.number.new.conn _ c.number.result clean (c.number.ensures.ok h3 clean))

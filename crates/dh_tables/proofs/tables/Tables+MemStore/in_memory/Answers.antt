@@ -12,19 +12,19 @@ make_tables-requires c honest = all_ready _ c.in_ok-conn.ensures.empty.2
 pub invariant_of-result : goal.invariant_of-result
 invariant_of-result c clean live =
     let it = c.in_ok-make_tables.ensures.ok (memory_is_clean c.in_ok-conn.conn, refl) clean in
-    let same = it.2 c.in_ok-conn.ensures.fresh.autocommit in
-    record { now = it.3.holds; last = subst Holds same it.3.holds; steady = ap (λ (d : Database). d.schema) same; settled = λ _. same }
+    let same = it.0.settled c.in_ok-conn.ensures.fresh.autocommit in
+    record { now = it.1.holds; last = subst Holds same it.1.holds; steady = ap (λ (d : Database). d.schema) same; settled = λ _. same }
 
 pub returns-clause-honest : goal.returns-clause-honest
 returns-clause-honest c = (memory_is_clean c.make_tables.new.conn, refl)
 
 pub returns-clause-settled : goal.returns-clause-settled
 returns-clause-settled c =
-    (c.in_ok-make_tables.ensures.ok (memory_is_clean c.in_ok-conn.conn, refl) (memory_is_clean c.make_tables.new.conn)).1 ∙ c.in_ok-conn.ensures.fresh.autocommit
+    (c.in_ok-make_tables.ensures.ok (memory_is_clean c.in_ok-conn.conn, refl) (memory_is_clean c.make_tables.new.conn)).0.mode ∙ c.in_ok-conn.ensures.fresh.autocommit
 
 pub returns-clause-none : goal.returns-clause-none
-returns-clause-none c = (c.in_ok-make_tables.ensures.ok (memory_is_clean c.in_ok-conn.conn, refl) (memory_is_clean c.make_tables.new.conn)).3.empty
+returns-clause-none c = (c.in_ok-make_tables.ensures.ok (memory_is_clean c.in_ok-conn.conn, refl) (memory_is_clean c.make_tables.new.conn)).1.empty
 
 pub returns-clause-empty : goal.returns-clause-empty
 returns-clause-empty c =
-    ap world_of (c.in_ok-make_tables.ensures.ok (memory_is_clean c.in_ok-conn.conn, refl) (memory_is_clean c.make_tables.new.conn)).3.empty ∙ world_empty
+    ap world_of (c.in_ok-make_tables.ensures.ok (memory_is_clean c.in_ok-conn.conn, refl) (memory_is_clean c.make_tables.new.conn)).1.empty ∙ world_empty

@@ -1,3 +1,6 @@
+use Rattle.std.proofs.Common.{◌∙◌, ap}
+use Rattle.sqlite.specs.Held.{state}
+use Rattle.dh_tables.specs.Tables.{lists_of}
 use Rattle.dh_tables.proofs.CallLemmas.{stay_ours, done_keeps, commit_leaves}
 use Rattle.dh_tables.proofs.tables.Tables.commit.Goals as goal
 
@@ -7,3 +10,7 @@ invariant_of-self g c =
 
 pub returns-clause-crash : goal.returns-clause-crash
 returns-clause-crash g c = rw (← c.self.view_is) (commit_leaves g.S.Store c.self.inside.conn c.commit.new.conn c.self.invariant c.commit.ensures.crash)
+
+pub returns-clause-left : goal.returns-clause-left
+returns-clause-left g c honest w left =
+    left.2 ∙ ap (λ trees. lists_of (record { schema = (state g.S.Store c.commit.new.conn).committed.schema; trees = trees })) (g.met.S.Store.settled c.commit.new.conn.store left.0 honest.1 left.1)

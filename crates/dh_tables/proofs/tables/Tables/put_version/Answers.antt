@@ -1,24 +1,21 @@
-use Rattle.std.proofs.Common.{subst, sym, ap, filter, not}
 use Rattle.sqlite.specs.Held.{state}
-use Rattle.dh_rows.specs.Keyed.{IsFreeKey, added, put}
+use Rattle.dh_tables.proofs.CallLemmas.{written, written_ours, write_leaves}
+use Rattle.dh_rows.specs.Keyed.{put}
 use Rattle.dh_tables.specs.Codings.{versions}
-use Rattle.dh_tables.specs.Lists.{Lists, is_version}
-use Rattle.dh_tables.specs.Tables.{lists_of}
-use Rattle.dh_tables.proofs.CallLemmas.{two_ok}
-use Rattle.dh_tables.proofs.Keys.{version_key, free_after, put_is}
+use Rattle.dh_tables.proofs.Statements.{put_version_text, put_version_writes, put_version_changes}
 use Rattle.dh_tables.proofs.tables.Tables.put_version.Goals as goal
 
-pub add_version-requires : goal.add_version-requires
-add_version-requires g c = record {
-  free = λ honest.
-      subst (IsFreeKey versions.key c.args.row.now) (sym (ap (λ (l : Lists). l.versions) (c.in_ok-drop_version.ensures.ok (c.drop_version.ensures.was honest) honest.0).now_is))
-      (free_after versions.key c.args.row.now (is_version c.args.row.now.host c.args.row.now.version.slug) (version_key c.args.row.now) (lists_of (state g.S.Store c.args.self.now).now).versions);
-}
+pub write-requires-clause-plain : goal.write-requires-clause-plain
+write-requires-clause-plain g c honest = (put_version_writes (state g.S.Store c.self.inside.conn) (c.self.invariant honest.0 honest.1).now c.args.row.now).plain
+
+pub write-requires-clause-edits : goal.write-requires-clause-edits
+write-requires-clause-edits g c honest = (put_version_writes (state g.S.Store c.self.inside.conn) (c.self.invariant honest.0 honest.1).now c.args.row.now).edits
+
+pub invariant_of-self : goal.invariant_of-self
+invariant_of-self g c = written_ours g.S.Store c.self.inside.conn c.write.new.conn c.self.invariant put_version_text (versions.encode c.args.row.now) (λ l. record l { versions = put versions.key c.args.row.now l.versions }) (λ honest. put_version_changes (state g.S.Store c.self.inside.conn) (c.self.invariant honest.0 honest.1).now c.args.row.now) c.write.result c.write.ensures.was (rw (c.params-to_sql.ensures, c.params-to_sql-2.ensures, c.params-to_sql-3.ensures, c.params-to_sql-4.ensures, c.params-to_sql-5.ensures, c.params-to_sql-6.ensures, c.params-to_sql-7.ensures, c.as_str.ensures.text, c.as_str-2.ensures.text, c.as_str-3.ensures.text, c.is_tag.ensures) at c.write.ensures.ok) c.write.ensures.err
 
 pub returns-clause-ok : goal.returns-clause-ok
-returns-clause-ok g c honest clean =
-    let middle = c.add_version.ensures.clean clean in
-    let dropped = c.in_ok-drop_version.ensures.ok honest middle in
-    two_ok g.S.Store c.args.self.now c.drop_version.new.self c.add_version.new.self c.add_version.result (λ l. record l { versions = filter (λ x. not (is_version c.args.row.now.host c.args.row.now.version.slug x)) l.versions }) (λ l. record l { versions = added versions.key c.args.row.now l.versions })
-    (λ l. record l { versions = put versions.key c.args.row.now l.versions }) (λ l. ap (λ rows. record l { versions = rows }) (put_is versions.key c.args.row.now (is_version c.args.row.now.host c.args.row.now.version.slug) (version_key c.args.row.now) l.versions))
-    (c.requires.within honest) dropped (c.add_version.ensures.ok (middle, dropped.is_open) clean)
+returns-clause-ok g c = rw (← c.self.view_is) (written g.S.Store c.self.inside.conn c.write.new.conn c.self.invariant put_version_text (versions.encode c.args.row.now) (λ l. record l { versions = put versions.key c.args.row.now l.versions }) (λ honest. put_version_changes (state g.S.Store c.self.inside.conn) (c.self.invariant honest.0 honest.1).now c.args.row.now) c.write.result (rw (c.params-to_sql.ensures, c.params-to_sql-2.ensures, c.params-to_sql-3.ensures, c.params-to_sql-4.ensures, c.params-to_sql-5.ensures, c.params-to_sql-6.ensures, c.params-to_sql-7.ensures, c.as_str.ensures.text, c.as_str-2.ensures.text, c.as_str-3.ensures.text, c.is_tag.ensures) at c.write.ensures.ok))
+
+pub returns-clause-crash : goal.returns-clause-crash
+returns-clause-crash g c = rw (← c.self.view_is) (write_leaves g.S.Store c.self.inside.conn c.write.new.conn c.self.invariant put_version_text (versions.encode c.args.row.now) (λ l. record l { versions = put versions.key c.args.row.now l.versions }) (λ honest. put_version_changes (state g.S.Store c.self.inside.conn) (c.self.invariant honest.0 honest.1).now c.args.row.now) (rw (c.params-to_sql.ensures, c.params-to_sql-2.ensures, c.params-to_sql-3.ensures, c.params-to_sql-4.ensures, c.params-to_sql-5.ensures, c.params-to_sql-6.ensures, c.params-to_sql-7.ensures, c.as_str.ensures.text, c.as_str-2.ensures.text, c.as_str-3.ensures.text, c.is_tag.ensures) at c.write.ensures.crash))

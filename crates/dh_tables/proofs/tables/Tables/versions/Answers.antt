@@ -4,6 +4,9 @@ use Rattle.std.proofs.Common.{filter}
 use Rattle.dh_tables.specs.Codings.{versions}
 use Rattle.dh_tables.specs.Tables.{lists_of}
 use Rattle.dh_tables.specs.Lists.{is_version_of}
+use Rattle.dh_tables.specs.View.{RiseBySlug}
+use Rattle.dh_tables.proofs.Known.{kept_by}
+use Rattle.dh_tables.proofs.SlugOrder.{host_rises}
 use Rattle.dh_tables.proofs.Statements.{versions_answers}
 use Rattle.dh_tables.proofs.tables.Tables.versions.Goals as goal
 
@@ -18,3 +21,6 @@ invariant_of-self g c = read_ours g.S.Store c.self.inside.conn c.all_records.new
 
 pub returns-clause-value : goal.returns-clause-value
 returns-clause-value g c = rw (← c.self.view_is) (λ honest clean. all_value versions.encode (λ v. v.items) c.all_records.result (filter (is_version_of c.args.host.now) (lists_of (state g.S.Store c.self.inside.conn).now).versions) (c.all_records.ensures.value honest clean) (λ rows it. (versions_answers (state g.S.Store c.self.inside.conn) (c.self.invariant honest.0 honest.1).now c.args.host.now).reads rows (rw (c.params-to_sql.ensures, c.as_str.ensures.text) at it)))
+
+pub returns-clause-order : goal.returns-clause-order
+returns-clause-order g c = rw (← c.self.view_is) (λ honest clean. kept_by RiseBySlug (λ v. v.items) c.all_records.result (filter (is_version_of c.args.host.now) (lists_of (state g.S.Store c.self.inside.conn).now).versions) (all_value versions.encode (λ v. v.items) c.all_records.result (filter (is_version_of c.args.host.now) (lists_of (state g.S.Store c.self.inside.conn).now).versions) (c.all_records.ensures.value honest clean) (λ rows it. (versions_answers (state g.S.Store c.self.inside.conn) (c.self.invariant honest.0 honest.1).now c.args.host.now).reads rows (rw (c.params-to_sql.ensures, c.as_str.ensures.text) at it))) (host_rises (state g.S.Store c.self.inside.conn).now (c.self.invariant honest.0 honest.1).now c.args.host.now))

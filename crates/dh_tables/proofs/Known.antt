@@ -1,0 +1,17 @@
+-- What a read finds.
+use Rattle.std.proofs.Common.{◌≡◌, Bool, List, [], ◌∷◌, map, Option, Result, Ok, Err, IfOk, slice_get, refl, sym, subst, ap, ◌∙◌}
+use Rattle.std.specs.Prelude.{is_some}
+
+first_mapped : {X R : Type 0} (encode : X → R) (ys : List X) → is_some (slice_get (map encode ys) 0) ≡ is_some (slice_get ys 0)
+first_mapped encode [] = refl
+first_mapped encode (y ∷ ys) = refl
+
+pub any_value : {X E : Type 0} {R : Type 0} {P : List R → Type 0} (encode : X → R) (r : Result Bool E) (ys : List X) (v : Option X) → IfOk r (λ b. (rows : List R) × P rows × (b ≡ is_some (slice_get rows 0)))
+    → ((rows : List R) → P rows → rows ≡ map encode ys) → slice_get ys 0 ≡ v → IfOk r (λ b. b ≡ is_some v)
+any_value encode (Ok b) ys v h reads e = h.2 ∙ ap (λ l. is_some (slice_get l 0)) (reads h.0 h.1) ∙ first_mapped encode ys ∙ ap is_some e
+any_value encode (Err x) ys v h reads e = tt
+
+-- what holds of the list holds of the answer that is it
+pub kept_by : {V E X : Type 0} (P : List X → Type 0) (items : V → List X) (r : Result V E) (ys : List X) → IfOk r (λ v. items v ≡ ys) → P ys → IfOk r (λ v. P (items v))
+kept_by P items (Ok v) ys e p = subst P (sym e) p
+kept_by P items (Err x) ys e p = tt

@@ -1,0 +1,175 @@
+-- The versions of a host stand in the order of their slugs, and so do those that a caller sees.
+use Rattle.std.proofs.Common.{◌≡◌, ℕ, Bool, true, false, not, ◌&&◌, ◌||◌, cond, List, [], ◌∷◌, map, filter, Option, Some, None, IsTrue, T, refl, sym, ap, subst, ◌∙◌, Ordering, Less, Equal, Greater, is_lt, true≢false}
+use Rattle.std.specs.Prelude.{option_map, is_some}
+use Rattle.std.specs.Option.{option_map_or}
+use Rattle.std.specs.List.{find, AllByRecursion}
+use Rattle.std.specs.Str.{bytes_eq}
+use Rattle.std.specs.Ordering.{eq_by_cmp, is_eq, ordering_then, ordering_reverse}
+use Rattle.std.specs.Cmp.{IsTotalOrder, tied_itself}
+use Rattle.std.specs.FinMap.{FinMap, is_sorted, get, entries, keys, values, from_entries, from_sorted, retain_keys, contains_key, get-entries, get-empty, get-from_entries, get-from_sorted, get-retain_keys, entries-from_sorted, same_map}
+use Rattle.std.specs.FinMap as finite
+use Rattle.std.specs.FinMap.Entries.{below_all, where_key, is_sorted-where_key, find-where_key}
+use Rattle.std.proofs.lemmas.Map.Lookups.{exact_bytes}
+use Rattle.std.proofs.lemmas.Slice.Eq.{bytes_eq-Decides}
+use Rattle.sqlite_value.specs.declared.value.Value.TheVariants.{Text}
+use Rattle.sqlite_value.specs.Order.{value_cmp}
+use Rattle.sqlite_value.proofs.OrderLemmas.{value_cmp-Text}
+use Rattle.sqlite.specs.Effect.{Database}
+use Rattle.dh_rows.specs.Keyed.{by_key}
+use Rattle.dh_rows.proofs.Lists.{Rises, rises-sort, by_key_total}
+use Rattle.dh_versions.specs.declared.version.Version.{Version}
+use Rattle.dh_tables.specs.declared.records.ProjectRow.{ProjectRow}
+use Rattle.dh_tables.specs.declared.records.VersionRow.{VersionRow}
+use Rattle.dh_tables.specs.Codings.{versions}
+use Rattle.dh_tables.specs.World.{text_cmp, Project, holds, is_visible}
+use Rattle.dh_tables.specs.World as world
+use Rattle.dh_tables.specs.Lists.{Lists, of_host, project_of, is_version, is_version_of}
+use Rattle.dh_tables.specs.Seen.{visible_versions}
+use Rattle.dh_tables.specs.Tables.{Holds, lists_of}
+use Rattle.dh_tables.specs.View.{RiseBySlug, is_public}
+use Rattle.dh_tables.proofs.SeenLemmas.{text_total, get_version}
+
+abbrev pub by_slug : VersionRow → world.Text × Version
+by_slug r = (r.version.slug, r.version)
+
+-- ---- the order of a host's versions
+
+both : (a b : Bool) → T a → T b → T (a && b)
+both true b p q = q
+both false b p q = absurd p
+
+first : (a b : Bool) → T (a && b) → T a
+first true b p = tt
+first false b p = absurd p
+
+second : (a b : Bool) → T (a && b) → T b
+second true b p = p
+second false b p = absurd p
+
+less_last : (o : Ordering) → ordering_then o Equal ≡ Less → T (is_lt o)
+less_last Less e = tt
+less_last Equal e = absurd (true≢false (ap is_eq e))
+less_last Greater e = absurd (true≢false (sym (ap is_lt e)))
+
+key_is : (x y : VersionRow) → by_key versions.key x y ≡ ordering_then (text_cmp x.host y.host) (ordering_then (text_cmp x.version.slug y.version.slug) Equal)
+key_is x y = rw (value_cmp-Text x.host y.host, value_cmp-Text x.version.slug y.version.slug) refl
+
+slug_rises : (x y : VersionRow) → y.host ≡ x.host → by_key versions.key x y ≡ Less → T (is_lt (text_cmp x.version.slug y.version.slug))
+slug_rises x y same less =
+    less_last _ (ap (λ o. ordering_then o (ordering_then (text_cmp x.version.slug y.version.slug) Equal)) (sym (tied_itself text_total x.host) ∙ ap (text_cmp x.host) (sym same)) ∙ sym (key_is x y) ∙ less)
+
+module _ (host : world.Text) where
+  below : (x : VersionRow) → bytes_eq x.host host ≡ true → (ys : List VersionRow) → AllByRecursion (λ y. by_key versions.key x y ≡ Less) ys
+      → T (below_all text_cmp x.version.slug (map by_slug (filter (is_version_of host) ys)))
+  below x own [] all = tt
+  below x own (y ∷ ys) all = go (bytes_eq y.host host) refl (below x own ys all.1)
+    where
+      go : (b : Bool) → bytes_eq y.host host ≡ b → T (below_all text_cmp x.version.slug (map by_slug (filter (is_version_of host) ys)))
+          → T (below_all text_cmp x.version.slug (map by_slug (cond b (y ∷ filter (is_version_of host) ys) (filter (is_version_of host) ys))))
+      go true e more = both _ _ (slug_rises x y ((bytes_eq-Decides y.host host).0 e ∙ sym ((bytes_eq-Decides x.host host).0 own)) all.0) more
+      go false e more = more
+
+  abbrev IsRising : List VersionRow → Type 0
+  IsRising rows = T (is_sorted text_cmp (map by_slug rows))
+
+  rising : (rows : List VersionRow) → Rises (by_key versions.key) (by_key_total versions.key) rows → IsRising (filter (is_version_of host) rows)
+  rising [] up = tt
+  rising (r ∷ rs) up = go (bytes_eq r.host host) refl (rising rs up.1)
+    where
+      go : (b : Bool) → bytes_eq r.host host ≡ b → IsRising (filter (is_version_of host) rs) → IsRising (cond b (r ∷ filter (is_version_of host) rs) (filter (is_version_of host) rs))
+      go true e more = both _ _ (below r e rs up.0) more
+      go false e more = more
+
+truth : (b : Bool) → T b → b ≡ true
+truth true t = refl
+truth false t = absurd t
+
+-- in tables that are ours
+pub host_rises : (db : Database) → Holds db → (host : world.Text) → RiseBySlug (filter (is_version_of host) (lists_of db).versions)
+host_rises db had host = truth _ (rising host _ (rises-sort (by_key versions.key) (by_key_total versions.key) _ had.versions.rows.keyed))
+
+-- ---- a map that is made of entries in order
+
+alike : (p : world.Text → Bool) (q x : world.Text) → text_cmp q x ≡ Equal → p x ≡ p q
+alike p q x e = ap p (sym (exact_bytes q x e))
+
+kept_entries : {X : Type 0} (es : List (world.Text × X)) (p : world.Text → Bool) → T (is_sorted text_cmp es) → entries (retain_keys (from_entries {R = text_cmp} es) p) ≡ filter (λ e. p e.0) es
+kept_entries es p up =
+    let kept = is_sorted-where_key text_cmp p es up in
+    ap entries (same_map text_total exact_bytes (retain_keys (from_entries es) p) (from_sorted (where_key text_cmp p es)) (λ q.
+      get-retain_keys (from_entries es) p q (alike p q) ∙ ap (λ o. cond (p q) o None) (get-from_entries text_total es q)
+      ∙ sym (get-from_sorted text_cmp (where_key text_cmp p es) q kept ∙ find-where_key text_cmp p q (alike p q) es)))
+    ∙ entries-from_sorted text_cmp (where_key text_cmp p es) kept
+
+-- each entry is found at its key
+apart : (x y : world.Text) → T (is_lt (text_cmp x y)) → eq_by_cmp text_cmp y x ≡ false
+apart x y less = go (text_cmp x y) refl less
+  where
+    go : (o : Ordering) → text_cmp x y ≡ o → T (is_lt o) → eq_by_cmp text_cmp y x ≡ false
+    go Less e t = ap is_eq (text_total.antisymm y x ∙ ap ordering_reverse e)
+    go Equal e t = absurd t
+    go Greater e t = absurd t
+
+module _ {X : Type 0} where
+  abbrev IsFound : List (world.Text × X) → world.Text × X → Type 0
+  IsFound es e = finite.find text_cmp e.0 es ≡ Some e.1
+
+  found_later : (e : world.Text × X) (es fs : List (world.Text × X)) → T (below_all text_cmp e.0 fs) → AllByRecursion (IsFound es) fs → AllByRecursion (IsFound (e ∷ es)) fs
+  found_later e es [] low all = tt
+  found_later e es (f ∷ fs) low all =
+      (ap (λ b. cond b (Some e.1) (finite.find text_cmp f.0 es)) (apart e.0 f.0 (first _ _ low)) ∙ all.0, found_later e es fs (second _ _ low) all.1)
+
+  each_found : (es : List (world.Text × X)) → T (is_sorted text_cmp es) → AllByRecursion (IsFound es) es
+  each_found [] up = tt
+  each_found (e ∷ es) up =
+      (ap (λ o. cond (is_eq o) (Some e.1) (finite.find text_cmp e.0 es)) (tied_itself text_total e.0), found_later e es es (first _ _ up) (each_found es (second _ _ up)))
+
+  same_filter : (p q : world.Text × X → Bool) (es : List (world.Text × X)) → AllByRecursion (λ e. p e ≡ q e) es → filter p es ≡ filter q es
+  same_filter p q [] all = refl
+  same_filter p q (e ∷ es) all = rw all.0 (ap (λ l. cond (q e) (e ∷ l) l) (same_filter p q es all.1))
+
+  each : {P Q : world.Text × X → Type 0} → ((e : world.Text × X) → P e → Q e) → (es : List (world.Text × X)) → AllByRecursion P es → AllByRecursion Q es
+  each f [] all = tt
+  each f (e ∷ es) all = (f e all.0, each f es all.1)
+
+public_entries : (rows : List VersionRow) → filter (λ e. is_public e.1) (map by_slug rows) ≡ map by_slug (filter (λ r. is_public r.version) rows)
+public_entries [] = refl
+public_entries (r ∷ rows) = go (is_public r.version) (public_entries rows)
+  where
+    go : (b : Bool) → filter (λ e. is_public e.1) (map by_slug rows) ≡ map by_slug (filter (λ r. is_public r.version) rows)
+        → cond b (by_slug r ∷ filter (λ e. is_public e.1) (map by_slug rows)) (filter (λ e. is_public e.1) (map by_slug rows)) ≡ map by_slug (cond b (r ∷ filter (λ r. is_public r.version) rows) (filter (λ r. is_public r.version) rows))
+    go true more = ap (λ l. by_slug r ∷ l) more
+    go false more = more
+
+-- ---- what a caller sees: no pass holds a version yet
+
+none_held : (lists : Lists) (row : ProjectRow) (pass : Option world.Text) (slug : world.Text) → holds (project_of lists row) pass slug ≡ false
+unfolding project_of
+none_held lists row None slug = refl
+none_held lists row (Some pass) slug = rw (get-empty text_cmp pass) refl
+
+or_none : (a : Bool) → (a || false) ≡ a
+or_none true = refl
+or_none false = refl
+
+pub visible_by : (lists : Lists) (row : ProjectRow) (pass : Option world.Text) (slug : world.Text) → is_visible (project_of lists row) pass slug ≡ option_map_or is_public (get (project_of lists row).versions slug) false
+visible_by lists row pass slug = go (get (project_of lists row).versions slug)
+  where
+    go : (o : Option Version) → option_map_or (λ v. v.active && (not v.private || holds (project_of lists row) pass slug)) o false ≡ option_map_or is_public o false
+    go None = refl
+    go (Some v) = rw (none_held lists row pass slug) (ap (λ b. v.active && b) (or_none (not v.private)))
+
+versions_are : (lists : Lists) (row : ProjectRow) → (project_of lists row).versions ≡ from_entries (map by_slug (filter (is_version_of row.host) lists.versions))
+unfolding project_of
+versions_are lists row = refl
+
+pub visible_entries : (lists : Lists) (row : ProjectRow) (pass : Option world.Text) → RiseBySlug (filter (is_version_of row.host) lists.versions)
+    → entries (visible_versions (project_of lists row) pass) ≡ map by_slug (filter (λ r. is_public r.version) (filter (is_version_of row.host) lists.versions))
+visible_entries lists row pass up =
+    let rows = filter (is_version_of row.host) lists.versions in
+    let es = map by_slug rows in
+    let sorted : T (is_sorted text_cmp es) = subst T (sym up) tt in
+    let seen : world.Text → Bool = is_visible (project_of lists row) pass in
+    let told : (e : world.Text × Version) → IsFound es e → seen e.0 ≡ is_public e.1 = λ e found.
+      visible_by lists row pass e.0 ∙ ap (λ m. option_map_or is_public (get m e.0) false) (versions_are lists row) ∙ ap (λ o. option_map_or is_public o false) (get-from_entries text_total es e.0 ∙ found) in
+    ap (λ m. entries (retain_keys m seen)) (versions_are lists row) ∙ kept_entries es seen sorted ∙ same_filter (λ e. seen e.0) (λ e. is_public e.1) es (each told es (each_found es sorted)) ∙ public_entries rows

@@ -1,0 +1,101 @@
+-- What looks leave, one after the other.
+use Rattle.std.proofs.Common.{◌≡◌, ◌≤◌, ◌⊎◌, inl, inr, ℕ, Bool, true, false, cond, ◌&&◌, Option, Result, Ok, Err, IsTrue, IfOk, OnOk, OnErr, refl, sym, ap, subst, ◌∙◌, arith, zero, suc, true≢false}
+use Rattle.sqlite_trees.specs.View.{doubt}
+use Rattle.sqlite_trees.specs.declared.store.Store.{Ghosts}
+use Rattle.sqlite.specs.State.{HasCleanDisk}
+use Rattle.sqlite.specs.Held.{Held, state}
+use Rattle.dh_reply.specs.declared.fault.Fault.{Fault}
+use Rattle.dh_reply.specs.declared.fault.Fault.TheVariants.{Store, Memory}
+use Rattle.dh_reply.specs.Faults.{UnlessStore}
+use Rattle.dh_rows.specs.Calls.{IsHonest, IsSame, IsUndone, IsRefused, Leaves, Shows, seen, committed}
+use Rattle.dh_tables.specs.Tables.{lists_of}
+use Rattle.dh_tables.specs.World.{Text}
+use Rattle.dh_tables.specs.Lists.{world_of}
+use Rattle.dh_tables.specs.Seen as caller
+use Rattle.dh_tables.specs.View.{doubt_of, shown, IsSettled, IsUnmoved, Looks}
+
+-- ---- doubt
+
+doubts : Bool → Bool → ℕ
+unfolding doubt
+doubts a b = doubt (a && b)
+
+none_doubted : (a b : Bool) → doubt (a && b) ≡ 0 → (doubt a ≡ 0) × IsTrue b
+unfolding doubt
+none_doubted true true e = (refl, refl)
+none_doubted true false e = absurd (omega arith)
+none_doubted false b e = absurd (omega arith)
+
+not_doubted : (a b : Bool) → doubt a ≡ 0 → IsTrue b → doubt (a && b) ≡ 0
+unfolding doubt
+not_doubted true true e t = refl
+not_doubted true false e t = absurd (true≢false (sym t))
+not_doubted false b e t = absurd (omega arith)
+
+at_most_one : (a : Bool) → doubt a ≤ 1
+unfolding doubt
+at_most_one true = omega arith
+at_most_one false = omega arith
+
+module _ {S : Type 0} (g : Ghosts S) where
+  pub honest : (h : Held S) → doubt_of g h ≡ 0 → IsHonest g h
+  unfolding doubt_of
+  honest h e = none_doubted (state g h).is_clean (state g h).is_open e
+
+  pub undoubted : (h : Held S) → IsHonest g h → doubt_of g h ≡ 0
+  unfolding doubt_of
+  undoubted h it = not_doubted (state g h).is_clean (state g h).is_open it.0 it.1
+
+  most : (h : Held S) → doubt_of g h ≤ 1
+  unfolding doubt_of
+  most h = at_most_one _
+
+  -- ---- looks in turn
+
+  pub was_honest : (a b : Held S) → Looks g a b → IsHonest g b → IsHonest g a
+  was_honest a b it h = (it.unmoved h).same.was_honest
+
+  pub looks_grow : (a b : Held S) → Looks g a b → doubt_of g a ≤ doubt_of g b
+  looks_grow a b it = go (doubt_of g b) refl
+    where
+      go : (n : ℕ) → doubt_of g b ≡ n → doubt_of g a ≤ n
+      go zero e = let z = undoubted a (was_honest a b it (honest b e)) in omega arith
+      go (suc n) e = let m = most a in omega arith
+
+  pub still_settled : (a b : Held S) → Looks g a b → (IsHonest g a → IsSettled g a) → IsHonest g b → IsSettled g b
+  still_settled a b it was h =
+      let same = (it.unmoved h).same in
+      let before = was same.was_honest in
+      record { outside = same.mode ∙ before.outside; same = same.now_is ∙ before.same ∙ sym same.last_is }
+
+  -- ---- one look
+
+  refused_unmoved : (a b : Held S) → IsSettled g a → IsRefused g lists_of a b → IsSame g lists_of a b
+  refused_unmoved a b was (inl it) = it
+  refused_unmoved a b was (inr it) = record { was_honest = it.was_honest; is_open = it.is_open; now_is = it.now_is ∙ sym was.same; last_is = it.last_is; mode = it.mode ∙ sym was.outside }
+
+  pub looked : {T E : Type 0} (a b : Held S) (r : Result T E) → (IsHonest g a → IsSettled g a) → (HasCleanDisk (state g b) → HasCleanDisk (state g a)) → (IsHonest g b → IsHonest g a)
+      → (IsHonest g a → HasCleanDisk (state g b) → OnOk r (IsSame g lists_of a b)) → (IsHonest g b → OnErr r (IsRefused g lists_of a b)) → Leaves g lists_of a b (λ w. ⊥) → Looks g a b
+  looked a b (Ok x) settled clean was same err crash = record { clean = clean; unmoved = λ it. record { same = same (was it) it.0; left = crash } }
+  looked a b (Err e) settled clean was same err crash = record { clean = clean; unmoved = λ it. record { same = refused_unmoved a b (settled (was it)) (err it); left = crash } }
+
+  pub shown_same : (a b : Held S) (host pass : Option Text) → Looks g a b → IsHonest g b → shown g b host pass ≡ shown g a host pass
+  shown_same a b host pass it h = ap (λ l. caller.seen (world_of l) host pass) (it.unmoved h).same.now_is
+
+  pub kept_shown : {T : Type 0} (a b : Held S) (host pass : Option Text) (r : Result T Fault) → Looks g a b → doubt_of g b ≡ 0 → UnlessStore r (shown g b host pass ≡ shown g a host pass)
+  kept_shown a b host pass (Ok x) it d = shown_same a b host pass it (honest b d)
+  kept_shown a b host pass (Err Memory) it d = shown_same a b host pass it (honest b d)
+  kept_shown a b host pass (Err Store) it d = tt
+
+  pub lists_same : (a b : Held S) → Looks g a b → IsHonest g b → seen g lists_of b ≡ seen g lists_of a
+  lists_same a b it h = (it.unmoved h).same.now_is
+
+-- ---- answers
+
+pub same_answer : {T U E : Type 0} (f : T → U) (r : Result T E) (v w : U) → v ≡ w → IfOk r (λ x. f x ≡ v) → IfOk r (λ x. f x ≡ w)
+same_answer f (Ok x) v w e h = h ∙ e
+same_answer f (Err x) v w e h = tt
+
+pub through : {T U V E : Type 0} (f : T → U) (k : U → V) (r : Result T E) (v : U) (w : V) → k v ≡ w → IfOk r (λ x. f x ≡ v) → IfOk r (λ x. k (f x) ≡ w)
+through f k (Ok x) v w e h = ap k h ∙ e
+through f k (Err x) v w e h = tt
