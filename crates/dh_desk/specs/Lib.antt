@@ -5,3 +5,4 @@ pub mod Step
 pub mod Checks
 pub mod Desk
 pub mod Places
+pub mod Reads
