@@ -1,5 +1,5 @@
 -- NewProject and AddLang, by the lists.
-use Rattle.std.proofs.Common.{◌≡◌, ℕ, ◌+◌, Bool, true, false, ◌||◌, cond, List, [], ◌∷◌, ◌++◌, map, filter, find, length, Option, Some, None, Ok, Err, Result, is_some, IsTrue, refl, sym, ap, ap₂, ◌∙◌, subst, inl, inr}
+use Rattle.std.proofs.Common.{◌≡◌, ℕ, ◌+◌, Bool, true, false, ◌||◌, cond, List, [], ◌∷◌, ◌++◌, map, filter, find, length, Option, Some, None, Ok, Err, Result, is_some, refl, sym, ap, ap₂, ◌∙◌}
 use Rattle.std.specs.Prelude.{option_map}
 use Rattle.std.specs.FinMap.{get}
 use Rattle.std.specs.List.{list_any}
@@ -10,12 +10,11 @@ use Rattle.std.proofs.lemmas.Slice.Eq.{bytes_eq-Decides}
 use Rattle.std.specs.Prelude.{◌<◌, ◌≤◌, nat_lt}
 use Rattle.sqlite_keyed.proofs.ListLemmas.{all_weaker}
 use Rattle.dh_rows.specs.Keyed.{IsFreeKey, same_key, added}
-use Rattle.dh_tables.specs.declared.answer.Answer.{Answer}
 use Rattle.dh_tables.specs.declared.answer.Answer.TheVariants.{Done}
 use Rattle.dh_tables.specs.declared.records.ProjectRow.{ProjectRow}
 use Rattle.dh_tables.specs.declared.records.LangRow.{LangRow}
 use Rattle.dh_tables.specs.Codings as coding
-use Rattle.dh_tables.specs.World.{Text, Project, World}
+use Rattle.dh_tables.specs.World.{Text, Project}
 use Rattle.dh_tables.specs.Lists.{Lists, world_of, project_of, is_project, is_lang_of}
 use Rattle.dh_tables.specs.Rules.{languages_of}
 use Rattle.dh_tables.proofs.SeenLemmas.{get_project}
@@ -60,17 +59,18 @@ main_is_free lists row sound new =
 pub project_made : (lists : Lists) (row : ProjectRow) → AreSound lists → find (is_project row.host) lists.projects ≡ None
     → (turn (world_of lists) (project_command row) ≡ Ok (world_of (with_project row lists), Done)) × AreSound (with_project row lists)
 project_made lists row sound new = (
-    turn_at lists (project_command row) None (no_project lists row.host new) ∙ ap (λ w. Ok (w, Done)) (sym (world_with_project lists row (main_lang row) sound.rules new refl refl)),
-    record {
-      order = record {
-        projects = added_in_order coding.projects.key row lists.projects (project_is_free row lists.projects new) sound.order.projects;
-        langs = added_in_order coding.langs.key (main_lang row) lists.langs (main_is_free lists row sound new) sound.order.langs;
-        versions = sound.order.versions;
-        pages = sound.order.pages;
-        used = sound.order.used;
-      };
-      rules = rules_with_project lists row (main_lang row) sound.rules new refl refl refl;
-    })
+  turn_at lists (project_command row) None (no_project lists row.host new) ∙ ap (λ w. Ok (w, Done)) (sym (world_with_project lists row (main_lang row) sound.rules new refl refl)),
+  record {
+    order = record {
+      projects = added_in_order coding.projects.key row lists.projects (project_is_free row lists.projects new) sound.order.projects;
+      langs = added_in_order coding.langs.key (main_lang row) lists.langs (main_is_free lists row sound new) sound.order.langs;
+      versions = sound.order.versions;
+      pages = sound.order.pages;
+      used = sound.order.used;
+    };
+    rules = rules_with_project lists row (main_lang row) sound.rules new refl refl refl;
+  },
+)
 
 -- what was found under a host
 pub found_none : {A : Type 0} (o q : Option A) → o ≡ q → is_some o ≡ false → q ≡ None
@@ -176,16 +176,16 @@ lang_made lists host lang r place sound found is =
     let it = found_here lists host r found in
     let at = placed (filter (is_lang_of host) lists.langs) lang place is in
     let has = owned_here lists host (project_of lists r) it in
-    let row : LangRow = lang_row host lang place in
-    (
-        lang_turn lists host lang (project_of lists r) it (Ok place) is ∙ ap (λ w. Ok (w, Done)) (sym (world_with_lang lists row (project_of lists r) sound.rules sound.order.langs at.1 it.was)),
-        record {
-          order = record {
-            projects = sound.order.projects;
-            langs = added_in_order coding.langs.key row lists.langs (lang_is_free lists row sound.rules has at.1) sound.order.langs;
-            versions = sound.order.versions;
-            pages = sound.order.pages;
-            used = sound.order.used;
-          };
-          rules = rules_with_lang lists row sound.rules sound.order.langs has at.1 (any_of_map (filter (is_lang_of host) lists.langs) lang ∙ at.0);
-        })
+    let row : LangRow = lang_row host lang place in (
+      lang_turn lists host lang (project_of lists r) it (Ok place) is ∙ ap (λ w. Ok (w, Done)) (sym (world_with_lang lists row (project_of lists r) sound.rules sound.order.langs at.1 it.was)),
+      record {
+        order = record {
+          projects = sound.order.projects;
+          langs = added_in_order coding.langs.key row lists.langs (lang_is_free lists row sound.rules has at.1) sound.order.langs;
+          versions = sound.order.versions;
+          pages = sound.order.pages;
+          used = sound.order.used;
+        };
+        rules = rules_with_lang lists row sound.rules sound.order.langs has at.1 (any_of_map (filter (is_lang_of host) lists.langs) lang ∙ at.0);
+      },
+    )

@@ -10,7 +10,7 @@ use crate::projects;
 use crate::refusal::Refusal;
 use dh_paths::Text;
 use dh_tables::{Answer, Tables};
-use sqlite::Alter;
+use sqlite::{Alter, Connection};
 use std::alloc::Global;
 use std::marker::Model;
 
@@ -31,7 +31,6 @@ impl<S: Alter + Drop> Drop for Desk<S> {
 }
 
 impl<S: Alter> Model for Desk<S> {
-    
     ghost use Rattle.dh_desk.specs.Desk.{Standing, standing_code, IsKept};
 
     ghost Value = { Standing S };
@@ -96,6 +95,14 @@ impl<S: Alter> Desk<S> {
             tables,
             closed: false,
         }
+    }
+
+    /// The connection as it stands.
+    pub fn into_conn(self) -> Connection<S>
+        ensures { result ≡ self.tables }
+    {
+        let Desk { tables, closed: _ } = self;
+        tables.into_conn()
     }
 
     /// The command NewProject. After a fault of the store the desk answers it to each.

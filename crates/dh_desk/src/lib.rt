@@ -18,3 +18,6 @@ pub use dh_tables::Answer;
 pub use outcome::Outcome;
 pub use pages::{Pages, UploadedPage};
 pub use refusal::Refusal;
+
+#[cfg(test)]
+mod tests;

@@ -1,5 +1,5 @@
-use Rattle.std.proofs.Common.{◌≡◌, ◌∙◌, sym, subst}
-use Rattle.dh_rows.specs.Calls.{seen, committed}
+use Rattle.std.proofs.Common.{◌∙◌, sym, subst}
+use Rattle.dh_rows.specs.Calls.{committed}
 use Rattle.dh_tables.specs.Lists.{Lists}
 use Rattle.dh_tables.specs.Tables.{lists_of}
 use Rattle.dh_desk.specs.declared.command.Command.TheVariants.{AddLang}

@@ -1,4 +1,4 @@
-use Rattle.std.proofs.Common.{◌≡◌, ◌∙◌, sym, ap, subst, inr, find, None, Ok}
+use Rattle.std.proofs.Common.{◌≡◌, ◌∙◌, sym, ap, subst, inr, find, Ok}
 use Rattle.dh_rows.specs.Keyed.{IsFreeKey, added}
 use Rattle.dh_rows.specs.Calls.{seen}
 use Rattle.dh_tables.specs.declared.answer.Answer.TheVariants.{Done}
@@ -9,7 +9,7 @@ use Rattle.dh_tables.specs.Tables.{lists_of}
 use Rattle.dh_tables.proofs.KeyLemmas.{project_is_free}
 use Rattle.dh_desk.specs.Step.{turn}
 use Rattle.dh_desk.specs.Desk.{AreSound}
-use Rattle.dh_desk.proofs.ProjectLemmas.{project_command, main_is_free, project_made, found_none, project_taken, with_project, main_lang}
+use Rattle.dh_desk.proofs.ProjectLemmas.{project_command, main_is_free, project_made, found_none, project_taken}
 use Rattle.dh_desk.proofs.Turning.{turns_aside}
 use Rattle.dh_desk.proofs.projects.make_project.Goals as goal
 
@@ -56,7 +56,7 @@ returns-clause-turns g c honest =
     let new = found_none _ (find (is_project c.args.project.now.host) lists.projects) (c.in_ok-project.ensures.value h0 h1.0) (sym c.is_some.ensures ∙ c.if-is_some.false) in
     let added_it = (c.in_ok-add_project.ensures.ok h1 h2.0).now_is ∙ ap (λ (l : Lists). record l { projects = added coding.projects.key c.args.project.now l.projects }) (c.in_ok-project.ensures.same h0 h1.0).now_is in
     let now =
-        (c.in_ok-add_lang.ensures.ok h2 honest.0).now_is ∙ ap (λ (l : Lists). record l { langs = added coding.langs.key c.args.lang.now l.langs }) added_it
-        ∙ ap (λ (x : LangRow). record lists { projects = added coding.projects.key c.args.project.now lists.projects; langs = added coding.langs.key x lists.langs }) c.requires.main in
+    (c.in_ok-add_lang.ensures.ok h2 honest.0).now_is ∙ ap (λ (l : Lists). record l { langs = added coding.langs.key c.args.lang.now l.langs }) added_it
+    ∙ ap (λ (x : LangRow). record lists { projects = added coding.projects.key c.args.project.now lists.projects; langs = added coding.langs.key x lists.langs }) c.requires.main in
     let P : Lists → Type 0 = λ l. (turn (world_of lists) (project_command c.args.project.now) ≡ Ok (world_of l, Done)) × AreSound l in
     subst P (sym now) (project_made lists c.args.project.now (c.requires.sound h0) new)
