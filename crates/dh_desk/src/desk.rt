@@ -1,14 +1,21 @@
-ghost use Rattle.std.specs.Prelude.{◌≡◌, true, false, Err};
+ghost use Rattle.std.specs.Prelude.{◌≡◌, true, false, Err, IfOk};
+ghost use Rattle.std.specs.Option.{option_map, option_and_then};
 ghost use Rattle.sqlite.specs.Held.{state};
 ghost use Rattle.sqlite.specs.State.{HasCleanDisk};
 ghost use Rattle.dh_rows.specs.Calls.{IsHonest, committed};
+ghost use Rattle.dh_paths.specs.Places.{split_of};
+ghost use Rattle.dh_reply.specs.Replies.{is_system, reply_to};
+ghost use Rattle.dh_tables.specs.Seen as caller;
 ghost use Rattle.dh_tables.specs.Tables.{lists_of};
+ghost use Rattle.dh_desk.specs.Reads.{host_named, pass_named, is_unanswered};
 ghost use Rattle.dh_desk.specs.Desk.{Steps, IsStep, IsKept, is_fault, world};
 
 use crate::command::Command;
 use crate::projects;
+use crate::reads::read;
 use crate::refusal::Refusal;
 use dh_paths::Text;
+use dh_reply::{Fault, Read, Reply};
 use dh_tables::{Answer, Tables};
 use sqlite::{Alter, Connection};
 use std::alloc::Global;
@@ -84,6 +91,13 @@ fn has_failed(answer: &Result<Answer, Refusal>) -> bool
     matches!(answer, Err(Refusal::Store))
 }
 
+/// Whether the store has failed in a read.
+fn is_unread(answer: &Result<Reply, Fault>) -> bool
+    ensures { result ≡ is_unanswered answer.now }
+{
+    matches!(answer, Err(Fault::Store))
+}
+
 impl<S: Alter> Desk<S> {
     /// The desk over these tables. A transaction that is open will be undone.
     pub fn over(tables: Tables<S>) -> Desk<S>
@@ -142,6 +156,31 @@ impl<S: Alter> Desk<S> {
         }
         let answer = add_lang(&mut self.tables, alloc, host, lang);
         self.closed = has_failed(&answer);
+        answer
+    }
+
+    /// The reply to a read under a host, for a caller who shows this pass or none. A name that is no host's names no project, and a text that is no pass counts as none. After a fault of the store the desk answers it to each call.
+    ///
+    /// `/robots.txt` and what begins with `/_/` have no reply of their own yet: 404 with the host's text.
+    pub fn read(
+        &mut self,
+        alloc: Global,
+        host: &str,
+        pass: Option<&str>,
+        asked: &Read,
+    ) -> Result<Reply, Fault>
+        ensures value { IsHonest S.Store self.new.tables → is_system (split_of asked.now.path) ≡ false → IfOk result (λ r. r ≡ reply_to (caller.seen (world S.Store self.old) (host_named host.now) (option_and_then pass_named (option_map (λ text. text.now) pass.entry))) asked.now.path asked.now.query) }
+        ensures same { IsHonest S.Store self.new.tables → world S.Store self.new ≡ world S.Store self.old }
+        ensures closed { self.old.closed ≡ true → (result ≡ Err Fault.Store) × (self.new ≡ self.old) }
+        ensures closes { self.new.closed ≡ is_unanswered result }
+        ensures clean { HasCleanDisk (state S.Store self.new.tables) → HasCleanDisk (state S.Store self.old.tables) }
+        ensures was { IsHonest S.Store self.new.tables → IsHonest S.Store self.old.tables }
+    {
+        if self.closed {
+            return Err(Fault::Store);
+        }
+        let answer = read(&mut self.tables, alloc, host, pass, asked);
+        self.closed = is_unread(&answer);
         answer
     }
 }
