@@ -10,8 +10,6 @@ pub mod tables;
 #[cfg(test)]
 mod tests;
 mod view;
-#[cfg(test)]
-mod view_tests;
 
 pub use answer::Answer;
 pub use records::{LangRow, Operation, PageRow, ProjectRow, UsedRow, VersionRow};

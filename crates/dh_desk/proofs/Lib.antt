@@ -1,0 +1,4 @@
+pub mod Turning
+pub mod ProjectLemmas
+pub mod EmptyLemmas
+pub mod PushLemmas

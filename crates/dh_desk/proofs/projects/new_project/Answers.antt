@@ -1,0 +1,31 @@
+use Rattle.std.proofs.Common.{◌∙◌, subst}
+use Rattle.dh_rows.specs.Calls.{seen, committed}
+use Rattle.dh_tables.specs.Lists.{Lists}
+use Rattle.dh_tables.specs.Tables.{lists_of}
+use Rattle.dh_tables.specs.declared.records.ProjectRow.{ProjectRow}
+use Rattle.dh_desk.specs.declared.command.Command.{Command}
+use Rattle.dh_desk.specs.declared.command.Command.TheVariants.{NewProject}
+use Rattle.dh_desk.specs.Desk.{Turns}
+use Rattle.dh_desk.proofs.ProjectLemmas.{project_command}
+use Rattle.dh_desk.proofs.Turning.{steps_aside, stays, ended}
+use Rattle.dh_desk.proofs.projects.new_project.Goals as goal
+
+pub returns-in_err-begin-clause-steps : goal.returns-in_err-begin-clause-steps
+returns-in_err-begin-clause-steps g c honest =
+    steps_aside (committed g.S.Store lists_of c.args.tables.now) (committed g.S.Store lists_of c.begin.new.self) (NewProject c.args.host.now c.args.lang.now c.args.branch.now c.args.private c.args.wkey.now) _ _
+    (stays g.S.Store c.args.tables.now c.begin.new.self (c.in_err-begin.ensures.err honest)) c.from_residual-in_err-begin.ensures.1
+
+pub returns-clause-steps : goal.returns-clause-steps
+returns-clause-steps g c honest =
+    let h2 = c.end.ensures.was honest in
+    let h1 = c.make_project-worked.ensures.was h2 in
+    let h0 = c.begin.ensures.was h1 in
+    let begun = c.in_ok-begin.ensures.ok h0 h1.0 in
+    let start : Lists = committed g.S.Store lists_of c.args.tables.now in
+    let worked : Lists = seen g.S.Store lists_of c.make_project-worked.new.tables in
+    let command : Command = NewProject c.args.host.now c.args.lang.now c.args.branch.now c.args.private c.args.wkey.now in
+    let by_row : ProjectRow → Type 0 = λ r. Turns (seen g.S.Store lists_of c.begin.new.self) worked (project_command r) c.make_project-worked.result in
+    let by_lists : Lists → Type 0 = λ l. Turns l worked command c.make_project-worked.result in
+    let turned = subst by_lists (begun.now_is ∙ c.requires.settled h0) (subst by_row c.in_ok-project.ensures.1.0 (c.make_project-worked.ensures.turns h2)) in
+    ended start worked (committed g.S.Store lists_of c.end.new.tables) (committed g.S.Store lists_of c.make_project-worked.new.tables) command c.make_project-worked.result c.end.result
+    c.in_ok-project.ensures.0 (c.make_project-worked.ensures.kept h2 ∙ begun.last_is) turned (c.end.ensures.ok honest) (c.end.ensures.err honest)

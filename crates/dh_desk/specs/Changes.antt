@@ -1,0 +1,156 @@
+-- What each command makes of the project of its host, once its texts are found to be values of their types.
+use Rattle.std.specs.Prelude.{Bool, true, false, not, ◌&&◌, nat_lt, if◌then◌else◌, List, [], ◌∷◌, ◌++◌, length, Option, Some, None, Result, Ok, Err}
+use Rattle.std.specs.List.{list_any}
+use Rattle.std.specs.Str.{bytes_eq}
+use Rattle.std.specs.FinMap.{FinMap, empty, get, insert, retain_keys}
+use Rattle.dh_paths.specs.Slugs.{slug_text}
+use Rattle.dh_versions.specs.declared.version.Kind.{Kind}
+use Rattle.dh_versions.specs.declared.version.Kind.TheVariants.{Branch, Tag}
+use Rattle.dh_versions.specs.declared.version.Version.{Version}
+use Rattle.dh_reply.specs.declared.answer.Page.{Page}
+use Rattle.dh_tables.specs.declared.answer.Answer.{Answer}
+use Rattle.dh_tables.specs.declared.answer.Answer.TheVariants.{Done, Made, Known, Stored}
+use Rattle.dh_tables.specs.declared.records.Operation.TheVariants as operation
+use Rattle.dh_tables.specs.World.{Text, Project, PageKey, page_cmp, UsedKey, op_code}
+use Rattle.dh_desk.specs.declared.command.Command.{Command}
+use Rattle.dh_desk.specs.declared.command.Command.TheVariants.{NewProject, AddLang, Push, Upload}
+use Rattle.dh_desk.specs.declared.pages.UploadedPage.{UploadedPage}
+use Rattle.dh_desk.specs.declared.refusal.Refusal.{Refusal}
+use Rattle.dh_desk.specs.declared.refusal.Refusal.TheVariants.{NoProject, ProjectTaken, WrongKey, LangTaken, NoLang, NoVersion, SlugTaken, Inactive, TooMany}
+
+-- the project as it then is, and the answer; or the refusal
+abbrev pub Change : Type 0
+Change = Result (Project × Answer) Refusal
+
+abbrev pub has_lang : Project → Text → Bool
+has_lang p lang = list_any (λ l. bytes_eq l lang) p.languages
+
+-- ---- NewProject and AddLang
+
+-- a project with one language and nothing else
+abbrev pub new_project : Text → Text → Bool → Text → Project
+new_project lang branch private wkey = record {
+  languages = lang ∷ [];
+  branch = branch;
+  new_private = private;
+  wkey = wkey;
+  versions = empty;
+  pages = empty;
+  defaults = [];
+  passes = empty;
+  held = empty;
+  used = empty;
+}
+
+-- the language is not there, there are fewer than 30: it is added last
+abbrev pub add_lang : Text → Project → Change
+add_lang lang p =
+    if has_lang p lang then Err LangTaken
+    else if nat_lt (length p.languages) 30 then Ok (record p { languages = p.languages ++ lang ∷ [] }, Done)
+    else Err TooMany
+
+-- ---- retry keys
+
+abbrev pub push_key : Text → Text → UsedKey
+push_key slug key = (slug, (op_code operation.Push, key))
+
+abbrev pub upload_key : Text → Text → UsedKey
+upload_key slug key = (slug, (op_code operation.Upload, key))
+
+-- the answer is kept as the first one to its key
+abbrev pub keep : UsedKey → Answer → Project → Change
+keep key answer p = Ok (record p { used = insert p.used key answer }, answer)
+
+-- a key that was used gives its first answer and changes nothing; any other lets the command run, and keeps its answer
+abbrev pub once : Project → Option Answer → Change → Change
+once p (Some first) change = Ok (p, first)
+once p None change = change
+
+-- ---- Push
+
+abbrev pub same_kind : Kind → Kind → Bool
+same_kind Branch Branch = true
+same_kind Tag Tag = true
+same_kind _ _ = false
+
+-- a branch whose name is the default branch
+abbrev pub is_default_branch : Project → Kind → Text → Bool
+is_default_branch p kind name = same_kind kind Branch && bytes_eq name p.branch
+
+-- a new version is not hidden, has the project's privacy, and is active only if it is the default branch
+abbrev pub new_version : Project → Kind → Text → Version
+new_version p kind name = record {
+  slug = slug_text name;
+  kind = kind;
+  name = name;
+  active = is_default_branch p kind name;
+  hidden = false;
+  private = p.new_private;
+}
+
+abbrev pub with_version : Project → Version → Project
+with_version p v = record p { versions = insert p.versions v.slug v }
+
+abbrev pub made : Version → Answer
+made v = Made v.slug v.active v.hidden v.private
+
+-- by the version that has the slug: the same branch or tag is known, another has taken the slug; where there is none, it is made
+abbrev pub pushed : Project → Text → Kind → Text → Option Version → Change
+pushed p key kind name (Some v) =
+    if same_kind v.kind kind && bytes_eq v.name name then keep (push_key v.slug key) (Known v.slug) p
+    else Err SlugTaken
+pushed p key kind name None =
+    let v : Version = new_version p kind name in
+    keep (push_key v.slug key) (made v) (with_version p v)
+
+-- by the write key, by the answer kept under the retry key, and by the version with the slug
+abbrev pub push : Text → Text → Kind → Text → Project → Change
+push wkey key kind name p =
+    if bytes_eq wkey p.wkey then once p (get p.used (push_key (slug_text name) key)) (pushed p key kind name (get p.versions (slug_text name)))
+    else Err WrongKey
+
+-- ---- Upload
+
+abbrev pub is_under : Text → Text → PageKey → Bool
+is_under slug lang key = bytes_eq key.0 slug && bytes_eq key.1.0 lang
+
+-- with `replace`, the pages without those of the version and language
+abbrev pub cleared : Bool → Text → Text → FinMap page_cmp Page → FinMap page_cmp Page
+cleared true slug lang pages = retain_keys pages (λ key. not (is_under slug lang key))
+cleared false slug lang pages = pages
+
+-- one page after the other, each in place of one that has its path
+abbrev pub with_pages : Text → Text → List UploadedPage → FinMap page_cmp Page → FinMap page_cmp Page
+with_pages slug lang [] pages = pages
+with_pages slug lang (x ∷ xs) pages = with_pages slug lang xs (insert pages (slug, (lang, x.path)) (record { media = x.media; body = x.body }))
+
+abbrev pub stored : Text → Text → Bool → List UploadedPage → Project → Project
+stored slug lang replace uploaded p = record p { pages = with_pages slug lang uploaded (cleared replace slug lang p.pages) }
+
+-- by the version with the slug: it has to be there and active, and the language one of the project's
+abbrev pub uploaded : Project → Text → Text → Text → Bool → List UploadedPage → Option Version → Change
+uploaded p key slug lang replace pages None = Err NoVersion
+uploaded p key slug lang replace pages (Some v) =
+    if not v.active then Err Inactive
+    else if not (has_lang p lang) then Err NoLang
+    else keep (upload_key slug key) (Stored (length pages)) (stored slug lang replace pages p)
+
+-- by the write key, by the answer kept under the retry key, and by the version with the slug
+abbrev pub upload : Text → Text → Text → Text → Bool → List UploadedPage → Project → Change
+upload wkey key slug lang replace pages p =
+    if bytes_eq wkey p.wkey then once p (get p.used (upload_key slug key)) (uploaded p key slug lang replace pages (get p.versions slug))
+    else Err WrongKey
+
+-- ---- all commands
+
+-- where the host has no project
+abbrev pub opened : Command → Change
+opened (NewProject host lang branch private wkey) = Ok (new_project lang branch private wkey, Done)
+opened _ = Err NoProject
+
+-- where the host has a project
+abbrev pub change : Command → Project → Change
+change (NewProject host lang branch private wkey) p = Err ProjectTaken
+change (AddLang host lang) p = add_lang lang p
+change (Push host wkey key kind name) p = push wkey key kind name p
+change (Upload host wkey key slug lang replace pages) p = upload wkey key slug lang replace pages p

@@ -1,0 +1,37 @@
+-- One step of the world: what a command changes and answers, or why it is refused.
+use Rattle.std.specs.Prelude.{Option, Some, None, Result, Ok, Err}
+use Rattle.std.specs.FinMap.{get, insert}
+use Rattle.dh_tables.specs.declared.answer.Answer.{Answer}
+use Rattle.dh_tables.specs.World.{Text, Project, World}
+use Rattle.dh_desk.specs.declared.command.Command.{Command}
+use Rattle.dh_desk.specs.declared.command.Command.TheVariants.{NewProject, AddLang, Push, Upload}
+use Rattle.dh_desk.specs.declared.refusal.Refusal.{Refusal}
+use Rattle.dh_desk.specs.Texts.{bad_text}
+use Rattle.dh_desk.specs.Changes.{Change, change, opened}
+
+abbrev pub host_of : Command → Text
+host_of (NewProject host lang branch private wkey) = host
+host_of (AddLang host lang) = host
+host_of (Push host wkey key kind name) = host
+host_of (Upload host wkey key slug lang replace pages) = host
+
+abbrev pub change_at : Command → Option Project → Change
+change_at c None = opened c
+change_at c (Some p) = change c p
+
+-- the changed project is put back under its host; a refusal changes nothing
+abbrev pub settled : World → Text → Change → Result (World × Answer) Refusal
+settled w host (Ok (p, answer)) = Ok (insert w host p, answer)
+settled w host (Err refusal) = Err refusal
+
+-- the one change of the project under the host, where the texts are right
+abbrev pub turn : World → Command → Result (World × Answer) Refusal
+turn w c = settled w (host_of c) (change_at c (get w (host_of c)))
+
+abbrev pub after_texts : World → Command → Option Refusal → Result (World × Answer) Refusal
+after_texts w c (Some refusal) = Err refusal
+after_texts w c None = turn w c
+
+-- The world that a command leaves, and its answer; or the refusal of a command that changes nothing. The texts come first.
+abbrev pub step : World → Command → Result (World × Answer) Refusal
+step w c = after_texts w c (bad_text c)

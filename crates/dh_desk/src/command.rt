@@ -1,0 +1,45 @@
+use crate::pages::Pages;
+use dh_paths::Text;
+use dh_versions::Kind;
+
+/// An administrative command. Its texts are as they came: that one is no value of its type is found when the command is applied.
+#[derive(Drop)]
+pub enum Command {
+    /// A project with one language and nothing else.
+    NewProject {
+        host: Text,
+        lang: Text,
+        /// The name of the default branch.
+        branch: Text,
+        /// Whether a new version is private.
+        private: bool,
+        /// The key that pushes and uploads carry.
+        wkey: Text,
+    },
+    /// One more language, the last.
+    AddLang {
+        host: Text,
+        lang: Text,
+    },
+    /// There is a branch or a tag of this name.
+    Push {
+        host: Text,
+        wkey: Text,
+        /// The retry key.
+        key: Text,
+        kind: Kind,
+        name: Text,
+    },
+    /// Pages of a version in a language.
+    Upload {
+        host: Text,
+        wkey: Text,
+        /// The retry key.
+        key: Text,
+        slug: Text,
+        lang: Text,
+        /// Whether the pages that are there are removed first.
+        replace: bool,
+        pages: Pages,
+    },
+}

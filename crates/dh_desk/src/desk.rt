@@ -1,0 +1,186 @@
+ghost use Rattle.std.specs.Prelude.{◌≡◌, true, false, Err, IfOk};
+ghost use Rattle.std.specs.Option.{option_map, option_and_then};
+ghost use Rattle.sqlite.specs.Held.{state};
+ghost use Rattle.sqlite.specs.State.{HasCleanDisk};
+ghost use Rattle.dh_rows.specs.Calls.{IsHonest, committed};
+ghost use Rattle.dh_paths.specs.Places.{split_of};
+ghost use Rattle.dh_reply.specs.Replies.{is_system, reply_to};
+ghost use Rattle.dh_tables.specs.Seen as caller;
+ghost use Rattle.dh_tables.specs.Tables.{lists_of};
+ghost use Rattle.dh_desk.specs.Reads.{host_named, pass_named, is_unanswered};
+ghost use Rattle.dh_desk.specs.Desk.{Steps, IsStep, IsKept, is_fault, world};
+
+use crate::command::Command;
+use crate::projects;
+use crate::reads::read;
+use crate::refusal::Refusal;
+use dh_paths::Text;
+use dh_reply::{Fault, Read, Reply};
+use dh_tables::{Answer, Tables};
+use sqlite::{Alter, Connection};
+use std::alloc::Global;
+use std::marker::Model;
+
+/// The tables of a documentation host, changed by commands alone.
+pub struct Desk<S: Alter> {
+    tables: Tables<S>,
+    /// A fault of the store has closed the desk.
+    closed: bool,
+}
+
+impl<S: Alter + Drop> Drop for Desk<S> {
+    fn drop(self) {
+        let Desk {
+            tables: _,
+            closed: _,
+        } = self;
+    }
+}
+
+impl<S: Alter> Model for Desk<S> {
+    ghost use Rattle.dh_desk.specs.Desk.{Standing, standing_code, IsKept};
+
+    ghost Value = { Standing S };
+
+    ghost coded = { standing_code S.code };
+
+    ghost view = { λ d. record { tables = d.tables; closed = d.closed } };
+
+    ghost invariant = { λ d. IsKept S.Store d.tables };
+}
+
+/// NewProject, on tables that may have a transaction open, which is undone.
+fn new_project<S: Alter>(
+    tables: &mut Tables<S>,
+    alloc: Global,
+    host: &Text,
+    lang: &Text,
+    branch: &Text,
+    private: bool,
+    wkey: &Text,
+) -> Result<Answer, Refusal>
+    requires { IsKept S.Store tables.old }
+    ensures steps { IsHonest S.Store tables.new → Steps (committed S.Store lists_of tables.old) (committed S.Store lists_of tables.new) (Command.NewProject host.now lang.now branch.now private wkey.now) result }
+    ensures clean { HasCleanDisk (state S.Store tables.new) → HasCleanDisk (state S.Store tables.old) }
+    ensures was { IsHonest S.Store tables.new → IsHonest S.Store tables.old }
+{
+    tables.back()?;
+    projects::new_project(tables, alloc, host, lang, branch, private, wkey)
+}
+
+/// AddLang, on tables that may have a transaction open, which is undone.
+fn add_lang<S: Alter>(
+    tables: &mut Tables<S>,
+    alloc: Global,
+    host: &Text,
+    lang: &Text,
+) -> Result<Answer, Refusal>
+    requires { IsKept S.Store tables.old }
+    ensures steps { IsHonest S.Store tables.new → Steps (committed S.Store lists_of tables.old) (committed S.Store lists_of tables.new) (Command.AddLang host.now lang.now) result }
+    ensures clean { HasCleanDisk (state S.Store tables.new) → HasCleanDisk (state S.Store tables.old) }
+    ensures was { IsHonest S.Store tables.new → IsHonest S.Store tables.old }
+{
+    tables.back()?;
+    projects::add_lang(tables, alloc, host, lang)
+}
+
+/// Whether the store has failed.
+fn has_failed(answer: &Result<Answer, Refusal>) -> bool
+    ensures { result ≡ is_fault answer.now }
+{
+    matches!(answer, Err(Refusal::Store))
+}
+
+/// Whether the store has failed in a read.
+fn is_unread(answer: &Result<Reply, Fault>) -> bool
+    ensures { result ≡ is_unanswered answer.now }
+{
+    matches!(answer, Err(Fault::Store))
+}
+
+impl<S: Alter> Desk<S> {
+    /// The desk over these tables. A transaction that is open will be undone.
+    pub fn over(tables: Tables<S>) -> Desk<S>
+        requires { IsKept S.Store tables }
+        ensures tables { result.tables ≡ tables }
+        ensures closed { result.closed ≡ false }
+    {
+        Desk {
+            tables,
+            closed: false,
+        }
+    }
+
+    /// The connection as it stands.
+    pub fn into_conn(self) -> Connection<S>
+        ensures { result ≡ self.tables }
+    {
+        let Desk { tables, closed: _ } = self;
+        tables.into_conn()
+    }
+
+    /// The command NewProject. After a fault of the store the desk answers it to each.
+    pub fn new_project(
+        &mut self,
+        alloc: Global,
+        host: &Text,
+        lang: &Text,
+        branch: &Text,
+        private: bool,
+        wkey: &Text,
+    ) -> Result<Answer, Refusal>
+        ensures step { IsHonest S.Store self.new.tables → IsStep (world S.Store self.old) (world S.Store self.new) (Command.NewProject host.now lang.now branch.now private wkey.now) result }
+        ensures closed { self.old.closed ≡ true → (result ≡ Err Refusal.Store) × (self.new ≡ self.old) }
+        ensures closes { self.new.closed ≡ is_fault result }
+        ensures clean { HasCleanDisk (state S.Store self.new.tables) → HasCleanDisk (state S.Store self.old.tables) }
+        ensures was { IsHonest S.Store self.new.tables → IsHonest S.Store self.old.tables }
+    {
+        if self.closed {
+            return Err(Refusal::Store);
+        }
+        let answer = new_project(&mut self.tables, alloc, host, lang, branch, private, wkey);
+        self.closed = has_failed(&answer);
+        answer
+    }
+
+    /// The command AddLang. After a fault of the store the desk answers it to each.
+    pub fn add_lang(&mut self, alloc: Global, host: &Text, lang: &Text) -> Result<Answer, Refusal>
+        ensures step { IsHonest S.Store self.new.tables → IsStep (world S.Store self.old) (world S.Store self.new) (Command.AddLang host.now lang.now) result }
+        ensures closed { self.old.closed ≡ true → (result ≡ Err Refusal.Store) × (self.new ≡ self.old) }
+        ensures closes { self.new.closed ≡ is_fault result }
+        ensures clean { HasCleanDisk (state S.Store self.new.tables) → HasCleanDisk (state S.Store self.old.tables) }
+        ensures was { IsHonest S.Store self.new.tables → IsHonest S.Store self.old.tables }
+    {
+        if self.closed {
+            return Err(Refusal::Store);
+        }
+        let answer = add_lang(&mut self.tables, alloc, host, lang);
+        self.closed = has_failed(&answer);
+        answer
+    }
+
+    /// The reply to a read under a host, for a caller who shows this pass or none. A name that is no host's names no project, and a text that is no pass counts as none. After a fault of the store the desk answers it to each call.
+    ///
+    /// `/robots.txt` and what begins with `/_/` have no reply of their own yet: 404 with the host's text.
+    pub fn read(
+        &mut self,
+        alloc: Global,
+        host: &str,
+        pass: Option<&str>,
+        asked: &Read,
+    ) -> Result<Reply, Fault>
+        ensures value { IsHonest S.Store self.new.tables → is_system (split_of asked.now.path) ≡ false → IfOk result (λ r. r ≡ reply_to (caller.seen (world S.Store self.old) (host_named host.now) (option_and_then pass_named (option_map (λ text. text.now) pass.entry))) asked.now.path asked.now.query) }
+        ensures same { IsHonest S.Store self.new.tables → world S.Store self.new ≡ world S.Store self.old }
+        ensures closed { self.old.closed ≡ true → (result ≡ Err Fault.Store) × (self.new ≡ self.old) }
+        ensures closes { self.new.closed ≡ is_unanswered result }
+        ensures clean { HasCleanDisk (state S.Store self.new.tables) → HasCleanDisk (state S.Store self.old.tables) }
+        ensures was { IsHonest S.Store self.new.tables → IsHonest S.Store self.old.tables }
+    {
+        if self.closed {
+            return Err(Fault::Store);
+        }
+        let answer = read(&mut self.tables, alloc, host, pass, asked);
+        self.closed = is_unread(&answer);
+        answer
+    }
+}

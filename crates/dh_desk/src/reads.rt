@@ -1,0 +1,87 @@
+//! Reads.
+ghost use Rattle.std.specs.Prelude.{◌≡◌, false, IfOk};
+ghost use Rattle.std.specs.Option.{option_map, option_and_then};
+ghost use Rattle.sqlite.specs.Held.{state};
+ghost use Rattle.sqlite.specs.State.{HasCleanDisk};
+ghost use Rattle.dh_paths.specs.Places.{split_of};
+ghost use Rattle.dh_rows.specs.Calls.{IsHonest, seen, committed};
+ghost use Rattle.dh_reply.specs.Replies.{is_system, reply_to};
+ghost use Rattle.dh_tables.specs.Lists.{world_of};
+ghost use Rattle.dh_tables.specs.Seen as caller;
+ghost use Rattle.dh_tables.specs.Tables.{lists_of};
+ghost use Rattle.dh_tables.specs.View.{Looks, shown};
+ghost use Rattle.dh_desk.specs.Reads.{host_named, pass_named};
+
+use dh_paths::{HostName, TextFault, Token};
+use dh_reply::{Fault, Read, Reply, reply};
+use dh_tables::{Tables, View};
+use sqlite::Alter;
+use std::alloc::Global;
+
+/// The host of this name, if it is one.
+fn host_in(alloc: Global, name: &str) -> Result<Option<HostName>, Fault>
+    ensures { IfOk result (λ host. host ≡ host_named name.now) }
+{
+    match HostName::parse(alloc, name) {
+        Ok(host) => Ok(Some(host)),
+        Err(TextFault::Memory) => Err(Fault::Memory),
+        Err(_) => Ok(None),
+    }
+}
+
+/// The pass of this text, if it is one.
+fn token_in(alloc: Global, text: &str) -> Result<Option<Token>, Fault>
+    ensures { IfOk result (λ pass. pass ≡ pass_named text.now) }
+{
+    match Token::parse(alloc, text) {
+        Ok(pass) => Ok(Some(pass)),
+        Err(TextFault::Memory) => Err(Fault::Memory),
+        Err(_) => Ok(None),
+    }
+}
+
+/// The pass that a caller shows: a text that is none counts as none.
+fn pass_in(alloc: Global, pass: Option<&str>) -> Result<Option<Token>, Fault>
+    ensures { IfOk result (λ o. o ≡ option_and_then pass_named (option_map (λ text. text.now) pass.entry)) }
+{
+    match pass {
+        Some(text) => token_in(alloc, text),
+        None => Ok(None),
+    }
+}
+
+/// The reply to a read, of tables outside a transaction.
+fn look<S: Alter>(
+    tables: &mut Tables<S>,
+    alloc: Global,
+    host: Option<HostName>,
+    pass: Option<Token>,
+    read: &Read,
+) -> Result<Reply, Fault>
+    ensures looks { Looks S.Store tables.old tables.new }
+    ensures value { IsHonest S.Store tables.new → is_system (split_of read.now.path) ≡ false → IfOk result (λ r. r ≡ reply_to (shown S.Store tables.old host pass) read.now.path read.now.query) }
+{
+    let mut view = View::new(tables, host, pass);
+    let answer = reply(alloc, &mut view, read);
+    let _tables = view.close();
+    answer
+}
+
+/// The reply to a read. A transaction that is open is undone first.
+pub fn read<S: Alter>(
+    tables: &mut Tables<S>,
+    alloc: Global,
+    host: &str,
+    pass: Option<&str>,
+    asked: &Read,
+) -> Result<Reply, Fault>
+    ensures value { IsHonest S.Store tables.new → is_system (split_of asked.now.path) ≡ false → IfOk result (λ r. r ≡ reply_to (caller.seen (world_of (committed S.Store lists_of tables.old)) (host_named host.now) (option_and_then pass_named (option_map (λ text. text.now) pass.entry))) asked.now.path asked.now.query) }
+    ensures same { IsHonest S.Store tables.new → committed S.Store lists_of tables.new ≡ committed S.Store lists_of tables.old }
+    ensures clean { HasCleanDisk (state S.Store tables.new) → HasCleanDisk (state S.Store tables.old) }
+    ensures was { IsHonest S.Store tables.new → IsHonest S.Store tables.old }
+{
+    let host = host_in(alloc, host)?;
+    let pass = pass_in(alloc, pass)?;
+    tables.back()?;
+    look(tables, alloc, host, pass, asked)
+}

@@ -1,0 +1,173 @@
+//! The checks of a command that look at its texts alone.
+ghost use Rattle.std.specs.Prelude.{◌≡◌, Bool, is_some};
+ghost use Rattle.dh_paths.specs.Texts.{is_host_name, is_lang, is_ref_name, is_slug, is_token};
+ghost use Rattle.dh_paths.specs.Slugs.{slug_from, slug_text};
+ghost use Rattle.dh_desk.specs.Checks.{Reads, Checks};
+ghost use Rattle.dh_desk.specs.Texts.{bad_text};
+ghost use Rattle.dh_desk.specs.Refusals.{unless};
+
+use crate::command::Command;
+use crate::pages::Pages;
+use crate::refusal::Refusal;
+use crate::uploads::check_pages;
+use dh_paths::{HostName, Lang, RefName, Slug, Text, TextFault, Token, slug_of};
+use dh_tables::{LangRow, ProjectRow};
+use dh_versions::Kind;
+use std::alloc::Global;
+
+fn host_in(alloc: Global, text: &Text) -> Result<HostName, Refusal>
+    ensures { Reads is_host_name Refusal.BadHost text.now result }
+{
+    Ok(HostName::parse(alloc, text.as_str())?)
+}
+
+fn lang_in(alloc: Global, text: &Text) -> Result<Lang, Refusal>
+    ensures { Reads is_lang Refusal.BadLang text.now result }
+{
+    Ok(Lang::parse(alloc, text.as_str())?)
+}
+
+fn ref_in(alloc: Global, text: &Text) -> Result<RefName, Refusal>
+    ensures { Reads is_ref_name Refusal.BadRef text.now result }
+{
+    Ok(RefName::parse(alloc, text.as_str())?)
+}
+
+fn slug_in(alloc: Global, text: &Text) -> Result<Slug, Refusal>
+    ensures { Reads is_slug Refusal.BadRef text.now result }
+{
+    Ok(Slug::parse(alloc, text.as_str())?)
+}
+
+fn write_key_in(alloc: Global, text: &Text) -> Result<Token, Refusal>
+    ensures { Reads is_token Refusal.BadToken text.now result }
+{
+    Ok(Token::parse(alloc, text.as_str())?)
+}
+
+fn retry_key_in(alloc: Global, text: &Text) -> Result<Token, Refusal>
+    ensures { Reads is_token Refusal.BadKey text.now result }
+{
+    match Token::parse(alloc, text.as_str()) {
+        Ok(key) => Ok(key),
+        Err(TextFault::Memory) => Err(Refusal::OutOfMemory),
+        Err(_) => Err(Refusal::BadKey),
+    }
+}
+
+/// The slug of a branch or tag.
+fn slug_in_name(alloc: Global, name: &RefName) -> Result<Slug, Refusal>
+    ensures { Checks (unless (is_some (slug_from name.now)) Refusal.BadRef) (λ slug. slug ≡ slug_text name.now) result }
+{
+    Ok(slug_of(alloc, name)?)
+}
+
+/// The records of a new project and of its main language.
+pub fn project_in(
+    alloc: Global,
+    host: &Text,
+    lang: &Text,
+    branch: &Text,
+    private: bool,
+    wkey: &Text,
+) -> Result<(ProjectRow, LangRow), Refusal>
+    ensures { Checks (bad_text (Command.NewProject host.now lang.now branch.now private wkey.now)) (λ rows. (rows.0 ≡ record { host = host.now; main = lang.now; branch = branch.now; wkey = wkey.now; new_private = private }) × (rows.1 ≡ record { host = host.now; lang = lang.now; place = 1 })) result }
+{
+    let host = host_in(alloc, host)?;
+    let main = lang_in(alloc, lang)?;
+    let branch = ref_in(alloc, branch)?;
+    let wkey = write_key_in(alloc, wkey)?;
+    let lang = LangRow {
+        host: host.try_copy(alloc)?,
+        lang: main.try_copy(alloc)?,
+        place: 1,
+    };
+    let project = ProjectRow {
+        host,
+        main,
+        branch,
+        wkey,
+        new_private: private,
+    };
+    Ok((project, lang))
+}
+
+/// The host and the language to add.
+pub fn added_lang_in(alloc: Global, host: &Text, lang: &Text) -> Result<(HostName, Lang), Refusal>
+    ensures { Checks (bad_text (Command.AddLang host.now lang.now)) (λ parts. (parts.0 ≡ host.now) × (parts.1 ≡ lang.now)) result }
+{
+    let host = host_in(alloc, host)?;
+    let lang = lang_in(alloc, lang)?;
+    Ok((host, lang))
+}
+
+/// The parts of a push.
+#[derive(Drop)]
+pub struct PushParts {
+    pub host: HostName,
+    pub wkey: Token,
+    pub key: Token,
+    pub name: RefName,
+    pub slug: Slug,
+}
+
+/// The parts of a push, of any kind.
+pub fn push_in(
+    alloc: Global,
+    host: &Text,
+    wkey: &Text,
+    key: &Text,
+    name: &Text,
+) -> Result<PushParts, Refusal>
+    ensures { (kind : Kind) → Checks (bad_text (Command.Push host.now wkey.now key.now kind name.now)) (λ parts. parts ≡ record { host = host.now; wkey = wkey.now; key = key.now; name = name.now; slug = slug_text name.now }) result }
+{
+    let host = host_in(alloc, host)?;
+    let wkey = write_key_in(alloc, wkey)?;
+    let key = retry_key_in(alloc, key)?;
+    let name = ref_in(alloc, name)?;
+    let slug = slug_in_name(alloc, &name)?;
+    Ok(PushParts {
+        host,
+        wkey,
+        key,
+        name,
+        slug,
+    })
+}
+
+/// The parts of an upload, but for its pages.
+#[derive(Drop)]
+pub struct UploadParts {
+    pub host: HostName,
+    pub wkey: Token,
+    pub key: Token,
+    pub slug: Slug,
+    pub lang: Lang,
+}
+
+/// The parts of an upload whose pages are right too.
+pub fn upload_in(
+    alloc: Global,
+    host: &Text,
+    wkey: &Text,
+    key: &Text,
+    slug: &Text,
+    lang: &Text,
+    pages: &Pages,
+) -> Result<UploadParts, Refusal>
+    ensures { (replace : Bool) → Checks (bad_text (Command.Upload host.now wkey.now key.now slug.now lang.now replace pages.now)) (λ parts. parts ≡ record { host = host.now; wkey = wkey.now; key = key.now; slug = slug.now; lang = lang.now }) result }
+{
+    let host = host_in(alloc, host)?;
+    let wkey = write_key_in(alloc, wkey)?;
+    let key = retry_key_in(alloc, key)?;
+    let slug = slug_in(alloc, slug)?;
+    let lang = lang_in(alloc, lang)?;
+    check_pages(alloc, pages)?;
+    Ok(UploadParts {
+        host,
+        wkey,
+        key,
+        slug,
+        lang,
+    })
+}
