@@ -11,12 +11,13 @@ ghost use Rattle.dh_desk.specs.Reads.{host_named, pass_named, is_unanswered};
 ghost use Rattle.dh_desk.specs.Desk.{Steps, IsStep, IsKept, is_fault, world};
 
 use crate::command::Command;
-use crate::projects;
 use crate::reads::read;
 use crate::refusal::Refusal;
+use crate::{projects, pushes};
 use dh_paths::Text;
 use dh_reply::{Fault, Read, Reply};
 use dh_tables::{Answer, Tables};
+use dh_versions::Kind;
 use sqlite::{Alter, Connection};
 use std::alloc::Global;
 use std::marker::Model;
@@ -82,6 +83,25 @@ fn add_lang<S: Alter>(
 {
     tables.back()?;
     projects::add_lang(tables, alloc, host, lang)
+}
+
+/// Push, on tables that may have a transaction open, which is undone.
+fn push<S: Alter>(
+    tables: &mut Tables<S>,
+    alloc: Global,
+    host: &Text,
+    wkey: &Text,
+    key: &Text,
+    kind: Kind,
+    name: &Text,
+) -> Result<Answer, Refusal>
+    requires { IsKept S.Store tables.old }
+    ensures steps { IsHonest S.Store tables.new → Steps (committed S.Store lists_of tables.old) (committed S.Store lists_of tables.new) (Command.Push host.now wkey.now key.now kind name.now) result }
+    ensures clean { HasCleanDisk (state S.Store tables.new) → HasCleanDisk (state S.Store tables.old) }
+    ensures was { IsHonest S.Store tables.new → IsHonest S.Store tables.old }
+{
+    tables.back()?;
+    pushes::push(tables, alloc, host, wkey, key, kind, name)
 }
 
 /// Whether the store has failed.
@@ -155,6 +175,30 @@ impl<S: Alter> Desk<S> {
             return Err(Refusal::Store);
         }
         let answer = add_lang(&mut self.tables, alloc, host, lang);
+        self.closed = has_failed(&answer);
+        answer
+    }
+
+    /// The command Push. After a fault of the store the desk answers it to each.
+    pub fn push(
+        &mut self,
+        alloc: Global,
+        host: &Text,
+        wkey: &Text,
+        key: &Text,
+        kind: Kind,
+        name: &Text,
+    ) -> Result<Answer, Refusal>
+        ensures step { IsHonest S.Store self.new.tables → IsStep (world S.Store self.old) (world S.Store self.new) (Command.Push host.now wkey.now key.now kind name.now) result }
+        ensures closed { self.old.closed ≡ true → (result ≡ Err Refusal.Store) × (self.new ≡ self.old) }
+        ensures closes { self.new.closed ≡ is_fault result }
+        ensures clean { HasCleanDisk (state S.Store self.new.tables) → HasCleanDisk (state S.Store self.old.tables) }
+        ensures was { IsHonest S.Store self.new.tables → IsHonest S.Store self.old.tables }
+    {
+        if self.closed {
+            return Err(Refusal::Store);
+        }
+        let answer = push(&mut self.tables, alloc, host, wkey, key, kind, name);
         self.closed = has_failed(&answer);
         answer
     }

@@ -7,6 +7,7 @@ pub mod desk;
 pub mod outcome;
 pub mod pages;
 mod projects;
+mod pushes;
 mod reads;
 pub mod refusal;
 mod texts;

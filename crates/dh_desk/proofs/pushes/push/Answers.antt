@@ -1,0 +1,44 @@
+use Rattle.std.proofs.Common.{◌≡◌, ◌∙◌, sym, subst, Some}
+use Rattle.dh_paths.specs.Slugs.{slug_from}
+use Rattle.dh_rows.specs.Calls.{seen, committed}
+use Rattle.dh_tables.specs.Lists.{Lists}
+use Rattle.dh_tables.specs.Tables.{lists_of}
+use Rattle.dh_desk.specs.declared.command.Command.{Command}
+use Rattle.dh_desk.specs.declared.command.Command.TheVariants.{Push}
+use Rattle.dh_desk.specs.declared.texts.PushParts.{PushParts}
+use Rattle.dh_desk.specs.Desk.{Turns}
+use Rattle.dh_desk.proofs.Turning.{steps_aside, stays, ended}
+use Rattle.dh_desk.proofs.PushTurns.{steps_wrong, slug_named}
+use Rattle.dh_desk.proofs.pushes.push.Goals as goal
+
+pub returns-in_err-parts-clause-steps : goal.returns-in_err-parts-clause-steps
+returns-in_err-parts-clause-steps g c honest =
+    steps_wrong (committed g.S.Store lists_of c.args.tables.now) (Push c.args.host.now c.args.wkey.now c.args.key.now c.args.kind c.args.name.now) c.in_err-parts.field-0.0 c.from_residual.result
+    c.from_residual.ensures.1 (c.in_err-parts.ensures c.args.kind)
+
+pub returns-in_err-begin-clause-steps : goal.returns-in_err-begin-clause-steps
+returns-in_err-begin-clause-steps g c honest =
+    steps_aside (committed g.S.Store lists_of c.args.tables.now) (committed g.S.Store lists_of c.begin.new.self) (Push c.args.host.now c.args.wkey.now c.args.key.now c.args.kind c.args.name.now) _ _
+    (stays g.S.Store c.args.tables.now c.begin.new.self (c.in_err-begin.ensures.err honest)) c.from_residual-in_err-begin.ensures.1
+
+pub make_push-worked-requires-clause-named : goal.make_push-worked-requires-clause-named
+make_push-worked-requires-clause-named g c =
+    let it = c.in_ok-parts.ensures c.args.kind in
+    let P : PushParts → Type 0 = λ x. slug_from x.name ≡ Some x.slug in
+    subst P (sym it.1) (slug_named c.args.host.now c.args.wkey.now c.args.key.now c.args.kind c.args.name.now it.0)
+
+pub returns-clause-steps : goal.returns-clause-steps
+returns-clause-steps g c honest =
+    let it = c.in_ok-parts.ensures c.args.kind in
+    let h2 = c.end.ensures.was honest in
+    let h1 = c.make_push-worked.ensures.was h2 in
+    let h0 = c.begin.ensures.was h1 in
+    let begun = c.in_ok-begin.ensures.ok h0 h1.0 in
+    let start : Lists = committed g.S.Store lists_of c.args.tables.now in
+    let worked : Lists = seen g.S.Store lists_of c.make_push-worked.new.tables in
+    let command : Command = Push c.args.host.now c.args.wkey.now c.args.key.now c.args.kind c.args.name.now in
+    let by_parts : PushParts → Type 0 = λ x. Turns (seen g.S.Store lists_of c.begin.new.self) worked (Push x.host x.wkey x.key c.args.kind x.name) c.make_push-worked.result in
+    let by_lists : Lists → Type 0 = λ l. Turns l worked command c.make_push-worked.result in
+    let turned = subst by_lists (begun.now_is ∙ c.requires.settled h0) (subst by_parts it.1 (c.make_push-worked.ensures.turns h2)) in
+    ended start worked (committed g.S.Store lists_of c.end.new.tables) (committed g.S.Store lists_of c.make_push-worked.new.tables) command c.make_push-worked.result c.end.result
+    it.0 (c.make_push-worked.ensures.kept h2 ∙ begun.last_is) turned (c.end.ensures.ok honest) (c.end.ensures.err honest)
