@@ -2,7 +2,6 @@ use crate::{Answer, Desk, Refusal};
 use dh_paths::Text;
 use dh_reply::Fault;
 use dh_tables::Tables;
-use dh_versions::Kind;
 use sqlite::MemStore;
 use std::alloc::Global;
 use std::test::Fail;
@@ -112,86 +111,6 @@ fn thirty_languages_are_enough(rt: HostRuntime) -> Result<(), Fail> {
             Err(Refusal::TooMany)
         )
     );
-    Ok(())
-}
-
-fn pushed(
-    alloc: Global,
-    desk: &mut Desk<MemStore>,
-    wkey: &str,
-    key: &str,
-    kind: Kind,
-    name: &str,
-) -> Result<Result<Answer, Refusal>, Fail> {
-    Ok(desk.push(
-        alloc,
-        &text(alloc, "docs.test")?,
-        &text(alloc, wkey)?,
-        &text(alloc, key)?,
-        kind,
-        &text(alloc, name)?,
-    ))
-}
-
-fn has_made(answer: &Result<Answer, Refusal>, named: &str, is_active: bool) -> bool {
-    match answer {
-        Ok(
-            Answer::Made {
-                slug,
-                active,
-                hidden,
-                private,
-            },
-        ) => slug.as_str() == named && *active == is_active && !*hidden && !*private,
-        _ => false,
-    }
-}
-
-fn has_known(answer: &Result<Answer, Refusal>, named: &str) -> bool {
-    match answer {
-        Ok(Answer::Known { slug }) => slug.as_str() == named,
-        _ => false,
-    }
-}
-
-#[test]
-fn a_push_makes_a_version_once(rt: HostRuntime) -> Result<(), Fail> {
-    let alloc = rt.alloc();
-    let mut desk = empty_desk(alloc)?;
-    let early = pushed(alloc, &mut desk, "wkey-1", "push-1", Kind::Branch, "main")?;
-    assert!(rt; matches!(early, Err(Refusal::NoProject)));
-    assert!(rt; matches!(first_project(alloc, &mut desk)?, Ok(Answer::Done)));
-    let first = pushed(alloc, &mut desk, "wkey-1", "push-1", Kind::Branch, "main")?;
-    assert!(rt; has_made(&first, "main", true));
-    let again = pushed(alloc, &mut desk, "wkey-1", "push-1", Kind::Branch, "main")?;
-    assert!(rt; has_made(&again, "main", true));
-    let known = pushed(alloc, &mut desk, "wkey-1", "push-2", Kind::Branch, "main")?;
-    assert!(rt; has_known(&known, "main"));
-    let tag = pushed(alloc, &mut desk, "wkey-1", "push-3", Kind::Tag, "main")?;
-    assert!(rt; matches!(tag, Err(Refusal::SlugTaken)));
-    let other = pushed(
-        alloc,
-        &mut desk,
-        "wkey-1",
-        "push-1",
-        Kind::Tag,
-        "Release/1.0",
-    )?;
-    assert!(rt; has_made(&other, "release-1.0", false));
-    Ok(())
-}
-
-#[test]
-fn a_push_is_refused_for_its_texts_and_key(rt: HostRuntime) -> Result<(), Fail> {
-    let alloc = rt.alloc();
-    let mut desk = empty_desk(alloc)?;
-    assert!(rt; matches!(first_project(alloc, &mut desk)?, Ok(Answer::Done)));
-    let stranger = pushed(alloc, &mut desk, "wkey-2", "push-1", Kind::Branch, "main")?;
-    assert!(rt; matches!(stranger, Err(Refusal::WrongKey)));
-    let keyless = pushed(alloc, &mut desk, "wkey-1", "", Kind::Branch, "main")?;
-    assert!(rt; matches!(keyless, Err(Refusal::BadKey)));
-    let slugless = pushed(alloc, &mut desk, "wkey-1", "push-1", Kind::Branch, "--")?;
-    assert!(rt; matches!(slugless, Err(Refusal::BadRef)));
     Ok(())
 }
 
