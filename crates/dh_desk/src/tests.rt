@@ -1,7 +1,8 @@
 use crate::{Answer, Desk, Refusal};
 use dh_paths::Text;
-use dh_reply::Fault;
+use dh_reply::{Fault, Read};
 use dh_tables::Tables;
+use dh_versions::Kind;
 use sqlite::MemStore;
 use std::alloc::Global;
 use std::test::Fail;
@@ -120,4 +121,42 @@ fn refusals_have_numbers_and_names(rt: HostRuntime) {
     assert_eq!(rt; Refusal::TooMany.number(), 19);
     assert_eq!(rt; Refusal::TooMany.name(), "TooMany");
     assert_eq!(rt; Refusal::PatternRefused(2).name(), "PatternRefused");
+}
+
+#[test]
+fn a_read_of_an_empty_desk_is_not_found(rt: HostRuntime) -> Result<(), Fail> {
+    let alloc = rt.alloc();
+    let mut desk = empty_desk(alloc)?;
+    let asked = Read {
+        path: text(alloc, "/")?,
+        query: None,
+    };
+    let reply = desk.read(alloc, "docs.test", None, &asked)?;
+    assert_eq!(rt; reply.status, 404);
+    assert_eq!(rt; reply.body.as_slice().len(), 14);
+    Ok(())
+}
+
+#[test]
+fn the_default_branch_is_pushed(rt: HostRuntime) -> Result<(), Fail> {
+    let alloc = rt.alloc();
+    let mut desk = empty_desk(alloc)?;
+    let made = first_project(alloc, &mut desk)?;
+    assert!(rt; matches!(made, Ok(Answer::Done)));
+    let pushed = desk.push(
+        alloc,
+        &text(alloc, "docs.test")?,
+        &text(alloc, "wkey-1")?,
+        &text(alloc, "k1")?,
+        Kind::Branch,
+        &text(alloc, "main")?,
+    );
+    assert!(rt; matches!(pushed, Ok(Answer::Made { active: true, .. })));
+    let asked = Read {
+        path: text(alloc, "/")?,
+        query: None,
+    };
+    let reply = desk.read(alloc, "docs.test", None, &asked)?;
+    assert_eq!(rt; reply.status, 302);
+    Ok(())
 }
