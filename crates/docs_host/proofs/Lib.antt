@@ -1,1 +1,5 @@
 pub mod AnswerLemmas
+pub mod AppLemmas
+pub mod ReadingLemmas
+pub mod LineLemmas
+pub mod ScriptLemmas

@@ -1,0 +1,64 @@
+-- The words of the program and of a script's line, as `clap` sees them.
+use Rattle.std.specs.Prelude.{true, fold, List, [], ◌∷◌, Some, codes}
+use Rattle.clap.specs.Walk.{Text, Rule}
+use Rattle.clap.specs.Simple.{App, new_app, new_rule, with_rule, with_subcommand}
+use Rattle.clap.specs.declared.builder.action.ArgAction.TheVariants.{SetTrue}
+
+-- a word that has to be there
+abbrev pub word_rule : Text → Rule
+word_rule id = record (new_rule id) { required = true }
+
+-- `--id VALUE`
+abbrev pub option_rule : Text → Rule
+option_rule id = record (new_rule id) { long = Some id }
+
+-- `--id`
+abbrev pub flag_rule : Text → Rule
+flag_rule id = record (new_rule id) { long = Some id; action = Some SetTrue }
+
+-- a command that takes these words too, behind those that it has
+abbrev pub with_words : App → List Text → App
+with_words app ids = fold (λ a id. with_rule a (word_rule id)) app ids
+
+-- `NAME WORD ..`
+abbrev pub form : Text → List Text → App
+form name ids = with_words (new_app name) ids
+
+abbrev pub new_project_app : App
+new_project_app = form (codes "new-project") (codes "host" ∷ codes "lang" ∷ codes "branch" ∷ codes "privacy" ∷ codes "wkey" ∷ [])
+
+abbrev pub add_lang_app : App
+add_lang_app = form (codes "add-lang") (codes "host" ∷ codes "lang" ∷ [])
+
+abbrev pub push_app : App
+push_app = form (codes "push") (codes "host" ∷ codes "wkey" ∷ codes "key" ∷ codes "kind" ∷ codes "ref" ∷ [])
+
+abbrev pub upload_app : App
+upload_app = with_rule (form (codes "upload") (codes "host" ∷ codes "wkey" ∷ codes "key" ∷ codes "slug" ∷ codes "lang" ∷ codes "path" ∷ codes "type" ∷ codes "text" ∷ [])) (flag_rule (codes "replace"))
+
+abbrev pub get_app : App
+get_app = with_rule (form (codes "get") (codes "host" ∷ codes "target" ∷ [])) (option_rule (codes "pass"))
+
+abbrev pub script_app : App
+script_app = form (codes "script") []
+
+abbrev pub answer_app : App
+answer_app = form (codes "answer") []
+
+-- the program without its subcommands, one of which has to be named; its words come without the program's own name
+abbrev pub bare_app : App
+bare_app = record (new_app (codes "docs_host")) {
+  top = record (new_app (codes "docs_host")).top { no_binary_name = true; disable_help_subcommand = true; arg_required_else_help = true; subcommand_required = true };
+}
+
+-- the program: the lines of scripts, and what it does with its input
+abbrev pub docs_app : App
+docs_app = fold (λ (a s : App). with_subcommand a s.top) bare_app
+    (new_project_app
+    ∷ add_lang_app
+    ∷ push_app
+    ∷ upload_app
+    ∷ get_app
+    ∷ script_app
+    ∷ answer_app
+    ∷ [])

@@ -1,0 +1,190 @@
+//! The words of the program and of a script's line, as `clap` sees them.
+
+ghost use Rattle.std.specs.Prelude.{◌≡◌, IfOk, false, map, codes};
+ghost use Rattle.clap.specs.Simple.{app_of, new_app, with_rule, with_subcommand};
+ghost use Rattle.clap.specs.declared.builder.command.Command.TheViews.{out-Command};
+ghost use Rattle.docs_host.specs.App.{word_rule, option_rule, flag_rule, with_words as words_added, new_project_app, add_lang_app, push_app, upload_app, get_app, script_app, answer_app, bare_app, docs_app};
+
+use clap::{Arg, ArgAction, Command};
+use std::alloc::{AllocError, Global};
+
+fn named<'a>(alloc: Global, name: &'a str, about: &'a str) -> Command<'a>
+    ensures app { app_of result ≡ new_app name.entry.now }
+    ensures local { (out-Command result).has_globals ≡ false }
+{
+    Command::new(alloc, name).about(about)
+}
+
+fn with_word<'a>(
+    alloc: Global,
+    command: Command<'a>,
+    id: &'a str,
+) -> Result<Command<'a>, AllocError>
+    requires { (out-Command command).has_globals ≡ false }
+    ensures app { IfOk result (λ c. app_of c ≡ with_rule (app_of command.entry) (word_rule id.entry.now)) }
+    ensures local { IfOk result (λ c. (out-Command c).has_globals ≡ false) }
+{
+    command.arg(Arg::new(alloc, id).required(true))
+}
+
+/// `--id VALUE`
+fn with_option<'a>(
+    alloc: Global,
+    command: Command<'a>,
+    id: &'a str,
+) -> Result<Command<'a>, AllocError>
+    requires { (out-Command command).has_globals ≡ false }
+    ensures app { IfOk result (λ c. app_of c ≡ with_rule (app_of command.entry) (option_rule id.entry.now)) }
+    ensures local { IfOk result (λ c. (out-Command c).has_globals ≡ false) }
+{
+    command.arg(Arg::new(alloc, id).long(id))
+}
+
+/// `--id`
+fn with_flag<'a>(
+    alloc: Global,
+    command: Command<'a>,
+    id: &'a str,
+) -> Result<Command<'a>, AllocError>
+    requires { (out-Command command).has_globals ≡ false }
+    ensures app { IfOk result (λ c. app_of c ≡ with_rule (app_of command.entry) (flag_rule id.entry.now)) }
+    ensures local { IfOk result (λ c. (out-Command c).has_globals ≡ false) }
+{
+    command.arg(Arg::new(alloc, id).long(id).action(ArgAction::SetTrue))
+}
+
+fn with_words<'a>(
+    alloc: Global,
+    command: Command<'a>,
+    ids: &[&'a str],
+) -> Result<Command<'a>, AllocError>
+    requires { (out-Command command).has_globals ≡ false }
+    ensures app { IfOk result (λ c. app_of c ≡ words_added (app_of command.entry) (map (λ s. s.now) ids.now)) }
+    ensures local { IfOk result (λ c. (out-Command c).has_globals ≡ false) }
+{
+    let mut command = command;
+    for id in ids {
+        command = with_word(alloc, command, *id)?;
+    }
+    Ok(command)
+}
+
+fn with_command<'a>(command: Command<'a>, sub: Command<'a>) -> Result<Command<'a>, AllocError>
+    requires local { (out-Command command).has_globals ≡ false }
+    requires sub_local { (out-Command sub).has_globals ≡ false }
+    ensures app { IfOk result (λ c. app_of c ≡ with_subcommand (app_of command.entry) (app_of sub.entry).top) }
+    ensures local { IfOk result (λ c. (out-Command c).has_globals ≡ false) }
+{
+    command.subcommand(sub)
+}
+
+fn new_project_command<'a>(alloc: Global) -> Result<Command<'a>, AllocError>
+    ensures app { IfOk result (λ c. app_of c ≡ new_project_app) }
+    ensures local { IfOk result (λ c. (out-Command c).has_globals ≡ false) }
+{
+    let command = named(
+        alloc,
+        "new-project",
+        "A line of a script: a project with one language; PRIVACY is public or private",
+    );
+    with_words(
+        alloc,
+        command,
+        &["host", "lang", "branch", "privacy", "wkey"],
+    )
+}
+
+fn add_lang_command<'a>(alloc: Global) -> Result<Command<'a>, AllocError>
+    ensures app { IfOk result (λ c. app_of c ≡ add_lang_app) }
+    ensures local { IfOk result (λ c. (out-Command c).has_globals ≡ false) }
+{
+    let command = named(alloc, "add-lang", "A line of a script: one more language");
+    with_words(alloc, command, &["host", "lang"])
+}
+
+fn push_command<'a>(alloc: Global) -> Result<Command<'a>, AllocError>
+    ensures app { IfOk result (λ c. app_of c ≡ push_app) }
+    ensures local { IfOk result (λ c. (out-Command c).has_globals ≡ false) }
+{
+    let command = named(
+        alloc,
+        "push",
+        "A line of a script: there is a branch or a tag; KIND is branch or tag",
+    );
+    with_words(alloc, command, &["host", "wkey", "key", "kind", "ref"])
+}
+
+fn upload_command<'a>(alloc: Global) -> Result<Command<'a>, AllocError>
+    ensures app { IfOk result (λ c. app_of c ≡ upload_app) }
+    ensures local { IfOk result (λ c. (out-Command c).has_globals ≡ false) }
+{
+    let command = named(
+        alloc,
+        "upload",
+        "A line of a script: one page of a version in a language",
+    );
+    let command = with_words(
+        alloc,
+        command,
+        &[
+            "host", "wkey", "key", "slug", "lang", "path", "type", "text",
+        ],
+    )?;
+    with_flag(alloc, command, "replace")
+}
+
+fn get_command<'a>(alloc: Global) -> Result<Command<'a>, AllocError>
+    ensures app { IfOk result (λ c. app_of c ≡ get_app) }
+    ensures local { IfOk result (λ c. (out-Command c).has_globals ≡ false) }
+{
+    let command = named(alloc, "get", "A line of a script: a read");
+    let command = with_words(alloc, command, &["host", "target"])?;
+    with_option(alloc, command, "pass")
+}
+
+fn script_command<'a>(alloc: Global) -> Command<'a>
+    ensures app { app_of result ≡ script_app }
+    ensures local { (out-Command result).has_globals ≡ false }
+{
+    named(
+        alloc,
+        "script",
+        "Runs the lines of standard input, over an empty store in memory",
+    )
+}
+
+fn answer_command<'a>(alloc: Global) -> Command<'a>
+    ensures app { app_of result ≡ answer_app }
+    ensures local { (out-Command result).has_globals ≡ false }
+{
+    named(
+        alloc,
+        "answer",
+        "Answers one HTTP request from standard input, over the sample project of docs.test",
+    )
+}
+
+fn bare_command<'a>(alloc: Global) -> Command<'a>
+    ensures app { app_of result ≡ bare_app }
+    ensures local { (out-Command result).has_globals ≡ false }
+{
+    named(alloc, "docs_host", "A host of versioned documentation")
+        .no_binary_name(true)
+        .disable_help_subcommand(true)
+        .arg_required_else_help(true)
+        .subcommand_required(true)
+}
+
+/// The program with all that its words may be.
+pub fn docs_command<'a>(alloc: Global) -> Result<Command<'a>, AllocError>
+    ensures app { IfOk result (λ c. app_of c ≡ docs_app) }
+{
+    let command = bare_command(alloc);
+    let command = with_command(command, new_project_command(alloc)?)?;
+    let command = with_command(command, add_lang_command(alloc)?)?;
+    let command = with_command(command, push_command(alloc)?)?;
+    let command = with_command(command, upload_command(alloc)?)?;
+    let command = with_command(command, get_command(alloc)?)?;
+    let command = with_command(command, script_command(alloc))?;
+    with_command(command, answer_command(alloc))
+}

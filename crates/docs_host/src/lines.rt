@@ -1,0 +1,263 @@
+//! Lines: the words of the program, or of one line of a script.
+
+use crate::app::docs_command;
+use clap::ArgMatches;
+use clap::error::ErrorKind;
+use dh_desk::{Command, Pages, UploadedPage};
+use dh_paths::{Bytes, Text};
+use dh_versions::Kind;
+use std::alloc::{AllocError, Global};
+use thiserror::Error;
+
+/// What a line orders.
+#[derive(Drop)]
+pub enum Order {
+    /// A command of the desk.
+    Act(Command),
+    /// A read.
+    Get {
+        /// Counts whatever host the target gives.
+        host: Text,
+        /// As it came: `Target::read` may refuse it.
+        target: Text,
+        pass: Option<Text>,
+    },
+    /// To run the lines of standard input.
+    Script,
+    /// To answer the request of standard input.
+    Answer,
+}
+
+/// A line.
+#[derive(Drop)]
+pub struct Line {
+    pub order: Order,
+}
+
+/// Why words gave no line.
+#[derive(Clone, Copy, Debug, PartialEq, Eq, Error)]
+pub enum LineFault {
+    /// They are none.
+    #[error("Usage")]
+    Usage,
+    /// Want of memory.
+    #[error("Memory")]
+    Memory,
+}
+
+impl From<AllocError> for LineFault {
+    ghost use Rattle.docs_host.specs.declared.lines.LineFault.TheVariants.{Memory};
+
+    ghost from_gives = { λ _ fault. fault ≡ Memory };
+
+    fn from(_refused: AllocError) -> LineFault {
+        LineFault::Memory
+    }
+}
+
+ghost use Rattle.std.specs.Prelude.{◌≡◌, ◌∷◌, [], IfOk, option_map, map, string_bytes};
+ghost use Rattle.clap.specs.Walk.{first_of, rows_of};
+ghost use Rattle.clap.specs.Matches.{found_of};
+ghost use Rattle.clap.specs.Simple.{subcommand_rows_of};
+ghost use Rattle.docs_host.specs.Lines.{is_set, privacy_of, kind_of, new_project_in, add_lang_in, push_in, upload_in, get_in, order_of, line_in, Says, Matches};
+
+fn value<'a>(matches: &ArgMatches<'a>, id: &str) -> Option<&'a str>
+    ensures { option_map (λ s. s.now) result ≡ first_of id.now (rows_of (found_of matches.now)) }
+{
+    matches.get_str(id)
+}
+
+/// A word that has to be there.
+fn word(alloc: Global, matches: &ArgMatches<'_>, id: &str) -> Result<Text, LineFault>
+    ensures { Says (first_of id.now (rows_of (found_of matches.now))) result }
+{
+    match value(matches, id) {
+        Some(text) => Ok(Text::copy_of(alloc, text)?),
+        None => Err(LineFault::Usage),
+    }
+}
+
+/// The bytes of a word that has to be there.
+fn word_bytes(alloc: Global, matches: &ArgMatches<'_>, id: &str) -> Result<Bytes, LineFault>
+    ensures { Says (first_of id.now (rows_of (found_of matches.now))) result }
+{
+    match value(matches, id) {
+        Some(text) => Ok(Bytes::copy_of(alloc, text.as_bytes())?),
+        None => Err(LineFault::Usage),
+    }
+}
+
+/// The value of an option, where it is given.
+fn option_value(
+    alloc: Global,
+    matches: &ArgMatches<'_>,
+    id: &str,
+) -> Result<Option<Text>, AllocError>
+    ensures { IfOk result (λ o. o ≡ first_of id.now (rows_of (found_of matches.now))) }
+{
+    match value(matches, id) {
+        Some(text) => Ok(Some(Text::copy_of(alloc, text)?)),
+        None => Ok(None),
+    }
+}
+
+/// Whether a flag is given.
+fn has_flag(matches: &ArgMatches<'_>, id: &str) -> bool
+    ensures { result ≡ is_set id.now (rows_of (found_of matches.now)) }
+{
+    match value(matches, id) {
+        Some(text) => text == "true",
+        None => false,
+    }
+}
+
+fn read_privacy(text: &str) -> Option<bool>
+    ensures { result ≡ privacy_of text.now }
+{
+    match text {
+        "public" => Some(false),
+        "private" => Some(true),
+        _ => None,
+    }
+}
+
+fn read_kind(text: &str) -> Option<Kind>
+    ensures { result ≡ kind_of text.now }
+{
+    match text {
+        "branch" => Some(Kind::Branch),
+        "tag" => Some(Kind::Tag),
+        _ => None,
+    }
+}
+
+fn new_project(alloc: Global, matches: &ArgMatches<'_>) -> Result<Command, LineFault>
+    ensures { Says (new_project_in (rows_of (found_of matches.now))) result }
+{
+    let host = word(alloc, matches, "host")?;
+    let lang = word(alloc, matches, "lang")?;
+    let branch = word(alloc, matches, "branch")?;
+    let privacy = word(alloc, matches, "privacy")?;
+    let wkey = word(alloc, matches, "wkey")?;
+    match read_privacy(privacy.as_str()) {
+        Some(private) => Ok(Command::NewProject {
+            host,
+            lang,
+            branch,
+            private,
+            wkey,
+        }),
+        None => Err(LineFault::Usage),
+    }
+}
+
+fn add_lang(alloc: Global, matches: &ArgMatches<'_>) -> Result<Command, LineFault>
+    ensures { Says (add_lang_in (rows_of (found_of matches.now))) result }
+{
+    let host = word(alloc, matches, "host")?;
+    let lang = word(alloc, matches, "lang")?;
+    Ok(Command::AddLang { host, lang })
+}
+
+fn push(alloc: Global, matches: &ArgMatches<'_>) -> Result<Command, LineFault>
+    ensures { Says (push_in (rows_of (found_of matches.now))) result }
+{
+    let host = word(alloc, matches, "host")?;
+    let wkey = word(alloc, matches, "wkey")?;
+    let key = word(alloc, matches, "key")?;
+    let kind_word = word(alloc, matches, "kind")?;
+    let name = word(alloc, matches, "ref")?;
+    match read_kind(kind_word.as_str()) {
+        Some(kind) => Ok(Command::Push {
+            host,
+            wkey,
+            key,
+            kind,
+            name,
+        }),
+        None => Err(LineFault::Usage),
+    }
+}
+
+fn one_page(alloc: Global, path: Text, media: Text, body: Bytes) -> Result<Pages, AllocError>
+    ensures { IfOk result (λ pages. pages ≡ record { path = path; media = media; body = body } ∷ []) }
+{
+    let mut pages = Vec::new(alloc);
+    pages.push(UploadedPage { path, media, body })?;
+    Ok(Pages::wrap(pages))
+}
+
+fn upload(alloc: Global, matches: &ArgMatches<'_>) -> Result<Command, LineFault>
+    ensures { Says (upload_in (rows_of (found_of matches.now))) result }
+{
+    let host = word(alloc, matches, "host")?;
+    let wkey = word(alloc, matches, "wkey")?;
+    let key = word(alloc, matches, "key")?;
+    let slug = word(alloc, matches, "slug")?;
+    let lang = word(alloc, matches, "lang")?;
+    let path = word(alloc, matches, "path")?;
+    let media = word(alloc, matches, "type")?;
+    let body = word_bytes(alloc, matches, "text")?;
+    Ok(Command::Upload {
+        host,
+        wkey,
+        key,
+        slug,
+        lang,
+        replace: has_flag(matches, "replace"),
+        pages: one_page(alloc, path, media, body)?,
+    })
+}
+
+fn get(alloc: Global, matches: &ArgMatches<'_>) -> Result<Order, LineFault>
+    ensures { Says (get_in (rows_of (found_of matches.now))) result }
+{
+    let host = word(alloc, matches, "host")?;
+    let target = word(alloc, matches, "target")?;
+    let pass = option_value(alloc, matches, "pass")?;
+    Ok(Order::Get { host, target, pass })
+}
+
+fn read_order(alloc: Global, matches: &ArgMatches<'_>) -> Result<Order, LineFault>
+    ensures { Says (order_of (subcommand_rows_of matches.now)) result }
+{
+    let (name, words) = match matches.subcommand() {
+        Some(found) => found,
+        None => return Err(LineFault::Usage),
+    };
+    match name {
+        "new-project" => Ok(Order::Act(new_project(alloc, words)?)),
+        "add-lang" => Ok(Order::Act(add_lang(alloc, words)?)),
+        "push" => Ok(Order::Act(push(alloc, words)?)),
+        "upload" => Ok(Order::Act(upload(alloc, words)?)),
+        "get" => get(alloc, words),
+        "script" => Ok(Order::Script),
+        "answer" => Ok(Order::Answer),
+        _ => Err(LineFault::Usage),
+    }
+}
+
+fn read_words<'a>(alloc: Global, words: &'a [String]) -> Result<ArgMatches<'a>, LineFault>
+    ensures { Matches (map string_bytes words.now) result }
+{
+    let command = docs_command(alloc)?;
+    let error = match command.try_get_matches_from(words) {
+        Ok(matches) => return Ok(matches),
+        Err(error) => error,
+    };
+    if error.kind() == ErrorKind::OutOfMemory {
+        return Err(LineFault::Memory);
+    }
+    Err(LineFault::Usage)
+}
+
+/// The line that the words are: the program's words without its own name, or those of a line of a script.
+///
+/// `Usage`: the words are no line, or ask for help. `Memory`: an allocation was refused.
+pub fn line_of(alloc: Global, words: &[String]) -> Result<Line, LineFault>
+    ensures { Says (line_in (map string_bytes words.now)) result }
+{
+    let matches = read_words(alloc, words)?;
+    let order = read_order(alloc, &matches)?;
+    Ok(Line { order })
+}
