@@ -5,3 +5,4 @@ pub mod Reading
 pub mod Outcomes
 pub mod Lines
 pub mod Script
+pub mod SampleWorld

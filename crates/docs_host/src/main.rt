@@ -3,6 +3,7 @@
 
 mod answer;
 mod app;
+mod filling;
 mod lines;
 mod outcomes;
 mod reading;

@@ -8,7 +8,8 @@ use dh_paths::{Bytes, HostName, Lang, PagePath, Slug, Text};
 use dh_reply::{Items, Page, Seen, SeenProject, StoredPage};
 use std::alloc::{AllocError, Global};
 
-const HTML: &str = "text/html; charset=utf-8";
+/// The media type of each page.
+pub const HTML: &str = "text/html; charset=utf-8";
 
 fn lang(alloc: Global, text: &str) -> Result<Lang, AllocError>
     requires { IsTrue (is_lang text.now) }
@@ -31,7 +32,8 @@ fn page_path(alloc: Global, text: &str) -> Result<PagePath, AllocError>
     PagePath::parse(alloc, text).map_err(|_| AllocError)
 }
 
-fn body(alloc: Global, text: &str) -> Result<Bytes, AllocError>
+/// The text and LF.
+pub fn body(alloc: Global, text: &str) -> Result<Bytes, AllocError>
     ensures { IfOk result (λ body. body ≡ text.now ++ 10 ∷ []) }
 {
     let mut bytes = Vec::from_slice(alloc, text.as_bytes())?;

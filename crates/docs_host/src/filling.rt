@@ -1,0 +1,86 @@
+//! The sample project in a desk.
+
+ghost use Rattle.std.specs.Prelude.{◌≡◌, ◌∷◌, ◌++◌, [], IfOk};
+ghost use Rattle.dh_rows.specs.Calls.{IsHonest};
+ghost use Rattle.dh_desk.specs.Desk.{world};
+ghost use Rattle.docs_host.specs.SampleWorld.{uploaded_page, sample_uploads, make_sample, push_sample, upload_sample, Fills};
+
+use crate::sample::{HTML, body};
+use dh_desk::{Command, Desk, Pages, Refusal, UploadedPage};
+use dh_paths::Text;
+use dh_versions::Kind;
+use sqlite::Alter;
+use std::alloc::{AllocError, Global};
+
+const HOST: &str = "docs.test";
+
+const WRITE_KEY: &str = "sample-key";
+
+fn make_command(alloc: Global) -> Result<Command, AllocError>
+    ensures { IfOk result (λ command. command ≡ make_sample) }
+{
+    Ok(Command::NewProject {
+        host: Text::copy_of(alloc, HOST)?,
+        lang: Text::copy_of(alloc, "en")?,
+        branch: Text::copy_of(alloc, "main")?,
+        private: false,
+        wkey: Text::copy_of(alloc, WRITE_KEY)?,
+    })
+}
+
+fn push_command(alloc: Global) -> Result<Command, AllocError>
+    ensures { IfOk result (λ command. command ≡ push_sample) }
+{
+    Ok(Command::Push {
+        host: Text::copy_of(alloc, HOST)?,
+        wkey: Text::copy_of(alloc, WRITE_KEY)?,
+        key: Text::copy_of(alloc, "s1")?,
+        kind: Kind::Branch,
+        name: Text::copy_of(alloc, "main")?,
+    })
+}
+
+fn page(alloc: Global, path: &str, text: &str) -> Result<UploadedPage, AllocError>
+    ensures { IfOk result (λ page. page ≡ uploaded_page path.now text.now) }
+{
+    Ok(UploadedPage {
+        path: Text::copy_of(alloc, path)?,
+        media: Text::copy_of(alloc, HTML)?,
+        body: body(alloc, text)?,
+    })
+}
+
+fn pages(alloc: Global) -> Result<Pages, AllocError>
+    ensures { IfOk result (λ pages. pages ≡ sample_uploads) }
+{
+    let mut pages = Vec::new(alloc);
+    pages.push(page(alloc, "index.html", "<h1>Index</h1>")?)?;
+    pages.push(page(alloc, "install.html", "<h1>Install</h1>")?)?;
+    pages.push(page(alloc, "guide/index.html", "<h1>Guide</h1>")?)?;
+    Ok(Pages::wrap(pages))
+}
+
+fn upload_command(alloc: Global) -> Result<Command, AllocError>
+    ensures { IfOk result (λ command. command ≡ upload_sample) }
+{
+    Ok(Command::Upload {
+        host: Text::copy_of(alloc, HOST)?,
+        wkey: Text::copy_of(alloc, WRITE_KEY)?,
+        key: Text::copy_of(alloc, "s2")?,
+        slug: Text::copy_of(alloc, "main")?,
+        lang: Text::copy_of(alloc, "en")?,
+        replace: false,
+        pages: pages(alloc)?,
+    })
+}
+
+/// Makes the sample project, pushes its branch and stores its pages: three commands. The first refusal is answered, and what was done before it stays.
+pub fn fill_sample<S: Alter>(alloc: Global, desk: &mut Desk<S>) -> Result<(), Refusal>
+    ensures fills { IsHonest S.Store desk.new.tables → Fills (world S.Store desk.old) (world S.Store desk.new) result }
+    ensures was { IsHonest S.Store desk.new.tables → IsHonest S.Store desk.old.tables }
+{
+    desk.apply(alloc, &make_command(alloc)?)?;
+    desk.apply(alloc, &push_command(alloc)?)?;
+    desk.apply(alloc, &upload_command(alloc)?)?;
+    Ok(())
+}
