@@ -1,8 +1,11 @@
-use crate::{Answer, LangRow, Operation, PageRow, ProjectRow, Tables, TablesFault, VersionRow};
-use dh_paths::{Bytes, HostName, Lang, PagePath, RefName, Slug, Text, TextFault};
+mod keys;
+mod views;
+
+use crate::{Answer, LangRow, PageRow, ProjectRow, Tables, TablesFault, VersionRow};
+use dh_paths::{Bytes, HostName, Lang, PagePath, RefName, Slug, Text, TextFault, Token};
 use dh_reply::Page;
 use dh_versions::{Kind, Version};
-use sqlite::Connection;
+use sqlite::{Connection, MemStore, params};
 use std::alloc::Global;
 use std::test::Fail;
 
@@ -102,6 +105,68 @@ fn page(alloc: Global, body: &str) -> Result<PageRow, TextFault> {
     })
 }
 
+fn project(alloc: Global) -> Result<ProjectRow, TextFault> {
+    Ok(ProjectRow {
+        host: docs(alloc)?,
+        main: Lang::parse(alloc, "en")?,
+        branch: RefName::parse(alloc, "main")?,
+        wkey: Token::parse(alloc, "key")?,
+        new_private: true,
+    })
+}
+
+fn lang(alloc: Global) -> Result<LangRow, TextFault> {
+    Ok(LangRow {
+        host: docs(alloc)?,
+        lang: Lang::parse(alloc, "en")?,
+        place: 1,
+    })
+}
+
+/// Tables of one project, in one language.
+fn begun(alloc: Global) -> Result<Tables<MemStore>, Fail> {
+    let mut tables = Tables::in_memory(alloc)?;
+    tables.add_project(&project(alloc)?)?;
+    tables.add_lang(&lang(alloc)?)?;
+    Ok(tables)
+}
+
+#[test]
+fn a_project_is_read_back(rt: HostRuntime) -> Result<(), Fail> {
+    let alloc = rt.alloc();
+    let host = docs(alloc)?;
+    let mut tables = begun(alloc)?;
+    assert!(rt; tables.is_settled());
+    assert!(rt; tables.has_project(&host)?);
+    let found = tables.project(alloc, &host)?;
+    assert!(rt;
+        found.is_some_and(|row| row.main.as_str() == "en"
+            && row.branch.as_str() == "main"
+            && row.wkey.as_str() == "key"
+            && row.new_private)
+    );
+    let langs = tables.langs(alloc, &host)?;
+    assert_eq!(rt; langs.len(), 1);
+    assert_eq!(rt; langs[0].lang.as_str(), "en");
+    assert_eq!(rt; langs[0].place, 1);
+    Ok(())
+}
+
+#[test]
+fn the_connection_comes_back(rt: HostRuntime) -> Result<(), Fail> {
+    let alloc = rt.alloc();
+    let mut tables = Tables::in_memory(alloc)?;
+    tables.put_version(&version(alloc, "1.0", false)?)?;
+    let mut conn = tables.into_conn();
+    let row = conn.query_row(
+        "SELECT slug FROM version WHERE host = ?1",
+        params!["docs.test"],
+    )?;
+    let slug: String = row.get(0)?;
+    assert_eq!(rt; slug.as_str(), "1.0");
+    Ok(())
+}
+
 #[test]
 fn versions_are_put_and_read(rt: HostRuntime) -> Result<(), Fail> {
     let alloc = rt.alloc();
@@ -143,6 +208,17 @@ fn pages_are_dropped(rt: HostRuntime) -> Result<(), Fail> {
     let mut tables = Tables::in_memory(alloc)?;
     tables.put_page(&page(alloc, "old")?)?;
     tables.drop_pages(&host, &slug, Some(&en))?;
+    assert!(rt; tables.page(alloc, &host, &slug, &en, "a.html")?.is_none());
+    Ok(())
+}
+
+#[test]
+fn pages_of_a_version_are_dropped(rt: HostRuntime) -> Result<(), Fail> {
+    let alloc = rt.alloc();
+    let (host, slug, en) = place(alloc)?;
+    let mut tables = Tables::in_memory(alloc)?;
+    tables.put_page(&page(alloc, "old")?)?;
+    tables.drop_pages(&host, &slug, None)?;
     assert!(rt; tables.page(alloc, &host, &slug, &en, "a.html")?.is_none());
     Ok(())
 }
