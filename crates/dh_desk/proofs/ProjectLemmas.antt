@@ -100,7 +100,7 @@ place_free langs lang e h = rw e (rw (lt-ltb _ _ h) refl)
 pub place_full : (langs : List LangRow) (lang : Text) → list_any (λ (l : LangRow). bytes_eq l.lang lang) langs ≡ false → 30 ≤ length langs → Err TooMany ≡ place_for langs lang
 place_full langs lang e h = rw e (rw (le-ltb _ _ h) refl)
 
-any_of_map : (langs : List LangRow) (lang : Text) → list_any (λ l. bytes_eq l lang) (map (λ (l : LangRow). l.lang) langs) ≡ list_any (λ (l : LangRow). bytes_eq l.lang lang) langs
+pub any_of_map : (langs : List LangRow) (lang : Text) → list_any (λ l. bytes_eq l lang) (map (λ (l : LangRow). l.lang) langs) ≡ list_any (λ (l : LangRow). bytes_eq l.lang lang) langs
 any_of_map [] lang = refl
 any_of_map (x ∷ langs) lang = ap (λ b. bytes_eq x.lang lang || b) (any_of_map langs lang)
 

@@ -6,3 +6,4 @@ pub mod Checks
 pub mod Desk
 pub mod Places
 pub mod Reads
+pub mod Rows

@@ -1,5 +1,5 @@
 -- Whose project is asked for, and by whom.
-use Rattle.std.specs.Prelude.{Bool, true, false, if◌then◌else◌, Option, Some, None, Result, Ok, Err}
+use Rattle.std.specs.Prelude.{Bool, true, false, if◌then◌else◌, Option, Some, None, Result, Err}
 use Rattle.dh_paths.specs.Texts.{is_host_name, is_token}
 use Rattle.dh_reply.specs.declared.answer.Reply.{Reply}
 use Rattle.dh_reply.specs.declared.fault.Fault.{Fault}

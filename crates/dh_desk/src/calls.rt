@@ -1,14 +1,51 @@
-//! Beginnings and ends of transactions.
-ghost use Rattle.std.specs.Prelude.{◌≡◌, ◌⊎◌, true, false, Ok, Err, IfOk, IfErr, OnOk};
+//! What several commands do within their transactions, and how these end.
+ghost use Rattle.std.specs.Prelude.{◌≡◌, ◌⊎◌, true, false, find, None, Ok, Err, IfOk, IfErr, OnOk, IsSome};
+ghost use Rattle.std.specs.Str.{bytes_eq};
 ghost use Rattle.sqlite.specs.Held.{state};
 ghost use Rattle.sqlite.specs.State.{HasCleanDisk};
 ghost use Rattle.dh_rows.specs.Calls.{IsHonest, seen, committed};
+ghost use Rattle.dh_rows.specs.Keyed.{added};
+ghost use Rattle.dh_tables.specs.Answers.{json_of};
+ghost use Rattle.dh_tables.specs.Codings as coding;
+ghost use Rattle.dh_tables.specs.Lists.{is_used, keeping};
 ghost use Rattle.dh_tables.specs.Tables.{lists_of};
 ghost use Rattle.dh_desk.specs.Checks.{IsSetAside};
 
 use crate::refusal::Refusal;
-use dh_tables::{Answer, Tables};
+use dh_paths::{HostName, Slug, Token};
+use dh_tables::{Answer, Operation, ProjectRow, Tables};
 use sqlite::Alter;
+use std::alloc::Global;
+
+/// Whether this is the project's write key.
+pub fn is_write_key(project: &ProjectRow, wkey: &Token) -> bool
+    ensures { result ≡ bytes_eq wkey.now project.now.wkey }
+{
+    wkey.as_str() == project.wkey.as_str()
+}
+
+/// Keeps an answer under a retry key, which is free, and gives it.
+pub fn keep_answer<S: Alter>(
+    tables: &mut Tables<S>,
+    alloc: Global,
+    host: &HostName,
+    slug: &Slug,
+    op: Operation,
+    key: &Token,
+    answer: Answer,
+) -> Result<Answer, Refusal>
+    requires within { IsHonest S.Store tables.old → tables.old.in_transaction ≡ true }
+    requires told { IsSome (json_of answer) }
+    requires unused { IsHonest S.Store tables.old → find (is_used host.now slug.now op key.now) (seen S.Store lists_of tables.old).used ≡ None }
+    ensures ok { IsHonest S.Store tables.new → IfOk result (λ a. (a ≡ answer) × (seen S.Store lists_of tables.new ≡ record (seen S.Store lists_of tables.old) { used = added coding.used.key (keeping host.now slug.now op key.now answer) (seen S.Store lists_of tables.old).used })) }
+    ensures err { IfErr result IsSetAside }
+    ensures kept { IsHonest S.Store tables.new → committed S.Store lists_of tables.new ≡ committed S.Store lists_of tables.old }
+    ensures clean { HasCleanDisk (state S.Store tables.new) → HasCleanDisk (state S.Store tables.old) }
+    ensures was { IsHonest S.Store tables.new → IsHonest S.Store tables.old }
+{
+    tables.keep(alloc, host, slug, op, key, &answer)?;
+    Ok(answer)
+}
 
 /// Ends a transaction: it is committed where the command was accepted, and else undone.
 pub fn end<S: Alter>(

@@ -2,22 +2,23 @@ ghost use Rattle.std.specs.Prelude.{◌≡◌, true, false, Err, IfOk};
 ghost use Rattle.std.specs.Option.{option_map, option_and_then};
 ghost use Rattle.sqlite.specs.Held.{state};
 ghost use Rattle.sqlite.specs.State.{HasCleanDisk};
-ghost use Rattle.dh_rows.specs.Calls.{IsHonest, committed};
+ghost use Rattle.dh_rows.specs.Calls.{IsHonest, seen, committed};
 ghost use Rattle.dh_paths.specs.Places.{split_of};
 ghost use Rattle.dh_reply.specs.Replies.{is_system, reply_to};
 ghost use Rattle.dh_tables.specs.Seen as caller;
 ghost use Rattle.dh_tables.specs.Tables.{lists_of};
 ghost use Rattle.dh_desk.specs.Reads.{host_named, pass_named, is_unanswered};
-ghost use Rattle.dh_desk.specs.Desk.{Steps, IsStep, IsKept, is_fault, world};
+ghost use Rattle.dh_desk.specs.Desk.{AreSound, Steps, IsStep, IsKept, is_fault, world};
 
 use crate::command::Command;
+use crate::projects::{add_lang, new_project};
+use crate::pushes::push;
 use crate::reads::read;
 use crate::refusal::Refusal;
-use crate::{projects, pushes};
+use crate::uploads::upload;
 use dh_paths::Text;
 use dh_reply::{Fault, Read, Reply};
 use dh_tables::{Answer, Tables};
-use dh_versions::Kind;
 use sqlite::{Alter, Connection};
 use std::alloc::Global;
 use std::marker::Model;
@@ -50,58 +51,59 @@ impl<S: Alter> Model for Desk<S> {
     ghost invariant = { λ d. IsKept S.Store d.tables };
 }
 
-/// NewProject, on tables that may have a transaction open, which is undone.
-fn new_project<S: Alter>(
+/// A command on tables outside a transaction.
+fn run<S: Alter>(
     tables: &mut Tables<S>,
     alloc: Global,
-    host: &Text,
-    lang: &Text,
-    branch: &Text,
-    private: bool,
-    wkey: &Text,
+    command: &Command,
 ) -> Result<Answer, Refusal>
-    requires { IsKept S.Store tables.old }
-    ensures steps { IsHonest S.Store tables.new → Steps (committed S.Store lists_of tables.old) (committed S.Store lists_of tables.new) (Command.NewProject host.now lang.now branch.now private wkey.now) result }
+    requires settled { IsHonest S.Store tables.old → seen S.Store lists_of tables.old ≡ committed S.Store lists_of tables.old }
+    requires sound { IsHonest S.Store tables.old → AreSound (committed S.Store lists_of tables.old) }
+    ensures steps { IsHonest S.Store tables.new → Steps (committed S.Store lists_of tables.old) (committed S.Store lists_of tables.new) command.now result }
     ensures clean { HasCleanDisk (state S.Store tables.new) → HasCleanDisk (state S.Store tables.old) }
     ensures was { IsHonest S.Store tables.new → IsHonest S.Store tables.old }
 {
-    tables.back()?;
-    projects::new_project(tables, alloc, host, lang, branch, private, wkey)
+    match command {
+        Command::NewProject {
+            host,
+            lang,
+            branch,
+            private,
+            wkey,
+        } => new_project(tables, alloc, host, lang, branch, *private, wkey),
+        Command::AddLang { host, lang } => add_lang(tables, alloc, host, lang),
+        Command::Push {
+            host,
+            wkey,
+            key,
+            kind,
+            name,
+        } => push(tables, alloc, host, wkey, key, *kind, name),
+        Command::Upload {
+            host,
+            wkey,
+            key,
+            slug,
+            lang,
+            replace,
+            pages,
+        } => upload(tables, alloc, host, wkey, key, slug, lang, *replace, pages),
+    }
 }
 
-/// AddLang, on tables that may have a transaction open, which is undone.
-fn add_lang<S: Alter>(
+/// A command on tables that may have a transaction open, which is undone.
+fn apply<S: Alter>(
     tables: &mut Tables<S>,
     alloc: Global,
-    host: &Text,
-    lang: &Text,
+    command: &Command,
 ) -> Result<Answer, Refusal>
     requires { IsKept S.Store tables.old }
-    ensures steps { IsHonest S.Store tables.new → Steps (committed S.Store lists_of tables.old) (committed S.Store lists_of tables.new) (Command.AddLang host.now lang.now) result }
+    ensures steps { IsHonest S.Store tables.new → Steps (committed S.Store lists_of tables.old) (committed S.Store lists_of tables.new) command.now result }
     ensures clean { HasCleanDisk (state S.Store tables.new) → HasCleanDisk (state S.Store tables.old) }
     ensures was { IsHonest S.Store tables.new → IsHonest S.Store tables.old }
 {
     tables.back()?;
-    projects::add_lang(tables, alloc, host, lang)
-}
-
-/// Push, on tables that may have a transaction open, which is undone.
-fn push<S: Alter>(
-    tables: &mut Tables<S>,
-    alloc: Global,
-    host: &Text,
-    wkey: &Text,
-    key: &Text,
-    kind: Kind,
-    name: &Text,
-) -> Result<Answer, Refusal>
-    requires { IsKept S.Store tables.old }
-    ensures steps { IsHonest S.Store tables.new → Steps (committed S.Store lists_of tables.old) (committed S.Store lists_of tables.new) (Command.Push host.now wkey.now key.now kind name.now) result }
-    ensures clean { HasCleanDisk (state S.Store tables.new) → HasCleanDisk (state S.Store tables.old) }
-    ensures was { IsHonest S.Store tables.new → IsHonest S.Store tables.old }
-{
-    tables.back()?;
-    pushes::push(tables, alloc, host, wkey, key, kind, name)
+    run(tables, alloc, command)
 }
 
 /// Whether the store has failed.
@@ -139,17 +141,9 @@ impl<S: Alter> Desk<S> {
         tables.into_conn()
     }
 
-    /// The command NewProject. After a fault of the store the desk answers it to each.
-    pub fn new_project(
-        &mut self,
-        alloc: Global,
-        host: &Text,
-        lang: &Text,
-        branch: &Text,
-        private: bool,
-        wkey: &Text,
-    ) -> Result<Answer, Refusal>
-        ensures step { IsHonest S.Store self.new.tables → IsStep (world S.Store self.old) (world S.Store self.new) (Command.NewProject host.now lang.now branch.now private wkey.now) result }
+    /// Does a command, as one transaction. An accepted one has changed the world; a refused one has left it as it was. After a fault of the store the desk answers it to each command.
+    pub fn apply(&mut self, alloc: Global, command: &Command) -> Result<Answer, Refusal>
+        ensures step { IsHonest S.Store self.new.tables → IsStep (world S.Store self.old) (world S.Store self.new) command.now result }
         ensures closed { self.old.closed ≡ true → (result ≡ Err Refusal.Store) × (self.new ≡ self.old) }
         ensures closes { self.new.closed ≡ is_fault result }
         ensures clean { HasCleanDisk (state S.Store self.new.tables) → HasCleanDisk (state S.Store self.old.tables) }
@@ -158,47 +152,7 @@ impl<S: Alter> Desk<S> {
         if self.closed {
             return Err(Refusal::Store);
         }
-        let answer = new_project(&mut self.tables, alloc, host, lang, branch, private, wkey);
-        self.closed = has_failed(&answer);
-        answer
-    }
-
-    /// The command AddLang. After a fault of the store the desk answers it to each.
-    pub fn add_lang(&mut self, alloc: Global, host: &Text, lang: &Text) -> Result<Answer, Refusal>
-        ensures step { IsHonest S.Store self.new.tables → IsStep (world S.Store self.old) (world S.Store self.new) (Command.AddLang host.now lang.now) result }
-        ensures closed { self.old.closed ≡ true → (result ≡ Err Refusal.Store) × (self.new ≡ self.old) }
-        ensures closes { self.new.closed ≡ is_fault result }
-        ensures clean { HasCleanDisk (state S.Store self.new.tables) → HasCleanDisk (state S.Store self.old.tables) }
-        ensures was { IsHonest S.Store self.new.tables → IsHonest S.Store self.old.tables }
-    {
-        if self.closed {
-            return Err(Refusal::Store);
-        }
-        let answer = add_lang(&mut self.tables, alloc, host, lang);
-        self.closed = has_failed(&answer);
-        answer
-    }
-
-    /// The command Push. After a fault of the store the desk answers it to each.
-    pub fn push(
-        &mut self,
-        alloc: Global,
-        host: &Text,
-        wkey: &Text,
-        key: &Text,
-        kind: Kind,
-        name: &Text,
-    ) -> Result<Answer, Refusal>
-        ensures step { IsHonest S.Store self.new.tables → IsStep (world S.Store self.old) (world S.Store self.new) (Command.Push host.now wkey.now key.now kind name.now) result }
-        ensures closed { self.old.closed ≡ true → (result ≡ Err Refusal.Store) × (self.new ≡ self.old) }
-        ensures closes { self.new.closed ≡ is_fault result }
-        ensures clean { HasCleanDisk (state S.Store self.new.tables) → HasCleanDisk (state S.Store self.old.tables) }
-        ensures was { IsHonest S.Store self.new.tables → IsHonest S.Store self.old.tables }
-    {
-        if self.closed {
-            return Err(Refusal::Store);
-        }
-        let answer = push(&mut self.tables, alloc, host, wkey, key, kind, name);
+        let answer = apply(&mut self.tables, alloc, command);
         self.closed = has_failed(&answer);
         answer
     }

@@ -5,6 +5,7 @@ mod calls;
 pub mod command;
 pub mod desk;
 pub mod outcome;
+mod page_checks;
 pub mod pages;
 mod projects;
 mod pushes;

@@ -63,7 +63,8 @@ pub fn new_project<S: Alter>(
     end(tables, worked)
 }
 
-fn is_among(langs: &[LangRow], lang: &Lang) -> bool
+/// Whether a language is one of these.
+pub fn is_among(langs: &[LangRow], lang: &Lang) -> bool
     ensures { result ≡ list_any (λ (l : LangRow). bytes_eq l.lang lang.now) langs.now }
 {
     langs.iter().any(|l| l.lang.as_str() == lang.as_str())

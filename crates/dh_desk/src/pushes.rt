@@ -1,12 +1,11 @@
 //! Pushes of branches and tags.
-ghost use Rattle.std.specs.Prelude.{◌≡◌, ◌&&◌, true, find, Some, None, IfOk, IfErr, IsSome};
+ghost use Rattle.std.specs.Prelude.{◌≡◌, ◌&&◌, true, find, Some, None, IfOk, IfErr};
 ghost use Rattle.std.specs.Str.{bytes_eq};
 ghost use Rattle.sqlite.specs.Held.{state};
 ghost use Rattle.sqlite.specs.State.{HasCleanDisk};
 ghost use Rattle.dh_rows.specs.Calls.{IsHonest, seen, committed};
 ghost use Rattle.dh_rows.specs.Keyed.{added, put};
 ghost use Rattle.dh_paths.specs.Slugs.{slug_from};
-ghost use Rattle.dh_tables.specs.Answers.{json_of};
 ghost use Rattle.dh_tables.specs.Codings as coding;
 ghost use Rattle.dh_tables.specs.Lists.{is_project, is_used, keeping};
 ghost use Rattle.dh_tables.specs.Tables.{lists_of};
@@ -15,22 +14,15 @@ ghost use Rattle.dh_desk.specs.Changes.{same_kind, new_version, made};
 ghost use Rattle.dh_desk.specs.Checks.{IsSetAside};
 ghost use Rattle.dh_desk.specs.Desk.{AreSound, Turns, Steps};
 
-use crate::calls::end;
+use crate::calls::{end, is_write_key, keep_answer};
 use crate::command::Command;
 use crate::refusal::Refusal;
 use crate::texts::{PushParts, push_in};
-use dh_paths::{RefName, Text, Token};
+use dh_paths::{RefName, Text};
 use dh_tables::{Answer, Operation, ProjectRow, Tables, VersionRow};
 use dh_versions::{Kind, Version};
 use sqlite::Alter;
 use std::alloc::Global;
-
-/// Whether this is the project's write key.
-fn is_write_key(project: &ProjectRow, wkey: &Token) -> bool
-    ensures { result ≡ bytes_eq wkey.now project.now.wkey }
-{
-    wkey.as_str() == project.wkey.as_str()
-}
 
 /// Whether a version comes from this branch or tag.
 fn comes_from(version: &Version, kind: Kind, name: &RefName) -> bool
@@ -84,33 +76,6 @@ fn answer_for(alloc: Global, version: &Version) -> Result<Answer, Refusal>
     })
 }
 
-/// Keeps an answer under the key of a push, which is free, and gives it.
-fn keep_answer<S: Alter>(
-    tables: &mut Tables<S>,
-    alloc: Global,
-    parts: &PushParts,
-    answer: Answer,
-) -> Result<Answer, Refusal>
-    requires within { IsHonest S.Store tables.old → tables.old.in_transaction ≡ true }
-    requires told { IsSome (json_of answer) }
-    requires unused { IsHonest S.Store tables.old → find (is_used parts.now.host parts.now.slug Operation.Push parts.now.key) (seen S.Store lists_of tables.old).used ≡ None }
-    ensures ok { IsHonest S.Store tables.new → IfOk result (λ a. (a ≡ answer) × (seen S.Store lists_of tables.new ≡ record (seen S.Store lists_of tables.old) { used = added coding.used.key (keeping parts.now.host parts.now.slug Operation.Push parts.now.key answer) (seen S.Store lists_of tables.old).used })) }
-    ensures err { IfErr result IsSetAside }
-    ensures kept { IsHonest S.Store tables.new → committed S.Store lists_of tables.new ≡ committed S.Store lists_of tables.old }
-    ensures clean { HasCleanDisk (state S.Store tables.new) → HasCleanDisk (state S.Store tables.old) }
-    ensures was { IsHonest S.Store tables.new → IsHonest S.Store tables.old }
-{
-    tables.keep(
-        alloc,
-        &parts.host,
-        &parts.slug,
-        Operation::Push,
-        &parts.key,
-        &answer,
-    )?;
-    Ok(answer)
-}
-
 /// Adds a version, and keeps the answer that it was made.
 fn make_version<S: Alter>(
     tables: &mut Tables<S>,
@@ -128,7 +93,15 @@ fn make_version<S: Alter>(
 {
     let answer = answer_for(alloc, &row.version)?;
     tables.put_version(row)?;
-    keep_answer(tables, alloc, parts, answer)
+    keep_answer(
+        tables,
+        alloc,
+        &parts.host,
+        &parts.slug,
+        Operation::Push,
+        &parts.key,
+        answer,
+    )
 }
 
 /// A push whose key is new: its branch or tag is known, or makes a version, unless another has taken its slug.
@@ -160,7 +133,15 @@ fn push_fresh<S: Alter>(
                 return Err(Refusal::SlugTaken);
             }
             let slug = parts.slug.try_copy(alloc)?;
-            keep_answer(tables, alloc, parts, Answer::Known { slug })
+            keep_answer(
+                tables,
+                alloc,
+                &parts.host,
+                &parts.slug,
+                Operation::Push,
+                &parts.key,
+                Answer::Known { slug },
+            )
         }
     }
 }

@@ -1,6 +1,6 @@
-use crate::{Answer, Desk, Refusal};
-use dh_paths::Text;
-use dh_reply::{Fault, Read};
+use crate::{Answer, Command, Desk, Pages, Refusal, UploadedPage};
+use dh_paths::{Bytes, Text};
+use dh_reply::{Fault, Read, Reply};
 use dh_tables::Tables;
 use dh_versions::Kind;
 use sqlite::MemStore;
@@ -20,98 +20,138 @@ fn empty_desk(alloc: Global) -> Result<Desk<MemStore>, Fail> {
     }
 }
 
-fn first_project(
-    alloc: Global,
-    desk: &mut Desk<MemStore>,
-) -> Result<Result<Answer, Refusal>, Fail> {
-    Ok(desk.new_project(
-        alloc,
-        &text(alloc, "docs.test")?,
-        &text(alloc, "en")?,
-        &text(alloc, "main")?,
-        false,
-        &text(alloc, "wkey-1")?,
-    ))
+fn new_project(alloc: Global, host: &str) -> Result<Command, Fail> {
+    Ok(Command::NewProject {
+        host: text(alloc, host)?,
+        lang: text(alloc, "en")?,
+        branch: text(alloc, "main")?,
+        private: false,
+        wkey: text(alloc, "wkey-1")?,
+    })
 }
 
-fn with_lang(
+fn add_lang(alloc: Global, lang: &str) -> Result<Command, Fail> {
+    Ok(Command::AddLang {
+        host: text(alloc, "docs.test")?,
+        lang: text(alloc, lang)?,
+    })
+}
+
+fn push(alloc: Global, wkey: &str, key: &str, kind: Kind, name: &str) -> Result<Command, Fail> {
+    Ok(Command::Push {
+        host: text(alloc, "docs.test")?,
+        wkey: text(alloc, wkey)?,
+        key: text(alloc, key)?,
+        kind,
+        name: text(alloc, name)?,
+    })
+}
+
+/// An upload of one page to `main`.
+fn upload(
     alloc: Global,
-    desk: &mut Desk<MemStore>,
-    host: &str,
+    key: &str,
     lang: &str,
-) -> Result<Result<Answer, Refusal>, Fail> {
-    Ok(desk.add_lang(alloc, &text(alloc, host)?, &text(alloc, lang)?))
+    path: &str,
+    body: &str,
+    replace: bool,
+) -> Result<Command, Fail> {
+    let mut pages = Vec::new(alloc);
+    pages.push(UploadedPage {
+        path: text(alloc, path)?,
+        media: text(alloc, "text/html")?,
+        body: Bytes::copy_of(alloc, body.as_bytes())?,
+    })?;
+    Ok(Command::Upload {
+        host: text(alloc, "docs.test")?,
+        wkey: text(alloc, "wkey-1")?,
+        key: text(alloc, key)?,
+        slug: text(alloc, "main")?,
+        lang: text(alloc, lang)?,
+        replace,
+        pages: Pages::wrap(pages),
+    })
+}
+
+fn is_made(answer: &Result<Answer, Refusal>, name: &str, is_active: bool) -> bool {
+    match answer {
+        Ok(
+            Answer::Made {
+                slug,
+                active,
+                hidden: false,
+                private: false,
+            },
+        ) => slug.as_str() == name && *active == is_active,
+        _ => false,
+    }
+}
+
+/// A desk with a project, and with its default branch pushed.
+fn pushed_desk(alloc: Global) -> Result<Desk<MemStore>, Fail> {
+    let mut desk = empty_desk(alloc)?;
+    if desk
+        .apply(alloc, &new_project(alloc, "docs.test")?)
+        .is_err()
+    {
+        return Err(Fail::from(Fault::Store));
+    }
+    let main = push(alloc, "wkey-1", "k1", Kind::Branch, "main")?;
+    if desk.apply(alloc, &main).is_err() {
+        return Err(Fail::from(Fault::Store));
+    }
+    Ok(desk)
+}
+
+fn get(alloc: Global, desk: &mut Desk<MemStore>, path: &str) -> Result<Reply, Fail> {
+    let asked = Read {
+        path: text(alloc, path)?,
+        query: None,
+    };
+    Ok(desk.read(alloc, "docs.test", None, &asked)?)
 }
 
 #[test]
 fn a_project_is_made_once(rt: HostRuntime) -> Result<(), Fail> {
     let alloc = rt.alloc();
     let mut desk = empty_desk(alloc)?;
-    let early = with_lang(alloc, &mut desk, "docs.test", "fr")?;
+    let early = desk.apply(alloc, &add_lang(alloc, "fr")?);
     assert!(rt; matches!(early, Err(Refusal::NoProject)));
-    assert!(rt; matches!(first_project(alloc, &mut desk)?, Ok(Answer::Done)));
-    assert!(rt; matches!(first_project(alloc, &mut desk)?, Err(Refusal::ProjectTaken)));
+    let first = desk.apply(alloc, &new_project(alloc, "docs.test")?);
+    assert!(rt; matches!(first, Ok(Answer::Done)));
+    let second = desk.apply(alloc, &new_project(alloc, "docs.test")?);
+    assert!(rt; matches!(second, Err(Refusal::ProjectTaken)));
+    let capital = desk.apply(alloc, &new_project(alloc, "Docs_Test")?);
+    assert!(rt; matches!(capital, Err(Refusal::BadHost)));
     Ok(())
 }
 
 #[test]
 fn a_language_is_added_once(rt: HostRuntime) -> Result<(), Fail> {
     let alloc = rt.alloc();
-    let mut desk = empty_desk(alloc)?;
-    assert!(rt; matches!(first_project(alloc, &mut desk)?, Ok(Answer::Done)));
-    assert!(rt;
-        matches!(
-            with_lang(alloc, &mut desk, "docs.test", "fr")?,
-            Ok(Answer::Done)
-        )
-    );
-    assert!(rt;
-        matches!(
-            with_lang(alloc, &mut desk, "docs.test", "fr")?,
-            Err(Refusal::LangTaken)
-        )
-    );
-    assert!(rt;
-        matches!(
-            with_lang(alloc, &mut desk, "docs.test", "en")?,
-            Err(Refusal::LangTaken)
-        )
-    );
-    assert!(rt;
-        matches!(
-            with_lang(alloc, &mut desk, "docs.test", "page")?,
-            Err(Refusal::BadLang)
-        )
-    );
-    assert!(rt;
-        matches!(
-            with_lang(alloc, &mut desk, "Docs_Test", "de")?,
-            Err(Refusal::BadHost)
-        )
-    );
+    let mut desk = pushed_desk(alloc)?;
+    let first = desk.apply(alloc, &add_lang(alloc, "fr")?);
+    assert!(rt; matches!(first, Ok(Answer::Done)));
+    let second = desk.apply(alloc, &add_lang(alloc, "fr")?);
+    assert!(rt; matches!(second, Err(Refusal::LangTaken)));
+    let main = desk.apply(alloc, &add_lang(alloc, "en")?);
+    assert!(rt; matches!(main, Err(Refusal::LangTaken)));
+    let page = desk.apply(alloc, &add_lang(alloc, "page")?);
+    assert!(rt; matches!(page, Err(Refusal::BadLang)));
     Ok(())
 }
 
 #[test]
 fn thirty_languages_are_enough(rt: HostRuntime) -> Result<(), Fail> {
     let alloc = rt.alloc();
-    let mut desk = empty_desk(alloc)?;
-    assert!(rt; matches!(first_project(alloc, &mut desk)?, Ok(Answer::Done)));
+    let mut desk = pushed_desk(alloc)?;
     for n in 1u32..30u32 {
         let lang = format!(in alloc; "x{n}")?;
-        assert!(rt;
-            matches!(
-                with_lang(alloc, &mut desk, "docs.test", lang.as_str())?,
-                Ok(Answer::Done)
-            )
-        );
+        let added = desk.apply(alloc, &add_lang(alloc, lang.as_str())?);
+        assert!(rt; matches!(added, Ok(Answer::Done)));
     }
-    assert!(rt;
-        matches!(
-            with_lang(alloc, &mut desk, "docs.test", "fr")?,
-            Err(Refusal::TooMany)
-        )
-    );
+    let more = desk.apply(alloc, &add_lang(alloc, "fr")?);
+    assert!(rt; matches!(more, Err(Refusal::TooMany)));
     Ok(())
 }
 
@@ -127,36 +167,135 @@ fn refusals_have_numbers_and_names(rt: HostRuntime) {
 fn a_read_of_an_empty_desk_is_not_found(rt: HostRuntime) -> Result<(), Fail> {
     let alloc = rt.alloc();
     let mut desk = empty_desk(alloc)?;
-    let asked = Read {
-        path: text(alloc, "/")?,
-        query: None,
-    };
-    let reply = desk.read(alloc, "docs.test", None, &asked)?;
+    let reply = get(alloc, &mut desk, "/")?;
     assert_eq!(rt; reply.status, 404);
     assert_eq!(rt; reply.body.as_slice().len(), 14);
     Ok(())
 }
 
 #[test]
-fn the_default_branch_is_pushed(rt: HostRuntime) -> Result<(), Fail> {
+fn the_default_branch_is_shown(rt: HostRuntime) -> Result<(), Fail> {
+    let alloc = rt.alloc();
+    let mut desk = pushed_desk(alloc)?;
+    let reply = get(alloc, &mut desk, "/")?;
+    assert_eq!(rt; reply.status, 302);
+    let reply = get(alloc, &mut desk, "/page/a b.html")?;
+    let location = reply.location;
+    assert!(rt; location.is_some_and(|to| to.as_str() == "/en/latest/a%20b.html"));
+    Ok(())
+}
+
+#[test]
+fn a_push_makes_a_version_once(rt: HostRuntime) -> Result<(), Fail> {
+    let alloc = rt.alloc();
+    let mut desk = pushed_desk(alloc)?;
+    let again = push(alloc, "wkey-1", "k1", Kind::Branch, "main")?;
+    assert!(rt; is_made(&desk.apply(alloc, &again), "main", true));
+    let known = push(alloc, "wkey-1", "k2", Kind::Branch, "main")?;
+    assert!(rt; matches!(desk.apply(alloc, &known), Ok(Answer::Known { .. })));
+    let tag = push(alloc, "wkey-1", "k3", Kind::Tag, "main")?;
+    assert!(rt; matches!(desk.apply(alloc, &tag), Err(Refusal::SlugTaken)));
+    let other = push(alloc, "wkey-1", "k1", Kind::Tag, "Release/1.0")?;
+    assert!(rt; is_made(&desk.apply(alloc, &other), "release-1.0", false));
+    Ok(())
+}
+
+#[test]
+fn a_push_is_refused_for_its_texts_and_key(rt: HostRuntime) -> Result<(), Fail> {
+    let alloc = rt.alloc();
+    let mut desk = pushed_desk(alloc)?;
+    let stranger = push(alloc, "nokey", "k2", Kind::Branch, "main")?;
+    assert!(rt; matches!(desk.apply(alloc, &stranger), Err(Refusal::WrongKey)));
+    let keyless = push(alloc, "wkey-1", "k@", Kind::Branch, "main")?;
+    assert!(rt; matches!(desk.apply(alloc, &keyless), Err(Refusal::BadKey)));
+    let slugless = push(alloc, "wkey-1", "k2", Kind::Branch, "///")?;
+    assert!(rt; matches!(desk.apply(alloc, &slugless), Err(Refusal::BadRef)));
+    Ok(())
+}
+
+#[test]
+fn an_upload_is_stored_once(rt: HostRuntime) -> Result<(), Fail> {
+    let alloc = rt.alloc();
+    let mut desk = pushed_desk(alloc)?;
+    let first = upload(alloc, "u1", "en", "a.html", "aaa", false)?;
+    assert!(rt; matches!(desk.apply(alloc, &first), Ok(Answer::Stored { pages: 1 })));
+    assert_eq!(rt;
+        get(alloc, &mut desk, "/en/latest/a.html")?.body.as_slice(),
+        b"aaa".as_slice()
+    );
+    let again = upload(alloc, "u1", "en", "a.html", "bbbb", false)?;
+    assert!(rt; matches!(desk.apply(alloc, &again), Ok(Answer::Stored { pages: 1 })));
+    assert_eq!(rt;
+        get(alloc, &mut desk, "/en/latest/a.html")?.body.as_slice(),
+        b"aaa".as_slice()
+    );
+    Ok(())
+}
+
+#[test]
+fn an_upload_replaces_its_language_alone(rt: HostRuntime) -> Result<(), Fail> {
+    let alloc = rt.alloc();
+    let mut desk = pushed_desk(alloc)?;
+    let unspoken = upload(alloc, "u1", "fr", "a.html", "aaa", false)?;
+    assert!(rt; matches!(desk.apply(alloc, &unspoken), Err(Refusal::NoLang)));
+    assert!(rt; desk.apply(alloc, &add_lang(alloc, "fr")?).is_ok());
+    assert!(rt;
+        matches!(
+            desk.apply(alloc, &unspoken),
+            Ok(Answer::Stored { pages: 1 })
+        )
+    );
+    let english = upload(alloc, "u2", "en", "a.html", "aaa", false)?;
+    assert!(rt; desk.apply(alloc, &english).is_ok());
+    let other = upload(alloc, "u3", "en", "b.html", "b", true)?;
+    assert!(rt; desk.apply(alloc, &other).is_ok());
+    assert_eq!(rt; get(alloc, &mut desk, "/en/latest/b.html")?.status, 200);
+    assert_eq!(rt; get(alloc, &mut desk, "/en/latest/a.html")?.status, 404);
+    assert_eq!(rt; get(alloc, &mut desk, "/fr/latest/a.html")?.status, 200);
+    Ok(())
+}
+
+#[test]
+fn a_connection_is_handed_back(rt: HostRuntime) -> Result<(), Fail> {
+    let alloc = rt.alloc();
+    let desk = pushed_desk(alloc)?;
+    let conn = desk.into_conn();
+    assert!(rt; conn.is_autocommit());
+    Ok(())
+}
+
+/// The answer to a command. Where it is want of memory, nothing has changed, as `/` shows, and the command is done again.
+fn done_again(
+    alloc: Global,
+    desk: &mut Desk<MemStore>,
+    command: &Command,
+    before: u16,
+) -> Result<Result<Answer, Refusal>, Fail> {
+    let answer = desk.apply(alloc, command);
+    if !matches!(answer, Err(Refusal::OutOfMemory)) {
+        return Ok(answer);
+    }
+    if get(alloc, desk, "/")?.status != before {
+        return Err(Fail::from(Fault::Store));
+    }
+    Ok(desk.apply(alloc, command))
+}
+
+#[test]
+fn want_of_memory_changes_nothing(rt: HostRuntime) -> Result<(), Fail> {
     let alloc = rt.alloc();
     let mut desk = empty_desk(alloc)?;
-    let made = first_project(alloc, &mut desk)?;
+    let made = done_again(alloc, &mut desk, &new_project(alloc, "docs.test")?, 404)?;
     assert!(rt; matches!(made, Ok(Answer::Done)));
-    let pushed = desk.push(
-        alloc,
-        &text(alloc, "docs.test")?,
-        &text(alloc, "wkey-1")?,
-        &text(alloc, "k1")?,
-        Kind::Branch,
-        &text(alloc, "main")?,
+    let main = push(alloc, "wkey-1", "k1", Kind::Branch, "main")?;
+    let pushed = done_again(alloc, &mut desk, &main, 404)?;
+    assert!(rt; is_made(&pushed, "main", true));
+    let pages = upload(alloc, "u1", "en", "index.html", "aaa", true)?;
+    let stored = done_again(alloc, &mut desk, &pages, 302)?;
+    assert!(rt; matches!(stored, Ok(Answer::Stored { pages: 1 })));
+    assert_eq!(rt;
+        get(alloc, &mut desk, "/en/latest/")?.body.as_slice().len(),
+        3
     );
-    assert!(rt; matches!(pushed, Ok(Answer::Made { active: true, .. })));
-    let asked = Read {
-        path: text(alloc, "/")?,
-        query: None,
-    };
-    let reply = desk.read(alloc, "docs.test", None, &asked)?;
-    assert_eq!(rt; reply.status, 302);
     Ok(())
 }

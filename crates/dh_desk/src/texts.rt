@@ -7,9 +7,9 @@ ghost use Rattle.dh_desk.specs.Texts.{bad_text};
 ghost use Rattle.dh_desk.specs.Refusals.{unless};
 
 use crate::command::Command;
+use crate::page_checks::check_pages;
 use crate::pages::Pages;
 use crate::refusal::Refusal;
-use crate::uploads::check_pages;
 use dh_paths::{HostName, Lang, RefName, Slug, Text, TextFault, Token, slug_of};
 use dh_tables::{LangRow, ProjectRow};
 use dh_versions::Kind;

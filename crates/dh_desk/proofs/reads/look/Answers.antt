@@ -1,4 +1,4 @@
-use Rattle.std.proofs.Common.{rules, ◌≡◌, sym, subst}
+use Rattle.std.proofs.Common.{rules, ◌≡◌}
 use Rattle.dh_rows.specs.Calls.{IsHonest}
 use Rattle.dh_tables.proofs.ViewLemmas.{undoubted}
 use Rattle.dh_desk.proofs.reads.look.Goals as goal

@@ -2,24 +2,23 @@ use Rattle.std.proofs.Common.{◌∙◌, sym, subst}
 use Rattle.dh_rows.specs.Calls.{committed}
 use Rattle.dh_tables.specs.Lists.{Lists}
 use Rattle.dh_tables.specs.Tables.{lists_of}
-use Rattle.dh_desk.specs.declared.command.Command.TheVariants.{Push}
 use Rattle.dh_desk.specs.Desk.{AreSound, Steps}
 use Rattle.dh_desk.proofs.Turning.{steps_aside, stays}
-use Rattle.dh_desk.proofs.desk.push.Goals as goal
+use Rattle.dh_desk.proofs.desk.apply.Goals as goal
 
 pub returns-in_err-back-clause-steps : goal.returns-in_err-back-clause-steps
 returns-in_err-back-clause-steps g c honest =
-    steps_aside (committed g.S.Store lists_of c.args.tables.now) (committed g.S.Store lists_of c.back.new.self) (Push c.args.host.now c.args.wkey.now c.args.key.now c.args.kind c.args.name.now) _ _
+    steps_aside (committed g.S.Store lists_of c.args.tables.now) (committed g.S.Store lists_of c.back.new.self) c.args.command.now _ _
     (stays g.S.Store c.args.tables.now c.back.new.self (c.in_err-back.ensures.err honest)) c.from_residual.ensures.1
 
-pub push-requires : goal.push-requires
-push-requires g c = record {
+pub run-requires : goal.run-requires
+run-requires g c = record {
   settled = λ honest. let it = c.in_ok-back.ensures.ok honest in it.now_is ∙ sym it.last_is;
   sound = λ honest. subst AreSound (sym (c.in_ok-back.ensures.ok honest).last_is) (c.requires (c.back.ensures.was honest));
 }
 
 pub returns-clause-steps : goal.returns-clause-steps
 returns-clause-steps g c honest =
-    let h1 = c.push.ensures.was honest in
-    let P : Lists → Type 0 = λ l. Steps l (committed g.S.Store lists_of c.push.new.tables) (Push c.args.host.now c.args.wkey.now c.args.key.now c.args.kind c.args.name.now) c.push.result in
-    subst P (c.in_ok-back.ensures.ok h1).last_is (c.push.ensures.steps honest)
+    let h1 = c.run.ensures.was honest in
+    let P : Lists → Type 0 = λ l. Steps l (committed g.S.Store lists_of c.run.new.tables) c.args.command.now c.run.result in
+    subst P (c.in_ok-back.ensures.ok h1).last_is (c.run.ensures.steps honest)

@@ -1,0 +1,16 @@
+use Rattle.std.proofs.Common.{◌∙◌, sym, inr}
+use Rattle.dh_rows.specs.Calls.{seen}
+use Rattle.dh_tables.specs.Tables.{lists_of}
+use Rattle.dh_desk.proofs.UploadTurns.{no_project_uploaded, wrong_here}
+use Rattle.dh_desk.proofs.uploads.make_upload.Goals as goal
+
+pub returns-then-not-is_write_key-clause-turns : goal.returns-then-not-is_write_key-clause-turns
+returns-then-not-is_write_key-clause-turns g c honest =
+    let h0 = c.project.ensures.was honest in
+    inr (wrong_here (seen g.S.Store lists_of c.args.tables.now) c.args.parts.now.host c.args.parts.now.wkey c.args.parts.now.key c.args.parts.now.slug c.args.parts.now.lang c.args.replace c.args.pages.now c.in-Some.project
+    (sym (c.in_ok-project.ensures.value h0 honest.0) ∙ c.in-Some.is) (sym c.is_write_key.ensures ∙ c.if-not-is_write_key.true))
+
+pub returns-in-None-clause-turns : goal.returns-in-None-clause-turns
+returns-in-None-clause-turns g c honest =
+    inr (no_project_uploaded (seen g.S.Store lists_of c.args.tables.now) c.args.parts.now.host c.args.parts.now.wkey c.args.parts.now.key c.args.parts.now.slug c.args.parts.now.lang c.args.replace c.args.pages.now
+    (sym (c.in_ok-project.ensures.value (c.project.ensures.was honest) honest.0) ∙ c.in-None.is))
