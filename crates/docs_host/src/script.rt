@@ -1,12 +1,10 @@
 //! Scripts: lines of commands and reads, one after another.
 
-ghost use Rattle.std.specs.Prelude.{◌≡◌, ◌≤◌, true, false, length, map, string_bytes, codes, option_map, option_and_then, IfOk, IfErr, IfSome, OnOk};
-ghost use Rattle.sqlite.specs.Held.{state};
-ghost use Rattle.sqlite.specs.State.{HasCleanDisk};
+ghost use Rattle.std.specs.Prelude.{◌≡◌, true, false, map, string_bytes, option_map, IfOk, IfErr, IfSome, OnOk};
 ghost use Rattle.dh_rows.specs.Calls.{IsHonest};
 ghost use Rattle.dh_paths.specs.Targets.{target_of};
 ghost use Rattle.dh_reply.specs.Ports.{CountsUpTo};
-ghost use Rattle.dh_desk.specs.Desk.{IsStep, world};
+ghost use Rattle.dh_desk.specs.Desk.{world};
 ghost use Rattle.docs_host.specs.Lines.{line_in};
 ghost use Rattle.docs_host.specs.Reading.{reader_failed, writer_failed, TookAtMost, IsCause, IsScript};
 ghost use Rattle.docs_host.specs.Script.{outcome_of, outcome_of_read, Acts, GetsAt, DoesOrder, Does, is_unread};
@@ -39,31 +37,6 @@ fn read_out(reply: Result<Reply, Fault>) -> Outcome
     }
 }
 
-/// Stands in for the desk's own call until it has one: of the commands whose calls exist. An upload is answered as want of memory.
-fn apply<S: Alter>(alloc: Global, desk: &mut Desk<S>, command: &Command) -> Result<Answer, Refusal>
-    ensures step { IsHonest S.Store desk.new.tables → IsStep (world S.Store desk.old) (world S.Store desk.new) command.now result }
-    ensures was { IsHonest S.Store desk.new.tables → IsHonest S.Store desk.old.tables }
-{
-    match command {
-        Command::NewProject {
-            host,
-            lang,
-            branch,
-            private,
-            wkey,
-        } => desk.new_project(alloc, host, lang, branch, *private, wkey),
-        Command::AddLang { host, lang } => desk.add_lang(alloc, host, lang),
-        Command::Push {
-            host,
-            wkey,
-            key,
-            kind,
-            name,
-        } => desk.push(alloc, host, wkey, key, *kind, name),
-        Command::Upload { .. } => Err(Refusal::OutOfMemory),
-    }
-}
-
 fn act_text<S: Alter>(
     alloc: Global,
     desk: &mut Desk<S>,
@@ -72,7 +45,7 @@ fn act_text<S: Alter>(
     ensures acts { IsHonest S.Store desk.new.tables → IfOk result (λ text. Acts (world S.Store desk.old) command.now (world S.Store desk.new) (string_bytes text)) }
     ensures was { IsHonest S.Store desk.new.tables → IsHonest S.Store desk.old.tables }
 {
-    let outcome = commanded(apply(alloc, desk, command));
+    let outcome = commanded(desk.apply(alloc, command));
     outcome_text(alloc, &outcome)
 }
 
