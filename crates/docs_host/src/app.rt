@@ -1,6 +1,6 @@
 //! The words of the program and of a script's line, as `clap` sees them.
 
-ghost use Rattle.std.specs.Prelude.{◌≡◌, IfOk, false, map, codes};
+ghost use Rattle.std.specs.Prelude.{◌≡◌, IfOk, false, map};
 ghost use Rattle.clap.specs.Simple.{app_of, new_app, with_rule, with_subcommand};
 ghost use Rattle.clap.specs.declared.builder.command.Command.TheViews.{out-Command};
 ghost use Rattle.docs_host.specs.App.{word_rule, option_rule, flag_rule, with_words as words_added, new_project_app, add_lang_app, push_app, upload_app, get_app, script_app, answer_app, bare_app, docs_app};

@@ -1,8 +1,6 @@
 //! Scripts: lines of commands and reads, one after another.
 
-ghost use Rattle.std.specs.Prelude.{◌≡◌, ◌≤◌, true, false, length, map, string_bytes, codes, option_map, option_and_then, IfOk, IfErr, IfSome, OnOk};
-ghost use Rattle.sqlite.specs.Held.{state};
-ghost use Rattle.sqlite.specs.State.{HasCleanDisk};
+ghost use Rattle.std.specs.Prelude.{◌≡◌, true, false, map, string_bytes, option_map, IfOk, IfErr, IfSome, OnOk};
 ghost use Rattle.dh_rows.specs.Calls.{IsHonest};
 ghost use Rattle.dh_paths.specs.Targets.{target_of};
 ghost use Rattle.dh_reply.specs.Ports.{CountsUpTo};
