@@ -1,5 +1,5 @@
 -- From what the connection says of a statement to what is seen of the database.
-use Rattle.std.proofs.Common.{◌≡◌, ◌⊎◌, inl, inr, ℕ, Option, List, [], codes, Bool, true, false, None, Some, Ok, Err, Result, IsTrue, OnOk, OnErr, refl, sym, ap, subst, ◌∙◌, arith, append-nil}
+use Rattle.std.proofs.Common.{◌≡◌, ◌⊎◌, inl, inr, ℕ, Option, List, [], codes, Bool, true, false, None, Some, Ok, Err, Result, IsTrue, OnOk, OnErr, refl, sym, ap, subst, ◌∙◌, arith, append-nil, true≢false}
 use Rattle.std.proofs.lemmas.Bool.{cases_Bool}
 use Rattle.sqlite_value.specs.Order.{Row}
 use Rattle.sqlite_trees.specs.Tree.{Trees}
@@ -21,7 +21,7 @@ use Rattle.sqlite.specs.Held.{Held, state as state_of}
 use Rattle.sqlite.proofs.Callers as callers
 use Rattle.sqlite.proofs.Callers.{IsPlain, runs_as, reads_as, never_commits}
 use Rattle.dh_rows.specs.declared.fault.Fault.{Fault}
-use Rattle.dh_rows.specs.Calls.{command_of, statement_of, IsEdit, Edits, EditsAs, whole, IsHonest, LeavesTrees, Shows, IsSame, IsUndone, IsRefused, Becomes}
+use Rattle.dh_rows.specs.Calls.{command_of, statement_of, IsEdit, Edits, EditsAs, whole, IsHonest, LeavesTrees, LeavesNoMore, Shows, IsSame, IsUndone, IsRefused, Becomes}
 
 -- ---- refusals
 
@@ -194,11 +194,30 @@ module _ {S : Type 0} (g : Ghosts S) (old new : Held S) (P : Trees → Type 0) (
   stopped_was (inl it) honest = (back_clean honest.0, it.0.was_open)
   stopped_was (inr it) honest = (back_clean honest.0, it.was_open honest.1)
 
+  pub leaves_no_more : ((db : Trees) → ¬ P db) → LeavesNoMore g old new
+  leaves_no_more never clean db may = elim (survives.crash clean db may) [
+    | inl before ↦ before
+    | inr it ↦ absurd (never db it)
+  ]
+
   pub leaves : (Q : Trees → Type 0) → (IsHonest g old → (db : Trees) → P db → Q db) → LeavesTrees g old new Q
   leaves Q holds honest clean db may = elim (survives.crash clean db may) [
     | inl before ↦ inl before
     | inr it ↦ inr (holds honest db it)
   ]
+
+-- ---- what stays committed, and what a crash may leave no more
+
+module _ {S : Type 0} (g : Ghosts S) (old new : Held S) where
+  pub refused_commits_nothing : IsRefused g whole old new → (state_of g new).committed ≡ (state_of g old).committed
+  refused_commits_nothing (inl it) = it.last_is
+  refused_commits_nothing (inr it) = it.last_is
+
+  -- what is committed stays, where an accepted call keeps it
+  pub stays_committed : {T E : Type 0} (P : Type 0) (r : Result T E) → (P → (state_of g new).committed ≡ (state_of g old).committed) → OnOk r P → OnErr r (IsRefused g whole old new)
+      → (state_of g new).committed ≡ (state_of g old).committed
+  stays_committed P (Ok x) keeps ok err = keeps ok
+  stays_committed P (Err e) keeps ok err = refused_commits_nothing err
 
 -- ---- each call, by its result
 
@@ -233,8 +252,19 @@ module _ {S : Type 0} (g : Ghosts S) (old new : Held S) (r : Result (Unit {0}) F
         go (Ok u) it = told g old new _ survives _ _ _ (begins _ _ it.0 it.1).1 clean
         go (Err e) it = tt
 
+    -- only an open store begins
+    pub begun_open : Ran g old new begin_text [] r _ survives → HasCleanDisk (state_of g new) → OnOk r (IsHonest g old)
+    begun_open ran clean = go r (ran clean)
+      where
+        go : (r : Result (Unit {0}) Fault) → OnOk r ((n : ℕ) × Executes begin_text [] (state_of g old) (state_of g new) (Ok n)) → OnOk r (IsHonest g old)
+        go (Ok u) it = (told g old new _ survives _ _ _ (begins _ _ it.0 it.1).1 clean).was_honest
+        go (Err e) it = tt
+
     pub begun_leaves : LeavesTrees g old new (λ db. ⊥)
     begun_leaves = leaves g old new _ survives _ (λ _. begin_commits _)
+
+    pub begun_no_more : LeavesNoMore g old new
+    begun_no_more = leaves_no_more g old new _ survives (begin_commits _)
 
   module _ (survives : Survives (state_of g old) (state_of g new) (CommitsBy commit_text [] (state_of g old))) where
     pub done : Ran g old new commit_text [] r _ survives → IsHonest g old → HasCleanDisk (state_of g new) → OnOk r (Shows g whole old new (state_of g old).now (state_of g old).now false)
@@ -257,6 +287,9 @@ module _ {S : Type 0} (g : Ghosts S) (old new : Held S) (r : Result (Unit {0}) F
 
     pub gone_back_leaves : LeavesTrees g old new (λ db. ⊥)
     gone_back_leaves = leaves g old new _ survives _ (λ _. rollback_commits _)
+
+    pub gone_back_no_more : LeavesNoMore g old new
+    gone_back_no_more = leaves_no_more g old new _ survives (rollback_commits _)
 
 -- ---- one write, and one query, of tables
 
@@ -289,6 +322,12 @@ module _ {S : Type 0} (g : Ghosts S) (old new : Held S) (sql : List ℕ) (params
   pub changed_leaves : Survives (state_of g old) (state_of g new) (CommitsBy sql params (state_of g old)) → (IsHonest g old → IsPlain (understood (state_of g old).now.schema sql)) → (IsHonest g old → IsEdit (command_of (understood (state_of g old).now.schema sql)))
       → LeavesTrees g old new (λ db. (old.in_transaction ≡ false) × (after : Database) × Edits (state_of g old) sql params after × (db ≡ after.trees))
   changed_leaves survives plain edits = leaves g old new _ survives _ (λ honest db. edit_commits sql params (state_of g old) db (plain honest) (edits honest))
+
+  -- within a transaction
+  pub changed_no_more : Survives (state_of g old) (state_of g new) (CommitsBy sql params (state_of g old)) → (IsHonest g old → IsPlain (understood (state_of g old).now.schema sql)) → (IsHonest g old → IsEdit (command_of (understood (state_of g old).now.schema sql)))
+      → old.in_transaction ≡ true → IsHonest g old → LeavesNoMore g old new
+  changed_no_more survives plain edits within honest =
+      leaves_no_more g old new _ survives (λ db it. true≢false (sym within ∙ (edit_commits sql params (state_of g old) db (plain honest) (edits honest) it).0))
 
   module _ (P : Trees → Type 0) (survives : Survives (state_of g old) (state_of g new) P) (plain : IsHonest g old → IsPlain (understood (state_of g old).now.schema sql)) where
     pub read : (IsHonest g old → reads_listing (state_of g old).now.schema sql ≡ false) → (rows : List Row) → Shown sql params (state_of g old) (state_of g new) rows → IsHonest g old

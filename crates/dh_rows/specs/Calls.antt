@@ -62,6 +62,14 @@ module _ {S : Type 0} (g : Ghosts S) where
   abbrev pub LeavesTrees : Held S → Held S → (Trees → Type 0) → Type 0
   LeavesTrees old new P = IsHonest old → HasCleanDisk (state g new) → (db : Trees) → g.recovers new.store db → g.recovers old.store db ⊎ P db
 
+  -- A crash leaves nothing that it could not leave before.
+  abbrev pub LeavesNoMore : Held S → Held S → Type 0
+  LeavesNoMore old new = HasCleanDisk (state g new) → (db : Trees) → g.recovers new.store db → g.recovers old.store db
+
+  -- What is committed stays.
+  abbrev pub KeepsCommitted : Held S → Held S → Type 0
+  KeepsCommitted old new = IsHonest new → (state g new).committed ≡ (state g old).committed
+
   module _ {W : Type 0} (view : Database → W) where
     -- what is seen now, and what was seen at the last commit
     abbrev pub seen : Held S → W

@@ -5,7 +5,7 @@ ghost use Rattle.sqlite.specs.Held.{state};
 ghost use Rattle.sqlite.specs.Listing.{understood, reads_listing};
 ghost use Rattle.sqlite.specs.State.{HasCleanDisk, IsUnchanged, IsRolledBack, Survives, Executes, CommitsBy};
 ghost use Rattle.sqlite.specs.Values.{bound};
-ghost use Rattle.dh_rows.specs.Calls.{command_of, IsEdit, Edits, IsHonest, Shows, Becomes, IsSame, IsUndone, IsRefused, LeavesTrees, whole};
+ghost use Rattle.dh_rows.specs.Calls.{command_of, IsEdit, Edits, IsHonest, Shows, Becomes, IsSame, IsUndone, IsRefused, LeavesTrees, LeavesNoMore, KeepsCommitted, whole};
 
 use crate::fault::Fault;
 use sqlite::types::ValueRef;
@@ -32,6 +32,9 @@ pub fn begin<S: Alter>(conn: &mut Connection<S>) -> Result<(), Fault>
     ensures clean { HasCleanDisk (state S.Store conn.new) → HasCleanDisk (state S.Store conn.old) }
     ensures was { IsHonest S.Store conn.new → IsHonest S.Store conn.old }
     ensures crash { LeavesTrees S.Store conn.old conn.new (λ db. ⊥) }
+    ensures opened { HasCleanDisk (state S.Store conn.new) → OnOk result (IsHonest S.Store conn.old) }
+    ensures kept { KeepsCommitted S.Store conn.old conn.new }
+    ensures quiet { LeavesNoMore S.Store conn.old conn.new }
 {
     run(conn, "BEGIN", &[])
 }
@@ -54,6 +57,8 @@ pub fn back<S: Alter>(conn: &mut Connection<S>) -> Result<(), Fault>
     ensures clean { HasCleanDisk (state S.Store conn.new) → HasCleanDisk (state S.Store conn.old) }
     ensures was { IsHonest S.Store conn.new → IsHonest S.Store conn.old }
     ensures crash { LeavesTrees S.Store conn.old conn.new (λ db. ⊥) }
+    ensures kept { KeepsCommitted S.Store conn.old conn.new }
+    ensures quiet { LeavesNoMore S.Store conn.old conn.new }
 {
     if conn.is_autocommit() {
         return Ok(());
@@ -74,6 +79,8 @@ pub fn change<S: Alter>(
     ensures clean { HasCleanDisk (state S.Store conn.new) → HasCleanDisk (state S.Store conn.old) }
     ensures was { IsHonest S.Store conn.new → IsHonest S.Store conn.old }
     ensures crash { LeavesTrees S.Store conn.old conn.new (λ db. (conn.old.in_transaction ≡ false) × (after : Database) × Edits (state S.Store conn.old) sql.now (bound params.now) after × (db ≡ after.trees)) }
+    ensures kept { conn.old.in_transaction ≡ true → KeepsCommitted S.Store conn.old conn.new }
+    ensures quiet { conn.old.in_transaction ≡ true → IsHonest S.Store conn.old → LeavesNoMore S.Store conn.old conn.new }
 {
     run(conn, sql, params)
 }
@@ -92,6 +99,8 @@ pub fn select<S: Alter>(
     ensures clean { HasCleanDisk (state S.Store conn.new) → HasCleanDisk (state S.Store conn.old) }
     ensures was { IsHonest S.Store conn.new → IsHonest S.Store conn.old }
     ensures crash { LeavesTrees S.Store conn.old conn.new (λ db. ⊥) }
+    ensures kept { KeepsCommitted S.Store conn.old conn.new }
+    ensures quiet { IsHonest S.Store conn.old → LeavesNoMore S.Store conn.old conn.new }
 {
     Ok(conn.query_all(sql, params)?)
 }

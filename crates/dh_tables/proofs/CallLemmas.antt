@@ -47,6 +47,10 @@ module _ {S : Type 0} (g : Ghosts S) (old new : Held S) where
   refused_keeps k (inl it) = same_keeps k it
   refused_keeps k (inr it) = keeps _ _ _ it k.last k.last refl (λ _. refl)
 
+  refused_last : IsRefused g whole old new → (state g new).committed ≡ (state g old).committed
+  refused_last (inl it) = it.last_is
+  refused_last (inr it) = it.last_is
+
   by_result : {T E P Q C : Type 0} (r : Result T E) → (P → C) → (Q → C) → OnOk r P → OnErr r Q → C
   by_result (Ok x) f h p q = f p
   by_result (Err e) f h p q = h q
@@ -64,6 +68,14 @@ module _ {S : Type 0} (g : Ghosts S) (old new : Held S) where
 
   pub done_keeps : Keep Holds (state g old) → Shows g whole old new (state g old).now (state g old).now false → Keep Holds (state g new)
   done_keeps k it = keeps _ _ _ it k.now k.now refl (λ _. refl)
+
+  -- what a commit makes the last one has the schema of the one before
+  pub done_steady : {T E : Type 0} (r : Result T E) → AreOurs Holds (state g old) → (IsHonest g new → IsHonest g old)
+      → (IsHonest g old → HasCleanDisk (state g new) → OnOk r (Shows g whole old new (state g old).now (state g old).now false)) → (IsHonest g new → OnErr r (IsRefused g whole old new))
+      → IsHonest g new → (state g new).committed.schema ≡ (state g old).committed.schema
+  done_steady r ours was ok err honest =
+      let before : IsHonest g old = was honest in
+      by_result r (λ p. ap (λ (d : Database). d.schema) p.last_is ∙ (ours before.0 before.1).steady) (λ q. ap (λ (d : Database). d.schema) (refused_last q)) (ok before honest.0) (err honest)
 
   pub undone_keeps : Keep Holds (state g old) → IsUndone g whole old new → Keep Holds (state g new)
   undone_keeps k it = keeps _ _ _ it k.last k.last refl (λ _. refl)

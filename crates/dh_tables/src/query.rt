@@ -1,4 +1,4 @@
-ghost use Rattle.std.specs.Prelude.{◌≡◌, ◌↔◌, ◌⊎◌, List, map, slice_get, is_some, false, IfOk, OnOk, OnErr};
+ghost use Rattle.std.specs.Prelude.{◌≡◌, ◌↔◌, ◌⊎◌, List, map, slice_get, is_some, true, false, IfOk, OnOk, OnErr};
 ghost use Rattle.sqlite_value.specs.Order.{Row as Values};
 ghost use Rattle.sqlite.specs.Effect.{Database, Reads};
 ghost use Rattle.sqlite.specs.Given.{IsPlain};
@@ -7,7 +7,7 @@ ghost use Rattle.sqlite.specs.Listing.{understood, reads_listing};
 ghost use Rattle.sqlite.specs.State.{HasCleanDisk};
 ghost use Rattle.sqlite.specs.Values.{bound};
 ghost use Rattle.dh_rows.specs.declared.fault.Fault.TheVariants as rows;
-ghost use Rattle.dh_rows.specs.Calls.{command_of, IsEdit, Edits, IsHonest, Becomes, IsSame, IsRefused, LeavesTrees, whole};
+ghost use Rattle.dh_rows.specs.Calls.{command_of, IsEdit, Edits, IsHonest, Becomes, IsSame, IsRefused, LeavesTrees, LeavesNoMore, KeepsCommitted, whole};
 
 use crate::reading::{Record, all, first};
 use dh_reply::Fault;
@@ -40,6 +40,8 @@ pub fn first_record<S: Alter, R: Record>(
     ensures clean { HasCleanDisk (state S.Store conn.new) → HasCleanDisk (state S.Store conn.old) }
     ensures was { IsHonest S.Store conn.new → IsHonest S.Store conn.old }
     ensures crash { LeavesTrees S.Store conn.old conn.new (λ db. ⊥) }
+    ensures kept { KeepsCommitted S.Store conn.old conn.new }
+    ensures quiet { IsHonest S.Store conn.old → LeavesNoMore S.Store conn.old conn.new }
 {
     match dh_rows::select(conn, sql, params) {
         Ok(rows) => first(alloc, &rows),
@@ -62,6 +64,8 @@ pub fn all_records<S: Alter, R: Record>(
     ensures clean { HasCleanDisk (state S.Store conn.new) → HasCleanDisk (state S.Store conn.old) }
     ensures was { IsHonest S.Store conn.new → IsHonest S.Store conn.old }
     ensures crash { LeavesTrees S.Store conn.old conn.new (λ db. ⊥) }
+    ensures kept { KeepsCommitted S.Store conn.old conn.new }
+    ensures quiet { IsHonest S.Store conn.old → LeavesNoMore S.Store conn.old conn.new }
 {
     match dh_rows::select(conn, sql, params) {
         Ok(rows) => all(alloc, &rows),
@@ -83,6 +87,8 @@ pub fn has_record<S: Alter>(
     ensures clean { HasCleanDisk (state S.Store conn.new) → HasCleanDisk (state S.Store conn.old) }
     ensures was { IsHonest S.Store conn.new → IsHonest S.Store conn.old }
     ensures crash { LeavesTrees S.Store conn.old conn.new (λ db. ⊥) }
+    ensures kept { KeepsCommitted S.Store conn.old conn.new }
+    ensures quiet { IsHonest S.Store conn.old → LeavesNoMore S.Store conn.old conn.new }
 {
     match dh_rows::select(conn, sql, params) {
         Ok(rows) => Ok(rows.first().is_some()),
@@ -103,6 +109,8 @@ pub fn write<S: Alter>(
     ensures clean { HasCleanDisk (state S.Store conn.new) → HasCleanDisk (state S.Store conn.old) }
     ensures was { IsHonest S.Store conn.new → IsHonest S.Store conn.old }
     ensures crash { LeavesTrees S.Store conn.old conn.new (λ db. (conn.old.in_transaction ≡ false) × (after : Database) × Edits (state S.Store conn.old) sql.now (bound params.now) after × (db ≡ after.trees)) }
+    ensures kept { conn.old.in_transaction ≡ true → KeepsCommitted S.Store conn.old conn.new }
+    ensures quiet { conn.old.in_transaction ≡ true → IsHonest S.Store conn.old → LeavesNoMore S.Store conn.old conn.new }
 {
     match dh_rows::change(conn, sql, params) {
         Ok(()) => Ok(()),

@@ -1,7 +1,7 @@
 ghost use Rattle.std.specs.Prelude.{◌≡◌, option_map, true, false, map, filter, not, find, is_some, ◌≢◌, IfOk, IfErr, OnOk, OnErr, IsSome, IsTrue};
 ghost use Rattle.sqlite.specs.Held.{state};
 ghost use Rattle.sqlite.specs.State.{HasCleanDisk};
-ghost use Rattle.dh_rows.specs.Calls.{IsHonest, Shows, Becomes, IsSame, IsUndone, IsRefused, Leaves, LeavesCommitted, seen, committed};
+ghost use Rattle.dh_rows.specs.Calls.{IsHonest, Shows, Becomes, IsSame, IsUndone, IsRefused, Leaves, LeavesNoMore, LeavesCommitted, KeepsCommitted, seen, committed};
 ghost use Rattle.dh_rows.specs.Keyed.{IsFreeKey, added, put};
 ghost use Rattle.dh_tables.specs.Answers.{json_of};
 ghost use Rattle.dh_tables.specs.Codings as coding;
@@ -56,6 +56,9 @@ impl<S: Alter> Tables<S> {
         ensures clean { HasCleanDisk (state S.Store self.new) → HasCleanDisk (state S.Store self.old) }
         ensures was { IsHonest S.Store self.new → IsHonest S.Store self.old }
         ensures crash { Leaves S.Store lists_of self.old self.new (λ w. ⊥) }
+        ensures opened { HasCleanDisk (state S.Store self.new) → OnOk result (IsHonest S.Store self.old) }
+        ensures kept { KeepsCommitted S.Store self.old self.new }
+        ensures quiet { LeavesNoMore S.Store self.old self.new }
     {
         match dh_rows::begin(&mut self.conn) {
             Ok(()) => Ok(()),
@@ -70,6 +73,7 @@ impl<S: Alter> Tables<S> {
         ensures clean { HasCleanDisk (state S.Store self.new) → HasCleanDisk (state S.Store self.old) }
         ensures was { IsHonest S.Store self.new → IsHonest S.Store self.old }
         ensures crash { Leaves S.Store lists_of self.old self.new (λ w. w ≡ seen S.Store lists_of self.old) }
+        ensures steady { IsHonest S.Store self.new → (state S.Store self.new).committed.schema ≡ (state S.Store self.old).committed.schema }
         ensures left { IsHonest S.Store self.new → LeavesCommitted S.Store lists_of self.new }
     {
         match dh_rows::commit(&mut self.conn) {
@@ -85,6 +89,8 @@ impl<S: Alter> Tables<S> {
         ensures clean { HasCleanDisk (state S.Store self.new) → HasCleanDisk (state S.Store self.old) }
         ensures was { IsHonest S.Store self.new → IsHonest S.Store self.old }
         ensures crash { Leaves S.Store lists_of self.old self.new (λ w. ⊥) }
+        ensures kept { KeepsCommitted S.Store self.old self.new }
+        ensures quiet { LeavesNoMore S.Store self.old self.new }
     {
         match dh_rows::back(&mut self.conn) {
             Ok(()) => Ok(()),
@@ -108,6 +114,8 @@ impl<S: Alter> Tables<S> {
         ensures clean { HasCleanDisk (state S.Store self.new) → HasCleanDisk (state S.Store self.old) }
         ensures was { IsHonest S.Store self.new → IsHonest S.Store self.old }
         ensures crash { Leaves S.Store lists_of self.old self.new (λ w. ⊥) }
+        ensures kept { KeepsCommitted S.Store self.old self.new }
+        ensures quiet { IsHonest S.Store self.old → LeavesNoMore S.Store self.old self.new }
     {
         let sql =
             "SELECT host, main, branch, wkey, private FROM project WHERE host = ?1 ORDER BY host";
@@ -122,6 +130,8 @@ impl<S: Alter> Tables<S> {
         ensures clean { HasCleanDisk (state S.Store self.new) → HasCleanDisk (state S.Store self.old) }
         ensures was { IsHonest S.Store self.new → IsHonest S.Store self.old }
         ensures crash { Leaves S.Store lists_of self.old self.new (λ w. ⊥) }
+        ensures kept { KeepsCommitted S.Store self.old self.new }
+        ensures quiet { IsHonest S.Store self.old → LeavesNoMore S.Store self.old self.new }
     {
         first_record(
             &mut self.conn,
@@ -139,6 +149,8 @@ impl<S: Alter> Tables<S> {
         ensures clean { HasCleanDisk (state S.Store self.new) → HasCleanDisk (state S.Store self.old) }
         ensures was { IsHonest S.Store self.new → IsHonest S.Store self.old }
         ensures crash { Leaves S.Store lists_of self.old self.new (λ w. ⊥) }
+        ensures kept { KeepsCommitted S.Store self.old self.new }
+        ensures quiet { IsHonest S.Store self.old → LeavesNoMore S.Store self.old self.new }
     {
         all_records(
             &mut self.conn,
@@ -161,6 +173,8 @@ impl<S: Alter> Tables<S> {
         ensures clean { HasCleanDisk (state S.Store self.new) → HasCleanDisk (state S.Store self.old) }
         ensures was { IsHonest S.Store self.new → IsHonest S.Store self.old }
         ensures crash { Leaves S.Store lists_of self.old self.new (λ w. ⊥) }
+        ensures kept { KeepsCommitted S.Store self.old self.new }
+        ensures quiet { IsHonest S.Store self.old → LeavesNoMore S.Store self.old self.new }
     {
         self.version_named(alloc, host, slug.as_str())
     }
@@ -178,6 +192,8 @@ impl<S: Alter> Tables<S> {
         ensures clean { HasCleanDisk (state S.Store self.new) → HasCleanDisk (state S.Store self.old) }
         ensures was { IsHonest S.Store self.new → IsHonest S.Store self.old }
         ensures crash { Leaves S.Store lists_of self.old self.new (λ w. ⊥) }
+        ensures kept { KeepsCommitted S.Store self.old self.new }
+        ensures quiet { IsHonest S.Store self.old → LeavesNoMore S.Store self.old self.new }
     {
         first_record(
             &mut self.conn,
@@ -196,6 +212,8 @@ impl<S: Alter> Tables<S> {
         ensures clean { HasCleanDisk (state S.Store self.new) → HasCleanDisk (state S.Store self.old) }
         ensures was { IsHonest S.Store self.new → IsHonest S.Store self.old }
         ensures crash { Leaves S.Store lists_of self.old self.new (λ w. ⊥) }
+        ensures kept { KeepsCommitted S.Store self.old self.new }
+        ensures quiet { IsHonest S.Store self.old → LeavesNoMore S.Store self.old self.new }
     {
         all_records(
             &mut self.conn,
@@ -220,6 +238,8 @@ impl<S: Alter> Tables<S> {
         ensures clean { HasCleanDisk (state S.Store self.new) → HasCleanDisk (state S.Store self.old) }
         ensures was { IsHonest S.Store self.new → IsHonest S.Store self.old }
         ensures crash { Leaves S.Store lists_of self.old self.new (λ w. ⊥) }
+        ensures kept { KeepsCommitted S.Store self.old self.new }
+        ensures quiet { IsHonest S.Store self.old → LeavesNoMore S.Store self.old self.new }
     {
         first_record(
             &mut self.conn,
@@ -237,6 +257,8 @@ impl<S: Alter> Tables<S> {
         ensures clean { HasCleanDisk (state S.Store self.new) → HasCleanDisk (state S.Store self.old) }
         ensures was { IsHonest S.Store self.new → IsHonest S.Store self.old }
         ensures crash { Leaves S.Store lists_of self.old self.new (λ w. (self.old.in_transaction ≡ false) × (w ≡ record (seen S.Store lists_of self.old) { projects = added coding.projects.key project.now (seen S.Store lists_of self.old).projects })) }
+        ensures kept { self.old.in_transaction ≡ true → KeepsCommitted S.Store self.old self.new }
+        ensures quiet { self.old.in_transaction ≡ true → IsHonest S.Store self.old → LeavesNoMore S.Store self.old self.new }
     {
         write(
             &mut self.conn,
@@ -259,6 +281,8 @@ impl<S: Alter> Tables<S> {
         ensures clean { HasCleanDisk (state S.Store self.new) → HasCleanDisk (state S.Store self.old) }
         ensures was { IsHonest S.Store self.new → IsHonest S.Store self.old }
         ensures crash { Leaves S.Store lists_of self.old self.new (λ w. (self.old.in_transaction ≡ false) × (w ≡ record (seen S.Store lists_of self.old) { langs = added coding.langs.key lang.now (seen S.Store lists_of self.old).langs })) }
+        ensures kept { self.old.in_transaction ≡ true → KeepsCommitted S.Store self.old self.new }
+        ensures quiet { self.old.in_transaction ≡ true → IsHonest S.Store self.old → LeavesNoMore S.Store self.old self.new }
     {
         write(
             &mut self.conn,
@@ -282,6 +306,8 @@ impl<S: Alter> Tables<S> {
         ensures clean { HasCleanDisk (state S.Store self.new) → HasCleanDisk (state S.Store self.old) }
         ensures was { IsHonest S.Store self.new → IsHonest S.Store self.old }
         ensures crash { Leaves S.Store lists_of self.old self.new (λ w. ⊥) }
+        ensures kept { KeepsCommitted S.Store self.old self.new }
+        ensures quiet { IsHonest S.Store self.old → LeavesNoMore S.Store self.old self.new }
     {
         first_record(
             &mut self.conn,
@@ -306,6 +332,8 @@ impl<S: Alter> Tables<S> {
         ensures clean { HasCleanDisk (state S.Store self.new) → HasCleanDisk (state S.Store self.old) }
         ensures was { IsHonest S.Store self.new → IsHonest S.Store self.old }
         ensures crash { Leaves S.Store lists_of self.old self.new (λ w. ⊥) }
+        ensures kept { KeepsCommitted S.Store self.old self.new }
+        ensures quiet { IsHonest S.Store self.old → LeavesNoMore S.Store self.old self.new }
     {
         match self.used_row(alloc, host, slug, op, retry) {
             Ok(Some(row)) => kept_answer(alloc, row.answer.as_str()),
@@ -329,6 +357,8 @@ impl<S: Alter> Tables<S> {
         ensures clean { HasCleanDisk (state S.Store self.new) → HasCleanDisk (state S.Store self.old) }
         ensures was { IsHonest S.Store self.new → IsHonest S.Store self.old }
         ensures crash { Leaves S.Store lists_of self.old self.new (λ w. (self.old.in_transaction ≡ false) × (w ≡ record (seen S.Store lists_of self.old) { used = added coding.used.key (record { host = host.now; slug = slug.now; op = op; retry = retry.now; answer = answer.now }) (seen S.Store lists_of self.old).used })) }
+        ensures kept { self.old.in_transaction ≡ true → KeepsCommitted S.Store self.old self.new }
+        ensures quiet { self.old.in_transaction ≡ true → IsHonest S.Store self.old → LeavesNoMore S.Store self.old self.new }
     {
         write(
             &mut self.conn,
@@ -360,6 +390,8 @@ impl<S: Alter> Tables<S> {
         ensures clean { HasCleanDisk (state S.Store self.new) → HasCleanDisk (state S.Store self.old) }
         ensures was { IsHonest S.Store self.new → IsHonest S.Store self.old }
         ensures crash { Leaves S.Store lists_of self.old self.new (λ w. (self.old.in_transaction ≡ false) × (w ≡ record (seen S.Store lists_of self.old) { used = added coding.used.key (spec.keeping host.now slug.now op retry.now answer.now) (seen S.Store lists_of self.old).used })) }
+        ensures kept { self.old.in_transaction ≡ true → KeepsCommitted S.Store self.old self.new }
+        ensures quiet { self.old.in_transaction ≡ true → IsHonest S.Store self.old → LeavesNoMore S.Store self.old self.new }
     {
         match answer.json(alloc) {
             Ok(text) => self.add_used(host, slug, op, retry, text.as_str()),
@@ -374,6 +406,8 @@ impl<S: Alter> Tables<S> {
         ensures clean { HasCleanDisk (state S.Store self.new) → HasCleanDisk (state S.Store self.old) }
         ensures was { IsHonest S.Store self.new → IsHonest S.Store self.old }
         ensures crash { Leaves S.Store lists_of self.old self.new (λ w. (self.old.in_transaction ≡ false) × (w ≡ record (seen S.Store lists_of self.old) { pages = filter (λ x. not (spec.is_page_of host.now slug.now x)) (seen S.Store lists_of self.old).pages })) }
+        ensures kept { self.old.in_transaction ≡ true → KeepsCommitted S.Store self.old self.new }
+        ensures quiet { self.old.in_transaction ≡ true → IsHonest S.Store self.old → LeavesNoMore S.Store self.old self.new }
     {
         write(
             &mut self.conn,
@@ -389,6 +423,8 @@ impl<S: Alter> Tables<S> {
         ensures clean { HasCleanDisk (state S.Store self.new) → HasCleanDisk (state S.Store self.old) }
         ensures was { IsHonest S.Store self.new → IsHonest S.Store self.old }
         ensures crash { Leaves S.Store lists_of self.old self.new (λ w. (self.old.in_transaction ≡ false) × (w ≡ record (seen S.Store lists_of self.old) { pages = filter (λ x. not (spec.is_page_in host.now slug.now lang.now x)) (seen S.Store lists_of self.old).pages })) }
+        ensures kept { self.old.in_transaction ≡ true → KeepsCommitted S.Store self.old self.new }
+        ensures quiet { self.old.in_transaction ≡ true → IsHonest S.Store self.old → LeavesNoMore S.Store self.old self.new }
     {
         write(
             &mut self.conn,
@@ -409,6 +445,8 @@ impl<S: Alter> Tables<S> {
         ensures clean { HasCleanDisk (state S.Store self.new) → HasCleanDisk (state S.Store self.old) }
         ensures was { IsHonest S.Store self.new → IsHonest S.Store self.old }
         ensures crash { Leaves S.Store lists_of self.old self.new (λ w. (self.old.in_transaction ≡ false) × (w ≡ record (seen S.Store lists_of self.old) { pages = filter (λ x. not (spec.is_page_under host.now slug.now (option_map (λ l. l.now) lang.entry) x)) (seen S.Store lists_of self.old).pages })) }
+        ensures kept { self.old.in_transaction ≡ true → KeepsCommitted S.Store self.old self.new }
+        ensures quiet { self.old.in_transaction ≡ true → IsHonest S.Store self.old → LeavesNoMore S.Store self.old self.new }
     {
         match lang {
             Some(lang) => self.drop_pages_in(host, slug, lang),
@@ -423,6 +461,8 @@ impl<S: Alter> Tables<S> {
         ensures clean { HasCleanDisk (state S.Store self.new) → HasCleanDisk (state S.Store self.old) }
         ensures was { IsHonest S.Store self.new → IsHonest S.Store self.old }
         ensures crash { Leaves S.Store lists_of self.old self.new (λ w. (self.old.in_transaction ≡ false) × (w ≡ record (seen S.Store lists_of self.old) { versions = put coding.versions.key row.now (seen S.Store lists_of self.old).versions })) }
+        ensures kept { self.old.in_transaction ≡ true → KeepsCommitted S.Store self.old self.new }
+        ensures quiet { self.old.in_transaction ≡ true → IsHonest S.Store self.old → LeavesNoMore S.Store self.old self.new }
     {
         write(
             &mut self.conn,
@@ -446,6 +486,8 @@ impl<S: Alter> Tables<S> {
         ensures clean { HasCleanDisk (state S.Store self.new) → HasCleanDisk (state S.Store self.old) }
         ensures was { IsHonest S.Store self.new → IsHonest S.Store self.old }
         ensures crash { Leaves S.Store lists_of self.old self.new (λ w. (self.old.in_transaction ≡ false) × (w ≡ record (seen S.Store lists_of self.old) { pages = put coding.pages.key row.now (seen S.Store lists_of self.old).pages })) }
+        ensures kept { self.old.in_transaction ≡ true → KeepsCommitted S.Store self.old self.new }
+        ensures quiet { self.old.in_transaction ≡ true → IsHonest S.Store self.old → LeavesNoMore S.Store self.old self.new }
     {
         write(
             &mut self.conn,

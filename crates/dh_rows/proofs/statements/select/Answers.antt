@@ -1,5 +1,5 @@
 use Rattle.sqlite.proofs.Callers.{never_commits}
-use Rattle.dh_rows.proofs.Calls.{read, stays, shown_was, stopped, stopped_was, leaves, refused_to_show, if_failed}
+use Rattle.dh_rows.proofs.Calls.{read, stays, shown_was, stopped, stopped_was, leaves, leaves_no_more, refused_commits_nothing, refused_to_show, if_failed}
 use Rattle.dh_rows.proofs.statements.select.Goals as goal
 
 pub returns-clause-rows : goal.returns-clause-rows
@@ -22,3 +22,17 @@ returns-in_err-query_all-clause-was g c honest = stopped_was g.S.Store c.args.co
 
 pub returns-in_err-query_all-clause-crash : goal.returns-in_err-query_all-clause-crash
 returns-in_err-query_all-clause-crash g c = leaves g.S.Store c.args.conn.now c.query_all.new.self _ c.query_all.ensures.survives _ (λ honest db. never_commits _ _ _ db (c.requires.plain honest))
+
+pub returns-clause-kept : goal.returns-clause-kept
+returns-clause-kept g c honest =
+    let shown = c.in_ok-query_all.ensures.ok honest.0 in
+    (stays g.S.Store c.args.conn.now c.query_all.new.self c.args.sql.now _ _ c.query_all.ensures.survives c.requires.plain _ shown (shown_was g.S.Store c.args.conn.now c.query_all.new.self c.args.sql.now _ _ c.query_all.ensures.survives c.requires.plain _ shown honest) honest.0).last_is
+
+pub returns-clause-quiet : goal.returns-clause-quiet
+returns-clause-quiet g c honest = leaves_no_more g.S.Store c.args.conn.now c.query_all.new.self _ c.query_all.ensures.survives (λ db. never_commits _ _ _ db (c.requires.plain honest))
+
+pub returns-in_err-query_all-clause-quiet : goal.returns-in_err-query_all-clause-quiet
+returns-in_err-query_all-clause-quiet g c honest = leaves_no_more g.S.Store c.args.conn.now c.query_all.new.self _ c.query_all.ensures.survives (λ db. never_commits _ _ _ db (c.requires.plain honest))
+
+pub returns-in_err-query_all-clause-kept : goal.returns-in_err-query_all-clause-kept
+returns-in_err-query_all-clause-kept g c honest = refused_commits_nothing g.S.Store c.args.conn.now c.query_all.new.self (stopped g.S.Store c.args.conn.now c.query_all.new.self _ c.query_all.ensures.survives (refused_to_show _ _ _ _ _ (c.in_err-query_all.ensures.err honest.0)) honest)
