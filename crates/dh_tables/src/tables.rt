@@ -521,6 +521,7 @@ impl<S: Alter> Tables<S> {
     pub fn create(conn: Connection<S>) -> Result<Tables<S>, (TablesFault, Connection<S>)>
         ensures honest { IfOk result (λ t. IsHonest S.Store conn → HasCleanDisk (state S.Store t) → IsHonest S.Store t × (t.in_transaction ≡ false)) }
         ensures none { IfOk result (λ t. IsHonest S.Store conn → HasCleanDisk (state S.Store t) → seen S.Store lists_of t ≡ no_lists) }
+        ensures left { IfOk result (λ t. IsHonest S.Store t → LeavesCommitted S.Store lists_of t) }
         ensures ours { IfErr result (λ e. CanMake (state S.Store conn).now.schema → e.0 ≢ TablesFault.NotOurs) }
         ensures back { IfErr result (λ e. IsHonest S.Store e.1 → CommitsNothing S.Store conn e.1) }
     {
@@ -552,6 +553,8 @@ impl Tables<MemStore> {
         ensures honest { IfOk result (λ t. IsHonest over_memory t) }
         ensures settled { IfOk result (λ t. t.in_transaction ≡ false) }
         ensures none { IfOk result (λ t. seen over_memory lists_of t ≡ no_lists) }
+        ensures last { IfOk result (λ t. committed over_memory lists_of t ≡ no_lists) }
+        ensures left { IfOk result (λ t. LeavesCommitted over_memory lists_of t) }
         ensures empty { IfOk result (λ t. spec.world_of (seen over_memory lists_of t) ≡ empty) }
     {
         let mut conn = Connection::open_in_memory(alloc)?;

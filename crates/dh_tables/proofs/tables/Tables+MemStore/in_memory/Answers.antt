@@ -1,8 +1,8 @@
-use Rattle.std.proofs.Common.{refl, ap, subst, ◌∙◌}
+use Rattle.std.proofs.Common.{refl, sym, ap, subst, ◌∙◌}
 use Rattle.sqlite.proofs.Callers.{memory_is_clean}
 use Rattle.sqlite.specs.Effect.{Database}
 use Rattle.dh_tables.specs.Lists.{world_of}
-use Rattle.dh_tables.specs.Tables.{Holds}
+use Rattle.dh_tables.specs.Tables.{Holds, lists_of}
 use Rattle.dh_tables.proofs.Made.{all_ready, world_empty}
 use Rattle.dh_tables.proofs.tables.Tables+MemStore.in_memory.Goals as goal
 
@@ -28,3 +28,8 @@ returns-clause-none c = (c.in_ok-make_tables.ensures.ok (memory_is_clean c.in_ok
 pub returns-clause-empty : goal.returns-clause-empty
 returns-clause-empty c =
     ap world_of (c.in_ok-make_tables.ensures.ok (memory_is_clean c.in_ok-conn.conn, refl) (memory_is_clean c.make_tables.new.conn)).1.empty ∙ world_empty
+
+pub returns-clause-last : goal.returns-clause-last
+returns-clause-last c =
+    let it = c.in_ok-make_tables.ensures.ok (memory_is_clean c.in_ok-conn.conn, refl) (memory_is_clean c.make_tables.new.conn) in
+    ap lists_of (sym (it.0.settled c.in_ok-conn.ensures.fresh.autocommit)) ∙ it.1.empty
