@@ -6,3 +6,4 @@ pub mod PushLemmas
 pub mod PushTurns
 pub mod UploadLemmas
 pub mod UploadTurns
+pub mod Crashing

@@ -7,3 +7,4 @@ pub mod Desk
 pub mod Places
 pub mod Reads
 pub mod Rows
+pub mod Crashes

@@ -3,13 +3,14 @@ ghost use Rattle.std.specs.Prelude.{◌≡◌, ◌⊎◌, true, false, find, Non
 ghost use Rattle.std.specs.Str.{bytes_eq};
 ghost use Rattle.sqlite.specs.Held.{state};
 ghost use Rattle.sqlite.specs.State.{HasCleanDisk};
-ghost use Rattle.dh_rows.specs.Calls.{IsHonest, seen, committed};
+ghost use Rattle.dh_rows.specs.Calls.{IsHonest, LeavesNoMore, KeepsCommitted, seen, committed};
 ghost use Rattle.dh_rows.specs.Keyed.{added};
 ghost use Rattle.dh_tables.specs.Answers.{json_of};
 ghost use Rattle.dh_tables.specs.Codings as coding;
 ghost use Rattle.dh_tables.specs.Lists.{is_used, keeping};
 ghost use Rattle.dh_tables.specs.Tables.{lists_of};
 ghost use Rattle.dh_desk.specs.Checks.{IsSetAside};
+ghost use Rattle.dh_desk.specs.Crashes.{LeavesEnd};
 
 use crate::refusal::Refusal;
 use dh_paths::{HostName, Slug, Token};
@@ -39,7 +40,9 @@ pub fn keep_answer<S: Alter>(
     requires unused { IsHonest S.Store tables.old → find (is_used host.now slug.now op key.now) (seen S.Store lists_of tables.old).used ≡ None }
     ensures ok { IsHonest S.Store tables.new → IfOk result (λ a. (a ≡ answer) × (seen S.Store lists_of tables.new ≡ record (seen S.Store lists_of tables.old) { used = added coding.used.key (keeping host.now slug.now op key.now answer) (seen S.Store lists_of tables.old).used })) }
     ensures err { IfErr result IsSetAside }
-    ensures kept { IsHonest S.Store tables.new → committed S.Store lists_of tables.new ≡ committed S.Store lists_of tables.old }
+    ensures kept { KeepsCommitted S.Store tables.old tables.new }
+    ensures quiet { IsHonest S.Store tables.old → LeavesNoMore S.Store tables.old tables.new }
+    ensures live { IsHonest S.Store tables.old → HasCleanDisk (state S.Store tables.new) → OnOk result (IsHonest S.Store tables.new) }
     ensures clean { HasCleanDisk (state S.Store tables.new) → HasCleanDisk (state S.Store tables.old) }
     ensures was { IsHonest S.Store tables.new → IsHonest S.Store tables.old }
 {
@@ -54,6 +57,8 @@ pub fn end<S: Alter>(
 ) -> Result<Answer, Refusal>
     ensures ok { IsHonest S.Store tables.new → IfOk result (λ answer. (worked ≡ Ok answer) × (committed S.Store lists_of tables.new ≡ seen S.Store lists_of tables.old)) }
     ensures err { IsHonest S.Store tables.new → IfErr result (λ e. (committed S.Store lists_of tables.new ≡ committed S.Store lists_of tables.old) × (IsSetAside e ⊎ (worked ≡ Err e))) }
+    ensures crash { LeavesEnd S.Store tables.old tables.new worked }
+    ensures live { OnOk worked (IsHonest S.Store tables.old) → HasCleanDisk (state S.Store tables.new) → OnOk result (IsHonest S.Store tables.new) }
     ensures clean { HasCleanDisk (state S.Store tables.new) → HasCleanDisk (state S.Store tables.old) }
     ensures was { IsHonest S.Store tables.new → IsHonest S.Store tables.old }
 {

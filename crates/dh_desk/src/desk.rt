@@ -1,13 +1,14 @@
-ghost use Rattle.std.specs.Prelude.{◌≡◌, true, false, Err, IfOk};
+ghost use Rattle.std.specs.Prelude.{◌≡◌, true, false, Err, IfOk, OnOk};
 ghost use Rattle.std.specs.Option.{option_map, option_and_then};
 ghost use Rattle.sqlite.specs.Held.{state};
 ghost use Rattle.sqlite.specs.State.{HasCleanDisk};
-ghost use Rattle.dh_rows.specs.Calls.{IsHonest, seen, committed};
+ghost use Rattle.dh_rows.specs.Calls.{IsHonest, LeavesNoMore, LeavesCommitted, seen, committed};
 ghost use Rattle.dh_paths.specs.Places.{split_of};
 ghost use Rattle.dh_reply.specs.Replies.{is_system, reply_to};
 ghost use Rattle.dh_tables.specs.Seen as caller;
 ghost use Rattle.dh_tables.specs.Tables.{lists_of};
 ghost use Rattle.dh_desk.specs.Reads.{host_named, pass_named, is_unanswered};
+ghost use Rattle.dh_desk.specs.Crashes.{LeavesStep, LeavesEither};
 ghost use Rattle.dh_desk.specs.Desk.{AreSound, Steps, IsStep, IsKept, is_fault, world};
 
 use crate::command::Command;
@@ -60,6 +61,8 @@ fn run<S: Alter>(
     requires settled { IsHonest S.Store tables.old → seen S.Store lists_of tables.old ≡ committed S.Store lists_of tables.old }
     requires sound { IsHonest S.Store tables.old → AreSound (committed S.Store lists_of tables.old) }
     ensures steps { IsHonest S.Store tables.new → Steps (committed S.Store lists_of tables.old) (committed S.Store lists_of tables.new) command.now result }
+    ensures crash { LeavesStep S.Store tables.old tables.new command.now }
+    ensures live { HasCleanDisk (state S.Store tables.new) → OnOk result (IsHonest S.Store tables.new) }
     ensures clean { HasCleanDisk (state S.Store tables.new) → HasCleanDisk (state S.Store tables.old) }
     ensures was { IsHonest S.Store tables.new → IsHonest S.Store tables.old }
 {
@@ -99,6 +102,8 @@ fn apply<S: Alter>(
 ) -> Result<Answer, Refusal>
     requires { IsKept S.Store tables.old }
     ensures steps { IsHonest S.Store tables.new → Steps (committed S.Store lists_of tables.old) (committed S.Store lists_of tables.new) command.now result }
+    ensures crash { LeavesStep S.Store tables.old tables.new command.now }
+    ensures live { HasCleanDisk (state S.Store tables.new) → OnOk result (IsHonest S.Store tables.new) }
     ensures clean { HasCleanDisk (state S.Store tables.new) → HasCleanDisk (state S.Store tables.old) }
     ensures was { IsHonest S.Store tables.new → IsHonest S.Store tables.old }
 {
@@ -144,6 +149,10 @@ impl<S: Alter> Desk<S> {
     /// Does a command, as one transaction. An accepted one has changed the world; a refused one has left it as it was. After a fault of the store the desk answers it to each command.
     pub fn apply(&mut self, alloc: Global, command: &Command) -> Result<Answer, Refusal>
         ensures step { IsHonest S.Store self.new.tables → IsStep (world S.Store self.old) (world S.Store self.new) command.now result }
+        ensures left { IsHonest S.Store self.new.tables → LeavesCommitted S.Store lists_of self.new.tables }
+        ensures crash { LeavesEither S.Store self.old.tables self.new.tables command.now }
+        ensures shut { (state S.Store self.old.tables).is_open ≡ false → LeavesNoMore S.Store self.old.tables self.new.tables }
+        ensures live { HasCleanDisk (state S.Store self.new.tables) → OnOk result (IsHonest S.Store self.new.tables) }
         ensures closed { self.old.closed ≡ true → (result ≡ Err Refusal.Store) × (self.new ≡ self.old) }
         ensures closes { self.new.closed ≡ is_fault result }
         ensures clean { HasCleanDisk (state S.Store self.new.tables) → HasCleanDisk (state S.Store self.old.tables) }
@@ -169,6 +178,7 @@ impl<S: Alter> Desk<S> {
     ) -> Result<Reply, Fault>
         ensures value { IsHonest S.Store self.new.tables → is_system (split_of asked.now.path) ≡ false → IfOk result (λ r. r ≡ reply_to (caller.seen (world S.Store self.old) (host_named host.now) (option_and_then pass_named (option_map (λ text. text.now) pass.entry))) asked.now.path asked.now.query) }
         ensures same { IsHonest S.Store self.new.tables → world S.Store self.new ≡ world S.Store self.old }
+        ensures left { IsHonest S.Store self.new.tables → LeavesCommitted S.Store lists_of self.new.tables }
         ensures closed { self.old.closed ≡ true → (result ≡ Err Fault.Store) × (self.new ≡ self.old) }
         ensures closes { self.new.closed ≡ is_unanswered result }
         ensures clean { HasCleanDisk (state S.Store self.new.tables) → HasCleanDisk (state S.Store self.old.tables) }

@@ -1,11 +1,12 @@
 //! New projects, and their languages.
-ghost use Rattle.std.specs.Prelude.{◌≡◌, true, false};
+ghost use Rattle.std.specs.Prelude.{◌≡◌, true, false, OnOk};
 ghost use Rattle.std.specs.List.{list_any};
 ghost use Rattle.std.specs.Str.{bytes_eq};
 ghost use Rattle.sqlite.specs.Held.{state};
 ghost use Rattle.sqlite.specs.State.{HasCleanDisk};
-ghost use Rattle.dh_rows.specs.Calls.{IsHonest, seen, committed};
+ghost use Rattle.dh_rows.specs.Calls.{IsHonest, LeavesNoMore, KeepsCommitted, seen, committed};
 ghost use Rattle.dh_tables.specs.Tables.{lists_of};
+ghost use Rattle.dh_desk.specs.Crashes.{LeavesStep};
 ghost use Rattle.dh_desk.specs.Desk.{AreSound, Turns, Steps};
 ghost use Rattle.dh_desk.specs.Places.{place_for};
 
@@ -29,7 +30,9 @@ fn make_project<S: Alter>(
     requires within { IsHonest S.Store tables.old → tables.old.in_transaction ≡ true }
     requires main { lang.now ≡ record { host = project.now.host; lang = project.now.main; place = 1 } }
     ensures turns { IsHonest S.Store tables.new → Turns (seen S.Store lists_of tables.old) (seen S.Store lists_of tables.new) (Command.NewProject project.now.host project.now.main project.now.branch project.now.new_private project.now.wkey) result }
-    ensures kept { IsHonest S.Store tables.new → committed S.Store lists_of tables.new ≡ committed S.Store lists_of tables.old }
+    ensures kept { KeepsCommitted S.Store tables.old tables.new }
+    ensures quiet { IsHonest S.Store tables.old → LeavesNoMore S.Store tables.old tables.new }
+    ensures live { IsHonest S.Store tables.old → HasCleanDisk (state S.Store tables.new) → OnOk result (IsHonest S.Store tables.new) }
     ensures clean { HasCleanDisk (state S.Store tables.new) → HasCleanDisk (state S.Store tables.old) }
     ensures was { IsHonest S.Store tables.new → IsHonest S.Store tables.old }
 {
@@ -54,6 +57,8 @@ pub fn new_project<S: Alter>(
     requires settled { IsHonest S.Store tables.old → seen S.Store lists_of tables.old ≡ committed S.Store lists_of tables.old }
     requires sound { IsHonest S.Store tables.old → AreSound (committed S.Store lists_of tables.old) }
     ensures steps { IsHonest S.Store tables.new → Steps (committed S.Store lists_of tables.old) (committed S.Store lists_of tables.new) (Command.NewProject host.now lang.now branch.now private wkey.now) result }
+    ensures crash { LeavesStep S.Store tables.old tables.new (Command.NewProject host.now lang.now branch.now private wkey.now) }
+    ensures live { HasCleanDisk (state S.Store tables.new) → OnOk result (IsHonest S.Store tables.new) }
     ensures clean { HasCleanDisk (state S.Store tables.new) → HasCleanDisk (state S.Store tables.old) }
     ensures was { IsHonest S.Store tables.new → IsHonest S.Store tables.old }
 {
@@ -94,7 +99,9 @@ fn make_lang<S: Alter>(
     requires sound { IsHonest S.Store tables.old → AreSound (seen S.Store lists_of tables.old) }
     requires within { IsHonest S.Store tables.old → tables.old.in_transaction ≡ true }
     ensures turns { IsHonest S.Store tables.new → Turns (seen S.Store lists_of tables.old) (seen S.Store lists_of tables.new) (Command.AddLang host lang) result }
-    ensures kept { IsHonest S.Store tables.new → committed S.Store lists_of tables.new ≡ committed S.Store lists_of tables.old }
+    ensures kept { KeepsCommitted S.Store tables.old tables.new }
+    ensures quiet { IsHonest S.Store tables.old → LeavesNoMore S.Store tables.old tables.new }
+    ensures live { IsHonest S.Store tables.old → HasCleanDisk (state S.Store tables.new) → OnOk result (IsHonest S.Store tables.new) }
     ensures clean { HasCleanDisk (state S.Store tables.new) → HasCleanDisk (state S.Store tables.old) }
     ensures was { IsHonest S.Store tables.new → IsHonest S.Store tables.old }
 {
@@ -118,6 +125,8 @@ pub fn add_lang<S: Alter>(
     requires settled { IsHonest S.Store tables.old → seen S.Store lists_of tables.old ≡ committed S.Store lists_of tables.old }
     requires sound { IsHonest S.Store tables.old → AreSound (committed S.Store lists_of tables.old) }
     ensures steps { IsHonest S.Store tables.new → Steps (committed S.Store lists_of tables.old) (committed S.Store lists_of tables.new) (Command.AddLang host.now lang.now) result }
+    ensures crash { LeavesStep S.Store tables.old tables.new (Command.AddLang host.now lang.now) }
+    ensures live { HasCleanDisk (state S.Store tables.new) → OnOk result (IsHonest S.Store tables.new) }
     ensures clean { HasCleanDisk (state S.Store tables.new) → HasCleanDisk (state S.Store tables.old) }
     ensures was { IsHonest S.Store tables.new → IsHonest S.Store tables.old }
 {

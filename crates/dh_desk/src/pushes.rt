@@ -1,9 +1,9 @@
 //! Pushes of branches and tags.
-ghost use Rattle.std.specs.Prelude.{◌≡◌, ◌&&◌, true, find, Some, None, IfOk, IfErr};
+ghost use Rattle.std.specs.Prelude.{◌≡◌, ◌&&◌, true, find, Some, None, IfOk, IfErr, OnOk};
 ghost use Rattle.std.specs.Str.{bytes_eq};
 ghost use Rattle.sqlite.specs.Held.{state};
 ghost use Rattle.sqlite.specs.State.{HasCleanDisk};
-ghost use Rattle.dh_rows.specs.Calls.{IsHonest, seen, committed};
+ghost use Rattle.dh_rows.specs.Calls.{IsHonest, LeavesNoMore, KeepsCommitted, seen, committed};
 ghost use Rattle.dh_rows.specs.Keyed.{added, put};
 ghost use Rattle.dh_paths.specs.Slugs.{slug_from};
 ghost use Rattle.dh_tables.specs.Codings as coding;
@@ -12,6 +12,7 @@ ghost use Rattle.dh_tables.specs.Tables.{lists_of};
 ghost use Rattle.dh_tables.specs.World.{Project};
 ghost use Rattle.dh_desk.specs.Changes.{same_kind, new_version, made};
 ghost use Rattle.dh_desk.specs.Checks.{IsSetAside};
+ghost use Rattle.dh_desk.specs.Crashes.{LeavesStep};
 ghost use Rattle.dh_desk.specs.Desk.{AreSound, Turns, Steps};
 
 use crate::calls::{end, is_write_key, keep_answer};
@@ -87,7 +88,9 @@ fn make_version<S: Alter>(
     requires unused { IsHonest S.Store tables.old → find (is_used parts.now.host parts.now.slug Operation.Push parts.now.key) (seen S.Store lists_of tables.old).used ≡ None }
     ensures ok { IsHonest S.Store tables.new → IfOk result (λ a. (a ≡ made row.now.version) × (seen S.Store lists_of tables.new ≡ record (seen S.Store lists_of tables.old) { versions = put coding.versions.key row.now (seen S.Store lists_of tables.old).versions; used = added coding.used.key (keeping parts.now.host parts.now.slug Operation.Push parts.now.key (made row.now.version)) (seen S.Store lists_of tables.old).used })) }
     ensures err { IfErr result IsSetAside }
-    ensures kept { IsHonest S.Store tables.new → committed S.Store lists_of tables.new ≡ committed S.Store lists_of tables.old }
+    ensures kept { KeepsCommitted S.Store tables.old tables.new }
+    ensures quiet { IsHonest S.Store tables.old → LeavesNoMore S.Store tables.old tables.new }
+    ensures live { IsHonest S.Store tables.old → HasCleanDisk (state S.Store tables.new) → OnOk result (IsHonest S.Store tables.new) }
     ensures clean { HasCleanDisk (state S.Store tables.new) → HasCleanDisk (state S.Store tables.old) }
     ensures was { IsHonest S.Store tables.new → IsHonest S.Store tables.old }
 {
@@ -119,7 +122,9 @@ fn push_fresh<S: Alter>(
     requires right { bytes_eq parts.now.wkey project.now.wkey ≡ true }
     requires unused { IsHonest S.Store tables.old → find (is_used parts.now.host parts.now.slug Operation.Push parts.now.key) (seen S.Store lists_of tables.old).used ≡ None }
     ensures turns { IsHonest S.Store tables.new → Turns (seen S.Store lists_of tables.old) (seen S.Store lists_of tables.new) (Command.Push parts.now.host parts.now.wkey parts.now.key kind parts.now.name) result }
-    ensures kept { IsHonest S.Store tables.new → committed S.Store lists_of tables.new ≡ committed S.Store lists_of tables.old }
+    ensures kept { KeepsCommitted S.Store tables.old tables.new }
+    ensures quiet { IsHonest S.Store tables.old → LeavesNoMore S.Store tables.old tables.new }
+    ensures live { IsHonest S.Store tables.old → HasCleanDisk (state S.Store tables.new) → OnOk result (IsHonest S.Store tables.new) }
     ensures clean { HasCleanDisk (state S.Store tables.new) → HasCleanDisk (state S.Store tables.old) }
     ensures was { IsHonest S.Store tables.new → IsHonest S.Store tables.old }
 {
@@ -160,7 +165,9 @@ fn push_right<S: Alter>(
     requires found { IsHonest S.Store tables.old → find (is_project parts.now.host) (seen S.Store lists_of tables.old).projects ≡ Some project.now }
     requires right { bytes_eq parts.now.wkey project.now.wkey ≡ true }
     ensures turns { IsHonest S.Store tables.new → Turns (seen S.Store lists_of tables.old) (seen S.Store lists_of tables.new) (Command.Push parts.now.host parts.now.wkey parts.now.key kind parts.now.name) result }
-    ensures kept { IsHonest S.Store tables.new → committed S.Store lists_of tables.new ≡ committed S.Store lists_of tables.old }
+    ensures kept { KeepsCommitted S.Store tables.old tables.new }
+    ensures quiet { IsHonest S.Store tables.old → LeavesNoMore S.Store tables.old tables.new }
+    ensures live { IsHonest S.Store tables.old → HasCleanDisk (state S.Store tables.new) → OnOk result (IsHonest S.Store tables.new) }
     ensures clean { HasCleanDisk (state S.Store tables.new) → HasCleanDisk (state S.Store tables.old) }
     ensures was { IsHonest S.Store tables.new → IsHonest S.Store tables.old }
 {
@@ -181,7 +188,9 @@ fn make_push<S: Alter>(
     requires within { IsHonest S.Store tables.old → tables.old.in_transaction ≡ true }
     requires named { slug_from parts.now.name ≡ Some parts.now.slug }
     ensures turns { IsHonest S.Store tables.new → Turns (seen S.Store lists_of tables.old) (seen S.Store lists_of tables.new) (Command.Push parts.now.host parts.now.wkey parts.now.key kind parts.now.name) result }
-    ensures kept { IsHonest S.Store tables.new → committed S.Store lists_of tables.new ≡ committed S.Store lists_of tables.old }
+    ensures kept { KeepsCommitted S.Store tables.old tables.new }
+    ensures quiet { IsHonest S.Store tables.old → LeavesNoMore S.Store tables.old tables.new }
+    ensures live { IsHonest S.Store tables.old → HasCleanDisk (state S.Store tables.new) → OnOk result (IsHonest S.Store tables.new) }
     ensures clean { HasCleanDisk (state S.Store tables.new) → HasCleanDisk (state S.Store tables.old) }
     ensures was { IsHonest S.Store tables.new → IsHonest S.Store tables.old }
 {
@@ -209,6 +218,8 @@ pub fn push<S: Alter>(
     requires settled { IsHonest S.Store tables.old → seen S.Store lists_of tables.old ≡ committed S.Store lists_of tables.old }
     requires sound { IsHonest S.Store tables.old → AreSound (committed S.Store lists_of tables.old) }
     ensures steps { IsHonest S.Store tables.new → Steps (committed S.Store lists_of tables.old) (committed S.Store lists_of tables.new) (Command.Push host.now wkey.now key.now kind name.now) result }
+    ensures crash { LeavesStep S.Store tables.old tables.new (Command.Push host.now wkey.now key.now kind name.now) }
+    ensures live { HasCleanDisk (state S.Store tables.new) → OnOk result (IsHonest S.Store tables.new) }
     ensures clean { HasCleanDisk (state S.Store tables.new) → HasCleanDisk (state S.Store tables.old) }
     ensures was { IsHonest S.Store tables.new → IsHonest S.Store tables.old }
 {

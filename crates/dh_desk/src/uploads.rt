@@ -4,11 +4,12 @@ ghost use Rattle.std.specs.List.{AllByRecursion};
 ghost use Rattle.std.specs.Str.{bytes_eq};
 ghost use Rattle.sqlite.specs.Held.{state};
 ghost use Rattle.sqlite.specs.State.{HasCleanDisk};
-ghost use Rattle.dh_rows.specs.Calls.{IsHonest, Becomes, seen, committed};
+ghost use Rattle.dh_rows.specs.Calls.{IsHonest, LeavesNoMore, KeepsCommitted, Becomes, seen, committed};
 ghost use Rattle.dh_paths.specs.Texts.{is_page_path};
 ghost use Rattle.dh_tables.specs.Lists.{is_project, is_used};
 ghost use Rattle.dh_tables.specs.Tables.{lists_of};
 ghost use Rattle.dh_desk.specs.Checks.{IsSetAside};
+ghost use Rattle.dh_desk.specs.Crashes.{LeavesStep};
 ghost use Rattle.dh_desk.specs.Desk.{AreSound, Turns, Steps};
 ghost use Rattle.dh_desk.specs.Rows.{page_row, with_rows, without_rows, with_upload};
 
@@ -53,7 +54,9 @@ fn put_pages<S: Alter>(
     requires paths { AllByRecursion (λ x. is_page_path x.path ≡ true) pages.now }
     ensures ok { IsHonest S.Store tables.new → OnOk result (Becomes S.Store lists_of tables.old tables.new (record (seen S.Store lists_of tables.old) { pages = with_rows parts.now.host parts.now.slug parts.now.lang pages.now (seen S.Store lists_of tables.old).pages })) }
     ensures err { IfErr result IsSetAside }
-    ensures kept { IsHonest S.Store tables.new → committed S.Store lists_of tables.new ≡ committed S.Store lists_of tables.old }
+    ensures kept { KeepsCommitted S.Store tables.old tables.new }
+    ensures quiet { IsHonest S.Store tables.old → LeavesNoMore S.Store tables.old tables.new }
+    ensures live { IsHonest S.Store tables.old → HasCleanDisk (state S.Store tables.new) → OnOk result (IsHonest S.Store tables.new) }
     ensures clean { HasCleanDisk (state S.Store tables.new) → HasCleanDisk (state S.Store tables.old) }
     ensures was { IsHonest S.Store tables.new → IsHonest S.Store tables.old }
 {
@@ -73,7 +76,9 @@ fn clear_pages<S: Alter>(
     requires within { IsHonest S.Store tables.old → tables.old.in_transaction ≡ true }
     ensures ok { IsHonest S.Store tables.new → OnOk result (Becomes S.Store lists_of tables.old tables.new (record (seen S.Store lists_of tables.old) { pages = without_rows parts.now.host parts.now.slug parts.now.lang replace (seen S.Store lists_of tables.old).pages })) }
     ensures err { IfErr result IsSetAside }
-    ensures kept { IsHonest S.Store tables.new → committed S.Store lists_of tables.new ≡ committed S.Store lists_of tables.old }
+    ensures kept { KeepsCommitted S.Store tables.old tables.new }
+    ensures quiet { IsHonest S.Store tables.old → LeavesNoMore S.Store tables.old tables.new }
+    ensures live { IsHonest S.Store tables.old → HasCleanDisk (state S.Store tables.new) → OnOk result (IsHonest S.Store tables.new) }
     ensures clean { HasCleanDisk (state S.Store tables.new) → HasCleanDisk (state S.Store tables.old) }
     ensures was { IsHonest S.Store tables.new → IsHonest S.Store tables.old }
 {
@@ -97,7 +102,9 @@ fn store_pages<S: Alter>(
     requires unused { IsHonest S.Store tables.old → find (is_used parts.now.host parts.now.slug Operation.Upload parts.now.key) (seen S.Store lists_of tables.old).used ≡ None }
     ensures ok { IsHonest S.Store tables.new → IfOk result (λ a. (a ≡ Answer.Stored (length pages.now)) × (seen S.Store lists_of tables.new ≡ with_upload parts.now.host parts.now.slug parts.now.lang parts.now.key replace pages.now (seen S.Store lists_of tables.old))) }
     ensures err { IfErr result IsSetAside }
-    ensures kept { IsHonest S.Store tables.new → committed S.Store lists_of tables.new ≡ committed S.Store lists_of tables.old }
+    ensures kept { KeepsCommitted S.Store tables.old tables.new }
+    ensures quiet { IsHonest S.Store tables.old → LeavesNoMore S.Store tables.old tables.new }
+    ensures live { IsHonest S.Store tables.old → HasCleanDisk (state S.Store tables.new) → OnOk result (IsHonest S.Store tables.new) }
     ensures clean { HasCleanDisk (state S.Store tables.new) → HasCleanDisk (state S.Store tables.old) }
     ensures was { IsHonest S.Store tables.new → IsHonest S.Store tables.old }
 {
@@ -134,7 +141,9 @@ fn upload_fresh<S: Alter>(
     requires right { bytes_eq parts.now.wkey project.now.wkey ≡ true }
     requires unused { IsHonest S.Store tables.old → find (is_used parts.now.host parts.now.slug Operation.Upload parts.now.key) (seen S.Store lists_of tables.old).used ≡ None }
     ensures turns { IsHonest S.Store tables.new → Turns (seen S.Store lists_of tables.old) (seen S.Store lists_of tables.new) (Command.Upload parts.now.host parts.now.wkey parts.now.key parts.now.slug parts.now.lang replace pages.now) result }
-    ensures kept { IsHonest S.Store tables.new → committed S.Store lists_of tables.new ≡ committed S.Store lists_of tables.old }
+    ensures kept { KeepsCommitted S.Store tables.old tables.new }
+    ensures quiet { IsHonest S.Store tables.old → LeavesNoMore S.Store tables.old tables.new }
+    ensures live { IsHonest S.Store tables.old → HasCleanDisk (state S.Store tables.new) → OnOk result (IsHonest S.Store tables.new) }
     ensures clean { HasCleanDisk (state S.Store tables.new) → HasCleanDisk (state S.Store tables.old) }
     ensures was { IsHonest S.Store tables.new → IsHonest S.Store tables.old }
 {
@@ -169,7 +178,9 @@ fn upload_right<S: Alter>(
     requires found { IsHonest S.Store tables.old → find (is_project parts.now.host) (seen S.Store lists_of tables.old).projects ≡ Some project.now }
     requires right { bytes_eq parts.now.wkey project.now.wkey ≡ true }
     ensures turns { IsHonest S.Store tables.new → Turns (seen S.Store lists_of tables.old) (seen S.Store lists_of tables.new) (Command.Upload parts.now.host parts.now.wkey parts.now.key parts.now.slug parts.now.lang replace pages.now) result }
-    ensures kept { IsHonest S.Store tables.new → committed S.Store lists_of tables.new ≡ committed S.Store lists_of tables.old }
+    ensures kept { KeepsCommitted S.Store tables.old tables.new }
+    ensures quiet { IsHonest S.Store tables.old → LeavesNoMore S.Store tables.old tables.new }
+    ensures live { IsHonest S.Store tables.old → HasCleanDisk (state S.Store tables.new) → OnOk result (IsHonest S.Store tables.new) }
     ensures clean { HasCleanDisk (state S.Store tables.new) → HasCleanDisk (state S.Store tables.old) }
     ensures was { IsHonest S.Store tables.new → IsHonest S.Store tables.old }
 {
@@ -198,7 +209,9 @@ fn make_upload<S: Alter>(
     requires paths { AllByRecursion (λ x. is_page_path x.path ≡ true) pages.now }
     requires few { length pages.now ≤ 256 }
     ensures turns { IsHonest S.Store tables.new → Turns (seen S.Store lists_of tables.old) (seen S.Store lists_of tables.new) (Command.Upload parts.now.host parts.now.wkey parts.now.key parts.now.slug parts.now.lang replace pages.now) result }
-    ensures kept { IsHonest S.Store tables.new → committed S.Store lists_of tables.new ≡ committed S.Store lists_of tables.old }
+    ensures kept { KeepsCommitted S.Store tables.old tables.new }
+    ensures quiet { IsHonest S.Store tables.old → LeavesNoMore S.Store tables.old tables.new }
+    ensures live { IsHonest S.Store tables.old → HasCleanDisk (state S.Store tables.new) → OnOk result (IsHonest S.Store tables.new) }
     ensures clean { HasCleanDisk (state S.Store tables.new) → HasCleanDisk (state S.Store tables.old) }
     ensures was { IsHonest S.Store tables.new → IsHonest S.Store tables.old }
 {
@@ -228,6 +241,8 @@ pub fn upload<S: Alter>(
     requires settled { IsHonest S.Store tables.old → seen S.Store lists_of tables.old ≡ committed S.Store lists_of tables.old }
     requires sound { IsHonest S.Store tables.old → AreSound (committed S.Store lists_of tables.old) }
     ensures steps { IsHonest S.Store tables.new → Steps (committed S.Store lists_of tables.old) (committed S.Store lists_of tables.new) (Command.Upload host.now wkey.now key.now slug.now lang.now replace pages.now) result }
+    ensures crash { LeavesStep S.Store tables.old tables.new (Command.Upload host.now wkey.now key.now slug.now lang.now replace pages.now) }
+    ensures live { HasCleanDisk (state S.Store tables.new) → OnOk result (IsHonest S.Store tables.new) }
     ensures clean { HasCleanDisk (state S.Store tables.new) → HasCleanDisk (state S.Store tables.old) }
     ensures was { IsHonest S.Store tables.new → IsHonest S.Store tables.old }
 {

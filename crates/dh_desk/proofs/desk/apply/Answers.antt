@@ -3,6 +3,7 @@ use Rattle.dh_rows.specs.Calls.{committed}
 use Rattle.dh_tables.specs.Lists.{Lists}
 use Rattle.dh_tables.specs.Tables.{lists_of}
 use Rattle.dh_desk.specs.Desk.{AreSound, Steps}
+use Rattle.dh_desk.proofs.Crashing.{step_after}
 use Rattle.dh_desk.proofs.Turning.{steps_aside, stays}
 use Rattle.dh_desk.proofs.desk.apply.Goals as goal
 
@@ -22,3 +23,7 @@ returns-clause-steps g c honest =
     let h1 = c.run.ensures.was honest in
     let P : Lists → Type 0 = λ l. Steps l (committed g.S.Store lists_of c.run.new.tables) c.args.command.now c.run.result in
     subst P (c.in_ok-back.ensures.ok h1).last_is (c.run.ensures.steps honest)
+
+pub returns-clause-crash : goal.returns-clause-crash
+returns-clause-crash g c =
+    step_after g.S.Store c.args.tables.now c.back.new.self c.run.new.tables c.args.command.now c.back.ensures.was c.back.ensures.quiet c.back.ensures.kept c.run.ensures.clean c.run.ensures.crash

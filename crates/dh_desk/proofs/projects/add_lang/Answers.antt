@@ -1,10 +1,11 @@
-use Rattle.std.proofs.Common.{◌∙◌, ap₂, subst}
+use Rattle.std.proofs.Common.{◌∙◌, ap, ap₂, subst}
 use Rattle.dh_rows.specs.Calls.{seen, committed}
 use Rattle.dh_tables.specs.Lists.{Lists}
 use Rattle.dh_tables.specs.Tables.{lists_of}
 use Rattle.dh_desk.specs.declared.command.Command.{Command}
 use Rattle.dh_desk.specs.declared.command.Command.TheVariants.{AddLang}
 use Rattle.dh_desk.specs.Desk.{Turns}
+use Rattle.dh_desk.proofs.Crashing.{ended_leaves}
 use Rattle.dh_desk.proofs.Turning.{steps_aside, stays, ended}
 use Rattle.dh_desk.proofs.projects.add_lang.Goals as goal
 
@@ -26,4 +27,16 @@ returns-clause-steps g c honest =
     let by_lists : Lists → Type 0 = λ l. Turns l worked command c.make_lang-worked.result in
     let turned = subst by_lists (begun.now_is ∙ c.requires.settled h0) (subst by_command (ap₂ AddLang c.in_ok-host.ensures.1.0 c.in_ok-host.ensures.1.1) (c.make_lang-worked.ensures.turns h2)) in
     ended start worked (committed g.S.Store lists_of c.end.new.tables) (committed g.S.Store lists_of c.make_lang-worked.new.tables) command c.make_lang-worked.result c.end.result
-    c.in_ok-host.ensures.0 (c.make_lang-worked.ensures.kept h2 ∙ begun.last_is) turned (c.end.ensures.ok honest) (c.end.ensures.err honest)
+    c.in_ok-host.ensures.0 (ap lists_of (c.make_lang-worked.ensures.kept h2) ∙ begun.last_is) turned (c.end.ensures.ok honest) (c.end.ensures.err honest)
+
+pub returns-clause-crash : goal.returns-clause-crash
+returns-clause-crash g c =
+    let command : Command = AddLang c.args.host.now c.args.lang.now in
+    let worked : Lists = seen g.S.Store lists_of c.make_lang-worked.new.tables in
+    ended_leaves g.S.Store c.args.tables.now c.begin.new.self c.make_lang-worked.new.tables c.end.new.tables command c.make_lang-worked.result c.in_ok-host.ensures.0
+    c.in_ok-begin.ensures.opened c.begin.ensures.kept c.begin.ensures.quiet c.in_ok-begin.ensures.ok c.make_lang-worked.ensures.clean c.make_lang-worked.ensures.kept c.make_lang-worked.ensures.quiet c.make_lang-worked.ensures.live
+    (λ h0 h1 h2.
+    let by_command : Command → Type 0 = λ x. Turns (seen g.S.Store lists_of c.begin.new.self) worked x c.make_lang-worked.result in
+    let by_lists : Lists → Type 0 = λ l. Turns l worked command c.make_lang-worked.result in
+    subst by_lists ((c.in_ok-begin.ensures.ok h0 h1.0).now_is ∙ c.requires.settled h0) (subst by_command (ap₂ AddLang c.in_ok-host.ensures.1.0 c.in_ok-host.ensures.1.1) (c.make_lang-worked.ensures.turns h2)))
+    c.end.ensures.clean c.end.ensures.crash

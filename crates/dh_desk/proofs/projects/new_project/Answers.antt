@@ -1,4 +1,4 @@
-use Rattle.std.proofs.Common.{◌∙◌, subst}
+use Rattle.std.proofs.Common.{◌∙◌, ap, subst}
 use Rattle.dh_rows.specs.Calls.{seen, committed}
 use Rattle.dh_tables.specs.Lists.{Lists}
 use Rattle.dh_tables.specs.Tables.{lists_of}
@@ -7,6 +7,7 @@ use Rattle.dh_desk.specs.declared.command.Command.{Command}
 use Rattle.dh_desk.specs.declared.command.Command.TheVariants.{NewProject}
 use Rattle.dh_desk.specs.Desk.{Turns}
 use Rattle.dh_desk.proofs.ProjectLemmas.{project_command}
+use Rattle.dh_desk.proofs.Crashing.{ended_leaves}
 use Rattle.dh_desk.proofs.Turning.{steps_aside, stays, ended}
 use Rattle.dh_desk.proofs.projects.new_project.Goals as goal
 
@@ -28,4 +29,16 @@ returns-clause-steps g c honest =
     let by_lists : Lists → Type 0 = λ l. Turns l worked command c.make_project-worked.result in
     let turned = subst by_lists (begun.now_is ∙ c.requires.settled h0) (subst by_row c.in_ok-project.ensures.1.0 (c.make_project-worked.ensures.turns h2)) in
     ended start worked (committed g.S.Store lists_of c.end.new.tables) (committed g.S.Store lists_of c.make_project-worked.new.tables) command c.make_project-worked.result c.end.result
-    c.in_ok-project.ensures.0 (c.make_project-worked.ensures.kept h2 ∙ begun.last_is) turned (c.end.ensures.ok honest) (c.end.ensures.err honest)
+    c.in_ok-project.ensures.0 (ap lists_of (c.make_project-worked.ensures.kept h2) ∙ begun.last_is) turned (c.end.ensures.ok honest) (c.end.ensures.err honest)
+
+pub returns-clause-crash : goal.returns-clause-crash
+returns-clause-crash g c =
+    let command : Command = NewProject c.args.host.now c.args.lang.now c.args.branch.now c.args.private c.args.wkey.now in
+    let worked : Lists = seen g.S.Store lists_of c.make_project-worked.new.tables in
+    ended_leaves g.S.Store c.args.tables.now c.begin.new.self c.make_project-worked.new.tables c.end.new.tables command c.make_project-worked.result c.in_ok-project.ensures.0
+    c.in_ok-begin.ensures.opened c.begin.ensures.kept c.begin.ensures.quiet c.in_ok-begin.ensures.ok c.make_project-worked.ensures.clean c.make_project-worked.ensures.kept c.make_project-worked.ensures.quiet c.make_project-worked.ensures.live
+    (λ h0 h1 h2.
+    let by_row : ProjectRow → Type 0 = λ r. Turns (seen g.S.Store lists_of c.begin.new.self) worked (project_command r) c.make_project-worked.result in
+    let by_lists : Lists → Type 0 = λ l. Turns l worked command c.make_project-worked.result in
+    subst by_lists ((c.in_ok-begin.ensures.ok h0 h1.0).now_is ∙ c.requires.settled h0) (subst by_row c.in_ok-project.ensures.1.0 (c.make_project-worked.ensures.turns h2)))
+    c.end.ensures.clean c.end.ensures.crash

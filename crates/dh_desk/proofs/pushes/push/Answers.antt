@@ -1,4 +1,4 @@
-use Rattle.std.proofs.Common.{◌≡◌, ◌∙◌, sym, subst, Some}
+use Rattle.std.proofs.Common.{◌≡◌, ◌∙◌, sym, ap, subst, Some}
 use Rattle.dh_paths.specs.Slugs.{slug_from}
 use Rattle.dh_rows.specs.Calls.{seen, committed}
 use Rattle.dh_tables.specs.Lists.{Lists}
@@ -7,6 +7,7 @@ use Rattle.dh_desk.specs.declared.command.Command.{Command}
 use Rattle.dh_desk.specs.declared.command.Command.TheVariants.{Push}
 use Rattle.dh_desk.specs.declared.texts.PushParts.{PushParts}
 use Rattle.dh_desk.specs.Desk.{Turns}
+use Rattle.dh_desk.proofs.Crashing.{ended_leaves}
 use Rattle.dh_desk.proofs.Turning.{steps_aside, stays, ended}
 use Rattle.dh_desk.proofs.PushTurns.{steps_wrong, slug_named}
 use Rattle.dh_desk.proofs.pushes.push.Goals as goal
@@ -41,4 +42,17 @@ returns-clause-steps g c honest =
     let by_lists : Lists → Type 0 = λ l. Turns l worked command c.make_push-worked.result in
     let turned = subst by_lists (begun.now_is ∙ c.requires.settled h0) (subst by_parts it.1 (c.make_push-worked.ensures.turns h2)) in
     ended start worked (committed g.S.Store lists_of c.end.new.tables) (committed g.S.Store lists_of c.make_push-worked.new.tables) command c.make_push-worked.result c.end.result
-    it.0 (c.make_push-worked.ensures.kept h2 ∙ begun.last_is) turned (c.end.ensures.ok honest) (c.end.ensures.err honest)
+    it.0 (ap lists_of (c.make_push-worked.ensures.kept h2) ∙ begun.last_is) turned (c.end.ensures.ok honest) (c.end.ensures.err honest)
+
+pub returns-clause-crash : goal.returns-clause-crash
+returns-clause-crash g c =
+    let it = c.in_ok-parts.ensures c.args.kind in
+    let command : Command = Push c.args.host.now c.args.wkey.now c.args.key.now c.args.kind c.args.name.now in
+    let worked : Lists = seen g.S.Store lists_of c.make_push-worked.new.tables in
+    ended_leaves g.S.Store c.args.tables.now c.begin.new.self c.make_push-worked.new.tables c.end.new.tables command c.make_push-worked.result it.0
+    c.in_ok-begin.ensures.opened c.begin.ensures.kept c.begin.ensures.quiet c.in_ok-begin.ensures.ok c.make_push-worked.ensures.clean c.make_push-worked.ensures.kept c.make_push-worked.ensures.quiet c.make_push-worked.ensures.live
+    (λ h0 h1 h2.
+    let by_parts : PushParts → Type 0 = λ x. Turns (seen g.S.Store lists_of c.begin.new.self) worked (Push x.host x.wkey x.key c.args.kind x.name) c.make_push-worked.result in
+    let by_lists : Lists → Type 0 = λ l. Turns l worked command c.make_push-worked.result in
+    subst by_lists ((c.in_ok-begin.ensures.ok h0 h1.0).now_is ∙ c.requires.settled h0) (subst by_parts it.1 (c.make_push-worked.ensures.turns h2)))
+    c.end.ensures.clean c.end.ensures.crash

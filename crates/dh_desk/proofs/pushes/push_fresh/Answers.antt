@@ -41,3 +41,8 @@ returns-in_ok-slug-in-Some-clause-turns g c honest =
     c.args.parts.now.slug c.requires.named c.requires.right (c.requires.unused h0) (c.requires.sound h0) c.in-Some.row (sym (c.in_ok-version.ensures.value h0 h1.0) ∙ c.in-Some.is)
     (sym c.comes_from.ensures ∙ c.if-not-comes_from.false))
     (subst ok c.in_ok-slug-in-Some.ensures (c.keep_answer.ensures.ok honest)) c.keep_answer.ensures.err
+
+pub returns-in_ok-slug-in-Some-clause-quiet : goal.returns-in_ok-slug-in-Some-clause-quiet
+returns-in_ok-slug-in-Some-clause-quiet g c honest clean db may =
+    let back = c.keep_answer.ensures.clean clean in
+    c.version.ensures.quiet honest back db (c.keep_answer.ensures.quiet (back, (c.in_ok-version.ensures.same honest back).is_open) clean db may)

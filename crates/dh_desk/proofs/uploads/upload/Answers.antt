@@ -1,4 +1,4 @@
-use Rattle.std.proofs.Common.{◌≡◌, ◌≤◌, ◌∙◌, true, length, List, sym, subst}
+use Rattle.std.proofs.Common.{◌≡◌, ◌≤◌, ◌∙◌, true, length, List, sym, ap, subst}
 use Rattle.std.specs.List.{AllByRecursion}
 use Rattle.dh_paths.specs.Texts.{is_page_path}
 use Rattle.dh_rows.specs.Calls.{seen, committed}
@@ -9,6 +9,7 @@ use Rattle.dh_desk.specs.declared.command.Command.TheVariants.{Upload}
 use Rattle.dh_desk.specs.declared.pages.UploadedPage.{UploadedPage}
 use Rattle.dh_desk.specs.declared.texts.UploadParts.{UploadParts}
 use Rattle.dh_desk.specs.Desk.{Turns}
+use Rattle.dh_desk.proofs.Crashing.{ended_leaves}
 use Rattle.dh_desk.proofs.Turning.{steps_aside, stays, ended}
 use Rattle.dh_desk.proofs.PushTurns.{steps_wrong}
 use Rattle.dh_desk.proofs.UploadTurns.{pages_right}
@@ -49,4 +50,18 @@ returns-clause-steps g c honest =
     let by_lists : Lists → Type 0 = λ l. Turns l worked command c.make_upload-worked.result in
     let turned = subst by_lists (begun.now_is ∙ c.requires.settled h0) (subst by_parts it.1 (subst by_pages c.as_slice.ensures (c.make_upload-worked.ensures.turns h2))) in
     ended start worked (committed g.S.Store lists_of c.end.new.tables) (committed g.S.Store lists_of c.make_upload-worked.new.tables) command c.make_upload-worked.result c.end.result
-    it.0 (c.make_upload-worked.ensures.kept h2 ∙ begun.last_is) turned (c.end.ensures.ok honest) (c.end.ensures.err honest)
+    it.0 (ap lists_of (c.make_upload-worked.ensures.kept h2) ∙ begun.last_is) turned (c.end.ensures.ok honest) (c.end.ensures.err honest)
+
+pub returns-clause-crash : goal.returns-clause-crash
+returns-clause-crash g c =
+    let it = c.in_ok-parts.ensures c.args.replace in
+    let command : Command = Upload c.args.host.now c.args.wkey.now c.args.key.now c.args.slug.now c.args.lang.now c.args.replace c.args.pages.now in
+    let worked : Lists = seen g.S.Store lists_of c.make_upload-worked.new.tables in
+    ended_leaves g.S.Store c.args.tables.now c.begin.new.self c.make_upload-worked.new.tables c.end.new.tables command c.make_upload-worked.result it.0
+    c.in_ok-begin.ensures.opened c.begin.ensures.kept c.begin.ensures.quiet c.in_ok-begin.ensures.ok c.make_upload-worked.ensures.clean c.make_upload-worked.ensures.kept c.make_upload-worked.ensures.quiet c.make_upload-worked.ensures.live
+    (λ h0 h1 h2.
+    let by_pages : List UploadedPage → Type 0 = λ xs. Turns (seen g.S.Store lists_of c.begin.new.self) worked (Upload c.in_ok-parts.parts.host c.in_ok-parts.parts.wkey c.in_ok-parts.parts.key c.in_ok-parts.parts.slug c.in_ok-parts.parts.lang c.args.replace xs) c.make_upload-worked.result in
+    let by_parts : UploadParts → Type 0 = λ x. Turns (seen g.S.Store lists_of c.begin.new.self) worked (Upload x.host x.wkey x.key x.slug x.lang c.args.replace c.args.pages.now) c.make_upload-worked.result in
+    let by_lists : Lists → Type 0 = λ l. Turns l worked command c.make_upload-worked.result in
+    subst by_lists ((c.in_ok-begin.ensures.ok h0 h1.0).now_is ∙ c.requires.settled h0) (subst by_parts it.1 (subst by_pages c.as_slice.ensures (c.make_upload-worked.ensures.turns h2))))
+    c.end.ensures.clean c.end.ensures.crash
