@@ -1,5 +1,5 @@
 -- What a crash may leave, over calls in turn.
-use Rattle.std.proofs.Common.{◌≡◌, true, None, Result, Ok, OnOk, sym, ap, subst, ◌∙◌, inl, inr}
+use Rattle.std.proofs.Common.{◌≡◌, ◌⊎◌, true, None, Result, Ok, Err, IfErr, OnOk, sym, ap, subst, ◌∙◌, inl, inr}
 use Rattle.sqlite_trees.specs.declared.store.Store.{Ghosts}
 use Rattle.sqlite.specs.Effect.{Database}
 use Rattle.sqlite.specs.State.{HasCleanDisk}
@@ -12,6 +12,7 @@ use Rattle.dh_desk.specs.declared.command.Command.{Command}
 use Rattle.dh_desk.specs.declared.refusal.Refusal.{Refusal}
 use Rattle.dh_desk.specs.Texts.{bad_text}
 use Rattle.dh_desk.specs.Step.{step}
+use Rattle.dh_desk.specs.Checks.{IsSetAside}
 use Rattle.dh_desk.specs.Desk.{Turns}
 use Rattle.dh_desk.specs.Crashes.{spelled, LeavesStep, LeavesEnd}
 use Rattle.dh_desk.proofs.Turning.{right_texts}
@@ -28,6 +29,14 @@ module _ {S : Type 0} (g : Ghosts S) where
         )
   ]
 
+  -- what was begun and worked on leaves nothing more
+  pub worked_no_more : (old begun worked : Held S) → (HasCleanDisk (state g begun) → IsHonest g old) → LeavesNoMore g old begun
+      → (IsHonest g old → HasCleanDisk (state g begun) → Shows g lists_of old begun (seen g lists_of old) (committed g lists_of old) true)
+      → (HasCleanDisk (state g worked) → HasCleanDisk (state g begun)) → (IsHonest g begun → LeavesNoMore g begun worked) → LeavesNoMore g old worked
+  worked_no_more old begun worked opened quiet1 shows clean1 quiet2 clean db may =
+      let c1 = clean1 clean in
+      quiet1 c1 db (quiet2 (c1, (shows (opened c1) c1).is_open) clean db may)
+
   -- a command that was begun, worked on and ended
   pub ended_leaves : (old begun worked new : Held S) (c : Command) (result : Result Answer Refusal) → bad_text c ≡ None
       → (HasCleanDisk (state g begun) → IsHonest g old) → KeepsCommitted g old begun → LeavesNoMore g old begun
@@ -42,7 +51,7 @@ module _ {S : Type 0} (g : Ghosts S) where
       let h0 = opened c1 in
       let h1 : IsHonest g begun = (c1, (shows h0 c1).is_open) in
       elim (ends (live h1 c2) clean db may) [
-        | inl before ↦ inl (quiet1 c1 db (quiet2 h1 c2 db before))
+        | inl before ↦ inl (worked_no_more old begun worked opened quiet1 shows clean1 quiet2 c2 db before)
         | inr it ↦ inr (h0, after h0 h1 c2 it)
       ]
     where
@@ -53,3 +62,10 @@ module _ {S : Type 0} (g : Ghosts S) where
           let at : Turns (committed g lists_of old) (seen g lists_of worked) c (Ok it.0) = subst (Turns (committed g lists_of old) (seen g lists_of worked) c) it.1 (turned h0 h1 h2) in
           let same = ap (λ (d : Database). lists_of (record { schema = d.schema; trees = db })) (kept2 h2 ∙ kept1 h1) in
           (it.0, right_texts (committed g lists_of old) c right ∙ at.0 ∙ ap (λ (l : Lists). Ok (world_of l, it.0)) (sym (sym same ∙ it.2)))
+
+  -- a refusal after calls that leave nothing more
+  pub refused_after : (old middle new : Held S) (r : Result Answer Refusal) → LeavesNoMore g old middle → (HasCleanDisk (state g new) → HasCleanDisk (state g middle))
+      → IfErr r (λ e. IsSetAside e ⊎ LeavesNoMore g middle new) → IfErr r (λ e. IsSetAside e ⊎ LeavesNoMore g old new)
+  refused_after old middle new (Ok a) quiet back it = tt
+  refused_after old middle new (Err e) quiet back (inl aside) = inl aside
+  refused_after old middle new (Err e) quiet back (inr more) = inr (λ clean db may. quiet (back clean) db (more clean db may))

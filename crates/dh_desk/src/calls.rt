@@ -58,6 +58,7 @@ pub fn end<S: Alter>(
     ensures ok { IsHonest S.Store tables.new → IfOk result (λ answer. (worked ≡ Ok answer) × (committed S.Store lists_of tables.new ≡ seen S.Store lists_of tables.old)) }
     ensures err { IsHonest S.Store tables.new → IfErr result (λ e. (committed S.Store lists_of tables.new ≡ committed S.Store lists_of tables.old) × (IsSetAside e ⊎ (worked ≡ Err e))) }
     ensures crash { LeavesEnd S.Store tables.old tables.new worked }
+    ensures refused { IfErr result (λ e. IsSetAside e ⊎ LeavesNoMore S.Store tables.old tables.new) }
     ensures live { OnOk worked (IsHonest S.Store tables.old) → HasCleanDisk (state S.Store tables.new) → OnOk result (IsHonest S.Store tables.new) }
     ensures clean { HasCleanDisk (state S.Store tables.new) → HasCleanDisk (state S.Store tables.old) }
     ensures was { IsHonest S.Store tables.new → IsHonest S.Store tables.old }

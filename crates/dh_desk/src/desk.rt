@@ -1,4 +1,4 @@
-ghost use Rattle.std.specs.Prelude.{◌≡◌, true, false, Err, IfOk, OnOk};
+ghost use Rattle.std.specs.Prelude.{◌≡◌, ◌⊎◌, true, false, Err, IfOk, OnOk, IfErr};
 ghost use Rattle.std.specs.Option.{option_map, option_and_then};
 ghost use Rattle.sqlite.specs.Held.{state};
 ghost use Rattle.sqlite.specs.State.{HasCleanDisk};
@@ -8,6 +8,7 @@ ghost use Rattle.dh_reply.specs.Replies.{is_system, reply_to};
 ghost use Rattle.dh_tables.specs.Seen as caller;
 ghost use Rattle.dh_tables.specs.Tables.{lists_of};
 ghost use Rattle.dh_desk.specs.Reads.{host_named, pass_named, is_unanswered};
+ghost use Rattle.dh_desk.specs.Checks.{IsSetAside};
 ghost use Rattle.dh_desk.specs.Crashes.{LeavesStep, LeavesEither};
 ghost use Rattle.dh_desk.specs.Desk.{AreSound, Steps, IsStep, IsKept, is_fault, world};
 
@@ -62,6 +63,7 @@ fn run<S: Alter>(
     requires sound { IsHonest S.Store tables.old → AreSound (committed S.Store lists_of tables.old) }
     ensures steps { IsHonest S.Store tables.new → Steps (committed S.Store lists_of tables.old) (committed S.Store lists_of tables.new) command.now result }
     ensures crash { LeavesStep S.Store tables.old tables.new command.now }
+    ensures refused { IfErr result (λ e. IsSetAside e ⊎ LeavesNoMore S.Store tables.old tables.new) }
     ensures live { HasCleanDisk (state S.Store tables.new) → OnOk result (IsHonest S.Store tables.new) }
     ensures clean { HasCleanDisk (state S.Store tables.new) → HasCleanDisk (state S.Store tables.old) }
     ensures was { IsHonest S.Store tables.new → IsHonest S.Store tables.old }
@@ -103,6 +105,7 @@ fn apply<S: Alter>(
     requires { IsKept S.Store tables.old }
     ensures steps { IsHonest S.Store tables.new → Steps (committed S.Store lists_of tables.old) (committed S.Store lists_of tables.new) command.now result }
     ensures crash { LeavesStep S.Store tables.old tables.new command.now }
+    ensures refused { IfErr result (λ e. IsSetAside e ⊎ LeavesNoMore S.Store tables.old tables.new) }
     ensures live { HasCleanDisk (state S.Store tables.new) → OnOk result (IsHonest S.Store tables.new) }
     ensures clean { HasCleanDisk (state S.Store tables.new) → HasCleanDisk (state S.Store tables.old) }
     ensures was { IsHonest S.Store tables.new → IsHonest S.Store tables.old }
@@ -151,6 +154,7 @@ impl<S: Alter> Desk<S> {
         ensures step { IsHonest S.Store self.new.tables → IsStep (world S.Store self.old) (world S.Store self.new) command.now result }
         ensures left { IsHonest S.Store self.new.tables → LeavesCommitted S.Store lists_of self.new.tables }
         ensures crash { LeavesEither S.Store self.old.tables self.new.tables command.now }
+        ensures refused { IfErr result (λ e. IsSetAside e ⊎ LeavesNoMore S.Store self.old.tables self.new.tables) }
         ensures shut { (state S.Store self.old.tables).is_open ≡ false → LeavesNoMore S.Store self.old.tables self.new.tables }
         ensures live { HasCleanDisk (state S.Store self.new.tables) → OnOk result (IsHonest S.Store self.new.tables) }
         ensures closed { self.old.closed ≡ true → (result ≡ Err Refusal.Store) × (self.new ≡ self.old) }

@@ -1,11 +1,12 @@
 //! New projects, and their languages.
-ghost use Rattle.std.specs.Prelude.{◌≡◌, true, false, OnOk};
+ghost use Rattle.std.specs.Prelude.{◌≡◌, ◌⊎◌, true, false, OnOk, IfErr};
 ghost use Rattle.std.specs.List.{list_any};
 ghost use Rattle.std.specs.Str.{bytes_eq};
 ghost use Rattle.sqlite.specs.Held.{state};
 ghost use Rattle.sqlite.specs.State.{HasCleanDisk};
 ghost use Rattle.dh_rows.specs.Calls.{IsHonest, LeavesNoMore, KeepsCommitted, seen, committed};
 ghost use Rattle.dh_tables.specs.Tables.{lists_of};
+ghost use Rattle.dh_desk.specs.Checks.{IsSetAside};
 ghost use Rattle.dh_desk.specs.Crashes.{LeavesStep};
 ghost use Rattle.dh_desk.specs.Desk.{AreSound, Turns, Steps};
 ghost use Rattle.dh_desk.specs.Places.{place_for};
@@ -58,6 +59,7 @@ pub fn new_project<S: Alter>(
     requires sound { IsHonest S.Store tables.old → AreSound (committed S.Store lists_of tables.old) }
     ensures steps { IsHonest S.Store tables.new → Steps (committed S.Store lists_of tables.old) (committed S.Store lists_of tables.new) (Command.NewProject host.now lang.now branch.now private wkey.now) result }
     ensures crash { LeavesStep S.Store tables.old tables.new (Command.NewProject host.now lang.now branch.now private wkey.now) }
+    ensures refused { IfErr result (λ e. IsSetAside e ⊎ LeavesNoMore S.Store tables.old tables.new) }
     ensures live { HasCleanDisk (state S.Store tables.new) → OnOk result (IsHonest S.Store tables.new) }
     ensures clean { HasCleanDisk (state S.Store tables.new) → HasCleanDisk (state S.Store tables.old) }
     ensures was { IsHonest S.Store tables.new → IsHonest S.Store tables.old }
@@ -126,6 +128,7 @@ pub fn add_lang<S: Alter>(
     requires sound { IsHonest S.Store tables.old → AreSound (committed S.Store lists_of tables.old) }
     ensures steps { IsHonest S.Store tables.new → Steps (committed S.Store lists_of tables.old) (committed S.Store lists_of tables.new) (Command.AddLang host.now lang.now) result }
     ensures crash { LeavesStep S.Store tables.old tables.new (Command.AddLang host.now lang.now) }
+    ensures refused { IfErr result (λ e. IsSetAside e ⊎ LeavesNoMore S.Store tables.old tables.new) }
     ensures live { HasCleanDisk (state S.Store tables.new) → OnOk result (IsHonest S.Store tables.new) }
     ensures clean { HasCleanDisk (state S.Store tables.new) → HasCleanDisk (state S.Store tables.old) }
     ensures was { IsHonest S.Store tables.new → IsHonest S.Store tables.old }

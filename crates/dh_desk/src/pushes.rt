@@ -1,5 +1,5 @@
 //! Pushes of branches and tags.
-ghost use Rattle.std.specs.Prelude.{◌≡◌, ◌&&◌, true, find, Some, None, IfOk, IfErr, OnOk};
+ghost use Rattle.std.specs.Prelude.{◌≡◌, ◌⊎◌, ◌&&◌, true, find, Some, None, IfOk, IfErr, OnOk};
 ghost use Rattle.std.specs.Str.{bytes_eq};
 ghost use Rattle.sqlite.specs.Held.{state};
 ghost use Rattle.sqlite.specs.State.{HasCleanDisk};
@@ -219,6 +219,7 @@ pub fn push<S: Alter>(
     requires sound { IsHonest S.Store tables.old → AreSound (committed S.Store lists_of tables.old) }
     ensures steps { IsHonest S.Store tables.new → Steps (committed S.Store lists_of tables.old) (committed S.Store lists_of tables.new) (Command.Push host.now wkey.now key.now kind name.now) result }
     ensures crash { LeavesStep S.Store tables.old tables.new (Command.Push host.now wkey.now key.now kind name.now) }
+    ensures refused { IfErr result (λ e. IsSetAside e ⊎ LeavesNoMore S.Store tables.old tables.new) }
     ensures live { HasCleanDisk (state S.Store tables.new) → OnOk result (IsHonest S.Store tables.new) }
     ensures clean { HasCleanDisk (state S.Store tables.new) → HasCleanDisk (state S.Store tables.old) }
     ensures was { IsHonest S.Store tables.new → IsHonest S.Store tables.old }

@@ -1,5 +1,5 @@
 //! Uploads of pages.
-ghost use Rattle.std.specs.Prelude.{◌≡◌, ◌≤◌, true, find, length, Some, None, IfOk, IfErr, OnOk};
+ghost use Rattle.std.specs.Prelude.{◌≡◌, ◌⊎◌, ◌≤◌, true, find, length, Some, None, IfOk, IfErr, OnOk};
 ghost use Rattle.std.specs.List.{AllByRecursion};
 ghost use Rattle.std.specs.Str.{bytes_eq};
 ghost use Rattle.sqlite.specs.Held.{state};
@@ -242,6 +242,7 @@ pub fn upload<S: Alter>(
     requires sound { IsHonest S.Store tables.old → AreSound (committed S.Store lists_of tables.old) }
     ensures steps { IsHonest S.Store tables.new → Steps (committed S.Store lists_of tables.old) (committed S.Store lists_of tables.new) (Command.Upload host.now wkey.now key.now slug.now lang.now replace pages.now) result }
     ensures crash { LeavesStep S.Store tables.old tables.new (Command.Upload host.now wkey.now key.now slug.now lang.now replace pages.now) }
+    ensures refused { IfErr result (λ e. IsSetAside e ⊎ LeavesNoMore S.Store tables.old tables.new) }
     ensures live { HasCleanDisk (state S.Store tables.new) → OnOk result (IsHonest S.Store tables.new) }
     ensures clean { HasCleanDisk (state S.Store tables.new) → HasCleanDisk (state S.Store tables.old) }
     ensures was { IsHonest S.Store tables.new → IsHonest S.Store tables.old }

@@ -7,7 +7,7 @@ use Rattle.dh_desk.specs.declared.command.Command.{Command}
 use Rattle.dh_desk.specs.declared.command.Command.TheVariants.{Push}
 use Rattle.dh_desk.specs.declared.texts.PushParts.{PushParts}
 use Rattle.dh_desk.specs.Desk.{Turns}
-use Rattle.dh_desk.proofs.Crashing.{ended_leaves}
+use Rattle.dh_desk.proofs.Crashing.{ended_leaves, refused_after, worked_no_more}
 use Rattle.dh_desk.proofs.Turning.{steps_aside, stays, ended}
 use Rattle.dh_desk.proofs.PushTurns.{steps_wrong, slug_named}
 use Rattle.dh_desk.proofs.pushes.push.Goals as goal
@@ -56,3 +56,9 @@ returns-clause-crash g c =
     let by_lists : Lists → Type 0 = λ l. Turns l worked command c.make_push-worked.result in
     subst by_lists ((c.in_ok-begin.ensures.ok h0 h1.0).now_is ∙ c.requires.settled h0) (subst by_parts it.1 (c.make_push-worked.ensures.turns h2)))
     c.end.ensures.clean c.end.ensures.crash
+
+pub returns-clause-refused : goal.returns-clause-refused
+returns-clause-refused g c =
+    refused_after g.S.Store c.args.tables.now c.make_push-worked.new.tables c.end.new.tables c.end.result
+    (worked_no_more g.S.Store c.args.tables.now c.begin.new.self c.make_push-worked.new.tables c.in_ok-begin.ensures.opened c.begin.ensures.quiet c.in_ok-begin.ensures.ok c.make_push-worked.ensures.clean c.make_push-worked.ensures.quiet)
+    c.end.ensures.clean c.end.ensures.refused

@@ -9,7 +9,7 @@ use Rattle.dh_desk.specs.declared.command.Command.TheVariants.{Upload}
 use Rattle.dh_desk.specs.declared.pages.UploadedPage.{UploadedPage}
 use Rattle.dh_desk.specs.declared.texts.UploadParts.{UploadParts}
 use Rattle.dh_desk.specs.Desk.{Turns}
-use Rattle.dh_desk.proofs.Crashing.{ended_leaves}
+use Rattle.dh_desk.proofs.Crashing.{ended_leaves, refused_after, worked_no_more}
 use Rattle.dh_desk.proofs.Turning.{steps_aside, stays, ended}
 use Rattle.dh_desk.proofs.PushTurns.{steps_wrong}
 use Rattle.dh_desk.proofs.UploadTurns.{pages_right}
@@ -65,3 +65,9 @@ returns-clause-crash g c =
     let by_lists : Lists → Type 0 = λ l. Turns l worked command c.make_upload-worked.result in
     subst by_lists ((c.in_ok-begin.ensures.ok h0 h1.0).now_is ∙ c.requires.settled h0) (subst by_parts it.1 (subst by_pages c.as_slice.ensures (c.make_upload-worked.ensures.turns h2))))
     c.end.ensures.clean c.end.ensures.crash
+
+pub returns-clause-refused : goal.returns-clause-refused
+returns-clause-refused g c =
+    refused_after g.S.Store c.args.tables.now c.make_upload-worked.new.tables c.end.new.tables c.end.result
+    (worked_no_more g.S.Store c.args.tables.now c.begin.new.self c.make_upload-worked.new.tables c.in_ok-begin.ensures.opened c.begin.ensures.quiet c.in_ok-begin.ensures.ok c.make_upload-worked.ensures.clean c.make_upload-worked.ensures.quiet)
+    c.end.ensures.clean c.end.ensures.refused
