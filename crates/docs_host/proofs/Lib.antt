@@ -3,3 +3,4 @@ pub mod AppLemmas
 pub mod ReadingLemmas
 pub mod LineLemmas
 pub mod ScriptLemmas
+pub mod FillLemmas

@@ -2,6 +2,7 @@ ghost use Rattle.std.specs.Prelude.{◌≡◌, false};
 
 use crate::answer::{SampleFault, answer_sample};
 use crate::empty_desk;
+use crate::filling::fill_sample;
 use crate::lines::{Line, LineFault, Order, line_of};
 use crate::outcomes::outcome_text;
 use crate::reading::ScriptFault;
@@ -696,5 +697,22 @@ fn scripts_whose_ports_fail(rt: HostRuntime) -> Result<(), Fail> {
     );
     assert_eq!(rt; ended, Err(ScriptFault::Write));
     assert_eq!(rt; sink.bytes.as_slice(), b"refus".as_slice());
+    Ok(())
+}
+
+#[test]
+fn a_desk_is_filled_with_the_sample(rt: HostRuntime) -> Result<(), Fail> {
+    let alloc = rt.alloc();
+    let mut desk = empty_desk(alloc)?;
+    assert!(rt; fill_sample(alloc, &mut desk).is_ok());
+    let script =
+        b"get docs.test /en/latest/guide\nget docs.test /en/latest\nget docs.test /en/latest/guide/?x\n";
+    let mut sink = make_bucket(alloc, 3, 100_000);
+    run_script(alloc, &mut desk, &mut Drops { rest: script }, &mut sink)?;
+    let printed = String::from_utf8_lossy(alloc, sink.bytes.as_slice())?;
+    assert_eq!(rt;
+        printed.as_str(),
+        "302 /en/latest/guide/ 0\n302 /en/latest/ 0\n200 - 15\n"
+    );
     Ok(())
 }
