@@ -47,6 +47,14 @@ fn push(alloc: Global, wkey: &str, key: &str, kind: Kind, name: &str) -> Result<
     })
 }
 
+fn uploaded(alloc: Global, path: &str, body: &str) -> Result<UploadedPage, Fail> {
+    Ok(UploadedPage {
+        path: text(alloc, path)?,
+        media: text(alloc, "text/html")?,
+        body: Bytes::copy_of(alloc, body.as_bytes())?,
+    })
+}
+
 /// An upload of one page to `main`.
 fn upload(
     alloc: Global,
@@ -57,11 +65,7 @@ fn upload(
     replace: bool,
 ) -> Result<Command, Fail> {
     let mut pages = Vec::new(alloc);
-    pages.push(UploadedPage {
-        path: text(alloc, path)?,
-        media: text(alloc, "text/html")?,
-        body: Bytes::copy_of(alloc, body.as_bytes())?,
-    })?;
+    pages.push(uploaded(alloc, path, body)?)?;
     Ok(Command::Upload {
         host: text(alloc, "docs.test")?,
         wkey: text(alloc, "wkey-1")?,
@@ -69,6 +73,22 @@ fn upload(
         slug: text(alloc, "main")?,
         lang: text(alloc, lang)?,
         replace,
+        pages: Pages::wrap(pages),
+    })
+}
+
+/// An upload of two pages to `main`, in place of those that are there.
+fn replacing(alloc: Global) -> Result<Command, Fail> {
+    let mut pages = Vec::new(alloc);
+    pages.push(uploaded(alloc, "index.html", "aaa")?)?;
+    pages.push(uploaded(alloc, "b.html", "b")?)?;
+    Ok(Command::Upload {
+        host: text(alloc, "docs.test")?,
+        wkey: text(alloc, "wkey-1")?,
+        key: text(alloc, "u1")?,
+        slug: text(alloc, "main")?,
+        lang: text(alloc, "en")?,
+        replace: true,
         pages: Pages::wrap(pages),
     })
 }
@@ -293,10 +313,10 @@ fn is_main_pushed(alloc: Global, desk: &mut Desk<MemStore>) -> Result<bool, Fail
     Ok(is_made(&answer, "main", true))
 }
 
-fn is_page_stored(alloc: Global, desk: &mut Desk<MemStore>) -> Result<bool, Fail> {
-    let command = upload(alloc, "u1", "en", "index.html", "aaa", true)?;
+fn are_pages_stored(alloc: Global, desk: &mut Desk<MemStore>) -> Result<bool, Fail> {
+    let command = replacing(alloc)?;
     let answer = done_again(alloc, desk, &command, 302)?;
-    Ok(matches!(answer, Ok(Answer::Stored { pages: 1 })))
+    Ok(matches!(answer, Ok(Answer::Stored { pages: 2 })))
 }
 
 #[test]
@@ -305,7 +325,7 @@ fn want_of_memory_changes_nothing(rt: HostRuntime) -> Result<(), Fail> {
     let mut desk = empty_desk(alloc)?;
     assert!(rt; is_project_made(alloc, &mut desk)?);
     assert!(rt; is_main_pushed(alloc, &mut desk)?);
-    assert!(rt; is_page_stored(alloc, &mut desk)?);
+    assert!(rt; are_pages_stored(alloc, &mut desk)?);
     assert_eq!(rt; get(alloc, &mut desk, "/en/latest/")?.status, 200);
     Ok(())
 }
