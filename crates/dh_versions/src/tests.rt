@@ -67,3 +67,14 @@ fn aliases_are_found(rt: HostRuntime) -> Result<(), Fail> {
     assert!(rt; !higher(alloc, &nine, &ten)?);
     Ok(())
 }
+
+#[test]
+fn versions_are_copied(rt: HostRuntime) -> Result<(), Fail> {
+    let alloc = rt.alloc();
+    let copy = version(alloc, "v1.10.0", Kind::Tag, "V1.10.0")?.try_copy(alloc)?;
+    assert_eq!(rt; copy.slug.as_str(), "v1.10.0");
+    assert_eq!(rt; copy.kind, Kind::Tag);
+    assert_eq!(rt; copy.name.as_str(), "V1.10.0");
+    assert!(rt; copy.active && !copy.hidden && !copy.private);
+    Ok(())
+}

@@ -1,4 +1,7 @@
+ghost use Rattle.std.specs.Prelude.{◌≡◌, IfOk};
+
 use dh_paths::{RefName, Slug};
+use std::alloc::{AllocError, Global};
 
 /// What a version comes from.
 #[derive(Clone, Copy, Debug, PartialEq, Eq)]
@@ -21,4 +24,19 @@ pub struct Version {
     pub hidden: bool,
     /// A private version is served only to those who hold a pass for it.
     pub private: bool,
+}
+
+impl Version {
+    pub fn try_copy(&self, alloc: Global) -> Result<Version, AllocError>
+        ensures { IfOk result (λ copy. copy ≡ self.now) }
+    {
+        Ok(Version {
+            slug: self.slug.try_copy(alloc)?,
+            kind: self.kind,
+            name: self.name.try_copy(alloc)?,
+            active: self.active,
+            hidden: self.hidden,
+            private: self.private,
+        })
+    }
 }
