@@ -3,6 +3,7 @@ use Rattle.std.specs.Prelude.{ℕ, Bool, true, false, ◌&&◌, if◌then◌else
 use Rattle.std.specs.List.{find}
 use Rattle.std.specs.Option.{option_map, option_or}
 use Rattle.std.specs.Str.{bytes_eq}
+use Rattle.dh_versions.specs.declared.version.Version.{Version}
 use Rattle.dh_reply.specs.declared.answer.Named.{Named}
 use Rattle.dh_reply.specs.declared.answer.Page.{Page}
 use Rattle.dh_reply.specs.declared.seen_project.SeenProject.{SeenProject}
@@ -17,7 +18,7 @@ alias_of p name =
 
 -- the visible version with that slug, else the alias of that name
 unfoldable pub resolved : SeenProject → List ℕ → Option Named
-resolved p name = option_or (option_map (λ s. record { slug = s; alias = false }) (find (λ s. bytes_eq s name) p.slugs)) (alias_of p name)
+resolved p name = option_or (option_map (λ (v : Version). record { slug = v.slug; alias = false }) (find (λ (v : Version). bytes_eq v.slug name) p.versions)) (alias_of p name)
 
 -- the page is at that path of that version in that language
 abbrev pub stands_at : List ℕ → List ℕ → List ℕ → StoredPage → Bool

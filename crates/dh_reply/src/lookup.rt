@@ -7,6 +7,7 @@ ghost use Rattle.dh_reply.specs.Faults.{UnlessStore, OnStore};
 use crate::answer::{Named, Page};
 use crate::fault::Fault;
 use dh_paths::{Lang, Slug, Text};
+use dh_versions::Version;
 use std::alloc::Global;
 
 /// What replies are made from: one project as one caller sees it, or none.
@@ -76,6 +77,15 @@ pub trait Lookup {
         ensures store { OnStore result (IsTrue can_fail) }
         ensures kept { doubt self.new ≡ 0 → UnlessStore result (content self.new ≡ content self.old) }
         ensures value { doubt self.new ≡ 0 → IfOk result (λ o. o ≡ option_and_then (λ p. page_at p lang.now slug.now path.now) (content self.old)) };
+
+    /// The visible versions, hidden ones too, by slug; none where there is no project.
+    fn listing(&mut self, alloc: Global) -> Result<Vec<Version>, Fault>
+        ensures leads { leads self.old self.new }
+        ensures keeps { UnlessStore result (keeps self.old self.new) }
+        ensures doubt { doubt self.old ≤ doubt self.new }
+        ensures store { OnStore result (IsTrue can_fail) }
+        ensures kept { doubt self.new ≡ 0 → UnlessStore result (content self.new ≡ content self.old) }
+        ensures value { doubt self.new ≡ 0 → IfOk result (λ v. v.items ≡ option_map_or (λ p. p.versions) (content self.old) []) };
 
     ghost leads_at: { (a : Self) → leads a a };
 

@@ -10,6 +10,7 @@ use crate::fault::Fault;
 use crate::lookup::Lookup;
 use crate::seen_project::{SeenProject, StoredPage};
 use dh_paths::{Bytes, Lang, Slug, Text};
+use dh_versions::Version;
 use std::alloc::{AllocError, Global};
 
 /// The plain list form of one project as one caller sees it, or of none.
@@ -37,6 +38,16 @@ fn copy_langs(alloc: Global, langs: &[Lang]) -> Result<Vec<Lang>, AllocError>
     Ok(copy)
 }
 
+fn copy_versions(alloc: Global, versions: &[Version]) -> Result<Vec<Version>, AllocError>
+    ensures { IfOk result (λ copy. copy.items ≡ versions.now) }
+{
+    let mut copy = Vec::new(alloc);
+    for version in versions {
+        copy.push(version.try_copy(alloc)?)?;
+    }
+    Ok(copy)
+}
+
 fn copy_text(alloc: Global, text: &Option<Text>) -> Result<Option<Text>, AllocError>
     ensures { IfOk result (λ copy. copy ≡ text.now) }
 {
@@ -46,10 +57,12 @@ fn copy_text(alloc: Global, text: &Option<Text>) -> Result<Option<Text>, AllocEr
     }
 }
 
-fn find_slug<'a>(slugs: &'a [Slug], name: &str) -> Option<&'a Slug>
-    ensures { option_copied result ≡ find (λ slug. bytes_eq slug name.now) slugs.now }
+fn find_version<'a>(versions: &'a [Version], name: &str) -> Option<&'a Version>
+    ensures { option_copied result ≡ find (λ v. bytes_eq v.slug name.now) versions.now }
 {
-    slugs.iter().find(|slug| slug.as_str() == name)
+    versions
+        .iter()
+        .find(|version| version.slug.as_str() == name)
 }
 
 fn stands(page: &StoredPage, lang: &Lang, slug: &Slug, path: &str) -> bool
@@ -97,9 +110,9 @@ fn find_alias(alloc: Global, project: &SeenProject, name: &str) -> Result<Option
 fn find_name(alloc: Global, project: &SeenProject, name: &str) -> Result<Option<Named>, AllocError>
     ensures { IfOk result (λ n. n ≡ resolved project.now name.now) }
 {
-    match find_slug(project.slugs.as_slice(), name) {
-        Some(slug) => Ok(Some(Named {
-            slug: slug.try_copy(alloc)?,
+    match find_version(project.versions.as_slice(), name) {
+        Some(version) => Ok(Some(Named {
+            slug: version.slug.try_copy(alloc)?,
             alias: false,
         })),
         None => find_alias(alloc, project, name),
@@ -176,6 +189,13 @@ impl Lookup for Seen {
         match &self.project {
             Some(project) => Ok(page_of(alloc, project, lang, slug, path)?),
             None => Ok(None),
+        }
+    }
+
+    fn listing(&mut self, alloc: Global) -> Result<Vec<Version>, Fault> {
+        match &self.project {
+            Some(project) => Ok(copy_versions(alloc, project.versions.as_slice())?),
+            None => Ok(Vec::new(alloc)),
         }
     }
 }

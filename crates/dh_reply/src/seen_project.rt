@@ -1,6 +1,7 @@
 use crate::answer::Page;
 use crate::items::Items;
 use dh_paths::{Lang, PagePath, Slug, Text};
+use dh_versions::Version;
 
 /// A page and where it stands in its project.
 #[derive(Drop)]
@@ -16,8 +17,8 @@ pub struct StoredPage {
 pub struct SeenProject {
     /// The main one first.
     pub langs: Items<Lang>,
-    /// The slugs of the visible versions.
-    pub slugs: Items<Slug>,
+    /// The visible versions, hidden ones too, in the order of their slugs.
+    pub versions: Items<Version>,
     /// Those of the visible versions.
     pub pages: Items<StoredPage>,
     /// The version that the alias `latest` stands for.

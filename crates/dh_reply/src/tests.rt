@@ -1,5 +1,6 @@
 use super::*;
-use dh_paths::{Bytes, Lang, PagePath, Slug, Text, TextFault};
+use dh_paths::{Bytes, Lang, PagePath, RefName, Slug, Text, TextFault};
+use dh_versions::{Kind, Version};
 use std::alloc::Global;
 use std::test::Fail;
 
@@ -17,12 +18,25 @@ fn stored(alloc: Global, path: &str, body: &[u8]) -> Result<StoredPage, TextFaul
     })
 }
 
-/// A project of the branch `main` in `en`, with three pages.
+/// A public branch, active.
+fn branch(alloc: Global, name: &str, hidden: bool) -> Result<Version, TextFault> {
+    Ok(Version {
+        slug: Slug::parse(alloc, name)?,
+        kind: Kind::Branch,
+        name: RefName::parse(alloc, name)?,
+        active: true,
+        hidden,
+        private: false,
+    })
+}
+
+/// A project of the branches `main` and `next` in `en`, the second hidden, with three pages of the first.
 fn sample(alloc: Global) -> Result<Seen, TextFault> {
     let mut langs = Vec::new(alloc);
     langs.push(Lang::parse(alloc, "en")?)?;
-    let mut slugs = Vec::new(alloc);
-    slugs.push(Slug::parse(alloc, "main")?)?;
+    let mut versions = Vec::new(alloc);
+    versions.push(branch(alloc, "main", false)?)?;
+    versions.push(branch(alloc, "next", true)?)?;
     let mut pages = Vec::new(alloc);
     pages.push(stored(alloc, "index.html", b"<h1>Index</h1>\n")?)?;
     pages.push(stored(alloc, "install.html", b"<h1>Install</h1>\n")?)?;
@@ -30,7 +44,7 @@ fn sample(alloc: Global) -> Result<Seen, TextFault> {
     Ok(Seen {
         project: Some(SeenProject {
             langs: Items::wrap(langs),
-            slugs: Items::wrap(slugs),
+            versions: Items::wrap(versions),
             pages: Items::wrap(pages),
             latest: Some(Slug::parse(alloc, "main")?),
             stable: None,
@@ -176,5 +190,19 @@ fn lookups(rt: HostRuntime) -> Result<(), Fail> {
         .page(alloc, &lang, &slug, "guide/index.html")?
         .ok_or("page")?;
     assert_eq!(rt; page.body.as_slice().len(), 15);
+    Ok(())
+}
+
+#[test]
+fn listings(rt: HostRuntime) -> Result<(), Fail> {
+    let alloc = rt.alloc();
+    let mut seen = sample(alloc)?;
+    let listed = seen.listing(alloc)?;
+    assert_eq!(rt; listed.len(), 2);
+    let next = listed.into_iter().nth(1).ok_or("next")?;
+    assert_eq!(rt; next.slug.as_str(), "next");
+    assert!(rt; next.active && next.hidden && !next.private);
+    let mut none = Seen { project: None };
+    assert!(rt; none.listing(alloc)?.is_empty());
     Ok(())
 }
