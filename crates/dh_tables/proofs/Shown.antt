@@ -2,10 +2,10 @@
 use Rattle.std.proofs.Common.{◌≡◌, ℕ, Bool, true, false, not, ◌&&◌, cond, List, [], ◌∷◌, map, filter, Option, Some, None, IsTrue, refl, sym, ap, subst, ◌∙◌, slice_get, Ordering, Equal}
 use Rattle.std.specs.Prelude.{option_map, option_and_then, is_some, codes}
 use Rattle.std.specs.Option.{option_map_or, option_or}
-use Rattle.std.specs.List.{find}
+use Rattle.std.specs.List.{find, AllByRecursion}
 use Rattle.std.specs.Str.{bytes_eq}
 use Rattle.std.specs.Ordering.{eq_by_cmp}
-use Rattle.std.specs.FinMap.{FinMap, get, entries, keys, values, get-entries, get-retain_keys}
+use Rattle.std.specs.FinMap.{FinMap, get, entries, entries_sorted, keys, values, get-entries, get-retain_keys}
 use Rattle.std.specs.FinMap as finite
 use Rattle.std.proofs.lemmas.Map.Lookups.{exact_bytes}
 use Rattle.std.proofs.lemmas.Slice.Eq.{bytes_eq-Decides}
@@ -23,7 +23,7 @@ use Rattle.dh_tables.specs.Lists.{Lists, project_of, world_of, is_project, is_ve
 use Rattle.dh_tables.specs.Seen.{seen, seen_project, without_default, default_of, visible_versions, visible_pages}
 use Rattle.dh_tables.specs.View.{RiseBySlug, is_public}
 use Rattle.dh_tables.proofs.SeenLemmas.{tied_text, get_project, get_version, get_page, seen_page}
-use Rattle.dh_tables.proofs.SlugOrder.{by_slug, visible_by, visible_entries}
+use Rattle.dh_tables.proofs.SlugOrder.{by_slug, visible_by, visible_entries, each_found, each}
 
 -- ---- the version with a slug
 
@@ -82,14 +82,20 @@ slug_of host slug rows v e = go (find (is_version host slug) rows) refl e
 
 -- ---- the version that a name stands for
 
-found_key : {X : Type 0} (name : Text) (es : List (Text × X)) → find (λ s. bytes_eq s name) (map (λ e. e.0) es) ≡ option_map (λ x. name) (finite.find text_cmp name es)
-found_key name [] = refl
-found_key name (e ∷ es) = rw (tied_text name e.0) (go (bytes_eq e.0 name) refl (found_key name es))
-  where
-    go : (b : Bool) → bytes_eq e.0 name ≡ b → find (λ s. bytes_eq s name) (map (λ e. e.0) es) ≡ option_map (λ x. name) (finite.find text_cmp name es)
-        → cond b (Some e.0) (find (λ s. bytes_eq s name) (map (λ e. e.0) es)) ≡ option_map (λ x. name) (cond b (Some e.1) (finite.find text_cmp name es))
-    go true own more = ap Some ((bytes_eq-Decides e.0 name).0 own)
-    go false own more = more
+-- each version has the slug at which it stands
+abbrev IsOwnKey : Text × Version → Type 0
+IsOwnKey e = e.1.slug ≡ e.0
+
+found_version : (name : Text) (es : List (Text × Version)) → AllByRecursion IsOwnKey es → find (λ (v : Version). bytes_eq v.slug name) (map (λ e. e.1) es) ≡ finite.find text_cmp name es
+found_version name [] own = refl
+found_version name (e ∷ es) own =
+    let rest = find (λ (v : Version). bytes_eq v.slug name) (map (λ e. e.1) es) in
+    ap (λ s. cond (bytes_eq s name) (Some e.1) rest) own.0 ∙ ap (λ b. cond b (Some e.1) rest) (sym (tied_text name e.0)) ∙ ap (cond (eq_by_cmp text_cmp name e.0) (Some e.1)) (found_version name es own.1)
+
+own_keys : (lists : Lists) (row : ProjectRow) (pass : Option Text) → AllByRecursion IsOwnKey (entries (visible_versions (project_of lists row) pass))
+own_keys lists row pass =
+    let m = visible_versions (project_of lists row) pass in
+    each (λ e found. slug_of row.host e.0 lists.versions e.1 (sym (visible_is lists row pass e.0) ∙ get-entries m e.0 ∙ found)) (entries m) (each_found (entries m) (entries_sorted m))
 
 abbrev pub own_name : Version → Named
 own_name v = record { slug = v.slug; alias = false }
@@ -102,13 +108,7 @@ pub resolved_is : (lists : Lists) (row : ProjectRow) (pass : Option Text) (name 
 unfolding resolved seen_project without_default
 resolved_is lists row pass name =
     let m = visible_versions (project_of lists row) pass in
-    let rest = alias_of (seen_project (project_of lists row) pass) name in
-    ap (λ o. option_or (option_map (λ s. record { slug = s; alias = false }) o) rest) (found_key name (entries m) ∙ ap (option_map (λ x. name)) (sym (get-entries m name)))
-    ∙ go (get m name) (λ v e. slug_of row.host name lists.versions v (sym (visible_is lists row pass name) ∙ e)) rest
-  where
-    go : (o : Option Version) → ((v : Version) → o ≡ Some v → v.slug ≡ name) → (rest : Option Named) → option_or (option_map (λ s. record { slug = s; alias = false }) (option_map (λ x. name) o)) rest ≡ option_or (option_map own_name o) rest
-    go None own rest = refl
-    go (Some v) own rest = ap (λ s. Some (record { slug = s; alias = false })) (sym (own v refl))
+    ap (λ o. option_or (option_map own_name o) (alias_of (seen_project (project_of lists row) pass) name)) (found_version name (entries m) (own_keys lists row pass) ∙ sym (get-entries m name))
 
 pub alias_is : (p : Project) (pass : Option Text) (name : Text) → alias_of (seen_project p pass) name ≡
     cond (bytes_eq name (codes "latest")) (option_map alias_name (option_and_then (slice_get (keys (visible_versions p pass))) (latest_of (values (visible_versions p pass)) p.branch)))
@@ -244,3 +244,8 @@ pub langs_shown : (pass : Option Text) (o : Option Project) → option_map_or (�
 unfolding seen_project without_default
 langs_shown pass None = refl
 langs_shown pass (Some p) = refl
+
+pub versions_shown : (pass : Option Text) (o : Option Project) → option_map_or (λ (p : Project). values (visible_versions p pass)) o [] ≡ option_map_or (λ (p : SeenProject). p.versions) (option_map (λ p. seen_project p pass) o) []
+unfolding seen_project without_default
+versions_shown pass None = refl
+versions_shown pass (Some p) = refl

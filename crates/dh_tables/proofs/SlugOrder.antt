@@ -111,7 +111,7 @@ apart x y less = go (text_cmp x y) refl less
     go Greater e t = absurd t
 
 module _ {X : Type 0} where
-  abbrev IsFound : List (world.Text × X) → world.Text × X → Type 0
+  abbrev pub IsFound : List (world.Text × X) → world.Text × X → Type 0
   IsFound es e = finite.find text_cmp e.0 es ≡ Some e.1
 
   found_later : (e : world.Text × X) (es fs : List (world.Text × X)) → T (below_all text_cmp e.0 fs) → AllByRecursion (IsFound es) fs → AllByRecursion (IsFound (e ∷ es)) fs
@@ -119,7 +119,7 @@ module _ {X : Type 0} where
   found_later e es (f ∷ fs) low all =
       (ap (λ b. cond b (Some e.1) (finite.find text_cmp f.0 es)) (apart e.0 f.0 (first _ _ low)) ∙ all.0, found_later e es fs (second _ _ low) all.1)
 
-  each_found : (es : List (world.Text × X)) → T (is_sorted text_cmp es) → AllByRecursion (IsFound es) es
+  pub each_found : (es : List (world.Text × X)) → T (is_sorted text_cmp es) → AllByRecursion (IsFound es) es
   each_found [] up = tt
   each_found (e ∷ es) up =
       (ap (λ o. cond (is_eq o) (Some e.1) (finite.find text_cmp e.0 es)) (tied_itself text_total e.0), found_later e es es (first _ _ up) (each_found es (second _ _ up)))
@@ -128,7 +128,7 @@ module _ {X : Type 0} where
   same_filter p q [] all = refl
   same_filter p q (e ∷ es) all = rw all.0 (ap (λ l. cond (q e) (e ∷ l) l) (same_filter p q es all.1))
 
-  each : {P Q : world.Text × X → Type 0} → ((e : world.Text × X) → P e → Q e) → (es : List (world.Text × X)) → AllByRecursion P es → AllByRecursion Q es
+  pub each : {P Q : world.Text × X → Type 0} → ((e : world.Text × X) → P e → Q e) → (es : List (world.Text × X)) → AllByRecursion P es → AllByRecursion Q es
   each f [] all = tt
   each f (e ∷ es) all = (f e all.0, each f es all.1)
 

@@ -30,7 +30,7 @@ stored_page e = record { lang = e.0.1.0; slug = e.0.0; path = e.0.1.1; page = e.
 unfoldable pub without_default : List Text → Text → FinMap text_cmp Version → FinMap page_cmp Page → SeenProject
 without_default languages branch versions pages = record {
   langs = languages;
-  slugs = keys versions;
+  versions = values versions;
   pages = map stored_page (entries pages);
   latest = option_and_then (slice_get (keys versions)) (latest_of (values versions) branch);
   stable = option_and_then (slice_get (keys versions)) (stable_of (values versions));

@@ -419,6 +419,21 @@ fn langs_under<S: Alter>(
     }
 }
 
+fn listing_under<S: Alter>(
+    tables: &mut Tables<S>,
+    alloc: Global,
+    host: &Option<HostName>,
+    pass: &Option<Token>,
+) -> Result<Vec<Version>, Fault>
+    ensures looks { Looks S.Store tables.old tables.new }
+    ensures value { IsHonest S.Store tables.new → IfOk result (λ v. v.items ≡ option_map_or (λ p. values (visible_versions p pass.now)) (option_and_then (get (world_of (seen S.Store lists_of tables.old))) host.now) []) }
+{
+    match project_under(tables, alloc, host)? {
+        Some(project) => all_visible(tables, alloc, &project, pass),
+        None => Ok(Vec::new(alloc)),
+    }
+}
+
 fn page_under<S: Alter>(
     tables: &mut Tables<S>,
     alloc: Global,
@@ -521,5 +536,9 @@ impl<'a, S: Alter> Lookup for View<'a, S> {
         path: &str,
     ) -> Result<Option<Page>, Fault> {
         page_under(self.tables, alloc, &self.host, &self.pass, lang, slug, path)
+    }
+
+    fn listing(&mut self, alloc: Global) -> Result<Vec<Version>, Fault> {
+        listing_under(self.tables, alloc, &self.host, &self.pass)
     }
 }

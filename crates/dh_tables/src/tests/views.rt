@@ -114,9 +114,9 @@ fn fill(alloc: Global, tables: &mut Tables<MemStore>) -> Result<(), Fail> {
 fn expected(alloc: Global) -> Result<Seen, TextFault> {
     let mut langs = Vec::new(alloc);
     langs.push(Lang::parse(alloc, "en")?)?;
-    let mut slugs = Vec::new(alloc);
-    for slug in ["1.0.0", "1.1.0", "main"] {
-        slugs.push(Slug::parse(alloc, slug)?)?;
+    let mut versions = Vec::new(alloc);
+    for (name, flags) in [("1.0.0", PUBLIC), ("1.1.0", HIDDEN), ("main", PUBLIC)] {
+        versions.push(version(alloc, "docs.test", name, flags)?.version)?;
     }
     let mut pages = Vec::new(alloc);
     for path in ["404.html", "index.html"] {
@@ -125,7 +125,7 @@ fn expected(alloc: Global) -> Result<Seen, TextFault> {
     Ok(Seen {
         project: Some(SeenProject {
             langs: Items::wrap(langs),
-            slugs: Items::wrap(slugs),
+            versions: Items::wrap(versions),
             pages: Items::wrap(pages),
             latest: Some(Slug::parse(alloc, "main")?),
             stable: Some(Slug::parse(alloc, "1.1.0")?),
@@ -157,6 +157,19 @@ fn same_langs(a: &[Lang], b: &[Lang]) -> bool {
             .all(|(a, b)| a.as_str() == b.as_str())
 }
 
+fn same_version(a: &Version, b: &Version) -> bool {
+    a.slug.as_str() == b.slug.as_str()
+        && a.kind == b.kind
+        && a.name.as_str() == b.name.as_str()
+        && a.active == b.active
+        && a.hidden == b.hidden
+        && a.private == b.private
+}
+
+fn same_versions(a: &[Version], b: &[Version]) -> bool {
+    a.len() == b.len() && a.iter().zip(b.iter()).all(|(a, b)| same_version(a, b))
+}
+
 fn same_page(a: &Option<Page>, b: &Option<Page>) -> bool {
     match (a, b) {
         (Some(a), Some(b)) => {
@@ -167,12 +180,13 @@ fn same_page(a: &Option<Page>, b: &Option<Page>) -> bool {
     }
 }
 
-/// Whether both show a project, with the same default and languages.
+/// Whether both show a project, with the same default, languages and versions.
 fn same_project<A: Lookup, B: Lookup>(alloc: Global, a: &mut A, b: &mut B) -> Result<bool, Fail> {
     Ok(
         a.known()? == b.known()?
             && same_text(&a.default(alloc)?, &b.default(alloc)?)
-            && same_langs(a.langs(alloc)?.as_slice(), b.langs(alloc)?.as_slice()),
+            && same_langs(a.langs(alloc)?.as_slice(), b.langs(alloc)?.as_slice())
+            && same_versions(a.listing(alloc)?.as_slice(), b.listing(alloc)?.as_slice()),
     )
 }
 
