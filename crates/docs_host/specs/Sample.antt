@@ -1,8 +1,14 @@
 -- The sample: one project under `docs.test`, as a caller without a pass sees it.
-use Rattle.std.specs.Prelude.{ℕ, if◌then◌else◌, Option, Some, None, List, [], ◌∷◌, ◌++◌, codes}
+use Rattle.std.specs.Prelude.{ℕ, true, false, if◌then◌else◌, Option, Some, None, List, [], ◌∷◌, ◌++◌, codes}
 use Rattle.std.specs.Str.{bytes_eq}
+use Rattle.dh_versions.specs.declared.version.Version.{Version}
+use Rattle.dh_versions.specs.declared.version.Kind.TheVariants.{Branch}
 use Rattle.dh_reply.specs.declared.seen_project.SeenProject.{SeenProject}
 use Rattle.dh_reply.specs.declared.seen_project.StoredPage.{StoredPage}
+
+-- the branch `main`: active, shown, public
+abbrev pub sample_version : Version
+sample_version = record { slug = codes "main"; kind = Branch; name = codes "main"; active = true; hidden = false; private = false }
 
 -- a page of the branch `main` in English, whose body is the text and LF
 abbrev pub sample_page : List ℕ → List ℕ → StoredPage
@@ -13,7 +19,7 @@ sample_page path text =
 abbrev pub sample_project : SeenProject
 sample_project = record {
   langs = codes "en" ∷ [];
-  slugs = codes "main" ∷ [];
+  versions = sample_version ∷ [];
   pages =
       sample_page (codes "index.html") (codes "<h1>Index</h1>")
       ∷ sample_page (codes "install.html") (codes "<h1>Install</h1>")

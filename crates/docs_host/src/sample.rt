@@ -1,11 +1,12 @@
 //! The sample project, as a caller without a pass sees it.
 
 ghost use Rattle.std.specs.Prelude.{◌≡◌, ◌∷◌, ◌++◌, [], IfOk, IsTrue};
-ghost use Rattle.dh_paths.specs.Texts.{is_lang, is_slug, is_page_path};
-ghost use Rattle.docs_host.specs.Sample.{sample_page, sample_project, sample_at};
+ghost use Rattle.dh_paths.specs.Texts.{is_lang, is_slug, is_ref_name, is_page_path};
+ghost use Rattle.docs_host.specs.Sample.{sample_version, sample_page, sample_project, sample_at};
 
-use dh_paths::{Bytes, HostName, Lang, PagePath, Slug, Text};
+use dh_paths::{Bytes, HostName, Lang, PagePath, RefName, Slug, Text};
 use dh_reply::{Items, Page, Seen, SeenProject, StoredPage};
+use dh_versions::{Kind, Version};
 use std::alloc::{AllocError, Global};
 
 /// The media type of each page.
@@ -25,6 +26,13 @@ fn slug(alloc: Global, text: &str) -> Result<Slug, AllocError>
     Slug::parse(alloc, text).map_err(|_| AllocError)
 }
 
+fn ref_name(alloc: Global, text: &str) -> Result<RefName, AllocError>
+    requires { IsTrue (is_ref_name text.now) }
+    ensures { IfOk result (λ name. name ≡ text.now) }
+{
+    RefName::parse(alloc, text).map_err(|_| AllocError)
+}
+
 fn page_path(alloc: Global, text: &str) -> Result<PagePath, AllocError>
     requires { IsTrue (is_page_path text.now) }
     ensures { IfOk result (λ path. path ≡ text.now) }
@@ -39,6 +47,19 @@ pub fn body(alloc: Global, text: &str) -> Result<Bytes, AllocError>
     let mut bytes = Vec::from_slice(alloc, text.as_bytes())?;
     bytes.push(b'\n')?;
     Ok(Bytes::wrap(bytes))
+}
+
+fn version(alloc: Global) -> Result<Version, AllocError>
+    ensures { IfOk result (λ version. version ≡ sample_version) }
+{
+    Ok(Version {
+        slug: slug(alloc, "main")?,
+        kind: Kind::Branch,
+        name: ref_name(alloc, "main")?,
+        active: true,
+        hidden: false,
+        private: false,
+    })
 }
 
 fn page(alloc: Global, path: &str, text: &str) -> Result<StoredPage, AllocError>
@@ -71,11 +92,11 @@ fn project(alloc: Global) -> Result<SeenProject, AllocError>
 {
     let mut langs = Vec::new(alloc);
     langs.push(lang(alloc, "en")?)?;
-    let mut slugs = Vec::new(alloc);
-    slugs.push(slug(alloc, "main")?)?;
+    let mut versions = Vec::new(alloc);
+    versions.push(version(alloc)?)?;
     Ok(SeenProject {
         langs: Items::wrap(langs),
-        slugs: Items::wrap(slugs),
+        versions: Items::wrap(versions),
         pages: Items::wrap(pages(alloc)?),
         latest: Some(slug(alloc, "main")?),
         stable: None,
