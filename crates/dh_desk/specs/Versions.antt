@@ -1,7 +1,5 @@
 -- The version that a command names, and its record.
 use Rattle.std.specs.Prelude.{Bool, true, false, find, Option, Some, None, Result, Ok, Err}
-use Rattle.dh_rows.specs.Keyed.{put}
-use Rattle.dh_tables.specs.Codings as coding
 use Rattle.dh_tables.specs.World.{Text}
 use Rattle.dh_tables.specs.Lists.{Lists, is_version}
 use Rattle.dh_tables.specs.Rules.{has_project}
