@@ -209,6 +209,7 @@ fn upload(alloc: Global, matches: &ArgMatches<'_>) -> Result<Command, LineFault>
     })
 }
 
+/// The command of this name on one version.
 fn named_on(name: &str, host: Text, slug: Text) -> Option<Command>
     ensures { result ≡ command_on name.now host slug }
 {
