@@ -6,4 +6,5 @@ pub mod PushLemmas
 pub mod PushTurns
 pub mod UploadLemmas
 pub mod UploadTurns
+pub mod PropertyLemmas
 pub mod Crashing

@@ -13,8 +13,10 @@ use Rattle.dh_tables.specs.declared.answer.Answer.TheVariants.{Done, Made, Known
 use Rattle.dh_tables.specs.declared.records.Operation.TheVariants as operation
 use Rattle.dh_tables.specs.World.{Text, Project, PageKey, page_cmp, UsedKey, op_code}
 use Rattle.dh_desk.specs.declared.command.Command.{Command}
-use Rattle.dh_desk.specs.declared.command.Command.TheVariants.{NewProject, AddLang, Push, Upload}
+use Rattle.dh_desk.specs.declared.command.Command.TheVariants.{NewProject, AddLang, Push, Upload, Activate, Deactivate, Hide, Unhide, Publish, MakePrivate}
 use Rattle.dh_desk.specs.declared.pages.UploadedPage.{UploadedPage}
+use Rattle.dh_desk.specs.declared.properties.Property.{Property}
+use Rattle.dh_desk.specs.declared.properties.Property.TheVariants as property
 use Rattle.dh_desk.specs.declared.refusal.Refusal.{Refusal}
 use Rattle.dh_desk.specs.declared.refusal.Refusal.TheVariants.{NoProject, ProjectTaken, WrongKey, LangTaken, NoLang, NoVersion, SlugTaken, Inactive, TooMany}
 
@@ -141,6 +143,32 @@ upload wkey key slug lang replace pages p =
     if bytes_eq wkey p.wkey then once p (get p.used (upload_key slug key)) (uploaded p key slug lang replace pages (get p.versions slug))
     else Err WrongKey
 
+-- ---- the properties of a version
+
+-- what follows for a version, which has to be there
+abbrev pub at_version : Option Version → (Version → Change) → Change
+at_version None next = Err NoVersion
+at_version (Some v) next = next v
+
+-- the version with one property set, and all else as it was
+abbrev pub with_property : Property → Version → Version
+with_property property.Active v = record v { active = true }
+with_property property.Hidden v = record v { hidden = true }
+with_property property.Shown v = record v { hidden = false }
+with_property property.Public v = record v { private = false }
+with_property property.Private v = record v { private = true }
+
+abbrev pub set_property : Property → Text → Project → Change
+set_property property slug p = at_version (get p.versions slug) (λ v. Ok (with_version p (with_property property v), Done))
+
+-- the project without the pages of a version, in all languages
+abbrev pub without_pages : Text → Project → Project
+without_pages slug p = record p { pages = retain_keys p.pages (λ key. not (bytes_eq key.0 slug)) }
+
+-- the version is inactive, and its pages are gone
+abbrev pub deactivate : Text → Project → Change
+deactivate slug p = at_version (get p.versions slug) (λ v. Ok (without_pages slug (with_version p (record v { active = false })), Done))
+
 -- ---- all commands
 
 -- where the host has no project
@@ -154,3 +182,9 @@ change (NewProject host lang branch private wkey) p = Err ProjectTaken
 change (AddLang host lang) p = add_lang lang p
 change (Push host wkey key kind name) p = push wkey key kind name p
 change (Upload host wkey key slug lang replace pages) p = upload wkey key slug lang replace pages p
+change (Activate host slug) p = set_property property.Active slug p
+change (Deactivate host slug) p = deactivate slug p
+change (Hide host slug) p = set_property property.Hidden slug p
+change (Unhide host slug) p = set_property property.Shown slug p
+change (Publish host slug) p = set_property property.Public slug p
+change (MakePrivate host slug) p = set_property property.Private slug p

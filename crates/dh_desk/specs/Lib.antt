@@ -7,4 +7,5 @@ pub mod Desk
 pub mod Places
 pub mod Reads
 pub mod Rows
+pub mod Versions
 pub mod Crashes

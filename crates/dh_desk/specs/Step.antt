@@ -4,7 +4,7 @@ use Rattle.std.specs.FinMap.{get, insert}
 use Rattle.dh_tables.specs.declared.answer.Answer.{Answer}
 use Rattle.dh_tables.specs.World.{Text, Project, World}
 use Rattle.dh_desk.specs.declared.command.Command.{Command}
-use Rattle.dh_desk.specs.declared.command.Command.TheVariants.{NewProject, AddLang, Push, Upload}
+use Rattle.dh_desk.specs.declared.command.Command.TheVariants.{NewProject, AddLang, Push, Upload, Activate, Deactivate, Hide, Unhide, Publish, MakePrivate}
 use Rattle.dh_desk.specs.declared.refusal.Refusal.{Refusal}
 use Rattle.dh_desk.specs.Texts.{bad_text}
 use Rattle.dh_desk.specs.Changes.{Change, change, opened}
@@ -14,6 +14,12 @@ host_of (NewProject host lang branch private wkey) = host
 host_of (AddLang host lang) = host
 host_of (Push host wkey key kind name) = host
 host_of (Upload host wkey key slug lang replace pages) = host
+host_of (Activate host slug) = host
+host_of (Deactivate host slug) = host
+host_of (Hide host slug) = host
+host_of (Unhide host slug) = host
+host_of (Publish host slug) = host
+host_of (MakePrivate host slug) = host
 
 abbrev pub change_at : Command → Option Project → Change
 change_at c None = opened c

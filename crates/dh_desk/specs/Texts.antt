@@ -6,7 +6,7 @@ use Rattle.dh_paths.specs.Texts.{is_within, first_byte, last_byte, is_host_name,
 use Rattle.dh_paths.specs.Slugs.{slug_from}
 use Rattle.dh_tables.specs.World.{Text}
 use Rattle.dh_desk.specs.declared.command.Command.{Command}
-use Rattle.dh_desk.specs.declared.command.Command.TheVariants.{NewProject, AddLang, Push, Upload}
+use Rattle.dh_desk.specs.declared.command.Command.TheVariants.{NewProject, AddLang, Push, Upload, Activate, Deactivate, Hide, Unhide, Publish, MakePrivate}
 use Rattle.dh_desk.specs.declared.pages.UploadedPage.{UploadedPage}
 use Rattle.dh_desk.specs.declared.refusal.Refusal.{Refusal}
 use Rattle.dh_desk.specs.declared.refusal.Refusal.TheVariants.{BadHost, BadLang, BadRef, BadPath, BadPage, BadToken, BadKey}
@@ -46,6 +46,13 @@ abbrev pub bad_pages : List UploadedPage → List UploadedPage → Option Refusa
 bad_pages before [] = None
 bad_pages before (x ∷ xs) = or_else (bad_page before x) (bad_pages (before ++ x ∷ []) xs)
 
+-- what is wrong with the name of a version under its host
+abbrev pub bad_version : Text → Text → Option Refusal
+bad_version host slug = first_of
+    (unless (is_host_name host) BadHost
+    ∷ unless (is_slug slug) BadRef
+    ∷ [])
+
 -- the first text that is no value of its type
 abbrev pub bad_text : Command → Option Refusal
 bad_text (NewProject host lang branch private wkey) = first_of
@@ -74,3 +81,9 @@ bad_text (Upload host wkey key slug lang replace pages) = first_of
     ∷ unless (is_count pages) BadPage
     ∷ bad_pages [] pages
     ∷ [])
+bad_text (Activate host slug) = bad_version host slug
+bad_text (Deactivate host slug) = bad_version host slug
+bad_text (Hide host slug) = bad_version host slug
+bad_text (Unhide host slug) = bad_version host slug
+bad_text (Publish host slug) = bad_version host slug
+bad_text (MakePrivate host slug) = bad_version host slug

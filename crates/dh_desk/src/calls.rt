@@ -3,7 +3,7 @@ ghost use Rattle.std.specs.Prelude.{◌≡◌, ◌⊎◌, true, false, find, Non
 ghost use Rattle.std.specs.Str.{bytes_eq};
 ghost use Rattle.sqlite.specs.Held.{state};
 ghost use Rattle.sqlite.specs.State.{HasCleanDisk};
-ghost use Rattle.dh_rows.specs.Calls.{IsHonest, LeavesNoMore, KeepsCommitted, seen, committed};
+ghost use Rattle.dh_rows.specs.Calls.{IsHonest, IsSame, LeavesNoMore, KeepsCommitted, seen, committed};
 ghost use Rattle.dh_rows.specs.Keyed.{added};
 ghost use Rattle.dh_tables.specs.Answers.{json_of};
 ghost use Rattle.dh_tables.specs.Codings as coding;
@@ -11,10 +11,11 @@ ghost use Rattle.dh_tables.specs.Lists.{is_used, keeping};
 ghost use Rattle.dh_tables.specs.Tables.{lists_of};
 ghost use Rattle.dh_desk.specs.Checks.{IsSetAside};
 ghost use Rattle.dh_desk.specs.Crashes.{LeavesEnd};
+ghost use Rattle.dh_desk.specs.Versions.{found_version};
 
 use crate::refusal::Refusal;
 use dh_paths::{HostName, Slug, Token};
-use dh_tables::{Answer, Operation, ProjectRow, Tables};
+use dh_tables::{Answer, Operation, ProjectRow, Tables, VersionRow};
 use sqlite::Alter;
 use std::alloc::Global;
 
@@ -23,6 +24,31 @@ pub fn is_write_key(project: &ProjectRow, wkey: &Token) -> bool
     ensures { result ≡ bytes_eq wkey.now project.now.wkey }
 {
     wkey.as_str() == project.wkey.as_str()
+}
+
+/// The record of the version that a command names: there has to be a project, and the version in it.
+pub fn version_at<S: Alter>(
+    tables: &mut Tables<S>,
+    alloc: Global,
+    host: &HostName,
+    slug: &Slug,
+) -> Result<VersionRow, Refusal>
+    ensures ok { IsHonest S.Store tables.new → IfOk result (λ row. found_version host.now slug.now (seen S.Store lists_of tables.old) ≡ Ok row) }
+    ensures err { IsHonest S.Store tables.new → IfErr result (λ e. IsSetAside e ⊎ (found_version host.now slug.now (seen S.Store lists_of tables.old) ≡ Err e)) }
+    ensures same { IsHonest S.Store tables.old → HasCleanDisk (state S.Store tables.new) → OnOk result (IsSame S.Store lists_of tables.old tables.new) }
+    ensures kept { KeepsCommitted S.Store tables.old tables.new }
+    ensures quiet { IsHonest S.Store tables.old → LeavesNoMore S.Store tables.old tables.new }
+    ensures live { IsHonest S.Store tables.old → HasCleanDisk (state S.Store tables.new) → OnOk result (IsHonest S.Store tables.new) }
+    ensures clean { HasCleanDisk (state S.Store tables.new) → HasCleanDisk (state S.Store tables.old) }
+    ensures was { IsHonest S.Store tables.new → IsHonest S.Store tables.old }
+{
+    if !tables.has_project(host)? {
+        return Err(Refusal::NoProject);
+    }
+    match tables.version(alloc, host, slug)? {
+        Some(row) => Ok(row),
+        None => Err(Refusal::NoVersion),
+    }
 }
 
 /// Keeps an answer under a retry key, which is free, and gives it.

@@ -42,4 +42,34 @@ pub enum Command {
         replace: bool,
         pages: Pages,
     },
+    /// A version is active.
+    Activate {
+        host: Text,
+        slug: Text,
+    },
+    /// A version is inactive, and its pages are removed.
+    Deactivate {
+        host: Text,
+        slug: Text,
+    },
+    /// A version is hidden: served, and left out of lists.
+    Hide {
+        host: Text,
+        slug: Text,
+    },
+    /// A version is not hidden.
+    Unhide {
+        host: Text,
+        slug: Text,
+    },
+    /// A version is public.
+    Publish {
+        host: Text,
+        slug: Text,
+    },
+    /// A version is private.
+    MakePrivate {
+        host: Text,
+        slug: Text,
+    },
 }

@@ -14,6 +14,7 @@ ghost use Rattle.dh_desk.specs.Desk.{AreSound, Steps, IsStep, IsKept, is_fault, 
 
 use crate::command::Command;
 use crate::projects::{add_lang, new_project};
+use crate::properties::{Property, deactivate, set_property};
 use crate::pushes::push;
 use crate::reads::read;
 use crate::refusal::Refusal;
@@ -93,6 +94,18 @@ fn run<S: Alter>(
             replace,
             pages,
         } => upload(tables, alloc, host, wkey, key, slug, lang, *replace, pages),
+        Command::Activate { host, slug } => {
+            set_property(tables, alloc, host, slug, Property::Active)
+        }
+        Command::Deactivate { host, slug } => deactivate(tables, alloc, host, slug),
+        Command::Hide { host, slug } => set_property(tables, alloc, host, slug, Property::Hidden),
+        Command::Unhide { host, slug } => set_property(tables, alloc, host, slug, Property::Shown),
+        Command::Publish { host, slug } => {
+            set_property(tables, alloc, host, slug, Property::Public)
+        }
+        Command::MakePrivate { host, slug } => {
+            set_property(tables, alloc, host, slug, Property::Private)
+        }
     }
 }
 

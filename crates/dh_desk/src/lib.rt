@@ -8,6 +8,7 @@ pub mod outcome;
 mod page_checks;
 pub mod pages;
 mod projects;
+mod properties;
 mod pushes;
 mod reads;
 pub mod refusal;

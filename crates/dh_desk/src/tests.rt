@@ -275,6 +275,86 @@ fn an_upload_replaces_its_language_alone(rt: HostRuntime) -> Result<(), Fail> {
     Ok(())
 }
 
+/// The host and the slug of a command on one version.
+fn version(alloc: Global, slug: &str) -> Result<(Text, Text), Fail> {
+    Ok((text(alloc, "docs.test")?, text(alloc, slug)?))
+}
+
+fn activate(alloc: Global, slug: &str) -> Result<Command, Fail> {
+    let (host, slug) = version(alloc, slug)?;
+    Ok(Command::Activate { host, slug })
+}
+
+fn deactivate(alloc: Global, slug: &str) -> Result<Command, Fail> {
+    let (host, slug) = version(alloc, slug)?;
+    Ok(Command::Deactivate { host, slug })
+}
+
+/// Each command that sets a property but Activate, with the status of a page of `main` after it.
+fn settings(alloc: Global) -> Result<Vec<(Command, u16)>, Fail> {
+    let mut all = Vec::new(alloc);
+    let (host, slug) = version(alloc, "main")?;
+    all.push((Command::MakePrivate { host, slug }, 404))?;
+    let (host, slug) = version(alloc, "main")?;
+    all.push((Command::Hide { host, slug }, 404))?;
+    let (host, slug) = version(alloc, "main")?;
+    all.push((Command::Publish { host, slug }, 200))?;
+    let (host, slug) = version(alloc, "main")?;
+    all.push((Command::Unhide { host, slug }, 200))?;
+    Ok(all)
+}
+
+/// A desk with a page `a.html` in `main`.
+fn paged_desk(alloc: Global) -> Result<Desk<MemStore>, Fail> {
+    let mut desk = pushed_desk(alloc)?;
+    let page = upload(alloc, "u1", "en", "a.html", "aaa", false)?;
+    if desk.apply(alloc, &page).is_err() {
+        return Err(Fail::from(Fault::Store));
+    }
+    Ok(desk)
+}
+
+#[test]
+fn deactivation_removes_pages(rt: HostRuntime) -> Result<(), Fail> {
+    let alloc = rt.alloc();
+    let mut desk = paged_desk(alloc)?;
+    assert_eq!(rt; get(alloc, &mut desk, "/en/main/a.html")?.status, 200);
+    let off = deactivate(alloc, "main")?;
+    assert!(rt; matches!(desk.apply(alloc, &off), Ok(Answer::Done)));
+    let late = upload(alloc, "u2", "en", "a.html", "aaa", false)?;
+    assert!(rt; matches!(desk.apply(alloc, &late), Err(Refusal::Inactive)));
+    let on = activate(alloc, "main")?;
+    assert!(rt; matches!(desk.apply(alloc, &on), Ok(Answer::Done)));
+    assert_eq!(rt; get(alloc, &mut desk, "/en/main/a.html")?.status, 404);
+    Ok(())
+}
+
+#[test]
+fn properties_are_set(rt: HostRuntime) -> Result<(), Fail> {
+    let alloc = rt.alloc();
+    let mut desk = paged_desk(alloc)?;
+    for (command, wanted) in &settings(alloc)? {
+        let answer = desk.apply(alloc, command);
+        assert!(rt; matches!(answer, Ok(Answer::Done)));
+        assert_eq!(rt; get(alloc, &mut desk, "/en/main/a.html")?.status, *wanted);
+    }
+    Ok(())
+}
+
+#[test]
+fn a_version_that_is_missing_is_refused(rt: HostRuntime) -> Result<(), Fail> {
+    let alloc = rt.alloc();
+    let mut desk = empty_desk(alloc)?;
+    let early = desk.apply(alloc, &activate(alloc, "main")?);
+    assert!(rt; matches!(early, Err(Refusal::NoProject)));
+    assert!(rt; desk.apply(alloc, &new_project(alloc, "docs.test")?).is_ok());
+    let missing = desk.apply(alloc, &deactivate(alloc, "9.9")?);
+    assert!(rt; matches!(missing, Err(Refusal::NoVersion)));
+    let none = desk.apply(alloc, &activate(alloc, "-x")?);
+    assert!(rt; matches!(none, Err(Refusal::BadRef)));
+    Ok(())
+}
+
 #[test]
 fn a_connection_is_handed_back(rt: HostRuntime) -> Result<(), Fail> {
     let alloc = rt.alloc();

@@ -3,7 +3,7 @@ ghost use Rattle.std.specs.Prelude.{◌≡◌, Bool, is_some};
 ghost use Rattle.dh_paths.specs.Texts.{is_host_name, is_lang, is_ref_name, is_slug, is_token};
 ghost use Rattle.dh_paths.specs.Slugs.{slug_from, slug_text};
 ghost use Rattle.dh_desk.specs.Checks.{Reads, Checks};
-ghost use Rattle.dh_desk.specs.Texts.{bad_text};
+ghost use Rattle.dh_desk.specs.Texts.{bad_text, bad_version};
 ghost use Rattle.dh_desk.specs.Refusals.{unless};
 
 use crate::command::Command;
@@ -99,6 +99,15 @@ pub fn added_lang_in(alloc: Global, host: &Text, lang: &Text) -> Result<(HostNam
     let host = host_in(alloc, host)?;
     let lang = lang_in(alloc, lang)?;
     Ok((host, lang))
+}
+
+/// The host and the slug of the version that a command names.
+pub fn version_in(alloc: Global, host: &Text, slug: &Text) -> Result<(HostName, Slug), Refusal>
+    ensures { Checks (bad_version host.now slug.now) (λ parts. (parts.0 ≡ host.now) × (parts.1 ≡ slug.now)) result }
+{
+    let host = host_in(alloc, host)?;
+    let slug = slug_in(alloc, slug)?;
+    Ok((host, slug))
 }
 
 /// The parts of a push.

@@ -1,5 +1,5 @@
 -- The words of the program and of a script's line, as `clap` sees them.
-use Rattle.std.specs.Prelude.{true, fold, List, [], ◌∷◌, Some, codes}
+use Rattle.std.specs.Prelude.{true, fold, List, [], ◌∷◌, ◌++◌, Some, codes}
 use Rattle.clap.specs.Walk.{Text, Rule}
 use Rattle.clap.specs.Simple.{App, new_app, new_rule, with_rule, with_subcommand}
 use Rattle.clap.specs.declared.builder.action.ArgAction.TheVariants.{SetTrue}
@@ -36,6 +36,24 @@ push_app = form (codes "push") (codes "host" ∷ codes "wkey" ∷ codes "key" �
 abbrev pub upload_app : App
 upload_app = with_rule (form (codes "upload") (codes "host" ∷ codes "wkey" ∷ codes "key" ∷ codes "slug" ∷ codes "lang" ∷ codes "path" ∷ codes "type" ∷ codes "text" ∷ [])) (flag_rule (codes "replace"))
 
+-- `NAME HOST SLUG`: a command on one version
+abbrev pub version_app : Text → App
+version_app name = form name (codes "host" ∷ codes "slug" ∷ [])
+
+abbrev pub version_apps : List App
+version_apps =
+    version_app (codes "activate")
+    ∷ version_app (codes "deactivate")
+    ∷ version_app (codes "hide")
+    ∷ version_app (codes "unhide")
+    ∷ version_app (codes "publish")
+    ∷ version_app (codes "make-private")
+    ∷ []
+
+-- an app that takes these commands too, behind those that it has
+abbrev pub with_apps : App → List App → App
+with_apps app more = fold (λ (a s : App). with_subcommand a s.top) app more
+
 abbrev pub get_app : App
 get_app = with_rule (form (codes "get") (codes "host" ∷ codes "target" ∷ [])) (option_rule (codes "pass"))
 
@@ -53,12 +71,7 @@ bare_app = record (new_app (codes "docs_host")) {
 
 -- the program: the lines of scripts, and what it does with its input
 abbrev pub docs_app : App
-docs_app = fold (λ (a s : App). with_subcommand a s.top) bare_app
-    (new_project_app
-    ∷ add_lang_app
-    ∷ push_app
-    ∷ upload_app
-    ∷ get_app
-    ∷ script_app
-    ∷ answer_app
-    ∷ [])
+docs_app = with_apps bare_app
+    ((new_project_app ∷ add_lang_app ∷ push_app ∷ upload_app ∷ [])
+    ++ version_apps
+    ++ (get_app ∷ script_app ∷ answer_app ∷ []))

@@ -10,7 +10,7 @@ use Rattle.clap.specs.declared.parser.matches.ArgMatches.{ArgMatches}
 use Rattle.dh_versions.specs.declared.version.Kind.{Kind}
 use Rattle.dh_versions.specs.declared.version.Kind.TheVariants.{Branch, Tag}
 use Rattle.dh_desk.specs.declared.command.Command.{Command}
-use Rattle.dh_desk.specs.declared.command.Command.TheVariants.{NewProject, AddLang, Push, Upload}
+use Rattle.dh_desk.specs.declared.command.Command.TheVariants.{NewProject, AddLang, Push, Upload, Activate, Deactivate, Hide, Unhide, Publish, MakePrivate}
 use Rattle.docs_host.specs.App.{docs_app}
 use Rattle.docs_host.specs.declared.lines.Line.{Line}
 use Rattle.docs_host.specs.declared.lines.Order.{Order}
@@ -79,6 +79,24 @@ upload_in rows =
     with_word (codes "text") rows (λ body.
     Some (Upload host wkey key slug lang (is_set (codes "replace") rows) (record { path = path; media = media; body = body } ∷ []))))))))))
 
+-- the command of this name on one version
+abbrev pub command_on : Text → Text → Text → Option Command
+command_on name host slug =
+    if bytes_eq name (codes "activate") then Some (Activate host slug)
+    else if bytes_eq name (codes "deactivate") then Some (Deactivate host slug)
+    else if bytes_eq name (codes "hide") then Some (Hide host slug)
+    else if bytes_eq name (codes "unhide") then Some (Unhide host slug)
+    else if bytes_eq name (codes "publish") then Some (Publish host slug)
+    else if bytes_eq name (codes "make-private") then Some (MakePrivate host slug)
+    else None
+
+-- `NAME HOST SLUG`
+abbrev pub version_in : Text → List Row → Option Command
+version_in name rows =
+    with_word (codes "host") rows (λ host.
+    with_word (codes "slug") rows (λ slug.
+    command_on name host slug))
+
 -- `get HOST TARGET [--pass PASS]`
 abbrev pub get_in : List Row → Option Order
 get_in rows =
@@ -96,7 +114,7 @@ order_in name rows =
     else if bytes_eq name (codes "get") then get_in rows
     else if bytes_eq name (codes "script") then Some Script
     else if bytes_eq name (codes "answer") then Some Answer
-    else None
+    else option_map Act (version_in name rows)
 
 abbrev pub order_of : Option (Text × List Row) → Option Order
 order_of None = None

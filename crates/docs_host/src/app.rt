@@ -3,7 +3,7 @@
 ghost use Rattle.std.specs.Prelude.{◌≡◌, IfOk, false, map};
 ghost use Rattle.clap.specs.Simple.{app_of, new_app, with_rule, with_subcommand};
 ghost use Rattle.clap.specs.declared.builder.command.Command.TheViews.{out-Command};
-ghost use Rattle.docs_host.specs.App.{word_rule, option_rule, flag_rule, with_words as words_added, new_project_app, add_lang_app, push_app, upload_app, get_app, script_app, answer_app, bare_app, docs_app};
+ghost use Rattle.docs_host.specs.App.{word_rule, option_rule, flag_rule, with_words as words_added, new_project_app, add_lang_app, push_app, upload_app, version_app, version_apps, with_apps, get_app, script_app, answer_app, bare_app, docs_app};
 
 use clap::{Arg, ArgAction, Command};
 use std::alloc::{AllocError, Global};
@@ -133,6 +133,49 @@ fn upload_command<'a>(alloc: Global) -> Result<Command<'a>, AllocError>
     with_flag(alloc, command, "replace")
 }
 
+/// `NAME HOST SLUG`
+fn version_command<'a>(
+    alloc: Global,
+    name: &'a str,
+    about: &'a str,
+) -> Result<Command<'a>, AllocError>
+    ensures app { IfOk result (λ c. app_of c ≡ version_app name.entry.now) }
+    ensures local { IfOk result (λ c. (out-Command c).has_globals ≡ false) }
+{
+    with_words(alloc, named(alloc, name, about), &["host", "slug"])
+}
+
+fn with_version_commands<'a>(alloc: Global, command: Command<'a>) -> Result<Command<'a>, AllocError>
+    requires { (out-Command command).has_globals ≡ false }
+    ensures app { IfOk result (λ c. app_of c ≡ with_apps (app_of command.entry) version_apps) }
+    ensures local { IfOk result (λ c. (out-Command c).has_globals ≡ false) }
+{
+    let activate = version_command(alloc, "activate", "A line of a script: a version is active")?;
+    let command = with_command(command, activate)?;
+    let deactivate = version_command(
+        alloc,
+        "deactivate",
+        "A line of a script: a version is inactive, and its pages are removed",
+    )?;
+    let command = with_command(command, deactivate)?;
+    let hide = version_command(alloc, "hide", "A line of a script: a version is hidden")?;
+    let command = with_command(command, hide)?;
+    let unhide = version_command(
+        alloc,
+        "unhide",
+        "A line of a script: a version is not hidden",
+    )?;
+    let command = with_command(command, unhide)?;
+    let publish = version_command(alloc, "publish", "A line of a script: a version is public")?;
+    let command = with_command(command, publish)?;
+    let make_private = version_command(
+        alloc,
+        "make-private",
+        "A line of a script: a version is private",
+    )?;
+    with_command(command, make_private)
+}
+
 fn get_command<'a>(alloc: Global) -> Result<Command<'a>, AllocError>
     ensures app { IfOk result (λ c. app_of c ≡ get_app) }
     ensures local { IfOk result (λ c. (out-Command c).has_globals ≡ false) }
@@ -184,6 +227,7 @@ pub fn docs_command<'a>(alloc: Global) -> Result<Command<'a>, AllocError>
     let command = with_command(command, add_lang_command(alloc)?)?;
     let command = with_command(command, push_command(alloc)?)?;
     let command = with_command(command, upload_command(alloc)?)?;
+    let command = with_version_commands(alloc, command)?;
     let command = with_command(command, get_command(alloc)?)?;
     let command = with_command(command, script_command(alloc))?;
     with_command(command, answer_command(alloc))

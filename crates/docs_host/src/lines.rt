@@ -59,7 +59,7 @@ ghost use Rattle.std.specs.Prelude.{◌≡◌, ◌∷◌, [], IfOk, option_map, 
 ghost use Rattle.clap.specs.Walk.{first_of, rows_of};
 ghost use Rattle.clap.specs.Matches.{found_of};
 ghost use Rattle.clap.specs.Simple.{subcommand_rows_of};
-ghost use Rattle.docs_host.specs.Lines.{is_set, privacy_of, kind_of, new_project_in, add_lang_in, push_in, upload_in, get_in, order_of, line_in, Says, Matches};
+ghost use Rattle.docs_host.specs.Lines.{is_set, privacy_of, kind_of, new_project_in, add_lang_in, push_in, upload_in, command_on, version_in, get_in, order_of, line_in, Says, Matches};
 
 fn value<'a>(matches: &ArgMatches<'a>, id: &str) -> Option<&'a str>
     ensures { option_map (λ s. s.now) result ≡ first_of id.now (rows_of (found_of matches.now)) }
@@ -209,6 +209,32 @@ fn upload(alloc: Global, matches: &ArgMatches<'_>) -> Result<Command, LineFault>
     })
 }
 
+/// The command of this name on one version.
+fn named_on(name: &str, host: Text, slug: Text) -> Option<Command>
+    ensures { result ≡ command_on name.now host slug }
+{
+    match name {
+        "activate" => Some(Command::Activate { host, slug }),
+        "deactivate" => Some(Command::Deactivate { host, slug }),
+        "hide" => Some(Command::Hide { host, slug }),
+        "unhide" => Some(Command::Unhide { host, slug }),
+        "publish" => Some(Command::Publish { host, slug }),
+        "make-private" => Some(Command::MakePrivate { host, slug }),
+        _ => None,
+    }
+}
+
+fn version(alloc: Global, name: &str, matches: &ArgMatches<'_>) -> Result<Command, LineFault>
+    ensures { Says (version_in name.now (rows_of (found_of matches.now))) result }
+{
+    let host = word(alloc, matches, "host")?;
+    let slug = word(alloc, matches, "slug")?;
+    match named_on(name, host, slug) {
+        Some(command) => Ok(command),
+        None => Err(LineFault::Usage),
+    }
+}
+
 fn get(alloc: Global, matches: &ArgMatches<'_>) -> Result<Order, LineFault>
     ensures { Says (get_in (rows_of (found_of matches.now))) result }
 {
@@ -233,7 +259,7 @@ fn read_order(alloc: Global, matches: &ArgMatches<'_>) -> Result<Order, LineFaul
         "get" => get(alloc, words),
         "script" => Ok(Order::Script),
         "answer" => Ok(Order::Answer),
-        _ => Err(LineFault::Usage),
+        _ => Ok(Order::Act(version(alloc, name, words)?)),
     }
 }
 

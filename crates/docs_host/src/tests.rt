@@ -358,6 +358,11 @@ fn read_line(alloc: Global, text: &str) -> Result<Result<Line, LineFault>, Fail>
     Ok(line_of(alloc, words.as_slice()))
 }
 
+fn version_told(alloc: Global, name: &str, host: &Text, slug: &Text) -> Result<String, AllocError> {
+    let (host, slug) = (host.as_str(), slug.as_str());
+    format!(in alloc; "{name} {host} {slug}")
+}
+
 fn command_told(alloc: Global, command: &Command) -> Result<String, AllocError> {
     match command {
         Command::NewProject {
@@ -402,6 +407,12 @@ fn command_told(alloc: Global, command: &Command) -> Result<String, AllocError> 
             let pages = pages.as_str();
             format!(in alloc; "{host} {wkey} {key} {slug} {lang} {replace}{pages}")
         }
+        Command::Activate { host, slug } => version_told(alloc, "on", host, slug),
+        Command::Deactivate { host, slug } => version_told(alloc, "off", host, slug),
+        Command::Hide { host, slug } => version_told(alloc, "hidden", host, slug),
+        Command::Unhide { host, slug } => version_told(alloc, "shown", host, slug),
+        Command::Publish { host, slug } => version_told(alloc, "public", host, slug),
+        Command::MakePrivate { host, slug } => version_told(alloc, "private", host, slug),
     }
 }
 
@@ -470,6 +481,12 @@ fn words_that_are_lines(rt: HostRuntime) -> Result<(), Fail> {
             "upload docs.test wkey-1 u2 main en b.html text/html b --replace",
             "docs.test wkey-1 u2 main en true b.html text/html b",
         ),
+        ("activate docs.test main", "on docs.test main"),
+        ("deactivate docs.test main", "off docs.test main"),
+        ("hide docs.test main", "hidden docs.test main"),
+        ("unhide docs.test main", "shown docs.test main"),
+        ("publish docs.test main", "public docs.test main"),
+        ("make-private docs.test main", "private docs.test main"),
         ("get docs.test /?a=1", "docs.test /?a=1 -"),
         ("get docs.test / --pass reader-7", "docs.test / reader-7"),
         ("script", "to script"),
@@ -485,6 +502,8 @@ fn words_that_are_no_line(rt: HostRuntime) -> Result<(), Fail> {
     for line in [
         "",
         "gone docs.test main",
+        "activate docs.test",
+        "hide docs.test main en",
         "add-lang docs.test",
         "add-lang docs.test fr more",
         "new-project docs.test en main secret wkey-1",
@@ -564,6 +583,42 @@ fn scripts_of_uploads(rt: HostRuntime) -> Result<(), Fail> {
 }
 
 #[test]
+fn scripts_of_releases(rt: HostRuntime) -> Result<(), Fail> {
+    let alloc = rt.alloc();
+    let script =
+        b"new-project docs.test en main public wkey-1\npush docs.test wkey-1 k1 tag v1.0.0\npush docs.test wkey-1 k1 tag 1.0.0\nactivate docs.test v1.0.0\nactivate docs.test 1.0.0\nupload docs.test wkey-1 k1 v1.0.0 en index.html text/html with-v\nupload docs.test wkey-1 k1 1.0.0 en index.html text/html bare\nget docs.test /en/stable/\n";
+    assert_eq!(rt;
+        printed(alloc, script)?.as_str(),
+        "ok\nmade v1.0.0 inactive shown public\nmade 1.0.0 inactive shown public\nok\nok\nstored 1\nstored 1\n200 - 6\n"
+    );
+    let lines =
+        "push docs.test wkey-1 k2 tag 2.0.0\nactivate docs.test 2.0.0\nhide docs.test 2.0.0\nupload docs.test wkey-1 u1 2.0.0 en index.html text/html two\nget docs.test /en/stable/\n";
+    assert_eq!(rt;
+        printed_after(alloc, lines)?.as_str(),
+        "made 2.0.0 inactive shown public\nok\nok\nstored 1\n200 - 3\n"
+    );
+    Ok(())
+}
+
+#[test]
+fn scripts_of_properties(rt: HostRuntime) -> Result<(), Fail> {
+    let alloc = rt.alloc();
+    let lines =
+        "upload docs.test wkey-1 u1 main en a.html text/html aaa\nget docs.test /en/main/a.html\ndeactivate docs.test main\nactivate docs.test main\nget docs.test /en/main/a.html\n";
+    assert_eq!(rt;
+        printed_after(alloc, lines)?.as_str(),
+        "stored 1\n200 - 3\nok\nok\n404 - 14\n"
+    );
+    let lines =
+        "push docs.test wkey-1 k2 tag 1.0\nactivate docs.test 1.0\nupload docs.test wkey-1 u1 1.0 en a.html text/html aaa\nmake-private docs.test 1.0\nget docs.test /en/1.0/a.html\nget docs.test /en/1.0\npublish docs.test 1.0\nunhide docs.test 1.0\nget docs.test /en/1.0/a.html\n";
+    assert_eq!(rt;
+        printed_after(alloc, lines)?.as_str(),
+        "made 1.0 inactive shown public\nok\nstored 1\nok\n404 - 14\n404 - 14\nok\nok\n200 - 3\n"
+    );
+    Ok(())
+}
+
+#[test]
 fn scripts_that_are_refused(rt: HostRuntime) -> Result<(), Fail> {
     let alloc = rt.alloc();
     for (line, wanted) in [
@@ -595,6 +650,8 @@ fn scripts_that_are_refused(rt: HostRuntime) -> Result<(), Fail> {
             "upload docs.test wkey-1 k2 main fr index.html text/html x",
             "refused 14 NoLang\n",
         ),
+        ("activate docs.test 9.9", "refused 15 NoVersion\n"),
+        ("hide docs.test a/b", "refused 3 BadRef\n"),
         (
             "push docs.test wkey-1 k2 tag main",
             "refused 16 SlugTaken\n",
