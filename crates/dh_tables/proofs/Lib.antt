@@ -2,6 +2,7 @@ pub mod AnswerLemmas
 pub mod ReadingLemmas
 pub mod CallLemmas
 pub mod Matching
+pub mod SameText
 pub mod Statements
 pub mod Keys
 pub mod Made

@@ -1,22 +1,23 @@
 use Rattle.sqlite.specs.Held.{state}
 use Rattle.dh_tables.proofs.CallLemmas.{read_ours, first_value}
-use Rattle.std.proofs.Common.{filter}
+use Rattle.std.proofs.Common.{filter, refl}
 use Rattle.std.specs.List.{find}
 use Rattle.dh_tables.specs.Codings.{pages}
 use Rattle.dh_tables.specs.Tables.{lists_of}
 use Rattle.dh_tables.specs.Lists.{is_page}
 use Rattle.dh_tables.proofs.Finding.{first_that}
-use Rattle.dh_tables.proofs.Statements.{page_answers}
+use Rattle.dh_tables.proofs.Statements.{page_answers, page_text}
+use Rattle.dh_tables.proofs.SameText.{as_plain, as_listing, as_reads}
 use Rattle.dh_tables.proofs.tables.Tables.page.Goals as goal
 
 pub first_record-requires-clause-plain : goal.first_record-requires-clause-plain
-first_record-requires-clause-plain g c honest = (page_answers (state g.S.Store c.self.inside.conn) (c.self.invariant honest.0 honest.1).now c.args.host.now c.args.slug.now c.args.lang.now c.args.path.now).plain
+first_record-requires-clause-plain g c honest = as_plain _ page_text _ (page_answers (state g.S.Store c.self.inside.conn) (c.self.invariant honest.0 honest.1).now c.args.host.now c.args.slug.now c.args.lang.now c.args.path.now).plain refl
 
 pub first_record-requires-clause-listing : goal.first_record-requires-clause-listing
-first_record-requires-clause-listing g c honest = (page_answers (state g.S.Store c.self.inside.conn) (c.self.invariant honest.0 honest.1).now c.args.host.now c.args.slug.now c.args.lang.now c.args.path.now).listing
+first_record-requires-clause-listing g c honest = as_listing _ page_text _ (page_answers (state g.S.Store c.self.inside.conn) (c.self.invariant honest.0 honest.1).now c.args.host.now c.args.slug.now c.args.lang.now c.args.path.now).listing refl
 
 pub invariant_of-self : goal.invariant_of-self
 invariant_of-self g c = read_ours g.S.Store c.self.inside.conn c.first_record.new.conn c.first_record.result c.self.invariant c.first_record.ensures.was c.first_record.ensures.same c.first_record.ensures.err
 
 pub returns-clause-value : goal.returns-clause-value
-returns-clause-value g c = rw (← c.self.view_is) (λ honest clean. first_value pages.encode c.first_record.result (filter (is_page c.args.host.now c.args.slug.now c.args.lang.now c.args.path.now) (lists_of (state g.S.Store c.self.inside.conn).now).pages) (find (is_page c.args.host.now c.args.slug.now c.args.lang.now c.args.path.now) (lists_of (state g.S.Store c.self.inside.conn).now).pages) (c.first_record.ensures.value honest clean) (λ rows it. (page_answers (state g.S.Store c.self.inside.conn) (c.self.invariant honest.0 honest.1).now c.args.host.now c.args.slug.now c.args.lang.now c.args.path.now).reads rows (rw (c.params-to_sql.ensures, c.params-to_sql-2.ensures, c.params-to_sql-3.ensures, c.params-to_sql-4.ensures, c.as_str.ensures.text, c.as_str-2.ensures.text, c.as_str-3.ensures.text) at it)) (first_that (is_page c.args.host.now c.args.slug.now c.args.lang.now c.args.path.now) (lists_of (state g.S.Store c.self.inside.conn).now).pages))
+returns-clause-value g c = rw (← c.self.view_is) (λ honest clean. first_value pages.encode c.first_record.result (filter (is_page c.args.host.now c.args.slug.now c.args.lang.now c.args.path.now) (lists_of (state g.S.Store c.self.inside.conn).now).pages) (find (is_page c.args.host.now c.args.slug.now c.args.lang.now c.args.path.now) (lists_of (state g.S.Store c.self.inside.conn).now).pages) (c.first_record.ensures.value honest clean) (λ rows it. (page_answers (state g.S.Store c.self.inside.conn) (c.self.invariant honest.0 honest.1).now c.args.host.now c.args.slug.now c.args.lang.now c.args.path.now).reads rows (as_reads _ page_text _ _ _ (rw (c.params-to_sql.ensures, c.params-to_sql-2.ensures, c.params-to_sql-3.ensures, c.params-to_sql-4.ensures, c.as_str.ensures.text, c.as_str-2.ensures.text, c.as_str-3.ensures.text) at it) refl)) (first_that (is_page c.args.host.now c.args.slug.now c.args.lang.now c.args.path.now) (lists_of (state g.S.Store c.self.inside.conn).now).pages))

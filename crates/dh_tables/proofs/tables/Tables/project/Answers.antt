@@ -1,22 +1,23 @@
 use Rattle.sqlite.specs.Held.{state}
 use Rattle.dh_tables.proofs.CallLemmas.{read_ours, first_value}
-use Rattle.std.proofs.Common.{filter}
+use Rattle.std.proofs.Common.{filter, refl}
 use Rattle.std.specs.List.{find}
 use Rattle.dh_tables.specs.Codings.{projects}
 use Rattle.dh_tables.specs.Tables.{lists_of}
 use Rattle.dh_tables.specs.Lists.{is_project}
 use Rattle.dh_tables.proofs.Finding.{first_that}
-use Rattle.dh_tables.proofs.Statements.{project_answers}
+use Rattle.dh_tables.proofs.Statements.{project_answers, project_text}
+use Rattle.dh_tables.proofs.SameText.{as_plain, as_listing, as_reads}
 use Rattle.dh_tables.proofs.tables.Tables.project.Goals as goal
 
 pub first_record-requires-clause-plain : goal.first_record-requires-clause-plain
-first_record-requires-clause-plain g c honest = (project_answers (state g.S.Store c.self.inside.conn) (c.self.invariant honest.0 honest.1).now c.args.host.now).plain
+first_record-requires-clause-plain g c honest = as_plain _ project_text _ (project_answers (state g.S.Store c.self.inside.conn) (c.self.invariant honest.0 honest.1).now c.args.host.now).plain refl
 
 pub first_record-requires-clause-listing : goal.first_record-requires-clause-listing
-first_record-requires-clause-listing g c honest = (project_answers (state g.S.Store c.self.inside.conn) (c.self.invariant honest.0 honest.1).now c.args.host.now).listing
+first_record-requires-clause-listing g c honest = as_listing _ project_text _ (project_answers (state g.S.Store c.self.inside.conn) (c.self.invariant honest.0 honest.1).now c.args.host.now).listing refl
 
 pub invariant_of-self : goal.invariant_of-self
 invariant_of-self g c = read_ours g.S.Store c.self.inside.conn c.first_record.new.conn c.first_record.result c.self.invariant c.first_record.ensures.was c.first_record.ensures.same c.first_record.ensures.err
 
 pub returns-clause-value : goal.returns-clause-value
-returns-clause-value g c = rw (← c.self.view_is) (λ honest clean. first_value projects.encode c.first_record.result (filter (is_project c.args.host.now) (lists_of (state g.S.Store c.self.inside.conn).now).projects) (find (is_project c.args.host.now) (lists_of (state g.S.Store c.self.inside.conn).now).projects) (c.first_record.ensures.value honest clean) (λ rows it. (project_answers (state g.S.Store c.self.inside.conn) (c.self.invariant honest.0 honest.1).now c.args.host.now).reads rows (rw (c.params-to_sql.ensures, c.as_str.ensures.text) at it)) (first_that (is_project c.args.host.now) (lists_of (state g.S.Store c.self.inside.conn).now).projects))
+returns-clause-value g c = rw (← c.self.view_is) (λ honest clean. first_value projects.encode c.first_record.result (filter (is_project c.args.host.now) (lists_of (state g.S.Store c.self.inside.conn).now).projects) (find (is_project c.args.host.now) (lists_of (state g.S.Store c.self.inside.conn).now).projects) (c.first_record.ensures.value honest clean) (λ rows it. (project_answers (state g.S.Store c.self.inside.conn) (c.self.invariant honest.0 honest.1).now c.args.host.now).reads rows (as_reads _ project_text _ _ _ (rw (c.params-to_sql.ensures, c.as_str.ensures.text) at it) refl)) (first_that (is_project c.args.host.now) (lists_of (state g.S.Store c.self.inside.conn).now).projects))

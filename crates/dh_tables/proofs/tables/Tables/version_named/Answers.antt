@@ -1,22 +1,23 @@
 use Rattle.sqlite.specs.Held.{state}
 use Rattle.dh_tables.proofs.CallLemmas.{read_ours, first_value}
-use Rattle.std.proofs.Common.{filter}
+use Rattle.std.proofs.Common.{filter, refl}
 use Rattle.std.specs.List.{find}
 use Rattle.dh_tables.specs.Codings.{versions}
 use Rattle.dh_tables.specs.Tables.{lists_of}
 use Rattle.dh_tables.specs.Lists.{is_version}
 use Rattle.dh_tables.proofs.Finding.{first_that}
-use Rattle.dh_tables.proofs.Statements.{version_answers}
+use Rattle.dh_tables.proofs.Statements.{version_answers, version_text}
+use Rattle.dh_tables.proofs.SameText.{as_plain, as_listing, as_reads}
 use Rattle.dh_tables.proofs.tables.Tables.version_named.Goals as goal
 
 pub first_record-requires-clause-plain : goal.first_record-requires-clause-plain
-first_record-requires-clause-plain g c honest = (version_answers (state g.S.Store c.self.inside.conn) (c.self.invariant honest.0 honest.1).now c.args.host.now c.args.name.now).plain
+first_record-requires-clause-plain g c honest = as_plain _ version_text _ (version_answers (state g.S.Store c.self.inside.conn) (c.self.invariant honest.0 honest.1).now c.args.host.now c.args.name.now).plain refl
 
 pub first_record-requires-clause-listing : goal.first_record-requires-clause-listing
-first_record-requires-clause-listing g c honest = (version_answers (state g.S.Store c.self.inside.conn) (c.self.invariant honest.0 honest.1).now c.args.host.now c.args.name.now).listing
+first_record-requires-clause-listing g c honest = as_listing _ version_text _ (version_answers (state g.S.Store c.self.inside.conn) (c.self.invariant honest.0 honest.1).now c.args.host.now c.args.name.now).listing refl
 
 pub invariant_of-self : goal.invariant_of-self
 invariant_of-self g c = read_ours g.S.Store c.self.inside.conn c.first_record.new.conn c.first_record.result c.self.invariant c.first_record.ensures.was c.first_record.ensures.same c.first_record.ensures.err
 
 pub returns-clause-value : goal.returns-clause-value
-returns-clause-value g c = rw (← c.self.view_is) (λ honest clean. first_value versions.encode c.first_record.result (filter (is_version c.args.host.now c.args.name.now) (lists_of (state g.S.Store c.self.inside.conn).now).versions) (find (is_version c.args.host.now c.args.name.now) (lists_of (state g.S.Store c.self.inside.conn).now).versions) (c.first_record.ensures.value honest clean) (λ rows it. (version_answers (state g.S.Store c.self.inside.conn) (c.self.invariant honest.0 honest.1).now c.args.host.now c.args.name.now).reads rows (rw (c.params-to_sql.ensures, c.params-to_sql-2.ensures, c.as_str.ensures.text) at it)) (first_that (is_version c.args.host.now c.args.name.now) (lists_of (state g.S.Store c.self.inside.conn).now).versions))
+returns-clause-value g c = rw (← c.self.view_is) (λ honest clean. first_value versions.encode c.first_record.result (filter (is_version c.args.host.now c.args.name.now) (lists_of (state g.S.Store c.self.inside.conn).now).versions) (find (is_version c.args.host.now c.args.name.now) (lists_of (state g.S.Store c.self.inside.conn).now).versions) (c.first_record.ensures.value honest clean) (λ rows it. (version_answers (state g.S.Store c.self.inside.conn) (c.self.invariant honest.0 honest.1).now c.args.host.now c.args.name.now).reads rows (as_reads _ version_text _ _ _ (rw (c.params-to_sql.ensures, c.params-to_sql-2.ensures, c.as_str.ensures.text) at it) refl)) (first_that (is_version c.args.host.now c.args.name.now) (lists_of (state g.S.Store c.self.inside.conn).now).versions))

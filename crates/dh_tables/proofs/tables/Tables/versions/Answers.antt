@@ -1,26 +1,27 @@
 use Rattle.sqlite.specs.Held.{state}
 use Rattle.dh_tables.proofs.CallLemmas.{read_ours, all_value}
-use Rattle.std.proofs.Common.{filter}
+use Rattle.std.proofs.Common.{filter, refl}
 use Rattle.dh_tables.specs.Codings.{versions}
 use Rattle.dh_tables.specs.Tables.{lists_of}
 use Rattle.dh_tables.specs.Lists.{is_version_of}
 use Rattle.dh_tables.specs.View.{RiseBySlug}
 use Rattle.dh_tables.proofs.Known.{kept_by}
 use Rattle.dh_tables.proofs.SlugOrder.{host_rises}
-use Rattle.dh_tables.proofs.Statements.{versions_answers}
+use Rattle.dh_tables.proofs.Statements.{versions_answers, versions_text}
+use Rattle.dh_tables.proofs.SameText.{as_plain, as_listing, as_reads}
 use Rattle.dh_tables.proofs.tables.Tables.versions.Goals as goal
 
 pub all_records-requires-clause-plain : goal.all_records-requires-clause-plain
-all_records-requires-clause-plain g c honest = (versions_answers (state g.S.Store c.self.inside.conn) (c.self.invariant honest.0 honest.1).now c.args.host.now).plain
+all_records-requires-clause-plain g c honest = as_plain _ versions_text _ (versions_answers (state g.S.Store c.self.inside.conn) (c.self.invariant honest.0 honest.1).now c.args.host.now).plain refl
 
 pub all_records-requires-clause-listing : goal.all_records-requires-clause-listing
-all_records-requires-clause-listing g c honest = (versions_answers (state g.S.Store c.self.inside.conn) (c.self.invariant honest.0 honest.1).now c.args.host.now).listing
+all_records-requires-clause-listing g c honest = as_listing _ versions_text _ (versions_answers (state g.S.Store c.self.inside.conn) (c.self.invariant honest.0 honest.1).now c.args.host.now).listing refl
 
 pub invariant_of-self : goal.invariant_of-self
 invariant_of-self g c = read_ours g.S.Store c.self.inside.conn c.all_records.new.conn c.all_records.result c.self.invariant c.all_records.ensures.was c.all_records.ensures.same c.all_records.ensures.err
 
 pub returns-clause-value : goal.returns-clause-value
-returns-clause-value g c = rw (← c.self.view_is) (λ honest clean. all_value versions.encode (λ v. v.items) c.all_records.result (filter (is_version_of c.args.host.now) (lists_of (state g.S.Store c.self.inside.conn).now).versions) (c.all_records.ensures.value honest clean) (λ rows it. (versions_answers (state g.S.Store c.self.inside.conn) (c.self.invariant honest.0 honest.1).now c.args.host.now).reads rows (rw (c.params-to_sql.ensures, c.as_str.ensures.text) at it)))
+returns-clause-value g c = rw (← c.self.view_is) (λ honest clean. all_value versions.encode (λ v. v.items) c.all_records.result (filter (is_version_of c.args.host.now) (lists_of (state g.S.Store c.self.inside.conn).now).versions) (c.all_records.ensures.value honest clean) (λ rows it. (versions_answers (state g.S.Store c.self.inside.conn) (c.self.invariant honest.0 honest.1).now c.args.host.now).reads rows (as_reads _ versions_text _ _ _ (rw (c.params-to_sql.ensures, c.as_str.ensures.text) at it) refl)))
 
 pub returns-clause-order : goal.returns-clause-order
-returns-clause-order g c = rw (← c.self.view_is) (λ honest clean. kept_by RiseBySlug (λ v. v.items) c.all_records.result (filter (is_version_of c.args.host.now) (lists_of (state g.S.Store c.self.inside.conn).now).versions) (all_value versions.encode (λ v. v.items) c.all_records.result (filter (is_version_of c.args.host.now) (lists_of (state g.S.Store c.self.inside.conn).now).versions) (c.all_records.ensures.value honest clean) (λ rows it. (versions_answers (state g.S.Store c.self.inside.conn) (c.self.invariant honest.0 honest.1).now c.args.host.now).reads rows (rw (c.params-to_sql.ensures, c.as_str.ensures.text) at it))) (host_rises (state g.S.Store c.self.inside.conn).now (c.self.invariant honest.0 honest.1).now c.args.host.now))
+returns-clause-order g c = rw (← c.self.view_is) (λ honest clean. kept_by RiseBySlug (λ v. v.items) c.all_records.result (filter (is_version_of c.args.host.now) (lists_of (state g.S.Store c.self.inside.conn).now).versions) (all_value versions.encode (λ v. v.items) c.all_records.result (filter (is_version_of c.args.host.now) (lists_of (state g.S.Store c.self.inside.conn).now).versions) (c.all_records.ensures.value honest clean) (λ rows it. (versions_answers (state g.S.Store c.self.inside.conn) (c.self.invariant honest.0 honest.1).now c.args.host.now).reads rows (as_reads _ versions_text _ _ _ (rw (c.params-to_sql.ensures, c.as_str.ensures.text) at it) refl))) (host_rises (state g.S.Store c.self.inside.conn).now (c.self.invariant honest.0 honest.1).now c.args.host.now))
