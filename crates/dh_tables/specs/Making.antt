@@ -10,7 +10,7 @@ use Rattle.dh_rows.specs.Calls.{IsHonest, whole, committed}
 use Rattle.dh_rows.specs.Places.{IsFree, IsUnmentioned, ArePlaced, Stands, rows_of}
 use Rattle.dh_tables.specs.Lists.{Lists}
 use Rattle.sqlite_schema.specs.declared.schema.Schema.{Schema}
-use Rattle.dh_tables.specs.Tables.{Holds, lists_of, meta_table, project_table, lang_table, version_table, page_table, used_table}
+use Rattle.dh_tables.specs.Tables.{Holds, lists_of, meta_table, project_table, lang_table, version_table, page_table, used_table, pick_table, pass_table, holds_table}
 
 -- Some tables stand with no row, the others can be made: their names are free, and no foreign key names them.
 pub record IsReady (made left : List Table) (db : Database) : Type 0 where
@@ -21,7 +21,7 @@ pub record IsReady (made left : List Table) (db : Database) : Type 0 where
   pub placed : ArePlaced db.schema
 
 abbrev pub no_lists : Lists
-no_lists = record { projects = []; langs = []; versions = []; pages = []; used = [] }
+no_lists = record { projects = []; langs = []; versions = []; pages = []; used = []; picks = []; passes = []; held = [] }
 
 -- all tables stand, and spell nothing
 pub record IsMade (db : Database) : Type 0 where
@@ -29,7 +29,7 @@ pub record IsMade (db : Database) : Type 0 where
   pub empty : lists_of db ≡ no_lists
 
 abbrev pub our_tables : List Table
-our_tables = meta_table ∷ project_table ∷ lang_table ∷ version_table ∷ page_table ∷ used_table ∷ []
+our_tables = meta_table ∷ project_table ∷ lang_table ∷ version_table ∷ page_table ∷ used_table ∷ pick_table ∷ pass_table ∷ holds_table ∷ []
 
 -- none of the names is taken, and no foreign key names one of the tables
 abbrev pub CanMake : Schema → Type 0
