@@ -17,3 +17,4 @@ pub mod ChangeLemmas
 pub mod ViewLemmas
 pub mod SlugOrder
 pub mod Shown
+pub mod VeilLemmas
