@@ -12,6 +12,8 @@ mod tests;
 mod view;
 
 pub use answer::Answer;
-pub use records::{LangRow, Operation, PageRow, ProjectRow, UsedRow, VersionRow};
+pub use records::{
+    HeldRow, LangRow, Operation, PageRow, PassRow, PickRow, ProjectRow, UsedRow, VersionRow,
+};
 pub use tables::{Tables, TablesFault};
 pub use view::{View, doubt_is_of_the_store};
