@@ -35,7 +35,7 @@ text_total = nat_list_cmp_total
 pub page_total : IsTotalOrder page_cmp
 page_total = then_total (on_total (λ (k : PageKey). k.0) text_total) (then_total (on_total (λ (k : PageKey). k.1.0) text_total) (on_total (λ (k : PageKey). k.1.1) text_total))
 
-tied_pair : {A B : Type 0} (first : A → A → Ordering) (second : B → B → Ordering) (x y : A × B) → eq_by_cmp (pair_cmp first second) x y ≡ (eq_by_cmp first x.0 y.0 && eq_by_cmp second x.1 y.1)
+pub tied_pair : {A B : Type 0} (first : A → A → Ordering) (second : B → B → Ordering) (x y : A × B) → eq_by_cmp (pair_cmp first second) x y ≡ (eq_by_cmp first x.0 y.0 && eq_by_cmp second x.1 y.1)
 tied_pair first second x y = go (first x.0 y.0)
   where
     go : (o : Ordering) → is_eq (ordering_then o (second x.1 y.1)) ≡ (is_eq o && eq_by_cmp second x.1 y.1)

@@ -3,17 +3,17 @@ use Rattle.std.proofs.Common.{◌≡◌, Bool, true, false, not, ◌&&◌, ◌||
 use Rattle.std.specs.Prelude.{option_map}
 use Rattle.std.specs.Option.{option_map_or}
 use Rattle.std.specs.Str.{bytes_eq}
-use Rattle.std.specs.Ordering.{eq_by_cmp}
 use Rattle.std.specs.Cmp.{IsTotalOrder}
 use Rattle.std.specs.FinMap.{FinMap, IsAntisymmetric, empty, get, retain_keys, get-empty, get-insert, get-retain_keys, same_map}
-use Rattle.std.proofs.lemmas.Map.Lookups.{exact_bytes, exact_pairs}
+use Rattle.std.proofs.lemmas.Map.Lookups.{exact_bytes}
 use Rattle.std.proofs.lemmas.Slice.Eq.{bytes_eq-Decides}
 use Rattle.dh_versions.specs.declared.version.Version.{Version}
 use Rattle.dh_reply.specs.declared.seen_project.SeenProject.{SeenProject}
 use Rattle.dh_reply.specs.SeenProject.{resolved}
-use Rattle.dh_tables.specs.World.{Text, text_cmp, held_cmp, Project, World, holds, is_visible}
+use Rattle.dh_tables.specs.World.{Text, text_cmp, Project, World, holds, is_visible}
 use Rattle.dh_tables.specs.Seen.{default_of, visible_versions, visible_pages, without_default, with_default, seen_project, seen, is_alias, is_own, is_seen_name, veiled, alone, veil}
 use Rattle.dh_tables.proofs.SeenLemmas.{tied_text, text_total, page_total, page_exact}
+use Rattle.dh_tables.proofs.PassKeys.{held_exact}
 
 -- ---- maps of which a test of the keys keeps a part
 
@@ -33,9 +33,6 @@ module _ {K X : Type 0} {R : K → K → Ordering} (exact : IsAntisymmetric R) w
       go k false e = refl
 
 -- ---- the same versions are visible
-
-held_exact : IsAntisymmetric held_cmp
-held_exact = exact_pairs text_cmp text_cmp exact_bytes exact_bytes
 
 own_pass : (pass : Text) → bytes_eq pass pass ≡ true
 own_pass pass = (bytes_eq-Decides pass pass).1 refl
