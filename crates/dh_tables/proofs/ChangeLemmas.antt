@@ -21,9 +21,9 @@ use Rattle.dh_tables.specs.World.{Text, text_cmp, PageKey, page_cmp, used_cmp, o
 use Rattle.dh_tables.specs.Lists.{Lists, project_of, world_of, kept_answer, is_project, is_lang_of, is_page_under, is_pick_of}
 use Rattle.dh_tables.specs.Rules.{InOrder, languages_of, KeepsRules, lies_under}
 use Rattle.dh_tables.proofs.KeyLemmas.{turned, same_version, page_place, same_page, used_place, used_total, used_exact, same_used}
-use Rattle.dh_tables.proofs.SeenLemmas.{get_project, tied_text, text_total, page_total, page_exact}
+use Rattle.dh_tables.proofs.SeenLemmas.{get_project, tied_text, text_total, page_total, page_exact, held_total, held_exact}
 use Rattle.dh_tables.proofs.WorldLemmas.{owned_by, languages_are}
-use Rattle.dh_tables.proofs.PassKeys.{held_place, held_total, held_exact}
+use Rattle.dh_tables.proofs.PassKeys.{held_place}
 use Rattle.dh_tables.proofs.RuleLemmas.{places_below, langs_with, find_project, none_of_new, grants_owned}
 use Rattle.dh_tables.proofs.RecordLemmas.{found_passes, none_but_added, added_elsewhere, kept_none, kept_of, put_here, put_there, put_free, dropped_here, dropped_there}
 

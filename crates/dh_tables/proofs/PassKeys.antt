@@ -2,10 +2,6 @@
 use Rattle.std.proofs.Common.{◌≡◌, Bool, true, false, ◌&&◌, refl, sym, ap, ◌∙◌, Ordering, Less, Equal, Greater, is_eq}
 use Rattle.std.specs.Str.{bytes_eq}
 use Rattle.std.specs.Ordering.{eq_by_cmp, ordering_then}
-use Rattle.std.specs.Cmp.{IsTotalOrder}
-use Rattle.std.specs.FinMap.{IsAntisymmetric}
-use Rattle.std.proofs.lemmas.Cmp.{on_total, then_total}
-use Rattle.std.proofs.lemmas.Map.Lookups.{exact_bytes, exact_pairs}
 use Rattle.sqlite_value.specs.declared.value.Value.TheVariants.{Text}
 use Rattle.sqlite_value.specs.Order.{value_cmp}
 use Rattle.sqlite_value.proofs.OrderLemmas.{value_cmp-Text, then-Equal}
@@ -16,7 +12,7 @@ use Rattle.dh_tables.specs.Codings as coding
 use Rattle.dh_tables.specs.World as world
 use Rattle.dh_tables.specs.World.{text_cmp, HeldKey, held_cmp}
 use Rattle.dh_tables.specs.Lists.{is_pass, is_held}
-use Rattle.dh_tables.proofs.SeenLemmas.{text_total, tied_text, tied_pair}
+use Rattle.dh_tables.proofs.SeenLemmas.{tied_text, tied_held}
 
 eq_then : (p q : Ordering) → is_eq (ordering_then p q) ≡ (is_eq p && is_eq q)
 eq_then Less q = refl
@@ -41,15 +37,6 @@ pass_key x y = same_pass x y ∙ ap (λ b. bytes_eq y.host x.host && b) (tied_te
 
 abbrev pub held_place : HeldRow → HeldKey
 held_place x = (x.pass, x.slug)
-
-pub held_total : IsTotalOrder held_cmp
-held_total = then_total (on_total (λ (k : HeldKey). k.0) text_total) (on_total (λ (k : HeldKey). k.1) text_total)
-
-pub held_exact : IsAntisymmetric held_cmp
-held_exact = exact_pairs text_cmp text_cmp exact_bytes exact_bytes
-
-pub tied_held : (pass slug : world.Text) (k : HeldKey) → eq_by_cmp held_cmp (pass, slug) k ≡ (bytes_eq k.0 pass && bytes_eq k.1 slug)
-tied_held pass slug k = tied_pair text_cmp text_cmp (pass, slug) k ∙ rw (tied_text pass k.0, tied_text slug k.1) refl
 
 grouped : (a b c : Bool) → (a && (b && c)) ≡ (a && b && c)
 grouped true b c = refl

@@ -12,8 +12,7 @@ use Rattle.dh_reply.specs.declared.seen_project.SeenProject.{SeenProject}
 use Rattle.dh_reply.specs.SeenProject.{resolved}
 use Rattle.dh_tables.specs.World.{Text, text_cmp, Project, World, holds, is_visible}
 use Rattle.dh_tables.specs.Seen.{default_of, visible_versions, visible_pages, without_default, with_default, seen_project, seen, is_alias, is_own, is_seen_name, veiled, alone, veil}
-use Rattle.dh_tables.proofs.SeenLemmas.{tied_text, text_total, page_total, page_exact}
-use Rattle.dh_tables.proofs.PassKeys.{held_exact}
+use Rattle.dh_tables.proofs.SeenLemmas.{tied_text, text_total, page_total, page_exact, held_exact}
 
 -- ---- maps of which a test of the keys keeps a part
 
