@@ -1,4 +1,4 @@
-ghost use Rattle.std.specs.Prelude.{◌≡◌, true, false, filter, not, find, is_some, length, IfOk, OnOk, OnErr};
+ghost use Rattle.std.specs.Prelude.{◌≡◌, pos, true, false, filter, not, find, is_some, length, IfOk, OnOk, OnErr};
 ghost use Rattle.sqlite.specs.Held.{state};
 ghost use Rattle.sqlite.specs.State.{HasCleanDisk};
 ghost use Rattle.dh_rows.specs.Calls.{IsHonest, Becomes, IsSame, IsRefused, Leaves, LeavesNoMore, KeepsCommitted, seen};
@@ -15,6 +15,16 @@ use dh_paths::{HostName, Slug, Token};
 use dh_reply::Fault;
 use sqlite::{Alter, params};
 use std::alloc::Global;
+
+/// The rank as SQL counts. No list in memory is longer.
+fn signed(rank: u64) -> Result<i64, Fault>
+    ensures { IfOk result (λ n. n ≡ pos rank) }
+{
+    match i64::try_from(rank) {
+        Ok(rank) => Ok(rank),
+        Err(_) => Err(Fault::Memory),
+    }
+}
 
 impl<S: Alter> Tables<S> {
     /// The defaults of a project, in the order of their ranks.
@@ -47,14 +57,12 @@ impl<S: Alter> Tables<S> {
         ensures kept { self.old.in_transaction ≡ true → KeepsCommitted S.Store self.old self.new }
         ensures quiet { self.old.in_transaction ≡ true → IsHonest S.Store self.old → LeavesNoMore S.Store self.old self.new }
     {
-        match i64::try_from(rank) {
-            Ok(rank) => write(
-                &mut self.conn,
-                "INSERT INTO pick VALUES (?1, ?2, ?3)",
-                params![host.as_str(), name.as_str(), rank],
-            ),
-            Err(_) => Err(Fault::Memory),
-        }
+        let rank = signed(rank)?;
+        write(
+            &mut self.conn,
+            "INSERT INTO pick VALUES (?1, ?2, ?3)",
+            params![host.as_str(), name.as_str(), rank],
+        )
     }
 
     /// Removes the defaults of a project.
