@@ -6,7 +6,7 @@ use Rattle.sqlite_trees.specs.declared.store.Store.{Ghosts}
 use Rattle.sqlite.specs.Effect.{Database}
 use Rattle.sqlite.specs.State.{HasCleanDisk}
 use Rattle.sqlite.specs.Held.{Held, state}
-use Rattle.dh_rows.specs.Calls.{whole, Edits, Keep, AreOurs, IsHonest, LeavesTrees, Leaves, Shows, IsSame, IsUndone, IsRefused, Becomes}
+use Rattle.dh_rows.specs.Calls.{whole, Edits, Keep, AreOurs, IsHonest, LeavesTrees, Leaves, Shows, IsSame, IsUndone, IsRefused, Becomes, seen, committed}
 use Rattle.dh_rows.proofs.Views.{changes, leaves, leaves_now}
 use Rattle.dh_tables.specs.Lists.{Lists}
 use Rattle.dh_tables.specs.Making.{GoesOn, CommitsNothing}
@@ -181,3 +181,31 @@ pub committed_made : {S T E : Type 0} (P : Database → Type 0) (g : Ghosts S) (
     → OnOk r (IsHonest g new × (new.in_transaction ≡ false) × ((state g new).now ≡ (state g new).committed) × P (state g new).now)
 committed_made P g middle new (Ok x) clean made h = ((clean, h.is_open), h.mode, h.now_is ∙ sym h.last_is, subst P (sym h.now_is) made)
 committed_made P g middle new (Err e) clean made h = tt
+
+-- ---- calls in turn
+
+module _ {S W : Type 0} (g : Ghosts S) (view : Database → W) (old middle new : Held S) where
+  -- within a transaction, the last of two changes is what is seen
+  pub becomes_on : (v w : W) → old.in_transaction ≡ true → Becomes g view old middle v → Becomes g view middle new w → Becomes g view old new w
+  becomes_on v w within a b = record {
+    was_honest = a.was_honest;
+    is_open = b.is_open;
+    now_is = b.now_is;
+    last_is = b.last_is ∙ ap (λ c. cond c (committed g view middle) w) (a.mode ∙ within) ∙ a.last_is ∙ ap (λ c. cond c (committed g view old) v) within
+        ∙ sym (ap (λ c. cond c (committed g view old) w) within);
+    mode = b.mode ∙ a.mode;
+  }
+
+  -- a change after a look
+  pub becomes_after : (f : W → W) → IsSame g view old middle → Becomes g view middle new (f (seen g view middle)) → Becomes g view old new (f (seen g view old))
+  becomes_after f a b = record {
+    was_honest = a.was_honest;
+    is_open = b.is_open;
+    now_is = b.now_is ∙ ap f a.now_is;
+    last_is = b.last_is ∙ (λ i. cond (a.mode i) (a.last_is i) (f (a.now_is i)));
+    mode = b.mode ∙ a.mode;
+  }
+
+-- within a transaction, nothing changes where nothing is done
+pub same_becomes : {S W : Type 0} (g : Ghosts S) (view : Database → W) (old : Held S) → IsHonest g old → old.in_transaction ≡ true → Becomes g view old old (seen g view old)
+same_becomes g view old honest within = record { was_honest = honest; is_open = honest.1; now_is = refl; last_is = sym (ap (λ c. cond c (committed g view old) (seen g view old)) within); mode = refl }

@@ -10,6 +10,7 @@ pub mod Known
 pub mod SeenLemmas
 pub mod RecordLemmas
 pub mod KeyLemmas
+pub mod PickLemmas
 pub mod OrderLemmas
 pub mod RuleLemmas
 pub mod WorldLemmas

@@ -1,4 +1,5 @@
 ghost use Rattle.std.specs.Prelude.{◌≡◌, pos, true, false, filter, not, find, is_some, length, IfOk, OnOk, OnErr};
+ghost use Rattle.std.specs.List.{AllByRecursion};
 ghost use Rattle.sqlite.specs.Held.{state};
 ghost use Rattle.sqlite.specs.State.{HasCleanDisk};
 ghost use Rattle.dh_rows.specs.Calls.{IsHonest, Becomes, IsSame, IsRefused, Leaves, LeavesNoMore, KeepsCommitted, seen};
@@ -82,6 +83,24 @@ impl<S: Alter> Tables<S> {
         )
     }
 
+    /// Adds the defaults of a project that has none.
+    fn put_picks(&mut self, host: &HostName, names: &[Slug]) -> Result<(), Fault>
+        requires within { IsHonest S.Store self.old → self.old.in_transaction ≡ true }
+        requires bare { IsHonest S.Store self.old → AllByRecursion (λ r. spec.is_pick_of host.now r ≡ false) (seen S.Store lists_of self.old).picks }
+        ensures ok { IsHonest S.Store self.old → HasCleanDisk (state S.Store self.new) → OnOk result (Becomes S.Store lists_of self.old self.new (record (seen S.Store lists_of self.old) { picks = spec.with_picks (spec.ranked host.now 1 names.now) (seen S.Store lists_of self.old).picks })) }
+        ensures err { IsHonest S.Store self.new → OnErr result (CommitsNothing S.Store self.old self.new) }
+        ensures clean { HasCleanDisk (state S.Store self.new) → HasCleanDisk (state S.Store self.old) }
+        ensures was { IsHonest S.Store self.new → IsHonest S.Store self.old }
+        ensures crash { Leaves S.Store lists_of self.old self.new (λ w. ⊥) }
+        ensures kept { KeepsCommitted S.Store self.old self.new }
+        ensures quiet { IsHonest S.Store self.old → LeavesNoMore S.Store self.old self.new }
+    {
+        for (i, name) in names.iter().enumerate() {
+            self.add_pick(host, name, i as u64 + 1)?;
+        }
+        Ok(())
+    }
+
     /// Sets the defaults of a project, the newest first, within a transaction. A call that is refused may leave some of them until the transaction ends.
     pub fn set_picks(&mut self, host: &HostName, names: &[Slug]) -> Result<(), Fault>
         requires within { IsHonest S.Store self.old → self.old.in_transaction ≡ true }
@@ -94,10 +113,7 @@ impl<S: Alter> Tables<S> {
         ensures quiet { IsHonest S.Store self.old → LeavesNoMore S.Store self.old self.new }
     {
         self.drop_picks(host)?;
-        for (i, name) in names.iter().enumerate() {
-            self.add_pick(host, name, i as u64 + 1)?;
-        }
-        Ok(())
+        self.put_picks(host, names)
     }
 
     /// The pass of a project with this text.
