@@ -11,6 +11,7 @@ pub mod SeenLemmas
 pub mod RecordLemmas
 pub mod KeyLemmas
 pub mod PickLemmas
+pub mod GrantLemmas
 pub mod OrderLemmas
 pub mod RuleLemmas
 pub mod WorldLemmas

@@ -39,12 +39,8 @@ impl<S: Alter> Tables<S> {
         ensures kept { KeepsCommitted S.Store self.old self.new }
         ensures quiet { IsHonest S.Store self.old → LeavesNoMore S.Store self.old self.new }
     {
-        all_records(
-            &mut self.conn,
-            alloc,
-            "SELECT host, name, rank FROM pick WHERE host = ?1 ORDER BY host, rank",
-            params![host.as_str()],
-        )
+        let sql = "SELECT host, name, rank FROM pick WHERE host = ?1 ORDER BY host, rank";
+        all_records(&mut self.conn, alloc, sql, params![host.as_str()])
     }
 
     /// Adds a default, whose rank is free.
@@ -121,9 +117,9 @@ impl<S: Alter> Tables<S> {
         &mut self,
         alloc: Global,
         host: &HostName,
-        pass: &Token,
+        token: &Token,
     ) -> Result<Option<PassRow>, Fault>
-        ensures value { IsHonest S.Store self.old → HasCleanDisk (state S.Store self.new) → IfOk result (λ o. o ≡ find (spec.is_pass host.now pass.now) (seen S.Store lists_of self.old).passes) }
+        ensures value { IsHonest S.Store self.old → HasCleanDisk (state S.Store self.new) → IfOk result (λ o. o ≡ find (spec.is_pass host.now token.now) (seen S.Store lists_of self.old).passes) }
         ensures same { IsHonest S.Store self.old → HasCleanDisk (state S.Store self.new) → OnOk result (IsSame S.Store lists_of self.old self.new) }
         ensures err { IsHonest S.Store self.new → OnErr result (IsRefused S.Store lists_of self.old self.new) }
         ensures clean { HasCleanDisk (state S.Store self.new) → HasCleanDisk (state S.Store self.old) }
@@ -132,11 +128,12 @@ impl<S: Alter> Tables<S> {
         ensures kept { KeepsCommitted S.Store self.old self.new }
         ensures quiet { IsHonest S.Store self.old → LeavesNoMore S.Store self.old self.new }
     {
+        let sql = "SELECT host, pass FROM pass WHERE host = ?1 AND pass = ?2 ORDER BY host, pass";
         first_record(
             &mut self.conn,
             alloc,
-            "SELECT host, pass FROM pass WHERE host = ?1 AND pass = ?2 ORDER BY host, pass",
-            params![host.as_str(), pass.as_str()],
+            sql,
+            params![host.as_str(), token.as_str()],
         )
     }
 
@@ -151,11 +148,8 @@ impl<S: Alter> Tables<S> {
         ensures kept { KeepsCommitted S.Store self.old self.new }
         ensures quiet { IsHonest S.Store self.old → LeavesNoMore S.Store self.old self.new }
     {
-        count_records(
-            &mut self.conn,
-            "SELECT host, pass FROM pass WHERE host = ?1 ORDER BY host, pass",
-            params![host.as_str()],
-        )
+        let sql = "SELECT host, pass FROM pass WHERE host = ?1 ORDER BY host, pass";
+        count_records(&mut self.conn, sql, params![host.as_str()])
     }
 
     /// Adds a pass, which the project has not.
@@ -204,9 +198,11 @@ impl<S: Alter> Tables<S> {
         ensures kept { KeepsCommitted S.Store self.old self.new }
         ensures quiet { IsHonest S.Store self.old → LeavesNoMore S.Store self.old self.new }
     {
+        let sql =
+            "SELECT host, pass, slug FROM holds WHERE host = ?1 AND pass = ?2 AND slug = ?3 ORDER BY host, pass, slug";
         has_record(
             &mut self.conn,
-            "SELECT host, pass, slug FROM holds WHERE host = ?1 AND pass = ?2 AND slug = ?3 ORDER BY host, pass, slug",
+            sql,
             params![host.as_str(), pass.as_str(), slug.as_str()],
         )
     }
@@ -256,10 +252,11 @@ impl<S: Alter> Tables<S> {
         ensures kept { self.old.in_transaction ≡ true → KeepsCommitted S.Store self.old self.new }
         ensures quiet { self.old.in_transaction ≡ true → IsHonest S.Store self.old → LeavesNoMore S.Store self.old self.new }
     {
+        let key = params![host.as_str(), pass.as_str(), slug.as_str()];
         write(
             &mut self.conn,
             "DELETE FROM holds WHERE host = ?1 AND pass = ?2 AND slug = ?3",
-            params![host.as_str(), pass.as_str(), slug.as_str()],
+            key,
         )
     }
 
@@ -290,10 +287,7 @@ impl<S: Alter> Tables<S> {
         ensures kept { self.old.in_transaction ≡ true → KeepsCommitted S.Store self.old self.new }
         ensures quiet { self.old.in_transaction ≡ true → IsHonest S.Store self.old → LeavesNoMore S.Store self.old self.new }
     {
-        write(
-            &mut self.conn,
-            "DELETE FROM holds WHERE host = ?1 AND pass = ?2",
-            params![host.as_str(), pass.as_str()],
-        )
+        let sql = "DELETE FROM holds WHERE host = ?1 AND pass = ?2";
+        write(&mut self.conn, sql, params![host.as_str(), pass.as_str()])
     }
 }
