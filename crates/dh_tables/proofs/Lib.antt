@@ -12,6 +12,8 @@ pub mod RecordLemmas
 pub mod KeyLemmas
 pub mod PickLemmas
 pub mod GrantLemmas
+pub mod PassKeys
+pub mod PassLemmas
 pub mod OrderLemmas
 pub mod RuleLemmas
 pub mod WorldLemmas
@@ -19,3 +21,4 @@ pub mod ChangeLemmas
 pub mod ViewLemmas
 pub mod SlugOrder
 pub mod Shown
+pub mod VeilLemmas

@@ -687,3 +687,15 @@ drop_version_writes s had host slug = delete version_table version_simple versio
 pub drop_version_changes : (s : State) → Holds s.now → (host slug : List ℕ) → (after : Database) → Rattle.dh_rows.specs.Calls.Edits s drop_version_text (Text host ∷ Text slug ∷ []) after
     → Changed s.now after (λ l. record l { versions = filter (λ x. not (is_version host slug x)) l.versions })
 drop_version_changes s had host slug after it = version_changed s.now after (filter (λ x. not (is_version host slug x))) had ((drop_version_writes s had host slug).turns after it)
+
+abbrev pub held_by_text : List ℕ
+held_by_text = codes "SELECT host, pass, slug FROM holds WHERE host = ?1 AND pass = ?2 ORDER BY host, pass, slug"
+
+held_by_read : select_of holds_table held_by_text ≡ Some (0 ∷ 1 ∷ 2 ∷ [], (0, 0) ∷ (1, 1) ∷ [], 0 ∷ 1 ∷ 2 ∷ [])
+unfolding everything
+held_by_read = refl
+
+pub held_by_answers : (s : State) → Holds s.now → (host pass : List ℕ) → Answers s held_by_text (Text host ∷ Text pass ∷ []) (map held.encode (filter (is_held_by host pass) (lists_of s.now).held))
+held_by_answers s had host pass =
+    select holds_table holds_simple holds_plain held s had.held held_by_text _ _ _ held_by_read _ (is_held_by host pass) held.encode
+    (λ n x. rw (equal_text x.host host, equal_text x.pass pass) (two (bytes_eq x.host host) (bytes_eq x.pass pass))) (λ n x. refl) (λ x y. refl)

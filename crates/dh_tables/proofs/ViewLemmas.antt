@@ -99,3 +99,7 @@ same_answer f (Err x) v w e h = tt
 pub through : {T U V E : Type 0} (f : T → U) (k : U → V) (r : Result T E) (v : U) (w : V) → k v ≡ w → IfOk r (λ x. f x ≡ v) → IfOk r (λ x. k (f x) ≡ w)
 through f k (Ok x) v w e h = ap k h ∙ e
 through f k (Err x) v w e h = tt
+
+pub from_answer : {T E : Type 0} {P Q : T → Type 0} (r : Result T E) → ((x : T) → P x → Q x) → IfOk r P → IfOk r Q
+from_answer (Ok x) f h = f x h
+from_answer (Err x) f h = tt

@@ -1,5 +1,5 @@
 -- What the records keep besides being in the order of their keys.
-use Rattle.std.specs.Prelude.{◌≡◌, Bool, false, ◌&&◌, ◌||◌, IsTrue, codes, List, map, filter, length, slice_get, find, Option, Some, None, is_some}
+use Rattle.std.specs.Prelude.{◌≡◌, Bool, false, ◌&&◌, ◌||◌, IsTrue, List, map, filter, length, slice_get, find, Option, Some, None, is_some}
 use Rattle.std.specs.declared.cmp.Ordering.TheVariants.{Less}
 use Rattle.std.specs.List.{AllByRecursion, IsDistinct, list_any, range_with_len}
 use Rattle.std.specs.Option.{option_map_or}
@@ -9,6 +9,7 @@ use Rattle.sqlite_trees.specs.Tree.{IsAscending}
 use Rattle.dh_paths.specs.Slugs.{slug_from}
 use Rattle.dh_rows.specs.Keyed.{by_key}
 use Rattle.dh_tables.specs.World.{Text, PageKey}
+use Rattle.dh_tables.specs.Seen.{is_alias}
 use Rattle.dh_tables.specs.Codings as coding
 use Rattle.dh_tables.specs.Lists.{Lists, is_project, is_lang_of, is_version, is_pick_of, is_pass}
 use Rattle.dh_tables.specs.declared.records.LangRow.{LangRow}
@@ -48,10 +49,6 @@ has_version lists host slug = is_some (find (is_version host slug) lists.version
 
 abbrev pub has_pass : Lists → Text → Text → Bool
 has_pass lists host pass = is_some (find (is_pass host pass) lists.passes)
-
--- `latest` or `stable`
-abbrev pub is_alias : Text → Bool
-is_alias name = bytes_eq name (codes "latest") || bytes_eq name (codes "stable")
 
 -- The defaults of one project: they have the ranks 1 to n without gaps, and no name stands twice.
 pub record AreDefaults (picks : List PickRow) : Type 0 where

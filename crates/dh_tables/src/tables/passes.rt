@@ -290,4 +290,26 @@ impl<S: Alter> Tables<S> {
         let sql = "DELETE FROM holds WHERE host = ?1 AND pass = ?2";
         write(&mut self.conn, sql, params![host.as_str(), pass.as_str()])
     }
+
+    /// What a pass holds, in the order of slugs.
+    pub fn held_by(
+        &mut self,
+        alloc: Global,
+        host: &HostName,
+        pass: &Token,
+    ) -> Result<Vec<HeldRow>, Fault>
+        ensures value { IsHonest S.Store self.old → HasCleanDisk (state S.Store self.new) → IfOk result (λ o. o.items ≡ filter (spec.is_held_by host.now pass.now) (seen S.Store lists_of self.old).held) }
+        ensures same { IsHonest S.Store self.old → HasCleanDisk (state S.Store self.new) → OnOk result (IsSame S.Store lists_of self.old self.new) }
+        ensures err { IsHonest S.Store self.new → OnErr result (IsRefused S.Store lists_of self.old self.new) }
+        ensures clean { HasCleanDisk (state S.Store self.new) → HasCleanDisk (state S.Store self.old) }
+        ensures was { IsHonest S.Store self.new → IsHonest S.Store self.old }
+        ensures crash { Leaves S.Store lists_of self.old self.new (λ w. ⊥) }
+        ensures kept { KeepsCommitted S.Store self.old self.new }
+        ensures quiet { IsHonest S.Store self.old → LeavesNoMore S.Store self.old self.new }
+    {
+        let sql =
+            "SELECT host, pass, slug FROM holds WHERE host = ?1 AND pass = ?2 ORDER BY host, pass, slug";
+        let key = params![host.as_str(), pass.as_str()];
+        all_records(&mut self.conn, alloc, sql, key)
+    }
 }
