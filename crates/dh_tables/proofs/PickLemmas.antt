@@ -1,74 +1,23 @@
 -- Defaults that are added one after the other, in the order of their ranks.
-use Rattle.std.proofs.Common.{◌≡◌, ℕ, suc, zero, ◌+◌, ◌<◌, pos, Bool, true, false, not, ◌&&◌, cond, List, [], ◌∷◌, filter, drop, length, slice_index_or, refl, sym, ap, subst, ◌∙◌, arith, add-one, Ordering, Equal, Greater, is_eq, inl, true≢false}
+use Rattle.std.proofs.Common.{◌≡◌, ℕ, suc, zero, ◌+◌, ◌<◌, true, false, List, [], ◌∷◌, drop, length, slice_index_or, refl, sym, ap, subst, ◌∙◌, arith, add-one}
 use Rattle.std.specs.List.{AllByRecursion}
-use Rattle.std.specs.Str.{bytes_eq}
-use Rattle.std.specs.Ordering.{ordering_then}
-use Rattle.std.proofs.lemmas.Bool.Decides.{nat_tests}
-use Rattle.sqlite_value.specs.declared.value.Value.TheVariants.{Text, Int}
-use Rattle.sqlite_value.specs.Order.{value_cmp}
-use Rattle.sqlite_value.proofs.OrderLemmas.{value_cmp-Int}
-use Rattle.sqlite_keyed.proofs.ListLemmas.{all_weaker}
 use Rattle.sqlite_trees.specs.declared.store.Store.{Ghosts}
 use Rattle.sqlite.specs.State.{HasCleanDisk}
 use Rattle.sqlite.specs.Held.{Held, state}
 use Rattle.dh_rows.specs.Calls.{IsHonest, Becomes, LeavesNoMore, KeepsCommitted, seen}
-use Rattle.dh_rows.specs.Keyed.{same_key, IsFreeKey, added, by_key}
+use Rattle.dh_rows.specs.Keyed.{added}
 use Rattle.dh_tables.specs.declared.records.PickRow.{PickRow}
 use Rattle.dh_tables.specs.Codings as coding
 use Rattle.dh_tables.specs.Lists.{Lists, is_pick_of, ranked, with_picks}
 use Rattle.dh_tables.specs.Tables.{lists_of}
-use Rattle.dh_tables.proofs.Keys.{eq_then, same_text}
-use Rattle.dh_tables.proofs.RecordLemmas.{all_added}
+use Rattle.dh_tables.proofs.PickLists.{AreBelow, none_below, below_next}
 use Rattle.dh_tables.proofs.CallLemmas.{becomes_on, same_becomes}
-
--- of the defaults of the host, each stands before this rank
-abbrev pub AreBelow : List ℕ → ℕ → List PickRow → Type 0
-AreBelow host rank rows = AllByRecursion (λ y. bytes_eq y.host host ≡ true → y.rank < rank) rows
-
-later : (m n : ℕ) → m < n → is_eq (value_cmp (Int (pos n)) (Int (pos m))) ≡ false
-later m n h = let o : value_cmp (Int (pos n)) (Int (pos m)) ≡ Greater = value_cmp-Int (pos n) (pos m) ∙ grind (arith, nat_tests) in ap is_eq o
-
-pick_apart : (x y : PickRow) → (bytes_eq y.host x.host ≡ true → y.rank < x.rank) → same_key coding.picks.key x y ≡ false
-pick_apart x y below =
-    eq_then (value_cmp (Text x.host) (Text y.host)) _
-    ∙ ap (λ b. b && is_eq (ordering_then (value_cmp (Int (pos x.rank)) (Int (pos y.rank))) Equal)) (same_text x.host y.host)
-    ∙ go (bytes_eq y.host x.host) below
-  where
-    go : (b : Bool) → (b ≡ true → y.rank < x.rank) → (b && is_eq (ordering_then (value_cmp (Int (pos x.rank)) (Int (pos y.rank))) Equal)) ≡ false
-    go false h = refl
-    go true h = eq_then (value_cmp (Int (pos x.rank)) (Int (pos y.rank))) Equal ∙ ap (λ b. b && true) (later y.rank x.rank (h refl))
-
--- the next rank is free
-pub rank_is_free : (x : PickRow) (rows : List PickRow) → AreBelow x.host x.rank rows → IsFreeKey coding.picks.key x rows
-rank_is_free x rows below = all_weaker _ (λ y. same_key coding.picks.key x y ≡ false) (λ y h. pick_apart x y h) rows below
-
-below_next : (x : PickRow) (rows : List PickRow) → AreBelow x.host x.rank rows → AreBelow x.host (x.rank + 1) (added coding.picks.key x rows)
-below_next x rows below =
-    all_added (λ y. bytes_eq y.host x.host ≡ true → y.rank < x.rank + 1) (by_key coding.picks.key) x rows (λ _. omega arith)
-    (all_weaker _ (λ y. bytes_eq y.host x.host ≡ true → y.rank < x.rank + 1) (λ y h e. let l : y.rank < x.rank = h e in omega arith) rows below)
-
--- of a host with no default
-pub none_below : (host : List ℕ) (rows : List PickRow) → AllByRecursion (λ r. is_pick_of host r ≡ false) rows → AreBelow host 1 rows
-none_below host rows bare = all_weaker _ (λ y. bytes_eq y.host host ≡ true → y.rank < 1) (λ y out e. absurd (true≢false (sym e ∙ out))) rows bare
-
-pub all_taken_out : (host : List ℕ) (rows : List PickRow) → AllByRecursion (λ r. is_pick_of host r ≡ false) (filter (λ r. not (is_pick_of host r)) rows)
-all_taken_out host [] = tt
-all_taken_out host (y ∷ rows) = go (is_pick_of host y) refl (all_taken_out host rows)
-  where
-    go : (b : Bool) → is_pick_of host y ≡ b → AllByRecursion (λ r. is_pick_of host r ≡ false) (filter (λ r. not (is_pick_of host r)) rows)
-        → AllByRecursion (λ r. is_pick_of host r ≡ false) (cond (not b) (y ∷ filter (λ r. not (is_pick_of host r)) rows) (filter (λ r. not (is_pick_of host r)) rows))
-    go true e more = more
-    go false e more = (e, more)
 
 -- the first of the names that are left
 next_name : (names : List (List ℕ)) (i : ℕ) (name d : List ℕ) → i < length names → name ≡ slice_index_or names i d → drop i names ≡ name ∷ drop (suc i) names
 next_name [] i name d h e = absurd (omega arith)
 next_name (x ∷ names) zero name d h e = ap (λ y. y ∷ names) (sym e)
 next_name (x ∷ names) (suc i) name d h e = next_name names i name d (omega arith) e
-
-all_dropped : {A : Type 0} (xs : List A) → drop (length xs) xs ≡ []
-all_dropped [] = refl
-all_dropped (x ∷ xs) = all_dropped xs
 
 module _ {S : Type 0} (g : Ghosts S) (host : List ℕ) (names : List (List ℕ)) (old : Held S) where
   -- The first i names are added: what is left to add makes of the defaults what all names make of those before.

@@ -1,5 +1,6 @@
 use Rattle.std.proofs.Common.{◌+◌}
-use Rattle.dh_tables.proofs.PickLemmas.{rank_is_free, none_added, one_more}
+use Rattle.dh_tables.proofs.PickLists.{rank_is_free}
+use Rattle.dh_tables.proofs.PickLemmas.{none_added, one_more}
 use Rattle.dh_tables.proofs.tables.Tables.put_picks.Goals as goal
 
 pub loop-i-init : goal.loop-i-init

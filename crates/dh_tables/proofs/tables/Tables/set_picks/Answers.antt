@@ -4,7 +4,7 @@ use Rattle.dh_rows.specs.Calls.{IsHonest, Becomes, seen}
 use Rattle.dh_tables.specs.Lists.{Lists, is_pick_of, ranked, with_picks}
 use Rattle.dh_tables.specs.Tables.{lists_of}
 use Rattle.dh_tables.proofs.CallLemmas.{on_ok, becomes_on}
-use Rattle.dh_tables.proofs.PickLemmas.{all_taken_out}
+use Rattle.dh_tables.proofs.PickLists.{all_taken_out}
 use Rattle.dh_tables.proofs.tables.Tables.set_picks.Goals as goal
 
 pub put_picks-requires-clause-bare : goal.put_picks-requires-clause-bare
