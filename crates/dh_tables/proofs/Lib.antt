@@ -10,6 +10,9 @@ pub mod Known
 pub mod SeenLemmas
 pub mod RecordLemmas
 pub mod KeyLemmas
+pub mod PickLists
+pub mod PickLemmas
+pub mod GrantLemmas
 pub mod PassKeys
 pub mod PassLemmas
 pub mod OrderLemmas

@@ -1,5 +1,5 @@
 -- What our statements ask and do.
-use Rattle.std.proofs.Common.{◌≡◌, ℕ, ℤ, List, [], ◌∷◌, map, filter, not, codes, false, Some, refl, ◌∙◌}
+use Rattle.std.proofs.Common.{◌≡◌, ℕ, ℤ, pos, List, [], ◌∷◌, map, filter, not, codes, false, Some, refl, subst, ◌∙◌}
 use Rattle.std.specs.List.{AllByRecursion}
 use Rattle.std.specs.Str.{bytes_eq}
 use Rattle.sqlite_schema.specs.declared.schema.Table.{Table}
@@ -569,6 +569,12 @@ add_pick_writes s had x free = insert pick_table pick_simple pick_plain picks s 
 pub add_pick_changes : (s : State) → Holds s.now → (x : PickRow) → IsFreeKey picks.key x (lists_of s.now).picks → (after : Database) → Rattle.dh_rows.specs.Calls.Edits s add_pick_text (picks.encode x) after
     → Changed s.now after (λ l. record l { picks = added picks.key x l.picks })
 add_pick_changes s had x free after it = pick_changed s.now after (added picks.key x) had ((add_pick_writes s had x free).turns after it)
+
+-- the same, where the rank is a number that SQL counts with
+pub add_pick_ranked : (s : State) → Holds s.now → (x : PickRow) (rank : ℤ) → rank ≡ pos x.rank → IsFreeKey picks.key x (lists_of s.now).picks → (after : Database)
+    → Rattle.dh_rows.specs.Calls.Edits s add_pick_text (Text x.host ∷ Text x.name ∷ Int rank ∷ []) after → Changed s.now after (λ l. record l { picks = added picks.key x l.picks })
+add_pick_ranked s had x rank e free after it =
+    add_pick_changes s had x free after (subst (λ n. Rattle.dh_rows.specs.Calls.Edits s add_pick_text (Text x.host ∷ Text x.name ∷ Int n ∷ []) after) e it)
 
 abbrev pub add_pass_text : List ℕ
 add_pass_text = codes "INSERT INTO pass VALUES (?1, ?2)"

@@ -491,11 +491,8 @@ impl<S: Alter> Tables<S> {
         ensures kept { self.old.in_transaction ≡ true → KeepsCommitted S.Store self.old self.new }
         ensures quiet { self.old.in_transaction ≡ true → IsHonest S.Store self.old → LeavesNoMore S.Store self.old self.new }
     {
-        write(
-            &mut self.conn,
-            "DELETE FROM version WHERE host = ?1 AND slug = ?2",
-            params![host.as_str(), slug.as_str()],
-        )
+        let sql = "DELETE FROM version WHERE host = ?1 AND slug = ?2";
+        write(&mut self.conn, sql, params![host.as_str(), slug.as_str()])
     }
 
     /// Adds a page, or puts it in place of the one with its path.

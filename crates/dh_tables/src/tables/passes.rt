@@ -1,4 +1,5 @@
-ghost use Rattle.std.specs.Prelude.{◌≡◌, true, false, filter, not, find, is_some, length, IfOk, OnOk, OnErr};
+ghost use Rattle.std.specs.Prelude.{◌≡◌, pos, true, false, filter, not, find, is_some, length, IfOk, OnOk, OnErr};
+ghost use Rattle.std.specs.List.{AllByRecursion};
 ghost use Rattle.sqlite.specs.Held.{state};
 ghost use Rattle.sqlite.specs.State.{HasCleanDisk};
 ghost use Rattle.dh_rows.specs.Calls.{IsHonest, Becomes, IsSame, IsRefused, Leaves, LeavesNoMore, KeepsCommitted, seen};
@@ -16,6 +17,16 @@ use dh_reply::Fault;
 use sqlite::{Alter, params};
 use std::alloc::Global;
 
+/// The rank as SQL counts. No list in memory is longer.
+fn signed(rank: u64) -> Result<i64, Fault>
+    ensures { IfOk result (λ n. n ≡ pos rank) }
+{
+    match i64::try_from(rank) {
+        Ok(rank) => Ok(rank),
+        Err(_) => Err(Fault::Memory),
+    }
+}
+
 impl<S: Alter> Tables<S> {
     /// The defaults of a project, in the order of their ranks.
     pub fn picks(&mut self, alloc: Global, host: &HostName) -> Result<Vec<PickRow>, Fault>
@@ -28,12 +39,8 @@ impl<S: Alter> Tables<S> {
         ensures kept { KeepsCommitted S.Store self.old self.new }
         ensures quiet { IsHonest S.Store self.old → LeavesNoMore S.Store self.old self.new }
     {
-        all_records(
-            &mut self.conn,
-            alloc,
-            "SELECT host, name, rank FROM pick WHERE host = ?1 ORDER BY host, rank",
-            params![host.as_str()],
-        )
+        let sql = "SELECT host, name, rank FROM pick WHERE host = ?1 ORDER BY host, rank";
+        all_records(&mut self.conn, alloc, sql, params![host.as_str()])
     }
 
     /// Adds a default, whose rank is free.
@@ -47,14 +54,12 @@ impl<S: Alter> Tables<S> {
         ensures kept { self.old.in_transaction ≡ true → KeepsCommitted S.Store self.old self.new }
         ensures quiet { self.old.in_transaction ≡ true → IsHonest S.Store self.old → LeavesNoMore S.Store self.old self.new }
     {
-        match i64::try_from(rank) {
-            Ok(rank) => write(
-                &mut self.conn,
-                "INSERT INTO pick VALUES (?1, ?2, ?3)",
-                params![host.as_str(), name.as_str(), rank],
-            ),
-            Err(_) => Err(Fault::Memory),
-        }
+        let rank = signed(rank)?;
+        write(
+            &mut self.conn,
+            "INSERT INTO pick VALUES (?1, ?2, ?3)",
+            params![host.as_str(), name.as_str(), rank],
+        )
     }
 
     /// Removes the defaults of a project.
@@ -74,6 +79,24 @@ impl<S: Alter> Tables<S> {
         )
     }
 
+    /// Adds the defaults of a project that has none.
+    fn put_picks(&mut self, host: &HostName, names: &[Slug]) -> Result<(), Fault>
+        requires within { IsHonest S.Store self.old → self.old.in_transaction ≡ true }
+        requires bare { IsHonest S.Store self.old → AllByRecursion (λ r. spec.is_pick_of host.now r ≡ false) (seen S.Store lists_of self.old).picks }
+        ensures ok { IsHonest S.Store self.old → HasCleanDisk (state S.Store self.new) → OnOk result (Becomes S.Store lists_of self.old self.new (record (seen S.Store lists_of self.old) { picks = spec.with_picks (spec.ranked host.now 1 names.now) (seen S.Store lists_of self.old).picks })) }
+        ensures err { IsHonest S.Store self.new → OnErr result (CommitsNothing S.Store self.old self.new) }
+        ensures clean { HasCleanDisk (state S.Store self.new) → HasCleanDisk (state S.Store self.old) }
+        ensures was { IsHonest S.Store self.new → IsHonest S.Store self.old }
+        ensures crash { Leaves S.Store lists_of self.old self.new (λ w. ⊥) }
+        ensures kept { KeepsCommitted S.Store self.old self.new }
+        ensures quiet { IsHonest S.Store self.old → LeavesNoMore S.Store self.old self.new }
+    {
+        for (i, name) in names.iter().enumerate() {
+            self.add_pick(host, name, i as u64 + 1)?;
+        }
+        Ok(())
+    }
+
     /// Sets the defaults of a project, the newest first, within a transaction. A call that is refused may leave some of them until the transaction ends.
     pub fn set_picks(&mut self, host: &HostName, names: &[Slug]) -> Result<(), Fault>
         requires within { IsHonest S.Store self.old → self.old.in_transaction ≡ true }
@@ -86,10 +109,7 @@ impl<S: Alter> Tables<S> {
         ensures quiet { IsHonest S.Store self.old → LeavesNoMore S.Store self.old self.new }
     {
         self.drop_picks(host)?;
-        for (i, name) in names.iter().enumerate() {
-            self.add_pick(host, name, i as u64 + 1)?;
-        }
-        Ok(())
+        self.put_picks(host, names)
     }
 
     /// The pass of a project with this text.
@@ -97,9 +117,9 @@ impl<S: Alter> Tables<S> {
         &mut self,
         alloc: Global,
         host: &HostName,
-        pass: &Token,
+        token: &Token,
     ) -> Result<Option<PassRow>, Fault>
-        ensures value { IsHonest S.Store self.old → HasCleanDisk (state S.Store self.new) → IfOk result (λ o. o ≡ find (spec.is_pass host.now pass.now) (seen S.Store lists_of self.old).passes) }
+        ensures value { IsHonest S.Store self.old → HasCleanDisk (state S.Store self.new) → IfOk result (λ o. o ≡ find (spec.is_pass host.now token.now) (seen S.Store lists_of self.old).passes) }
         ensures same { IsHonest S.Store self.old → HasCleanDisk (state S.Store self.new) → OnOk result (IsSame S.Store lists_of self.old self.new) }
         ensures err { IsHonest S.Store self.new → OnErr result (IsRefused S.Store lists_of self.old self.new) }
         ensures clean { HasCleanDisk (state S.Store self.new) → HasCleanDisk (state S.Store self.old) }
@@ -108,11 +128,12 @@ impl<S: Alter> Tables<S> {
         ensures kept { KeepsCommitted S.Store self.old self.new }
         ensures quiet { IsHonest S.Store self.old → LeavesNoMore S.Store self.old self.new }
     {
+        let sql = "SELECT host, pass FROM pass WHERE host = ?1 AND pass = ?2 ORDER BY host, pass";
         first_record(
             &mut self.conn,
             alloc,
-            "SELECT host, pass FROM pass WHERE host = ?1 AND pass = ?2 ORDER BY host, pass",
-            params![host.as_str(), pass.as_str()],
+            sql,
+            params![host.as_str(), token.as_str()],
         )
     }
 
@@ -127,11 +148,8 @@ impl<S: Alter> Tables<S> {
         ensures kept { KeepsCommitted S.Store self.old self.new }
         ensures quiet { IsHonest S.Store self.old → LeavesNoMore S.Store self.old self.new }
     {
-        count_records(
-            &mut self.conn,
-            "SELECT host, pass FROM pass WHERE host = ?1 ORDER BY host, pass",
-            params![host.as_str()],
-        )
+        let sql = "SELECT host, pass FROM pass WHERE host = ?1 ORDER BY host, pass";
+        count_records(&mut self.conn, sql, params![host.as_str()])
     }
 
     /// Adds a pass, which the project has not.
@@ -180,9 +198,11 @@ impl<S: Alter> Tables<S> {
         ensures kept { KeepsCommitted S.Store self.old self.new }
         ensures quiet { IsHonest S.Store self.old → LeavesNoMore S.Store self.old self.new }
     {
+        let sql =
+            "SELECT host, pass, slug FROM holds WHERE host = ?1 AND pass = ?2 AND slug = ?3 ORDER BY host, pass, slug";
         has_record(
             &mut self.conn,
-            "SELECT host, pass, slug FROM holds WHERE host = ?1 AND pass = ?2 AND slug = ?3 ORDER BY host, pass, slug",
+            sql,
             params![host.as_str(), pass.as_str(), slug.as_str()],
         )
     }
@@ -232,10 +252,11 @@ impl<S: Alter> Tables<S> {
         ensures kept { self.old.in_transaction ≡ true → KeepsCommitted S.Store self.old self.new }
         ensures quiet { self.old.in_transaction ≡ true → IsHonest S.Store self.old → LeavesNoMore S.Store self.old self.new }
     {
+        let key = params![host.as_str(), pass.as_str(), slug.as_str()];
         write(
             &mut self.conn,
             "DELETE FROM holds WHERE host = ?1 AND pass = ?2 AND slug = ?3",
-            params![host.as_str(), pass.as_str(), slug.as_str()],
+            key,
         )
     }
 
@@ -266,11 +287,8 @@ impl<S: Alter> Tables<S> {
         ensures kept { self.old.in_transaction ≡ true → KeepsCommitted S.Store self.old self.new }
         ensures quiet { self.old.in_transaction ≡ true → IsHonest S.Store self.old → LeavesNoMore S.Store self.old self.new }
     {
-        write(
-            &mut self.conn,
-            "DELETE FROM holds WHERE host = ?1 AND pass = ?2",
-            params![host.as_str(), pass.as_str()],
-        )
+        let sql = "DELETE FROM holds WHERE host = ?1 AND pass = ?2";
+        write(&mut self.conn, sql, params![host.as_str(), pass.as_str()])
     }
 
     /// What a pass holds, in the order of slugs.
@@ -289,11 +307,9 @@ impl<S: Alter> Tables<S> {
         ensures kept { KeepsCommitted S.Store self.old self.new }
         ensures quiet { IsHonest S.Store self.old → LeavesNoMore S.Store self.old self.new }
     {
-        all_records(
-            &mut self.conn,
-            alloc,
-            "SELECT host, pass, slug FROM holds WHERE host = ?1 AND pass = ?2 ORDER BY host, pass, slug",
-            params![host.as_str(), pass.as_str()],
-        )
+        let sql =
+            "SELECT host, pass, slug FROM holds WHERE host = ?1 AND pass = ?2 ORDER BY host, pass, slug";
+        let key = params![host.as_str(), pass.as_str()];
+        all_records(&mut self.conn, alloc, sql, key)
     }
 }
