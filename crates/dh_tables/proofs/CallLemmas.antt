@@ -6,7 +6,7 @@ use Rattle.sqlite_trees.specs.declared.store.Store.{Ghosts}
 use Rattle.sqlite.specs.Effect.{Database}
 use Rattle.sqlite.specs.State.{HasCleanDisk}
 use Rattle.sqlite.specs.Held.{Held, state}
-use Rattle.dh_rows.specs.Calls.{whole, Edits, Keep, AreOurs, IsHonest, LeavesTrees, Leaves, Shows, IsSame, IsUndone, IsRefused, Becomes}
+use Rattle.dh_rows.specs.Calls.{whole, Edits, Keep, AreOurs, IsHonest, LeavesTrees, Leaves, Shows, IsSame, IsUndone, IsRefused, Becomes, KeepsCommitted, seen, committed}
 use Rattle.dh_rows.proofs.Views.{changes, leaves, leaves_now}
 use Rattle.dh_tables.specs.Lists.{Lists}
 use Rattle.dh_tables.specs.Making.{GoesOn, CommitsNothing}
@@ -181,3 +181,51 @@ pub committed_made : {S T E : Type 0} (P : Database → Type 0) (g : Ghosts S) (
     → OnOk r (IsHonest g new × (new.in_transaction ≡ false) × ((state g new).now ≡ (state g new).committed) × P (state g new).now)
 committed_made P g middle new (Ok x) clean made h = ((clean, h.is_open), h.mode, h.now_is ∙ sym h.last_is, subst P (sym h.now_is) made)
 committed_made P g middle new (Err e) clean made h = tt
+
+-- ---- calls in turn
+
+module _ {S W : Type 0} (g : Ghosts S) (view : Database → W) (old middle new : Held S) where
+  -- within a transaction, the last of two changes is what is seen
+  pub becomes_on : (v w : W) → old.in_transaction ≡ true → Becomes g view old middle v → Becomes g view middle new w → Becomes g view old new w
+  becomes_on v w within a b = record {
+    was_honest = a.was_honest;
+    is_open = b.is_open;
+    now_is = b.now_is;
+    last_is = b.last_is ∙ ap (λ c. cond c (committed g view middle) w) (a.mode ∙ within) ∙ a.last_is ∙ ap (λ c. cond c (committed g view old) v) within
+        ∙ sym (ap (λ c. cond c (committed g view old) w) within);
+    mode = b.mode ∙ a.mode;
+  }
+
+  -- a change after a look
+  pub becomes_after : (f : W → W) → IsSame g view old middle → Becomes g view middle new (f (seen g view middle)) → Becomes g view old new (f (seen g view old))
+  becomes_after f a b = record {
+    was_honest = a.was_honest;
+    is_open = b.is_open;
+    now_is = b.now_is ∙ ap f a.now_is;
+    last_is = b.last_is ∙ (λ i. cond (a.mode i) (a.last_is i) (f (a.now_is i)));
+    mode = b.mode ∙ a.mode;
+  }
+
+  -- what a crash leaves of a change after a look
+  pub leaves_after : (f : W → W) → (HasCleanDisk (state g new) → HasCleanDisk (state g middle)) → (IsHonest g old → HasCleanDisk (state g middle) → IsSame g view old middle) → KeepsCommitted g old middle
+      → Leaves g view old middle (λ w. ⊥) → Leaves g view middle new (λ w. (middle.in_transaction ≡ false) × (w ≡ f (seen g view middle)))
+      → Leaves g view old new (λ w. (old.in_transaction ≡ false) × (w ≡ f (seen g view old)))
+  leaves_after f back same kept look change honest clean db may =
+      let it = same honest (back clean) in
+      let between : IsHonest g middle = (back clean, it.is_open) in
+      elim (change between clean db may) [
+        | inl before ↦ elim (look honest (back clean) db before) [ inl first ↦ inl first | inr none ↦ absurd none ]
+        | inr left ↦ inr (sym it.mode ∙ left.0, sym (ap (λ (d : Database). view (record { schema = d.schema; trees = db })) (kept between)) ∙ left.1 ∙ ap f it.now_is)
+      ]
+
+-- within a transaction, nothing changes where nothing is done
+pub same_becomes : {S W : Type 0} (g : Ghosts S) (view : Database → W) (old : Held S) → IsHonest g old → old.in_transaction ≡ true → Becomes g view old old (seen g view old)
+same_becomes g view old honest within = record { was_honest = honest; is_open = honest.1; now_is = refl; last_is = sym (ap (λ c. cond c (committed g view old) (seen g view old)) within); mode = refl }
+
+-- what is the same after a look is also what would be committed
+pub same_is_change : {S : Type 0} (g : Ghosts S) (old new : Held S) → AreOurs Holds (state g new) → HasCleanDisk (state g new) → IsSame g lists_of old new → Becomes g lists_of old new (seen g lists_of old)
+same_is_change g old new ours clean it = record { was_honest = it.was_honest; is_open = it.is_open; now_is = it.now_is; last_is = go old.in_transaction refl; mode = it.mode }
+  where
+    go : (b : Bool) → old.in_transaction ≡ b → committed g lists_of new ≡ cond b (committed g lists_of old) (seen g lists_of old)
+    go true e = it.last_is
+    go false e = sym (ap lists_of ((ours clean it.is_open).settled (it.mode ∙ e))) ∙ it.now_is

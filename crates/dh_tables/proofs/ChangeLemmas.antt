@@ -6,6 +6,7 @@ use Rattle.std.specs.FinMap.{FinMap, empty, get, insert, retain_keys, get-insert
 use Rattle.std.proofs.lemmas.List.{map-append}
 use Rattle.std.proofs.lemmas.Map.Lookups.{exact_bytes}
 use Rattle.std.proofs.lemmas.Slice.Eq.{bytes_eq-Decides}
+use Rattle.sqlite_keyed.proofs.ListLemmas.{filter_none}
 use Rattle.dh_rows.specs.Keyed.{by_key, IsFreeKey, added, put}
 use Rattle.dh_versions.specs.declared.version.Version.{Version}
 use Rattle.dh_reply.specs.declared.answer.Page.{Page}
@@ -17,12 +18,13 @@ use Rattle.dh_tables.specs.declared.records.PageRow.{PageRow}
 use Rattle.dh_tables.specs.declared.records.UsedRow.{UsedRow}
 use Rattle.dh_tables.specs.Codings as coding
 use Rattle.dh_tables.specs.World.{Text, text_cmp, PageKey, page_cmp, used_cmp, op_code, Project}
-use Rattle.dh_tables.specs.Lists.{Lists, project_of, world_of, kept_answer, is_project, is_lang_of, is_page_under}
+use Rattle.dh_tables.specs.Lists.{Lists, project_of, world_of, kept_answer, is_project, is_lang_of, is_page_under, is_pick_of}
 use Rattle.dh_tables.specs.Rules.{InOrder, languages_of, KeepsRules, lies_under}
 use Rattle.dh_tables.proofs.KeyLemmas.{turned, same_version, page_place, same_page, used_place, used_total, used_exact, same_used}
-use Rattle.dh_tables.proofs.SeenLemmas.{get_project, tied_text, text_total, page_total, page_exact}
+use Rattle.dh_tables.proofs.SeenLemmas.{get_project, tied_text, text_total, page_total, page_exact, held_total, held_exact}
 use Rattle.dh_tables.proofs.WorldLemmas.{owned_by, languages_are}
-use Rattle.dh_tables.proofs.RuleLemmas.{places_below, langs_with, find_project, none_of_new}
+use Rattle.dh_tables.proofs.PassKeys.{held_place}
+use Rattle.dh_tables.proofs.RuleLemmas.{places_below, langs_with, find_project, none_of_new, grants_owned}
 use Rattle.dh_tables.proofs.RecordLemmas.{found_passes, none_but_added, added_elsewhere, kept_none, kept_of, put_here, put_there, put_free, dropped_here, dropped_there}
 
 -- ---- one project changes
@@ -62,14 +64,14 @@ part_changed lists next host p part set before after f same whole parts turns el
 
 -- ---- versions
 
-abbrev versions_of : List VersionRow → Text → FinMap text_cmp Version
+abbrev pub versions_of : List VersionRow → Text → FinMap text_cmp Version
 versions_of rows host = kept_of text_total exact_bytes (λ v. v.host) (λ v. v.version.slug) (λ v. v.version) host rows
 
-with_versions : (lists : Lists) (rows : List VersionRow) (r : ProjectRow) → project_of (record lists { versions = rows }) r ≡ record (project_of lists r) { versions = versions_of rows r.host }
+pub with_versions : (lists : Lists) (rows : List VersionRow) (r : ProjectRow) → project_of (record lists { versions = rows }) r ≡ record (project_of lists r) { versions = versions_of rows r.host }
 unfolding project_of
 with_versions lists rows r = refl
 
-versions_are : (lists : Lists) (r : ProjectRow) → (project_of lists r).versions ≡ versions_of lists.versions r.host
+pub versions_are : (lists : Lists) (r : ProjectRow) → (project_of lists r).versions ≡ versions_of lists.versions r.host
 unfolding project_of
 versions_are lists r = refl
 
@@ -200,9 +202,9 @@ module _ (lists : Lists) (row : ProjectRow) (lang : LangRow) (rules : KeepsRules
     wkey = row.wkey;
     versions = kept_none text_total exact_bytes (λ v. v.host) (λ v. v.version.slug) (λ v. v.version) row.host lists.versions (none_of_new (λ v. v.host) lists.versions lists row.host new rules.versions) i;
     pages = kept_none page_total page_exact (λ x. x.host) page_place (λ x. x.page) row.host lists.pages (none_of_new (λ x. x.host) lists.pages lists row.host new rules.pages) i;
-    defaults = [];
-    passes = empty;
-    held = empty;
+    defaults = ap (map (λ d. d.name)) (filter_none (is_pick_of row.host) lists.picks (none_of_new (λ d. d.host) lists.picks lists row.host new rules.picks)) i;
+    passes = kept_none text_total exact_bytes (λ x. x.host) (λ x. x.pass) (λ x. tt) row.host lists.passes (none_of_new (λ x. x.host) lists.passes lists row.host new rules.passes) i;
+    held = kept_none held_total held_exact (λ x. x.host) held_place (λ x. tt) row.host lists.held (none_of_new (λ x. x.host) lists.held lists row.host new (grants_owned lists rules)) i;
     used = kept_none used_total used_exact (λ u. u.host) used_place kept_answer row.host lists.used (none_of_new (λ u. u.host) lists.used lists row.host new rules.used) i;
   }
 

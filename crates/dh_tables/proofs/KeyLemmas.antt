@@ -18,13 +18,15 @@ use Rattle.dh_tables.specs.declared.records.LangRow.{LangRow}
 use Rattle.dh_tables.specs.declared.records.VersionRow.{VersionRow}
 use Rattle.dh_tables.specs.declared.records.PageRow.{PageRow}
 use Rattle.dh_tables.specs.declared.records.UsedRow.{UsedRow}
+use Rattle.dh_tables.specs.declared.records.PassRow.{PassRow}
 use Rattle.dh_tables.specs.declared.records.Operation.{Operation}
 use Rattle.dh_tables.specs.declared.records.Operation.TheVariants.{Push, Upload}
 use Rattle.dh_tables.specs.Codings as coding
 use Rattle.dh_tables.specs.Codings.{is_upload}
 use Rattle.dh_tables.specs.World.{text_cmp, pair_cmp, PageKey, page_cmp, UsedKey, used_cmp, op_code}
-use Rattle.dh_tables.specs.Lists.{is_project, is_used, same_op}
+use Rattle.dh_tables.specs.Lists.{is_project, is_used, is_pass, same_op}
 use Rattle.dh_tables.proofs.Keys.{version_key, page_key}
+use Rattle.dh_tables.proofs.PassKeys.{pass_key}
 use Rattle.dh_tables.proofs.SeenLemmas.{text_total, tied_text, tied_page}
 use Rattle.dh_tables.proofs.RecordLemmas.{none_found}
 
@@ -137,3 +139,9 @@ used_key x y =
 -- a retry key that was not used is a free key
 pub used_is_free : (x : UsedRow) (rows : List UsedRow) → find (is_used x.host x.slug x.op x.retry) rows ≡ None → IsFreeKey coding.used.key x rows
 used_is_free x rows e = all_weaker _ (λ y. same_key coding.used.key x y ≡ false) (λ y out. used_key x y ∙ out) rows (none_found (is_used x.host x.slug x.op x.retry) rows e)
+
+-- ---- passes
+
+-- a pass that is not there is a free key
+pub pass_is_free : (x : PassRow) (rows : List PassRow) → find (is_pass x.host x.pass) rows ≡ None → IsFreeKey coding.passes.key x rows
+pass_is_free x rows e = all_weaker _ (λ y. same_key coding.passes.key x y ≡ false) (λ y out. pass_key x y ∙ out) rows (none_found (is_pass x.host x.pass) rows e)

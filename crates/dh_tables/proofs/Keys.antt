@@ -18,12 +18,12 @@ use Rattle.dh_tables.proofs.Matching.{two, four}
 turned : (a b : List ℕ) → bytes_eq a b ≡ bytes_eq b a
 turned a b = one_answer _ _ (bytes_eq-Decides a b) ((λ e. sym ((bytes_eq-Decides b a).0 e)), (λ e. (bytes_eq-Decides b a).1 (sym e)))
 
-eq_then : (p q : Ordering) → is_eq (ordering_then p q) ≡ (is_eq p && is_eq q)
+pub eq_then : (p q : Ordering) → is_eq (ordering_then p q) ≡ (is_eq p && is_eq q)
 eq_then Less q = refl
 eq_then Equal q = refl
 eq_then Greater q = refl
 
-same_text : (a b : List ℕ) → is_eq (value_cmp (Text a) (Text b)) ≡ bytes_eq b a
+pub same_text : (a b : List ℕ) → is_eq (value_cmp (Text a) (Text b)) ≡ bytes_eq b a
 same_text a b = ap is_eq (value_cmp-Text a b) ∙ is_eq-slice_cmp a b ∙ turned a b
 
 pub version_key : (x y : VersionRow) → same_key versions.key x y ≡ is_version x.host x.version.slug y

@@ -1,6 +1,7 @@
 -- What a read finds.
-use Rattle.std.proofs.Common.{◌≡◌, Bool, List, [], ◌∷◌, map, Option, Result, Ok, Err, IfOk, slice_get, refl, sym, subst, ap, ◌∙◌}
+use Rattle.std.proofs.Common.{◌≡◌, ℕ, Bool, List, [], ◌∷◌, map, Option, Result, Ok, Err, IfOk, slice_get, length, refl, sym, subst, ap, ◌∙◌}
 use Rattle.std.specs.Prelude.{is_some}
+use Rattle.std.proofs.lemmas.List.{length-map}
 
 first_mapped : {X R : Type 0} (encode : X → R) (ys : List X) → is_some (slice_get (map encode ys) 0) ≡ is_some (slice_get ys 0)
 first_mapped encode [] = refl
@@ -15,3 +16,8 @@ any_value encode (Err x) ys v h reads e = tt
 pub kept_by : {V E X : Type 0} (P : List X → Type 0) (items : V → List X) (r : Result V E) (ys : List X) → IfOk r (λ v. items v ≡ ys) → P ys → IfOk r (λ v. P (items v))
 kept_by P items (Ok v) ys e p = subst P (sym e) p
 kept_by P items (Err x) ys e p = tt
+
+-- as many rows as records
+pub count_value : {X E : Type 0} {R : Type 0} {P : List R → Type 0} (encode : X → R) (r : Result ℕ E) (ys : List X) → IfOk r (λ n. (rows : List R) × P rows × (n ≡ length rows)) → ((rows : List R) → P rows → rows ≡ map encode ys) → IfOk r (λ n. n ≡ length ys)
+count_value encode (Ok n) ys h reads = h.2 ∙ ap length (reads h.0 h.1) ∙ length-map ys encode
+count_value encode (Err x) ys h reads = tt

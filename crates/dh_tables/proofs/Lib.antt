@@ -11,10 +11,17 @@ pub mod Known
 pub mod SeenLemmas
 pub mod RecordLemmas
 pub mod KeyLemmas
+pub mod PickLists
+pub mod PickLemmas
+pub mod GrantLemmas
+pub mod PassKeys
+pub mod PassLemmas
 pub mod OrderLemmas
 pub mod RuleLemmas
 pub mod WorldLemmas
 pub mod ChangeLemmas
+pub mod AccessChanges
 pub mod ViewLemmas
 pub mod SlugOrder
 pub mod Shown
+pub mod VeilLemmas

@@ -1,5 +1,5 @@
 -- The rules of the records are kept by each change.
-use Rattle.std.proofs.Common.{◌≡◌, ℕ, zero, suc, ◌<◌, ◌≤◌, ◌+◌, Bool, true, false, not, ◌&&◌, cond, List, [], ◌∷◌, ◌++◌, map, filter, find, length, slice_get, is_some, is_eq, Option, Some, None, IsTrue, refl, sym, ap, ap₂, ◌∙◌, subst, arith, true≢false, Greater, length-append, map-id}
+use Rattle.std.proofs.Common.{◌≡◌, ℕ, zero, suc, ◌<◌, ◌≤◌, ◌+◌, Bool, true, false, not, ◌&&◌, ◌||◌, cond, List, [], ◌∷◌, ◌++◌, map, filter, find, length, slice_get, is_some, is_eq, Option, Some, None, IsTrue, refl, sym, ap, ap₂, ◌∙◌, subst, arith, true≢false, Greater, length-append, map-id}
 use Rattle.std.specs.List.{AllByRecursion, IsDistinct, list_any, range_with_len}
 use Rattle.std.specs.Option.{option_map_or}
 use Rattle.std.specs.Str.{bytes_eq}
@@ -10,7 +10,7 @@ use Rattle.std.proofs.lemmas.List.Folds.{list_any-append}
 use Rattle.std.proofs.lemmas.List.FromFn.{map-range_with_len_more}
 use Rattle.std.proofs.lemmas.Map.Keys.{IsDistinct-push}
 use Rattle.std.proofs.lemmas.Slice.Eq.{bytes_eq-Decides}
-use Rattle.sqlite_keyed.proofs.ListLemmas.{all_weaker, all_both, all_of, all-filter, all_unmap, all_kept}
+use Rattle.sqlite_keyed.proofs.ListLemmas.{all_weaker, all_both, all_of, all-filter, all_unmap, all_kept, filter_none}
 use Rattle.dh_paths.specs.Slugs.{slug_from}
 use Rattle.dh_rows.specs.Keyed.{by_key, same_key, IsFreeKey, added, put}
 use Rattle.dh_rows.proofs.Lists.{by_key_total}
@@ -19,11 +19,14 @@ use Rattle.dh_tables.specs.declared.records.LangRow.{LangRow}
 use Rattle.dh_tables.specs.declared.records.VersionRow.{VersionRow}
 use Rattle.dh_tables.specs.declared.records.PageRow.{PageRow}
 use Rattle.dh_tables.specs.declared.records.UsedRow.{UsedRow}
+use Rattle.dh_tables.specs.declared.records.PassRow.{PassRow}
+use Rattle.dh_tables.specs.declared.records.HeldRow.{HeldRow}
 use Rattle.dh_tables.specs.Codings as coding
 use Rattle.dh_tables.specs.World.{Text}
-use Rattle.dh_tables.specs.Lists.{Lists, is_project, is_lang_of, is_version, is_page_of}
+use Rattle.dh_tables.specs.Seen.{is_alias}
+use Rattle.dh_tables.specs.Lists.{Lists, is_project, is_lang_of, is_version, is_page_of, is_pick_of, is_pass}
 use Rattle.dh_tables.specs.Making.{no_lists}
-use Rattle.dh_tables.specs.Rules.{InOrder, has_project, has_language, has_active, AreLanguages, KeepsRules}
+use Rattle.dh_tables.specs.Rules.{InOrder, has_project, has_language, has_active, has_version, has_pass, AreLanguages, AreDefaults, KeepsRules}
 use Rattle.dh_tables.proofs.Keys.{version_key}
 use Rattle.dh_tables.proofs.KeyLemmas.{turned, lang_above, lang_elsewhere}
 use Rattle.dh_tables.proofs.RecordLemmas.{none_found, found_passes, all_that, all_added, all_put, find_added, find_put, none_but_added, added_elsewhere, added_last}
@@ -31,7 +34,15 @@ use Rattle.dh_tables.proofs.RecordLemmas.{none_found, found_passes, all_that, al
 -- ---- no records
 
 pub rules_of_none : KeepsRules no_lists
-rules_of_none = record { langs = tt; versions = tt; pages = tt; used = tt; languages = tt; slugs = tt; active = tt; spoken = tt }
+rules_of_none = record { langs = tt; versions = tt; pages = tt; used = tt; picks = tt; passes = tt; languages = tt; slugs = tt; active = tt; spoken = tt; defaults = tt; chosen = tt; granted = tt }
+
+or_later : (a b c : Bool) → (IsTrue b → IsTrue c) → IsTrue (a || b) → IsTrue (a || c)
+or_later true b c h e = refl
+or_later false b c h e = h e
+
+and_later : (a b c : Bool) → (IsTrue b → IsTrue c) → IsTrue (a && b) → IsTrue (a && c)
+and_later true b c h e = h e
+and_later false b c h e = e
 
 -- ---- versions
 
@@ -75,14 +86,27 @@ rules_with_version lists row rules host named bare = record {
   versions = all_put coding.versions.key (λ v. IsTrue (has_project lists v.host)) row lists.versions host rules.versions;
   pages = rules.pages;
   used = rules.used;
+  picks = rules.picks;
+  passes = rules.passes;
   languages = rules.languages;
   slugs = all_put coding.versions.key (λ v. slug_from v.version.name ≡ Some v.version.slug) row lists.versions named rules.slugs;
   active = all_both _ _ (λ x. IsTrue (has_active next x.host x.slug)) still lists.pages rules.active (each row.version.active refl);
   spoken = rules.spoken;
+  defaults = rules.defaults;
+  chosen = all_weaker _ (λ d. IsTrue (is_alias d.name || has_version next d.host d.name)) (λ d. or_later _ _ _ (kept d.host d.name)) lists.picks rules.chosen;
+  granted = all_weaker _ (λ x. IsTrue (has_pass lists x.host x.pass && has_version next x.host x.slug)) (λ x. and_later _ _ _ (kept x.host x.slug)) lists.held rules.granted;
 }
   where
     next : Lists
     next = record lists { versions = put coding.versions.key row lists.versions }
+
+    -- a version that was there still is
+    kept : (host slug : Text) → IsTrue (has_version lists host slug) → IsTrue (has_version next host slug)
+    kept host slug was = ap is_some (find_version row lists.versions host slug) ∙ go (is_version host slug row)
+      where
+        go : (b : Bool) → is_some (cond b (Some row) (find (is_version host slug) lists.versions)) ≡ true
+        go true = refl
+        go false = was
 
     each : (b : Bool) → row.version.active ≡ b → AllByRecursion (λ x. row.version.active ≡ false → is_page_of row.host row.version.slug x ≡ false) lists.pages
     each true e = all_of _ (λ x off. absurd (true≢false (sym e ∙ off))) lists.pages
@@ -108,10 +132,15 @@ rules_with_page lists row rules host shown spoken = record {
   versions = rules.versions;
   pages = all_put coding.pages.key (λ x. IsTrue (has_project lists x.host)) row lists.pages host rules.pages;
   used = rules.used;
+  picks = rules.picks;
+  passes = rules.passes;
   languages = rules.languages;
   slugs = rules.slugs;
   active = all_put coding.pages.key (λ x. IsTrue (has_active lists x.host x.slug)) row lists.pages shown rules.active;
   spoken = all_put coding.pages.key (λ x. IsTrue (has_language lists x.host x.lang)) row lists.pages spoken rules.spoken;
+  defaults = rules.defaults;
+  chosen = rules.chosen;
+  granted = rules.granted;
 }
 
 -- some pages less
@@ -121,10 +150,15 @@ rules_without lists p rules = record {
   versions = rules.versions;
   pages = all-filter _ p lists.pages rules.pages;
   used = rules.used;
+  picks = rules.picks;
+  passes = rules.passes;
   languages = rules.languages;
   slugs = rules.slugs;
   active = all-filter _ p lists.pages rules.active;
   spoken = all-filter _ p lists.pages rules.spoken;
+  defaults = rules.defaults;
+  chosen = rules.chosen;
+  granted = rules.granted;
 }
 
 -- ---- used keys
@@ -135,10 +169,15 @@ rules_with_used lists row rules host = record {
   versions = rules.versions;
   pages = rules.pages;
   used = all_added (λ u. IsTrue (has_project lists u.host)) (by_key coding.used.key) row lists.used host rules.used;
+  picks = rules.picks;
+  passes = rules.passes;
   languages = rules.languages;
   slugs = rules.slugs;
   active = rules.active;
   spoken = rules.spoken;
+  defaults = rules.defaults;
+  chosen = rules.chosen;
+  granted = rules.granted;
 }
 
 -- ---- languages
@@ -150,6 +189,19 @@ all_found P t (y ∷ rows) x e all = go (t y) e (λ f. all_found P t rows x f al
     go : (b : Bool) → cond b (Some y) (find t rows) ≡ Some x → (find t rows ≡ Some x → P x) → P x
     go true f more = let same : y ≡ x = cc in subst P same all.0
     go false f more = more f
+
+-- a grant lies under a host that has a project
+pub grants_owned : (lists : Lists) → KeepsRules lists → AllByRecursion (λ x. IsTrue (has_project lists x.host)) lists.held
+grants_owned lists rules = all_weaker _ (λ x. IsTrue (has_project lists x.host)) owned lists.held rules.granted
+  where
+    owned : (x : HeldRow) → IsTrue (has_pass lists x.host x.pass && has_version lists x.host x.slug) → IsTrue (has_project lists x.host)
+    owned x h = go (find (is_pass x.host x.pass) lists.passes) refl (and_parts _ _ h).0
+      where
+        go : (o : Option PassRow) → find (is_pass x.host x.pass) lists.passes ≡ o → is_some o ≡ true → IsTrue (has_project lists x.host)
+        go None e t = absurd (true≢false (sym t))
+        go (Some r) e t =
+            let both = and_parts _ _ (found_passes (is_pass x.host x.pass) lists.passes r e) in
+            ap (has_project lists) (sym ((bytes_eq-Decides r.host x.host).0 both.0)) ∙ all_found (λ p. IsTrue (has_project lists p.host)) (is_pass x.host x.pass) lists.passes r e rules.passes
 
 -- the languages of a host that has a project
 languages_at : (lists : Lists) (host : Text) → KeepsRules lists → IsTrue (has_project lists host) → (main : Text) × AreLanguages main (filter (is_lang_of host) lists.langs)
@@ -215,10 +267,15 @@ rules_with_lang lists row rules up host next new = record {
   versions = rules.versions;
   pages = rules.pages;
   used = rules.used;
+  picks = rules.picks;
+  passes = rules.passes;
   languages = all_weaker _ (λ r. AreLanguages r.main (filter (is_lang_of r.host) after)) still lists.projects rules.languages;
   slugs = rules.slugs;
   active = rules.active;
   spoken = all_weaker _ (λ x. list_any (λ t. bytes_eq t x.lang) (map (λ l. l.lang) (filter (is_lang_of x.host) after)) ≡ true) spoken lists.pages rules.spoken;
+  defaults = rules.defaults;
+  chosen = rules.chosen;
+  granted = rules.granted;
 }
   where
     after : List LangRow
@@ -274,6 +331,10 @@ one_language : (main : Text) (row : LangRow) → row.lang ≡ main → row.place
 unfolding IsDistinct
 one_language main row lang place = record { places = ap (λ k. k ∷ []) place; apart = (tt, tt); first = ap Some lang }
 
+none_are_chosen : AreDefaults []
+unfolding IsDistinct
+none_are_chosen = record { ranks = refl; apart = tt }
+
 pub rules_with_project : (lists : Lists) (row : ProjectRow) (lang : LangRow) → KeepsRules lists → find (is_project row.host) lists.projects ≡ None → lang.host ≡ row.host → lang.lang ≡ row.main → lang.place ≡ 1
     → KeepsRules (record lists { projects = added coding.projects.key row lists.projects; langs = added coding.langs.key lang lists.langs })
 rules_with_project lists row lang rules new home main place = record {
@@ -281,11 +342,16 @@ rules_with_project lists row lang rules new home main place = record {
   versions = all_weaker _ (λ v. IsTrue (has_project next v.host)) (λ v. owned v.host) lists.versions rules.versions;
   pages = all_weaker _ (λ x. IsTrue (has_project next x.host)) (λ x. owned x.host) lists.pages rules.pages;
   used = all_weaker _ (λ u. IsTrue (has_project next u.host)) (λ u. owned u.host) lists.used rules.used;
+  picks = all_weaker _ (λ d. IsTrue (has_project next d.host)) (λ d. owned d.host) lists.picks rules.picks;
+  passes = all_weaker _ (λ x. IsTrue (has_project next x.host)) (λ x. owned x.host) lists.passes rules.passes;
   languages = all_added (λ r. AreLanguages r.main (filter (is_lang_of r.host) after)) (by_key coding.projects.key) row lists.projects first
       (all_both _ _ (λ r. AreLanguages r.main (filter (is_lang_of r.host) after)) other lists.projects rules.languages (none_found (is_project row.host) lists.projects new));
   slugs = rules.slugs;
   active = rules.active;
   spoken = all_both _ _ (λ x. IsTrue (has_language next x.host x.lang)) spoken lists.pages rules.pages rules.spoken;
+  defaults = all_added (λ r. AreDefaults (filter (is_pick_of r.host) lists.picks)) (by_key coding.projects.key) row lists.projects none_chosen rules.defaults;
+  chosen = rules.chosen;
+  granted = rules.granted;
 }
   where
     after : List LangRow
@@ -303,6 +369,9 @@ rules_with_project lists row lang rules new home main place = record {
 
     owner : IsTrue (has_project next lang.host)
     owner = ap is_some (find_project row lists.projects lang.host new ∙ ap (λ b. cond b (Some row) (find (is_project lang.host) lists.projects)) ((bytes_eq-Decides row.host lang.host).1 (sym home)))
+
+    none_chosen : AreDefaults (filter (is_pick_of row.host) lists.picks)
+    none_chosen = subst AreDefaults (sym (filter_none (is_pick_of row.host) lists.picks (none_of_new (λ d. d.host) lists.picks lists row.host new rules.picks))) none_are_chosen
 
     elsewhere : (host : Text) → bytes_eq host row.host ≡ false → filter (is_lang_of host) after ≡ filter (is_lang_of host) lists.langs
     elsewhere host apart = added_elsewhere (by_key coding.langs.key) (is_lang_of host) lang lists.langs (ap (λ h. bytes_eq h host) home ∙ turned row.host host ∙ apart)

@@ -1,6 +1,6 @@
 -- What is seen of a project, by look-ups in the lists.
-use Rattle.std.proofs.Common.{◌≡◌, ℕ, Bool, true, false, ◌&&◌, cond, List, [], ◌∷◌, map, filter, Option, Some, None, refl, sym, ap, ◌∙◌, Ordering, Less, Equal, Greater}
-use Rattle.std.specs.Prelude.{option_map}
+use Rattle.std.proofs.Common.{◌≡◌, ℕ, Bool, true, false, ◌&&◌, cond, List, [], ◌∷◌, map, filter, Option, Some, None, refl, sym, ap, ap₂, ◌∙◌, Ordering, Less, Equal, Greater}
+use Rattle.std.specs.Prelude.{option_map, is_some}
 use Rattle.std.specs.List.{find}
 use Rattle.std.specs.Str.{bytes_eq}
 use Rattle.std.specs.Bool.{one_answer}
@@ -16,9 +16,9 @@ use Rattle.dh_reply.specs.declared.answer.Page.{Page}
 use Rattle.dh_reply.specs.declared.seen_project.StoredPage.{StoredPage}
 use Rattle.dh_reply.specs.SeenProject.{stands_at, page_at}
 use Rattle.dh_tables.specs.declared.records.ProjectRow.{ProjectRow}
-use Rattle.dh_tables.specs.World.{Text, text_cmp, pair_cmp, PageKey, page_cmp, Project, is_visible}
+use Rattle.dh_tables.specs.World.{Text, text_cmp, pair_cmp, PageKey, page_cmp, HeldKey, held_cmp, Project, holds, is_visible}
 use Rattle.dh_tables.specs.Seen.{seen_project, without_default, visible_pages, stored_page}
-use Rattle.dh_tables.specs.Lists.{Lists, of_host, project_of, world_of, is_project, is_version, is_page}
+use Rattle.dh_tables.specs.Lists.{Lists, of_host, project_of, world_of, is_project, is_version, is_page, is_pass, is_held}
 
 -- ---- equal texts
 
@@ -35,7 +35,7 @@ text_total = nat_list_cmp_total
 pub page_total : IsTotalOrder page_cmp
 page_total = then_total (on_total (λ (k : PageKey). k.0) text_total) (then_total (on_total (λ (k : PageKey). k.1.0) text_total) (on_total (λ (k : PageKey). k.1.1) text_total))
 
-tied_pair : {A B : Type 0} (first : A → A → Ordering) (second : B → B → Ordering) (x y : A × B) → eq_by_cmp (pair_cmp first second) x y ≡ (eq_by_cmp first x.0 y.0 && eq_by_cmp second x.1 y.1)
+pub tied_pair : {A B : Type 0} (first : A → A → Ordering) (second : B → B → Ordering) (x y : A × B) → eq_by_cmp (pair_cmp first second) x y ≡ (eq_by_cmp first x.0 y.0 && eq_by_cmp second x.1 y.1)
 tied_pair first second x y = go (first x.0 y.0)
   where
     go : (o : Ordering) → is_eq (ordering_then o (second x.1 y.1)) ≡ (is_eq o && eq_by_cmp second x.1 y.1)
@@ -47,6 +47,15 @@ pub tied_page : (slug lang path : Text) (k : PageKey) → eq_by_cmp page_cmp (sl
 tied_page slug lang path k =
     tied_pair text_cmp (pair_cmp text_cmp text_cmp) (slug, (lang, path)) k
     ∙ rw (tied_pair text_cmp text_cmp (lang, path) k.1, tied_text slug k.0, tied_text lang k.1.0, tied_text path k.1.1) refl
+
+pub held_total : IsTotalOrder held_cmp
+held_total = then_total (on_total (λ (k : HeldKey). k.0) text_total) (on_total (λ (k : HeldKey). k.1) text_total)
+
+pub held_exact : IsAntisymmetric held_cmp
+held_exact = exact_pairs text_cmp text_cmp exact_bytes exact_bytes
+
+pub tied_held : (pass slug : Text) (k : HeldKey) → eq_by_cmp held_cmp (pass, slug) k ≡ (bytes_eq k.0 pass && bytes_eq k.1 slug)
+tied_held pass slug k = tied_pair text_cmp text_cmp (pass, slug) k ∙ rw (tied_text pass k.0, tied_text slug k.1) refl
 
 -- ---- look-ups in maps that are made of lists
 
@@ -99,6 +108,33 @@ get_page lists row slug lang path =
         inner true c d = refl
         inner false c d = refl
     grouped false b c d = refl
+
+pub get_pass : (lists : Lists) (row : ProjectRow) (pass : Text) → get (project_of lists row).passes pass ≡ option_map (λ x. tt) (find (is_pass row.host pass) lists.passes)
+unfolding project_of
+get_pass lists row pass =
+    get-from_entries text_total _ pass ∙ found_in text_cmp (λ x. x.pass) (λ x. tt) pass (λ x. bytes_eq x.pass pass) (λ x. tied_text pass x.pass) (of_host (λ x. x.host) row.host lists.passes)
+    ∙ ap (option_map (λ x. tt)) (find_in_filter (λ x. bytes_eq x.host row.host) (λ x. bytes_eq x.pass pass) lists.passes)
+
+pub get_held : (lists : Lists) (row : ProjectRow) (pass slug : Text) → get (project_of lists row).held (pass, slug) ≡ option_map (λ x. tt) (find (is_held row.host pass slug) lists.held)
+unfolding project_of
+get_held lists row pass slug =
+    get-from_entries held_total _ (pass, slug)
+    ∙ found_in held_cmp (λ x. (x.pass, x.slug)) (λ x. tt) (pass, slug) (λ x. bytes_eq x.pass pass && bytes_eq x.slug slug) (λ x. tied_held pass slug (x.pass, x.slug)) (of_host (λ x. x.host) row.host lists.held)
+    ∙ ap (option_map (λ x. tt)) (find_in_filter (λ x. bytes_eq x.host row.host) (λ x. bytes_eq x.pass pass && bytes_eq x.slug slug) lists.held
+    ∙ find_same _ _ (λ x. grouped (bytes_eq x.host row.host) (bytes_eq x.pass pass) (bytes_eq x.slug slug)) lists.held)
+  where
+    grouped : (a b c : Bool) → (a && (b && c)) ≡ (a && b && c)
+    grouped true b c = refl
+    grouped false b c = refl
+
+mapped_some : {A X : Type 0} (f : A → X) (o : Option A) → is_some (option_map f o) ≡ is_some o
+mapped_some f None = refl
+mapped_some f (Some x) = refl
+
+-- a pass opens what the records of grants say, if it is one of the project's
+pub holds_is : (lists : Lists) (row : ProjectRow) (pass slug : Text) → holds (project_of lists row) (Some pass) slug ≡ (is_some (find (is_pass row.host pass) lists.passes) && is_some (find (is_held row.host pass slug) lists.held))
+holds_is lists row pass slug =
+    rw (get_pass lists row pass, get_held lists row pass slug) (ap₂ ◌&&◌ (mapped_some (λ x. tt) (find (is_pass row.host pass) lists.passes)) (mapped_some (λ x. tt) (find (is_held row.host pass slug) lists.held)))
 
 -- ---- what is seen
 

@@ -1,5 +1,5 @@
 -- What a view shows, by what was found in the lists.
-use Rattle.std.proofs.Common.{◌≡◌, ℕ, Bool, true, false, not, ◌&&◌, cond, List, [], ◌∷◌, map, filter, Option, Some, None, IsTrue, refl, sym, ap, subst, ◌∙◌, slice_get, Ordering, Equal}
+use Rattle.std.proofs.Common.{◌≡◌, ℕ, ◌<◌, ◌≤◌, ◌+◌, Bool, true, false, not, ◌&&◌, ◌||◌, cond, List, [], ◌∷◌, map, filter, Option, Some, None, IsTrue, refl, sym, ap, subst, ◌∙◌, slice_get, slice_index_or, drop, length, true≢false, Ordering, Equal}
 use Rattle.std.specs.Prelude.{option_map, option_and_then, is_some, codes}
 use Rattle.std.specs.Option.{option_map_or, option_or}
 use Rattle.std.specs.List.{find, AllByRecursion}
@@ -7,6 +7,7 @@ use Rattle.std.specs.Str.{bytes_eq}
 use Rattle.std.specs.Ordering.{eq_by_cmp}
 use Rattle.std.specs.FinMap.{FinMap, get, entries, entries_sorted, keys, values, get-entries, get-retain_keys}
 use Rattle.std.specs.FinMap as finite
+use Rattle.std.proofs.lemmas.List.{at_drop_more, at_drop_all}
 use Rattle.std.proofs.lemmas.Map.Lookups.{exact_bytes}
 use Rattle.std.proofs.lemmas.Slice.Eq.{bytes_eq-Decides}
 use Rattle.dh_versions.specs.declared.version.Version.{Version}
@@ -18,31 +19,35 @@ use Rattle.dh_reply.specs.SeenProject.{resolved, alias_of, page_at}
 use Rattle.dh_tables.specs.declared.records.ProjectRow.{ProjectRow}
 use Rattle.dh_tables.specs.declared.records.VersionRow.{VersionRow}
 use Rattle.dh_tables.specs.declared.records.PageRow.{PageRow}
-use Rattle.dh_tables.specs.World.{Text, text_cmp, Project, is_visible}
-use Rattle.dh_tables.specs.Lists.{Lists, project_of, world_of, is_project, is_version, is_version_of, is_page, is_lang_of}
+use Rattle.dh_tables.specs.declared.records.PickRow.{PickRow}
+use Rattle.dh_tables.specs.declared.records.HeldRow.{HeldRow}
+use Rattle.dh_tables.specs.World.{Text, text_cmp, Project, holds, is_visible}
+use Rattle.dh_tables.specs.Lists.{Lists, project_of, world_of, is_project, is_version, is_version_of, is_page, is_lang_of, is_pick_of}
 use Rattle.dh_tables.specs.Seen.{seen, seen_project, without_default, default_of, visible_versions, visible_pages}
-use Rattle.dh_tables.specs.View.{RiseBySlug, is_public}
+use Rattle.dh_tables.specs.View.{RiseBySlug, may_see, opens}
 use Rattle.dh_tables.proofs.SeenLemmas.{tied_text, get_project, get_version, get_page, seen_page}
-use Rattle.dh_tables.proofs.SlugOrder.{by_slug, visible_by, visible_entries, each_found, each}
+use Rattle.dh_tables.proofs.SlugOrder.{by_slug, visible_entries, each_found, each, same_filter}
 
 -- ---- the version with a slug
 
--- the version, if it is public
-abbrev pub if_public : Option VersionRow → Option Version
-if_public None = None
-if_public (Some r) = cond (is_public r.version) (Some r.version) None
+-- the version, if the caller may see it
+abbrev pub if_seen : Bool → Option VersionRow → Option Version
+if_seen held None = None
+if_seen held (Some r) = cond (may_see r.version held) (Some r.version) None
 
 alike : (p : Text → Bool) (q x : Text) → text_cmp q x ≡ Equal → p x ≡ p q
 alike p q x e = ap p (sym (exact_bytes q x e))
 
-pub visible_is : (lists : Lists) (row : ProjectRow) (pass : Option Text) (slug : Text) → get (visible_versions (project_of lists row) pass) slug ≡ if_public (find (is_version row.host slug) lists.versions)
+pub visible_is : (lists : Lists) (row : ProjectRow) (pass : Option Text) (slug : Text)
+    → get (visible_versions (project_of lists row) pass) slug ≡ if_seen (holds (project_of lists row) pass slug) (find (is_version row.host slug) lists.versions)
 visible_is lists row pass slug =
+    let held = holds (project_of lists row) pass slug in
     get-retain_keys (project_of lists row).versions (is_visible (project_of lists row) pass) slug (alike _ slug)
-    ∙ rw (visible_by lists row pass slug, get_version lists row slug) (go (find (is_version row.host slug) lists.versions))
+    ∙ ap (λ o. cond (option_map_or (λ v. may_see v held) o false) o None) (get_version lists row slug) ∙ go held (find (is_version row.host slug) lists.versions)
   where
-    go : (o : Option VersionRow) → cond (option_map_or is_public (option_map (λ r. r.version) o) false) (option_map (λ r. r.version) o) None ≡ if_public o
-    go None = refl
-    go (Some r) = refl
+    go : (held : Bool) (o : Option VersionRow) → cond (option_map_or (λ v. may_see v held) (option_map (λ r. r.version) o) false) (option_map (λ r. r.version) o) None ≡ if_seen held o
+    go held None = refl
+    go held (Some r) = refl
 
 found_passes : {A : Type 0} (p : A → Bool) (xs : List A) (x : A) → find p xs ≡ Some x → p x ≡ true
 found_passes p [] x e = absurd (not_some x e)
@@ -60,21 +65,21 @@ last_true true b e = e
 last_true false b e = cc
 
 -- a version that is found by its slug has it
-slug_of : (host slug : Text) (rows : List VersionRow) (v : Version) → if_public (find (is_version host slug) rows) ≡ Some v → v.slug ≡ slug
-slug_of host slug rows v e = go (find (is_version host slug) rows) refl e
-  where
-    own : (r : VersionRow) → find (is_version host slug) rows ≡ Some r → r.version.slug ≡ slug
-    own r is = (bytes_eq-Decides r.version.slug slug).0 (last_true (bytes_eq r.host host) (bytes_eq r.version.slug slug) (found_passes (is_version host slug) rows r is))
+own_slug_of : (host slug : Text) (rows : List VersionRow) (r : VersionRow) → find (is_version host slug) rows ≡ Some r → r.version.slug ≡ slug
+own_slug_of host slug rows r is = (bytes_eq-Decides r.version.slug slug).0 (last_true (bytes_eq r.host host) (bytes_eq r.version.slug slug) (found_passes (is_version host slug) rows r is))
 
-    go : (o : Option VersionRow) → find (is_version host slug) rows ≡ o → if_public o ≡ Some v → v.slug ≡ slug
+slug_of : (held : Bool) (host slug : Text) (rows : List VersionRow) (v : Version) → if_seen held (find (is_version host slug) rows) ≡ Some v → v.slug ≡ slug
+slug_of held host slug rows v e = go (find (is_version host slug) rows) refl e
+  where
+    go : (o : Option VersionRow) → find (is_version host slug) rows ≡ o → if_seen held o ≡ Some v → v.slug ≡ slug
     go None is e = absurd (no e)
       where
         no : None ≡ Some v → ⊥
         no e = cc
-    go (Some r) is e = more (is_public r.version) e
+    go (Some r) is e = more (may_see r.version held) e
       where
         more : (b : Bool) → cond b (Some r.version) None ≡ Some v → v.slug ≡ slug
-        more true e = let same : r.version ≡ v = cc in ap (λ (x : Version). x.slug) (sym same) ∙ own r is
+        more true e = let same : r.version ≡ v = cc in ap (λ (x : Version). x.slug) (sym same) ∙ own_slug_of host slug rows r is
         more false e = absurd (no e)
           where
             no : None ≡ Some v → ⊥
@@ -95,7 +100,7 @@ found_version name (e ∷ es) own =
 own_keys : (lists : Lists) (row : ProjectRow) (pass : Option Text) → AllByRecursion IsOwnKey (entries (visible_versions (project_of lists row) pass))
 own_keys lists row pass =
     let m = visible_versions (project_of lists row) pass in
-    each (λ e found. slug_of row.host e.0 lists.versions e.1 (sym (visible_is lists row pass e.0) ∙ get-entries m e.0 ∙ found)) (entries m) (each_found (entries m) (entries_sorted m))
+    each (λ e found. slug_of (holds (project_of lists row) pass e.0) row.host e.0 lists.versions e.1 (sym (visible_is lists row pass e.0) ∙ get-entries m e.0 ∙ found)) (entries m) (each_found (entries m) (entries_sorted m))
 
 abbrev pub own_name : Version → Named
 own_name v = record { slug = v.slug; alias = false }
@@ -116,10 +121,30 @@ pub alias_is : (p : Project) (pass : Option Text) (name : Text) → alias_of (se
 unfolding seen_project without_default
 alias_is p pass name = refl
 
-pub default_is : (p : Project) (pass : Option Text) → p.defaults ≡ [] → (seen_project p pass).default ≡
-    cond (is_some (resolved (seen_project p pass) (codes "latest"))) (Some (codes "latest")) (cond (is_some (resolved (seen_project p pass) (codes "stable"))) (Some (codes "stable")) None)
+pub default_is : (p : Project) (pass : Option Text) → (seen_project p pass).default ≡ default_of (λ name. is_some (resolved (seen_project p pass) name)) p.defaults
 unfolding seen_project without_default resolved
-default_is p pass none = ap (default_of (λ name. is_some (resolved (without_default p.languages p.branch (visible_versions p pass) (visible_pages p pass)) name))) none
+default_is p pass = refl
+
+-- the first name that resolves is the default, and without one it is an alias
+default_first : (resolves : Text → Bool) (names : List Text) → default_of resolves names ≡ option_or (find resolves names) (default_of resolves [])
+default_first resolves [] = refl
+default_first resolves (n ∷ names) = go (resolves n) (default_first resolves names)
+  where
+    go : (b : Bool) → default_of resolves names ≡ option_or (find resolves names) (default_of resolves []) → cond b (Some n) (default_of resolves names) ≡ option_or (cond b (Some n) (find resolves names)) (default_of resolves [])
+    go true more = refl
+    go false more = more
+
+pub settles : {A : Type 0} (o rest : Option A) → is_some o ≡ true → option_or o rest ≡ o
+settles None rest e = absurd (true≢false (sym e))
+settles (Some x) rest e = refl
+
+pub passes_on : {A : Type 0} (o rest : Option A) → is_some o ≡ false → option_or o rest ≡ rest
+passes_on None rest e = refl
+passes_on (Some x) rest e = absurd (true≢false e)
+
+-- with no default left to ask for, none was found
+pub none_left : (resolves : Text → Bool) (picks : List PickRow) (i : ℕ) → length picks ≤ i → find resolves (map (λ d. d.name) (drop i picks)) ≡ find resolves (map (λ d. d.name) picks) → None ≡ find resolves (map (λ d. d.name) picks)
+none_left resolves picks i past e = sym (at_drop_all (λ l. find resolves (map (λ d. d.name) l)) picks i past) ∙ e
 
 -- ---- lists
 
@@ -133,9 +158,9 @@ versions_of (r ∷ rows) = ap (λ l. r.version ∷ l) (versions_of rows)
 
 -- ---- what the functions answer
 
-pub no_defaults : (lists : Lists) (row : ProjectRow) → (project_of lists row).defaults ≡ []
+names_are : (lists : Lists) (row : ProjectRow) → (project_of lists row).defaults ≡ map (λ d. d.name) (filter (is_pick_of row.host) lists.picks)
 unfolding project_of
-no_defaults lists row = refl
+names_are lists row = refl
 
 module _ (lists : Lists) (row : ProjectRow) (pass : Option Text) where
   abbrev visible : FinMap text_cmp Version
@@ -144,22 +169,41 @@ module _ (lists : Lists) (row : ProjectRow) (pass : Option Text) where
   abbrev whole : SeenProject
   whole = seen_project (project_of lists row) pass
 
-  pub when_public : (name : Text) (o : Option VersionRow) (r : VersionRow) → o ≡ find (is_version row.host name) lists.versions → o ≡ Some r → is_public r.version ≡ true → Some r.version ≡ get visible name
-  when_public name o r e is t = sym (ap (λ b. cond b (Some r.version) None) t) ∙ ap if_public (sym is ∙ e) ∙ sym (visible_is lists row pass name)
+  abbrev held : Text → Bool
+  held = holds (project_of lists row) pass
 
-  pub when_private : (name : Text) (o : Option VersionRow) (r : VersionRow) → o ≡ find (is_version row.host name) lists.versions → o ≡ Some r → is_public r.version ≡ false → None ≡ get visible name
-  when_private name o r e is t = sym (ap (λ b. cond b (Some r.version) None) t) ∙ ap if_public (sym is ∙ e) ∙ sym (visible_is lists row pass name)
+  found_as : (name : Text) (o : Option VersionRow) (r : VersionRow) → o ≡ find (is_version row.host name) lists.versions → o ≡ Some r → cond (may_see r.version (held r.version.slug)) (Some r.version) None ≡ get visible name
+  found_as name o r e is =
+      ap (λ slug. cond (may_see r.version (held slug)) (Some r.version) None) (own_slug_of row.host name lists.versions r (sym e ∙ is))
+      ∙ ap (if_seen (held name)) (sym is ∙ e) ∙ sym (visible_is lists row pass name)
+
+  pub when_seen : (name : Text) (o : Option VersionRow) (r : VersionRow) → o ≡ find (is_version row.host name) lists.versions → o ≡ Some r → may_see r.version (held r.version.slug) ≡ true → Some r.version ≡ get visible name
+  when_seen name o r e is t = sym (ap (λ b. cond b (Some r.version) None) t) ∙ found_as name o r e is
+
+  pub when_unseen : (name : Text) (o : Option VersionRow) (r : VersionRow) → o ≡ find (is_version row.host name) lists.versions → o ≡ Some r → may_see r.version (held r.version.slug) ≡ false → None ≡ get visible name
+  when_unseen name o r e is t = sym (ap (λ b. cond b (Some r.version) None) t) ∙ found_as name o r e is
 
   pub when_absent : (name : Text) (o : Option VersionRow) → o ≡ find (is_version row.host name) lists.versions → o ≡ None → None ≡ get visible name
-  when_absent name o e is = ap if_public (sym is ∙ e) ∙ sym (visible_is lists row pass name)
+  when_absent name o e is = ap (if_seen (held name)) (sym is ∙ e) ∙ sym (visible_is lists row pass name)
 
-  pub values_are : (rows kept : List VersionRow) → rows ≡ filter (is_version_of row.host) lists.versions → RiseBySlug rows → kept ≡ filter (λ r. is_public r.version) rows → map (λ r. r.version) kept ≡ values visible
-  values_are rows kept e up k =
-      ap (map (λ r. r.version)) (k ∙ ap (filter (λ r. is_public r.version)) e) ∙ sym (versions_of _) ∙ ap (map (λ e. e.1)) (sym (visible_entries lists row pass (subst RiseBySlug e up)))
+  abbrev is_shown : VersionRow → Bool
+  is_shown r = may_see r.version (held r.version.slug)
 
-  pub keys_are : (rows kept : List VersionRow) → rows ≡ filter (is_version_of row.host) lists.versions → RiseBySlug rows → kept ≡ filter (λ r. is_public r.version) rows → map (λ v. v.slug) (map (λ r. r.version) kept) ≡ keys visible
-  keys_are rows kept e up k =
-      ap (λ l. map (λ v. v.slug) (map (λ r. r.version) l)) (k ∙ ap (filter (λ r. is_public r.version)) e) ∙ sym (slugs_of _) ∙ ap (map (λ e. e.0)) (sym (visible_entries lists row pass (subst RiseBySlug e up)))
+  -- what decides over the versions as the pass does leaves those that are shown
+  pub kept_are : (at : Lists) (grants opened : List HeldRow) (rows asked kept : List VersionRow) → at ≡ lists → rows ≡ filter (is_version_of row.host) lists.versions → asked ≡ rows → opened ≡ grants
+      → kept ≡ filter (λ r. may_see r.version (opens opened r.version.slug)) rows
+      → AllByRecursion (λ r. may_see r.version (opens grants r.version.slug) ≡ may_see r.version (holds (project_of at row) pass r.version.slug)) asked
+      → kept ≡ filter is_shown (filter (is_version_of row.host) lists.versions)
+  kept_are at grants opened rows asked kept same e a o k all =
+      let told = subst (λ l. AllByRecursion (λ r. may_see r.version (opens grants r.version.slug) ≡ may_see r.version (holds (project_of l row) pass r.version.slug)) asked) same all in
+      k ∙ ap (λ gs. filter (λ r. may_see r.version (opens gs r.version.slug)) rows) o
+      ∙ same_filter (λ r. may_see r.version (opens grants r.version.slug)) is_shown rows (subst (AllByRecursion (λ r. may_see r.version (opens grants r.version.slug) ≡ is_shown r)) a told) ∙ ap (filter is_shown) e
+
+  pub values_are : (kept : List VersionRow) → RiseBySlug (filter (is_version_of row.host) lists.versions) → kept ≡ filter is_shown (filter (is_version_of row.host) lists.versions) → map (λ r. r.version) kept ≡ values visible
+  values_are kept up k = ap (map (λ r. r.version)) k ∙ sym (versions_of _) ∙ ap (map (λ e. e.1)) (sym (visible_entries lists row pass up))
+
+  pub keys_are : (kept : List VersionRow) → RiseBySlug (filter (is_version_of row.host) lists.versions) → kept ≡ filter is_shown (filter (is_version_of row.host) lists.versions) → map (λ v. v.slug) (map (λ r. r.version) kept) ≡ keys visible
+  keys_are kept up k = ap (λ l. map (λ v. v.slug) (map (λ r. r.version) l)) k ∙ sym (slugs_of _) ∙ ap (map (λ e. e.0)) (sym (visible_entries lists row pass up))
 
   pub latest_is : (vs : List Version) → vs ≡ values visible → map (λ v. v.slug) vs ≡ keys visible
       → option_map alias_name (option_and_then (slice_get (map (λ v. v.slug) vs)) (latest_of vs row.branch)) ≡ option_map alias_name whole.latest
@@ -177,8 +221,13 @@ module _ (lists : Lists) (row : ProjectRow) (pass : Option Text) where
   pub no_slug : (name : Text) (o : Option Version) → o ≡ get visible name → o ≡ None → alias_of whole name ≡ resolved whole name
   no_slug name o e is = sym (resolved_is lists row pass name ∙ ap (λ o. option_or (option_map own_name o) (alias_of whole name)) (sym e ∙ is))
 
-  pub default_first : (o : Option Text) (t : Text) → o ≡ option_map (λ n. codes "latest") (resolved whole (codes "latest")) → o ≡ Some t → Some t ≡ whole.default
-  default_first o t e is = go (resolved whole (codes "latest")) (sym is ∙ e) ∙ sym (default_is (project_of lists row) pass (no_defaults lists row))
+  -- the name stands for a version that the caller sees
+  abbrev pub resolves : Text → Bool
+  resolves name = is_some (resolved whole name)
+
+  -- `latest`, where it stands for a version
+  pub alias_first : (o : Option Text) (t : Text) → o ≡ option_map (λ n. codes "latest") (resolved whole (codes "latest")) → o ≡ Some t → Some t ≡ default_of resolves []
+  alias_first o t e is = go (resolved whole (codes "latest")) (sym is ∙ e)
     where
       go : (r : Option Named) → Some t ≡ option_map (λ n. codes "latest") r → Some t ≡ cond (is_some r) (Some (codes "latest")) (cond (is_some (resolved whole (codes "stable"))) (Some (codes "stable")) None)
       go None e = absurd (no e)
@@ -187,8 +236,9 @@ module _ (lists : Lists) (row : ProjectRow) (pass : Option Text) where
           no e = cc
       go (Some n) e = e
 
-  pub default_second : (o : Option Text) → o ≡ option_map (λ n. codes "latest") (resolved whole (codes "latest")) → o ≡ None → option_map (λ n. codes "stable") (resolved whole (codes "stable")) ≡ whole.default
-  default_second o e is = go (resolved whole (codes "latest")) (sym is ∙ e) ∙ sym (default_is (project_of lists row) pass (no_defaults lists row))
+  -- and else `stable`
+  pub alias_second : (o : Option Text) → o ≡ option_map (λ n. codes "latest") (resolved whole (codes "latest")) → o ≡ None → option_map (λ n. codes "stable") (resolved whole (codes "stable")) ≡ default_of resolves []
+  alias_second o e is = go (resolved whole (codes "latest")) (sym is ∙ e)
     where
       last : (r : Option Named) → option_map (λ n. codes "stable") r ≡ cond (is_some r) (Some (codes "stable")) None
       last None = refl
@@ -201,12 +251,40 @@ module _ (lists : Lists) (row : ProjectRow) (pass : Option Text) where
           no : None ≡ Some (codes "latest") → ⊥
           no e = cc
 
-  seen_when : (slug : Text) → is_visible (project_of lists row) pass slug ≡ is_some (get visible slug)
-  seen_when slug = visible_by lists row pass slug ∙ rw (get_version lists row slug, visible_is lists row pass slug) (go (find (is_version row.host slug) lists.versions))
+  -- one default on, in tables that show the same
+  pub found_next : (at : Lists) (picks : List PickRow) (i : ℕ) (x : PickRow) (text : Text) (found : Option Text) → at ≡ lists → i < length picks → x ≡ slice_index_or picks i x → text ≡ x.name
+      → found ≡ option_map (λ n. text) (resolved (seen_project (project_of at row) pass) text)
+      → find resolves (map (λ d. d.name) (drop i picks)) ≡ option_or found (find resolves (map (λ d. d.name) (drop (i + 1) picks)))
+  found_next at picks i x text found same low is e f =
+      at_drop_more (λ l. find resolves (map (λ d. d.name) l)) picks i x low
+      ∙ ap (λ y. cond (resolves y.name) (Some y.name) (find resolves (map (λ d. d.name) (drop (i + 1) picks)))) (sym is)
+      ∙ go (resolved whole x.name) (find resolves (map (λ d. d.name) (drop (i + 1) picks)))
+      ∙ ap (λ o. option_or o (find resolves (map (λ d. d.name) (drop (i + 1) picks))))
+      (sym (f ∙ ap (λ l. option_map (λ n. text) (resolved (seen_project (project_of l row) pass) text)) same ∙ ap (λ t. option_map (λ n. t) (resolved whole t)) e))
     where
-      go : (o : Option VersionRow) → option_map_or is_public (option_map (λ r. r.version) o) false ≡ is_some (if_public o)
-      go None = refl
-      go (Some r) = more (is_public r.version)
+      go : (o : Option Named) (rest : Option Text) → cond (is_some o) (Some x.name) rest ≡ option_or (option_map (λ n. x.name) o) rest
+      go None rest = refl
+      go (Some n) rest = refl
+
+  default_by : (picks : List PickRow) → picks ≡ filter (is_pick_of row.host) lists.picks → option_or (find resolves (map (λ d. d.name) picks)) (default_of resolves []) ≡ whole.default
+  default_by picks e =
+      ap (λ l. option_or (find resolves (map (λ d. d.name) l)) (default_of resolves [])) e
+      ∙ sym (default_is (project_of lists row) pass ∙ ap (default_of resolves) (names_are lists row) ∙ default_first resolves (map (λ d. d.name) (filter (is_pick_of row.host) lists.picks)))
+
+  pub default_chosen : (picks : List PickRow) (o : Option Text) (t : Text) → picks ≡ filter (is_pick_of row.host) lists.picks → o ≡ find resolves (map (λ d. d.name) picks) → o ≡ Some t → Some t ≡ whole.default
+  default_chosen picks o t e f is = ap (λ o. option_or o (default_of resolves [])) (sym is ∙ f) ∙ default_by picks e
+
+  pub default_alias : (picks : List PickRow) (o : Option Text) → picks ≡ filter (is_pick_of row.host) lists.picks → o ≡ find resolves (map (λ d. d.name) picks) → o ≡ None → default_of resolves [] ≡ whole.default
+  default_alias picks o e f is = ap (λ o. option_or o (default_of resolves [])) (sym is ∙ f) ∙ default_by picks e
+
+  seen_when : (slug : Text) → is_visible (project_of lists row) pass slug ≡ is_some (get visible slug)
+  seen_when slug =
+      ap (λ o. option_map_or (λ v. may_see v (held slug)) o false) (get_version lists row slug)
+      ∙ go (held slug) (find (is_version row.host slug) lists.versions) ∙ ap is_some (sym (visible_is lists row pass slug))
+    where
+      go : (held : Bool) (o : Option VersionRow) → option_map_or (λ v. may_see v held) (option_map (λ r. r.version) o) false ≡ is_some (if_seen held o)
+      go held None = refl
+      go held (Some r) = more (may_see r.version held)
         where
           more : (b : Bool) → b ≡ is_some (cond b (Some r.version) None)
           more true = refl

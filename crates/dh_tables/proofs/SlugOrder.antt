@@ -6,7 +6,7 @@ use Rattle.std.specs.List.{find, AllByRecursion}
 use Rattle.std.specs.Str.{bytes_eq}
 use Rattle.std.specs.Ordering.{eq_by_cmp, is_eq, ordering_then, ordering_reverse}
 use Rattle.std.specs.Cmp.{IsTotalOrder, tied_itself}
-use Rattle.std.specs.FinMap.{FinMap, is_sorted, get, entries, keys, values, from_entries, from_sorted, retain_keys, contains_key, get-entries, get-empty, get-from_entries, get-from_sorted, get-retain_keys, entries-from_sorted, same_map}
+use Rattle.std.specs.FinMap.{FinMap, is_sorted, get, entries, keys, values, from_entries, from_sorted, retain_keys, contains_key, get-entries, get-from_entries, get-from_sorted, get-retain_keys, entries-from_sorted, same_map}
 use Rattle.std.specs.FinMap as finite
 use Rattle.std.specs.FinMap.Entries.{below_all, where_key, is_sorted-where_key, find-where_key}
 use Rattle.std.proofs.lemmas.Map.Lookups.{exact_bytes}
@@ -26,7 +26,7 @@ use Rattle.dh_tables.specs.World as world
 use Rattle.dh_tables.specs.Lists.{Lists, of_host, project_of, is_version, is_version_of}
 use Rattle.dh_tables.specs.Seen.{visible_versions}
 use Rattle.dh_tables.specs.Tables.{Holds, lists_of}
-use Rattle.dh_tables.specs.View.{RiseBySlug, is_public}
+use Rattle.dh_tables.specs.View.{RiseBySlug, may_see}
 use Rattle.dh_tables.proofs.SeenLemmas.{text_total, get_version}
 
 abbrev pub by_slug : VersionRow → world.Text × Version
@@ -124,52 +124,39 @@ module _ {X : Type 0} where
   each_found (e ∷ es) up =
       (ap (λ o. cond (is_eq o) (Some e.1) (finite.find text_cmp e.0 es)) (tied_itself text_total e.0), found_later e es es (first _ _ up) (each_found es (second _ _ up)))
 
-  same_filter : (p q : world.Text × X → Bool) (es : List (world.Text × X)) → AllByRecursion (λ e. p e ≡ q e) es → filter p es ≡ filter q es
-  same_filter p q [] all = refl
-  same_filter p q (e ∷ es) all = rw all.0 (ap (λ l. cond (q e) (e ∷ l) l) (same_filter p q es all.1))
-
   pub each : {P Q : world.Text × X → Type 0} → ((e : world.Text × X) → P e → Q e) → (es : List (world.Text × X)) → AllByRecursion P es → AllByRecursion Q es
   each f [] all = tt
   each f (e ∷ es) all = (f e all.0, each f es all.1)
 
-public_entries : (rows : List VersionRow) → filter (λ e. is_public e.1) (map by_slug rows) ≡ map by_slug (filter (λ r. is_public r.version) rows)
-public_entries [] = refl
-public_entries (r ∷ rows) = go (is_public r.version) (public_entries rows)
+-- what passes one test at each place passes the other
+pub same_filter : {A : Type 0} (p q : A → Bool) (rows : List A) → AllByRecursion (λ x. p x ≡ q x) rows → filter p rows ≡ filter q rows
+same_filter p q [] all = refl
+same_filter p q (x ∷ rows) all = rw all.0 (ap (λ l. cond (q x) (x ∷ l) l) (same_filter p q rows all.1))
+
+seen_entries : (held : world.Text → Bool) (rows : List VersionRow) → filter (λ e. may_see e.1 (held e.0)) (map by_slug rows) ≡ map by_slug (filter (λ r. may_see r.version (held r.version.slug)) rows)
+seen_entries held [] = refl
+seen_entries held (r ∷ rows) = go (may_see r.version (held r.version.slug)) (seen_entries held rows)
   where
-    go : (b : Bool) → filter (λ e. is_public e.1) (map by_slug rows) ≡ map by_slug (filter (λ r. is_public r.version) rows)
-        → cond b (by_slug r ∷ filter (λ e. is_public e.1) (map by_slug rows)) (filter (λ e. is_public e.1) (map by_slug rows)) ≡ map by_slug (cond b (r ∷ filter (λ r. is_public r.version) rows) (filter (λ r. is_public r.version) rows))
+    go : (b : Bool) → filter (λ e. may_see e.1 (held e.0)) (map by_slug rows) ≡ map by_slug (filter (λ r. may_see r.version (held r.version.slug)) rows)
+        → cond b (by_slug r ∷ filter (λ e. may_see e.1 (held e.0)) (map by_slug rows)) (filter (λ e. may_see e.1 (held e.0)) (map by_slug rows))
+        ≡ map by_slug (cond b (r ∷ filter (λ r. may_see r.version (held r.version.slug)) rows) (filter (λ r. may_see r.version (held r.version.slug)) rows))
     go true more = ap (λ l. by_slug r ∷ l) more
     go false more = more
 
--- ---- what a caller sees: no pass holds a version yet
-
-none_held : (lists : Lists) (row : ProjectRow) (pass : Option world.Text) (slug : world.Text) → holds (project_of lists row) pass slug ≡ false
-unfolding project_of
-none_held lists row None slug = refl
-none_held lists row (Some pass) slug = rw (get-empty text_cmp pass) refl
-
-or_none : (a : Bool) → (a || false) ≡ a
-or_none true = refl
-or_none false = refl
-
-pub visible_by : (lists : Lists) (row : ProjectRow) (pass : Option world.Text) (slug : world.Text) → is_visible (project_of lists row) pass slug ≡ option_map_or is_public (get (project_of lists row).versions slug) false
-visible_by lists row pass slug = go (get (project_of lists row).versions slug)
-  where
-    go : (o : Option Version) → option_map_or (λ v. v.active && (not v.private || holds (project_of lists row) pass slug)) o false ≡ option_map_or is_public o false
-    go None = refl
-    go (Some v) = rw (none_held lists row pass slug) (ap (λ b. v.active && b) (or_none (not v.private)))
+-- ---- what a caller sees
 
 versions_are : (lists : Lists) (row : ProjectRow) → (project_of lists row).versions ≡ from_entries (map by_slug (filter (is_version_of row.host) lists.versions))
 unfolding project_of
 versions_are lists row = refl
 
 pub visible_entries : (lists : Lists) (row : ProjectRow) (pass : Option world.Text) → RiseBySlug (filter (is_version_of row.host) lists.versions)
-    → entries (visible_versions (project_of lists row) pass) ≡ map by_slug (filter (λ r. is_public r.version) (filter (is_version_of row.host) lists.versions))
+    → entries (visible_versions (project_of lists row) pass) ≡ map by_slug (filter (λ r. may_see r.version (holds (project_of lists row) pass r.version.slug)) (filter (is_version_of row.host) lists.versions))
 visible_entries lists row pass up =
     let rows = filter (is_version_of row.host) lists.versions in
     let es = map by_slug rows in
     let sorted : T (is_sorted text_cmp es) = subst T (sym up) tt in
     let seen : world.Text → Bool = is_visible (project_of lists row) pass in
-    let told : (e : world.Text × Version) → IsFound es e → seen e.0 ≡ is_public e.1 = λ e found.
-    visible_by lists row pass e.0 ∙ ap (λ m. option_map_or is_public (get m e.0) false) (versions_are lists row) ∙ ap (λ o. option_map_or is_public o false) (get-from_entries text_total es e.0 ∙ found) in
-    ap (λ m. entries (retain_keys m seen)) (versions_are lists row) ∙ kept_entries es seen sorted ∙ same_filter (λ e. seen e.0) (λ e. is_public e.1) es (each told es (each_found es sorted)) ∙ public_entries rows
+    let held : world.Text → Bool = holds (project_of lists row) pass in
+    let told : (e : world.Text × Version) → IsFound es e → seen e.0 ≡ may_see e.1 (held e.0) = λ e found.
+    ap (λ m. option_map_or (λ v. may_see v (held e.0)) (get m e.0) false) (versions_are lists row) ∙ ap (λ o. option_map_or (λ v. may_see v (held e.0)) o false) (get-from_entries text_total es e.0 ∙ found) in
+    ap (λ m. entries (retain_keys m seen)) (versions_are lists row) ∙ kept_entries es seen sorted ∙ same_filter (λ e. seen e.0) (λ e. may_see e.1 (held e.0)) es (each told es (each_found es sorted)) ∙ seen_entries held rows

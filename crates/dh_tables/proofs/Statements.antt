@@ -1,6 +1,8 @@
 -- What our statements ask and do.
-use Rattle.std.proofs.Common.{◌≡◌, ℕ, ℤ, List, [], ◌∷◌, map, filter, not, codes, false, Some, refl, ◌∙◌}
+use Rattle.std.proofs.Common.{◌≡◌, ℕ, ℤ, pos, List, [], ◌∷◌, map, filter, not, codes, false, Some, refl, subst, ◌∙◌}
+use Rattle.std.specs.List.{AllByRecursion}
 use Rattle.std.specs.Str.{bytes_eq}
+use Rattle.sqlite_schema.specs.declared.schema.Table.{Table}
 use Rattle.sqlite_schema.specs.Names.{same_name}
 use Rattle.sqlite_value.specs.declared.value.Value.TheVariants.{Null, Int, Text}
 use Rattle.sqlite_value.specs.Keys.{first_key}
@@ -22,112 +24,19 @@ use Rattle.dh_tables.specs.declared.records.LangRow.{LangRow}
 use Rattle.dh_tables.specs.declared.records.VersionRow.{VersionRow}
 use Rattle.dh_tables.specs.declared.records.PageRow.{PageRow}
 use Rattle.dh_tables.specs.declared.records.UsedRow.{UsedRow}
+use Rattle.dh_tables.specs.declared.records.PickRow.{PickRow}
+use Rattle.dh_tables.specs.declared.records.PassRow.{PassRow}
+use Rattle.dh_tables.specs.declared.records.HeldRow.{HeldRow}
 use Rattle.dh_tables.specs.declared.records.Operation.{Operation}
-use Rattle.dh_tables.specs.Codings.{is_upload, projects, langs, versions, pages, used}
-use Rattle.dh_tables.specs.Tables.{Holds, lists_of, meta, meta_table, project_table, lang_table, version_table, page_table, used_table}
-use Rattle.dh_tables.specs.Lists.{is_project, is_lang_of, is_version_of, is_version, is_page_of, is_page_in, is_page, is_used, same_op}
+use Rattle.dh_tables.specs.Codings.{is_upload, projects, langs, versions, pages, used, picks, passes, held}
+use Rattle.dh_tables.specs.Tables.{Holds, lists_of, meta, meta_table, project_table, lang_table, version_table, page_table, used_table, pick_table, pass_table, holds_table}
+use Rattle.dh_tables.specs.Lists.{is_project, is_lang_of, is_version_of, is_version, is_page_of, is_page_in, is_page, is_used, same_op, is_pick_of, is_pass_of, is_pass, is_held, is_held_by, is_held_on}
 use Rattle.dh_tables.proofs.Matching.{equal_text, equal_op, one, two, three, four, flag_back, kind_back, op_back}
 use Rattle.dh_tables.proofs.CallLemmas.{Changed}
 
-meta_not_project : same_name meta_table.name project_table.name ≡ false
-unfolding everything
-meta_not_project = refl
-
-lang_not_project : same_name lang_table.name project_table.name ≡ false
-unfolding everything
-lang_not_project = refl
-
-version_not_project : same_name version_table.name project_table.name ≡ false
-unfolding everything
-version_not_project = refl
-
-page_not_project : same_name page_table.name project_table.name ≡ false
-unfolding everything
-page_not_project = refl
-
-used_not_project : same_name used_table.name project_table.name ≡ false
-unfolding everything
-used_not_project = refl
-
-meta_not_lang : same_name meta_table.name lang_table.name ≡ false
-unfolding everything
-meta_not_lang = refl
-
-project_not_lang : same_name project_table.name lang_table.name ≡ false
-unfolding everything
-project_not_lang = refl
-
-version_not_lang : same_name version_table.name lang_table.name ≡ false
-unfolding everything
-version_not_lang = refl
-
-page_not_lang : same_name page_table.name lang_table.name ≡ false
-unfolding everything
-page_not_lang = refl
-
-used_not_lang : same_name used_table.name lang_table.name ≡ false
-unfolding everything
-used_not_lang = refl
-
-meta_not_version : same_name meta_table.name version_table.name ≡ false
-unfolding everything
-meta_not_version = refl
-
-project_not_version : same_name project_table.name version_table.name ≡ false
-unfolding everything
-project_not_version = refl
-
-lang_not_version : same_name lang_table.name version_table.name ≡ false
-unfolding everything
-lang_not_version = refl
-
-page_not_version : same_name page_table.name version_table.name ≡ false
-unfolding everything
-page_not_version = refl
-
-used_not_version : same_name used_table.name version_table.name ≡ false
-unfolding everything
-used_not_version = refl
-
-meta_not_page : same_name meta_table.name page_table.name ≡ false
-unfolding everything
-meta_not_page = refl
-
-project_not_page : same_name project_table.name page_table.name ≡ false
-unfolding everything
-project_not_page = refl
-
-lang_not_page : same_name lang_table.name page_table.name ≡ false
-unfolding everything
-lang_not_page = refl
-
-version_not_page : same_name version_table.name page_table.name ≡ false
-unfolding everything
-version_not_page = refl
-
-used_not_page : same_name used_table.name page_table.name ≡ false
-unfolding everything
-used_not_page = refl
-
-meta_not_used : same_name meta_table.name used_table.name ≡ false
-unfolding everything
-meta_not_used = refl
-
-project_not_used : same_name project_table.name used_table.name ≡ false
-unfolding everything
-project_not_used = refl
-
-lang_not_used : same_name lang_table.name used_table.name ≡ false
-unfolding everything
-lang_not_used = refl
-
-version_not_used : same_name version_table.name used_table.name ≡ false
-unfolding everything
-version_not_used = refl
-
-page_not_used : same_name page_table.name used_table.name ≡ false
-unfolding everything
-page_not_used = refl
+-- no other table has the name
+abbrev IsApart : Table → List Table → Type 0
+IsApart t others = AllByRecursion (λ u. same_name u.name t.name ≡ false) others
 
 -- ---- project
 
@@ -140,15 +49,26 @@ project_plain = ((refl, refl), ((refl, refl), ((refl, refl), ((refl, refl), ((re
 project_back : (x : ProjectRow) (n : ℤ) → projects.decode (Int n ∷ projects.encode x) ≡ x
 project_back x n = rw (flag_back x.new_private) refl
 
+project_apart : IsApart project_table (meta_table ∷ lang_table ∷ version_table ∷ page_table ∷ used_table ∷ pick_table ∷ pass_table ∷ holds_table ∷ [])
+unfolding everything
+project_apart = (refl, (refl, (refl, (refl, (refl, (refl, (refl, (refl, tt))))))))
+
 -- the other tables keep their records
 project_changed : (db after : Database) (change : List ProjectRow → List ProjectRow) → Holds db → Turns project_table projects change db after → Changed db after (λ l. record l { projects = change l.projects })
 project_changed db after change had it =
-    let m = other_keeps it meta_table meta had.meta meta_not_project in
-    let lang = other_keeps it lang_table langs had.langs lang_not_project in
-    let version = other_keeps it version_table versions had.versions version_not_project in
-    let page = other_keeps it page_table pages had.pages page_not_project in
-    let used = other_keeps it used_table used had.used used_not_project in
-    record { holds = record { meta = m.0; number = m.1 ∙ had.number; projects = it.keeps; langs = lang.0; versions = version.0; pages = page.0; used = used.0 }; schema = it.schema; lists = λ i. record { projects = it.records i; langs = lang.1 i; versions = version.1 i; pages = page.1 i; used = used.1 i } }
+    let m = other_keeps it meta_table meta had.meta project_apart.0 in
+    let lang = other_keeps it lang_table langs had.langs project_apart.1.0 in
+    let version = other_keeps it version_table versions had.versions project_apart.1.1.0 in
+    let page = other_keeps it page_table pages had.pages project_apart.1.1.1.0 in
+    let used = other_keeps it used_table used had.used project_apart.1.1.1.1.0 in
+    let pick = other_keeps it pick_table picks had.picks project_apart.1.1.1.1.1.0 in
+    let pass = other_keeps it pass_table passes had.passes project_apart.1.1.1.1.1.1.0 in
+    let holds = other_keeps it holds_table held had.held project_apart.1.1.1.1.1.1.1.0 in
+    record {
+      holds = record { meta = m.0; number = m.1 ∙ had.number; projects = it.keeps; langs = lang.0; versions = version.0; pages = page.0; used = used.0; picks = pick.0; passes = pass.0; held = holds.0 };
+      schema = it.schema;
+      lists = λ i. record { projects = it.records i; langs = lang.1 i; versions = version.1 i; pages = page.1 i; used = used.1 i; picks = pick.1 i; passes = pass.1 i; held = holds.1 i };
+    }
 
 -- ---- lang
 
@@ -161,15 +81,26 @@ lang_plain = ((refl, refl), ((refl, refl), ((refl, refl), tt)))
 lang_back : (x : LangRow) (n : ℤ) → langs.decode (Int n ∷ langs.encode x) ≡ x
 lang_back x n = refl
 
+lang_apart : IsApart lang_table (meta_table ∷ project_table ∷ version_table ∷ page_table ∷ used_table ∷ pick_table ∷ pass_table ∷ holds_table ∷ [])
+unfolding everything
+lang_apart = (refl, (refl, (refl, (refl, (refl, (refl, (refl, (refl, tt))))))))
+
 -- the other tables keep their records
 lang_changed : (db after : Database) (change : List LangRow → List LangRow) → Holds db → Turns lang_table langs change db after → Changed db after (λ l. record l { langs = change l.langs })
 lang_changed db after change had it =
-    let m = other_keeps it meta_table meta had.meta meta_not_lang in
-    let project = other_keeps it project_table projects had.projects project_not_lang in
-    let version = other_keeps it version_table versions had.versions version_not_lang in
-    let page = other_keeps it page_table pages had.pages page_not_lang in
-    let used = other_keeps it used_table used had.used used_not_lang in
-    record { holds = record { meta = m.0; number = m.1 ∙ had.number; projects = project.0; langs = it.keeps; versions = version.0; pages = page.0; used = used.0 }; schema = it.schema; lists = λ i. record { projects = project.1 i; langs = it.records i; versions = version.1 i; pages = page.1 i; used = used.1 i } }
+    let m = other_keeps it meta_table meta had.meta lang_apart.0 in
+    let project = other_keeps it project_table projects had.projects lang_apart.1.0 in
+    let version = other_keeps it version_table versions had.versions lang_apart.1.1.0 in
+    let page = other_keeps it page_table pages had.pages lang_apart.1.1.1.0 in
+    let used = other_keeps it used_table used had.used lang_apart.1.1.1.1.0 in
+    let pick = other_keeps it pick_table picks had.picks lang_apart.1.1.1.1.1.0 in
+    let pass = other_keeps it pass_table passes had.passes lang_apart.1.1.1.1.1.1.0 in
+    let holds = other_keeps it holds_table held had.held lang_apart.1.1.1.1.1.1.1.0 in
+    record {
+      holds = record { meta = m.0; number = m.1 ∙ had.number; projects = project.0; langs = it.keeps; versions = version.0; pages = page.0; used = used.0; picks = pick.0; passes = pass.0; held = holds.0 };
+      schema = it.schema;
+      lists = λ i. record { projects = project.1 i; langs = it.records i; versions = version.1 i; pages = page.1 i; used = used.1 i; picks = pick.1 i; passes = pass.1 i; held = holds.1 i };
+    }
 
 -- ---- version
 
@@ -182,15 +113,26 @@ version_plain = ((refl, refl), ((refl, refl), ((refl, refl), ((refl, refl), ((re
 version_back : (x : VersionRow) (n : ℤ) → versions.decode (Int n ∷ versions.encode x) ≡ x
 version_back x n = rw (kind_back x.version.kind, flag_back x.version.active, flag_back x.version.hidden, flag_back x.version.private) refl
 
+version_apart : IsApart version_table (meta_table ∷ project_table ∷ lang_table ∷ page_table ∷ used_table ∷ pick_table ∷ pass_table ∷ holds_table ∷ [])
+unfolding everything
+version_apart = (refl, (refl, (refl, (refl, (refl, (refl, (refl, (refl, tt))))))))
+
 -- the other tables keep their records
 version_changed : (db after : Database) (change : List VersionRow → List VersionRow) → Holds db → Turns version_table versions change db after → Changed db after (λ l. record l { versions = change l.versions })
 version_changed db after change had it =
-    let m = other_keeps it meta_table meta had.meta meta_not_version in
-    let project = other_keeps it project_table projects had.projects project_not_version in
-    let lang = other_keeps it lang_table langs had.langs lang_not_version in
-    let page = other_keeps it page_table pages had.pages page_not_version in
-    let used = other_keeps it used_table used had.used used_not_version in
-    record { holds = record { meta = m.0; number = m.1 ∙ had.number; projects = project.0; langs = lang.0; versions = it.keeps; pages = page.0; used = used.0 }; schema = it.schema; lists = λ i. record { projects = project.1 i; langs = lang.1 i; versions = it.records i; pages = page.1 i; used = used.1 i } }
+    let m = other_keeps it meta_table meta had.meta version_apart.0 in
+    let project = other_keeps it project_table projects had.projects version_apart.1.0 in
+    let lang = other_keeps it lang_table langs had.langs version_apart.1.1.0 in
+    let page = other_keeps it page_table pages had.pages version_apart.1.1.1.0 in
+    let used = other_keeps it used_table used had.used version_apart.1.1.1.1.0 in
+    let pick = other_keeps it pick_table picks had.picks version_apart.1.1.1.1.1.0 in
+    let pass = other_keeps it pass_table passes had.passes version_apart.1.1.1.1.1.1.0 in
+    let holds = other_keeps it holds_table held had.held version_apart.1.1.1.1.1.1.1.0 in
+    record {
+      holds = record { meta = m.0; number = m.1 ∙ had.number; projects = project.0; langs = lang.0; versions = it.keeps; pages = page.0; used = used.0; picks = pick.0; passes = pass.0; held = holds.0 };
+      schema = it.schema;
+      lists = λ i. record { projects = project.1 i; langs = lang.1 i; versions = it.records i; pages = page.1 i; used = used.1 i; picks = pick.1 i; passes = pass.1 i; held = holds.1 i };
+    }
 
 -- ---- page
 
@@ -203,15 +145,26 @@ page_plain = ((refl, refl), ((refl, refl), ((refl, refl), ((refl, refl), ((refl,
 page_back : (x : PageRow) (n : ℤ) → pages.decode (Int n ∷ pages.encode x) ≡ x
 page_back x n = refl
 
+page_apart : IsApart page_table (meta_table ∷ project_table ∷ lang_table ∷ version_table ∷ used_table ∷ pick_table ∷ pass_table ∷ holds_table ∷ [])
+unfolding everything
+page_apart = (refl, (refl, (refl, (refl, (refl, (refl, (refl, (refl, tt))))))))
+
 -- the other tables keep their records
 page_changed : (db after : Database) (change : List PageRow → List PageRow) → Holds db → Turns page_table pages change db after → Changed db after (λ l. record l { pages = change l.pages })
 page_changed db after change had it =
-    let m = other_keeps it meta_table meta had.meta meta_not_page in
-    let project = other_keeps it project_table projects had.projects project_not_page in
-    let lang = other_keeps it lang_table langs had.langs lang_not_page in
-    let version = other_keeps it version_table versions had.versions version_not_page in
-    let used = other_keeps it used_table used had.used used_not_page in
-    record { holds = record { meta = m.0; number = m.1 ∙ had.number; projects = project.0; langs = lang.0; versions = version.0; pages = it.keeps; used = used.0 }; schema = it.schema; lists = λ i. record { projects = project.1 i; langs = lang.1 i; versions = version.1 i; pages = it.records i; used = used.1 i } }
+    let m = other_keeps it meta_table meta had.meta page_apart.0 in
+    let project = other_keeps it project_table projects had.projects page_apart.1.0 in
+    let lang = other_keeps it lang_table langs had.langs page_apart.1.1.0 in
+    let version = other_keeps it version_table versions had.versions page_apart.1.1.1.0 in
+    let used = other_keeps it used_table used had.used page_apart.1.1.1.1.0 in
+    let pick = other_keeps it pick_table picks had.picks page_apart.1.1.1.1.1.0 in
+    let pass = other_keeps it pass_table passes had.passes page_apart.1.1.1.1.1.1.0 in
+    let holds = other_keeps it holds_table held had.held page_apart.1.1.1.1.1.1.1.0 in
+    record {
+      holds = record { meta = m.0; number = m.1 ∙ had.number; projects = project.0; langs = lang.0; versions = version.0; pages = it.keeps; used = used.0; picks = pick.0; passes = pass.0; held = holds.0 };
+      schema = it.schema;
+      lists = λ i. record { projects = project.1 i; langs = lang.1 i; versions = version.1 i; pages = it.records i; used = used.1 i; picks = pick.1 i; passes = pass.1 i; held = holds.1 i };
+    }
 
 -- ---- used
 
@@ -224,15 +177,122 @@ used_plain = ((refl, refl), ((refl, refl), ((refl, refl), ((refl, refl), ((refl,
 used_back : (x : UsedRow) (n : ℤ) → used.decode (Int n ∷ used.encode x) ≡ x
 used_back x n = rw (op_back x.op) refl
 
+used_apart : IsApart used_table (meta_table ∷ project_table ∷ lang_table ∷ version_table ∷ page_table ∷ pick_table ∷ pass_table ∷ holds_table ∷ [])
+unfolding everything
+used_apart = (refl, (refl, (refl, (refl, (refl, (refl, (refl, (refl, tt))))))))
+
 -- the other tables keep their records
 used_changed : (db after : Database) (change : List UsedRow → List UsedRow) → Holds db → Turns used_table used change db after → Changed db after (λ l. record l { used = change l.used })
 used_changed db after change had it =
-    let m = other_keeps it meta_table meta had.meta meta_not_used in
-    let project = other_keeps it project_table projects had.projects project_not_used in
-    let lang = other_keeps it lang_table langs had.langs lang_not_used in
-    let version = other_keeps it version_table versions had.versions version_not_used in
-    let page = other_keeps it page_table pages had.pages page_not_used in
-    record { holds = record { meta = m.0; number = m.1 ∙ had.number; projects = project.0; langs = lang.0; versions = version.0; pages = page.0; used = it.keeps }; schema = it.schema; lists = λ i. record { projects = project.1 i; langs = lang.1 i; versions = version.1 i; pages = page.1 i; used = it.records i } }
+    let m = other_keeps it meta_table meta had.meta used_apart.0 in
+    let project = other_keeps it project_table projects had.projects used_apart.1.0 in
+    let lang = other_keeps it lang_table langs had.langs used_apart.1.1.0 in
+    let version = other_keeps it version_table versions had.versions used_apart.1.1.1.0 in
+    let page = other_keeps it page_table pages had.pages used_apart.1.1.1.1.0 in
+    let pick = other_keeps it pick_table picks had.picks used_apart.1.1.1.1.1.0 in
+    let pass = other_keeps it pass_table passes had.passes used_apart.1.1.1.1.1.1.0 in
+    let holds = other_keeps it holds_table held had.held used_apart.1.1.1.1.1.1.1.0 in
+    record {
+      holds = record { meta = m.0; number = m.1 ∙ had.number; projects = project.0; langs = lang.0; versions = version.0; pages = page.0; used = it.keeps; picks = pick.0; passes = pass.0; held = holds.0 };
+      schema = it.schema;
+      lists = λ i. record { projects = project.1 i; langs = lang.1 i; versions = version.1 i; pages = page.1 i; used = it.records i; picks = pick.1 i; passes = pass.1 i; held = holds.1 i };
+    }
+
+-- ---- pick
+
+pick_simple : IsSimple pick_table
+pick_simple = refl
+
+pick_plain : ArePlain pick_table.columns
+pick_plain = ((refl, refl), ((refl, refl), ((refl, refl), tt)))
+
+pick_back : (x : PickRow) (n : ℤ) → picks.decode (Int n ∷ picks.encode x) ≡ x
+pick_back x n = refl
+
+pick_apart : IsApart pick_table (meta_table ∷ project_table ∷ lang_table ∷ version_table ∷ page_table ∷ used_table ∷ pass_table ∷ holds_table ∷ [])
+unfolding everything
+pick_apart = (refl, (refl, (refl, (refl, (refl, (refl, (refl, (refl, tt))))))))
+
+-- the other tables keep their records
+pick_changed : (db after : Database) (change : List PickRow → List PickRow) → Holds db → Turns pick_table picks change db after → Changed db after (λ l. record l { picks = change l.picks })
+pick_changed db after change had it =
+    let m = other_keeps it meta_table meta had.meta pick_apart.0 in
+    let project = other_keeps it project_table projects had.projects pick_apart.1.0 in
+    let lang = other_keeps it lang_table langs had.langs pick_apart.1.1.0 in
+    let version = other_keeps it version_table versions had.versions pick_apart.1.1.1.0 in
+    let page = other_keeps it page_table pages had.pages pick_apart.1.1.1.1.0 in
+    let used = other_keeps it used_table used had.used pick_apart.1.1.1.1.1.0 in
+    let pass = other_keeps it pass_table passes had.passes pick_apart.1.1.1.1.1.1.0 in
+    let holds = other_keeps it holds_table held had.held pick_apart.1.1.1.1.1.1.1.0 in
+    record {
+      holds = record { meta = m.0; number = m.1 ∙ had.number; projects = project.0; langs = lang.0; versions = version.0; pages = page.0; used = used.0; picks = it.keeps; passes = pass.0; held = holds.0 };
+      schema = it.schema;
+      lists = λ i. record { projects = project.1 i; langs = lang.1 i; versions = version.1 i; pages = page.1 i; used = used.1 i; picks = it.records i; passes = pass.1 i; held = holds.1 i };
+    }
+
+-- ---- pass
+
+pass_simple : IsSimple pass_table
+pass_simple = refl
+
+pass_plain : ArePlain pass_table.columns
+pass_plain = ((refl, refl), ((refl, refl), tt))
+
+pass_back : (x : PassRow) (n : ℤ) → passes.decode (Int n ∷ passes.encode x) ≡ x
+pass_back x n = refl
+
+pass_apart : IsApart pass_table (meta_table ∷ project_table ∷ lang_table ∷ version_table ∷ page_table ∷ used_table ∷ pick_table ∷ holds_table ∷ [])
+unfolding everything
+pass_apart = (refl, (refl, (refl, (refl, (refl, (refl, (refl, (refl, tt))))))))
+
+-- the other tables keep their records
+pass_changed : (db after : Database) (change : List PassRow → List PassRow) → Holds db → Turns pass_table passes change db after → Changed db after (λ l. record l { passes = change l.passes })
+pass_changed db after change had it =
+    let m = other_keeps it meta_table meta had.meta pass_apart.0 in
+    let project = other_keeps it project_table projects had.projects pass_apart.1.0 in
+    let lang = other_keeps it lang_table langs had.langs pass_apart.1.1.0 in
+    let version = other_keeps it version_table versions had.versions pass_apart.1.1.1.0 in
+    let page = other_keeps it page_table pages had.pages pass_apart.1.1.1.1.0 in
+    let used = other_keeps it used_table used had.used pass_apart.1.1.1.1.1.0 in
+    let pick = other_keeps it pick_table picks had.picks pass_apart.1.1.1.1.1.1.0 in
+    let holds = other_keeps it holds_table held had.held pass_apart.1.1.1.1.1.1.1.0 in
+    record {
+      holds = record { meta = m.0; number = m.1 ∙ had.number; projects = project.0; langs = lang.0; versions = version.0; pages = page.0; used = used.0; picks = pick.0; passes = it.keeps; held = holds.0 };
+      schema = it.schema;
+      lists = λ i. record { projects = project.1 i; langs = lang.1 i; versions = version.1 i; pages = page.1 i; used = used.1 i; picks = pick.1 i; passes = it.records i; held = holds.1 i };
+    }
+
+-- ---- holds
+
+holds_simple : IsSimple holds_table
+holds_simple = refl
+
+holds_plain : ArePlain holds_table.columns
+holds_plain = ((refl, refl), ((refl, refl), ((refl, refl), tt)))
+
+holds_back : (x : HeldRow) (n : ℤ) → held.decode (Int n ∷ held.encode x) ≡ x
+holds_back x n = refl
+
+holds_apart : IsApart holds_table (meta_table ∷ project_table ∷ lang_table ∷ version_table ∷ page_table ∷ used_table ∷ pick_table ∷ pass_table ∷ [])
+unfolding everything
+holds_apart = (refl, (refl, (refl, (refl, (refl, (refl, (refl, (refl, tt))))))))
+
+-- the other tables keep their records
+holds_changed : (db after : Database) (change : List HeldRow → List HeldRow) → Holds db → Turns holds_table held change db after → Changed db after (λ l. record l { held = change l.held })
+holds_changed db after change had it =
+    let m = other_keeps it meta_table meta had.meta holds_apart.0 in
+    let project = other_keeps it project_table projects had.projects holds_apart.1.0 in
+    let lang = other_keeps it lang_table langs had.langs holds_apart.1.1.0 in
+    let version = other_keeps it version_table versions had.versions holds_apart.1.1.1.0 in
+    let page = other_keeps it page_table pages had.pages holds_apart.1.1.1.1.0 in
+    let used = other_keeps it used_table used had.used holds_apart.1.1.1.1.1.0 in
+    let pick = other_keeps it pick_table picks had.picks holds_apart.1.1.1.1.1.1.0 in
+    let pass = other_keeps it pass_table passes had.passes holds_apart.1.1.1.1.1.1.1.0 in
+    record {
+      holds = record { meta = m.0; number = m.1 ∙ had.number; projects = project.0; langs = lang.0; versions = version.0; pages = page.0; used = used.0; picks = pick.0; passes = pass.0; held = it.keeps };
+      schema = it.schema;
+      lists = λ i. record { projects = project.1 i; langs = lang.1 i; versions = version.1 i; pages = page.1 i; used = used.1 i; picks = pick.1 i; passes = pass.1 i; held = it.records i };
+    }
 
 abbrev pub project_text : List ℕ
 project_text = codes "SELECT host, main, branch, wkey, private FROM project WHERE host = ?1 ORDER BY host"
@@ -445,3 +505,197 @@ put_page_writes s had x = upsert page_table page_simple page_plain pages s had.p
 pub put_page_changes : (s : State) → Holds s.now → (x : PageRow) → (after : Database) → Rattle.dh_rows.specs.Calls.Edits s put_page_text (pages.encode x) after
     → Changed s.now after (λ l. record l { pages = put pages.key x l.pages })
 put_page_changes s had x after it = page_changed s.now after (put pages.key x) had ((put_page_writes s had x).turns after it)
+
+-- ---- defaults, passes and grants
+
+abbrev pub picks_text : List ℕ
+picks_text = codes "SELECT host, name, rank FROM pick WHERE host = ?1 ORDER BY host, rank"
+
+picks_read : select_of pick_table picks_text ≡ Some (0 ∷ 1 ∷ 2 ∷ [], (0, 0) ∷ [], 0 ∷ 2 ∷ [])
+unfolding everything
+picks_read = refl
+
+pub picks_answers : (s : State) → Holds s.now → (host : List ℕ) → Answers s picks_text (Text host ∷ []) (map picks.encode (filter (is_pick_of host) (lists_of s.now).picks))
+picks_answers s had host =
+    select pick_table pick_simple pick_plain picks s had.picks picks_text _ _ _ picks_read _ (is_pick_of host) picks.encode
+    (λ n x. rw (equal_text x.host host) (one (bytes_eq x.host host))) (λ n x. refl) (λ x y. refl)
+
+abbrev pub pass_text : List ℕ
+pass_text = codes "SELECT host, pass FROM pass WHERE host = ?1 AND pass = ?2 ORDER BY host, pass"
+
+pass_read : select_of pass_table pass_text ≡ Some (0 ∷ 1 ∷ [], (0, 0) ∷ (1, 1) ∷ [], 0 ∷ 1 ∷ [])
+unfolding everything
+pass_read = refl
+
+pub pass_answers : (s : State) → Holds s.now → (host pass : List ℕ) → Answers s pass_text (Text host ∷ Text pass ∷ []) (map passes.encode (filter (is_pass host pass) (lists_of s.now).passes))
+pass_answers s had host pass =
+    select pass_table pass_simple pass_plain passes s had.passes pass_text _ _ _ pass_read _ (is_pass host pass) passes.encode
+    (λ n x. rw (equal_text x.host host, equal_text x.pass pass) (two (bytes_eq x.host host) (bytes_eq x.pass pass))) (λ n x. refl) (λ x y. refl)
+
+abbrev pub passes_text : List ℕ
+passes_text = codes "SELECT host, pass FROM pass WHERE host = ?1 ORDER BY host, pass"
+
+passes_read : select_of pass_table passes_text ≡ Some (0 ∷ 1 ∷ [], (0, 0) ∷ [], 0 ∷ 1 ∷ [])
+unfolding everything
+passes_read = refl
+
+pub passes_answers : (s : State) → Holds s.now → (host : List ℕ) → Answers s passes_text (Text host ∷ []) (map passes.encode (filter (is_pass_of host) (lists_of s.now).passes))
+passes_answers s had host =
+    select pass_table pass_simple pass_plain passes s had.passes passes_text _ _ _ passes_read _ (is_pass_of host) passes.encode
+    (λ n x. rw (equal_text x.host host) (one (bytes_eq x.host host))) (λ n x. refl) (λ x y. refl)
+
+abbrev pub held_text : List ℕ
+held_text = codes "SELECT host, pass, slug FROM holds WHERE host = ?1 AND pass = ?2 AND slug = ?3 ORDER BY host, pass, slug"
+
+held_read : select_of holds_table held_text ≡ Some (0 ∷ 1 ∷ 2 ∷ [], (0, 0) ∷ (1, 1) ∷ (2, 2) ∷ [], 0 ∷ 1 ∷ 2 ∷ [])
+unfolding everything
+held_read = refl
+
+pub held_answers : (s : State) → Holds s.now → (host pass slug : List ℕ) → Answers s held_text (Text host ∷ Text pass ∷ Text slug ∷ []) (map held.encode (filter (is_held host pass slug) (lists_of s.now).held))
+held_answers s had host pass slug =
+    select holds_table holds_simple holds_plain held s had.held held_text _ _ _ held_read _ (is_held host pass slug) held.encode
+    (λ n x. rw (equal_text x.host host, equal_text x.pass pass, equal_text x.slug slug) (three (bytes_eq x.host host) (bytes_eq x.pass pass) (bytes_eq x.slug slug))) (λ n x. refl) (λ x y. refl)
+
+abbrev pub add_pick_text : List ℕ
+add_pick_text = codes "INSERT INTO pick VALUES (?1, ?2, ?3)"
+
+add_pick_read : (schema : Schema) (tree : ℕ) → insert_of schema (record pick_table { tree = tree }) add_pick_text ≡ Some (lit Null ∷ col 0 0 ∷ col 0 1 ∷ col 0 2 ∷ [], 4)
+unfolding everything
+add_pick_read schema tree = refl
+
+pub add_pick_writes : (s : State) → Holds s.now → (x : PickRow) → IsFreeKey picks.key x (lists_of s.now).picks → Writes s add_pick_text (picks.encode x) pick_table picks (added picks.key x)
+add_pick_writes s had x free = insert pick_table pick_simple pick_plain picks s had.picks add_pick_text _ _ (add_pick_read _ _) x (pick_back x) (tt, (tt, (tt, tt))) refl free
+
+pub add_pick_changes : (s : State) → Holds s.now → (x : PickRow) → IsFreeKey picks.key x (lists_of s.now).picks → (after : Database) → Rattle.dh_rows.specs.Calls.Edits s add_pick_text (picks.encode x) after
+    → Changed s.now after (λ l. record l { picks = added picks.key x l.picks })
+add_pick_changes s had x free after it = pick_changed s.now after (added picks.key x) had ((add_pick_writes s had x free).turns after it)
+
+-- the same, where the rank is a number that SQL counts with
+pub add_pick_ranked : (s : State) → Holds s.now → (x : PickRow) (rank : ℤ) → rank ≡ pos x.rank → IsFreeKey picks.key x (lists_of s.now).picks → (after : Database)
+    → Rattle.dh_rows.specs.Calls.Edits s add_pick_text (Text x.host ∷ Text x.name ∷ Int rank ∷ []) after → Changed s.now after (λ l. record l { picks = added picks.key x l.picks })
+add_pick_ranked s had x rank e free after it =
+    add_pick_changes s had x free after (subst (λ n. Rattle.dh_rows.specs.Calls.Edits s add_pick_text (Text x.host ∷ Text x.name ∷ Int n ∷ []) after) e it)
+
+abbrev pub add_pass_text : List ℕ
+add_pass_text = codes "INSERT INTO pass VALUES (?1, ?2)"
+
+add_pass_read : (schema : Schema) (tree : ℕ) → insert_of schema (record pass_table { tree = tree }) add_pass_text ≡ Some (lit Null ∷ col 0 0 ∷ col 0 1 ∷ [], 3)
+unfolding everything
+add_pass_read schema tree = refl
+
+pub add_pass_writes : (s : State) → Holds s.now → (x : PassRow) → IsFreeKey passes.key x (lists_of s.now).passes → Writes s add_pass_text (passes.encode x) pass_table passes (added passes.key x)
+add_pass_writes s had x free = insert pass_table pass_simple pass_plain passes s had.passes add_pass_text _ _ (add_pass_read _ _) x (pass_back x) (tt, (tt, tt)) refl free
+
+pub add_pass_changes : (s : State) → Holds s.now → (x : PassRow) → IsFreeKey passes.key x (lists_of s.now).passes → (after : Database) → Rattle.dh_rows.specs.Calls.Edits s add_pass_text (passes.encode x) after
+    → Changed s.now after (λ l. record l { passes = added passes.key x l.passes })
+add_pass_changes s had x free after it = pass_changed s.now after (added passes.key x) had ((add_pass_writes s had x free).turns after it)
+
+abbrev pub add_grant_text : List ℕ
+add_grant_text = codes "INSERT INTO holds VALUES (?1, ?2, ?3)"
+
+add_grant_read : (schema : Schema) (tree : ℕ) → insert_of schema (record holds_table { tree = tree }) add_grant_text ≡ Some (lit Null ∷ col 0 0 ∷ col 0 1 ∷ col 0 2 ∷ [], 4)
+unfolding everything
+add_grant_read schema tree = refl
+
+pub add_grant_writes : (s : State) → Holds s.now → (x : HeldRow) → IsFreeKey held.key x (lists_of s.now).held → Writes s add_grant_text (held.encode x) holds_table held (added held.key x)
+add_grant_writes s had x free = insert holds_table holds_simple holds_plain held s had.held add_grant_text _ _ (add_grant_read _ _) x (holds_back x) (tt, (tt, (tt, tt))) refl free
+
+pub add_grant_changes : (s : State) → Holds s.now → (x : HeldRow) → IsFreeKey held.key x (lists_of s.now).held → (after : Database) → Rattle.dh_rows.specs.Calls.Edits s add_grant_text (held.encode x) after
+    → Changed s.now after (λ l. record l { held = added held.key x l.held })
+add_grant_changes s had x free after it = holds_changed s.now after (added held.key x) had ((add_grant_writes s had x free).turns after it)
+
+abbrev pub drop_picks_text : List ℕ
+drop_picks_text = codes "DELETE FROM pick WHERE host = ?1"
+
+drop_picks_read : delete_of pick_table drop_picks_text ≡ Some ((0, 0) ∷ [])
+unfolding everything
+drop_picks_read = refl
+
+pub drop_picks_writes : (s : State) → Holds s.now → (host : List ℕ) → Writes s drop_picks_text (Text host ∷ []) pick_table picks (filter (λ x. not (is_pick_of host x)))
+drop_picks_writes s had host = delete pick_table pick_simple pick_plain picks s had.picks drop_picks_text _ drop_picks_read _ (is_pick_of host) (λ n x. rw (equal_text x.host host) (one (bytes_eq x.host host)))
+
+pub drop_picks_changes : (s : State) → Holds s.now → (host : List ℕ) → (after : Database) → Rattle.dh_rows.specs.Calls.Edits s drop_picks_text (Text host ∷ []) after
+    → Changed s.now after (λ l. record l { picks = filter (λ x. not (is_pick_of host x)) l.picks })
+drop_picks_changes s had host after it = pick_changed s.now after (filter (λ x. not (is_pick_of host x))) had ((drop_picks_writes s had host).turns after it)
+
+abbrev pub drop_pass_text : List ℕ
+drop_pass_text = codes "DELETE FROM pass WHERE host = ?1 AND pass = ?2"
+
+drop_pass_read : delete_of pass_table drop_pass_text ≡ Some ((0, 0) ∷ (1, 1) ∷ [])
+unfolding everything
+drop_pass_read = refl
+
+pub drop_pass_writes : (s : State) → Holds s.now → (host pass : List ℕ) → Writes s drop_pass_text (Text host ∷ Text pass ∷ []) pass_table passes (filter (λ x. not (is_pass host pass x)))
+drop_pass_writes s had host pass = delete pass_table pass_simple pass_plain passes s had.passes drop_pass_text _ drop_pass_read _ (is_pass host pass) (λ n x. rw (equal_text x.host host, equal_text x.pass pass) (two (bytes_eq x.host host) (bytes_eq x.pass pass)))
+
+pub drop_pass_changes : (s : State) → Holds s.now → (host pass : List ℕ) → (after : Database) → Rattle.dh_rows.specs.Calls.Edits s drop_pass_text (Text host ∷ Text pass ∷ []) after
+    → Changed s.now after (λ l. record l { passes = filter (λ x. not (is_pass host pass x)) l.passes })
+drop_pass_changes s had host pass after it = pass_changed s.now after (filter (λ x. not (is_pass host pass x))) had ((drop_pass_writes s had host pass).turns after it)
+
+abbrev pub revoke_text : List ℕ
+revoke_text = codes "DELETE FROM holds WHERE host = ?1 AND pass = ?2 AND slug = ?3"
+
+revoke_read : delete_of holds_table revoke_text ≡ Some ((0, 0) ∷ (1, 1) ∷ (2, 2) ∷ [])
+unfolding everything
+revoke_read = refl
+
+pub revoke_writes : (s : State) → Holds s.now → (host pass slug : List ℕ) → Writes s revoke_text (Text host ∷ Text pass ∷ Text slug ∷ []) holds_table held (filter (λ x. not (is_held host pass slug x)))
+revoke_writes s had host pass slug = delete holds_table holds_simple holds_plain held s had.held revoke_text _ revoke_read _ (is_held host pass slug) (λ n x. rw (equal_text x.host host, equal_text x.pass pass, equal_text x.slug slug) (three (bytes_eq x.host host) (bytes_eq x.pass pass) (bytes_eq x.slug slug)))
+
+pub revoke_changes : (s : State) → Holds s.now → (host pass slug : List ℕ) → (after : Database) → Rattle.dh_rows.specs.Calls.Edits s revoke_text (Text host ∷ Text pass ∷ Text slug ∷ []) after
+    → Changed s.now after (λ l. record l { held = filter (λ x. not (is_held host pass slug x)) l.held })
+revoke_changes s had host pass slug after it = holds_changed s.now after (filter (λ x. not (is_held host pass slug x))) had ((revoke_writes s had host pass slug).turns after it)
+
+abbrev pub drop_grants_of_text : List ℕ
+drop_grants_of_text = codes "DELETE FROM holds WHERE host = ?1 AND slug = ?2"
+
+drop_grants_of_read : delete_of holds_table drop_grants_of_text ≡ Some ((0, 0) ∷ (2, 1) ∷ [])
+unfolding everything
+drop_grants_of_read = refl
+
+pub drop_grants_of_writes : (s : State) → Holds s.now → (host slug : List ℕ) → Writes s drop_grants_of_text (Text host ∷ Text slug ∷ []) holds_table held (filter (λ x. not (is_held_on host slug x)))
+drop_grants_of_writes s had host slug = delete holds_table holds_simple holds_plain held s had.held drop_grants_of_text _ drop_grants_of_read _ (is_held_on host slug) (λ n x. rw (equal_text x.host host, equal_text x.slug slug) (two (bytes_eq x.host host) (bytes_eq x.slug slug)))
+
+pub drop_grants_of_changes : (s : State) → Holds s.now → (host slug : List ℕ) → (after : Database) → Rattle.dh_rows.specs.Calls.Edits s drop_grants_of_text (Text host ∷ Text slug ∷ []) after
+    → Changed s.now after (λ l. record l { held = filter (λ x. not (is_held_on host slug x)) l.held })
+drop_grants_of_changes s had host slug after it = holds_changed s.now after (filter (λ x. not (is_held_on host slug x))) had ((drop_grants_of_writes s had host slug).turns after it)
+
+abbrev pub drop_grants_by_text : List ℕ
+drop_grants_by_text = codes "DELETE FROM holds WHERE host = ?1 AND pass = ?2"
+
+drop_grants_by_read : delete_of holds_table drop_grants_by_text ≡ Some ((0, 0) ∷ (1, 1) ∷ [])
+unfolding everything
+drop_grants_by_read = refl
+
+pub drop_grants_by_writes : (s : State) → Holds s.now → (host pass : List ℕ) → Writes s drop_grants_by_text (Text host ∷ Text pass ∷ []) holds_table held (filter (λ x. not (is_held_by host pass x)))
+drop_grants_by_writes s had host pass = delete holds_table holds_simple holds_plain held s had.held drop_grants_by_text _ drop_grants_by_read _ (is_held_by host pass) (λ n x. rw (equal_text x.host host, equal_text x.pass pass) (two (bytes_eq x.host host) (bytes_eq x.pass pass)))
+
+pub drop_grants_by_changes : (s : State) → Holds s.now → (host pass : List ℕ) → (after : Database) → Rattle.dh_rows.specs.Calls.Edits s drop_grants_by_text (Text host ∷ Text pass ∷ []) after
+    → Changed s.now after (λ l. record l { held = filter (λ x. not (is_held_by host pass x)) l.held })
+drop_grants_by_changes s had host pass after it = holds_changed s.now after (filter (λ x. not (is_held_by host pass x))) had ((drop_grants_by_writes s had host pass).turns after it)
+
+abbrev pub drop_version_text : List ℕ
+drop_version_text = codes "DELETE FROM version WHERE host = ?1 AND slug = ?2"
+
+drop_version_read : delete_of version_table drop_version_text ≡ Some ((0, 0) ∷ (1, 1) ∷ [])
+unfolding everything
+drop_version_read = refl
+
+pub drop_version_writes : (s : State) → Holds s.now → (host slug : List ℕ) → Writes s drop_version_text (Text host ∷ Text slug ∷ []) version_table versions (filter (λ x. not (is_version host slug x)))
+drop_version_writes s had host slug = delete version_table version_simple version_plain versions s had.versions drop_version_text _ drop_version_read _ (is_version host slug) (λ n x. rw (equal_text x.host host, equal_text x.version.slug slug) (two (bytes_eq x.host host) (bytes_eq x.version.slug slug)))
+
+pub drop_version_changes : (s : State) → Holds s.now → (host slug : List ℕ) → (after : Database) → Rattle.dh_rows.specs.Calls.Edits s drop_version_text (Text host ∷ Text slug ∷ []) after
+    → Changed s.now after (λ l. record l { versions = filter (λ x. not (is_version host slug x)) l.versions })
+drop_version_changes s had host slug after it = version_changed s.now after (filter (λ x. not (is_version host slug x))) had ((drop_version_writes s had host slug).turns after it)
+
+abbrev pub held_by_text : List ℕ
+held_by_text = codes "SELECT host, pass, slug FROM holds WHERE host = ?1 AND pass = ?2 ORDER BY host, pass, slug"
+
+held_by_read : select_of holds_table held_by_text ≡ Some (0 ∷ 1 ∷ 2 ∷ [], (0, 0) ∷ (1, 1) ∷ [], 0 ∷ 1 ∷ 2 ∷ [])
+unfolding everything
+held_by_read = refl
+
+pub held_by_answers : (s : State) → Holds s.now → (host pass : List ℕ) → Answers s held_by_text (Text host ∷ Text pass ∷ []) (map held.encode (filter (is_held_by host pass) (lists_of s.now).held))
+held_by_answers s had host pass =
+    select holds_table holds_simple holds_plain held s had.held held_by_text _ _ _ held_by_read _ (is_held_by host pass) held.encode
+    (λ n x. rw (equal_text x.host host, equal_text x.pass pass) (two (bytes_eq x.host host) (bytes_eq x.pass pass))) (λ n x. refl) (λ x y. refl)

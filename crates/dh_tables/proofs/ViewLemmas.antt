@@ -12,7 +12,7 @@ use Rattle.dh_tables.specs.Tables.{lists_of}
 use Rattle.dh_tables.specs.World.{Text}
 use Rattle.dh_tables.specs.Lists.{world_of}
 use Rattle.dh_tables.specs.Seen as caller
-use Rattle.dh_tables.specs.View.{doubt_of, shown, IsSettled, IsUnmoved, Looks}
+use Rattle.dh_tables.specs.View.{doubt_of, shown, IsSettled, IsUnmoved, Looks, unmoved_on}
 
 -- ---- doubt
 
@@ -62,6 +62,15 @@ module _ {S : Type 0} (g : Ghosts S) where
       go zero e = let z = undoubted a (was_honest a b it (honest b e)) in omega arith
       go (suc n) e = let m = most a in omega arith
 
+  pub looks_none : (a : Held S) → Looks g a a
+  looks_none a = record {
+    clean = λ it. it;
+    unmoved = λ it. record { same = record { was_honest = it; is_open = it.1; now_is = refl; last_is = refl; mode = refl }; left = λ _ _ db may. inl may };
+  }
+
+  pub looks_on : (a b c : Held S) → Looks g a b → Looks g b c → Looks g a c
+  looks_on a b c p q = record { clean = λ it. p.clean (q.clean it); unmoved = λ it. unmoved_on (p.unmoved (q.unmoved it).same.was_honest) (q.unmoved it) }
+
   pub still_settled : (a b : Held S) → Looks g a b → (IsHonest g a → IsSettled g a) → IsHonest g b → IsSettled g b
   still_settled a b it was h =
       let same = (it.unmoved h).same in
@@ -99,3 +108,7 @@ same_answer f (Err x) v w e h = tt
 pub through : {T U V E : Type 0} (f : T → U) (k : U → V) (r : Result T E) (v : U) (w : V) → k v ≡ w → IfOk r (λ x. f x ≡ v) → IfOk r (λ x. k (f x) ≡ w)
 through f k (Ok x) v w e h = ap k h ∙ e
 through f k (Err x) v w e h = tt
+
+pub from_answer : {T E : Type 0} {P Q : T → Type 0} (r : Result T E) → ((x : T) → P x → Q x) → IfOk r P → IfOk r Q
+from_answer (Ok x) f h = f x h
+from_answer (Err x) f h = tt

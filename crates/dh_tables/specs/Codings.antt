@@ -11,6 +11,9 @@ use Rattle.dh_tables.specs.declared.records.LangRow.{LangRow}
 use Rattle.dh_tables.specs.declared.records.VersionRow.{VersionRow}
 use Rattle.dh_tables.specs.declared.records.PageRow.{PageRow}
 use Rattle.dh_tables.specs.declared.records.UsedRow.{UsedRow}
+use Rattle.dh_tables.specs.declared.records.PickRow.{PickRow}
+use Rattle.dh_tables.specs.declared.records.PassRow.{PassRow}
+use Rattle.dh_tables.specs.declared.records.HeldRow.{HeldRow}
 use Rattle.dh_tables.specs.declared.records.Operation.{Operation}
 use Rattle.dh_tables.specs.declared.records.Operation.TheVariants.{Push, Upload}
 
@@ -79,4 +82,26 @@ used = record {
   encode = λ x. Text x.host ∷ Text x.slug ∷ flag (is_upload x.op) ∷ Text x.retry ∷ Text x.answer ∷ [];
   decode = λ r. record { host = text_in r 1; slug = text_in r 2; op = if flag_in r 3 then Upload else Push; retry = text_in r 4; answer = text_in r 5 };
   key = λ x. Text x.host ∷ Text x.slug ∷ flag (is_upload x.op) ∷ Text x.retry ∷ [];
+}
+
+-- a default's key is its rank, so that the records of a host stand in the order of ranks
+abbrev pub picks : Coding PickRow
+picks = record {
+  encode = λ x. Text x.host ∷ Text x.name ∷ Int (pos x.rank) ∷ [];
+  decode = λ r. record { host = text_in r 1; name = text_in r 2; rank = number_in (column r 3) };
+  key = λ x. Text x.host ∷ Int (pos x.rank) ∷ [];
+}
+
+abbrev pub passes : Coding PassRow
+passes = record {
+  encode = λ x. Text x.host ∷ Text x.pass ∷ [];
+  decode = λ r. record { host = text_in r 1; pass = text_in r 2 };
+  key = λ x. Text x.host ∷ Text x.pass ∷ [];
+}
+
+abbrev pub held : Coding HeldRow
+held = record {
+  encode = λ x. Text x.host ∷ Text x.pass ∷ Text x.slug ∷ [];
+  decode = λ r. record { host = text_in r 1; pass = text_in r 2; slug = text_in r 3 };
+  key = λ x. Text x.host ∷ Text x.pass ∷ Text x.slug ∷ [];
 }

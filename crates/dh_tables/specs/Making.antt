@@ -10,7 +10,7 @@ use Rattle.dh_rows.specs.Calls.{IsHonest, whole, committed}
 use Rattle.dh_rows.specs.Places.{IsFree, IsUnmentioned, ArePlaced, Stands, rows_of}
 use Rattle.dh_tables.specs.Lists.{Lists}
 use Rattle.sqlite_schema.specs.declared.schema.Schema.{Schema}
-use Rattle.dh_tables.specs.Tables.{Holds, lists_of, meta_table, project_table, lang_table, version_table, page_table, used_table}
+use Rattle.dh_tables.specs.Tables.{Holds, lists_of, meta_table, project_table, lang_table, version_table, page_table, used_table, pick_table, pass_table, holds_table}
 
 -- Some tables stand with no row, the others can be made: their names are free, and no foreign key names them.
 pub record IsReady (made left : List Table) (db : Database) : Type 0 where
@@ -21,15 +21,71 @@ pub record IsReady (made left : List Table) (db : Database) : Type 0 where
   pub placed : ArePlaced db.schema
 
 abbrev pub no_lists : Lists
-no_lists = record { projects = []; langs = []; versions = []; pages = []; used = [] }
+no_lists = record { projects = []; langs = []; versions = []; pages = []; used = []; picks = []; passes = []; held = [] }
 
 -- all tables stand, and spell nothing
 pub record IsMade (db : Database) : Type 0 where
   pub holds : Holds db
   pub empty : lists_of db ≡ no_lists
 
+-- ---- the order in which they are made: the tables from one on, and those up to one, the last made first
+
+abbrev pub from_holds : List Table
+from_holds = holds_table ∷ []
+
+abbrev pub from_pass : List Table
+from_pass = pass_table ∷ from_holds
+
+abbrev pub from_pick : List Table
+from_pick = pick_table ∷ from_pass
+
+abbrev pub from_used : List Table
+from_used = used_table ∷ from_pick
+
+abbrev pub from_page : List Table
+from_page = page_table ∷ from_used
+
+abbrev pub from_version : List Table
+from_version = version_table ∷ from_page
+
+abbrev pub from_lang : List Table
+from_lang = lang_table ∷ from_version
+
+abbrev pub from_project : List Table
+from_project = project_table ∷ from_lang
+
+abbrev pub from_meta : List Table
+from_meta = meta_table ∷ from_project
+
+abbrev pub upto_meta : List Table
+upto_meta = meta_table ∷ []
+
+abbrev pub upto_project : List Table
+upto_project = project_table ∷ upto_meta
+
+abbrev pub upto_lang : List Table
+upto_lang = lang_table ∷ upto_project
+
+abbrev pub upto_version : List Table
+upto_version = version_table ∷ upto_lang
+
+abbrev pub upto_page : List Table
+upto_page = page_table ∷ upto_version
+
+abbrev pub upto_used : List Table
+upto_used = used_table ∷ upto_page
+
+abbrev pub upto_pick : List Table
+upto_pick = pick_table ∷ upto_used
+
+abbrev pub upto_pass : List Table
+upto_pass = pass_table ∷ upto_pick
+
+abbrev pub upto_holds : List Table
+upto_holds = holds_table ∷ upto_pass
+
 abbrev pub our_tables : List Table
-our_tables = meta_table ∷ project_table ∷ lang_table ∷ version_table ∷ page_table ∷ used_table ∷ []
+our_tables = from_meta
 
 -- none of the names is taken, and no foreign key names one of the tables
 abbrev pub CanMake : Schema → Type 0

@@ -1,6 +1,7 @@
 -- What a caller sees of a project (Read the Docs, Versions).
-use Rattle.std.specs.Prelude.{Bool, if◌then◌else◌, List, [], ◌∷◌, map, slice_get, Option, Some, None, is_some, option_map, option_and_then, codes}
-use Rattle.std.specs.FinMap.{FinMap, get, retain_keys, entries, keys, values}
+use Rattle.std.specs.Prelude.{Bool, false, ◌&&◌, ◌||◌, if◌then◌else◌, List, [], ◌∷◌, map, filter, slice_get, Option, Some, None, is_some, option_map, option_and_then, codes}
+use Rattle.std.specs.Str.{bytes_eq}
+use Rattle.std.specs.FinMap.{FinMap, empty, get, insert, retain_keys, entries, keys, values}
 use Rattle.dh_versions.specs.Aliases.{latest_of, stable_of}
 use Rattle.dh_versions.specs.declared.version.Version.{Version}
 use Rattle.dh_reply.specs.declared.answer.Page.{Page}
@@ -8,6 +9,10 @@ use Rattle.dh_reply.specs.declared.seen_project.SeenProject.{SeenProject}
 use Rattle.dh_reply.specs.declared.seen_project.StoredPage.{StoredPage}
 use Rattle.dh_reply.specs.SeenProject.{resolved}
 use Rattle.dh_tables.specs.World.{Text, text_cmp, PageKey, page_cmp, Project, World, is_visible}
+
+-- `latest` or `stable`
+abbrev pub is_alias : Text → Bool
+is_alias name = bytes_eq name (codes "latest") || bytes_eq name (codes "stable")
 
 -- the first of the names that resolves; else `latest`, else `stable`, each if it resolves
 abbrev pub default_of : (Text → Bool) → List Text → Option Text
@@ -47,3 +52,37 @@ seen_project p pass = with_default (without_default p.languages p.branch (visibl
 -- what that caller sees under a host
 abbrev pub seen : World → Option Text → Option Text → Option SeenProject
 seen w host pass = option_map (λ p. seen_project p pass) (option_and_then (get w) host)
+
+-- the caller's own pass
+abbrev pub is_own : Option Text → Text → Bool
+is_own None x = false
+is_own (Some pass) x = bytes_eq x pass
+
+-- An alias, or a name that stands for a version that the caller sees.
+abbrev pub is_seen_name : Project → Option Text → Text → Bool
+is_seen_name p pass name = is_alias name || is_some (resolved (seen_project p pass) name)
+
+-- What is left of a project that holds nothing but what this caller sees: the visible versions, their pages, the defaults that he may see, and of the passes his own with the visible slugs that it holds.
+abbrev pub veiled : Project → Option Text → Project
+veiled p pass = record {
+  languages = p.languages;
+  branch = p.branch;
+  new_private = false;
+  wkey = codes "x";
+  versions = visible_versions p pass;
+  pages = visible_pages p pass;
+  defaults = filter (is_seen_name p pass) p.defaults;
+  passes = retain_keys p.passes (is_own pass);
+  held = retain_keys p.held (λ key. is_own pass key.0 && is_visible p pass key.1);
+  used = empty;
+}
+
+-- a world of this project alone, or of none
+abbrev pub alone : Text → Option Project → World
+alone host None = empty
+alone host (Some p) = insert empty host p
+
+-- the world with the project of that host alone, and of it only what this caller sees
+abbrev pub veil : World → Option Text → Option Text → World
+veil w None pass = empty
+veil w (Some host) pass = alone host (option_map (λ p. veiled p pass) (get w host))

@@ -40,6 +40,15 @@ abbrev pub used_table : Table
 used_table = keyed_table (codes "used") (1 ∷ 2 ∷ 3 ∷ 4 ∷ [])
     (text (codes "host") ∷ text (codes "slug") ∷ integer (codes "op") ∷ text (codes "retry") ∷ text (codes "answer") ∷ [])
 
+abbrev pub pick_table : Table
+pick_table = keyed_table (codes "pick") (1 ∷ 2 ∷ []) (text (codes "host") ∷ text (codes "name") ∷ integer (codes "rank") ∷ [])
+
+abbrev pub pass_table : Table
+pass_table = keyed_table (codes "pass") (1 ∷ 2 ∷ []) (text (codes "host") ∷ text (codes "pass") ∷ [])
+
+abbrev pub holds_table : Table
+holds_table = keyed_table (codes "holds") (1 ∷ 2 ∷ 3 ∷ []) (text (codes "host") ∷ text (codes "pass") ∷ text (codes "slug") ∷ [])
+
 -- the number of the schema
 abbrev pub meta : Coding ℕ
 meta = record { encode = λ n. Int (pos n) ∷ []; decode = λ r. number_in (column r 1); key = λ n. [] }
@@ -53,6 +62,9 @@ pub record Holds (db : Database) : Type 0 where
   pub versions : Keeps version_table coding.versions db
   pub pages : Keeps page_table coding.pages db
   pub used : Keeps used_table coding.used db
+  pub picks : Keeps pick_table coding.picks db
+  pub passes : Keeps pass_table coding.passes db
+  pub held : Keeps holds_table coding.held db
 
 -- the records of each table, in the order of their keys
 abbrev pub lists_of : Database → Lists
@@ -62,4 +74,7 @@ lists_of db = record {
   versions = records_of coding.versions (codes "version") db;
   pages = records_of coding.pages (codes "page") db;
   used = records_of coding.used (codes "used") db;
+  picks = records_of coding.picks (codes "pick") db;
+  passes = records_of coding.passes (codes "pass") db;
+  held = records_of coding.held (codes "holds") db;
 }

@@ -1,6 +1,8 @@
 -- What a view of the tables shows, and what a look at them leaves.
-use Rattle.std.specs.Prelude.{◌≡◌, ℕ, Bool, false, not, ◌&&◌, List, map, Option, IsTrue}
+use Rattle.std.specs.Prelude.{◌≡◌, ℕ, Bool, false, not, ◌&&◌, ◌||◌, List, map, Option, IsTrue}
 use Rattle.std.proofs.Common.{inl, inr, ◌∙◌}
+use Rattle.std.specs.List.{list_any}
+use Rattle.std.specs.Str.{bytes_eq}
 use Rattle.std.specs.FinMap.{is_sorted}
 use Rattle.sqlite_trees.specs.View.{doubt}
 use Rattle.sqlite_trees.specs.declared.store.Store.{Ghosts}
@@ -10,6 +12,7 @@ use Rattle.dh_rows.specs.Calls.{IsHonest, IsSame, Leaves, seen, committed}
 use Rattle.dh_versions.specs.declared.version.Version.{Version}
 use Rattle.dh_reply.specs.declared.seen_project.SeenProject.{SeenProject}
 use Rattle.dh_tables.specs.declared.records.VersionRow.{VersionRow}
+use Rattle.dh_tables.specs.declared.records.HeldRow.{HeldRow}
 use Rattle.dh_tables.specs.World.{Text, text_cmp}
 use Rattle.dh_tables.specs.Seen as caller
 use Rattle.dh_tables.specs.Lists.{world_of}
@@ -19,9 +22,13 @@ use Rattle.dh_tables.specs.Tables.{lists_of}
 abbrev pub RiseBySlug : List VersionRow → Type 0
 RiseBySlug rows = IsTrue (is_sorted text_cmp (map (λ r. (r.version.slug, r.version)) rows))
 
--- visible to every caller
-abbrev pub is_public : Version → Bool
-is_public v = v.active && not v.private
+-- the version is active, and it is public or the caller's pass holds it
+abbrev pub may_see : Version → Bool → Bool
+may_see v held = v.active && (not v.private || held)
+
+-- one of the grants is on the version
+abbrev pub opens : List HeldRow → Text → Bool
+opens grants slug = list_any (λ x. bytes_eq x.slug slug) grants
 
 module _ {S : Type 0} (g : Ghosts S) where
   -- 0 while the disk has returned what was written and no fault has shut the store, else 1

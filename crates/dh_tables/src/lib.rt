@@ -2,6 +2,7 @@
 #![tactic(auto)]
 
 pub mod answer;
+mod laws;
 mod making;
 mod query;
 mod reading;
@@ -12,6 +13,9 @@ mod tests;
 mod view;
 
 pub use answer::Answer;
-pub use records::{LangRow, Operation, PageRow, ProjectRow, UsedRow, VersionRow};
+pub use laws::veil_law;
+pub use records::{
+    HeldRow, LangRow, Operation, PageRow, PassRow, PickRow, ProjectRow, UsedRow, VersionRow,
+};
 pub use tables::{Tables, TablesFault};
 pub use view::{View, doubt_is_of_the_store};

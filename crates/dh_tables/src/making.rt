@@ -3,8 +3,7 @@ ghost use Rattle.sqlite.specs.Held.{state};
 ghost use Rattle.sqlite.specs.State.{HasCleanDisk};
 ghost use Rattle.dh_rows.specs.Calls.{IsHonest, Shows, Becomes, IsRefused, whole};
 ghost use Rattle.dh_rows.specs.Places.{IsFree, IsUnmentioned, ArePlaced};
-ghost use Rattle.dh_tables.specs.Making.{CanMake, IsReady, IsMade, GoesOn, CommitsNothing};
-ghost use Rattle.dh_tables.specs.Tables.{meta_table, project_table, lang_table, version_table, page_table, used_table};
+ghost use Rattle.dh_tables.specs.Making.{CanMake, IsReady, IsMade, GoesOn, CommitsNothing, our_tables, from_meta, from_project, from_lang, from_version, from_page, from_used, from_pick, from_pass, from_holds, upto_meta, upto_project, upto_lang, upto_version, upto_page, upto_used, upto_pick, upto_pass, upto_holds};
 
 use crate::query::{fault_of, write};
 use dh_reply::Fault;
@@ -13,8 +12,8 @@ use sqlite::{Alter, Connection, params};
 use sqlite_schema::schema::Schema;
 
 fn make_meta<S: Alter>(conn: &mut Connection<S>) -> Result<(), Fault>
-    requires { IsHonest S.Store conn.old → IsReady ([]) (meta_table ∷ project_table ∷ lang_table ∷ version_table ∷ page_table ∷ used_table ∷ []) (state S.Store conn.old).now }
-    ensures ok { IsHonest S.Store conn.old → HasCleanDisk (state S.Store conn.new) → OnOk result (Becomes S.Store whole conn.old conn.new (state S.Store conn.new).now × IsReady (meta_table ∷ []) (project_table ∷ lang_table ∷ version_table ∷ page_table ∷ used_table ∷ []) (state S.Store conn.new).now) }
+    requires { IsHonest S.Store conn.old → IsReady [] from_meta (state S.Store conn.old).now }
+    ensures ok { IsHonest S.Store conn.old → HasCleanDisk (state S.Store conn.new) → OnOk result (Becomes S.Store whole conn.old conn.new (state S.Store conn.new).now × IsReady upto_meta from_project (state S.Store conn.new).now) }
     ensures err { IsHonest S.Store conn.new → OnErr result (IsRefused S.Store whole conn.old conn.new) }
     ensures clean { HasCleanDisk (state S.Store conn.new) → HasCleanDisk (state S.Store conn.old) }
     ensures was { IsHonest S.Store conn.new → IsHonest S.Store conn.old }
@@ -27,8 +26,8 @@ fn make_meta<S: Alter>(conn: &mut Connection<S>) -> Result<(), Fault>
 }
 
 fn make_project<S: Alter>(conn: &mut Connection<S>) -> Result<(), Fault>
-    requires { IsHonest S.Store conn.old → IsReady (meta_table ∷ []) (project_table ∷ lang_table ∷ version_table ∷ page_table ∷ used_table ∷ []) (state S.Store conn.old).now }
-    ensures ok { IsHonest S.Store conn.old → HasCleanDisk (state S.Store conn.new) → OnOk result (Becomes S.Store whole conn.old conn.new (state S.Store conn.new).now × IsReady (project_table ∷ meta_table ∷ []) (lang_table ∷ version_table ∷ page_table ∷ used_table ∷ []) (state S.Store conn.new).now) }
+    requires { IsHonest S.Store conn.old → IsReady upto_meta from_project (state S.Store conn.old).now }
+    ensures ok { IsHonest S.Store conn.old → HasCleanDisk (state S.Store conn.new) → OnOk result (Becomes S.Store whole conn.old conn.new (state S.Store conn.new).now × IsReady upto_project from_lang (state S.Store conn.new).now) }
     ensures err { IsHonest S.Store conn.new → OnErr result (IsRefused S.Store whole conn.old conn.new) }
     ensures clean { HasCleanDisk (state S.Store conn.new) → HasCleanDisk (state S.Store conn.old) }
     ensures was { IsHonest S.Store conn.new → IsHonest S.Store conn.old }
@@ -41,8 +40,8 @@ fn make_project<S: Alter>(conn: &mut Connection<S>) -> Result<(), Fault>
 }
 
 fn make_lang<S: Alter>(conn: &mut Connection<S>) -> Result<(), Fault>
-    requires { IsHonest S.Store conn.old → IsReady (project_table ∷ meta_table ∷ []) (lang_table ∷ version_table ∷ page_table ∷ used_table ∷ []) (state S.Store conn.old).now }
-    ensures ok { IsHonest S.Store conn.old → HasCleanDisk (state S.Store conn.new) → OnOk result (Becomes S.Store whole conn.old conn.new (state S.Store conn.new).now × IsReady (lang_table ∷ project_table ∷ meta_table ∷ []) (version_table ∷ page_table ∷ used_table ∷ []) (state S.Store conn.new).now) }
+    requires { IsHonest S.Store conn.old → IsReady upto_project from_lang (state S.Store conn.old).now }
+    ensures ok { IsHonest S.Store conn.old → HasCleanDisk (state S.Store conn.new) → OnOk result (Becomes S.Store whole conn.old conn.new (state S.Store conn.new).now × IsReady upto_lang from_version (state S.Store conn.new).now) }
     ensures err { IsHonest S.Store conn.new → OnErr result (IsRefused S.Store whole conn.old conn.new) }
     ensures clean { HasCleanDisk (state S.Store conn.new) → HasCleanDisk (state S.Store conn.old) }
     ensures was { IsHonest S.Store conn.new → IsHonest S.Store conn.old }
@@ -55,8 +54,8 @@ fn make_lang<S: Alter>(conn: &mut Connection<S>) -> Result<(), Fault>
 }
 
 fn make_version<S: Alter>(conn: &mut Connection<S>) -> Result<(), Fault>
-    requires { IsHonest S.Store conn.old → IsReady (lang_table ∷ project_table ∷ meta_table ∷ []) (version_table ∷ page_table ∷ used_table ∷ []) (state S.Store conn.old).now }
-    ensures ok { IsHonest S.Store conn.old → HasCleanDisk (state S.Store conn.new) → OnOk result (Becomes S.Store whole conn.old conn.new (state S.Store conn.new).now × IsReady (version_table ∷ lang_table ∷ project_table ∷ meta_table ∷ []) (page_table ∷ used_table ∷ []) (state S.Store conn.new).now) }
+    requires { IsHonest S.Store conn.old → IsReady upto_lang from_version (state S.Store conn.old).now }
+    ensures ok { IsHonest S.Store conn.old → HasCleanDisk (state S.Store conn.new) → OnOk result (Becomes S.Store whole conn.old conn.new (state S.Store conn.new).now × IsReady upto_version from_page (state S.Store conn.new).now) }
     ensures err { IsHonest S.Store conn.new → OnErr result (IsRefused S.Store whole conn.old conn.new) }
     ensures clean { HasCleanDisk (state S.Store conn.new) → HasCleanDisk (state S.Store conn.old) }
     ensures was { IsHonest S.Store conn.new → IsHonest S.Store conn.old }
@@ -69,8 +68,8 @@ fn make_version<S: Alter>(conn: &mut Connection<S>) -> Result<(), Fault>
 }
 
 fn make_page<S: Alter>(conn: &mut Connection<S>) -> Result<(), Fault>
-    requires { IsHonest S.Store conn.old → IsReady (version_table ∷ lang_table ∷ project_table ∷ meta_table ∷ []) (page_table ∷ used_table ∷ []) (state S.Store conn.old).now }
-    ensures ok { IsHonest S.Store conn.old → HasCleanDisk (state S.Store conn.new) → OnOk result (Becomes S.Store whole conn.old conn.new (state S.Store conn.new).now × IsReady (page_table ∷ version_table ∷ lang_table ∷ project_table ∷ meta_table ∷ []) (used_table ∷ []) (state S.Store conn.new).now) }
+    requires { IsHonest S.Store conn.old → IsReady upto_version from_page (state S.Store conn.old).now }
+    ensures ok { IsHonest S.Store conn.old → HasCleanDisk (state S.Store conn.new) → OnOk result (Becomes S.Store whole conn.old conn.new (state S.Store conn.new).now × IsReady upto_page from_used (state S.Store conn.new).now) }
     ensures err { IsHonest S.Store conn.new → OnErr result (IsRefused S.Store whole conn.old conn.new) }
     ensures clean { HasCleanDisk (state S.Store conn.new) → HasCleanDisk (state S.Store conn.old) }
     ensures was { IsHonest S.Store conn.new → IsHonest S.Store conn.old }
@@ -83,8 +82,8 @@ fn make_page<S: Alter>(conn: &mut Connection<S>) -> Result<(), Fault>
 }
 
 fn make_used<S: Alter>(conn: &mut Connection<S>) -> Result<(), Fault>
-    requires { IsHonest S.Store conn.old → IsReady (page_table ∷ version_table ∷ lang_table ∷ project_table ∷ meta_table ∷ []) (used_table ∷ []) (state S.Store conn.old).now }
-    ensures ok { IsHonest S.Store conn.old → HasCleanDisk (state S.Store conn.new) → OnOk result (Becomes S.Store whole conn.old conn.new (state S.Store conn.new).now × IsReady (used_table ∷ page_table ∷ version_table ∷ lang_table ∷ project_table ∷ meta_table ∷ []) ([]) (state S.Store conn.new).now) }
+    requires { IsHonest S.Store conn.old → IsReady upto_page from_used (state S.Store conn.old).now }
+    ensures ok { IsHonest S.Store conn.old → HasCleanDisk (state S.Store conn.new) → OnOk result (Becomes S.Store whole conn.old conn.new (state S.Store conn.new).now × IsReady upto_used from_pick (state S.Store conn.new).now) }
     ensures err { IsHonest S.Store conn.new → OnErr result (IsRefused S.Store whole conn.old conn.new) }
     ensures clean { HasCleanDisk (state S.Store conn.new) → HasCleanDisk (state S.Store conn.old) }
     ensures was { IsHonest S.Store conn.new → IsHonest S.Store conn.old }
@@ -96,9 +95,51 @@ fn make_used<S: Alter>(conn: &mut Connection<S>) -> Result<(), Fault>
     )
 }
 
+fn make_pick<S: Alter>(conn: &mut Connection<S>) -> Result<(), Fault>
+    requires { IsHonest S.Store conn.old → IsReady upto_used from_pick (state S.Store conn.old).now }
+    ensures ok { IsHonest S.Store conn.old → HasCleanDisk (state S.Store conn.new) → OnOk result (Becomes S.Store whole conn.old conn.new (state S.Store conn.new).now × IsReady upto_pick from_pass (state S.Store conn.new).now) }
+    ensures err { IsHonest S.Store conn.new → OnErr result (IsRefused S.Store whole conn.old conn.new) }
+    ensures clean { HasCleanDisk (state S.Store conn.new) → HasCleanDisk (state S.Store conn.old) }
+    ensures was { IsHonest S.Store conn.new → IsHonest S.Store conn.old }
+{
+    write(
+        conn,
+        "CREATE TABLE pick (host TEXT NOT NULL, name TEXT NOT NULL, rank INTEGER NOT NULL, PRIMARY KEY (host, name)) STRICT",
+        &[],
+    )
+}
+
+fn make_pass<S: Alter>(conn: &mut Connection<S>) -> Result<(), Fault>
+    requires { IsHonest S.Store conn.old → IsReady upto_pick from_pass (state S.Store conn.old).now }
+    ensures ok { IsHonest S.Store conn.old → HasCleanDisk (state S.Store conn.new) → OnOk result (Becomes S.Store whole conn.old conn.new (state S.Store conn.new).now × IsReady upto_pass from_holds (state S.Store conn.new).now) }
+    ensures err { IsHonest S.Store conn.new → OnErr result (IsRefused S.Store whole conn.old conn.new) }
+    ensures clean { HasCleanDisk (state S.Store conn.new) → HasCleanDisk (state S.Store conn.old) }
+    ensures was { IsHonest S.Store conn.new → IsHonest S.Store conn.old }
+{
+    write(
+        conn,
+        "CREATE TABLE pass (host TEXT NOT NULL, pass TEXT NOT NULL, PRIMARY KEY (host, pass)) STRICT",
+        &[],
+    )
+}
+
+fn make_holds<S: Alter>(conn: &mut Connection<S>) -> Result<(), Fault>
+    requires { IsHonest S.Store conn.old → IsReady upto_pass from_holds (state S.Store conn.old).now }
+    ensures ok { IsHonest S.Store conn.old → HasCleanDisk (state S.Store conn.new) → OnOk result (Becomes S.Store whole conn.old conn.new (state S.Store conn.new).now × IsReady upto_holds [] (state S.Store conn.new).now) }
+    ensures err { IsHonest S.Store conn.new → OnErr result (IsRefused S.Store whole conn.old conn.new) }
+    ensures clean { HasCleanDisk (state S.Store conn.new) → HasCleanDisk (state S.Store conn.old) }
+    ensures was { IsHonest S.Store conn.new → IsHonest S.Store conn.old }
+{
+    write(
+        conn,
+        "CREATE TABLE holds (host TEXT NOT NULL, pass TEXT NOT NULL, slug TEXT NOT NULL, PRIMARY KEY (host, pass, slug)) STRICT",
+        &[],
+    )
+}
+
 /// Writes the number of the schema.
 fn number<S: Alter>(conn: &mut Connection<S>) -> Result<(), Fault>
-    requires { IsHonest S.Store conn.old → IsReady (used_table ∷ page_table ∷ version_table ∷ lang_table ∷ project_table ∷ meta_table ∷ []) [] (state S.Store conn.old).now }
+    requires { IsHonest S.Store conn.old → IsReady upto_holds [] (state S.Store conn.old).now }
     ensures ok { IsHonest S.Store conn.old → HasCleanDisk (state S.Store conn.new) → OnOk result (Becomes S.Store whole conn.old conn.new (state S.Store conn.new).now × IsMade (state S.Store conn.new).now) }
     ensures err { IsHonest S.Store conn.new → OnErr result (IsRefused S.Store whole conn.old conn.new) }
     ensures clean { HasCleanDisk (state S.Store conn.new) → HasCleanDisk (state S.Store conn.old) }
@@ -108,8 +149,8 @@ fn number<S: Alter>(conn: &mut Connection<S>) -> Result<(), Fault>
 }
 
 fn make_first<S: Alter>(conn: &mut Connection<S>) -> Result<(), Fault>
-    requires { IsHonest S.Store conn.old → IsReady ([]) (meta_table ∷ project_table ∷ lang_table ∷ version_table ∷ page_table ∷ used_table ∷ []) (state S.Store conn.old).now }
-    ensures ok { IsHonest S.Store conn.old → HasCleanDisk (state S.Store conn.new) → OnOk result (GoesOn S.Store conn.old conn.new × IsReady (lang_table ∷ project_table ∷ meta_table ∷ []) (version_table ∷ page_table ∷ used_table ∷ []) (state S.Store conn.new).now) }
+    requires { IsHonest S.Store conn.old → IsReady [] from_meta (state S.Store conn.old).now }
+    ensures ok { IsHonest S.Store conn.old → HasCleanDisk (state S.Store conn.new) → OnOk result (GoesOn S.Store conn.old conn.new × IsReady upto_lang from_version (state S.Store conn.new).now) }
     ensures err { IsHonest S.Store conn.new → conn.old.in_transaction ≡ true → OnErr result (CommitsNothing S.Store conn.old conn.new) }
     ensures clean { HasCleanDisk (state S.Store conn.new) → HasCleanDisk (state S.Store conn.old) }
     ensures was { IsHonest S.Store conn.new → IsHonest S.Store conn.old }
@@ -119,28 +160,41 @@ fn make_first<S: Alter>(conn: &mut Connection<S>) -> Result<(), Fault>
     make_lang(conn)
 }
 
-fn make_rest<S: Alter>(conn: &mut Connection<S>) -> Result<(), Fault>
-    requires { IsHonest S.Store conn.old → IsReady (lang_table ∷ project_table ∷ meta_table ∷ []) (version_table ∷ page_table ∷ used_table ∷ []) (state S.Store conn.old).now }
-    ensures ok { IsHonest S.Store conn.old → HasCleanDisk (state S.Store conn.new) → OnOk result (GoesOn S.Store conn.old conn.new × IsMade (state S.Store conn.new).now) }
+fn make_second<S: Alter>(conn: &mut Connection<S>) -> Result<(), Fault>
+    requires { IsHonest S.Store conn.old → IsReady upto_lang from_version (state S.Store conn.old).now }
+    ensures ok { IsHonest S.Store conn.old → HasCleanDisk (state S.Store conn.new) → OnOk result (GoesOn S.Store conn.old conn.new × IsReady upto_used from_pick (state S.Store conn.new).now) }
     ensures err { IsHonest S.Store conn.new → conn.old.in_transaction ≡ true → OnErr result (CommitsNothing S.Store conn.old conn.new) }
     ensures clean { HasCleanDisk (state S.Store conn.new) → HasCleanDisk (state S.Store conn.old) }
     ensures was { IsHonest S.Store conn.new → IsHonest S.Store conn.old }
 {
     make_version(conn)?;
     make_page(conn)?;
-    make_used(conn)?;
+    make_used(conn)
+}
+
+fn make_rest<S: Alter>(conn: &mut Connection<S>) -> Result<(), Fault>
+    requires { IsHonest S.Store conn.old → IsReady upto_used from_pick (state S.Store conn.old).now }
+    ensures ok { IsHonest S.Store conn.old → HasCleanDisk (state S.Store conn.new) → OnOk result (GoesOn S.Store conn.old conn.new × IsMade (state S.Store conn.new).now) }
+    ensures err { IsHonest S.Store conn.new → conn.old.in_transaction ≡ true → OnErr result (CommitsNothing S.Store conn.old conn.new) }
+    ensures clean { HasCleanDisk (state S.Store conn.new) → HasCleanDisk (state S.Store conn.old) }
+    ensures was { IsHonest S.Store conn.new → IsHonest S.Store conn.old }
+{
+    make_pick(conn)?;
+    make_pass(conn)?;
+    make_holds(conn)?;
     number(conn)
 }
 
 /// Makes the tables, with no record in them.
 pub fn make_tables<S: Alter>(conn: &mut Connection<S>) -> Result<(), Fault>
-    requires { IsHonest S.Store conn.old → IsReady ([]) (meta_table ∷ project_table ∷ lang_table ∷ version_table ∷ page_table ∷ used_table ∷ []) (state S.Store conn.old).now }
+    requires { IsHonest S.Store conn.old → IsReady [] our_tables (state S.Store conn.old).now }
     ensures ok { IsHonest S.Store conn.old → HasCleanDisk (state S.Store conn.new) → OnOk result (GoesOn S.Store conn.old conn.new × IsMade (state S.Store conn.new).now) }
     ensures err { IsHonest S.Store conn.new → conn.old.in_transaction ≡ true → OnErr result (CommitsNothing S.Store conn.old conn.new) }
     ensures clean { HasCleanDisk (state S.Store conn.new) → HasCleanDisk (state S.Store conn.old) }
     ensures was { IsHonest S.Store conn.new → IsHonest S.Store conn.old }
 {
     make_first(conn)?;
+    make_second(conn)?;
     make_rest(conn)
 }
 
@@ -160,6 +214,9 @@ pub fn can_make(schema: &Schema) -> bool
         && can_have(schema, b"version")
         && can_have(schema, b"page")
         && can_have(schema, b"used")
+        && can_have(schema, b"pick")
+        && can_have(schema, b"pass")
+        && can_have(schema, b"holds")
         && keeps_counts(schema)
 }
 

@@ -1,4 +1,4 @@
-ghost use Rattle.std.specs.Prelude.{◌≡◌, ◌↔◌, ◌⊎◌, List, map, slice_get, is_some, true, false, IfOk, OnOk, OnErr};
+ghost use Rattle.std.specs.Prelude.{◌≡◌, ◌↔◌, ◌⊎◌, List, map, length, slice_get, is_some, true, false, IfOk, OnOk, OnErr};
 ghost use Rattle.sqlite_value.specs.Order.{Row as Values};
 ghost use Rattle.sqlite.specs.Effect.{Database, Reads};
 ghost use Rattle.sqlite.specs.Given.{IsPlain};
@@ -92,6 +92,29 @@ pub fn has_record<S: Alter>(
 {
     match dh_rows::select(conn, sql, params) {
         Ok(rows) => Ok(rows.first().is_some()),
+        Err(fault) => Err(fault_of(fault)),
+    }
+}
+
+/// How many rows a query answers.
+pub fn count_records<S: Alter>(
+    conn: &mut Connection<S>,
+    sql: &str,
+    params: &[ValueRef<'_>],
+) -> Result<usize, Fault>
+    requires plain { IsHonest S.Store conn.old → IsPlain (understood (state S.Store conn.old).now.schema sql.now) }
+    requires listing { IsHonest S.Store conn.old → reads_listing (state S.Store conn.old).now.schema sql.now ≡ false }
+    ensures value { IsHonest S.Store conn.old → HasCleanDisk (state S.Store conn.new) → IfOk result (λ n. (rows : List Values) × Reads (command_of (understood (state S.Store conn.old).now.schema sql.now)) (state S.Store conn.old).now (bound params.now) rows × (n ≡ length rows)) }
+    ensures same { IsHonest S.Store conn.old → HasCleanDisk (state S.Store conn.new) → OnOk result (IsSame S.Store whole conn.old conn.new) }
+    ensures err { IsHonest S.Store conn.new → OnErr result (IsRefused S.Store whole conn.old conn.new) }
+    ensures clean { HasCleanDisk (state S.Store conn.new) → HasCleanDisk (state S.Store conn.old) }
+    ensures was { IsHonest S.Store conn.new → IsHonest S.Store conn.old }
+    ensures crash { LeavesTrees S.Store conn.old conn.new (λ db. ⊥) }
+    ensures kept { KeepsCommitted S.Store conn.old conn.new }
+    ensures quiet { IsHonest S.Store conn.old → LeavesNoMore S.Store conn.old conn.new }
+{
+    match dh_rows::select(conn, sql, params) {
+        Ok(rows) => Ok(rows.len()),
         Err(fault) => Err(fault_of(fault)),
     }
 }

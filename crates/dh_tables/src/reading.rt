@@ -5,7 +5,9 @@ ghost use Rattle.dh_rows.specs.Keyed.{Coding, flag};
 ghost use Rattle.dh_tables.specs.Codings as spec;
 
 use crate::query::fault_of;
-use crate::records::{LangRow, Operation, PageRow, ProjectRow, UsedRow, VersionRow};
+use crate::records::{
+    HeldRow, LangRow, Operation, PageRow, PassRow, PickRow, ProjectRow, UsedRow, VersionRow,
+};
 use dh_paths::{Bytes, HostName, Lang, PagePath, RefName, Slug, Text, TextFault, Token};
 use dh_reply::{Fault, Page};
 use dh_versions::{Kind, Version};
@@ -43,6 +45,15 @@ fn number_at(row: &Row, at: usize) -> Result<u32, Fault>
 {
     match row.get(at) {
         Ok(number) => Ok(number),
+        Err(error) => Err(fault_of(error.into())),
+    }
+}
+
+fn rank_at(row: &Row, at: usize) -> Result<u64, Fault>
+    ensures { IfOk result (λ n. spec.number_in (column row.now at) ≡ n) }
+{
+    match row.get(at) {
+        Ok(rank) => Ok(rank),
         Err(error) => Err(fault_of(error.into())),
     }
 }
@@ -205,6 +216,41 @@ impl Record for UsedRow {
             },
             retry: token_at(alloc, row, 3)?,
             answer: Text::wrap(text_at(row, 4)?),
+        })
+    }
+}
+
+impl Record for PickRow {
+    ghost coding = { spec.picks };
+
+    fn read(alloc: Global, row: &Row) -> Result<PickRow, Fault> {
+        Ok(PickRow {
+            host: host_at(alloc, row, 0)?,
+            name: slug_at(alloc, row, 1)?,
+            rank: rank_at(row, 2)?,
+        })
+    }
+}
+
+impl Record for PassRow {
+    ghost coding = { spec.passes };
+
+    fn read(alloc: Global, row: &Row) -> Result<PassRow, Fault> {
+        Ok(PassRow {
+            host: host_at(alloc, row, 0)?,
+            pass: token_at(alloc, row, 1)?,
+        })
+    }
+}
+
+impl Record for HeldRow {
+    ghost coding = { spec.held };
+
+    fn read(alloc: Global, row: &Row) -> Result<HeldRow, Fault> {
+        Ok(HeldRow {
+            host: host_at(alloc, row, 0)?,
+            pass: token_at(alloc, row, 1)?,
+            slug: slug_at(alloc, row, 2)?,
         })
     }
 }

@@ -45,6 +45,31 @@ pub struct PageRow {
     pub page: Page,
 }
 
+/// A name in a project's list of defaults.
+#[derive(Drop)]
+pub struct PickRow {
+    pub host: HostName,
+    /// The slug of a version, or the name of an alias.
+    pub name: Slug,
+    /// From 1, which is the newest's.
+    pub rank: u64,
+}
+
+/// A pass of a project.
+#[derive(Drop)]
+pub struct PassRow {
+    pub host: HostName,
+    pub pass: Token,
+}
+
+/// A grant: the pass opens the version.
+#[derive(Drop)]
+pub struct HeldRow {
+    pub host: HostName,
+    pub pass: Token,
+    pub slug: Slug,
+}
+
 /// The commands that carry a retry key.
 #[derive(Clone, Copy, Debug, PartialEq, Eq)]
 pub enum Operation {

@@ -12,6 +12,8 @@ ghost use Rattle.dh_tables.specs.View.{IsSettled, RiseBySlug};
 ghost use Rattle.sqlite.specs.Steps.{over_memory};
 ghost use Rattle.std.specs.FinMap.{empty};
 
+mod passes;
+
 use crate::answer::{Answer, kept_answer};
 use crate::making::{can_make, make_at_once, make_tables};
 use crate::query::{all_records, fault_of, first_record, has_record, write};
@@ -477,6 +479,20 @@ impl<S: Alter> Tables<S> {
                 row.version.private
             ],
         )
+    }
+
+    /// Removes a version. Its pages and grants stay, and its name among the defaults.
+    pub fn drop_version(&mut self, host: &HostName, slug: &Slug) -> Result<(), Fault>
+        ensures ok { IsHonest S.Store self.old → HasCleanDisk (state S.Store self.new) → OnOk result (Becomes S.Store lists_of self.old self.new (record (seen S.Store lists_of self.old) { versions = filter (λ x. not (spec.is_version host.now slug.now x)) (seen S.Store lists_of self.old).versions })) }
+        ensures err { IsHonest S.Store self.new → OnErr result (IsRefused S.Store lists_of self.old self.new) }
+        ensures clean { HasCleanDisk (state S.Store self.new) → HasCleanDisk (state S.Store self.old) }
+        ensures was { IsHonest S.Store self.new → IsHonest S.Store self.old }
+        ensures crash { Leaves S.Store lists_of self.old self.new (λ w. (self.old.in_transaction ≡ false) × (w ≡ record (seen S.Store lists_of self.old) { versions = filter (λ x. not (spec.is_version host.now slug.now x)) (seen S.Store lists_of self.old).versions })) }
+        ensures kept { self.old.in_transaction ≡ true → KeepsCommitted S.Store self.old self.new }
+        ensures quiet { self.old.in_transaction ≡ true → IsHonest S.Store self.old → LeavesNoMore S.Store self.old self.new }
+    {
+        let sql = "DELETE FROM version WHERE host = ?1 AND slug = ?2";
+        write(&mut self.conn, sql, params![host.as_str(), slug.as_str()])
     }
 
     /// Adds a page, or puts it in place of the one with its path.

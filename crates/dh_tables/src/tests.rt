@@ -1,4 +1,5 @@
 mod keys;
+mod passes;
 mod views;
 
 use crate::{Answer, LangRow, PageRow, ProjectRow, Tables, TablesFault, VersionRow};

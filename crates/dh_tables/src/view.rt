@@ -1,4 +1,5 @@
-ghost use Rattle.std.specs.Prelude.{◌≡◌, ◌↔◌, ◌&&◌, not, map, slice_get, is_some, find, filter, List, [], true, false, IfOk, Option};
+ghost use Rattle.std.specs.Prelude.{◌≡◌, ◌↔◌, ◌&&◌, not, map, slice_get, is_some, find, filter, ℕ, List, [], true, false, IfOk, Option};
+ghost use Rattle.std.specs.List.{AllByRecursion, list_any};
 ghost use Rattle.std.specs.Option.{option_map, option_and_then, option_map_or};
 ghost use Rattle.std.specs.FinMap.{get, keys, values};
 ghost use Rattle.std.proofs.Common.{◌∙◌, refl, inl};
@@ -8,11 +9,13 @@ ghost use Rattle.dh_versions.specs.Aliases.{latest_of, stable_of};
 ghost use Rattle.dh_reply.specs.SeenProject.{alias_of, resolved, page_at};
 ghost use Rattle.dh_tables.specs.Lists as spec;
 ghost use Rattle.dh_tables.specs.Lists.{project_of, world_of};
-ghost use Rattle.dh_tables.specs.Seen.{seen_project, visible_versions};
+ghost use Rattle.dh_tables.specs.Seen.{default_of, seen_project, visible_versions};
 ghost use Rattle.dh_tables.specs.Tables.{lists_of};
-ghost use Rattle.dh_tables.specs.View.{IsSettled, Looks, IsUnmoved, RiseBySlug, doubt_of, shown, is_public, unmoved_on};
+ghost use Rattle.dh_tables.specs.View as view;
+ghost use Rattle.dh_tables.specs.View.{IsSettled, Looks, IsUnmoved, RiseBySlug, doubt_of, shown, unmoved_on};
+ghost use Rattle.dh_tables.specs.World.{holds};
 
-use crate::records::{LangRow, PageRow, ProjectRow, VersionRow};
+use crate::records::{HeldRow, LangRow, PageRow, PassRow, PickRow, ProjectRow, VersionRow};
 use crate::tables::Tables;
 use dh_paths::{HostName, Lang, Slug, Text, Token};
 use dh_reply::{Fault, Lookup, Named, Page};
@@ -95,26 +98,90 @@ fn look_page<S: Alter>(
     tables.page(alloc, host, slug, lang, path)
 }
 
+fn look_picks<S: Alter>(
+    tables: &mut Tables<S>,
+    alloc: Global,
+    host: &HostName,
+) -> Result<Vec<PickRow>, Fault>
+    requires settled { IsHonest S.Store tables.old → IsSettled S.Store tables.old }
+    ensures looks { Looks S.Store tables.old tables.new }
+    ensures value { IsHonest S.Store tables.new → IfOk result (λ o. o.items ≡ filter (spec.is_pick_of host.now) (seen S.Store lists_of tables.old).picks) }
+{
+    tables.picks(alloc, host)
+}
+
+fn look_pass<S: Alter>(
+    tables: &mut Tables<S>,
+    alloc: Global,
+    host: &HostName,
+    pass: &Token,
+) -> Result<Option<PassRow>, Fault>
+    requires settled { IsHonest S.Store tables.old → IsSettled S.Store tables.old }
+    ensures looks { Looks S.Store tables.old tables.new }
+    ensures value { IsHonest S.Store tables.new → IfOk result (λ o. o ≡ find (spec.is_pass host.now pass.now) (seen S.Store lists_of tables.old).passes) }
+{
+    tables.pass(alloc, host, pass)
+}
+
+fn look_held<S: Alter>(
+    tables: &mut Tables<S>,
+    host: &HostName,
+    pass: &Token,
+    slug: &Slug,
+) -> Result<bool, Fault>
+    requires settled { IsHonest S.Store tables.old → IsSettled S.Store tables.old }
+    ensures looks { Looks S.Store tables.old tables.new }
+    ensures value { IsHonest S.Store tables.new → IfOk result (λ b. b ≡ is_some (find (spec.is_held host.now pass.now slug.now) (seen S.Store lists_of tables.old).held)) }
+{
+    tables.held(host, pass, slug)
+}
+
+fn look_grants<S: Alter>(
+    tables: &mut Tables<S>,
+    alloc: Global,
+    host: &HostName,
+    pass: &Token,
+) -> Result<Vec<HeldRow>, Fault>
+    requires settled { IsHonest S.Store tables.old → IsSettled S.Store tables.old }
+    ensures looks { Looks S.Store tables.old tables.new }
+    ensures value { IsHonest S.Store tables.new → IfOk result (λ o. o.items ≡ filter (spec.is_held_by host.now pass.now) (seen S.Store lists_of tables.old).held) }
+{
+    tables.held_by(alloc, host, pass)
+}
+
 // ---- what a caller may see of the records
 
-/// Whether the pass holds the version: there are no passes yet.
-fn holds(_pass: &Option<Token>, _version: &Version) -> bool
-    ensures { result ≡ false }
+fn may_see(version: &Version, held: bool) -> bool
+    ensures { result ≡ view.may_see version.now held }
 {
-    false
+    version.active && (!version.private || held)
 }
 
-fn is_visible(version: &Version, pass: &Option<Token>) -> bool
-    ensures { result ≡ is_public version.now }
+fn opens(grants: &[HeldRow], slug: &Slug) -> bool
+    ensures { result ≡ view.opens grants.now slug.now }
 {
-    version.active && (!version.private || holds(pass, version))
+    grants
+        .iter()
+        .any(|grant| grant.slug.as_str() == slug.as_str())
 }
 
-fn only_visible(rows: Vec<VersionRow>, pass: &Option<Token>) -> Vec<VersionRow>
-    ensures { result.items ≡ filter (λ r. is_public r.version) rows.items }
+fn any_private(rows: &[VersionRow]) -> bool
+    ensures { result ≡ list_any (λ r. r.version.private) rows.now }
+{
+    rows.iter().any(|row| row.version.private)
+}
+
+fn is_visible(row: &VersionRow, grants: &[HeldRow]) -> bool
+    ensures { result ≡ view.may_see row.now.version (view.opens grants.now row.now.version.slug) }
+{
+    may_see(&row.version, opens(grants, &row.version.slug))
+}
+
+fn only_visible(rows: Vec<VersionRow>, grants: &[HeldRow]) -> Vec<VersionRow>
+    ensures { result.items ≡ filter (λ r. view.may_see r.version (view.opens grants.now r.version.slug)) rows.items }
 {
     let mut rows = rows;
-    rows.retain(|row| is_visible(&row.version, pass));
+    rows.retain(|row| is_visible(row, grants));
     rows
 }
 
@@ -145,6 +212,46 @@ fn alias_at(versions: Vec<Version>, place: Option<usize>) -> Option<Named>
 
 // ---- what a caller sees of a project
 
+/// Whether the caller's pass is one of the project's, and holds the version.
+fn is_held<S: Alter>(
+    tables: &mut Tables<S>,
+    alloc: Global,
+    project: &ProjectRow,
+    pass: &Option<Token>,
+    slug: &Slug,
+) -> Result<bool, Fault>
+    requires settled { IsHonest S.Store tables.old → IsSettled S.Store tables.old }
+    ensures looks { Looks S.Store tables.old tables.new }
+    ensures value { IsHonest S.Store tables.new → IfOk result (λ b. b ≡ holds (project_of (seen S.Store lists_of tables.old) project.now) pass.now slug.now) }
+{
+    match pass {
+        Some(pass) => match look_pass(tables, alloc, &project.host, pass)? {
+            Some(_row) => look_held(tables, &project.host, pass, slug),
+            None => Ok(false),
+        },
+        None => Ok(false),
+    }
+}
+
+/// Whether the caller may see a version of the project. Only of a private one is the pass asked.
+fn is_seen<S: Alter>(
+    tables: &mut Tables<S>,
+    alloc: Global,
+    project: &ProjectRow,
+    pass: &Option<Token>,
+    version: &Version,
+) -> Result<bool, Fault>
+    requires settled { IsHonest S.Store tables.old → IsSettled S.Store tables.old }
+    ensures looks { Looks S.Store tables.old tables.new }
+    ensures value { IsHonest S.Store tables.new → IfOk result (λ b. b ≡ view.may_see version.now (holds (project_of (seen S.Store lists_of tables.old) project.now) pass.now version.now.slug)) }
+{
+    if !version.private {
+        return Ok(version.active);
+    }
+    let held = is_held(tables, alloc, project, pass, &version.slug)?;
+    Ok(may_see(version, held))
+}
+
 /// The visible version with this slug.
 fn visible_version<S: Alter>(
     tables: &mut Tables<S>,
@@ -159,13 +266,53 @@ fn visible_version<S: Alter>(
 {
     match look_version(tables, alloc, &project.host, name)? {
         Some(row) => {
-            if is_visible(&row.version, pass) {
+            let seen = is_seen(tables, alloc, project, pass, &row.version)?;
+            if seen {
                 Ok(Some(row.version))
             } else {
                 Ok(None)
             }
         }
         None => Ok(None),
+    }
+}
+
+/// What the caller's pass holds, if it is one of the project's.
+fn grants_of<S: Alter>(
+    tables: &mut Tables<S>,
+    alloc: Global,
+    project: &ProjectRow,
+    pass: &Option<Token>,
+) -> Result<Vec<HeldRow>, Fault>
+    requires settled { IsHonest S.Store tables.old → IsSettled S.Store tables.old }
+    ensures looks { Looks S.Store tables.old tables.new }
+    ensures value { IsHonest S.Store tables.new → IfOk result (λ o. (slug : List ℕ) → view.opens o.items slug ≡ holds (project_of (seen S.Store lists_of tables.old) project.now) pass.now slug) }
+{
+    match pass {
+        Some(pass) => match look_pass(tables, alloc, &project.host, pass)? {
+            Some(_row) => look_grants(tables, alloc, &project.host, pass),
+            None => Ok(Vec::new(alloc)),
+        },
+        None => Ok(Vec::new(alloc)),
+    }
+}
+
+/// The grants that decide which of these versions the caller may see. Where none is private no grant does, and none is looked for.
+fn grants_for<S: Alter>(
+    tables: &mut Tables<S>,
+    alloc: Global,
+    project: &ProjectRow,
+    pass: &Option<Token>,
+    rows: &[VersionRow],
+) -> Result<Vec<HeldRow>, Fault>
+    requires settled { IsHonest S.Store tables.old → IsSettled S.Store tables.old }
+    ensures looks { Looks S.Store tables.old tables.new }
+    ensures value { IsHonest S.Store tables.new → IfOk result (λ o. AllByRecursion (λ r. view.may_see r.version (view.opens o.items r.version.slug) ≡ view.may_see r.version (holds (project_of (seen S.Store lists_of tables.old) project.now) pass.now r.version.slug)) rows.now) }
+{
+    if any_private(rows) {
+        grants_of(tables, alloc, project, pass)
+    } else {
+        Ok(Vec::new(alloc))
     }
 }
 
@@ -182,7 +329,8 @@ fn all_visible<S: Alter>(
     ensures slugs { IsHonest S.Store tables.new → IfOk result (λ v. map (λ x. x.slug) v.items ≡ keys (visible_versions (project_of (seen S.Store lists_of tables.old) project.now) pass.now)) }
 {
     let rows = look_versions(tables, alloc, &project.host)?;
-    Ok(versions_of(alloc, only_visible(rows, pass))?)
+    let grants = grants_for(tables, alloc, project, pass, rows.as_slice())?;
+    Ok(versions_of(alloc, only_visible(rows, grants.as_slice()))?)
 }
 
 fn latest_named<S: Alter>(
@@ -272,7 +420,45 @@ fn if_resolved<S: Alter>(
     }
 }
 
-/// `latest`, else `stable`: there are no defaults yet.
+/// `latest`, else `stable`, each if it stands for a version.
+fn default_alias<S: Alter>(
+    tables: &mut Tables<S>,
+    alloc: Global,
+    project: &ProjectRow,
+    pass: &Option<Token>,
+) -> Result<Option<Text>, Fault>
+    requires settled { IsHonest S.Store tables.old → IsSettled S.Store tables.old }
+    ensures looks { Looks S.Store tables.old tables.new }
+    ensures value { IsHonest S.Store tables.new → IfOk result (λ t. t ≡ default_of (λ name. is_some (resolved (seen_project (project_of (seen S.Store lists_of tables.old) project.now) pass.now) name)) []) }
+{
+    match if_resolved(tables, alloc, project, pass, "latest")? {
+        Some(name) => Ok(Some(name)),
+        None => if_resolved(tables, alloc, project, pass, "stable"),
+    }
+}
+
+/// The first of these defaults that stands for a version.
+fn first_resolved<S: Alter>(
+    tables: &mut Tables<S>,
+    alloc: Global,
+    project: &ProjectRow,
+    pass: &Option<Token>,
+    picks: &[PickRow],
+) -> Result<Option<Text>, Fault>
+    requires settled { IsHonest S.Store tables.old → IsSettled S.Store tables.old }
+    ensures looks { Looks S.Store tables.old tables.new }
+    ensures value { IsHonest S.Store tables.new → IfOk result (λ t. t ≡ find (λ name. is_some (resolved (seen_project (project_of (seen S.Store lists_of tables.old) project.now) pass.now) name)) (map (λ d. d.name) picks.now)) }
+{
+    for pick in picks {
+        let found = if_resolved(tables, alloc, project, pass, pick.name.as_str())?;
+        if found.is_some() {
+            return Ok(found);
+        }
+    }
+    Ok(None)
+}
+
+/// The first default that stands for a version the caller sees, else an alias.
 fn default_name<S: Alter>(
     tables: &mut Tables<S>,
     alloc: Global,
@@ -283,9 +469,10 @@ fn default_name<S: Alter>(
     ensures looks { Looks S.Store tables.old tables.new }
     ensures value { IsHonest S.Store tables.new → IfOk result (λ t. t ≡ (seen_project (project_of (seen S.Store lists_of tables.old) project.now) pass.now).default) }
 {
-    match if_resolved(tables, alloc, project, pass, "latest")? {
+    let picks = look_picks(tables, alloc, &project.host)?;
+    match first_resolved(tables, alloc, project, pass, picks.as_slice())? {
         Some(name) => Ok(Some(name)),
-        None => if_resolved(tables, alloc, project, pass, "stable"),
+        None => default_alias(tables, alloc, project, pass),
     }
 }
 

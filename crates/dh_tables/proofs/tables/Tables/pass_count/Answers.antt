@@ -1,0 +1,21 @@
+use Rattle.sqlite.specs.Held.{state}
+use Rattle.std.proofs.Common.{filter}
+use Rattle.dh_tables.specs.Codings.{passes}
+use Rattle.dh_tables.specs.Tables.{lists_of}
+use Rattle.dh_tables.specs.Lists.{is_pass_of}
+use Rattle.dh_tables.proofs.CallLemmas.{read_ours}
+use Rattle.dh_tables.proofs.Known.{count_value}
+use Rattle.dh_tables.proofs.Statements.{passes_answers}
+use Rattle.dh_tables.proofs.tables.Tables.pass_count.Goals as goal
+
+pub count_records-requires-clause-plain : goal.count_records-requires-clause-plain
+count_records-requires-clause-plain g c honest = (passes_answers (state g.S.Store c.self.inside.conn) (c.self.invariant honest.0 honest.1).now c.args.host.now).plain
+
+pub count_records-requires-clause-listing : goal.count_records-requires-clause-listing
+count_records-requires-clause-listing g c honest = (passes_answers (state g.S.Store c.self.inside.conn) (c.self.invariant honest.0 honest.1).now c.args.host.now).listing
+
+pub invariant_of-self : goal.invariant_of-self
+invariant_of-self g c = read_ours g.S.Store c.self.inside.conn c.count_records.new.conn c.count_records.result c.self.invariant c.count_records.ensures.was c.count_records.ensures.same c.count_records.ensures.err
+
+pub returns-clause-value : goal.returns-clause-value
+returns-clause-value g c = rw (← c.self.view_is) (λ honest clean. count_value passes.encode c.count_records.result (filter (is_pass_of c.args.host.now) (lists_of (state g.S.Store c.self.inside.conn).now).passes) (c.count_records.ensures.value honest clean) (λ rows it. (passes_answers (state g.S.Store c.self.inside.conn) (c.self.invariant honest.0 honest.1).now c.args.host.now).reads rows (rw (c.params-to_sql.ensures, c.as_str.ensures.text) at it)))

@@ -1,0 +1,15 @@
+use Rattle.std.proofs.Common.{◌+◌}
+use Rattle.dh_tables.proofs.PickLists.{rank_is_free}
+use Rattle.dh_tables.proofs.PickLemmas.{none_added, one_more}
+use Rattle.dh_tables.proofs.tables.Tables.put_picks.Goals as goal
+
+pub loop-i-init : goal.loop-i-init
+loop-i-init g c = none_added g.S.Store c.args.host.now c.args.names.now c.args.self.now c.requires.bare c.requires.within
+
+pub add_pick-requires : goal.add_pick-requires
+add_pick-requires g c = record { free = λ honest. rank_is_free (record { host = c.args.host.now; name = c.index-names-i.result; rank = c.loop-i.i + 1 }) _ (c.loop-i.invariant.below honest) }
+
+pub loop-i-preserved : goal.loop-i-preserved
+loop-i-preserved g c =
+    one_more g.S.Store c.args.host.now c.args.names.now c.args.self.now c.loop-i.self c.add_pick.new.self c.loop-i.i c.index-names-i.result c.index-names-i.result c.loop-i-test.true c.index-names-i.is c.requires.within c.loop-i.invariant
+    c.in_ok-add_pick.ensures.ok c.add_pick.ensures.clean c.add_pick.ensures.was c.add_pick.ensures.kept c.add_pick.ensures.quiet

@@ -1,0 +1,149 @@
+use super::{docs, version};
+use crate::{HeldRow, PassRow, Tables};
+use dh_paths::{Slug, TextFault, Token};
+use sqlite::MemStore;
+use std::alloc::Global;
+use std::test::Fail;
+
+/// Sets the defaults in a transaction of their own.
+fn set(alloc: Global, tables: &mut Tables<MemStore>, names: &[&str]) -> Result<(), Fail> {
+    let mut slugs = Vec::new(alloc);
+    for name in names {
+        slugs.push(Slug::parse(alloc, name)?)?;
+    }
+    tables.begin()?;
+    tables.set_picks(&docs(alloc)?, &slugs)?;
+    tables.commit()?;
+    Ok(())
+}
+
+#[test]
+fn defaults_stand_in_their_order(rt: HostRuntime) -> Result<(), Fail> {
+    let alloc = rt.alloc();
+    let mut tables = Tables::in_memory(alloc)?;
+    set(alloc, &mut tables, &["2.0", "latest"])?;
+    set(alloc, &mut tables, &["1.0", "latest", "2.0"])?;
+    let picks = tables.picks(alloc, &docs(alloc)?)?;
+    assert_eq!(rt; picks.len(), 3);
+    assert_eq!(rt; picks[0].name.as_str(), "1.0");
+    assert_eq!(rt; picks[0].rank, 1);
+    assert_eq!(rt; picks[1].name.as_str(), "latest");
+    assert_eq!(rt; picks[2].name.as_str(), "2.0");
+    assert_eq!(rt; picks[2].rank, 3);
+    Ok(())
+}
+
+/// Tables with one pass.
+fn with_pass(alloc: Global) -> Result<Tables<MemStore>, Fail> {
+    let mut tables = Tables::in_memory(alloc)?;
+    tables.add_pass(&PassRow {
+        host: docs(alloc)?,
+        pass: Token::parse(alloc, "p1")?,
+    })?;
+    Ok(tables)
+}
+
+#[test]
+fn a_pass_is_found(rt: HostRuntime) -> Result<(), Fail> {
+    let alloc = rt.alloc();
+    let host = docs(alloc)?;
+    let mut tables = with_pass(alloc)?;
+    let found = tables.pass(alloc, &host, &Token::parse(alloc, "p1")?)?;
+    assert!(rt; found.is_some_and(|row| row.pass.as_str() == "p1"));
+    assert!(rt;
+        tables
+            .pass(alloc, &host, &Token::parse(alloc, "p2")?)?
+            .is_none()
+    );
+    assert_eq!(rt; tables.pass_count(&host)?, 1);
+    Ok(())
+}
+
+#[test]
+fn a_pass_is_dropped(rt: HostRuntime) -> Result<(), Fail> {
+    let alloc = rt.alloc();
+    let host = docs(alloc)?;
+    let mut tables = with_pass(alloc)?;
+    tables.drop_pass(&host, &Token::parse(alloc, "p1")?)?;
+    assert_eq!(rt; tables.pass_count(&host)?, 0);
+    Ok(())
+}
+
+fn grant(alloc: Global, pass: &str, slug: &str) -> Result<HeldRow, TextFault> {
+    Ok(HeldRow {
+        host: docs(alloc)?,
+        pass: Token::parse(alloc, pass)?,
+        slug: Slug::parse(alloc, slug)?,
+    })
+}
+
+/// Tables with three grants, of which one was granted twice.
+fn granted(alloc: Global) -> Result<Tables<MemStore>, Fail> {
+    let mut tables = Tables::in_memory(alloc)?;
+    for (pass, slug) in [("p1", "1.0"), ("p1", "2.0"), ("p1", "1.0"), ("p2", "1.0")] {
+        tables.grant(&grant(alloc, pass, slug)?)?;
+    }
+    Ok(tables)
+}
+
+/// Whether each of the three grants is there.
+fn grants(alloc: Global, tables: &mut Tables<MemStore>) -> Result<[bool; 3], Fail> {
+    let mut there = [false; 3];
+    for (i, (pass, slug)) in [("p1", "1.0"), ("p1", "2.0"), ("p2", "1.0")]
+        .into_iter()
+        .enumerate()
+    {
+        let row = grant(alloc, pass, slug)?;
+        there[i] = tables.held(&row.host, &row.pass, &row.slug)?;
+    }
+    Ok(there)
+}
+
+#[test]
+fn grants_are_held(rt: HostRuntime) -> Result<(), Fail> {
+    let alloc = rt.alloc();
+    let mut tables = granted(alloc)?;
+    assert!(rt; grants(alloc, &mut tables)? == [true, true, true]);
+    let other = grant(alloc, "p2", "2.0")?;
+    assert!(rt; !tables.held(&other.host, &other.pass, &other.slug)?);
+    Ok(())
+}
+
+#[test]
+fn a_grant_is_revoked(rt: HostRuntime) -> Result<(), Fail> {
+    let alloc = rt.alloc();
+    let mut tables = granted(alloc)?;
+    let row = grant(alloc, "p1", "1.0")?;
+    tables.revoke(&row.host, &row.pass, &row.slug)?;
+    assert!(rt; grants(alloc, &mut tables)? == [false, true, true]);
+    Ok(())
+}
+
+#[test]
+fn grants_on_a_version_are_dropped(rt: HostRuntime) -> Result<(), Fail> {
+    let alloc = rt.alloc();
+    let mut tables = granted(alloc)?;
+    tables.drop_grants_of(&docs(alloc)?, &Slug::parse(alloc, "1.0")?)?;
+    assert!(rt; grants(alloc, &mut tables)? == [false, true, false]);
+    Ok(())
+}
+
+#[test]
+fn grants_of_a_pass_are_dropped(rt: HostRuntime) -> Result<(), Fail> {
+    let alloc = rt.alloc();
+    let mut tables = granted(alloc)?;
+    tables.drop_grants_by(&docs(alloc)?, &Token::parse(alloc, "p1")?)?;
+    assert!(rt; grants(alloc, &mut tables)? == [false, false, true]);
+    Ok(())
+}
+
+#[test]
+fn a_version_is_dropped(rt: HostRuntime) -> Result<(), Fail> {
+    let alloc = rt.alloc();
+    let host = docs(alloc)?;
+    let mut tables = Tables::in_memory(alloc)?;
+    tables.put_version(&version(alloc, "1.0", false)?)?;
+    tables.drop_version(&host, &Slug::parse(alloc, "1.0")?)?;
+    assert!(rt; tables.versions(alloc, &host)?.is_empty());
+    Ok(())
+}
