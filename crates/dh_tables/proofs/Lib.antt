@@ -21,6 +21,7 @@ pub mod RuleLemmas
 pub mod WorldLemmas
 pub mod ChangeLemmas
 pub mod AccessChanges
+pub mod AccessRules
 pub mod ViewLemmas
 pub mod SlugOrder
 pub mod Shown

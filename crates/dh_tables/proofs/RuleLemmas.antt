@@ -182,7 +182,7 @@ rules_with_used lists row rules host = record {
 
 -- ---- languages
 
-all_found : {A : Type 0} (P : A → Type 0) (t : A → Bool) (rows : List A) (x : A) → find t rows ≡ Some x → AllByRecursion P rows → P x
+pub all_found : {A : Type 0} (P : A → Type 0) (t : A → Bool) (rows : List A) (x : A) → find t rows ≡ Some x → AllByRecursion P rows → P x
 all_found P t [] x e all = absurd (cc)
 all_found P t (y ∷ rows) x e all = go (t y) e (λ f. all_found P t rows x f all.1)
   where

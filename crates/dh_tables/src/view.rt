@@ -165,6 +165,12 @@ fn opens(grants: &[HeldRow], slug: &Slug) -> bool
         .any(|grant| grant.slug.as_str() == slug.as_str())
 }
 
+fn no_grants(alloc: Global) -> Vec<HeldRow>
+    ensures { result.items ≡ [] }
+{
+    Vec::new(alloc)
+}
+
 fn any_private(rows: &[VersionRow]) -> bool
     ensures { result ≡ list_any (λ r. r.version.private) rows.now }
 {
@@ -291,9 +297,9 @@ fn grants_of<S: Alter>(
     match pass {
         Some(pass) => match look_pass(tables, alloc, &project.host, pass)? {
             Some(_row) => look_grants(tables, alloc, &project.host, pass),
-            None => Ok(Vec::new(alloc)),
+            None => Ok(no_grants(alloc)),
         },
-        None => Ok(Vec::new(alloc)),
+        None => Ok(no_grants(alloc)),
     }
 }
 
@@ -312,7 +318,7 @@ fn grants_for<S: Alter>(
     if any_private(rows) {
         grants_of(tables, alloc, project, pass)
     } else {
-        Ok(Vec::new(alloc))
+        Ok(no_grants(alloc))
     }
 }
 

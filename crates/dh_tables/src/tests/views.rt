@@ -1,5 +1,5 @@
 use super::{begun, docs};
-use crate::{PageRow, Tables, VersionRow, View};
+use crate::{HeldRow, PageRow, PassRow, Tables, VersionRow, View};
 use dh_paths::{Bytes, HostName, Lang, PagePath, RefName, Slug, Text, TextFault, Token};
 use dh_reply::{Fault, Items, Lookup, Named, Page, Seen, SeenProject, StoredPage};
 use dh_versions::{Kind, Version};
@@ -258,6 +258,69 @@ fn a_view_is_what_is_seen(rt: HostRuntime) -> Result<(), Fail> {
     let host = docs(alloc)?;
     let pass = Token::parse(alloc, "pass")?;
     assert!(rt; shows(alloc, &mut tables, Some(host), Some(pass), expected(alloc)?)?);
+    Ok(())
+}
+
+/// A pass that opens the private version of docs.test, and defaults of which that version is the first.
+fn open(alloc: Global, tables: &mut Tables<MemStore>) -> Result<(), Fail> {
+    tables.add_pass(&PassRow {
+        host: docs(alloc)?,
+        pass: Token::parse(alloc, "reader")?,
+    })?;
+    tables.grant(&HeldRow {
+        host: docs(alloc)?,
+        pass: Token::parse(alloc, "reader")?,
+        slug: Slug::parse(alloc, "2.0.0")?,
+    })?;
+    let mut names = Vec::new(alloc);
+    for name in ["2.0.0", "3.0.0", "1.0.0"] {
+        names.push(Slug::parse(alloc, name)?)?;
+    }
+    tables.begin()?;
+    tables.set_picks(&docs(alloc)?, &names)?;
+    tables.commit()?;
+    Ok(())
+}
+
+/// The default under docs.test, what `stable` stands for there, and whether 2.0.0 shows a page, as one text.
+fn told(alloc: Global, tables: &mut Tables<MemStore>, pass: Option<Token>) -> Result<Text, Fail> {
+    let mut view = View::new(tables, Some(docs(alloc)?), pass);
+    let chosen = match view.default(alloc)? {
+        Some(name) => name,
+        None => Text::copy_of(alloc, "-")?,
+    };
+    let stable = match view.name(alloc, "stable")? {
+        Some(named) => Text::copy_of(alloc, named.slug.as_str())?,
+        None => Text::copy_of(alloc, "-")?,
+    };
+    let lang = Lang::parse(alloc, "en")?;
+    let slug = Slug::parse(alloc, "2.0.0")?;
+    let shown = view.page(alloc, &lang, &slug, "index.html")?.is_some();
+    let _tables = view.close();
+    let text = format!(in alloc; "{} {} {shown}", chosen.as_str(), stable.as_str())?;
+    Ok(Text::copy_of(alloc, text.as_str())?)
+}
+
+#[test]
+fn a_pass_opens_what_it_holds(rt: HostRuntime) -> Result<(), Fail> {
+    let alloc = rt.alloc();
+    let mut tables = begun(alloc)?;
+    fill(alloc, &mut tables)?;
+    open(alloc, &mut tables)?;
+    assert_eq!(rt;
+        told(alloc, &mut tables, None)?.as_str(),
+        "1.0.0 1.1.0 false"
+    );
+    let reader = Token::parse(alloc, "reader")?;
+    assert_eq!(rt;
+        told(alloc, &mut tables, Some(reader))?.as_str(),
+        "2.0.0 2.0.0 true"
+    );
+    let other = Token::parse(alloc, "other")?;
+    assert_eq!(rt;
+        told(alloc, &mut tables, Some(other))?.as_str(),
+        "1.0.0 1.1.0 false"
+    );
     Ok(())
 }
 

@@ -8,4 +8,4 @@ use Rattle.dh_tables.proofs.view.grants_for.Goals as goal
 
 pub returns-else-any_private-clause-value : goal.returns-else-any_private-clause-value
 returns-else-any_private-clause-value g c honest =
-    none_private c.new.result.items (holds (project_of (seen g.S.Store lists_of c.args.tables.now) c.args.project.now) c.args.pass.now) c.args.rows.now (sym c.any_private.ensures ∙ c.if-any_private.false)
+    none_private c.no_grants.result.items (holds (project_of (seen g.S.Store lists_of c.args.tables.now) c.args.project.now) c.args.pass.now) c.args.rows.now (sym c.any_private.ensures ∙ c.if-any_private.false)

@@ -16,5 +16,5 @@ returns-in-Some-2-clause-value g c honest =
 
 pub returns-in-None-2-clause-value : goal.returns-in-None-2-clause-value
 returns-in-None-2-clause-value g c honest slug =
-    none_open c.new.result.items c.new.ensures.items slug
+    none_open c.no_grants.result.items c.no_grants.ensures slug
     ∙ held_unknown (seen g.S.Store lists_of c.args.tables.now) c.args.project.now c.args.pass.now c.in-Some.pass c.in-Some.is c.in_ok-_row-in-Some.field-0 (c.in_ok-_row-in-Some.ensures.value honest) c.in-None-2.is slug
