@@ -1,8 +1,8 @@
 -- What each command makes of the project of its host, once its texts are found to be values of their types.
-use Rattle.std.specs.Prelude.{Bool, true, false, not, ◌&&◌, nat_lt, if◌then◌else◌, List, [], ◌∷◌, ◌++◌, length, Option, Some, None, Result, Ok, Err}
+use Rattle.std.specs.Prelude.{Bool, true, false, not, ◌&&◌, nat_lt, if◌then◌else◌, List, [], ◌∷◌, ◌++◌, filter, length, Option, Some, None, Result, Ok, Err}
 use Rattle.std.specs.List.{list_any}
 use Rattle.std.specs.Str.{bytes_eq}
-use Rattle.std.specs.FinMap.{FinMap, empty, get, insert, retain_keys}
+use Rattle.std.specs.FinMap.{FinMap, empty, get, insert, remove, retain_keys, contains_key, len}
 use Rattle.dh_paths.specs.Slugs.{slug_text}
 use Rattle.dh_versions.specs.declared.version.Kind.{Kind}
 use Rattle.dh_versions.specs.declared.version.Kind.TheVariants.{Branch, Tag}
@@ -12,13 +12,14 @@ use Rattle.dh_tables.specs.declared.answer.Answer.{Answer}
 use Rattle.dh_tables.specs.declared.answer.Answer.TheVariants.{Done, Made, Known, Stored}
 use Rattle.dh_tables.specs.declared.records.Operation.TheVariants as operation
 use Rattle.dh_tables.specs.World.{Text, Project, PageKey, page_cmp, UsedKey, op_code}
+use Rattle.dh_tables.specs.Rules.{is_alias}
 use Rattle.dh_desk.specs.declared.command.Command.{Command}
-use Rattle.dh_desk.specs.declared.command.Command.TheVariants.{NewProject, AddLang, Push, Upload, Activate, Deactivate, Hide, Unhide, Publish, MakePrivate}
+use Rattle.dh_desk.specs.declared.command.Command.TheVariants.{NewProject, AddLang, Push, Upload, Activate, Deactivate, Hide, Unhide, Publish, MakePrivate, Gone, SetDefault, AddPass, DropPass, Grant, Revoke}
 use Rattle.dh_desk.specs.declared.pages.UploadedPage.{UploadedPage}
 use Rattle.dh_desk.specs.declared.properties.Property.{Property}
 use Rattle.dh_desk.specs.declared.properties.Property.TheVariants as property
 use Rattle.dh_desk.specs.declared.refusal.Refusal.{Refusal}
-use Rattle.dh_desk.specs.declared.refusal.Refusal.TheVariants.{NoProject, ProjectTaken, WrongKey, LangTaken, NoLang, NoVersion, SlugTaken, Inactive, TooMany}
+use Rattle.dh_desk.specs.declared.refusal.Refusal.TheVariants.{NoProject, ProjectTaken, WrongKey, LangTaken, NoLang, NoVersion, SlugTaken, Inactive, TooMany, PassTaken, NoPass}
 
 -- the project as it then is, and the answer; or the refusal
 abbrev pub Change : Type 0
@@ -169,6 +170,59 @@ without_pages slug p = record p { pages = retain_keys p.pages (λ key. not (byte
 abbrev pub deactivate : Text → Project → Change
 deactivate slug p = at_version (get p.versions slug) (λ v. Ok (without_pages slug (with_version p (record v { active = false })), Done))
 
+-- ---- Gone and SetDefault
+
+-- the names but for this one
+abbrev pub without_name : Text → List Text → List Text
+without_name name names = filter (λ n. not (bytes_eq n name)) names
+
+-- the project without a version: its pages, the grants on it and its name among the defaults go with it, and used keys stay
+abbrev pub without_version : Text → Project → Project
+without_version slug p = record p {
+  versions = remove p.versions slug;
+  pages = retain_keys p.pages (λ key. not (bytes_eq key.0 slug));
+  defaults = without_name slug p.defaults;
+  held = retain_keys p.held (λ key. not (bytes_eq key.1 slug));
+}
+
+abbrev pub gone : Text → Project → Change
+gone slug p = at_version (get p.versions slug) (λ v. Ok (without_version slug p, Done))
+
+-- the name is the first of the defaults, and stands there once
+abbrev pub with_default : Text → Project → Project
+with_default name p = record p { defaults = name ∷ without_name name p.defaults }
+
+-- an alias may stand for nothing; a version has to be there and active
+abbrev pub set_default : Text → Project → Change
+set_default name p =
+    if is_alias name then Ok (with_default name p, Done)
+    else at_version (get p.versions name) (λ v. if v.active then Ok (with_default name p, Done) else Err Inactive)
+
+-- ---- passes
+
+-- the pass is not there, there are fewer than 1,000: it is added, and holds nothing
+abbrev pub add_pass : Text → Project → Change
+add_pass pass p =
+    if contains_key p.passes pass then Err PassTaken
+    else if nat_lt (len p.passes) 1000 then Ok (record p { passes = insert p.passes pass tt }, Done)
+    else Err TooMany
+
+-- what follows where the project has the pass
+abbrev pub at_pass : Project → Text → Project → Change
+at_pass p pass after = if contains_key p.passes pass then Ok (after, Done) else Err NoPass
+
+-- the pass goes, with its grants
+abbrev pub drop_pass : Text → Project → Change
+drop_pass pass p = at_pass p pass (record p { passes = remove p.passes pass; held = retain_keys p.held (λ key. not (bytes_eq key.0 pass)) })
+
+-- by the version and then by the pass: the pass holds the version
+abbrev pub grant : Text → Text → Project → Change
+grant pass slug p = at_version (get p.versions slug) (λ v. at_pass p pass (record p { held = insert p.held (pass, slug) tt }))
+
+-- and no longer
+abbrev pub revoke : Text → Text → Project → Change
+revoke pass slug p = at_version (get p.versions slug) (λ v. at_pass p pass (record p { held = remove p.held (pass, slug) }))
+
 -- ---- all commands
 
 -- where the host has no project
@@ -188,3 +242,9 @@ change (Hide host slug) p = set_property property.Hidden slug p
 change (Unhide host slug) p = set_property property.Shown slug p
 change (Publish host slug) p = set_property property.Public slug p
 change (MakePrivate host slug) p = set_property property.Private slug p
+change (Gone host slug) p = gone slug p
+change (SetDefault host name) p = set_default name p
+change (AddPass host pass) p = add_pass pass p
+change (DropPass host pass) p = drop_pass pass p
+change (Grant host pass slug) p = grant pass slug p
+change (Revoke host pass slug) p = revoke pass slug p

@@ -4,7 +4,7 @@ use Rattle.std.specs.FinMap.{get, insert}
 use Rattle.dh_tables.specs.declared.answer.Answer.{Answer}
 use Rattle.dh_tables.specs.World.{Text, Project, World}
 use Rattle.dh_desk.specs.declared.command.Command.{Command}
-use Rattle.dh_desk.specs.declared.command.Command.TheVariants.{NewProject, AddLang, Push, Upload, Activate, Deactivate, Hide, Unhide, Publish, MakePrivate}
+use Rattle.dh_desk.specs.declared.command.Command.TheVariants.{NewProject, AddLang, Push, Upload, Activate, Deactivate, Hide, Unhide, Publish, MakePrivate, Gone, SetDefault, AddPass, DropPass, Grant, Revoke}
 use Rattle.dh_desk.specs.declared.refusal.Refusal.{Refusal}
 use Rattle.dh_desk.specs.Texts.{bad_text}
 use Rattle.dh_desk.specs.Changes.{Change, change, opened}
@@ -20,6 +20,12 @@ host_of (Hide host slug) = host
 host_of (Unhide host slug) = host
 host_of (Publish host slug) = host
 host_of (MakePrivate host slug) = host
+host_of (Gone host slug) = host
+host_of (SetDefault host name) = host
+host_of (AddPass host pass) = host
+host_of (DropPass host pass) = host
+host_of (Grant host pass slug) = host
+host_of (Revoke host pass slug) = host
 
 abbrev pub change_at : Command → Option Project → Change
 change_at c None = opened c

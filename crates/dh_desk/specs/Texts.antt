@@ -6,7 +6,7 @@ use Rattle.dh_paths.specs.Texts.{is_within, first_byte, last_byte, is_host_name,
 use Rattle.dh_paths.specs.Slugs.{slug_from}
 use Rattle.dh_tables.specs.World.{Text}
 use Rattle.dh_desk.specs.declared.command.Command.{Command}
-use Rattle.dh_desk.specs.declared.command.Command.TheVariants.{NewProject, AddLang, Push, Upload, Activate, Deactivate, Hide, Unhide, Publish, MakePrivate}
+use Rattle.dh_desk.specs.declared.command.Command.TheVariants.{NewProject, AddLang, Push, Upload, Activate, Deactivate, Hide, Unhide, Publish, MakePrivate, Gone, SetDefault, AddPass, DropPass, Grant, Revoke}
 use Rattle.dh_desk.specs.declared.pages.UploadedPage.{UploadedPage}
 use Rattle.dh_desk.specs.declared.refusal.Refusal.{Refusal}
 use Rattle.dh_desk.specs.declared.refusal.Refusal.TheVariants.{BadHost, BadLang, BadRef, BadPath, BadPage, BadToken, BadKey}
@@ -53,6 +53,21 @@ bad_version host slug = first_of
     ∷ unless (is_slug slug) BadRef
     ∷ [])
 
+-- what is wrong with a pass under its host
+abbrev pub bad_pass : Text → Text → Option Refusal
+bad_pass host pass = first_of
+    (unless (is_host_name host) BadHost
+    ∷ unless (is_token pass) BadToken
+    ∷ [])
+
+-- what is wrong with a grant: the pass comes before the version
+abbrev pub bad_grant : Text → Text → Text → Option Refusal
+bad_grant host pass slug = first_of
+    (unless (is_host_name host) BadHost
+    ∷ unless (is_token pass) BadToken
+    ∷ unless (is_slug slug) BadRef
+    ∷ [])
+
 -- the first text that is no value of its type
 abbrev pub bad_text : Command → Option Refusal
 bad_text (NewProject host lang branch private wkey) = first_of
@@ -87,3 +102,9 @@ bad_text (Hide host slug) = bad_version host slug
 bad_text (Unhide host slug) = bad_version host slug
 bad_text (Publish host slug) = bad_version host slug
 bad_text (MakePrivate host slug) = bad_version host slug
+bad_text (Gone host slug) = bad_version host slug
+bad_text (SetDefault host name) = bad_version host name
+bad_text (AddPass host pass) = bad_pass host pass
+bad_text (DropPass host pass) = bad_pass host pass
+bad_text (Grant host pass slug) = bad_grant host pass slug
+bad_text (Revoke host pass slug) = bad_grant host pass slug

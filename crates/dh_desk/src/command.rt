@@ -72,4 +72,37 @@ pub enum Command {
         host: Text,
         slug: Text,
     },
+    /// A version is gone, with its pages, the grants on it and its name among the defaults. Retry keys stay used.
+    Gone {
+        host: Text,
+        slug: Text,
+    },
+    /// A version, or an alias, is the first default.
+    SetDefault {
+        host: Text,
+        /// The slug of a version, or the name of an alias.
+        name: Text,
+    },
+    /// There is a pass, which holds nothing.
+    AddPass {
+        host: Text,
+        pass: Text,
+    },
+    /// A pass is gone, with its grants.
+    DropPass {
+        host: Text,
+        pass: Text,
+    },
+    /// A pass holds a version.
+    Grant {
+        host: Text,
+        pass: Text,
+        slug: Text,
+    },
+    /// A pass does not hold a version.
+    Revoke {
+        host: Text,
+        pass: Text,
+        slug: Text,
+    },
 }

@@ -13,6 +13,8 @@ ghost use Rattle.dh_desk.specs.Crashes.{LeavesStep, LeavesEither};
 ghost use Rattle.dh_desk.specs.Desk.{AreSound, Steps, IsStep, IsKept, is_fault, world};
 
 use crate::command::Command;
+use crate::defaults::{gone, set_default};
+use crate::passes::{add_pass, drop_pass, grant, revoke};
 use crate::projects::{add_lang, new_project};
 use crate::properties::{Property, deactivate, set_property};
 use crate::pushes::push;
@@ -106,6 +108,12 @@ fn run<S: Alter>(
         Command::MakePrivate { host, slug } => {
             set_property(tables, alloc, host, slug, Property::Private)
         }
+        Command::Gone { host, slug } => gone(tables, alloc, host, slug),
+        Command::SetDefault { host, name } => set_default(tables, alloc, host, name),
+        Command::AddPass { host, pass } => add_pass(tables, alloc, host, pass),
+        Command::DropPass { host, pass } => drop_pass(tables, alloc, host, pass),
+        Command::Grant { host, pass, slug } => grant(tables, alloc, host, pass, slug),
+        Command::Revoke { host, pass, slug } => revoke(tables, alloc, host, pass, slug),
     }
 }
 

@@ -3,10 +3,12 @@
 
 mod calls;
 pub mod command;
+mod defaults;
 pub mod desk;
 pub mod outcome;
 mod page_checks;
 pub mod pages;
+mod passes;
 mod projects;
 mod properties;
 mod pushes;
