@@ -64,14 +64,14 @@ part_changed lists next host p part set before after f same whole parts turns el
 
 -- ---- versions
 
-abbrev versions_of : List VersionRow → Text → FinMap text_cmp Version
+abbrev pub versions_of : List VersionRow → Text → FinMap text_cmp Version
 versions_of rows host = kept_of text_total exact_bytes (λ v. v.host) (λ v. v.version.slug) (λ v. v.version) host rows
 
-with_versions : (lists : Lists) (rows : List VersionRow) (r : ProjectRow) → project_of (record lists { versions = rows }) r ≡ record (project_of lists r) { versions = versions_of rows r.host }
+pub with_versions : (lists : Lists) (rows : List VersionRow) (r : ProjectRow) → project_of (record lists { versions = rows }) r ≡ record (project_of lists r) { versions = versions_of rows r.host }
 unfolding project_of
 with_versions lists rows r = refl
 
-versions_are : (lists : Lists) (r : ProjectRow) → (project_of lists r).versions ≡ versions_of lists.versions r.host
+pub versions_are : (lists : Lists) (r : ProjectRow) → (project_of lists r).versions ≡ versions_of lists.versions r.host
 unfolding project_of
 versions_are lists r = refl
 

@@ -19,6 +19,7 @@ pub mod OrderLemmas
 pub mod RuleLemmas
 pub mod WorldLemmas
 pub mod ChangeLemmas
+pub mod AccessChanges
 pub mod ViewLemmas
 pub mod SlugOrder
 pub mod Shown

@@ -1,5 +1,5 @@
 -- What a view shows, by what was found in the lists.
-use Rattle.std.proofs.Common.{◌≡◌, ℕ, Bool, true, false, not, ◌&&◌, ◌||◌, cond, List, [], ◌∷◌, map, filter, Option, Some, None, IsTrue, refl, sym, ap, subst, ◌∙◌, slice_get, Ordering, Equal}
+use Rattle.std.proofs.Common.{◌≡◌, ℕ, ◌<◌, ◌≤◌, ◌+◌, Bool, true, false, not, ◌&&◌, ◌||◌, cond, List, [], ◌∷◌, map, filter, Option, Some, None, IsTrue, refl, sym, ap, subst, ◌∙◌, slice_get, slice_index_or, drop, length, true≢false, Ordering, Equal}
 use Rattle.std.specs.Prelude.{option_map, option_and_then, is_some, codes}
 use Rattle.std.specs.Option.{option_map_or, option_or}
 use Rattle.std.specs.List.{find, AllByRecursion}
@@ -7,6 +7,7 @@ use Rattle.std.specs.Str.{bytes_eq}
 use Rattle.std.specs.Ordering.{eq_by_cmp}
 use Rattle.std.specs.FinMap.{FinMap, get, entries, keys, values, get-entries, get-retain_keys}
 use Rattle.std.specs.FinMap as finite
+use Rattle.std.proofs.lemmas.List.{at_drop_more, at_drop_all}
 use Rattle.std.proofs.lemmas.Map.Lookups.{exact_bytes}
 use Rattle.std.proofs.lemmas.Slice.Eq.{bytes_eq-Decides}
 use Rattle.dh_versions.specs.declared.version.Version.{Version}
@@ -133,6 +134,18 @@ default_first resolves (n ∷ names) = go (resolves n) (default_first resolves n
     go true more = refl
     go false more = more
 
+pub settles : {A : Type 0} (o rest : Option A) → is_some o ≡ true → option_or o rest ≡ o
+settles None rest e = absurd (true≢false (sym e))
+settles (Some x) rest e = refl
+
+pub passes_on : {A : Type 0} (o rest : Option A) → is_some o ≡ false → option_or o rest ≡ rest
+passes_on None rest e = refl
+passes_on (Some x) rest e = absurd (true≢false e)
+
+-- with no default left to ask for, none was found
+pub none_left : (resolves : Text → Bool) (picks : List PickRow) (i : ℕ) → length picks ≤ i → find resolves (map (λ d. d.name) (drop i picks)) ≡ find resolves (map (λ d. d.name) picks) → None ≡ find resolves (map (λ d. d.name) picks)
+none_left resolves picks i past e = sym (at_drop_all (λ l. find resolves (map (λ d. d.name) l)) picks i past) ∙ e
+
 -- ---- lists
 
 pub slugs_of : (rows : List VersionRow) → map (λ e. e.0) (map by_slug rows) ≡ map (λ v. v.slug) (map (λ r. r.version) rows)
@@ -208,7 +221,8 @@ module _ (lists : Lists) (row : ProjectRow) (pass : Option Text) where
   pub no_slug : (name : Text) (o : Option Version) → o ≡ get visible name → o ≡ None → alias_of whole name ≡ resolved whole name
   no_slug name o e is = sym (resolved_is lists row pass name ∙ ap (λ o. option_or (option_map own_name o) (alias_of whole name)) (sym e ∙ is))
 
-  abbrev resolves : Text → Bool
+  -- the name stands for a version that the caller sees
+  abbrev pub resolves : Text → Bool
   resolves name = is_some (resolved whole name)
 
   -- `latest`, where it stands for a version
@@ -236,6 +250,21 @@ module _ (lists : Lists) (row : ProjectRow) (pass : Option Text) where
         where
           no : None ≡ Some (codes "latest") → ⊥
           no e = cc
+
+  -- one default on, in tables that show the same
+  pub found_next : (at : Lists) (picks : List PickRow) (i : ℕ) (x : PickRow) (text : Text) (found : Option Text) → at ≡ lists → i < length picks → x ≡ slice_index_or picks i x → text ≡ x.name
+      → found ≡ option_map (λ n. text) (resolved (seen_project (project_of at row) pass) text)
+      → find resolves (map (λ d. d.name) (drop i picks)) ≡ option_or found (find resolves (map (λ d. d.name) (drop (i + 1) picks)))
+  found_next at picks i x text found same low is e f =
+      at_drop_more (λ l. find resolves (map (λ d. d.name) l)) picks i x low
+      ∙ ap (λ y. cond (resolves y.name) (Some y.name) (find resolves (map (λ d. d.name) (drop (i + 1) picks)))) (sym is)
+      ∙ go (resolved whole x.name) (find resolves (map (λ d. d.name) (drop (i + 1) picks)))
+      ∙ ap (λ o. option_or o (find resolves (map (λ d. d.name) (drop (i + 1) picks))))
+      (sym (f ∙ ap (λ l. option_map (λ n. text) (resolved (seen_project (project_of l row) pass) text)) same ∙ ap (λ t. option_map (λ n. t) (resolved whole t)) e))
+    where
+      go : (o : Option Named) (rest : Option Text) → cond (is_some o) (Some x.name) rest ≡ option_or (option_map (λ n. x.name) o) rest
+      go None rest = refl
+      go (Some n) rest = refl
 
   default_by : (picks : List PickRow) → picks ≡ filter (is_pick_of row.host) lists.picks → option_or (find resolves (map (λ d. d.name) picks)) (default_of resolves []) ≡ whole.default
   default_by picks e =

@@ -1,12 +1,12 @@
 -- What the project of a host says of the lists that spell it, and projects put back one after the other.
-use Rattle.std.proofs.Common.{◌≡◌, Bool, true, false, ◌&&◌, cond, filter, find, length, is_some, Option, Some, None, IsTrue, refl, sym, ap, ◌∙◌, is_eq}
+use Rattle.std.proofs.Common.{◌≡◌, Bool, true, false, ◌&&◌, cond, map, filter, find, length, is_some, Option, Some, None, IsTrue, refl, sym, ap, ◌∙◌, is_eq}
 use Rattle.std.specs.Prelude.{option_map}
 use Rattle.std.specs.Option.{option_map_or}
 use Rattle.std.specs.List.{list_any}
 use Rattle.std.specs.Str.{bytes_eq}
 use Rattle.std.specs.Ordering.{eq_by_cmp}
 use Rattle.std.specs.Cmp.{Equal-is}
-use Rattle.std.specs.FinMap.{get, insert, get-insert, get-from_entries, same_map}
+use Rattle.std.specs.FinMap.{get, contains_key, insert, get-insert, get-from_entries, same_map}
 use Rattle.std.proofs.lemmas.Cmp.{tied_itself}
 use Rattle.std.proofs.lemmas.List.{length-map}
 use Rattle.std.proofs.lemmas.Map.Lookups.{exact_bytes}
@@ -15,11 +15,11 @@ use Rattle.dh_tables.specs.declared.records.ProjectRow.{ProjectRow}
 use Rattle.dh_tables.specs.declared.records.VersionRow.{VersionRow}
 use Rattle.dh_tables.specs.declared.records.Operation.{Operation}
 use Rattle.dh_tables.specs.World.{Text, text_cmp, used_cmp, op_code, Project, World}
-use Rattle.dh_tables.specs.Lists.{Lists, of_host, project_of, world_of, kept_answer, is_project, is_version, is_page, is_used, is_lang_of}
-use Rattle.dh_tables.specs.Rules.{has_project, languages_of, has_language, has_active}
+use Rattle.dh_tables.specs.Lists.{Lists, of_host, project_of, world_of, kept_answer, is_project, is_version, is_page, is_used, is_lang_of, is_pick_of, is_pass, is_held}
+use Rattle.dh_tables.specs.Rules.{has_project, languages_of, has_language, has_active, has_version, has_pass}
 use Rattle.dh_tables.proofs.KeyLemmas.{used_place, used_total, tied_used_key}
 use Rattle.dh_tables.proofs.RecordLemmas.{found_passes}
-use Rattle.dh_tables.proofs.SeenLemmas.{found_in, find_in_filter, find_same, get_project, get_version, get_page, text_total}
+use Rattle.dh_tables.proofs.SeenLemmas.{found_in, find_in_filter, find_same, get_project, get_version, get_page, get_pass, get_held, text_total}
 
 -- ---- the row of a project
 
@@ -75,6 +75,14 @@ get_used lists row slug op retry =
     grouped true false c d = refl
     grouped false b c d = refl
 
+pub defaults_are : (lists : Lists) (row : ProjectRow) → (project_of lists row).defaults ≡ map (λ d. d.name) (filter (is_pick_of row.host) lists.picks)
+unfolding project_of
+defaults_are lists row = refl
+
+mapped_some : {A X : Type 0} (f : A → X) (o : Option A) → is_some (option_map f o) ≡ is_some o
+mapped_some f None = refl
+mapped_some f (Some x) = refl
+
 -- ---- what the lists have of a project of the world
 
 module _ (lists : Lists) (host : Text) (p : Project) (was : get (world_of lists) host ≡ Some p) where
@@ -111,6 +119,21 @@ module _ (lists : Lists) (host : Text) (p : Project) (was : get (world_of lists)
   pub used_in : (slug : Text) (op : Operation) (retry : Text) → get p.used (slug, (op_code op, retry)) ≡ option_map kept_answer (find (is_used host slug op retry) lists.used)
   used_in slug op retry =
       ap (λ (x : Project). get x.used (slug, (op_code op, retry))) (sym spelt.spells) ∙ get_used lists row slug op retry ∙ ap (λ h. option_map kept_answer (find (is_used h slug op retry) lists.used)) spelt.host_is
+
+  pub has_version_in : (slug : Text) → contains_key p.versions slug ≡ has_version lists host slug
+  has_version_in slug = ap is_some (version_in slug) ∙ mapped_some (λ v. v.version) (find (is_version host slug) lists.versions)
+
+  pub defaults_in : p.defaults ≡ map (λ d. d.name) (filter (is_pick_of host) lists.picks)
+  defaults_in = ap (λ (x : Project). x.defaults) (sym spelt.spells) ∙ defaults_are lists row ∙ ap (λ h. map (λ d. d.name) (filter (is_pick_of h) lists.picks)) spelt.host_is
+
+  pub pass_in : (pass : Text) → get p.passes pass ≡ option_map (λ x. tt) (find (is_pass host pass) lists.passes)
+  pass_in pass = ap (λ (x : Project). get x.passes pass) (sym spelt.spells) ∙ get_pass lists row pass ∙ ap (λ h. option_map (λ x. tt) (find (is_pass h pass) lists.passes)) spelt.host_is
+
+  pub has_pass_in : (pass : Text) → contains_key p.passes pass ≡ has_pass lists host pass
+  has_pass_in pass = ap is_some (pass_in pass) ∙ mapped_some (λ x. tt) (find (is_pass host pass) lists.passes)
+
+  pub held_in : (pass slug : Text) → get p.held (pass, slug) ≡ option_map (λ x. tt) (find (is_held host pass slug) lists.held)
+  held_in pass slug = ap (λ (x : Project). get x.held (pass, slug)) (sym spelt.spells) ∙ get_held lists row pass slug ∙ ap (λ h. option_map (λ x. tt) (find (is_held h pass slug) lists.held)) spelt.host_is
 
 -- ---- one project put back after the other
 
