@@ -230,8 +230,11 @@ world_pass_gone lists host pass p was =
 
 -- ---- how many passes a project has
 
+abbrev marks : List PassRow → List (Text × Unit {0})
+marks rows = map (λ y. (y.pass, tt)) rows
+
 apart_from : (host : Text) (x : PassRow) → is_pass_of host x ≡ true → (rows : List PassRow) → AllByRecursion (λ y. by_key coding.passes.key x y ≡ Less) rows → AllByRecursion (λ y. is_pass_of host y ≡ true) rows
-    → finite.find text_cmp x.pass (map (λ y. (y.pass, tt)) rows) ≡ None
+    → finite.find text_cmp x.pass (marks rows) ≡ None
 apart_from host x own [] low all = refl
 apart_from host x own (y ∷ rows) low all = rw (other, apart_from host x own rows low.1 all.1) refl
   where
@@ -243,12 +246,12 @@ apart_from host x own (y ∷ rows) low all = rw (other, apart_from host x own ro
 one_more : (n m : ℕ) → n ≡ m → n + 1 ≡ suc m
 one_more n m e = omega arith
 
-count_rows : (host : Text) (rows : List PassRow) → InOrder coding.passes.key rows → AllByRecursion (λ y. is_pass_of host y ≡ true) rows → len (from_entries {R = text_cmp} (map (λ y. (y.pass, tt)) rows)) ≡ length rows
+count_rows : (host : Text) (rows : List PassRow) → InOrder coding.passes.key rows → AllByRecursion (λ y. is_pass_of host y ≡ true) rows → len (from_entries {R = text_cmp} (marks rows)) ≡ length rows
 count_rows host [] up all = len-empty text_cmp (Unit {0})
 count_rows host (x ∷ rows) up all =
-    let m = from_entries {R = text_cmp} (map (λ y. (y.pass, tt)) rows) in
+    let m = from_entries {R = text_cmp} (marks rows) in
     len-insert text_total m x.pass tt
-    ∙ ap (λ b. cond b (len m) (len m + 1)) (ap is_some (get-from_entries text_total (map (λ y. (y.pass, tt)) rows) x.pass ∙ apart_from host x all.0 rows up.0 all.1))
+    ∙ ap (λ b. cond b (len m) (len m + 1)) (ap is_some (get-from_entries text_total (marks rows) x.pass ∙ apart_from host x all.0 rows up.0 all.1))
     ∙ one_more (len m) (length rows) (count_rows host rows up.1 all.1)
 
 -- as many as records
