@@ -25,11 +25,14 @@ returns-then-is_some-clause-value g c honest =
     (sym c.is_some.ensures ∙ c.if-is_some.true)
 
 pub loop-pick-preserved : goal.loop-pick-preserved
-loop-pick-preserved g c = (looks_on g.S.Store _ _ _ c.loop-pick.invariant.0 c.if_resolved.ensures.looks, λ honest.
-    let before = was_honest g.S.Store _ _ c.if_resolved.ensures.looks honest in
-    found_later (seen g.S.Store lists_of c.args.tables.now) c.args.project.now c.args.pass.now (seen g.S.Store lists_of c.loop-pick.tables) c.args.picks.now c.loop-pick.pick-index c.pick-item.result c.as_str.result.now c.in_ok-found.found
-    (lists_same g.S.Store _ _ c.loop-pick.invariant.0 before) c.loop-pick-test.true c.pick-item.is c.as_str.ensures.text (c.in_ok-found.ensures.value honest) (c.loop-pick.invariant.1 before)
-    (sym c.is_some.ensures ∙ c.if-is_some.false))
+loop-pick-preserved g c = (
+  looks_on g.S.Store _ _ _ c.loop-pick.invariant.0 c.if_resolved.ensures.looks,
+  λ honest.
+      let before = was_honest g.S.Store _ _ c.if_resolved.ensures.looks honest in
+      found_later (seen g.S.Store lists_of c.args.tables.now) c.args.project.now c.args.pass.now (seen g.S.Store lists_of c.loop-pick.tables) c.args.picks.now c.loop-pick.pick-index c.pick-item.result c.as_str.result.now c.in_ok-found.found
+      (lists_same g.S.Store _ _ c.loop-pick.invariant.0 before) c.loop-pick-test.true c.pick-item.is c.as_str.ensures.text (c.in_ok-found.ensures.value honest) (c.loop-pick.invariant.1 before)
+      (sym c.is_some.ensures ∙ c.if-is_some.false),
+)
 
 pub returns-clause-looks : goal.returns-clause-looks
 returns-clause-looks g c = c.loop-pick.invariant.0
