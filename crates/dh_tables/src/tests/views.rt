@@ -1,3 +1,4 @@
+use super::passes::set;
 use super::{begun, docs};
 use crate::{HeldRow, PageRow, PassRow, Tables, VersionRow, View};
 use dh_paths::{Bytes, HostName, Lang, PagePath, RefName, Slug, Text, TextFault, Token};
@@ -262,14 +263,7 @@ fn open(alloc: Global, tables: &mut Tables<MemStore>) -> Result<(), Fail> {
         pass: Token::parse(alloc, "reader")?,
         slug: Slug::parse(alloc, "2.0.0")?,
     })?;
-    let mut names = Vec::new(alloc);
-    for name in ["2.0.0", "3.0.0", "1.0.0"] {
-        names.push(Slug::parse(alloc, name)?)?;
-    }
-    tables.begin()?;
-    tables.set_picks(&docs(alloc)?, &names)?;
-    tables.commit()?;
-    Ok(())
+    set(alloc, tables, &["2.0.0", "3.0.0", "1.0.0"])
 }
 
 /// The default under docs.test, what `stable` stands for there, and whether 2.0.0 shows a page, as one text.
