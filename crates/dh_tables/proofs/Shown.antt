@@ -1,10 +1,9 @@
 -- What a view shows, by what was found in the lists.
-use Rattle.std.proofs.Common.{◌≡◌, ℕ, ◌<◌, ◌≤◌, ◌+◌, Bool, true, false, not, ◌&&◌, ◌||◌, cond, List, [], ◌∷◌, map, filter, Option, Some, None, IsTrue, refl, sym, ap, subst, ◌∙◌, slice_get, slice_index_or, drop, length, true≢false, Ordering, Equal}
+use Rattle.std.proofs.Common.{◌≡◌, ℕ, ◌<◌, ◌≤◌, ◌+◌, Bool, true, false, ◌&&◌, cond, List, [], ◌∷◌, map, filter, Option, Some, None, refl, sym, ap, subst, ◌∙◌, slice_get, slice_index_or, drop, length, true≢false, Equal}
 use Rattle.std.specs.Prelude.{option_map, option_and_then, is_some, codes}
 use Rattle.std.specs.Option.{option_map_or, option_or}
 use Rattle.std.specs.List.{find, AllByRecursion}
 use Rattle.std.specs.Str.{bytes_eq}
-use Rattle.std.specs.Ordering.{eq_by_cmp}
 use Rattle.std.specs.FinMap.{FinMap, get, entries, keys, values, get-entries, get-retain_keys}
 use Rattle.std.specs.FinMap as finite
 use Rattle.std.proofs.lemmas.List.{at_drop_more, at_drop_all}
@@ -13,17 +12,15 @@ use Rattle.std.proofs.lemmas.Slice.Eq.{bytes_eq-Decides}
 use Rattle.dh_versions.specs.declared.version.Version.{Version}
 use Rattle.dh_versions.specs.Aliases.{latest_of, stable_of}
 use Rattle.dh_reply.specs.declared.answer.Named.{Named}
-use Rattle.dh_reply.specs.declared.answer.Page.{Page}
 use Rattle.dh_reply.specs.declared.seen_project.SeenProject.{SeenProject}
 use Rattle.dh_reply.specs.SeenProject.{resolved, alias_of, page_at}
 use Rattle.dh_tables.specs.declared.records.ProjectRow.{ProjectRow}
 use Rattle.dh_tables.specs.declared.records.VersionRow.{VersionRow}
-use Rattle.dh_tables.specs.declared.records.PageRow.{PageRow}
 use Rattle.dh_tables.specs.declared.records.PickRow.{PickRow}
 use Rattle.dh_tables.specs.declared.records.HeldRow.{HeldRow}
 use Rattle.dh_tables.specs.World.{Text, text_cmp, Project, holds, is_visible}
 use Rattle.dh_tables.specs.Lists.{Lists, project_of, world_of, is_project, is_version, is_version_of, is_page, is_lang_of, is_pick_of}
-use Rattle.dh_tables.specs.Seen.{seen, seen_project, without_default, default_of, visible_versions, visible_pages}
+use Rattle.dh_tables.specs.Seen.{seen_project, without_default, default_of, visible_versions}
 use Rattle.dh_tables.specs.View.{RiseBySlug, may_see, opens}
 use Rattle.dh_tables.proofs.SeenLemmas.{tied_text, get_project, get_version, get_page, seen_page}
 use Rattle.dh_tables.proofs.SlugOrder.{by_slug, visible_entries, same_filter}
