@@ -33,4 +33,5 @@ rt try --steps 1000 --seconds 300 2>/dev/null | grep -m 1 '^83 81 ' | python3 -c
 import sys
 sys.stdout.buffer.write(bytes(int(word) for word in sys.stdin.read().split()))" >"$copy/tables.db"
 sqlite3 "$copy/tables.db" .schema 'PRAGMA integrity_check' 'SELECT * FROM meta' 'SELECT * FROM project' 'SELECT * FROM lang' \
-  'SELECT * FROM version' 'SELECT host, slug, lang, path, media, CAST(body AS TEXT) FROM page' 'SELECT * FROM used'
+  'SELECT * FROM version' 'SELECT host, slug, lang, path, media, CAST(body AS TEXT) FROM page' 'SELECT * FROM used' \
+  'SELECT * FROM pick' 'SELECT * FROM pass' 'SELECT * FROM holds'

@@ -1,28 +1,32 @@
 -- What a change of defaults, passes or grants, and the removal of a version, make of the world.
-use Rattle.std.proofs.Common.{◌≡◌, Bool, true, false, not, ◌&&◌, cond, List, map, filter, find, Option, Some, None, is_some, refl, sym, ap, ap₂, ◌∙◌, Ordering}
+use Rattle.std.proofs.Common.{◌≡◌, ℕ, suc, ◌+◌, Bool, true, false, not, ◌&&◌, cond, List, [], ◌∷◌, map, filter, find, length, Option, Some, None, is_some, is_eq, refl, sym, ap, ◌∙◌, arith, Ordering, Less}
 use Rattle.std.specs.Prelude.{option_map}
+use Rattle.std.specs.List.{AllByRecursion}
 use Rattle.std.specs.Str.{bytes_eq}
 use Rattle.std.specs.Ordering.{eq_by_cmp}
 use Rattle.std.specs.Cmp.{IsTotalOrder, eq_by_cmp_equiv}
-use Rattle.std.specs.FinMap.{FinMap, IsAntisymmetric, get, insert, remove, retain_keys, get-insert, get-remove, get-retain_keys, same_map}
+use Rattle.std.specs.FinMap.{FinMap, IsAntisymmetric, get, len, from_entries, insert, remove, retain_keys, get-insert, get-remove, get-retain_keys, get-from_entries, len-empty, len-insert, same_map}
+use Rattle.std.specs.FinMap as finite
 use Rattle.std.proofs.lemmas.Map.Lookups.{exact_bytes}
-use Rattle.dh_rows.specs.Keyed.{IsFreeKey, added, put}
+use Rattle.std.proofs.lemmas.Slice.Eq.{bytes_eq-Decides}
+use Rattle.dh_rows.specs.Keyed.{by_key, IsFreeKey, added, put}
 use Rattle.dh_tables.specs.declared.records.ProjectRow.{ProjectRow}
 use Rattle.dh_tables.specs.declared.records.PickRow.{PickRow}
 use Rattle.dh_tables.specs.declared.records.PassRow.{PassRow}
 use Rattle.dh_tables.specs.declared.records.HeldRow.{HeldRow}
 use Rattle.dh_tables.specs.Codings as coding
 use Rattle.dh_tables.specs.World.{Text, text_cmp, HeldKey, held_cmp, Project}
-use Rattle.dh_tables.specs.Lists.{Lists, project_of, world_of, is_version, is_page_under, is_pick_of, is_pass, is_held, is_held_by, is_held_on, set_picks, granted}
+use Rattle.dh_tables.specs.Lists.{Lists, project_of, world_of, is_version, is_page_under, is_pick_of, is_pass_of, is_pass, is_held, is_held_by, is_held_on, set_picks, granted}
 use Rattle.dh_tables.specs.Rules.{InOrder, lies_under}
 use Rattle.dh_tables.proofs.KeyLemmas.{turned}
 use Rattle.dh_tables.proofs.PassKeys.{held_place, same_pass, same_held}
 use Rattle.dh_tables.proofs.GrantLemmas.{grant_is_free, granted_new, granted_there}
 use Rattle.dh_tables.proofs.PickLists.{set_of_host, set_elsewhere, names_ranked}
 use Rattle.dh_tables.proofs.SeenLemmas.{tied_text, tied_held, text_total, held_total, held_exact}
-use Rattle.dh_tables.proofs.RecordLemmas.{kept_of, put_here, put_there, put_free, dropped_here, dropped_there}
+use Rattle.dh_tables.proofs.RecordLemmas.{all_that, kept_of, put_here, put_there, put_free, dropped_here, dropped_there}
 use Rattle.dh_tables.proofs.ChangeLemmas.{part_changed, versions_of, with_versions, versions_are, world_without_pages}
-use Rattle.dh_tables.proofs.WorldLemmas.{held_in, put_same, changed_twice}
+use Rattle.dh_tables.proofs.WorldLemmas.{row_of, held_in, put_same, changed_twice}
+use Rattle.dh_tables.proofs.OrderLemmas.{filtered_in_order}
 
 -- ---- one key is removed
 
@@ -223,3 +227,37 @@ pub world_pass_gone : (lists : Lists) (host pass : Text) (p : Project) → get (
 world_pass_gone lists host pass p was =
     changed_twice lists (record lists { held = filter (λ x. not (is_held_by host pass x)) lists.held }) _ host (record p { held = retain_keys p.held (λ k. not (bytes_eq k.0 pass)) }) _
     (world_without_grants_by lists host pass p was) (world_without_pass _ host pass _)
+
+-- ---- how many passes a project has
+
+abbrev marks : List PassRow → List (Text × Unit {0})
+marks rows = map (λ y. (y.pass, tt)) rows
+
+apart_from : (host : Text) (x : PassRow) → is_pass_of host x ≡ true → (rows : List PassRow) → AllByRecursion (λ y. by_key coding.passes.key x y ≡ Less) rows → AllByRecursion (λ y. is_pass_of host y ≡ true) rows
+    → finite.find text_cmp x.pass (marks rows) ≡ None
+apart_from host x own [] low all = refl
+apart_from host x own (y ∷ rows) low all = rw (other, apart_from host x own rows low.1 all.1) refl
+  where
+    other : eq_by_cmp text_cmp x.pass y.pass ≡ false
+    other =
+        let hosts = (bytes_eq-Decides y.host host).0 all.0 ∙ sym ((bytes_eq-Decides x.host host).0 own) in
+        ap (λ b. b && eq_by_cmp text_cmp x.pass y.pass) (sym ((bytes_eq-Decides y.host x.host).1 hosts)) ∙ sym (same_pass x y) ∙ ap is_eq low.0
+
+one_more : (n m : ℕ) → n ≡ m → n + 1 ≡ suc m
+one_more n m e = omega arith
+
+count_rows : (host : Text) (rows : List PassRow) → InOrder coding.passes.key rows → AllByRecursion (λ y. is_pass_of host y ≡ true) rows → len (from_entries {R = text_cmp} (marks rows)) ≡ length rows
+count_rows host [] up all = len-empty text_cmp (Unit {0})
+count_rows host (x ∷ rows) up all =
+    let m = from_entries {R = text_cmp} (marks rows) in
+    len-insert text_total m x.pass tt
+    ∙ ap (λ b. cond b (len m) (len m + 1)) (ap is_some (get-from_entries text_total (marks rows) x.pass ∙ apart_from host x all.0 rows up.0 all.1))
+    ∙ one_more (len m) (length rows) (count_rows host rows up.1 all.1)
+
+-- as many as records
+pub pass_count_in : (lists : Lists) (host : Text) (p : Project) → InOrder coding.passes.key lists.passes → get (world_of lists) host ≡ Some p → len p.passes ≡ length (filter (is_pass_of host) lists.passes)
+pass_count_in lists host p up was =
+    let it = row_of lists host p was in
+    ap (λ (x : Project). len x.passes) (sym it.1.spells) ∙ ap len (passes_are lists it.0)
+    ∙ count_rows it.0.host (filter (is_pass_of it.0.host) lists.passes) (filtered_in_order coding.passes.key (is_pass_of it.0.host) lists.passes up) (all_that (λ y. is_pass_of it.0.host y ≡ true) (is_pass_of it.0.host) (λ y e. e) lists.passes)
+    ∙ ap (λ h. length (filter (is_pass_of h) lists.passes)) it.1.host_is

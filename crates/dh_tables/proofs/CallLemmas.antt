@@ -222,10 +222,10 @@ module _ {S W : Type 0} (g : Ghosts S) (view : Database → W) (old middle new :
 pub same_becomes : {S W : Type 0} (g : Ghosts S) (view : Database → W) (old : Held S) → IsHonest g old → old.in_transaction ≡ true → Becomes g view old old (seen g view old)
 same_becomes g view old honest within = record { was_honest = honest; is_open = honest.1; now_is = refl; last_is = sym (ap (λ c. cond c (committed g view old) (seen g view old)) within); mode = refl }
 
--- what is the same after a look is also what would be committed
-pub same_is_change : {S : Type 0} (g : Ghosts S) (old new : Held S) → AreOurs Holds (state g new) → HasCleanDisk (state g new) → IsSame g lists_of old new → Becomes g lists_of old new (seen g lists_of old)
-same_is_change g old new ours clean it = record { was_honest = it.was_honest; is_open = it.is_open; now_is = it.now_is; last_is = go old.in_transaction refl; mode = it.mode }
+-- outside a transaction, what is the same after a look is committed
+pub same_is_change : {S : Type 0} (g : Ghosts S) (old new : Held S) → AreOurs Holds (state g old) → IsHonest g old → IsSame g lists_of old new → Becomes g lists_of old new (seen g lists_of old)
+same_is_change g old new ours honest it = record { was_honest = it.was_honest; is_open = it.is_open; now_is = it.now_is; last_is = go old.in_transaction refl; mode = it.mode }
   where
     go : (b : Bool) → old.in_transaction ≡ b → committed g lists_of new ≡ cond b (committed g lists_of old) (seen g lists_of old)
     go true e = it.last_is
-    go false e = sym (ap lists_of ((ours clean it.is_open).settled (it.mode ∙ e))) ∙ it.now_is
+    go false e = it.last_is ∙ sym (ap lists_of ((ours honest.0 honest.1).settled e))

@@ -1,5 +1,5 @@
 -- Defaults that are added one after the other, in the order of their ranks.
-use Rattle.std.proofs.Common.{◌≡◌, ℕ, suc, zero, ◌+◌, ◌<◌, true, false, List, [], ◌∷◌, drop, length, slice_index_or, refl, sym, ap, subst, ◌∙◌, arith, add-one}
+use Rattle.std.proofs.Common.{◌≡◌, ℕ, suc, zero, ◌+◌, ◌<◌, true, false, not, List, [], ◌∷◌, filter, drop, length, slice_index_or, refl, sym, ap, subst, ◌∙◌, arith, add-one}
 use Rattle.std.specs.List.{AllByRecursion}
 use Rattle.sqlite_trees.specs.declared.store.Store.{Ghosts}
 use Rattle.sqlite.specs.State.{HasCleanDisk}
@@ -8,9 +8,9 @@ use Rattle.dh_rows.specs.Calls.{IsHonest, Becomes, LeavesNoMore, KeepsCommitted,
 use Rattle.dh_rows.specs.Keyed.{added}
 use Rattle.dh_tables.specs.declared.records.PickRow.{PickRow}
 use Rattle.dh_tables.specs.Codings as coding
-use Rattle.dh_tables.specs.Lists.{Lists, is_pick_of, ranked, with_picks}
+use Rattle.dh_tables.specs.Lists.{Lists, is_pick_of, ranked, with_picks, set_picks}
 use Rattle.dh_tables.specs.Tables.{lists_of}
-use Rattle.dh_tables.proofs.PickLists.{AreBelow, none_below, below_next}
+use Rattle.dh_tables.proofs.PickLists.{AreBelow, none_below, below_next, all_taken_out}
 use Rattle.dh_tables.proofs.CallLemmas.{becomes_on, same_becomes}
 
 -- the first of the names that are left
@@ -71,3 +71,15 @@ module _ {S : Type 0} (g : Ghosts S) (host : List ℕ) (names : List (List ℕ))
         kept = λ honest. kept (at (was honest)) honest ∙ had.kept (was honest);
         quiet = λ honest c db may. let mid = had.live honest (clean c) in had.quiet honest (clean c) db (quiet (at mid) mid c db may);
       }
+
+-- ---- in place of those that were there
+
+pub taken_out : (host : List ℕ) (now before : Lists) → now ≡ record before { picks = filter (λ r. not (is_pick_of host r)) before.picks } → AllByRecursion (λ r. is_pick_of host r ≡ false) now.picks
+taken_out host now before e = subst (λ (l : Lists). AllByRecursion (λ r. is_pick_of host r ≡ false) l.picks) (sym e) (all_taken_out host before.picks)
+
+module _ {S : Type 0} (g : Ghosts S) (old middle new : Held S) (host : List ℕ) (names : List (List ℕ)) where
+  pub set_seen : old.in_transaction ≡ true → Becomes g lists_of old middle (record (seen g lists_of old) { picks = filter (λ r. not (is_pick_of host r)) (seen g lists_of old).picks })
+      → Becomes g lists_of middle new (record (seen g lists_of middle) { picks = with_picks (ranked host 1 names) (seen g lists_of middle).picks })
+      → Becomes g lists_of old new (record (seen g lists_of old) { picks = set_picks host names (seen g lists_of old).picks })
+  set_seen within dropped it =
+      subst (Becomes g lists_of old new) (ap (λ (l : Lists). record l { picks = with_picks (ranked host 1 names) l.picks }) dropped.now_is) (becomes_on g lists_of old middle new _ _ within dropped it)

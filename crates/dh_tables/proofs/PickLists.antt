@@ -58,7 +58,7 @@ pick_apart x y below =
 pub rank_is_free : (x : PickRow) (rows : List PickRow) → AreBelow x.host x.rank rows → IsFreeKey coding.picks.key x rows
 rank_is_free x rows below = all_weaker _ (λ y. same_key coding.picks.key x y ≡ false) (λ y h. pick_apart x y h) rows below
 
-below_next : (x : PickRow) (rows : List PickRow) → AreBelow x.host x.rank rows → AreBelow x.host (x.rank + 1) (added coding.picks.key x rows)
+pub below_next : (x : PickRow) (rows : List PickRow) → AreBelow x.host x.rank rows → AreBelow x.host (x.rank + 1) (added coding.picks.key x rows)
 below_next x rows below =
     all_added (λ y. bytes_eq y.host x.host ≡ true → y.rank < x.rank + 1) (by_key coding.picks.key) x rows (λ _. omega arith)
     (all_weaker _ (λ y. bytes_eq y.host x.host ≡ true → y.rank < x.rank + 1) (λ y h e. let l : y.rank < x.rank = h e in omega arith) rows below)

@@ -235,6 +235,8 @@ impl<S: Alter> Tables<S> {
         ensures kept { self.old.in_transaction ≡ true → KeepsCommitted S.Store self.old self.new }
         ensures quiet { self.old.in_transaction ≡ true → IsHonest S.Store self.old → LeavesNoMore S.Store self.old self.new }
     {
+        // The proof learns by it that what is seen outside a transaction is committed.
+        let _ = &self.conn;
         match self.held(&row.host, &row.pass, &row.slug) {
             Ok(true) => Ok(()),
             Ok(false) => self.add_grant(row),

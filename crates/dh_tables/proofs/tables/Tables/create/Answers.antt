@@ -1,6 +1,7 @@
-use Rattle.std.proofs.Common.{ap, subst}
+use Rattle.std.proofs.Common.{◌∙◌, ap, subst}
 use Rattle.sqlite.specs.Effect.{Database}
-use Rattle.dh_tables.specs.Tables.{Holds}
+use Rattle.sqlite.specs.Held.{state}
+use Rattle.dh_tables.specs.Tables.{Holds, lists_of}
 use Rattle.dh_rows.proofs.Indexes.{placed}
 use Rattle.dh_tables.proofs.tables.Tables.create.Goals as goal
 
@@ -11,3 +12,7 @@ pub invariant_of-result : goal.invariant_of-result
 invariant_of-result g c clean live =
     let it = c.in-Ok.ensures.ok (c.in-Ok.ensures.was (clean, live)) clean in
     record { now = it.3.holds; last = subst Holds it.2 it.3.holds; steady = ap (λ (d : Database). d.schema) it.2; settled = λ _. it.2 }
+
+pub returns-in-Ok-clause-left : goal.returns-in-Ok-clause-left
+returns-in-Ok-clause-left g c honest w left =
+    left.2 ∙ ap (λ trees. lists_of (record { schema = (state g.S.Store c.make_at_once.new.conn).committed.schema; trees = trees })) (g.met.S.Store.settled c.make_at_once.new.conn.store left.0 honest.1 left.1)

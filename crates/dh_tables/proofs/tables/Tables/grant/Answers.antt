@@ -1,9 +1,10 @@
 use Rattle.std.proofs.Common.{sym, subst, ◌∙◌}
-use Rattle.dh_rows.specs.Calls.{IsHonest, Becomes, seen}
+use Rattle.sqlite.specs.Held.{state}
+use Rattle.dh_rows.specs.Calls.{AreOurs, IsHonest, Becomes, seen}
 use Rattle.dh_rows.specs.Keyed.{IsFreeKey}
 use Rattle.dh_tables.specs.Codings as coding
 use Rattle.dh_tables.specs.Lists.{Lists}
-use Rattle.dh_tables.specs.Tables.{lists_of}
+use Rattle.dh_tables.specs.Tables.{Holds, lists_of}
 use Rattle.dh_tables.proofs.CallLemmas.{on_ok, same_is_change}
 use Rattle.dh_tables.proofs.GrantLemmas.{grant_is_free, granted_there, grant_seen, grant_leaves}
 use Rattle.dh_tables.proofs.tables.Tables.grant.Goals as goal
@@ -20,7 +21,7 @@ pub returns-in-Ok-true-clause-ok : goal.returns-in-Ok-true-clause-ok
 returns-in-Ok-true-clause-ok g c honest clean =
     subst (λ rows. Becomes g.S.Store lists_of c.args.self.now c.held.new.self (record (seen g.S.Store lists_of c.args.self.now) { held = rows }))
     (sym (granted_there c.args.row.now (seen g.S.Store lists_of c.args.self.now).held (sym (c.in-Ok-true.ensures.value honest clean) ∙ c.in-Ok-true.field-0-test)))
-    (same_is_change g.S.Store c.args.self.now c.held.new.self c.held.type_inv.self clean (c.in-Ok-true.ensures.same honest clean))
+    (same_is_change g.S.Store c.args.self.now c.held.new.self (subst (λ h. AreOurs Holds (state g.S.Store h)) c.self.view_is c.self.invariant) honest (c.in-Ok-true.ensures.same honest clean))
 
 pub returns-in-Ok-false-clause-ok : goal.returns-in-Ok-false-clause-ok
 returns-in-Ok-false-clause-ok g c honest clean =
