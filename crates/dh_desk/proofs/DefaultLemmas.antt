@@ -1,5 +1,5 @@
 -- Versions that go, and the defaults, by the lists.
-use Rattle.std.proofs.Common.{◌≡◌, ◌⊎◌, inl, inr, Bool, true, false, not, ◌||◌, cond, List, ◌∷◌, filter, find, is_some, Option, Some, None, Result, Ok, Err, IsTrue, refl, sym, ap, ◌∙◌, subst}
+use Rattle.std.proofs.Common.{◌≡◌, ◌⊎◌, Bool, true, false, not, ◌||◌, cond, List, ◌∷◌, filter, find, is_some, Option, Some, None, Result, Ok, Err, refl, sym, ap, ◌∙◌, subst}
 use Rattle.std.specs.Prelude.{option_map}
 use Rattle.std.specs.FinMap.{get}
 use Rattle.std.specs.Result.{IsErrAnd}
@@ -10,7 +10,7 @@ use Rattle.dh_tables.specs.declared.records.ProjectRow.{ProjectRow}
 use Rattle.dh_tables.specs.declared.records.VersionRow.{VersionRow}
 use Rattle.dh_tables.specs.World.{Text, Project}
 use Rattle.dh_tables.specs.Seen.{is_alias}
-use Rattle.dh_tables.specs.Lists.{Lists, world_of, project_of, is_project, is_version, is_page_under, is_held_on, set_picks}
+use Rattle.dh_tables.specs.Lists.{Lists, world_of, project_of, is_project, is_version, is_page_under, is_held_on}
 use Rattle.dh_tables.specs.Rules.{has_project, has_version, AreInOrder}
 use Rattle.dh_tables.proofs.SeenLemmas.{get_project}
 use Rattle.dh_tables.proofs.OrderLemmas.{order_without}
@@ -23,17 +23,13 @@ use Rattle.dh_desk.specs.declared.refusal.Refusal.{Refusal}
 use Rattle.dh_desk.specs.declared.refusal.Refusal.TheVariants.{NoProject, Inactive}
 use Rattle.dh_desk.specs.Changes.{Change, at_version, without_name, without_version, with_default}
 use Rattle.dh_desk.specs.Checks.{IsSetAside}
-use Rattle.dh_desk.specs.Defaults.{defaults_but, without_records, bad_version_for_default, bad_default}
+use Rattle.dh_desk.specs.Defaults.{defaults_but, with_defaults, without_records, bad_version_for_default, bad_default}
 use Rattle.dh_desk.specs.Desk.{AreSound, Turns}
 use Rattle.dh_desk.specs.Refusals.{unless}
 use Rattle.dh_desk.specs.Step.{settled, turn}
 use Rattle.dh_desk.specs.Versions.{found_version}
 use Rattle.dh_desk.proofs.ProjectLemmas.{turn_at, no_project}
 use Rattle.dh_desk.proofs.PropertyLemmas.{IsThere, is_there, IsOn, version_missing, version_there}
-
--- other defaults of a host
-abbrev pub with_defaults : Text → List Text → Lists → Lists
-with_defaults host names l = record l { picks = set_picks host names l.picks }
 
 -- ---- a version goes
 
@@ -77,7 +73,7 @@ chosen_on host name e = record { host_is = refl; opens = refl; changes = λ p. a
 
 module _ (lists : Lists) (host name : Text) where
   by_version : is_alias name ≡ false → (row : VersionRow) → (it : IsThere lists host name row) → (b : Bool) → row.version.active ≡ b → turn (world_of lists) (SetDefault host name) ≡ settled (world_of lists) host (if_active name it.project b)
-  by_version no row it b e = version_there lists host name _ (SetDefault host name) (chosen_on host name no) row it ∙ ap (λ a. settled (world_of lists) host (if_active name it.project a)) e
+  by_version off row it b e = version_there lists host name _ (SetDefault host name) (chosen_on host name off) row it ∙ ap (λ a. settled (world_of lists) host (if_active name it.project a)) e
 
   -- a name that may be no default
   pub default_refused : (e : Refusal) → bad_default host name lists ≡ Some e → turn (world_of lists) (SetDefault host name) ≡ Err e
@@ -89,16 +85,16 @@ module _ (lists : Lists) (host name : Text) where
       by_project (Some r) f g = absurd (cc)
 
       by_active : is_alias name ≡ false → (row : VersionRow) → found_version host name lists ≡ Ok row → (b : Bool) → row.version.active ≡ b → unless b Inactive ≡ Some e → turn (world_of lists) (SetDefault host name) ≡ Err e
-      by_active no row f true a g = absurd (cc)
-      by_active no row f false a g = let same : Inactive ≡ e = cc in by_version no row (is_there lists host name row f) false a ∙ ap Err same
+      by_active off row f true a g = absurd (cc)
+      by_active off row f false a g = let same : Inactive ≡ e = cc in by_version off row (is_there lists host name row f) false a ∙ ap Err same
 
       by_found : is_alias name ≡ false → (o : Result VersionRow Refusal) → found_version host name lists ≡ o → bad_version_for_default o ≡ Some e → turn (world_of lists) (SetDefault host name) ≡ Err e
-      by_found no (Err x) f g = let same : x ≡ e = cc in version_missing lists host name _ (SetDefault host name) (chosen_on host name no) x f ∙ ap Err same
-      by_found no (Ok row) f g = by_active no row f row.version.active refl g
+      by_found off (Err x) f g = let same : x ≡ e = cc in version_missing lists host name _ (SetDefault host name) (chosen_on host name off) x f ∙ ap Err same
+      by_found off (Ok row) f g = by_active off row f row.version.active refl g
 
       by_name : (b : Bool) → is_alias name ≡ b → cond b (unless (has_project lists host) NoProject) (bad_version_for_default (found_version host name lists)) ≡ Some e → turn (world_of lists) (SetDefault host name) ≡ Err e
-      by_name true yes g = by_project (find (is_project host) lists.projects) refl g
-      by_name false no g = by_found no (found_version host name lists) refl g
+      by_name true on g = by_project (find (is_project host) lists.projects) refl g
+      by_name false off g = by_found off (found_version host name lists) refl g
 
   -- a name that may be one, and its project
   record MayBe : Type 0 where
@@ -112,30 +108,30 @@ module _ (lists : Lists) (host name : Text) where
   may_be = by_name (is_alias name) refl
     where
       by_project : is_alias name ≡ true → (o : Option ProjectRow) → find (is_project host) lists.projects ≡ o → unless (is_some o) NoProject ≡ None → MayBe
-      by_project yes None f g = absurd (cc)
-      by_project yes (Some r) f g =
+      by_project on None f g = absurd (cc)
+      by_project on (Some r) f g =
           let was : get (world_of lists) host ≡ Some (project_of lists r) = get_project lists host ∙ ap (option_map (project_of lists)) f in
           record {
             project = project_of lists r;
             was = was;
             turned = turn_at lists (SetDefault host name) (Some (project_of lists r)) was
-                ∙ ap (λ b. settled (world_of lists) host (cond b (Ok (with_default name (project_of lists r), Done)) (at_version (get (project_of lists r).versions name) (λ v. cond v.active (Ok (with_default name (project_of lists r), Done)) (Err Inactive))))) yes;
-            may = ap (λ b. b || has_version lists host name) yes;
+                ∙ ap (λ b. settled (world_of lists) host (cond b (Ok (with_default name (project_of lists r), Done)) (at_version (get (project_of lists r).versions name) (λ v. cond v.active (Ok (with_default name (project_of lists r), Done)) (Err Inactive))))) on;
+            may = ap (λ b. b || has_version lists host name) on;
           }
 
       by_active : is_alias name ≡ false → (row : VersionRow) → found_version host name lists ≡ Ok row → (b : Bool) → row.version.active ≡ b → unless b Inactive ≡ None → MayBe
-      by_active no row f false a g = absurd (cc)
-      by_active no row f true a g =
+      by_active off row f false a g = absurd (cc)
+      by_active off row f true a g =
           let it = is_there lists host name row f in
-          record { project = it.project; was = it.was; turned = by_version no row it true a; may = ap (λ b. b || has_version lists host name) no ∙ ap is_some it.found }
+          record { project = it.project; was = it.was; turned = by_version off row it true a; may = ap (λ b. b || has_version lists host name) off ∙ ap is_some it.found }
 
       by_found : is_alias name ≡ false → (o : Result VersionRow Refusal) → found_version host name lists ≡ o → bad_version_for_default o ≡ None → MayBe
-      by_found no (Err x) f g = absurd (cc)
-      by_found no (Ok row) f g = by_active no row f row.version.active refl g
+      by_found off (Err x) f g = absurd (cc)
+      by_found off (Ok row) f g = by_active off row f row.version.active refl g
 
       by_name : (b : Bool) → is_alias name ≡ b → cond b (unless (has_project lists host) NoProject) (bad_version_for_default (found_version host name lists)) ≡ None → MayBe
-      by_name true yes g = by_project yes (find (is_project host) lists.projects) refl g
-      by_name false no g = by_found no (found_version host name lists) refl g
+      by_name true on g = by_project on (find (is_project host) lists.projects) refl g
+      by_name false off g = by_found off (found_version host name lists) refl g
 
   -- the name may be a default, and these are the others after it
   pub default_set : (names : List Text) → AreSound lists → bad_default host name lists ≡ None → names ≡ name ∷ defaults_but host name lists

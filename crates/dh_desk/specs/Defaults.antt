@@ -1,8 +1,8 @@
 -- The defaults of a project, and the records of a version that goes.
-use Rattle.std.specs.Prelude.{Bool, true, false, not, if◌then◌else◌, List, map, filter, Option, Some, None, Result, Ok, Err}
+use Rattle.std.specs.Prelude.{not, if◌then◌else◌, List, map, filter, Option, Some, None, Result, Ok, Err}
 use Rattle.dh_tables.specs.World.{Text}
 use Rattle.dh_tables.specs.Seen.{is_alias}
-use Rattle.dh_tables.specs.Lists.{Lists, is_version, is_page_under, is_held_on, is_pick_of}
+use Rattle.dh_tables.specs.Lists.{Lists, is_version, is_page_under, is_held_on, is_pick_of, set_picks}
 use Rattle.dh_tables.specs.Rules.{has_project}
 use Rattle.dh_tables.specs.declared.records.VersionRow.{VersionRow}
 use Rattle.dh_desk.specs.Changes.{without_name}
@@ -14,6 +14,10 @@ use Rattle.dh_desk.specs.Versions.{found_version}
 -- the defaults of a host but for one name
 abbrev pub defaults_but : Text → Text → Lists → List Text
 defaults_but host name l = without_name name (map (λ d. d.name) (filter (is_pick_of host) l.picks))
+
+-- the lists with these defaults of a host, in place of those that it had
+abbrev pub with_defaults : Text → List Text → Lists → Lists
+with_defaults host names l = record l { picks = set_picks host names l.picks }
 
 -- the lists without a version, its pages and the grants on it
 abbrev pub without_records : Text → Text → Lists → Lists

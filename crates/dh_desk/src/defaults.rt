@@ -2,13 +2,13 @@
 ghost use Rattle.std.specs.Prelude.{◌≡◌, ◌⊎◌, true, ◌∷◌, map, Some, None, IfOk, IfErr, OnOk};
 ghost use Rattle.sqlite.specs.Held.{state};
 ghost use Rattle.sqlite.specs.State.{HasCleanDisk};
-ghost use Rattle.dh_rows.specs.Calls.{IsHonest, IsSame, LeavesNoMore, KeepsCommitted, seen, committed};
+ghost use Rattle.dh_rows.specs.Calls.{IsHonest, Becomes, IsSame, LeavesNoMore, KeepsCommitted, seen, committed};
 ghost use Rattle.dh_tables.specs.Seen as names;
 ghost use Rattle.dh_tables.specs.Tables.{lists_of};
 ghost use Rattle.dh_desk.specs.Changes.{without_name};
 ghost use Rattle.dh_desk.specs.Checks.{IsSetAside};
 ghost use Rattle.dh_desk.specs.Crashes.{LeavesStep};
-ghost use Rattle.dh_desk.specs.Defaults.{defaults_but, without_records, bad_default};
+ghost use Rattle.dh_desk.specs.Defaults.{defaults_but, with_defaults, without_records, bad_default};
 ghost use Rattle.dh_desk.specs.Desk.{AreSound, Turns, Steps};
 
 use crate::calls::{end, version_at};
@@ -67,6 +67,25 @@ fn other_defaults<S: Alter>(
     Ok(names_but(alloc, picks, but)?)
 }
 
+/// Sets the defaults of a project, within a transaction.
+fn set_defaults<S: Alter>(
+    tables: &mut Tables<S>,
+    host: &HostName,
+    names: Vec<Slug>,
+) -> Result<(), Refusal>
+    requires within { IsHonest S.Store tables.old → tables.old.in_transaction ≡ true }
+    ensures ok { IsHonest S.Store tables.new → OnOk result (Becomes S.Store lists_of tables.old tables.new (with_defaults host.now names.items (seen S.Store lists_of tables.old))) }
+    ensures err { IfErr result IsSetAside }
+    ensures kept { KeepsCommitted S.Store tables.old tables.new }
+    ensures quiet { IsHonest S.Store tables.old → LeavesNoMore S.Store tables.old tables.new }
+    ensures live { IsHonest S.Store tables.old → HasCleanDisk (state S.Store tables.new) → OnOk result (IsHonest S.Store tables.new) }
+    ensures clean { HasCleanDisk (state S.Store tables.new) → HasCleanDisk (state S.Store tables.old) }
+    ensures was { IsHonest S.Store tables.new → IsHonest S.Store tables.old }
+{
+    tables.set_picks(host, names.as_slice())?;
+    Ok(())
+}
+
 /// Removes a version, its pages and the grants on it, within a transaction.
 fn drop_records<S: Alter>(
     tables: &mut Tables<S>,
@@ -106,7 +125,7 @@ fn make_gone<S: Alter>(
 {
     version_at(tables, alloc, host, slug)?;
     let names = other_defaults(tables, alloc, host, slug)?;
-    tables.set_picks(host, names.as_slice())?;
+    set_defaults(tables, host, names)?;
     drop_records(tables, host, slug)?;
     Ok(Answer::Done)
 }
@@ -182,7 +201,7 @@ fn make_default<S: Alter>(
     check_default(tables, alloc, host, name)?;
     let others = other_defaults(tables, alloc, host, name)?;
     let names = in_front(alloc, name, others)?;
-    tables.set_picks(host, names.as_slice())?;
+    set_defaults(tables, host, names)?;
     Ok(Answer::Done)
 }
 
