@@ -7,4 +7,5 @@ pub mod PushTurns
 pub mod UploadLemmas
 pub mod UploadTurns
 pub mod PropertyLemmas
+pub mod PassLemmas
 pub mod Crashing

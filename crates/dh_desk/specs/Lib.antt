@@ -8,4 +8,5 @@ pub mod Places
 pub mod Reads
 pub mod Rows
 pub mod Versions
+pub mod Passes
 pub mod Crashes

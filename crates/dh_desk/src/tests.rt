@@ -1,3 +1,5 @@
+mod passes;
+
 use crate::{Answer, Command, Desk, Pages, Refusal, UploadedPage};
 use dh_paths::{Bytes, Text};
 use dh_reply::{Fault, Read, Reply};
