@@ -20,7 +20,7 @@ use Rattle.dh_tables.specs.Codings as coding
 use Rattle.dh_tables.specs.World.{Text, text_cmp, Project}
 use Rattle.dh_tables.specs.Lists.{Lists, of_host, world_of, project_of, is_project, is_version, is_pass, is_pass_of, is_held, is_held_by, granted}
 use Rattle.dh_tables.specs.Rules.{InOrder, has_project, has_pass}
-use Rattle.dh_tables.proofs.AccessChanges.{world_with_pass, world_pass_gone, world_with_grant, world_without_grant}
+use Rattle.dh_tables.proofs.AccessChanges.{pass_count_in, world_with_pass, world_pass_gone, world_with_grant, world_without_grant}
 use Rattle.dh_tables.proofs.AccessRules.{rules_with_pass, rules_pass_gone, rules_with_grant, rules_without_grants, order_with_pass, order_without_pass, order_with_grant, order_without_grants}
 use Rattle.dh_tables.proofs.PassKeys.{pass_key}
 use Rattle.dh_tables.proofs.RecordLemmas.{found_none, none_found}
@@ -49,42 +49,6 @@ turns_either before after c e r P is refused why =
     go : IsSetAside e ⊎ P → IsSetAside e ⊎ (turn (world_of before) c ≡ Err e)
     go (inl aside) = inl aside
     go (inr own) = inr (refused own)
-
--- ---- how many passes a project has
-
-abbrev passes_of : List PassRow → Text → FinMap text_cmp (Unit {0})
-passes_of rows host = from_entries (map (λ (x : PassRow). (x.pass, tt)) (of_host (λ (x : PassRow). x.host) host rows))
-
-get_of : (rows : List PassRow) (host pass : Text) → get (passes_of rows host) pass ≡ option_map (λ x. tt) (find (is_pass host pass) rows)
-get_of rows host pass =
-    get-from_entries text_total _ pass ∙ found_in text_cmp (λ x. x.pass) (λ x. tt) pass (λ x. bytes_eq x.pass pass) (λ x. tied_text pass x.pass) (of_host (λ x. x.host) host rows)
-    ∙ ap (option_map (λ x. tt)) (find_in_filter (λ x. bytes_eq x.host host) (λ x. bytes_eq x.pass pass) rows)
-
--- no two records have one key, so that each is a pass of its own
-count_of : (host : Text) (rows : List PassRow) → InOrder coding.passes.key rows → len (passes_of rows host) ≡ length (filter (is_pass_of host) rows)
-count_of host [] up = len-empty text_cmp (Unit {0})
-count_of host (x ∷ rows) up = go (bytes_eq x.host host) refl (count_of host rows up.1)
-  where
-    others : bytes_eq x.host host ≡ true → AllByRecursion (λ y. is_pass host x.pass y ≡ false) rows
-    others e = subst (λ h. AllByRecursion (λ y. is_pass h x.pass y ≡ false) rows) ((bytes_eq-Decides x.host host).0 e)
-        (all_weaker _ (λ y. is_pass x.host x.pass y ≡ false) (λ y less. sym (pass_key x y) ∙ ap is_eq less) rows up.0)
-
-    go : (b : Bool) → bytes_eq x.host host ≡ b → len (passes_of rows host) ≡ length (filter (is_pass_of host) rows)
-        → len (from_entries {R = text_cmp} (map (λ (y : PassRow). (y.pass, tt)) (cond b (x ∷ of_host (λ y. y.host) host rows) (of_host (λ y. y.host) host rows))))
-        ≡ length (cond b (x ∷ filter (is_pass_of host) rows) (filter (is_pass_of host) rows))
-    go false e more = more
-    go true e more =
-        let new : contains_key (passes_of rows host) x.pass ≡ false = ap is_some (get_of rows host x.pass ∙ ap (option_map (λ x. tt)) (found_none (is_pass host x.pass) rows (others e))) in
-        len-insert text_total (passes_of rows host) x.pass tt ∙ ap (λ b. cond b (len (passes_of rows host)) (len (passes_of rows host) + 1)) new ∙ ap (λ n. n + 1) more
-
-passes_are : (lists : Lists) (r : ProjectRow) → (project_of lists r).passes ≡ passes_of lists.passes r.host
-unfolding project_of
-passes_are lists r = refl
-
-pub pass_count_in : (lists : Lists) (host : Text) (p : Project) → get (world_of lists) host ≡ Some p → AreSound lists → len p.passes ≡ length (filter (is_pass_of host) lists.passes)
-pass_count_in lists host p was sound =
-    let it = row_of lists host p was in
-    ap (λ (x : Project). len x.passes) (sym it.1.spells) ∙ ap len (passes_are lists it.0) ∙ ap (λ h. len (passes_of lists.passes h)) it.1.host_is ∙ count_of host lists.passes sound.order.passes
 
 -- ---- a command on one pass
 
@@ -138,7 +102,7 @@ pub passes_full : (lists : Lists) (host pass : Text) → AreSound lists → aske
 unfolding added_by
 passes_full lists host pass sound e full =
     let it = asked lists host pass false e in
-    pass_turn lists host pass false false it (ap (λ n. nat_lt n 1000) (pass_count_in lists host it.project it.was sound) ∙ le-ltb _ _ full)
+    pass_turn lists host pass false false it (ap (λ n. nat_lt n 1000) (pass_count_in lists host it.project sound.order.passes it.was) ∙ le-ltb _ _ full)
 
 -- a pass that is not there is a free key
 pub pass_is_free : (lists : Lists) (row : PassRow) → asked_pass row.host row.pass lists ≡ Ok false → IsFreeKey coding.passes.key row lists.passes
@@ -159,7 +123,7 @@ unfolding added_by
 pass_made lists row sound e room =
     let it = asked lists row.host row.pass false e in
     let free = pass_is_free lists row e in (
-      pass_turn lists row.host row.pass false true it (ap (λ n. nat_lt n 1000) (pass_count_in lists row.host it.project it.was sound) ∙ lt-ltb _ _ room)
+      pass_turn lists row.host row.pass false true it (ap (λ n. nat_lt n 1000) (pass_count_in lists row.host it.project sound.order.passes it.was) ∙ lt-ltb _ _ room)
           ∙ ap (λ w. Ok (w, Done)) (sym (world_with_pass lists row it.project free it.was)),
       record { order = order_with_pass lists sound.order row free; rules = rules_with_pass lists row sound.rules (owned_by lists row.host it.project it.was) },
     )

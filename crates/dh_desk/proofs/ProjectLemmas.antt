@@ -67,6 +67,9 @@ project_made lists row sound new = (
       versions = sound.order.versions;
       pages = sound.order.pages;
       used = sound.order.used;
+      picks = sound.order.picks;
+      passes = sound.order.passes;
+      held = sound.order.held;
     };
     rules = rules_with_project lists row (main_lang row) sound.rules new refl refl refl;
   },
@@ -185,6 +188,9 @@ lang_made lists host lang r place sound found is =
           versions = sound.order.versions;
           pages = sound.order.pages;
           used = sound.order.used;
+          picks = sound.order.picks;
+          passes = sound.order.passes;
+          held = sound.order.held;
         };
         rules = rules_with_lang lists row sound.rules sound.order.langs has at.1 (any_of_map (filter (is_lang_of host) lists.langs) lang ∙ at.0);
       },

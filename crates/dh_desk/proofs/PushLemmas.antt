@@ -92,6 +92,9 @@ module _ (lists : Lists) (host : Text) (p : Project) (was : get (world_of lists)
             versions = sound.order.versions;
             pages = sound.order.pages;
             used = added_in_order coding.used.key row lists.used free sound.order.used;
+            picks = sound.order.picks;
+            passes = sound.order.passes;
+            held = sound.order.held;
           };
           rules = rules_with_used lists row sound.rules (owned_by lists host p was);
         },
@@ -126,6 +129,9 @@ module _ (lists : Lists) (host : Text) (p : Project) (was : get (world_of lists)
             versions = put_in_order coding.versions.key made_row lists.versions sound.order.versions;
             pages = sound.order.pages;
             used = added_in_order coding.used.key made_used lists.used free sound.order.used;
+            picks = sound.order.picks;
+            passes = sound.order.passes;
+            held = sound.order.held;
           };
           rules = rules_with_used made_lists made_used
               (rules_with_version lists made_row sound.rules has named (λ _. inactive_is_bare lists host (slug_text name) sound.rules (ap (λ o. option_map_or (λ (r : VersionRow). r.version.active) o false) g)))

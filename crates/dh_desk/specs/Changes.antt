@@ -12,7 +12,7 @@ use Rattle.dh_tables.specs.declared.answer.Answer.{Answer}
 use Rattle.dh_tables.specs.declared.answer.Answer.TheVariants.{Done, Made, Known, Stored}
 use Rattle.dh_tables.specs.declared.records.Operation.TheVariants as operation
 use Rattle.dh_tables.specs.World.{Text, Project, PageKey, page_cmp, UsedKey, op_code}
-use Rattle.dh_tables.specs.Rules.{is_alias}
+use Rattle.dh_tables.specs.Seen.{is_alias}
 use Rattle.dh_desk.specs.declared.command.Command.{Command}
 use Rattle.dh_desk.specs.declared.command.Command.TheVariants.{NewProject, AddLang, Push, Upload, Activate, Deactivate, Hide, Unhide, Publish, MakePrivate, Gone, SetDefault, AddPass, DropPass, Grant, Revoke}
 use Rattle.dh_desk.specs.declared.pages.UploadedPage.{UploadedPage}

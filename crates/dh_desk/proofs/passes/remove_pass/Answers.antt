@@ -17,10 +17,10 @@ returns-in_err-has_pass-clause-turns g c honest =
     (asked_pass c.args.row.now.host c.args.row.now.pass lists ≡ Err c.in_err-has_pass.field-0.0) c.from_residual.ensures.1
     (unasked_dropped lists c.args.row.now.host c.args.row.now.pass c.in_err-has_pass.field-0.0) (c.in_err-has_pass.ensures.err honest)
 
-pub returns-then-not-field-0-clause-turns : goal.returns-then-not-field-0-clause-turns
-returns-then-not-field-0-clause-turns g c honest =
+pub returns-then-not-branch-clause-turns : goal.returns-then-not-branch-clause-turns
+returns-then-not-branch-clause-turns g c honest =
     let lists : Lists = seen g.S.Store lists_of c.args.tables.now in
-    inr (none_dropped lists c.args.row.now.host c.args.row.now.pass (c.in_ok-has_pass.ensures.ok honest ∙ ap Ok c.if-not-field-0.true))
+    inr (none_dropped lists c.args.row.now.host c.args.row.now.pass (c.in_ok-has_pass.ensures.ok honest ∙ ap Ok c.if-not-branch.true))
 
 pub returns-clause-turns : goal.returns-clause-turns
 returns-clause-turns g c honest =
@@ -31,4 +31,4 @@ returns-clause-turns g c honest =
     let bare = (c.in_ok-drop_grants_by.ensures.ok h1 h2.0).now_is ∙ ap (without_grants_by c.args.row.now.host c.args.row.now.pass) (c.in_ok-has_pass.ensures.same h0 h1.0).now_is in
     let now = (c.in_ok-drop_pass.ensures.ok h2 honest.0).now_is ∙ ap (without_pass c.args.row.now.host c.args.row.now.pass) bare in
     let P : Lists → Type 0 = λ l. (turn (world_of lists) (DropPass c.args.row.now.host c.args.row.now.pass) ≡ Ok (world_of l, Done)) × AreSound l in
-    subst P (sym now) (pass_dropped lists c.args.row.now.host c.args.row.now.pass (c.requires.sound h0) (c.in_ok-has_pass.ensures.ok h1 ∙ ap Ok c.if-not-field-0.false))
+    subst P (sym now) (pass_dropped lists c.args.row.now.host c.args.row.now.pass (c.requires.sound h0) (c.in_ok-has_pass.ensures.ok h1 ∙ ap Ok c.if-not-branch.false))
