@@ -8,4 +8,5 @@ pub mod UploadLemmas
 pub mod UploadTurns
 pub mod PropertyLemmas
 pub mod DefaultLemmas
+pub mod PassLemmas
 pub mod Crashing

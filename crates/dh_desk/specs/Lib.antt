@@ -9,4 +9,5 @@ pub mod Reads
 pub mod Rows
 pub mod Versions
 pub mod Defaults
+pub mod Passes
 pub mod Crashes

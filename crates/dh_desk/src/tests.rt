@@ -1,4 +1,5 @@
 mod defaults;
+mod passes;
 
 use crate::{Answer, Command, Desk, Pages, Refusal, UploadedPage};
 use dh_paths::{Bytes, Text};

@@ -3,7 +3,7 @@ ghost use Rattle.std.specs.Prelude.{◌≡◌, Bool, is_some};
 ghost use Rattle.dh_paths.specs.Texts.{is_host_name, is_lang, is_ref_name, is_slug, is_token};
 ghost use Rattle.dh_paths.specs.Slugs.{slug_from, slug_text};
 ghost use Rattle.dh_desk.specs.Checks.{Reads, Checks};
-ghost use Rattle.dh_desk.specs.Texts.{bad_text, bad_version};
+ghost use Rattle.dh_desk.specs.Texts.{bad_text, bad_version, bad_pass, bad_grant};
 ghost use Rattle.dh_desk.specs.Refusals.{unless};
 
 use crate::command::Command;
@@ -11,7 +11,7 @@ use crate::page_checks::check_pages;
 use crate::pages::Pages;
 use crate::refusal::Refusal;
 use dh_paths::{HostName, Lang, RefName, Slug, Text, TextFault, Token, slug_of};
-use dh_tables::{LangRow, ProjectRow};
+use dh_tables::{HeldRow, LangRow, PassRow, ProjectRow};
 use dh_versions::Kind;
 use std::alloc::Global;
 
@@ -39,7 +39,7 @@ fn slug_in(alloc: Global, text: &Text) -> Result<Slug, Refusal>
     Ok(Slug::parse(alloc, text.as_str())?)
 }
 
-fn write_key_in(alloc: Global, text: &Text) -> Result<Token, Refusal>
+fn token_in(alloc: Global, text: &Text) -> Result<Token, Refusal>
     ensures { Reads is_token Refusal.BadToken text.now result }
 {
     Ok(Token::parse(alloc, text.as_str())?)
@@ -76,7 +76,7 @@ pub fn project_in(
     let host = host_in(alloc, host)?;
     let main = lang_in(alloc, lang)?;
     let branch = ref_in(alloc, branch)?;
-    let wkey = write_key_in(alloc, wkey)?;
+    let wkey = token_in(alloc, wkey)?;
     let lang = LangRow {
         host: host.try_copy(alloc)?,
         lang: main.try_copy(alloc)?,
@@ -110,6 +110,30 @@ pub fn version_in(alloc: Global, host: &Text, slug: &Text) -> Result<(HostName, 
     Ok((host, slug))
 }
 
+/// The pass that a command names, under its host.
+pub fn pass_in(alloc: Global, host: &Text, pass: &Text) -> Result<PassRow, Refusal>
+    ensures { Checks (bad_pass host.now pass.now) (λ row. row ≡ record { host = host.now; pass = pass.now }) result }
+{
+    let host = host_in(alloc, host)?;
+    let pass = token_in(alloc, pass)?;
+    Ok(PassRow { host, pass })
+}
+
+/// The grant that a command names.
+pub fn grant_in(
+    alloc: Global,
+    host: &Text,
+    pass: &Text,
+    slug: &Text,
+) -> Result<HeldRow, Refusal>
+    ensures { Checks (bad_grant host.now pass.now slug.now) (λ row. row ≡ record { host = host.now; pass = pass.now; slug = slug.now }) result }
+{
+    let host = host_in(alloc, host)?;
+    let pass = token_in(alloc, pass)?;
+    let slug = slug_in(alloc, slug)?;
+    Ok(HeldRow { host, pass, slug })
+}
+
 /// The parts of a push.
 #[derive(Drop)]
 pub struct PushParts {
@@ -131,7 +155,7 @@ pub fn push_in(
     ensures { (kind : Kind) → Checks (bad_text (Command.Push host.now wkey.now key.now kind name.now)) (λ parts. parts ≡ record { host = host.now; wkey = wkey.now; key = key.now; name = name.now; slug = slug_text name.now }) result }
 {
     let host = host_in(alloc, host)?;
-    let wkey = write_key_in(alloc, wkey)?;
+    let wkey = token_in(alloc, wkey)?;
     let key = retry_key_in(alloc, key)?;
     let name = ref_in(alloc, name)?;
     let slug = slug_in_name(alloc, &name)?;
@@ -167,7 +191,7 @@ pub fn upload_in(
     ensures { (replace : Bool) → Checks (bad_text (Command.Upload host.now wkey.now key.now slug.now lang.now replace pages.now)) (λ parts. parts ≡ record { host = host.now; wkey = wkey.now; key = key.now; slug = slug.now; lang = lang.now }) result }
 {
     let host = host_in(alloc, host)?;
-    let wkey = write_key_in(alloc, wkey)?;
+    let wkey = token_in(alloc, wkey)?;
     let key = retry_key_in(alloc, key)?;
     let slug = slug_in(alloc, slug)?;
     let lang = lang_in(alloc, lang)?;
