@@ -1,4 +1,5 @@
-use Rattle.std.proofs.Common.{◌∙◌, ap, subst}
+use Rattle.dh_desk.specs.Desk.{AreSound}
+use Rattle.std.proofs.Common.{◌∙◌, sym, ap, subst}
 use Rattle.dh_rows.specs.Calls.{seen, committed}
 use Rattle.dh_tables.specs.Lists.{Lists}
 use Rattle.dh_tables.specs.Tables.{lists_of}
@@ -48,3 +49,6 @@ returns-clause-refused g c =
     refused_after g.S.Store c.args.tables.now c.make_project-worked.new.tables c.end.new.tables c.end.result
     (worked_no_more g.S.Store c.args.tables.now c.begin.new.self c.make_project-worked.new.tables c.in_ok-begin.ensures.opened c.begin.ensures.quiet c.in_ok-begin.ensures.ok c.make_project-worked.ensures.clean c.make_project-worked.ensures.quiet)
     c.end.ensures.clean c.end.ensures.refused
+
+pub make_project-worked-requires-clause-sound : goal.make_project-worked-requires-clause-sound
+make_project-worked-requires-clause-sound g c honest = let h0 = c.begin.ensures.was honest in subst AreSound (sym ((c.in_ok-begin.ensures.ok h0 honest.0).now_is ∙ c.requires.settled h0)) (c.requires.sound h0)
