@@ -124,8 +124,8 @@ fn make_gone<S: Alter>(
     ensures was { IsHonest S.Store tables.new → IsHonest S.Store tables.old }
 {
     version_at(tables, alloc, host, slug)?;
-    let names = other_defaults(tables, alloc, host, slug)?;
-    set_defaults(tables, host, names)?;
+    let others = other_defaults(tables, alloc, host, slug)?;
+    set_defaults(tables, host, others)?;
     drop_records(tables, host, slug)?;
     Ok(Answer::Done)
 }

@@ -25,9 +25,9 @@ returns-clause-turns g c honest =
     let h0 = c.version_at.ensures.was h1 in
     let lists : Lists = seen g.S.Store lists_of c.args.tables.now in
     let found = (c.in_ok-version_at.ensures.same h0 h1.0).now_is in
-    let listed = (c.in_ok-names.ensures.same h1 h2.0).now_is ∙ found in
-    let others = c.in_ok-names.ensures.ok h2 ∙ ap (defaults_but c.args.host.now c.args.slug.now) found in
-    let set = (c.in_ok-set_defaults.ensures.ok h3).now_is ∙ ap (with_defaults c.args.host.now c.in_ok-names.names.items) listed in
+    let listed = (c.in_ok-others.ensures.same h1 h2.0).now_is ∙ found in
+    let others = c.in_ok-others.ensures.ok h2 ∙ ap (defaults_but c.args.host.now c.args.slug.now) found in
+    let set = (c.in_ok-set_defaults.ensures.ok h3).now_is ∙ ap (with_defaults c.args.host.now c.in_ok-others.others.items) listed in
     let now = c.in_ok-drop_records.ensures.ok honest ∙ ap (without_records c.args.host.now c.args.slug.now) set in
     let P : Lists → Type 0 = λ l. (turn (world_of lists) (Gone c.args.host.now c.args.slug.now) ≡ Ok (world_of l, Done)) × AreSound l in
-    subst P (sym now) (version_gone lists c.args.host.now c.args.slug.now c.in_ok-version_at.field-0 c.in_ok-names.names.items (c.requires.sound h0) (c.in_ok-version_at.ensures.ok h1) others)
+    subst P (sym now) (version_gone lists c.args.host.now c.args.slug.now c.in_ok-version_at.field-0 c.in_ok-others.others.items (c.requires.sound h0) (c.in_ok-version_at.ensures.ok h1) others)
