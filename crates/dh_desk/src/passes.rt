@@ -19,11 +19,7 @@ use sqlite::Alter;
 use std::alloc::Global;
 
 /// Whether the project, which has to be there, has the pass.
-fn has_pass<S: Alter>(
-    tables: &mut Tables<S>,
-    alloc: Global,
-    row: &PassRow,
-) -> Result<bool, Refusal>
+fn has_pass<S: Alter>(tables: &mut Tables<S>, alloc: Global, row: &PassRow) -> Result<bool, Refusal>
     ensures ok { IsHonest S.Store tables.new → IfOk result (λ has. asked_pass row.now.host row.now.pass (seen S.Store lists_of tables.old) ≡ Ok has) }
     ensures err { IsHonest S.Store tables.new → IfErr result (λ e. IsSetAside e ⊎ (asked_pass row.now.host row.now.pass (seen S.Store lists_of tables.old) ≡ Err e)) }
     ensures same { IsHonest S.Store tables.old → HasCleanDisk (state S.Store tables.new) → OnOk result (IsSame S.Store lists_of tables.old tables.new) }
@@ -132,11 +128,7 @@ pub fn drop_pass<S: Alter>(
 }
 
 /// Finds the version and the pass of a grant, which have to be there.
-fn find_both<S: Alter>(
-    tables: &mut Tables<S>,
-    alloc: Global,
-    row: &HeldRow,
-) -> Result<(), Refusal>
+fn find_both<S: Alter>(tables: &mut Tables<S>, alloc: Global, row: &HeldRow) -> Result<(), Refusal>
     ensures ok { IsHonest S.Store tables.new → OnOk result (missing_for row.now.host row.now.pass row.now.slug (seen S.Store lists_of tables.old) ≡ None) }
     ensures err { IsHonest S.Store tables.new → IfErr result (λ e. IsSetAside e ⊎ (missing_for row.now.host row.now.pass row.now.slug (seen S.Store lists_of tables.old) ≡ Some e)) }
     ensures same { IsHonest S.Store tables.old → HasCleanDisk (state S.Store tables.new) → OnOk result (IsSame S.Store lists_of tables.old tables.new) }

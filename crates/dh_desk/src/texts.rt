@@ -120,12 +120,7 @@ pub fn pass_in(alloc: Global, host: &Text, pass: &Text) -> Result<PassRow, Refus
 }
 
 /// The grant that a command names.
-pub fn grant_in(
-    alloc: Global,
-    host: &Text,
-    pass: &Text,
-    slug: &Text,
-) -> Result<HeldRow, Refusal>
+pub fn grant_in(alloc: Global, host: &Text, pass: &Text, slug: &Text) -> Result<HeldRow, Refusal>
     ensures { Checks (bad_grant host.now pass.now slug.now) (λ row. row ≡ record { host = host.now; pass = pass.now; slug = slug.now }) result }
 {
     let host = host_in(alloc, host)?;

@@ -189,11 +189,7 @@ fn with_version_commands<'a>(alloc: Global, command: Command<'a>) -> Result<Comm
 }
 
 /// `NAME HOST PASS`
-fn pass_command<'a>(
-    alloc: Global,
-    name: &'a str,
-    about: &'a str,
-) -> Result<Command<'a>, AllocError>
+fn pass_command<'a>(alloc: Global, name: &'a str, about: &'a str) -> Result<Command<'a>, AllocError>
     ensures app { IfOk result (λ c. app_of c ≡ pass_app name.entry.now) }
     ensures local { IfOk result (λ c. (out-Command c).has_globals ≡ false) }
 {
