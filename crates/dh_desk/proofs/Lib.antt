@@ -7,5 +7,6 @@ pub mod PushTurns
 pub mod UploadLemmas
 pub mod UploadTurns
 pub mod PropertyLemmas
+pub mod DefaultLemmas
 pub mod PassLemmas
 pub mod Crashing

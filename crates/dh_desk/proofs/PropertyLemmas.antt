@@ -3,7 +3,7 @@ use Rattle.std.proofs.Common.{◌≡◌, ◌⊎◌, inl, inr, Bool, true, false,
 use Rattle.std.specs.Prelude.{option_map}
 use Rattle.std.specs.Option.{option_map_or}
 use Rattle.std.specs.List.{AllByRecursion}
-use Rattle.std.specs.FinMap.{get}
+use Rattle.std.specs.FinMap.{get, insert}
 use Rattle.std.specs.Result.{IsErrAnd}
 use Rattle.std.proofs.lemmas.Result.{err_from_is_err_and}
 use Rattle.std.proofs.lemmas.Bool.{and_parts}
@@ -140,7 +140,7 @@ well_named lists host slug row sound found = all_found (λ (v : VersionRow). slu
 
 -- ---- a property is set
 
-set_on : (property : Property) (host slug : Text) → IsOn host slug (λ p v. Ok (with_version p (with_property property v), Done)) (setting property host slug)
+set_on : (property : Property) (host slug : Text) → IsOn host slug (λ p v. Ok (with_version p slug (with_property property v), Done)) (setting property host slug)
 set_on property.Active host slug = record { host_is = refl; opens = refl; changes = λ p. refl }
 set_on property.Hidden host slug = record { host_is = refl; opens = refl; changes = λ p. refl }
 set_on property.Shown host slug = record { host_is = refl; opens = refl; changes = λ p. refl }
@@ -186,6 +186,7 @@ property_set lists host slug property row sound e =
     let off : row.version.active ≡ false → has_active lists host slug ≡ false = λ h. ap (λ o. option_map_or (λ (r : VersionRow). r.version.active) o false) it.found ∙ h in
     subst P (sym it.row_is) (
       version_there lists host slug _ (setting property host slug) (set_on property host slug) row it
+          ∙ ap (λ s. Ok (insert (world_of lists) host (with_version it.project s v), Done)) (sym (like.slug ∙ it.slug_is))
           ∙ ap (λ w. Ok (w, Done)) (sym (world_with_version lists (record { host = host; version = v }) it.project it.was)),
       sound_with_row lists host v sound (owned_by lists host it.project it.was) (ap slug_from like.name ∙ well_named lists host slug row sound it.found ∙ ap Some (sym like.slug))
           (λ h. subst (λ s. AllByRecursion (λ x. is_page_of host s x ≡ false) lists.pages) (sym (like.slug ∙ it.slug_is)) (inactive_is_bare lists host slug sound.rules (off (like.active h)))),
@@ -193,7 +194,7 @@ property_set lists host slug property row sound e =
 
 -- ---- a version is deactivated
 
-off_on : (host slug : Text) → IsOn host slug (λ p v. Ok (without_pages slug (with_version p (record v { active = false })), Done)) (Deactivate host slug)
+off_on : (host slug : Text) → IsOn host slug (λ p v. Ok (without_pages slug (with_version p slug (record v { active = false })), Done)) (Deactivate host slug)
 off_on host slug = record { host_is = refl; opens = refl; changes = λ p. refl }
 
 pub none_deactivated : (lists : Lists) (host slug : Text) (e : Refusal) → found_version host slug lists ≡ Err e → turn (world_of lists) (Deactivate host slug) ≡ Err e
@@ -213,10 +214,10 @@ deactivated lists host slug row sound e =
     let bare_sound : AreSound bare = record { order = order_without lists sound.order out; rules = rules_without lists out sound.rules } in
     let p : Project = without_pages slug it.project in
     let P : VersionRow → Type 0 = λ r. (turn (world_of lists) (Deactivate host slug) ≡ Ok (world_of (with_row (record r { version = v }) bare), Done)) × AreSound (with_row (record r { version = v }) bare) in
-    let world_is = changed_twice lists bare (with_row (record { host = host; version = v }) bare) host p (with_version p v) (world_without_pages lists host slug None it.project it.was)
+    let world_is = changed_twice lists bare (with_row (record { host = host; version = v }) bare) host p (with_version p row.version.slug v) (world_without_pages lists host slug None it.project it.was)
     (world_with_version bare (record { host = host; version = v }) p) in
     subst P (sym it.row_is) (
-      version_there lists host slug _ (Deactivate host slug) (off_on host slug) row it ∙ ap (λ w. Ok (w, Done)) (sym world_is),
+      version_there lists host slug _ (Deactivate host slug) (off_on host slug) row it ∙ ap (λ s. Ok (insert (world_of lists) host (with_version p s v), Done)) (sym it.slug_is) ∙ ap (λ w. Ok (w, Done)) (sym world_is),
       sound_with_row bare host v bare_sound (owned_by lists host it.project it.was) (well_named lists host slug row sound it.found)
           (λ h. subst (λ s. AllByRecursion (λ x. is_page_of host s x ≡ false) bare.pages) (sym it.slug_is) (dropped_is_bare host slug lists.pages)),
     )

@@ -115,7 +115,7 @@ module _ (lists : Lists) (host : Text) (p : Project) (was : get (world_of lists)
       → (turn (world_of lists) (Push host wkey key kind name) ≡ Ok (world_of (with_answer made_used made_lists), made (new_version p kind name))) × AreSound (with_answer made_used made_lists)
   push_made sound e f g is named =
       let v : Version = new_version p kind name in
-      let p1 : Project = with_version p v in
+      let p1 : Project = with_version p v.slug v in
       let free : IsFreeKey coding.used.key made_used lists.used = used_is_free made_used lists.used f in
       let has = owned_by lists host p was in
       let told = kept_made host (slug_text name) key v is in

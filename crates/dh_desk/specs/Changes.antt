@@ -91,8 +91,9 @@ new_version p kind name = record {
   private = p.new_private;
 }
 
-abbrev pub with_version : Project → Version → Project
-with_version p v = record p { versions = insert p.versions v.slug v }
+-- the project with a version under a slug
+abbrev pub with_version : Project → Text → Version → Project
+with_version p slug v = record p { versions = insert p.versions slug v }
 
 abbrev pub made : Version → Answer
 made v = Made v.slug v.active v.hidden v.private
@@ -104,7 +105,7 @@ pushed p key kind name (Some v) =
     else Err SlugTaken
 pushed p key kind name None =
     let v : Version = new_version p kind name in
-    keep (push_key v.slug key) (made v) (with_version p v)
+    keep (push_key v.slug key) (made v) (with_version p v.slug v)
 
 -- by the write key, by the answer kept under the retry key, and by the version with the slug
 abbrev pub push : Text → Text → Kind → Text → Project → Change
@@ -160,7 +161,7 @@ with_property property.Public v = record v { private = false }
 with_property property.Private v = record v { private = true }
 
 abbrev pub set_property : Property → Text → Project → Change
-set_property property slug p = at_version (get p.versions slug) (λ v. Ok (with_version p (with_property property v), Done))
+set_property property slug p = at_version (get p.versions slug) (λ v. Ok (with_version p slug (with_property property v), Done))
 
 -- the project without the pages of a version, in all languages
 abbrev pub without_pages : Text → Project → Project
@@ -168,7 +169,7 @@ without_pages slug p = record p { pages = retain_keys p.pages (λ key. not (byte
 
 -- the version is inactive, and its pages are gone
 abbrev pub deactivate : Text → Project → Change
-deactivate slug p = at_version (get p.versions slug) (λ v. Ok (without_pages slug (with_version p (record v { active = false })), Done))
+deactivate slug p = at_version (get p.versions slug) (λ v. Ok (without_pages slug (with_version p slug (record v { active = false })), Done))
 
 -- ---- Gone and SetDefault
 

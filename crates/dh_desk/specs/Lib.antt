@@ -8,5 +8,6 @@ pub mod Places
 pub mod Reads
 pub mod Rows
 pub mod Versions
+pub mod Defaults
 pub mod Passes
 pub mod Crashes

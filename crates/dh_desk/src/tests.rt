@@ -1,3 +1,4 @@
+mod defaults;
 mod passes;
 
 use crate::{Answer, Command, Desk, Pages, Refusal, UploadedPage};

@@ -1,5 +1,5 @@
 -- Changes of defaults, passes and grants, and the removal of a version, keep the rules and the order of the records.
-use Rattle.std.proofs.Common.{◌≡◌, ℕ, Bool, true, false, not, ◌&&◌, ◌||◌, cond, List, [], ◌∷◌, map, filter, find, length, is_some, Option, Some, None, IsTrue, refl, sym, ap, ap₂, ◌∙◌, subst, true≢false, Ordering, is_gt}
+use Rattle.std.proofs.Common.{◌≡◌, ℕ, Bool, true, false, not, ◌&&◌, ◌||◌, cond, List, [], ◌∷◌, map, filter, find, is_some, Option, Some, None, IsTrue, refl, sym, ap, ◌∙◌, subst, true≢false, Ordering, is_gt}
 use Rattle.std.specs.List.{AllByRecursion, IsDistinct, list_any}
 use Rattle.std.specs.Option.{option_map_or}
 use Rattle.std.specs.Str.{bytes_eq}
@@ -11,7 +11,6 @@ use Rattle.sqlite_keyed.proofs.ListLemmas.{all_weaker, all_both, all_of, all-fil
 use Rattle.dh_rows.specs.Keyed.{by_key, IsFreeKey, added}
 use Rattle.dh_tables.specs.declared.records.ProjectRow.{ProjectRow}
 use Rattle.dh_tables.specs.declared.records.VersionRow.{VersionRow}
-use Rattle.dh_tables.specs.declared.records.PageRow.{PageRow}
 use Rattle.dh_tables.specs.declared.records.PickRow.{PickRow}
 use Rattle.dh_tables.specs.declared.records.PassRow.{PassRow}
 use Rattle.dh_tables.specs.declared.records.HeldRow.{HeldRow}
@@ -23,7 +22,7 @@ use Rattle.dh_tables.specs.Rules.{InOrder, AreInOrder, has_project, has_active, 
 use Rattle.dh_tables.proofs.GrantLemmas.{grant_is_free, granted_new, granted_there}
 use Rattle.dh_tables.proofs.PickLists.{set_of_host, set_elsewhere, set_in_order, all_set, all_with, all_ranked, names_ranked, ranks_ranked}
 use Rattle.dh_tables.proofs.SeenLemmas.{find_in_filter, find_same}
-use Rattle.dh_tables.proofs.RecordLemmas.{all_that, all_added, found_passes}
+use Rattle.dh_tables.proofs.RecordLemmas.{all_that, all_added}
 use Rattle.dh_tables.proofs.OrderLemmas.{added_in_order, filtered_in_order}
 use Rattle.dh_tables.proofs.RuleLemmas.{rules_without, dropped_is_bare, all_found}
 use Rattle.dh_tables.proofs.WorldLemmas.{owned_by, row_of, defaults_in}

@@ -1,5 +1,5 @@
 -- What a view shows, by what was found in the lists.
-use Rattle.std.proofs.Common.{◌≡◌, ℕ, ◌<◌, ◌≤◌, ◌+◌, Bool, true, false, not, ◌&&◌, ◌||◌, cond, List, [], ◌∷◌, map, filter, Option, Some, None, IsTrue, refl, sym, ap, subst, ◌∙◌, slice_get, slice_index_or, drop, length, true≢false, Ordering, Equal}
+use Rattle.std.proofs.Common.{◌≡◌, ℕ, ◌<◌, ◌≤◌, ◌+◌, Bool, true, false, ◌&&◌, cond, List, [], ◌∷◌, map, filter, Option, Some, None, refl, sym, ap, subst, ◌∙◌, slice_get, slice_index_or, drop, length, true≢false, Equal}
 use Rattle.std.specs.Prelude.{option_map, option_and_then, is_some, codes}
 use Rattle.std.specs.Option.{option_map_or, option_or}
 use Rattle.std.specs.List.{find, AllByRecursion}
@@ -13,17 +13,15 @@ use Rattle.std.proofs.lemmas.Slice.Eq.{bytes_eq-Decides}
 use Rattle.dh_versions.specs.declared.version.Version.{Version}
 use Rattle.dh_versions.specs.Aliases.{latest_of, stable_of}
 use Rattle.dh_reply.specs.declared.answer.Named.{Named}
-use Rattle.dh_reply.specs.declared.answer.Page.{Page}
 use Rattle.dh_reply.specs.declared.seen_project.SeenProject.{SeenProject}
 use Rattle.dh_reply.specs.SeenProject.{resolved, alias_of, page_at}
 use Rattle.dh_tables.specs.declared.records.ProjectRow.{ProjectRow}
 use Rattle.dh_tables.specs.declared.records.VersionRow.{VersionRow}
-use Rattle.dh_tables.specs.declared.records.PageRow.{PageRow}
 use Rattle.dh_tables.specs.declared.records.PickRow.{PickRow}
 use Rattle.dh_tables.specs.declared.records.HeldRow.{HeldRow}
 use Rattle.dh_tables.specs.World.{Text, text_cmp, Project, holds, is_visible}
 use Rattle.dh_tables.specs.Lists.{Lists, project_of, world_of, is_project, is_version, is_version_of, is_page, is_lang_of, is_pick_of}
-use Rattle.dh_tables.specs.Seen.{seen, seen_project, without_default, default_of, visible_versions, visible_pages}
+use Rattle.dh_tables.specs.Seen.{seen_project, without_default, default_of, visible_versions}
 use Rattle.dh_tables.specs.View.{RiseBySlug, may_see, opens}
 use Rattle.dh_tables.proofs.SeenLemmas.{tied_text, get_project, get_version, get_page, seen_page}
 use Rattle.dh_tables.proofs.SlugOrder.{by_slug, visible_entries, each_found, each, same_filter}
@@ -134,11 +132,11 @@ default_first resolves (n ∷ names) = go (resolves n) (default_first resolves n
     go true more = refl
     go false more = more
 
-pub settles : {A : Type 0} (o rest : Option A) → is_some o ≡ true → option_or o rest ≡ o
+settles : {A : Type 0} (o rest : Option A) → is_some o ≡ true → option_or o rest ≡ o
 settles None rest e = absurd (true≢false (sym e))
 settles (Some x) rest e = refl
 
-pub passes_on : {A : Type 0} (o rest : Option A) → is_some o ≡ false → option_or o rest ≡ rest
+passes_on : {A : Type 0} (o rest : Option A) → is_some o ≡ false → option_or o rest ≡ rest
 passes_on None rest e = refl
 passes_on (Some x) rest e = absurd (true≢false e)
 
@@ -252,7 +250,7 @@ module _ (lists : Lists) (row : ProjectRow) (pass : Option Text) where
           no e = cc
 
   -- one default on, in tables that show the same
-  pub found_next : (at : Lists) (picks : List PickRow) (i : ℕ) (x : PickRow) (text : Text) (found : Option Text) → at ≡ lists → i < length picks → x ≡ slice_index_or picks i x → text ≡ x.name
+  found_next : (at : Lists) (picks : List PickRow) (i : ℕ) (x : PickRow) (text : Text) (found : Option Text) → at ≡ lists → i < length picks → x ≡ slice_index_or picks i x → text ≡ x.name
       → found ≡ option_map (λ n. text) (resolved (seen_project (project_of at row) pass) text)
       → find resolves (map (λ d. d.name) (drop i picks)) ≡ option_or found (find resolves (map (λ d. d.name) (drop (i + 1) picks)))
   found_next at picks i x text found same low is e f =
@@ -266,16 +264,35 @@ module _ (lists : Lists) (row : ProjectRow) (pass : Option Text) where
       go None rest = refl
       go (Some n) rest = refl
 
+  -- it is found now, or it is among those that are left
+  module _ (at : Lists) (picks : List PickRow) (i : ℕ) (x : PickRow) (text : Text) (found : Option Text) (same : at ≡ lists) (low : i < length picks) (is : x ≡ slice_index_or picks i x) (e : text ≡ x.name)
+      (f : found ≡ option_map (λ n. text) (resolved (seen_project (project_of at row) pass) text)) (left : find resolves (map (λ d. d.name) (drop i picks)) ≡ find resolves (map (λ d. d.name) picks)) where
+    pub found_now : is_some found ≡ true → found ≡ find resolves (map (λ d. d.name) picks)
+    found_now some = sym (settles found (find resolves (map (λ d. d.name) (drop (i + 1) picks))) some) ∙ sym (found_next at picks i x text found same low is e f) ∙ left
+
+    pub found_later : is_some found ≡ false → find resolves (map (λ d. d.name) (drop (i + 1) picks)) ≡ find resolves (map (λ d. d.name) picks)
+    found_later none = sym (passes_on found (find resolves (map (λ d. d.name) (drop (i + 1) picks))) none) ∙ sym (found_next at picks i x text found same low is e f) ∙ left
+
   default_by : (picks : List PickRow) → picks ≡ filter (is_pick_of row.host) lists.picks → option_or (find resolves (map (λ d. d.name) picks)) (default_of resolves []) ≡ whole.default
   default_by picks e =
       ap (λ l. option_or (find resolves (map (λ d. d.name) l)) (default_of resolves [])) e
       ∙ sym (default_is (project_of lists row) pass ∙ ap (default_of resolves) (names_are lists row) ∙ default_first resolves (map (λ d. d.name) (filter (is_pick_of row.host) lists.picks)))
 
-  pub default_chosen : (picks : List PickRow) (o : Option Text) (t : Text) → picks ≡ filter (is_pick_of row.host) lists.picks → o ≡ find resolves (map (λ d. d.name) picks) → o ≡ Some t → Some t ≡ whole.default
-  default_chosen picks o t e f is = ap (λ o. option_or o (default_of resolves [])) (sym is ∙ f) ∙ default_by picks e
+  module _ (at : Lists) (same : at ≡ lists) (picks asked : List PickRow) (e : picks ≡ filter (is_pick_of row.host) lists.picks) (a : asked ≡ picks) (o : Option Text)
+      (f : o ≡ find (λ name. is_some (resolved (seen_project (project_of at row) pass) name)) (map (λ d. d.name) asked)) where
+    found_as_default : option_or o (default_of resolves []) ≡ whole.default
+    found_as_default =
+        ap (λ o. option_or o (default_of resolves []))
+        (f ∙ ap (λ l. find (λ name. is_some (resolved (seen_project (project_of l row) pass) name)) (map (λ d. d.name) asked)) same ∙ ap (λ ps. find resolves (map (λ d. d.name) ps)) a)
+        ∙ default_by picks e
 
-  pub default_alias : (picks : List PickRow) (o : Option Text) → picks ≡ filter (is_pick_of row.host) lists.picks → o ≡ find resolves (map (λ d. d.name) picks) → o ≡ None → default_of resolves [] ≡ whole.default
-  default_alias picks o e f is = ap (λ o. option_or o (default_of resolves [])) (sym is ∙ f) ∙ default_by picks e
+    pub default_chosen : (t : Text) → o ≡ Some t → Some t ≡ whole.default
+    default_chosen t is = ap (λ o. option_or o (default_of resolves [])) (sym is) ∙ found_as_default
+
+    pub default_alias : (now : Lists) → now ≡ at → o ≡ None → default_of (λ name. is_some (resolved (seen_project (project_of now row) pass) name)) [] ≡ whole.default
+    default_alias now still is =
+        ap (λ l. default_of (λ name. is_some (resolved (seen_project (project_of l row) pass) name)) []) (still ∙ same)
+        ∙ ap (λ o. option_or o (default_of resolves [])) (sym is) ∙ found_as_default
 
   seen_when : (slug : Text) → is_visible (project_of lists row) pass slug ≡ is_some (get visible slug)
   seen_when slug =

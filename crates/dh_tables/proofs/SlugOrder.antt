@@ -1,18 +1,15 @@
 -- The versions of a host stand in the order of their slugs, and so do those that a caller sees.
-use Rattle.std.proofs.Common.{◌≡◌, ℕ, Bool, true, false, not, ◌&&◌, ◌||◌, cond, List, [], ◌∷◌, map, filter, Option, Some, None, IsTrue, T, refl, sym, ap, subst, ◌∙◌, Ordering, Less, Equal, Greater, is_lt, true≢false}
-use Rattle.std.specs.Prelude.{option_map, is_some}
+use Rattle.std.proofs.Common.{◌≡◌, Bool, true, false, ◌&&◌, cond, List, [], ◌∷◌, map, filter, Option, Some, None, T, refl, sym, ap, subst, ◌∙◌, Ordering, Less, Equal, Greater, is_lt, true≢false}
 use Rattle.std.specs.Option.{option_map_or}
-use Rattle.std.specs.List.{find, AllByRecursion}
+use Rattle.std.specs.List.{AllByRecursion}
 use Rattle.std.specs.Str.{bytes_eq}
 use Rattle.std.specs.Ordering.{eq_by_cmp, is_eq, ordering_then, ordering_reverse}
-use Rattle.std.specs.Cmp.{IsTotalOrder, tied_itself}
-use Rattle.std.specs.FinMap.{FinMap, is_sorted, get, entries, keys, values, from_entries, from_sorted, retain_keys, contains_key, get-entries, get-from_entries, get-from_sorted, get-retain_keys, entries-from_sorted, same_map}
+use Rattle.std.specs.Cmp.{tied_itself}
+use Rattle.std.specs.FinMap.{is_sorted, get, entries, from_entries, from_sorted, retain_keys, get-from_entries, get-from_sorted, get-retain_keys, entries-from_sorted, same_map}
 use Rattle.std.specs.FinMap as finite
 use Rattle.std.specs.FinMap.Entries.{below_all, where_key, is_sorted-where_key, find-where_key}
 use Rattle.std.proofs.lemmas.Map.Lookups.{exact_bytes}
 use Rattle.std.proofs.lemmas.Slice.Eq.{bytes_eq-Decides}
-use Rattle.sqlite_value.specs.declared.value.Value.TheVariants.{Text}
-use Rattle.sqlite_value.specs.Order.{value_cmp}
 use Rattle.sqlite_value.proofs.OrderLemmas.{value_cmp-Text}
 use Rattle.sqlite.specs.Effect.{Database}
 use Rattle.dh_rows.specs.Keyed.{by_key}
@@ -23,11 +20,11 @@ use Rattle.dh_tables.specs.declared.records.VersionRow.{VersionRow}
 use Rattle.dh_tables.specs.Codings.{versions}
 use Rattle.dh_tables.specs.World.{text_cmp, Project, holds, is_visible}
 use Rattle.dh_tables.specs.World as world
-use Rattle.dh_tables.specs.Lists.{Lists, of_host, project_of, is_version, is_version_of}
+use Rattle.dh_tables.specs.Lists.{Lists, project_of, is_version_of}
 use Rattle.dh_tables.specs.Seen.{visible_versions}
 use Rattle.dh_tables.specs.Tables.{Holds, lists_of}
 use Rattle.dh_tables.specs.View.{RiseBySlug, may_see}
-use Rattle.dh_tables.proofs.SeenLemmas.{text_total, get_version}
+use Rattle.dh_tables.proofs.SeenLemmas.{text_total}
 
 abbrev pub by_slug : VersionRow → world.Text × Version
 by_slug r = (r.version.slug, r.version)

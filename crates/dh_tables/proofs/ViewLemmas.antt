@@ -1,5 +1,5 @@
 -- What looks leave, one after the other.
-use Rattle.std.proofs.Common.{◌≡◌, ◌≤◌, ◌⊎◌, inl, inr, ℕ, Bool, true, false, cond, ◌&&◌, Option, Result, Ok, Err, IsTrue, IfOk, OnOk, OnErr, refl, sym, ap, subst, ◌∙◌, arith, zero, suc, true≢false}
+use Rattle.std.proofs.Common.{◌≡◌, ◌≤◌, inl, inr, ℕ, Bool, true, false, ◌&&◌, Option, Result, Ok, Err, IsTrue, IfOk, OnOk, OnErr, refl, sym, ap, ◌∙◌, arith, zero, suc, true≢false}
 use Rattle.sqlite_trees.specs.View.{doubt}
 use Rattle.sqlite_trees.specs.declared.store.Store.{Ghosts}
 use Rattle.sqlite.specs.State.{HasCleanDisk}
@@ -7,12 +7,12 @@ use Rattle.sqlite.specs.Held.{Held, state}
 use Rattle.dh_reply.specs.declared.fault.Fault.{Fault}
 use Rattle.dh_reply.specs.declared.fault.Fault.TheVariants.{Store, Memory}
 use Rattle.dh_reply.specs.Faults.{UnlessStore}
-use Rattle.dh_rows.specs.Calls.{IsHonest, IsSame, IsUndone, IsRefused, Leaves, Shows, seen, committed}
+use Rattle.dh_rows.specs.Calls.{IsHonest, IsSame, IsRefused, Leaves, seen}
 use Rattle.dh_tables.specs.Tables.{lists_of}
 use Rattle.dh_tables.specs.World.{Text}
 use Rattle.dh_tables.specs.Lists.{world_of}
 use Rattle.dh_tables.specs.Seen as caller
-use Rattle.dh_tables.specs.View.{doubt_of, shown, IsSettled, IsUnmoved, Looks, unmoved_on}
+use Rattle.dh_tables.specs.View.{doubt_of, shown, IsSettled, Looks, unmoved_on}
 
 -- ---- doubt
 

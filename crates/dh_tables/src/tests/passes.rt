@@ -6,7 +6,7 @@ use std::alloc::Global;
 use std::test::Fail;
 
 /// Sets the defaults in a transaction of their own.
-fn set(alloc: Global, tables: &mut Tables<MemStore>, names: &[&str]) -> Result<(), Fail> {
+pub fn set(alloc: Global, tables: &mut Tables<MemStore>, names: &[&str]) -> Result<(), Fail> {
     let mut slugs = Vec::new(alloc);
     for name in names {
         slugs.push(Slug::parse(alloc, name)?)?;

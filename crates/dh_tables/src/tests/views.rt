@@ -1,3 +1,4 @@
+use super::passes::set;
 use super::{begun, docs};
 use crate::{HeldRow, PageRow, PassRow, Tables, VersionRow, View};
 use dh_paths::{Bytes, HostName, Lang, PagePath, RefName, Slug, Text, TextFault, Token};
@@ -263,23 +264,20 @@ fn a_view_is_what_is_seen(rt: HostRuntime) -> Result<(), Fail> {
 
 /// A pass that opens the private version of docs.test, and defaults of which that version is the first.
 fn open(alloc: Global, tables: &mut Tables<MemStore>) -> Result<(), Fail> {
-    tables.add_pass(&PassRow {
+    let reader = PassRow {
         host: docs(alloc)?,
         pass: Token::parse(alloc, "reader")?,
-    })?;
+    };
+    match tables.pass(alloc, &reader.host, &reader.pass)? {
+        Some(_) => {}
+        None => tables.add_pass(&reader)?,
+    }
     tables.grant(&HeldRow {
         host: docs(alloc)?,
         pass: Token::parse(alloc, "reader")?,
         slug: Slug::parse(alloc, "2.0.0")?,
     })?;
-    let mut names = Vec::new(alloc);
-    for name in ["2.0.0", "3.0.0", "1.0.0"] {
-        names.push(Slug::parse(alloc, name)?)?;
-    }
-    tables.begin()?;
-    tables.set_picks(&docs(alloc)?, &names)?;
-    tables.commit()?;
-    Ok(())
+    set(alloc, tables, &["2.0.0", "3.0.0", "1.0.0"])
 }
 
 /// The default under docs.test, what `stable` stands for there, and whether 2.0.0 shows a page, as one text.

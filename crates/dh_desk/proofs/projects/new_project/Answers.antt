@@ -1,11 +1,11 @@
-use Rattle.std.proofs.Common.{◌∙◌, ap, subst}
+use Rattle.std.proofs.Common.{◌∙◌, ap, sym, subst}
 use Rattle.dh_rows.specs.Calls.{seen, committed}
 use Rattle.dh_tables.specs.Lists.{Lists}
 use Rattle.dh_tables.specs.Tables.{lists_of}
 use Rattle.dh_tables.specs.declared.records.ProjectRow.{ProjectRow}
 use Rattle.dh_desk.specs.declared.command.Command.{Command}
 use Rattle.dh_desk.specs.declared.command.Command.TheVariants.{NewProject}
-use Rattle.dh_desk.specs.Desk.{Turns}
+use Rattle.dh_desk.specs.Desk.{AreSound, Turns}
 use Rattle.dh_desk.proofs.ProjectLemmas.{project_command}
 use Rattle.dh_desk.proofs.Crashing.{ended_leaves, refused_after, worked_no_more}
 use Rattle.dh_desk.proofs.Turning.{steps_aside, stays, ended}
@@ -48,3 +48,8 @@ returns-clause-refused g c =
     refused_after g.S.Store c.args.tables.now c.make_project-worked.new.tables c.end.new.tables c.end.result
     (worked_no_more g.S.Store c.args.tables.now c.begin.new.self c.make_project-worked.new.tables c.in_ok-begin.ensures.opened c.begin.ensures.quiet c.in_ok-begin.ensures.ok c.make_project-worked.ensures.clean c.make_project-worked.ensures.quiet)
     c.end.ensures.clean c.end.ensures.refused
+
+pub make_project-worked-requires-clause-sound : goal.make_project-worked-requires-clause-sound
+make_project-worked-requires-clause-sound g c honest =
+    let h0 = c.begin.ensures.was honest in
+    subst AreSound (sym ((c.in_ok-begin.ensures.ok h0 honest.0).now_is ∙ c.requires.settled h0)) (c.requires.sound h0)

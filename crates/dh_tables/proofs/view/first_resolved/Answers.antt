@@ -1,8 +1,7 @@
-use Rattle.std.proofs.Common.{◌+◌, ◌∙◌, refl, sym, map, drop, arith}
-use Rattle.std.specs.List.{find}
+use Rattle.std.proofs.Common.{◌∙◌, refl, sym, arith}
 use Rattle.dh_rows.specs.Calls.{seen}
 use Rattle.dh_tables.specs.Tables.{lists_of}
-use Rattle.dh_tables.proofs.Shown.{resolves, found_next, settles, passes_on, none_left}
+use Rattle.dh_tables.proofs.Shown.{resolves, found_now, found_later, none_left}
 use Rattle.dh_tables.proofs.ViewLemmas.{was_honest, lists_same, looks_none, looks_on, still_settled}
 use Rattle.dh_tables.proofs.view.first_resolved.Goals as goal
 
@@ -21,24 +20,18 @@ returns-then-is_some-clause-looks g c = looks_on g.S.Store _ _ _ c.loop-pick.inv
 pub returns-then-is_some-clause-value : goal.returns-then-is_some-clause-value
 returns-then-is_some-clause-value g c honest =
     let before = was_honest g.S.Store _ _ c.if_resolved.ensures.looks honest in
-    let lists = seen g.S.Store lists_of c.args.tables.now in
-    let rest = find (resolves lists c.args.project.now c.args.pass.now) (map (λ d. d.name) (drop (c.loop-pick.pick-index + 1) c.args.picks.now)) in
-    sym (settles c.in_ok-found.found rest (sym c.is_some.ensures ∙ c.if-is_some.true))
-    ∙ sym (found_next lists c.args.project.now c.args.pass.now (seen g.S.Store lists_of c.loop-pick.tables) c.args.picks.now c.loop-pick.pick-index c.pick-item.result c.as_str.result.now c.in_ok-found.found
-    (lists_same g.S.Store _ _ c.loop-pick.invariant.0 before) c.loop-pick-test.true c.pick-item.is c.as_str.ensures.text (c.in_ok-found.ensures.value honest))
-    ∙ c.loop-pick.invariant.1 before
+    found_now (seen g.S.Store lists_of c.args.tables.now) c.args.project.now c.args.pass.now (seen g.S.Store lists_of c.loop-pick.tables) c.args.picks.now c.loop-pick.pick-index c.pick-item.result c.as_str.result.now c.in_ok-found.found
+    (lists_same g.S.Store _ _ c.loop-pick.invariant.0 before) c.loop-pick-test.true c.pick-item.is c.as_str.ensures.text (c.in_ok-found.ensures.value honest) (c.loop-pick.invariant.1 before)
+    (sym c.is_some.ensures ∙ c.if-is_some.true)
 
 pub loop-pick-preserved : goal.loop-pick-preserved
 loop-pick-preserved g c = (
   looks_on g.S.Store _ _ _ c.loop-pick.invariant.0 c.if_resolved.ensures.looks,
   λ honest.
       let before = was_honest g.S.Store _ _ c.if_resolved.ensures.looks honest in
-      let lists = seen g.S.Store lists_of c.args.tables.now in
-      let rest = find (resolves lists c.args.project.now c.args.pass.now) (map (λ d. d.name) (drop (c.loop-pick.pick-index + 1) c.args.picks.now)) in
-      sym (passes_on c.in_ok-found.found rest (sym c.is_some.ensures ∙ c.if-is_some.false))
-      ∙ sym (found_next lists c.args.project.now c.args.pass.now (seen g.S.Store lists_of c.loop-pick.tables) c.args.picks.now c.loop-pick.pick-index c.pick-item.result c.as_str.result.now c.in_ok-found.found
-      (lists_same g.S.Store _ _ c.loop-pick.invariant.0 before) c.loop-pick-test.true c.pick-item.is c.as_str.ensures.text (c.in_ok-found.ensures.value honest))
-      ∙ c.loop-pick.invariant.1 before,
+      found_later (seen g.S.Store lists_of c.args.tables.now) c.args.project.now c.args.pass.now (seen g.S.Store lists_of c.loop-pick.tables) c.args.picks.now c.loop-pick.pick-index c.pick-item.result c.as_str.result.now c.in_ok-found.found
+      (lists_same g.S.Store _ _ c.loop-pick.invariant.0 before) c.loop-pick-test.true c.pick-item.is c.as_str.ensures.text (c.in_ok-found.ensures.value honest) (c.loop-pick.invariant.1 before)
+      (sym c.is_some.ensures ∙ c.if-is_some.false),
 )
 
 pub returns-clause-looks : goal.returns-clause-looks
