@@ -15,4 +15,4 @@ returns c =
     let six = c.in_ok-command-6.ensures.app ∙ ap (λ (a : App). with_apps a pass_apps) five in
     let seven = one_more_command (app_of c.in_ok-command-7.command) (app_of c.in_ok-command-6.command) (app_of c.in_ok-get_command.field-0) _ _ c.in_ok-command-7.ensures.app six c.in_ok-get_command.ensures.app in
     let eight = one_more_command (app_of c.in_ok-command-8.command) (app_of c.in_ok-command-7.command) (app_of c.script_command.result) _ _ c.in_ok-command-8.ensures.app seven c.script_command.ensures.app in
-    record { app = IfOk-weaker c.with_command-8.result _ _ (λ r e. one_more_command (app_of r) (app_of c.in_ok-command-8.command) (app_of c.answer_command.result) _ _ e eight c.answer_command.ensures.app) c.with_command-8.ensures.app }
+    record { app = IfOk-weaker c.with_command-7.result _ _ (λ r e. one_more_command (app_of r) (app_of c.in_ok-command-8.command) (app_of c.answer_command.result) _ _ e eight c.answer_command.ensures.app) c.with_command-7.ensures.app }
