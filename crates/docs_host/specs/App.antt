@@ -48,6 +48,24 @@ version_apps =
     ∷ version_app (codes "unhide")
     ∷ version_app (codes "publish")
     ∷ version_app (codes "make-private")
+    ∷ version_app (codes "gone")
+    ∷ version_app (codes "set-default")
+    ∷ []
+
+-- `NAME HOST PASS`: a command on one pass
+abbrev pub pass_app : Text → App
+pass_app name = form name (codes "host" ∷ codes "pass" ∷ [])
+
+-- `NAME HOST PASS SLUG`: a command on one grant
+abbrev pub grant_app : Text → App
+grant_app name = form name (codes "host" ∷ codes "pass" ∷ codes "slug" ∷ [])
+
+abbrev pub pass_apps : List App
+pass_apps =
+    pass_app (codes "add-pass")
+    ∷ pass_app (codes "drop-pass")
+    ∷ grant_app (codes "grant")
+    ∷ grant_app (codes "revoke")
     ∷ []
 
 -- an app that takes these commands too, behind those that it has
@@ -74,4 +92,5 @@ abbrev pub docs_app : App
 docs_app = with_apps bare_app
     ((new_project_app ∷ add_lang_app ∷ push_app ∷ upload_app ∷ [])
     ++ version_apps
+    ++ pass_apps
     ++ (get_app ∷ script_app ∷ answer_app ∷ []))

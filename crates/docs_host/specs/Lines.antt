@@ -10,7 +10,7 @@ use Rattle.clap.specs.declared.parser.matches.ArgMatches.{ArgMatches}
 use Rattle.dh_versions.specs.declared.version.Kind.{Kind}
 use Rattle.dh_versions.specs.declared.version.Kind.TheVariants.{Branch, Tag}
 use Rattle.dh_desk.specs.declared.command.Command.{Command}
-use Rattle.dh_desk.specs.declared.command.Command.TheVariants.{NewProject, AddLang, Push, Upload, Activate, Deactivate, Hide, Unhide, Publish, MakePrivate}
+use Rattle.dh_desk.specs.declared.command.Command.TheVariants.{NewProject, AddLang, Push, Upload, Activate, Deactivate, Hide, Unhide, Publish, MakePrivate, Gone, SetDefault, AddPass, DropPass, Grant, Revoke}
 use Rattle.docs_host.specs.App.{docs_app}
 use Rattle.docs_host.specs.declared.lines.Line.{Line}
 use Rattle.docs_host.specs.declared.lines.Order.{Order}
@@ -88,6 +88,8 @@ command_on name host slug =
     else if bytes_eq name (codes "unhide") then Some (Unhide host slug)
     else if bytes_eq name (codes "publish") then Some (Publish host slug)
     else if bytes_eq name (codes "make-private") then Some (MakePrivate host slug)
+    else if bytes_eq name (codes "gone") then Some (Gone host slug)
+    else if bytes_eq name (codes "set-default") then Some (SetDefault host slug)
     else None
 
 -- `NAME HOST SLUG`
@@ -96,6 +98,36 @@ version_in name rows =
     with_word (codes "host") rows (λ host.
     with_word (codes "slug") rows (λ slug.
     command_on name host slug))
+
+-- `add-pass HOST PASS`
+abbrev pub add_pass_in : List Row → Option Command
+add_pass_in rows =
+    with_word (codes "host") rows (λ host.
+    with_word (codes "pass") rows (λ pass.
+    Some (AddPass host pass)))
+
+-- `drop-pass HOST PASS`
+abbrev pub drop_pass_in : List Row → Option Command
+drop_pass_in rows =
+    with_word (codes "host") rows (λ host.
+    with_word (codes "pass") rows (λ pass.
+    Some (DropPass host pass)))
+
+-- `grant HOST PASS SLUG`
+abbrev pub grant_in : List Row → Option Command
+grant_in rows =
+    with_word (codes "host") rows (λ host.
+    with_word (codes "pass") rows (λ pass.
+    with_word (codes "slug") rows (λ slug.
+    Some (Grant host pass slug))))
+
+-- `revoke HOST PASS SLUG`
+abbrev pub revoke_in : List Row → Option Command
+revoke_in rows =
+    with_word (codes "host") rows (λ host.
+    with_word (codes "pass") rows (λ pass.
+    with_word (codes "slug") rows (λ slug.
+    Some (Revoke host pass slug))))
 
 -- `get HOST TARGET [--pass PASS]`
 abbrev pub get_in : List Row → Option Order
@@ -111,6 +143,10 @@ order_in name rows =
     else if bytes_eq name (codes "add-lang") then option_map Act (add_lang_in rows)
     else if bytes_eq name (codes "push") then option_map Act (push_in rows)
     else if bytes_eq name (codes "upload") then option_map Act (upload_in rows)
+    else if bytes_eq name (codes "add-pass") then option_map Act (add_pass_in rows)
+    else if bytes_eq name (codes "drop-pass") then option_map Act (drop_pass_in rows)
+    else if bytes_eq name (codes "grant") then option_map Act (grant_in rows)
+    else if bytes_eq name (codes "revoke") then option_map Act (revoke_in rows)
     else if bytes_eq name (codes "get") then get_in rows
     else if bytes_eq name (codes "script") then Some Script
     else if bytes_eq name (codes "answer") then Some Answer

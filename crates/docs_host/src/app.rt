@@ -3,7 +3,7 @@
 ghost use Rattle.std.specs.Prelude.{◌≡◌, IfOk, false, map};
 ghost use Rattle.clap.specs.Simple.{app_of, new_app, with_rule, with_subcommand};
 ghost use Rattle.clap.specs.declared.builder.command.Command.TheViews.{out-Command};
-ghost use Rattle.docs_host.specs.App.{word_rule, option_rule, flag_rule, with_words as words_added, new_project_app, add_lang_app, push_app, upload_app, version_app, version_apps, with_apps, get_app, script_app, answer_app, bare_app, docs_app};
+ghost use Rattle.docs_host.specs.App.{word_rule, option_rule, flag_rule, with_words as words_added, new_project_app, add_lang_app, push_app, upload_app, version_app, version_apps, pass_app, grant_app, pass_apps, with_apps, get_app, script_app, answer_app, bare_app, docs_app};
 
 use clap::{Arg, ArgAction, Command};
 use std::alloc::{AllocError, Global};
@@ -173,7 +173,66 @@ fn with_version_commands<'a>(alloc: Global, command: Command<'a>) -> Result<Comm
         "make-private",
         "A line of a script: a version is private",
     )?;
-    with_command(command, make_private)
+    let command = with_command(command, make_private)?;
+    let gone = version_command(
+        alloc,
+        "gone",
+        "A line of a script: a version is gone, with its pages and the grants on it",
+    )?;
+    let command = with_command(command, gone)?;
+    let set_default = version_command(
+        alloc,
+        "set-default",
+        "A line of a script: a version, or the alias that SLUG names, is the first default",
+    )?;
+    with_command(command, set_default)
+}
+
+/// `NAME HOST PASS`
+fn pass_command<'a>(alloc: Global, name: &'a str, about: &'a str) -> Result<Command<'a>, AllocError>
+    ensures app { IfOk result (λ c. app_of c ≡ pass_app name.entry.now) }
+    ensures local { IfOk result (λ c. (out-Command c).has_globals ≡ false) }
+{
+    with_words(alloc, named(alloc, name, about), &["host", "pass"])
+}
+
+/// `NAME HOST PASS SLUG`
+fn grant_command<'a>(
+    alloc: Global,
+    name: &'a str,
+    about: &'a str,
+) -> Result<Command<'a>, AllocError>
+    ensures app { IfOk result (λ c. app_of c ≡ grant_app name.entry.now) }
+    ensures local { IfOk result (λ c. (out-Command c).has_globals ≡ false) }
+{
+    with_words(alloc, named(alloc, name, about), &["host", "pass", "slug"])
+}
+
+fn with_pass_commands<'a>(alloc: Global, command: Command<'a>) -> Result<Command<'a>, AllocError>
+    requires { (out-Command command).has_globals ≡ false }
+    ensures app { IfOk result (λ c. app_of c ≡ with_apps (app_of command.entry) pass_apps) }
+    ensures local { IfOk result (λ c. (out-Command c).has_globals ≡ false) }
+{
+    let add_pass = pass_command(
+        alloc,
+        "add-pass",
+        "A line of a script: there is a pass, which holds nothing",
+    )?;
+    let command = with_command(command, add_pass)?;
+    let drop_pass = pass_command(
+        alloc,
+        "drop-pass",
+        "A line of a script: a pass is gone, with its grants",
+    )?;
+    let command = with_command(command, drop_pass)?;
+    let grant = grant_command(alloc, "grant", "A line of a script: a pass holds a version")?;
+    let command = with_command(command, grant)?;
+    let revoke = grant_command(
+        alloc,
+        "revoke",
+        "A line of a script: a pass does not hold a version",
+    )?;
+    with_command(command, revoke)
 }
 
 fn get_command<'a>(alloc: Global) -> Result<Command<'a>, AllocError>
@@ -228,6 +287,7 @@ pub fn docs_command<'a>(alloc: Global) -> Result<Command<'a>, AllocError>
     let command = with_command(command, push_command(alloc)?)?;
     let command = with_command(command, upload_command(alloc)?)?;
     let command = with_version_commands(alloc, command)?;
+    let command = with_pass_commands(alloc, command)?;
     let command = with_command(command, get_command(alloc)?)?;
     let command = with_command(command, script_command(alloc))?;
     with_command(command, answer_command(alloc))

@@ -59,7 +59,7 @@ ghost use Rattle.std.specs.Prelude.{◌≡◌, ◌∷◌, [], IfOk, option_map, 
 ghost use Rattle.clap.specs.Walk.{first_of, rows_of};
 ghost use Rattle.clap.specs.Matches.{found_of};
 ghost use Rattle.clap.specs.Simple.{subcommand_rows_of};
-ghost use Rattle.docs_host.specs.Lines.{is_set, privacy_of, kind_of, new_project_in, add_lang_in, push_in, upload_in, command_on, version_in, get_in, order_of, line_in, Says, Matches};
+ghost use Rattle.docs_host.specs.Lines.{is_set, privacy_of, kind_of, new_project_in, add_lang_in, push_in, upload_in, command_on, version_in, add_pass_in, drop_pass_in, grant_in, revoke_in, get_in, order_of, line_in, Says, Matches};
 
 fn value<'a>(matches: &ArgMatches<'a>, id: &str) -> Option<&'a str>
     ensures { option_map (λ s. s.now) result ≡ first_of id.now (rows_of (found_of matches.now)) }
@@ -220,6 +220,8 @@ fn named_on(name: &str, host: Text, slug: Text) -> Option<Command>
         "unhide" => Some(Command::Unhide { host, slug }),
         "publish" => Some(Command::Publish { host, slug }),
         "make-private" => Some(Command::MakePrivate { host, slug }),
+        "gone" => Some(Command::Gone { host, slug }),
+        "set-default" => Some(Command::SetDefault { host, name: slug }),
         _ => None,
     }
 }
@@ -233,6 +235,40 @@ fn version(alloc: Global, name: &str, matches: &ArgMatches<'_>) -> Result<Comman
         Some(command) => Ok(command),
         None => Err(LineFault::Usage),
     }
+}
+
+fn add_pass(alloc: Global, matches: &ArgMatches<'_>) -> Result<Command, LineFault>
+    ensures { Says (add_pass_in (rows_of (found_of matches.now))) result }
+{
+    let host = word(alloc, matches, "host")?;
+    let pass = word(alloc, matches, "pass")?;
+    Ok(Command::AddPass { host, pass })
+}
+
+fn drop_pass(alloc: Global, matches: &ArgMatches<'_>) -> Result<Command, LineFault>
+    ensures { Says (drop_pass_in (rows_of (found_of matches.now))) result }
+{
+    let host = word(alloc, matches, "host")?;
+    let pass = word(alloc, matches, "pass")?;
+    Ok(Command::DropPass { host, pass })
+}
+
+fn grant(alloc: Global, matches: &ArgMatches<'_>) -> Result<Command, LineFault>
+    ensures { Says (grant_in (rows_of (found_of matches.now))) result }
+{
+    let host = word(alloc, matches, "host")?;
+    let pass = word(alloc, matches, "pass")?;
+    let slug = word(alloc, matches, "slug")?;
+    Ok(Command::Grant { host, pass, slug })
+}
+
+fn revoke(alloc: Global, matches: &ArgMatches<'_>) -> Result<Command, LineFault>
+    ensures { Says (revoke_in (rows_of (found_of matches.now))) result }
+{
+    let host = word(alloc, matches, "host")?;
+    let pass = word(alloc, matches, "pass")?;
+    let slug = word(alloc, matches, "slug")?;
+    Ok(Command::Revoke { host, pass, slug })
 }
 
 fn get(alloc: Global, matches: &ArgMatches<'_>) -> Result<Order, LineFault>
@@ -256,6 +292,10 @@ fn read_order(alloc: Global, matches: &ArgMatches<'_>) -> Result<Order, LineFaul
         "add-lang" => Ok(Order::Act(add_lang(alloc, words)?)),
         "push" => Ok(Order::Act(push(alloc, words)?)),
         "upload" => Ok(Order::Act(upload(alloc, words)?)),
+        "add-pass" => Ok(Order::Act(add_pass(alloc, words)?)),
+        "drop-pass" => Ok(Order::Act(drop_pass(alloc, words)?)),
+        "grant" => Ok(Order::Act(grant(alloc, words)?)),
+        "revoke" => Ok(Order::Act(revoke(alloc, words)?)),
         "get" => get(alloc, words),
         "script" => Ok(Order::Script),
         "answer" => Ok(Order::Answer),

@@ -1,5 +1,7 @@
 ghost use Rattle.std.specs.Prelude.{◌≡◌, false};
 
+mod access;
+
 use crate::answer::{SampleFault, answer_sample};
 use crate::empty_desk;
 use crate::filling::fill_sample;
@@ -363,6 +365,17 @@ fn version_told(alloc: Global, name: &str, host: &Text, slug: &Text) -> Result<S
     format!(in alloc; "{name} {host} {slug}")
 }
 
+fn grant_told(
+    alloc: Global,
+    name: &str,
+    host: &Text,
+    pass: &Text,
+    slug: &Text,
+) -> Result<String, AllocError> {
+    let (host, pass, slug) = (host.as_str(), pass.as_str(), slug.as_str());
+    format!(in alloc; "{name} {host} {pass} {slug}")
+}
+
 fn command_told(alloc: Global, command: &Command) -> Result<String, AllocError> {
     match command {
         Command::NewProject {
@@ -413,6 +426,12 @@ fn command_told(alloc: Global, command: &Command) -> Result<String, AllocError> 
         Command::Unhide { host, slug } => version_told(alloc, "shown", host, slug),
         Command::Publish { host, slug } => version_told(alloc, "public", host, slug),
         Command::MakePrivate { host, slug } => version_told(alloc, "private", host, slug),
+        Command::Gone { host, slug } => version_told(alloc, "gone", host, slug),
+        Command::SetDefault { host, name } => version_told(alloc, "default", host, name),
+        Command::AddPass { host, pass } => version_told(alloc, "pass", host, pass),
+        Command::DropPass { host, pass } => version_told(alloc, "no pass", host, pass),
+        Command::Grant { host, pass, slug } => grant_told(alloc, "holds", host, pass, slug),
+        Command::Revoke { host, pass, slug } => grant_told(alloc, "lacks", host, pass, slug),
     }
 }
 
@@ -487,6 +506,18 @@ fn words_that_are_lines(rt: HostRuntime) -> Result<(), Fail> {
         ("unhide docs.test main", "shown docs.test main"),
         ("publish docs.test main", "public docs.test main"),
         ("make-private docs.test main", "private docs.test main"),
+        ("gone docs.test 1.0", "gone docs.test 1.0"),
+        ("set-default docs.test 1.0", "default docs.test 1.0"),
+        ("add-pass docs.test reader-7", "pass docs.test reader-7"),
+        ("drop-pass docs.test reader-7", "no pass docs.test reader-7"),
+        (
+            "grant docs.test reader-7 1.0",
+            "holds docs.test reader-7 1.0",
+        ),
+        (
+            "revoke docs.test reader-7 1.0",
+            "lacks docs.test reader-7 1.0",
+        ),
         ("get docs.test /?a=1", "docs.test /?a=1 -"),
         ("get docs.test / --pass reader-7", "docs.test / reader-7"),
         ("script", "to script"),
@@ -501,7 +532,9 @@ fn words_that_are_lines(rt: HostRuntime) -> Result<(), Fail> {
 fn words_that_are_no_line(rt: HostRuntime) -> Result<(), Fail> {
     for line in [
         "",
-        "gone docs.test main",
+        "gone docs.test",
+        "add-pass docs.test",
+        "grant docs.test reader-7",
         "activate docs.test",
         "hide docs.test main en",
         "add-lang docs.test",

@@ -11,4 +11,6 @@ returns-clause-app c =
     let three = one_more_command (app_of c.in_ok-command-3.command) (app_of c.in_ok-command-2.command) (app_of c.in_ok-hide.hide) _ _ c.in_ok-command-3.ensures.app two c.in_ok-hide.ensures.app in
     let four = one_more_command (app_of c.in_ok-command-4.command) (app_of c.in_ok-command-3.command) (app_of c.in_ok-unhide.unhide) _ _ c.in_ok-command-4.ensures.app three c.in_ok-unhide.ensures.app in
     let five = one_more_command (app_of c.in_ok-command-5.command) (app_of c.in_ok-command-4.command) (app_of c.in_ok-publish.publish) _ _ c.in_ok-command-5.ensures.app four c.in_ok-publish.ensures.app in
-    IfOk-weaker c.with_command-6.result _ _ (λ r e. one_more_command (app_of r) (app_of c.in_ok-command-5.command) (app_of c.in_ok-make_private.make_private) _ _ e five c.in_ok-make_private.ensures.app) c.with_command-6.ensures.app
+    let six = one_more_command (app_of c.in_ok-command-6.command) (app_of c.in_ok-command-5.command) (app_of c.in_ok-make_private.make_private) _ _ c.in_ok-command-6.ensures.app five c.in_ok-make_private.ensures.app in
+    let seven = one_more_command (app_of c.in_ok-command-7.command) (app_of c.in_ok-command-6.command) (app_of c.in_ok-gone.gone) _ _ c.in_ok-command-7.ensures.app six c.in_ok-gone.ensures.app in
+    IfOk-weaker c.with_command-8.result _ _ (λ r e. one_more_command (app_of r) (app_of c.in_ok-command-7.command) (app_of c.in_ok-set_default.set_default) _ _ e seven c.in_ok-set_default.ensures.app) c.with_command-8.ensures.app
