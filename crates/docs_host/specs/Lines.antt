@@ -136,21 +136,31 @@ get_in rows =
     with_word (codes "target") rows (λ target.
     Some (Get host target (first_of (codes "pass") rows))))
 
+-- the command of a line on a pass, or on one version
+unfoldable pub access_in : Text → List Row → Option Command
+access_in name rows =
+    if bytes_eq name (codes "add-pass") then add_pass_in rows
+    else if bytes_eq name (codes "drop-pass") then drop_pass_in rows
+    else if bytes_eq name (codes "grant") then grant_in rows
+    else if bytes_eq name (codes "revoke") then revoke_in rows
+    else version_in name rows
+
+-- the command of a line
+unfoldable pub command_in : Text → List Row → Option Command
+command_in name rows =
+    if bytes_eq name (codes "new-project") then new_project_in rows
+    else if bytes_eq name (codes "add-lang") then add_lang_in rows
+    else if bytes_eq name (codes "push") then push_in rows
+    else if bytes_eq name (codes "upload") then upload_in rows
+    else access_in name rows
+
 -- what a line of this name orders
 abbrev pub order_in : Text → List Row → Option Order
 order_in name rows =
-    if bytes_eq name (codes "new-project") then option_map Act (new_project_in rows)
-    else if bytes_eq name (codes "add-lang") then option_map Act (add_lang_in rows)
-    else if bytes_eq name (codes "push") then option_map Act (push_in rows)
-    else if bytes_eq name (codes "upload") then option_map Act (upload_in rows)
-    else if bytes_eq name (codes "add-pass") then option_map Act (add_pass_in rows)
-    else if bytes_eq name (codes "drop-pass") then option_map Act (drop_pass_in rows)
-    else if bytes_eq name (codes "grant") then option_map Act (grant_in rows)
-    else if bytes_eq name (codes "revoke") then option_map Act (revoke_in rows)
-    else if bytes_eq name (codes "get") then get_in rows
+    if bytes_eq name (codes "get") then get_in rows
     else if bytes_eq name (codes "script") then Some Script
     else if bytes_eq name (codes "answer") then Some Answer
-    else option_map Act (version_in name rows)
+    else option_map Act (command_in name rows)
 
 abbrev pub order_of : Option (Text × List Row) → Option Order
 order_of None = None

@@ -59,7 +59,7 @@ ghost use Rattle.std.specs.Prelude.{◌≡◌, ◌∷◌, [], IfOk, option_map, 
 ghost use Rattle.clap.specs.Walk.{first_of, rows_of};
 ghost use Rattle.clap.specs.Matches.{found_of};
 ghost use Rattle.clap.specs.Simple.{subcommand_rows_of};
-ghost use Rattle.docs_host.specs.Lines.{is_set, privacy_of, kind_of, new_project_in, add_lang_in, push_in, upload_in, command_on, version_in, add_pass_in, drop_pass_in, grant_in, revoke_in, get_in, order_of, line_in, Says, Matches};
+ghost use Rattle.docs_host.specs.Lines.{is_set, privacy_of, kind_of, new_project_in, add_lang_in, push_in, upload_in, command_on, version_in, add_pass_in, drop_pass_in, grant_in, revoke_in, access_in, command_in, get_in, order_of, line_in, Says, Matches};
 
 fn value<'a>(matches: &ArgMatches<'a>, id: &str) -> Option<&'a str>
     ensures { option_map (λ s. s.now) result ≡ first_of id.now (rows_of (found_of matches.now)) }
@@ -280,6 +280,34 @@ fn get(alloc: Global, matches: &ArgMatches<'_>) -> Result<Order, LineFault>
     Ok(Order::Get { host, target, pass })
 }
 
+/// A line on a pass, or on one version.
+#[tactic(auto, unfolding(crate::specs::Lines::access_in))]
+fn access(alloc: Global, name: &str, matches: &ArgMatches<'_>) -> Result<Command, LineFault>
+    ensures { Says (access_in name.now (rows_of (found_of matches.now))) result }
+{
+    match name {
+        "add-pass" => add_pass(alloc, matches),
+        "drop-pass" => drop_pass(alloc, matches),
+        "grant" => grant(alloc, matches),
+        "revoke" => revoke(alloc, matches),
+        _ => version(alloc, name, matches),
+    }
+}
+
+/// A line that is a command.
+#[tactic(auto, unfolding(crate::specs::Lines::command_in))]
+fn command(alloc: Global, name: &str, matches: &ArgMatches<'_>) -> Result<Command, LineFault>
+    ensures { Says (command_in name.now (rows_of (found_of matches.now))) result }
+{
+    match name {
+        "new-project" => new_project(alloc, matches),
+        "add-lang" => add_lang(alloc, matches),
+        "push" => push(alloc, matches),
+        "upload" => upload(alloc, matches),
+        _ => access(alloc, name, matches),
+    }
+}
+
 fn read_order(alloc: Global, matches: &ArgMatches<'_>) -> Result<Order, LineFault>
     ensures { Says (order_of (subcommand_rows_of matches.now)) result }
 {
@@ -288,18 +316,10 @@ fn read_order(alloc: Global, matches: &ArgMatches<'_>) -> Result<Order, LineFaul
         None => return Err(LineFault::Usage),
     };
     match name {
-        "new-project" => Ok(Order::Act(new_project(alloc, words)?)),
-        "add-lang" => Ok(Order::Act(add_lang(alloc, words)?)),
-        "push" => Ok(Order::Act(push(alloc, words)?)),
-        "upload" => Ok(Order::Act(upload(alloc, words)?)),
-        "add-pass" => Ok(Order::Act(add_pass(alloc, words)?)),
-        "drop-pass" => Ok(Order::Act(drop_pass(alloc, words)?)),
-        "grant" => Ok(Order::Act(grant(alloc, words)?)),
-        "revoke" => Ok(Order::Act(revoke(alloc, words)?)),
         "get" => get(alloc, words),
         "script" => Ok(Order::Script),
         "answer" => Ok(Order::Answer),
-        _ => Ok(Order::Act(version(alloc, name, words)?)),
+        _ => Ok(Order::Act(command(alloc, name, words)?)),
     }
 }
 
