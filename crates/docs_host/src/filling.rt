@@ -2,11 +2,11 @@
 
 ghost use Rattle.std.specs.Prelude.{◌≡◌, ◌∷◌, ◌++◌, [], IfOk};
 ghost use Rattle.dh_rows.specs.Calls.{IsHonest};
-ghost use Rattle.dh_desk.specs.Desk.{world};
+ghost use Rattle.dh_desk.specs.Desk.{IsStep, world};
 ghost use Rattle.docs_host.specs.SampleWorld.{uploaded_page, sample_uploads, make_sample, push_sample, upload_sample, Fills};
 
 use crate::sample::{HTML, body};
-use dh_desk::{Command, Desk, Pages, Refusal, UploadedPage};
+use dh_desk::{Answer, Command, Desk, Pages, Refusal, UploadedPage};
 use dh_paths::Text;
 use dh_versions::Kind;
 use sqlite::Alter;
@@ -74,13 +74,40 @@ fn upload_command(alloc: Global) -> Result<Command, AllocError>
     })
 }
 
+/// Makes the sample project.
+fn make_project<S: Alter>(alloc: Global, desk: &mut Desk<S>) -> Result<Answer, Refusal>
+    ensures step { IsHonest S.Store desk.new.tables → IsStep (world S.Store desk.old) (world S.Store desk.new) make_sample result }
+    ensures was { IsHonest S.Store desk.new.tables → IsHonest S.Store desk.old.tables }
+{
+    let command = make_command(alloc)?;
+    desk.apply(alloc, &command)
+}
+
+/// Pushes its branch.
+fn push_branch<S: Alter>(alloc: Global, desk: &mut Desk<S>) -> Result<Answer, Refusal>
+    ensures step { IsHonest S.Store desk.new.tables → IsStep (world S.Store desk.old) (world S.Store desk.new) push_sample result }
+    ensures was { IsHonest S.Store desk.new.tables → IsHonest S.Store desk.old.tables }
+{
+    let command = push_command(alloc)?;
+    desk.apply(alloc, &command)
+}
+
+/// Stores its pages.
+fn store_pages<S: Alter>(alloc: Global, desk: &mut Desk<S>) -> Result<Answer, Refusal>
+    ensures step { IsHonest S.Store desk.new.tables → IsStep (world S.Store desk.old) (world S.Store desk.new) upload_sample result }
+    ensures was { IsHonest S.Store desk.new.tables → IsHonest S.Store desk.old.tables }
+{
+    let command = upload_command(alloc)?;
+    desk.apply(alloc, &command)
+}
+
 /// Makes the sample project, pushes its branch and stores its pages: three commands. The first refusal is answered, and what was done before it stays.
 pub fn fill_sample<S: Alter>(alloc: Global, desk: &mut Desk<S>) -> Result<(), Refusal>
     ensures fills { IsHonest S.Store desk.new.tables → Fills (world S.Store desk.old) (world S.Store desk.new) result }
     ensures was { IsHonest S.Store desk.new.tables → IsHonest S.Store desk.old.tables }
 {
-    desk.apply(alloc, &make_command(alloc)?)?;
-    desk.apply(alloc, &push_command(alloc)?)?;
-    desk.apply(alloc, &upload_command(alloc)?)?;
+    make_project(alloc, desk)?;
+    push_branch(alloc, desk)?;
+    store_pages(alloc, desk)?;
     Ok(())
 }

@@ -53,6 +53,13 @@ fn is_done(alloc: Global, desk: &mut Desk<MemStore>, command: &Command) -> bool 
     matches!(desk.apply(alloc, command), Ok(Answer::Done))
 }
 
+/// Whether a tag that is gone is made anew, inactive, and then activated.
+fn comes_back(alloc: Global, desk: &mut Desk<MemStore>, name: &str) -> Result<bool, Fail> {
+    let again = push(alloc, "wkey-1", "k2", Kind::Tag, name)?;
+    let made = desk.apply(alloc, &again);
+    Ok(is_made(&made, name, false) && is_done(alloc, desk, &activate(alloc, name)?))
+}
+
 #[test]
 fn a_default_waits_while_its_version_is_inactive(rt: HostRuntime) -> Result<(), Fail> {
     let alloc = rt.alloc();
@@ -70,9 +77,7 @@ fn a_version_that_is_gone_is_no_default(rt: HostRuntime) -> Result<(), Fail> {
     let alloc = rt.alloc();
     let mut desk = tagged_desk(alloc)?;
     assert!(rt; is_done(alloc, &mut desk, &gone(alloc, "1.0.0")?));
-    let again = push(alloc, "wkey-1", "k2", Kind::Tag, "1.0.0")?;
-    assert!(rt; is_made(&desk.apply(alloc, &again), "1.0.0", false));
-    assert!(rt; is_done(alloc, &mut desk, &activate(alloc, "1.0.0")?));
+    assert!(rt; comes_back(alloc, &mut desk, "1.0.0")?);
     assert!(rt; leads_to(alloc, &mut desk, "/en/latest/")?);
     Ok(())
 }

@@ -141,6 +141,13 @@ fn a_grant_needs_its_version_and_its_pass(rt: HostRuntime) -> Result<(), Fail> {
     assert!(rt; matches!(versionless, Err(Refusal::NoVersion)));
     let passless = desk.apply(alloc, &grant(alloc, "reader-8", "1.0")?);
     assert!(rt; matches!(passless, Err(Refusal::NoPass)));
+    Ok(())
+}
+
+#[test]
+fn the_texts_of_a_grant_come_in_order(rt: HostRuntime) -> Result<(), Fail> {
+    let alloc = rt.alloc();
+    let mut desk = private_desk(alloc)?;
     let worse = desk.apply(alloc, &revoke(alloc, "re@der", "-x")?);
     assert!(rt; matches!(worse, Err(Refusal::BadToken)));
     let bad = desk.apply(alloc, &revoke(alloc, "reader-7", "-x")?);
