@@ -13,7 +13,7 @@ mod tests;
 mod view;
 
 pub use answer::Answer;
-pub use laws::veil_law;
+pub use laws::{veil_law, veiled_reply};
 pub use records::{
     HeldRow, LangRow, Operation, PageRow, PassRow, PickRow, ProjectRow, UsedRow, VersionRow,
 };
