@@ -1,4 +1,5 @@
 mod defaults;
+mod limits;
 mod passes;
 
 use crate::{Answer, Command, Desk, Pages, Refusal, UploadedPage};
@@ -110,17 +111,23 @@ fn is_made(answer: &Result<Answer, Refusal>, name: &str, is_active: bool) -> boo
     }
 }
 
+/// The desk's call, of whose clauses a test needs none: they stay out of its proof.
+fn apply(alloc: Global, desk: &mut Desk<MemStore>, command: &Command) -> Result<Answer, Refusal> {
+    desk.apply(alloc, command)
+}
+
+fn is_done(alloc: Global, desk: &mut Desk<MemStore>, command: &Command) -> bool {
+    matches!(apply(alloc, desk, command), Ok(Answer::Done))
+}
+
 /// A desk with a project, and with its default branch pushed.
 fn pushed_desk(alloc: Global) -> Result<Desk<MemStore>, Fail> {
     let mut desk = empty_desk(alloc)?;
-    if desk
-        .apply(alloc, &new_project(alloc, "docs.test")?)
-        .is_err()
-    {
+    if apply(alloc, &mut desk, &new_project(alloc, "docs.test")?).is_err() {
         return Err(Fail::from(Fault::Store));
     }
     let main = push(alloc, "wkey-1", "k1", Kind::Branch, "main")?;
-    if desk.apply(alloc, &main).is_err() {
+    if apply(alloc, &mut desk, &main).is_err() {
         return Err(Fail::from(Fault::Store));
     }
     Ok(desk)
@@ -138,13 +145,12 @@ fn get(alloc: Global, desk: &mut Desk<MemStore>, path: &str) -> Result<Reply, Fa
 fn a_project_is_made_once(rt: HostRuntime) -> Result<(), Fail> {
     let alloc = rt.alloc();
     let mut desk = empty_desk(alloc)?;
-    let early = desk.apply(alloc, &add_lang(alloc, "fr")?);
+    let early = apply(alloc, &mut desk, &add_lang(alloc, "fr")?);
     assert!(rt; matches!(early, Err(Refusal::NoProject)));
-    let first = desk.apply(alloc, &new_project(alloc, "docs.test")?);
-    assert!(rt; matches!(first, Ok(Answer::Done)));
-    let second = desk.apply(alloc, &new_project(alloc, "docs.test")?);
+    assert!(rt; is_done(alloc, &mut desk, &new_project(alloc, "docs.test")?));
+    let second = apply(alloc, &mut desk, &new_project(alloc, "docs.test")?);
     assert!(rt; matches!(second, Err(Refusal::ProjectTaken)));
-    let capital = desk.apply(alloc, &new_project(alloc, "Docs_Test")?);
+    let capital = apply(alloc, &mut desk, &new_project(alloc, "Docs_Test")?);
     assert!(rt; matches!(capital, Err(Refusal::BadHost)));
     Ok(())
 }
@@ -153,13 +159,12 @@ fn a_project_is_made_once(rt: HostRuntime) -> Result<(), Fail> {
 fn a_language_is_added_once(rt: HostRuntime) -> Result<(), Fail> {
     let alloc = rt.alloc();
     let mut desk = pushed_desk(alloc)?;
-    let first = desk.apply(alloc, &add_lang(alloc, "fr")?);
-    assert!(rt; matches!(first, Ok(Answer::Done)));
-    let second = desk.apply(alloc, &add_lang(alloc, "fr")?);
+    assert!(rt; is_done(alloc, &mut desk, &add_lang(alloc, "fr")?));
+    let second = apply(alloc, &mut desk, &add_lang(alloc, "fr")?);
     assert!(rt; matches!(second, Err(Refusal::LangTaken)));
-    let main = desk.apply(alloc, &add_lang(alloc, "en")?);
+    let main = apply(alloc, &mut desk, &add_lang(alloc, "en")?);
     assert!(rt; matches!(main, Err(Refusal::LangTaken)));
-    let page = desk.apply(alloc, &add_lang(alloc, "page")?);
+    let page = apply(alloc, &mut desk, &add_lang(alloc, "page")?);
     assert!(rt; matches!(page, Err(Refusal::BadLang)));
     Ok(())
 }
@@ -170,10 +175,10 @@ fn thirty_languages_are_enough(rt: HostRuntime) -> Result<(), Fail> {
     let mut desk = pushed_desk(alloc)?;
     for n in 1u32..30u32 {
         let lang = format!(in alloc; "x{n}")?;
-        let added = desk.apply(alloc, &add_lang(alloc, lang.as_str())?);
+        let added = apply(alloc, &mut desk, &add_lang(alloc, lang.as_str())?);
         assert!(rt; matches!(added, Ok(Answer::Done)));
     }
-    let more = desk.apply(alloc, &add_lang(alloc, "fr")?);
+    let more = apply(alloc, &mut desk, &add_lang(alloc, "fr")?);
     assert!(rt; matches!(more, Err(Refusal::TooMany)));
     Ok(())
 }
@@ -213,13 +218,13 @@ fn a_push_makes_a_version_once(rt: HostRuntime) -> Result<(), Fail> {
     let alloc = rt.alloc();
     let mut desk = pushed_desk(alloc)?;
     let again = push(alloc, "wkey-1", "k1", Kind::Branch, "main")?;
-    assert!(rt; is_made(&desk.apply(alloc, &again), "main", true));
+    assert!(rt; is_made(&apply(alloc, &mut desk, &again), "main", true));
     let known = push(alloc, "wkey-1", "k2", Kind::Branch, "main")?;
-    assert!(rt; matches!(desk.apply(alloc, &known), Ok(Answer::Known { .. })));
+    assert!(rt; matches!(apply(alloc, &mut desk, &known), Ok(Answer::Known { .. })));
     let tag = push(alloc, "wkey-1", "k3", Kind::Tag, "main")?;
-    assert!(rt; matches!(desk.apply(alloc, &tag), Err(Refusal::SlugTaken)));
+    assert!(rt; matches!(apply(alloc, &mut desk, &tag), Err(Refusal::SlugTaken)));
     let other = push(alloc, "wkey-1", "k1", Kind::Tag, "Release/1.0")?;
-    assert!(rt; is_made(&desk.apply(alloc, &other), "release-1.0", false));
+    assert!(rt; is_made(&apply(alloc, &mut desk, &other), "release-1.0", false));
     Ok(())
 }
 
@@ -228,11 +233,11 @@ fn a_push_is_refused_for_its_texts_and_key(rt: HostRuntime) -> Result<(), Fail> 
     let alloc = rt.alloc();
     let mut desk = pushed_desk(alloc)?;
     let stranger = push(alloc, "nokey", "k2", Kind::Branch, "main")?;
-    assert!(rt; matches!(desk.apply(alloc, &stranger), Err(Refusal::WrongKey)));
+    assert!(rt; matches!(apply(alloc, &mut desk, &stranger), Err(Refusal::WrongKey)));
     let keyless = push(alloc, "wkey-1", "k@", Kind::Branch, "main")?;
-    assert!(rt; matches!(desk.apply(alloc, &keyless), Err(Refusal::BadKey)));
+    assert!(rt; matches!(apply(alloc, &mut desk, &keyless), Err(Refusal::BadKey)));
     let slugless = push(alloc, "wkey-1", "k2", Kind::Branch, "///")?;
-    assert!(rt; matches!(desk.apply(alloc, &slugless), Err(Refusal::BadRef)));
+    assert!(rt; matches!(apply(alloc, &mut desk, &slugless), Err(Refusal::BadRef)));
     Ok(())
 }
 
@@ -241,13 +246,23 @@ fn an_upload_is_stored_once(rt: HostRuntime) -> Result<(), Fail> {
     let alloc = rt.alloc();
     let mut desk = pushed_desk(alloc)?;
     let first = upload(alloc, "u1", "en", "a.html", "aaa", false)?;
-    assert!(rt; matches!(desk.apply(alloc, &first), Ok(Answer::Stored { pages: 1 })));
+    assert!(rt;
+        matches!(
+            apply(alloc, &mut desk, &first),
+            Ok(Answer::Stored { pages: 1 })
+        )
+    );
     assert_eq!(rt;
         get(alloc, &mut desk, "/en/latest/a.html")?.body.as_slice(),
         b"aaa".as_slice()
     );
     let again = upload(alloc, "u1", "en", "a.html", "bbbb", false)?;
-    assert!(rt; matches!(desk.apply(alloc, &again), Ok(Answer::Stored { pages: 1 })));
+    assert!(rt;
+        matches!(
+            apply(alloc, &mut desk, &again),
+            Ok(Answer::Stored { pages: 1 })
+        )
+    );
     assert_eq!(rt;
         get(alloc, &mut desk, "/en/latest/a.html")?.body.as_slice(),
         b"aaa".as_slice()
@@ -260,18 +275,18 @@ fn an_upload_replaces_its_language_alone(rt: HostRuntime) -> Result<(), Fail> {
     let alloc = rt.alloc();
     let mut desk = pushed_desk(alloc)?;
     let unspoken = upload(alloc, "u1", "fr", "a.html", "aaa", false)?;
-    assert!(rt; matches!(desk.apply(alloc, &unspoken), Err(Refusal::NoLang)));
-    assert!(rt; desk.apply(alloc, &add_lang(alloc, "fr")?).is_ok());
+    assert!(rt; matches!(apply(alloc, &mut desk, &unspoken), Err(Refusal::NoLang)));
+    assert!(rt; apply(alloc, &mut desk, &add_lang(alloc, "fr")?).is_ok());
     assert!(rt;
         matches!(
-            desk.apply(alloc, &unspoken),
+            apply(alloc, &mut desk, &unspoken),
             Ok(Answer::Stored { pages: 1 })
         )
     );
     let english = upload(alloc, "u2", "en", "a.html", "aaa", false)?;
-    assert!(rt; desk.apply(alloc, &english).is_ok());
+    assert!(rt; apply(alloc, &mut desk, &english).is_ok());
     let other = upload(alloc, "u3", "en", "b.html", "b", true)?;
-    assert!(rt; desk.apply(alloc, &other).is_ok());
+    assert!(rt; apply(alloc, &mut desk, &other).is_ok());
     assert_eq!(rt; get(alloc, &mut desk, "/en/latest/b.html")?.status, 200);
     assert_eq!(rt; get(alloc, &mut desk, "/en/latest/a.html")?.status, 404);
     assert_eq!(rt; get(alloc, &mut desk, "/fr/latest/a.html")?.status, 200);
@@ -311,7 +326,7 @@ fn settings(alloc: Global) -> Result<Vec<(Command, u16)>, Fail> {
 fn paged_desk(alloc: Global) -> Result<Desk<MemStore>, Fail> {
     let mut desk = pushed_desk(alloc)?;
     let page = upload(alloc, "u1", "en", "a.html", "aaa", false)?;
-    if desk.apply(alloc, &page).is_err() {
+    if apply(alloc, &mut desk, &page).is_err() {
         return Err(Fail::from(Fault::Store));
     }
     Ok(desk)
@@ -323,11 +338,11 @@ fn deactivation_removes_pages(rt: HostRuntime) -> Result<(), Fail> {
     let mut desk = paged_desk(alloc)?;
     assert_eq!(rt; get(alloc, &mut desk, "/en/main/a.html")?.status, 200);
     let off = deactivate(alloc, "main")?;
-    assert!(rt; matches!(desk.apply(alloc, &off), Ok(Answer::Done)));
+    assert!(rt; is_done(alloc, &mut desk, &off));
     let late = upload(alloc, "u2", "en", "a.html", "aaa", false)?;
-    assert!(rt; matches!(desk.apply(alloc, &late), Err(Refusal::Inactive)));
+    assert!(rt; matches!(apply(alloc, &mut desk, &late), Err(Refusal::Inactive)));
     let on = activate(alloc, "main")?;
-    assert!(rt; matches!(desk.apply(alloc, &on), Ok(Answer::Done)));
+    assert!(rt; is_done(alloc, &mut desk, &on));
     assert_eq!(rt; get(alloc, &mut desk, "/en/main/a.html")?.status, 404);
     Ok(())
 }
@@ -337,7 +352,7 @@ fn properties_are_set(rt: HostRuntime) -> Result<(), Fail> {
     let alloc = rt.alloc();
     let mut desk = paged_desk(alloc)?;
     for (command, wanted) in &settings(alloc)? {
-        let answer = desk.apply(alloc, command);
+        let answer = apply(alloc, &mut desk, command);
         assert!(rt; matches!(answer, Ok(Answer::Done)));
         assert_eq!(rt; get(alloc, &mut desk, "/en/main/a.html")?.status, *wanted);
     }
@@ -348,12 +363,12 @@ fn properties_are_set(rt: HostRuntime) -> Result<(), Fail> {
 fn a_version_that_is_missing_is_refused(rt: HostRuntime) -> Result<(), Fail> {
     let alloc = rt.alloc();
     let mut desk = empty_desk(alloc)?;
-    let early = desk.apply(alloc, &activate(alloc, "main")?);
+    let early = apply(alloc, &mut desk, &activate(alloc, "main")?);
     assert!(rt; matches!(early, Err(Refusal::NoProject)));
-    assert!(rt; desk.apply(alloc, &new_project(alloc, "docs.test")?).is_ok());
-    let missing = desk.apply(alloc, &deactivate(alloc, "9.9")?);
+    assert!(rt; apply(alloc, &mut desk, &new_project(alloc, "docs.test")?).is_ok());
+    let missing = apply(alloc, &mut desk, &deactivate(alloc, "9.9")?);
     assert!(rt; matches!(missing, Err(Refusal::NoVersion)));
-    let none = desk.apply(alloc, &activate(alloc, "-x")?);
+    let none = apply(alloc, &mut desk, &activate(alloc, "-x")?);
     assert!(rt; matches!(none, Err(Refusal::BadRef)));
     Ok(())
 }
@@ -374,14 +389,14 @@ fn done_again(
     command: &Command,
     before: u16,
 ) -> Result<Result<Answer, Refusal>, Fail> {
-    let answer = desk.apply(alloc, command);
+    let answer = apply(alloc, desk, command);
     if !matches!(answer, Err(Refusal::OutOfMemory)) {
         return Ok(answer);
     }
     if get(alloc, desk, "/")?.status != before {
         return Err(Fail::from(Fault::Store));
     }
-    Ok(desk.apply(alloc, command))
+    Ok(apply(alloc, desk, command))
 }
 
 fn is_project_made(alloc: Global, desk: &mut Desk<MemStore>) -> Result<bool, Fail> {

@@ -50,19 +50,37 @@ fn answers_are_read(rt: HostRuntime) -> Result<(), Fail> {
     Ok(())
 }
 
+/// How many records a host has: projects, languages and versions.
+fn counts(alloc: Global, tables: &mut Tables<MemStore>) -> Result<(usize, usize, usize), Fail> {
+    let host = docs(alloc)?;
+    let projects = match tables.project(alloc, &host)? {
+        Some(_) => 1,
+        None => 0,
+    };
+    let langs = tables.langs(alloc, &host)?.len();
+    Ok((projects, langs, tables.versions(alloc, &host)?.len()))
+}
+
+/// A transaction in which nothing is done, kept or undone.
+fn turn(tables: &mut Tables<MemStore>, keeps: bool) -> Result<(), Fail> {
+    tables.begin()?;
+    if keeps {
+        tables.commit()?;
+    } else {
+        tables.back()?;
+    }
+    Ok(())
+}
+
 #[test]
 fn new_tables_hold_nothing(rt: HostRuntime) -> Result<(), Fail> {
     let alloc = rt.alloc();
     let mut tables = Tables::in_memory(alloc)?;
-    let host = HostName::parse(alloc, "docs.test")?;
-    tables.begin()?;
-    assert!(rt; tables.project(alloc, &host)?.is_none());
-    assert!(rt; tables.versions(alloc, &host)?.is_empty());
-    tables.commit()?;
-    assert!(rt; tables.langs(alloc, &host)?.is_empty());
-    tables.begin()?;
+    assert!(rt; counts(alloc, &mut tables)? == (0, 0, 0));
+    turn(&mut tables, true)?;
+    turn(&mut tables, false)?;
     tables.back()?;
-    tables.back()?;
+    assert!(rt; counts(alloc, &mut tables)? == (0, 0, 0));
     Ok(())
 }
 
@@ -132,73 +150,112 @@ fn begun(alloc: Global) -> Result<Tables<MemStore>, Fail> {
     Ok(tables)
 }
 
+/// The project of the host, with what it has of languages.
+fn read_back(
+    alloc: Global,
+    tables: &mut Tables<MemStore>,
+) -> Result<(Option<ProjectRow>, Vec<LangRow>), Fail> {
+    let host = docs(alloc)?;
+    let found = tables.project(alloc, &host)?;
+    Ok((found, tables.langs(alloc, &host)?))
+}
+
 #[test]
 fn a_project_is_read_back(rt: HostRuntime) -> Result<(), Fail> {
     let alloc = rt.alloc();
-    let host = docs(alloc)?;
     let mut tables = begun(alloc)?;
     assert!(rt; tables.is_settled());
-    assert!(rt; tables.has_project(&host)?);
-    let found = tables.project(alloc, &host)?;
+    assert!(rt; tables.has_project(&docs(alloc)?)?);
+    let (found, langs) = read_back(alloc, &mut tables)?;
     assert!(rt;
         found.is_some_and(|row| row.main.as_str() == "en"
             && row.branch.as_str() == "main"
             && row.wkey.as_str() == "key"
             && row.new_private)
     );
-    let langs = tables.langs(alloc, &host)?;
     assert_eq!(rt; langs.len(), 1);
     assert_eq!(rt; langs[0].lang.as_str(), "en");
     assert_eq!(rt; langs[0].place, 1);
     Ok(())
 }
 
-#[test]
-fn the_connection_comes_back(rt: HostRuntime) -> Result<(), Fail> {
-    let alloc = rt.alloc();
+/// Tables with these versions, put in turn; of each whether it is hidden.
+fn versioned(alloc: Global, all: &[(&str, bool)]) -> Result<Tables<MemStore>, Fail> {
     let mut tables = Tables::in_memory(alloc)?;
-    tables.put_version(&version(alloc, "1.0", false)?)?;
-    let mut conn = tables.into_conn();
+    for (slug, hidden) in all {
+        tables.put_version(&version(alloc, slug, *hidden)?)?;
+    }
+    Ok(tables)
+}
+
+/// The slug of the one version that the connection holds.
+fn selected(alloc: Global, conn: Connection<MemStore>) -> Result<String, Fail> {
+    let mut conn = conn;
     let row = conn.query_row(
         "SELECT slug FROM version WHERE host = ?1",
         params!["docs.test"],
     )?;
-    let slug: String = row.get(0)?;
+    Ok(row.get(0)?)
+}
+
+#[test]
+fn the_connection_comes_back(rt: HostRuntime) -> Result<(), Fail> {
+    let alloc = rt.alloc();
+    let tables = versioned(alloc, &[("1.0", false)])?;
+    let slug = selected(alloc, tables.into_conn())?;
     assert_eq!(rt; slug.as_str(), "1.0");
     Ok(())
+}
+
+/// The versions of the host.
+fn listed(alloc: Global, tables: &mut Tables<MemStore>) -> Result<Vec<VersionRow>, Fail> {
+    Ok(tables.versions(alloc, &docs(alloc)?)?)
+}
+
+/// The version of a slug.
+fn found(
+    alloc: Global,
+    tables: &mut Tables<MemStore>,
+    slug: &str,
+) -> Result<Option<VersionRow>, Fail> {
+    Ok(tables.version(alloc, &docs(alloc)?, &Slug::parse(alloc, slug)?)?)
 }
 
 #[test]
 fn versions_are_put_and_read(rt: HostRuntime) -> Result<(), Fail> {
     let alloc = rt.alloc();
-    let host = docs(alloc)?;
-    let mut tables = Tables::in_memory(alloc)?;
-    tables.put_version(&version(alloc, "2.0", false)?)?;
-    tables.put_version(&version(alloc, "1.0", false)?)?;
-    tables.put_version(&version(alloc, "2.0", true)?)?;
-    let versions = tables.versions(alloc, &host)?;
+    let mut tables = versioned(alloc, &[("2.0", false), ("1.0", false), ("2.0", true)])?;
+    let versions = listed(alloc, &mut tables)?;
     assert_eq!(rt; versions.len(), 2);
     assert_eq!(rt; versions[0].version.slug.as_str(), "1.0");
     assert_eq!(rt; versions[1].version.slug.as_str(), "2.0");
-    let found = tables.version(alloc, &host, &Slug::parse(alloc, "2.0")?)?;
-    assert!(rt; found.is_some_and(|row| row.version.hidden && row.version.kind == Kind::Tag));
-    assert!(rt;
-        tables
-            .version(alloc, &host, &Slug::parse(alloc, "3.0")?)?
-            .is_none()
-    );
+    let last = found(alloc, &mut tables, "2.0")?;
+    assert!(rt; last.is_some_and(|row| row.version.hidden && row.version.kind == Kind::Tag));
+    assert!(rt; found(alloc, &mut tables, "3.0")?.is_none());
     Ok(())
+}
+
+/// Tables with a page, whose body was each of these in turn.
+fn paged(alloc: Global, bodies: &[&str]) -> Result<Tables<MemStore>, Fail> {
+    let mut tables = Tables::in_memory(alloc)?;
+    for body in bodies {
+        tables.put_page(&page(alloc, body)?)?;
+    }
+    Ok(tables)
+}
+
+/// The page, if it is there.
+fn shown(alloc: Global, tables: &mut Tables<MemStore>) -> Result<Option<PageRow>, Fail> {
+    let (host, slug, lang) = place(alloc)?;
+    Ok(tables.page(alloc, &host, &slug, &lang, "a.html")?)
 }
 
 #[test]
 fn a_page_is_put_in_place(rt: HostRuntime) -> Result<(), Fail> {
     let alloc = rt.alloc();
-    let (host, slug, en) = place(alloc)?;
-    let mut tables = Tables::in_memory(alloc)?;
-    tables.put_page(&page(alloc, "old")?)?;
-    tables.put_page(&page(alloc, "new")?)?;
-    let found = tables.page(alloc, &host, &slug, &en, "a.html")?;
-    assert!(rt; found.is_some_and(|row| row.page.body.as_slice() == b"new".as_slice()));
+    let mut tables = paged(alloc, &["old", "new"])?;
+    let page = shown(alloc, &mut tables)?;
+    assert!(rt; page.is_some_and(|row| row.page.body.as_slice() == b"new".as_slice()));
     Ok(())
 }
 
@@ -206,21 +263,19 @@ fn a_page_is_put_in_place(rt: HostRuntime) -> Result<(), Fail> {
 fn pages_are_dropped(rt: HostRuntime) -> Result<(), Fail> {
     let alloc = rt.alloc();
     let (host, slug, en) = place(alloc)?;
-    let mut tables = Tables::in_memory(alloc)?;
-    tables.put_page(&page(alloc, "old")?)?;
+    let mut tables = paged(alloc, &["old"])?;
     tables.drop_pages(&host, &slug, Some(&en))?;
-    assert!(rt; tables.page(alloc, &host, &slug, &en, "a.html")?.is_none());
+    assert!(rt; shown(alloc, &mut tables)?.is_none());
     Ok(())
 }
 
 #[test]
 fn pages_of_a_version_are_dropped(rt: HostRuntime) -> Result<(), Fail> {
     let alloc = rt.alloc();
-    let (host, slug, en) = place(alloc)?;
-    let mut tables = Tables::in_memory(alloc)?;
-    tables.put_page(&page(alloc, "old")?)?;
+    let (host, slug, _) = place(alloc)?;
+    let mut tables = paged(alloc, &["old"])?;
     tables.drop_pages(&host, &slug, None)?;
-    assert!(rt; tables.page(alloc, &host, &slug, &en, "a.html")?.is_none());
+    assert!(rt; shown(alloc, &mut tables)?.is_none());
     Ok(())
 }
 

@@ -1,5 +1,6 @@
 use super::{
-    activate, deactivate, empty_desk, get, is_made, new_project, push, pushed_desk, version,
+    activate, apply, deactivate, empty_desk, get, is_done, is_made, new_project, push, pushed_desk,
+    version,
 };
 use crate::{Answer, Command, Desk, Refusal};
 use dh_reply::Fault;
@@ -25,7 +26,7 @@ fn choose_tag(alloc: Global, desk: &mut Desk<MemStore>, name: &str) -> Result<()
     commands.push(activate(alloc, name)?)?;
     commands.push(set_default(alloc, name)?)?;
     for command in &commands {
-        if desk.apply(alloc, command).is_err() {
+        if apply(alloc, desk, command).is_err() {
             return Err(Fail::from(Fault::Store));
         }
     }
@@ -49,14 +50,10 @@ fn leads_to(alloc: Global, desk: &mut Desk<MemStore>, to: &str) -> Result<bool, 
     )
 }
 
-fn is_done(alloc: Global, desk: &mut Desk<MemStore>, command: &Command) -> bool {
-    matches!(desk.apply(alloc, command), Ok(Answer::Done))
-}
-
 /// Whether a tag that is gone is made anew, inactive, and then activated.
 fn comes_back(alloc: Global, desk: &mut Desk<MemStore>, name: &str) -> Result<bool, Fail> {
     let again = push(alloc, "wkey-1", "k2", Kind::Tag, name)?;
-    let made = desk.apply(alloc, &again);
+    let made = apply(alloc, desk, &again);
     Ok(is_made(&made, name, false) && is_done(alloc, desk, &activate(alloc, name)?))
 }
 
@@ -100,13 +97,13 @@ fn a_default_is_an_alias_or_an_active_version(rt: HostRuntime) -> Result<(), Fai
     let alloc = rt.alloc();
     let mut desk = empty_desk(alloc)?;
     let stable = set_default(alloc, "stable")?;
-    assert!(rt; matches!(desk.apply(alloc, &stable), Err(Refusal::NoProject)));
+    assert!(rt; matches!(apply(alloc, &mut desk, &stable), Err(Refusal::NoProject)));
     assert!(rt; is_done(alloc, &mut desk, &new_project(alloc, "docs.test")?));
     assert!(rt; is_done(alloc, &mut desk, &stable));
     let tag = set_default(alloc, "2.0")?;
-    assert!(rt; matches!(desk.apply(alloc, &tag), Err(Refusal::NoVersion)));
+    assert!(rt; matches!(apply(alloc, &mut desk, &tag), Err(Refusal::NoVersion)));
     let made = push(alloc, "wkey-1", "k1", Kind::Tag, "2.0")?;
-    assert!(rt; is_made(&desk.apply(alloc, &made), "2.0", false));
-    assert!(rt; matches!(desk.apply(alloc, &tag), Err(Refusal::Inactive)));
+    assert!(rt; is_made(&apply(alloc, &mut desk, &made), "2.0", false));
+    assert!(rt; matches!(apply(alloc, &mut desk, &tag), Err(Refusal::Inactive)));
     Ok(())
 }

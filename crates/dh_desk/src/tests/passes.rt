@@ -1,6 +1,6 @@
 //! Passes, and what they open.
 
-use super::{activate, empty_desk, new_project, push, pushed_desk, text, version};
+use super::{activate, apply, empty_desk, is_done, new_project, push, pushed_desk, text, version};
 use crate::{Answer, Command, Desk, Refusal};
 use dh_paths::Text;
 use dh_reply::{Fault, Read};
@@ -46,7 +46,7 @@ fn private_desk(alloc: Global) -> Result<Desk<MemStore>, Fail> {
     all.push(Command::MakePrivate { host, slug })?;
     all.push(add_pass(alloc, "reader-7")?)?;
     for command in &all {
-        if desk.apply(alloc, command).is_err() {
+        if apply(alloc, &mut desk, command).is_err() {
             return Err(Fail::from(Fault::Store));
         }
     }
@@ -62,20 +62,16 @@ fn opens(alloc: Global, desk: &mut Desk<MemStore>, pass: &str) -> Result<bool, F
     Ok(desk.read(alloc, "docs.test", Some(pass), &asked)?.status == 302)
 }
 
-fn is_done(alloc: Global, desk: &mut Desk<MemStore>, command: Command) -> bool {
-    matches!(desk.apply(alloc, &command), Ok(Answer::Done))
-}
-
 #[test]
 fn a_pass_is_added_and_dropped_once(rt: HostRuntime) -> Result<(), Fail> {
     let alloc = rt.alloc();
     let mut desk = empty_desk(alloc)?;
-    let early = desk.apply(alloc, &add_pass(alloc, "reader-7")?);
+    let early = apply(alloc, &mut desk, &add_pass(alloc, "reader-7")?);
     assert!(rt; matches!(early, Err(Refusal::NoProject)));
-    let none = desk.apply(alloc, &drop_pass(alloc, "reader-7")?);
+    let none = apply(alloc, &mut desk, &drop_pass(alloc, "reader-7")?);
     assert!(rt; matches!(none, Err(Refusal::NoProject)));
-    assert!(rt; is_done(alloc, &mut desk, new_project(alloc, "docs.test")?));
-    let missing = desk.apply(alloc, &drop_pass(alloc, "reader-7")?);
+    assert!(rt; is_done(alloc, &mut desk, &new_project(alloc, "docs.test")?));
+    let missing = apply(alloc, &mut desk, &drop_pass(alloc, "reader-7")?);
     assert!(rt; matches!(missing, Err(Refusal::NoPass)));
     Ok(())
 }
@@ -84,12 +80,12 @@ fn a_pass_is_added_and_dropped_once(rt: HostRuntime) -> Result<(), Fail> {
 fn a_pass_that_is_there_is_taken(rt: HostRuntime) -> Result<(), Fail> {
     let alloc = rt.alloc();
     let mut desk = pushed_desk(alloc)?;
-    assert!(rt; is_done(alloc, &mut desk, add_pass(alloc, "reader-7")?));
-    let again = desk.apply(alloc, &add_pass(alloc, "reader-7")?);
+    assert!(rt; is_done(alloc, &mut desk, &add_pass(alloc, "reader-7")?));
+    let again = apply(alloc, &mut desk, &add_pass(alloc, "reader-7")?);
     assert!(rt; matches!(again, Err(Refusal::PassTaken)));
-    assert!(rt; is_done(alloc, &mut desk, drop_pass(alloc, "reader-7")?));
-    assert!(rt; is_done(alloc, &mut desk, add_pass(alloc, "reader-7")?));
-    let blank = desk.apply(alloc, &add_pass(alloc, "re@der")?);
+    assert!(rt; is_done(alloc, &mut desk, &drop_pass(alloc, "reader-7")?));
+    assert!(rt; is_done(alloc, &mut desk, &add_pass(alloc, "reader-7")?));
+    let blank = apply(alloc, &mut desk, &add_pass(alloc, "re@der")?);
     assert!(rt; matches!(blank, Err(Refusal::BadToken)));
     Ok(())
 }
@@ -100,9 +96,9 @@ fn a_thousand_passes_are_enough(rt: HostRuntime) -> Result<(), Fail> {
     let mut desk = pushed_desk(alloc)?;
     for n in 0u32..1000u32 {
         let name = format!(in alloc; "p{n}")?;
-        assert!(rt; is_done(alloc, &mut desk, add_pass(alloc, name.as_str())?));
+        assert!(rt; is_done(alloc, &mut desk, &add_pass(alloc, name.as_str())?));
     }
-    let more = desk.apply(alloc, &add_pass(alloc, "more")?);
+    let more = apply(alloc, &mut desk, &add_pass(alloc, "more")?);
     assert!(rt; matches!(more, Err(Refusal::TooMany)));
     Ok(())
 }
@@ -112,12 +108,12 @@ fn a_grant_opens_its_version_to_its_pass(rt: HostRuntime) -> Result<(), Fail> {
     let alloc = rt.alloc();
     let mut desk = private_desk(alloc)?;
     assert!(rt; !opens(alloc, &mut desk, "reader-7")?);
-    assert!(rt; is_done(alloc, &mut desk, grant(alloc, "reader-7", "1.0")?));
-    assert!(rt; is_done(alloc, &mut desk, grant(alloc, "reader-7", "1.0")?));
+    assert!(rt; is_done(alloc, &mut desk, &grant(alloc, "reader-7", "1.0")?));
+    assert!(rt; is_done(alloc, &mut desk, &grant(alloc, "reader-7", "1.0")?));
     assert!(rt; opens(alloc, &mut desk, "reader-7")?);
     assert!(rt; !opens(alloc, &mut desk, "reader-8")?);
-    assert!(rt; is_done(alloc, &mut desk, revoke(alloc, "reader-7", "1.0")?));
-    assert!(rt; is_done(alloc, &mut desk, revoke(alloc, "reader-7", "1.0")?));
+    assert!(rt; is_done(alloc, &mut desk, &revoke(alloc, "reader-7", "1.0")?));
+    assert!(rt; is_done(alloc, &mut desk, &revoke(alloc, "reader-7", "1.0")?));
     assert!(rt; !opens(alloc, &mut desk, "reader-7")?);
     Ok(())
 }
@@ -126,9 +122,9 @@ fn a_grant_opens_its_version_to_its_pass(rt: HostRuntime) -> Result<(), Fail> {
 fn a_pass_that_comes_back_holds_nothing(rt: HostRuntime) -> Result<(), Fail> {
     let alloc = rt.alloc();
     let mut desk = private_desk(alloc)?;
-    assert!(rt; is_done(alloc, &mut desk, grant(alloc, "reader-7", "1.0")?));
-    assert!(rt; is_done(alloc, &mut desk, drop_pass(alloc, "reader-7")?));
-    assert!(rt; is_done(alloc, &mut desk, add_pass(alloc, "reader-7")?));
+    assert!(rt; is_done(alloc, &mut desk, &grant(alloc, "reader-7", "1.0")?));
+    assert!(rt; is_done(alloc, &mut desk, &drop_pass(alloc, "reader-7")?));
+    assert!(rt; is_done(alloc, &mut desk, &add_pass(alloc, "reader-7")?));
     assert!(rt; !opens(alloc, &mut desk, "reader-7")?);
     Ok(())
 }
@@ -137,9 +133,9 @@ fn a_pass_that_comes_back_holds_nothing(rt: HostRuntime) -> Result<(), Fail> {
 fn a_grant_needs_its_version_and_its_pass(rt: HostRuntime) -> Result<(), Fail> {
     let alloc = rt.alloc();
     let mut desk = private_desk(alloc)?;
-    let versionless = desk.apply(alloc, &grant(alloc, "reader-8", "9.9")?);
+    let versionless = apply(alloc, &mut desk, &grant(alloc, "reader-8", "9.9")?);
     assert!(rt; matches!(versionless, Err(Refusal::NoVersion)));
-    let passless = desk.apply(alloc, &grant(alloc, "reader-8", "1.0")?);
+    let passless = apply(alloc, &mut desk, &grant(alloc, "reader-8", "1.0")?);
     assert!(rt; matches!(passless, Err(Refusal::NoPass)));
     Ok(())
 }
@@ -148,9 +144,9 @@ fn a_grant_needs_its_version_and_its_pass(rt: HostRuntime) -> Result<(), Fail> {
 fn the_texts_of_a_grant_come_in_order(rt: HostRuntime) -> Result<(), Fail> {
     let alloc = rt.alloc();
     let mut desk = private_desk(alloc)?;
-    let worse = desk.apply(alloc, &revoke(alloc, "re@der", "-x")?);
+    let worse = apply(alloc, &mut desk, &revoke(alloc, "re@der", "-x")?);
     assert!(rt; matches!(worse, Err(Refusal::BadToken)));
-    let bad = desk.apply(alloc, &revoke(alloc, "reader-7", "-x")?);
+    let bad = apply(alloc, &mut desk, &revoke(alloc, "reader-7", "-x")?);
     assert!(rt; matches!(bad, Err(Refusal::BadRef)));
     Ok(())
 }

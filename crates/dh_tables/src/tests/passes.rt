@@ -1,5 +1,5 @@
-use super::{docs, version};
-use crate::{HeldRow, PassRow, Tables};
+use super::{docs, listed, versioned};
+use crate::{HeldRow, PassRow, PickRow, Tables};
 use dh_paths::{Slug, TextFault, Token};
 use sqlite::MemStore;
 use std::alloc::Global;
@@ -17,13 +17,18 @@ pub fn set(alloc: Global, tables: &mut Tables<MemStore>, names: &[&str]) -> Resu
     Ok(())
 }
 
+/// The defaults of the host, in their order.
+fn picked(alloc: Global, tables: &mut Tables<MemStore>) -> Result<Vec<PickRow>, Fail> {
+    Ok(tables.picks(alloc, &docs(alloc)?)?)
+}
+
 #[test]
 fn defaults_stand_in_their_order(rt: HostRuntime) -> Result<(), Fail> {
     let alloc = rt.alloc();
     let mut tables = Tables::in_memory(alloc)?;
     set(alloc, &mut tables, &["2.0", "latest"])?;
     set(alloc, &mut tables, &["1.0", "latest", "2.0"])?;
-    let picks = tables.picks(alloc, &docs(alloc)?)?;
+    let picks = picked(alloc, &mut tables)?;
     assert_eq!(rt; picks.len(), 3);
     assert_eq!(rt; picks[0].name.as_str(), "1.0");
     assert_eq!(rt; picks[0].rank, 1);
@@ -43,29 +48,33 @@ fn with_pass(alloc: Global) -> Result<Tables<MemStore>, Fail> {
     Ok(tables)
 }
 
+/// Whether the pass is there.
+fn is_there(alloc: Global, tables: &mut Tables<MemStore>, pass: &str) -> Result<bool, Fail> {
+    let found = tables.pass(alloc, &docs(alloc)?, &Token::parse(alloc, pass)?)?;
+    Ok(found.is_some_and(|row| row.pass.as_str() == pass))
+}
+
+/// How many passes the host has.
+fn count(alloc: Global, tables: &mut Tables<MemStore>) -> Result<usize, Fail> {
+    Ok(tables.pass_count(&docs(alloc)?)?)
+}
+
 #[test]
 fn a_pass_is_found(rt: HostRuntime) -> Result<(), Fail> {
     let alloc = rt.alloc();
-    let host = docs(alloc)?;
     let mut tables = with_pass(alloc)?;
-    let found = tables.pass(alloc, &host, &Token::parse(alloc, "p1")?)?;
-    assert!(rt; found.is_some_and(|row| row.pass.as_str() == "p1"));
-    assert!(rt;
-        tables
-            .pass(alloc, &host, &Token::parse(alloc, "p2")?)?
-            .is_none()
-    );
-    assert_eq!(rt; tables.pass_count(&host)?, 1);
+    assert!(rt; is_there(alloc, &mut tables, "p1")?);
+    assert!(rt; !is_there(alloc, &mut tables, "p2")?);
+    assert_eq!(rt; count(alloc, &mut tables)?, 1);
     Ok(())
 }
 
 #[test]
 fn a_pass_is_dropped(rt: HostRuntime) -> Result<(), Fail> {
     let alloc = rt.alloc();
-    let host = docs(alloc)?;
     let mut tables = with_pass(alloc)?;
-    tables.drop_pass(&host, &Token::parse(alloc, "p1")?)?;
-    assert_eq!(rt; tables.pass_count(&host)?, 0);
+    tables.drop_pass(&docs(alloc)?, &Token::parse(alloc, "p1")?)?;
+    assert_eq!(rt; count(alloc, &mut tables)?, 0);
     Ok(())
 }
 
@@ -140,10 +149,8 @@ fn grants_of_a_pass_are_dropped(rt: HostRuntime) -> Result<(), Fail> {
 #[test]
 fn a_version_is_dropped(rt: HostRuntime) -> Result<(), Fail> {
     let alloc = rt.alloc();
-    let host = docs(alloc)?;
-    let mut tables = Tables::in_memory(alloc)?;
-    tables.put_version(&version(alloc, "1.0", false)?)?;
-    tables.drop_version(&host, &Slug::parse(alloc, "1.0")?)?;
-    assert!(rt; tables.versions(alloc, &host)?.is_empty());
+    let mut tables = versioned(alloc, &[("1.0", false)])?;
+    tables.drop_version(&docs(alloc)?, &Slug::parse(alloc, "1.0")?)?;
+    assert!(rt; listed(alloc, &mut tables)?.is_empty());
     Ok(())
 }

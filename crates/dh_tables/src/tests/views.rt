@@ -181,13 +181,48 @@ fn same_page(a: &Option<Page>, b: &Option<Page>) -> bool {
     }
 }
 
+// The calls of a lookup, of whose clauses a test needs none: they stay out of its proof.
+
+fn default_of<L: Lookup>(alloc: Global, lookup: &mut L) -> Result<Option<Text>, Fail> {
+    Ok(lookup.default(alloc)?)
+}
+
+fn langs_of<L: Lookup>(alloc: Global, lookup: &mut L) -> Result<Vec<Lang>, Fail> {
+    Ok(lookup.langs(alloc)?)
+}
+
+fn listing_of<L: Lookup>(alloc: Global, lookup: &mut L) -> Result<Vec<Version>, Fail> {
+    Ok(lookup.listing(alloc)?)
+}
+
+fn name_in<L: Lookup>(alloc: Global, lookup: &mut L, name: &str) -> Result<Option<Named>, Fail> {
+    Ok(lookup.name(alloc, name)?)
+}
+
+/// The English page of a version at a path.
+fn page_in<L: Lookup>(
+    alloc: Global,
+    lookup: &mut L,
+    slug: &str,
+    path: &str,
+) -> Result<Option<Page>, Fail> {
+    let lang = Lang::parse(alloc, "en")?;
+    Ok(lookup.page(alloc, &lang, &Slug::parse(alloc, slug)?, path)?)
+}
+
 /// Whether both show a project, with the same default, languages and versions.
 fn same_project<A: Lookup, B: Lookup>(alloc: Global, a: &mut A, b: &mut B) -> Result<bool, Fail> {
     Ok(
         a.known()? == b.known()?
-            && same_text(&a.default(alloc)?, &b.default(alloc)?)
-            && same_langs(a.langs(alloc)?.as_slice(), b.langs(alloc)?.as_slice())
-            && same_versions(a.listing(alloc)?.as_slice(), b.listing(alloc)?.as_slice()),
+            && same_text(&default_of(alloc, a)?, &default_of(alloc, b)?)
+            && same_langs(
+                langs_of(alloc, a)?.as_slice(),
+                langs_of(alloc, b)?.as_slice(),
+            )
+            && same_versions(
+                listing_of(alloc, a)?.as_slice(),
+                listing_of(alloc, b)?.as_slice(),
+            ),
     )
 }
 
@@ -205,14 +240,13 @@ fn same_names<A: Lookup, B: Lookup>(alloc: Global, a: &mut A, b: &mut B) -> Resu
         "stable",
         "not a slug",
     ] {
-        same = same && same_named(&a.name(alloc, name)?, &b.name(alloc, name)?);
+        same = same && same_named(&name_in(alloc, a, name)?, &name_in(alloc, b, name)?);
     }
     Ok(same)
 }
 
 /// Whether both give the same page at each path.
 fn same_pages<A: Lookup, B: Lookup>(alloc: Global, a: &mut A, b: &mut B) -> Result<bool, Fail> {
-    let lang = Lang::parse(alloc, "en")?;
     let mut same = true;
     for (slug, path) in [
         ("main", "index.html"),
@@ -222,11 +256,10 @@ fn same_pages<A: Lookup, B: Lookup>(alloc: Global, a: &mut A, b: &mut B) -> Resu
         ("2.0.0", "index.html"),
         ("3.0.0", "index.html"),
     ] {
-        let slug = Slug::parse(alloc, slug)?;
         same = same
             && same_page(
-                &a.page(alloc, &lang, &slug, path)?,
-                &b.page(alloc, &lang, &slug, path)?,
+                &page_in(alloc, a, slug, path)?,
+                &page_in(alloc, b, slug, path)?,
             );
     }
     Ok(same)
@@ -283,17 +316,15 @@ fn open(alloc: Global, tables: &mut Tables<MemStore>) -> Result<(), Fail> {
 /// The default under docs.test, what `stable` stands for there, and whether 2.0.0 shows a page, as one text.
 fn told(alloc: Global, tables: &mut Tables<MemStore>, pass: Option<Token>) -> Result<Text, Fail> {
     let mut view = View::new(tables, Some(docs(alloc)?), pass);
-    let chosen = match view.default(alloc)? {
+    let chosen = match default_of(alloc, &mut view)? {
         Some(name) => name,
         None => Text::copy_of(alloc, "-")?,
     };
-    let stable = match view.name(alloc, "stable")? {
+    let stable = match name_in(alloc, &mut view, "stable")? {
         Some(named) => Text::copy_of(alloc, named.slug.as_str())?,
         None => Text::copy_of(alloc, "-")?,
     };
-    let lang = Lang::parse(alloc, "en")?;
-    let slug = Slug::parse(alloc, "2.0.0")?;
-    let shown = view.page(alloc, &lang, &slug, "index.html")?.is_some();
+    let shown = page_in(alloc, &mut view, "2.0.0", "index.html")?.is_some();
     let _tables = view.close();
     let text = format!(in alloc; "{} {} {shown}", chosen.as_str(), stable.as_str())?;
     Ok(Text::copy_of(alloc, text.as_str())?)
