@@ -116,8 +116,21 @@ fn apply(alloc: Global, desk: &mut Desk<MemStore>, command: &Command) -> Result<
     desk.apply(alloc, command)
 }
 
-fn is_done(alloc: Global, desk: &mut Desk<MemStore>, command: &Command) -> bool {
-    matches!(apply(alloc, desk, command), Ok(Answer::Done))
+/// Why a command is refused.
+fn refusal(alloc: Global, desk: &mut Desk<MemStore>, command: Command) -> Option<Refusal> {
+    apply(alloc, desk, &command).err()
+}
+
+fn is_done(alloc: Global, desk: &mut Desk<MemStore>, command: Command) -> bool {
+    matches!(apply(alloc, desk, &command), Ok(Answer::Done))
+}
+
+/// Whether an upload of one page is stored.
+fn is_stored(alloc: Global, desk: &mut Desk<MemStore>, command: Command) -> bool {
+    matches!(
+        apply(alloc, desk, &command),
+        Ok(Answer::Stored { pages: 1 })
+    )
 }
 
 /// A desk with a project, and with its default branch pushed.
@@ -145,13 +158,25 @@ fn get(alloc: Global, desk: &mut Desk<MemStore>, path: &str) -> Result<Reply, Fa
 fn a_project_is_made_once(rt: HostRuntime) -> Result<(), Fail> {
     let alloc = rt.alloc();
     let mut desk = empty_desk(alloc)?;
-    let early = apply(alloc, &mut desk, &add_lang(alloc, "fr")?);
-    assert!(rt; matches!(early, Err(Refusal::NoProject)));
-    assert!(rt; is_done(alloc, &mut desk, &new_project(alloc, "docs.test")?));
-    let second = apply(alloc, &mut desk, &new_project(alloc, "docs.test")?);
-    assert!(rt; matches!(second, Err(Refusal::ProjectTaken)));
-    let capital = apply(alloc, &mut desk, &new_project(alloc, "Docs_Test")?);
-    assert!(rt; matches!(capital, Err(Refusal::BadHost)));
+    assert!(rt;
+        matches!(
+            refusal(alloc, &mut desk, add_lang(alloc, "fr")?),
+            Some(Refusal::NoProject)
+        )
+    );
+    assert!(rt; is_done(alloc, &mut desk, new_project(alloc, "docs.test")?));
+    assert!(rt;
+        matches!(
+            refusal(alloc, &mut desk, new_project(alloc, "docs.test")?),
+            Some(Refusal::ProjectTaken)
+        )
+    );
+    assert!(rt;
+        matches!(
+            refusal(alloc, &mut desk, new_project(alloc, "Docs_Test")?),
+            Some(Refusal::BadHost)
+        )
+    );
     Ok(())
 }
 
@@ -159,13 +184,25 @@ fn a_project_is_made_once(rt: HostRuntime) -> Result<(), Fail> {
 fn a_language_is_added_once(rt: HostRuntime) -> Result<(), Fail> {
     let alloc = rt.alloc();
     let mut desk = pushed_desk(alloc)?;
-    assert!(rt; is_done(alloc, &mut desk, &add_lang(alloc, "fr")?));
-    let second = apply(alloc, &mut desk, &add_lang(alloc, "fr")?);
-    assert!(rt; matches!(second, Err(Refusal::LangTaken)));
-    let main = apply(alloc, &mut desk, &add_lang(alloc, "en")?);
-    assert!(rt; matches!(main, Err(Refusal::LangTaken)));
-    let page = apply(alloc, &mut desk, &add_lang(alloc, "page")?);
-    assert!(rt; matches!(page, Err(Refusal::BadLang)));
+    assert!(rt; is_done(alloc, &mut desk, add_lang(alloc, "fr")?));
+    assert!(rt;
+        matches!(
+            refusal(alloc, &mut desk, add_lang(alloc, "fr")?),
+            Some(Refusal::LangTaken)
+        )
+    );
+    assert!(rt;
+        matches!(
+            refusal(alloc, &mut desk, add_lang(alloc, "en")?),
+            Some(Refusal::LangTaken)
+        )
+    );
+    assert!(rt;
+        matches!(
+            refusal(alloc, &mut desk, add_lang(alloc, "page")?),
+            Some(Refusal::BadLang)
+        )
+    );
     Ok(())
 }
 
@@ -175,11 +212,14 @@ fn thirty_languages_are_enough(rt: HostRuntime) -> Result<(), Fail> {
     let mut desk = pushed_desk(alloc)?;
     for n in 1u32..30u32 {
         let lang = format!(in alloc; "x{n}")?;
-        let added = apply(alloc, &mut desk, &add_lang(alloc, lang.as_str())?);
-        assert!(rt; matches!(added, Ok(Answer::Done)));
+        assert!(rt; is_done(alloc, &mut desk, add_lang(alloc, lang.as_str())?));
     }
-    let more = apply(alloc, &mut desk, &add_lang(alloc, "fr")?);
-    assert!(rt; matches!(more, Err(Refusal::TooMany)));
+    assert!(rt;
+        matches!(
+            refusal(alloc, &mut desk, add_lang(alloc, "fr")?),
+            Some(Refusal::TooMany)
+        )
+    );
     Ok(())
 }
 
@@ -222,7 +262,7 @@ fn a_push_makes_a_version_once(rt: HostRuntime) -> Result<(), Fail> {
     let known = push(alloc, "wkey-1", "k2", Kind::Branch, "main")?;
     assert!(rt; matches!(apply(alloc, &mut desk, &known), Ok(Answer::Known { .. })));
     let tag = push(alloc, "wkey-1", "k3", Kind::Tag, "main")?;
-    assert!(rt; matches!(apply(alloc, &mut desk, &tag), Err(Refusal::SlugTaken)));
+    assert!(rt; matches!(refusal(alloc, &mut desk, tag), Some(Refusal::SlugTaken)));
     let other = push(alloc, "wkey-1", "k1", Kind::Tag, "Release/1.0")?;
     assert!(rt; is_made(&apply(alloc, &mut desk, &other), "release-1.0", false));
     Ok(())
@@ -233,11 +273,11 @@ fn a_push_is_refused_for_its_texts_and_key(rt: HostRuntime) -> Result<(), Fail> 
     let alloc = rt.alloc();
     let mut desk = pushed_desk(alloc)?;
     let stranger = push(alloc, "nokey", "k2", Kind::Branch, "main")?;
-    assert!(rt; matches!(apply(alloc, &mut desk, &stranger), Err(Refusal::WrongKey)));
+    assert!(rt; matches!(refusal(alloc, &mut desk, stranger), Some(Refusal::WrongKey)));
     let keyless = push(alloc, "wkey-1", "k@", Kind::Branch, "main")?;
-    assert!(rt; matches!(apply(alloc, &mut desk, &keyless), Err(Refusal::BadKey)));
+    assert!(rt; matches!(refusal(alloc, &mut desk, keyless), Some(Refusal::BadKey)));
     let slugless = push(alloc, "wkey-1", "k2", Kind::Branch, "///")?;
-    assert!(rt; matches!(apply(alloc, &mut desk, &slugless), Err(Refusal::BadRef)));
+    assert!(rt; matches!(refusal(alloc, &mut desk, slugless), Some(Refusal::BadRef)));
     Ok(())
 }
 
@@ -246,23 +286,13 @@ fn an_upload_is_stored_once(rt: HostRuntime) -> Result<(), Fail> {
     let alloc = rt.alloc();
     let mut desk = pushed_desk(alloc)?;
     let first = upload(alloc, "u1", "en", "a.html", "aaa", false)?;
-    assert!(rt;
-        matches!(
-            apply(alloc, &mut desk, &first),
-            Ok(Answer::Stored { pages: 1 })
-        )
-    );
+    assert!(rt; is_stored(alloc, &mut desk, first));
     assert_eq!(rt;
         get(alloc, &mut desk, "/en/latest/a.html")?.body.as_slice(),
         b"aaa".as_slice()
     );
     let again = upload(alloc, "u1", "en", "a.html", "bbbb", false)?;
-    assert!(rt;
-        matches!(
-            apply(alloc, &mut desk, &again),
-            Ok(Answer::Stored { pages: 1 })
-        )
-    );
+    assert!(rt; is_stored(alloc, &mut desk, again));
     assert_eq!(rt;
         get(alloc, &mut desk, "/en/latest/a.html")?.body.as_slice(),
         b"aaa".as_slice()
@@ -275,18 +305,14 @@ fn an_upload_replaces_its_language_alone(rt: HostRuntime) -> Result<(), Fail> {
     let alloc = rt.alloc();
     let mut desk = pushed_desk(alloc)?;
     let unspoken = upload(alloc, "u1", "fr", "a.html", "aaa", false)?;
-    assert!(rt; matches!(apply(alloc, &mut desk, &unspoken), Err(Refusal::NoLang)));
-    assert!(rt; apply(alloc, &mut desk, &add_lang(alloc, "fr")?).is_ok());
-    assert!(rt;
-        matches!(
-            apply(alloc, &mut desk, &unspoken),
-            Ok(Answer::Stored { pages: 1 })
-        )
-    );
+    assert!(rt; matches!(refusal(alloc, &mut desk, unspoken), Some(Refusal::NoLang)));
+    assert!(rt; is_done(alloc, &mut desk, add_lang(alloc, "fr")?));
+    let french = upload(alloc, "u1", "fr", "a.html", "aaa", false)?;
+    assert!(rt; is_stored(alloc, &mut desk, french));
     let english = upload(alloc, "u2", "en", "a.html", "aaa", false)?;
-    assert!(rt; apply(alloc, &mut desk, &english).is_ok());
+    assert!(rt; is_stored(alloc, &mut desk, english));
     let other = upload(alloc, "u3", "en", "b.html", "b", true)?;
-    assert!(rt; apply(alloc, &mut desk, &other).is_ok());
+    assert!(rt; is_stored(alloc, &mut desk, other));
     assert_eq!(rt; get(alloc, &mut desk, "/en/latest/b.html")?.status, 200);
     assert_eq!(rt; get(alloc, &mut desk, "/en/latest/a.html")?.status, 404);
     assert_eq!(rt; get(alloc, &mut desk, "/fr/latest/a.html")?.status, 200);
@@ -338,11 +364,11 @@ fn deactivation_removes_pages(rt: HostRuntime) -> Result<(), Fail> {
     let mut desk = paged_desk(alloc)?;
     assert_eq!(rt; get(alloc, &mut desk, "/en/main/a.html")?.status, 200);
     let off = deactivate(alloc, "main")?;
-    assert!(rt; is_done(alloc, &mut desk, &off));
+    assert!(rt; is_done(alloc, &mut desk, off));
     let late = upload(alloc, "u2", "en", "a.html", "aaa", false)?;
-    assert!(rt; matches!(apply(alloc, &mut desk, &late), Err(Refusal::Inactive)));
+    assert!(rt; matches!(refusal(alloc, &mut desk, late), Some(Refusal::Inactive)));
     let on = activate(alloc, "main")?;
-    assert!(rt; is_done(alloc, &mut desk, &on));
+    assert!(rt; is_done(alloc, &mut desk, on));
     assert_eq!(rt; get(alloc, &mut desk, "/en/main/a.html")?.status, 404);
     Ok(())
 }
@@ -363,13 +389,25 @@ fn properties_are_set(rt: HostRuntime) -> Result<(), Fail> {
 fn a_version_that_is_missing_is_refused(rt: HostRuntime) -> Result<(), Fail> {
     let alloc = rt.alloc();
     let mut desk = empty_desk(alloc)?;
-    let early = apply(alloc, &mut desk, &activate(alloc, "main")?);
-    assert!(rt; matches!(early, Err(Refusal::NoProject)));
-    assert!(rt; apply(alloc, &mut desk, &new_project(alloc, "docs.test")?).is_ok());
-    let missing = apply(alloc, &mut desk, &deactivate(alloc, "9.9")?);
-    assert!(rt; matches!(missing, Err(Refusal::NoVersion)));
-    let none = apply(alloc, &mut desk, &activate(alloc, "-x")?);
-    assert!(rt; matches!(none, Err(Refusal::BadRef)));
+    assert!(rt;
+        matches!(
+            refusal(alloc, &mut desk, activate(alloc, "main")?),
+            Some(Refusal::NoProject)
+        )
+    );
+    assert!(rt; is_done(alloc, &mut desk, new_project(alloc, "docs.test")?));
+    assert!(rt;
+        matches!(
+            refusal(alloc, &mut desk, deactivate(alloc, "9.9")?),
+            Some(Refusal::NoVersion)
+        )
+    );
+    assert!(rt;
+        matches!(
+            refusal(alloc, &mut desk, activate(alloc, "-x")?),
+            Some(Refusal::BadRef)
+        )
+    );
     Ok(())
 }
 
@@ -382,18 +420,19 @@ fn a_connection_is_handed_back(rt: HostRuntime) -> Result<(), Fail> {
     Ok(())
 }
 
-/// The answer to a command. Where it is want of memory, nothing has changed, as `/` shows, and the command is done again.
+/// The answer to a command. Where it is want of memory, nothing has changed, as the status of a path shows, and the command is done again.
 fn done_again(
     alloc: Global,
     desk: &mut Desk<MemStore>,
     command: &Command,
+    path: &str,
     before: u16,
 ) -> Result<Result<Answer, Refusal>, Fail> {
     let answer = apply(alloc, desk, command);
     if !matches!(answer, Err(Refusal::OutOfMemory)) {
         return Ok(answer);
     }
-    if get(alloc, desk, "/")?.status != before {
+    if get(alloc, desk, path)?.status != before {
         return Err(Fail::from(Fault::Store));
     }
     Ok(apply(alloc, desk, command))
@@ -401,19 +440,19 @@ fn done_again(
 
 fn is_project_made(alloc: Global, desk: &mut Desk<MemStore>) -> Result<bool, Fail> {
     let command = new_project(alloc, "docs.test")?;
-    let answer = done_again(alloc, desk, &command, 404)?;
+    let answer = done_again(alloc, desk, &command, "/", 404)?;
     Ok(matches!(answer, Ok(Answer::Done)))
 }
 
 fn is_main_pushed(alloc: Global, desk: &mut Desk<MemStore>) -> Result<bool, Fail> {
     let command = push(alloc, "wkey-1", "k1", Kind::Branch, "main")?;
-    let answer = done_again(alloc, desk, &command, 404)?;
+    let answer = done_again(alloc, desk, &command, "/", 404)?;
     Ok(is_made(&answer, "main", true))
 }
 
 fn are_pages_stored(alloc: Global, desk: &mut Desk<MemStore>) -> Result<bool, Fail> {
     let command = replacing(alloc)?;
-    let answer = done_again(alloc, desk, &command, 302)?;
+    let answer = done_again(alloc, desk, &command, "/en/latest/", 404)?;
     Ok(matches!(answer, Ok(Answer::Stored { pages: 2 })))
 }
 

@@ -61,9 +61,15 @@ fn counts(alloc: Global, tables: &mut Tables<MemStore>) -> Result<(usize, usize,
     Ok((projects, langs, tables.versions(alloc, &host)?.len()))
 }
 
-/// A transaction in which nothing is done, kept or undone.
-fn turn(tables: &mut Tables<MemStore>, keeps: bool) -> Result<(), Fail> {
+/// A transaction in which a version is put, kept or undone.
+fn put_within(
+    alloc: Global,
+    tables: &mut Tables<MemStore>,
+    slug: &str,
+    keeps: bool,
+) -> Result<(), Fail> {
     tables.begin()?;
+    tables.put_version(&version(alloc, slug, false)?)?;
     if keeps {
         tables.commit()?;
     } else {
@@ -77,10 +83,20 @@ fn new_tables_hold_nothing(rt: HostRuntime) -> Result<(), Fail> {
     let alloc = rt.alloc();
     let mut tables = Tables::in_memory(alloc)?;
     assert!(rt; counts(alloc, &mut tables)? == (0, 0, 0));
-    turn(&mut tables, true)?;
-    turn(&mut tables, false)?;
+    Ok(())
+}
+
+#[test]
+fn a_transaction_is_kept_or_undone(rt: HostRuntime) -> Result<(), Fail> {
+    let alloc = rt.alloc();
+    let mut tables = Tables::in_memory(alloc)?;
+    put_within(alloc, &mut tables, "1.0", false)?;
     tables.back()?;
     assert!(rt; counts(alloc, &mut tables)? == (0, 0, 0));
+    put_within(alloc, &mut tables, "1.0", true)?;
+    put_within(alloc, &mut tables, "2.0", false)?;
+    assert!(rt; counts(alloc, &mut tables)? == (0, 0, 1));
+    assert!(rt; found(alloc, &mut tables, "1.0")?.is_some());
     Ok(())
 }
 
@@ -221,6 +237,12 @@ fn found(
     Ok(tables.version(alloc, &docs(alloc)?, &Slug::parse(alloc, slug)?)?)
 }
 
+/// Whether a text is the slug of a version.
+fn is_named(alloc: Global, tables: &mut Tables<MemStore>, name: &str) -> Result<bool, Fail> {
+    let found = tables.version_named(alloc, &docs(alloc)?, name)?;
+    Ok(found.is_some_and(|row| row.version.slug.as_str() == name))
+}
+
 #[test]
 fn versions_are_put_and_read(rt: HostRuntime) -> Result<(), Fail> {
     let alloc = rt.alloc();
@@ -232,6 +254,8 @@ fn versions_are_put_and_read(rt: HostRuntime) -> Result<(), Fail> {
     let last = found(alloc, &mut tables, "2.0")?;
     assert!(rt; last.is_some_and(|row| row.version.hidden && row.version.kind == Kind::Tag));
     assert!(rt; found(alloc, &mut tables, "3.0")?.is_none());
+    assert!(rt; is_named(alloc, &mut tables, "1.0")?);
+    assert!(rt; !is_named(alloc, &mut tables, "no slug")?);
     Ok(())
 }
 
@@ -279,13 +303,24 @@ fn pages_of_a_version_are_dropped(rt: HostRuntime) -> Result<(), Fail> {
     Ok(())
 }
 
+/// Our tables beside the one that a statement makes.
+fn created(alloc: Global, sql: &str) -> Result<Result<Tables<MemStore>, TablesFault>, Fail> {
+    let mut conn = Connection::open_in_memory(alloc)?;
+    conn.execute(sql, &[])?;
+    Ok(Tables::create(conn).map_err(|(fault, _)| fault))
+}
+
 #[test]
 fn taken_names_are_refused(rt: HostRuntime) -> Result<(), Fail> {
-    let mut conn = Connection::open_in_memory(rt.alloc())?;
-    conn.execute("CREATE TABLE Page (id INTEGER PRIMARY KEY) STRICT", &[])?;
-    assert!(rt; matches!(Tables::create(conn), Err((TablesFault::NotOurs, _))));
-    let mut conn = Connection::open_in_memory(rt.alloc())?;
-    conn.execute("CREATE TABLE other (id INTEGER PRIMARY KEY) STRICT", &[])?;
-    assert!(rt; Tables::create(conn).is_ok());
+    let alloc = rt.alloc();
+    let taken = created(alloc, "CREATE TABLE Page (id INTEGER PRIMARY KEY) STRICT")?;
+    assert!(rt; matches!(taken, Err(TablesFault::NotOurs)));
+    match created(alloc, "CREATE TABLE other (id INTEGER PRIMARY KEY) STRICT")? {
+        Ok(tables) => {
+            let mut tables = tables;
+            assert!(rt; counts(alloc, &mut tables)? == (0, 0, 0));
+        }
+        Err(_) => assert!(rt; false, "refused"),
+    }
     Ok(())
 }

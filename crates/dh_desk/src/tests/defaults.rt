@@ -1,8 +1,8 @@
 use super::{
-    activate, apply, deactivate, empty_desk, get, is_done, is_made, new_project, push, pushed_desk,
+    activate, apply, deactivate, empty_desk, get, is_done, is_made, push, pushed_desk, refusal,
     version,
 };
-use crate::{Answer, Command, Desk, Refusal};
+use crate::{Command, Desk, Refusal};
 use dh_reply::Fault;
 use dh_versions::Kind;
 use sqlite::MemStore;
@@ -54,7 +54,7 @@ fn leads_to(alloc: Global, desk: &mut Desk<MemStore>, to: &str) -> Result<bool, 
 fn comes_back(alloc: Global, desk: &mut Desk<MemStore>, name: &str) -> Result<bool, Fail> {
     let again = push(alloc, "wkey-1", "k2", Kind::Tag, name)?;
     let made = apply(alloc, desk, &again);
-    Ok(is_made(&made, name, false) && is_done(alloc, desk, &activate(alloc, name)?))
+    Ok(is_made(&made, name, false) && is_done(alloc, desk, activate(alloc, name)?))
 }
 
 #[test]
@@ -62,9 +62,9 @@ fn a_default_waits_while_its_version_is_inactive(rt: HostRuntime) -> Result<(), 
     let alloc = rt.alloc();
     let mut desk = tagged_desk(alloc)?;
     assert!(rt; leads_to(alloc, &mut desk, "/en/1.0.0/")?);
-    assert!(rt; is_done(alloc, &mut desk, &deactivate(alloc, "1.0.0")?));
+    assert!(rt; is_done(alloc, &mut desk, deactivate(alloc, "1.0.0")?));
     assert!(rt; leads_to(alloc, &mut desk, "/en/latest/")?);
-    assert!(rt; is_done(alloc, &mut desk, &activate(alloc, "1.0.0")?));
+    assert!(rt; is_done(alloc, &mut desk, activate(alloc, "1.0.0")?));
     assert!(rt; leads_to(alloc, &mut desk, "/en/1.0.0/")?);
     Ok(())
 }
@@ -73,7 +73,7 @@ fn a_default_waits_while_its_version_is_inactive(rt: HostRuntime) -> Result<(), 
 fn a_version_that_is_gone_is_no_default(rt: HostRuntime) -> Result<(), Fail> {
     let alloc = rt.alloc();
     let mut desk = tagged_desk(alloc)?;
-    assert!(rt; is_done(alloc, &mut desk, &gone(alloc, "1.0.0")?));
+    assert!(rt; is_done(alloc, &mut desk, gone(alloc, "1.0.0")?));
     assert!(rt; comes_back(alloc, &mut desk, "1.0.0")?);
     assert!(rt; leads_to(alloc, &mut desk, "/en/latest/")?);
     Ok(())
@@ -85,9 +85,9 @@ fn the_last_default_that_was_set_is_first(rt: HostRuntime) -> Result<(), Fail> {
     let mut desk = tagged_desk(alloc)?;
     choose_tag(alloc, &mut desk, "2.0.0")?;
     assert!(rt; leads_to(alloc, &mut desk, "/en/2.0.0/")?);
-    assert!(rt; is_done(alloc, &mut desk, &set_default(alloc, "1.0.0")?));
+    assert!(rt; is_done(alloc, &mut desk, set_default(alloc, "1.0.0")?));
     assert!(rt; leads_to(alloc, &mut desk, "/en/1.0.0/")?);
-    assert!(rt; is_done(alloc, &mut desk, &gone(alloc, "1.0.0")?));
+    assert!(rt; is_done(alloc, &mut desk, gone(alloc, "1.0.0")?));
     assert!(rt; leads_to(alloc, &mut desk, "/en/2.0.0/")?);
     Ok(())
 }
@@ -95,15 +95,34 @@ fn the_last_default_that_was_set_is_first(rt: HostRuntime) -> Result<(), Fail> {
 #[test]
 fn a_default_is_an_alias_or_an_active_version(rt: HostRuntime) -> Result<(), Fail> {
     let alloc = rt.alloc();
-    let mut desk = empty_desk(alloc)?;
-    let stable = set_default(alloc, "stable")?;
-    assert!(rt; matches!(apply(alloc, &mut desk, &stable), Err(Refusal::NoProject)));
-    assert!(rt; is_done(alloc, &mut desk, &new_project(alloc, "docs.test")?));
-    assert!(rt; is_done(alloc, &mut desk, &stable));
-    let tag = set_default(alloc, "2.0")?;
-    assert!(rt; matches!(apply(alloc, &mut desk, &tag), Err(Refusal::NoVersion)));
+    let mut desk = pushed_desk(alloc)?;
+    assert!(rt; is_done(alloc, &mut desk, set_default(alloc, "stable")?));
+    assert!(rt;
+        matches!(
+            refusal(alloc, &mut desk, set_default(alloc, "2.0")?),
+            Some(Refusal::NoVersion)
+        )
+    );
     let made = push(alloc, "wkey-1", "k1", Kind::Tag, "2.0")?;
     assert!(rt; is_made(&apply(alloc, &mut desk, &made), "2.0", false));
-    assert!(rt; matches!(apply(alloc, &mut desk, &tag), Err(Refusal::Inactive)));
+    assert!(rt;
+        matches!(
+            refusal(alloc, &mut desk, set_default(alloc, "2.0")?),
+            Some(Refusal::Inactive)
+        )
+    );
+    Ok(())
+}
+
+#[test]
+fn a_default_needs_its_project(rt: HostRuntime) -> Result<(), Fail> {
+    let alloc = rt.alloc();
+    let mut desk = empty_desk(alloc)?;
+    assert!(rt;
+        matches!(
+            refusal(alloc, &mut desk, set_default(alloc, "stable")?),
+            Some(Refusal::NoProject)
+        )
+    );
     Ok(())
 }

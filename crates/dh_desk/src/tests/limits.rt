@@ -1,7 +1,7 @@
 //! The largest page.
 
-use super::{activate, apply, deactivate, get, is_done, pushed_desk, text};
-use crate::{Answer, Command, Desk, Pages, Refusal, UploadedPage};
+use super::{activate, deactivate, get, is_done, is_stored, pushed_desk, refusal, text};
+use crate::{Command, Desk, Pages, Refusal, UploadedPage};
 use dh_paths::Bytes;
 use sqlite::MemStore;
 use std::alloc::Global;
@@ -38,15 +38,10 @@ fn a_page_of_1048576_bytes_is_stored(rt: HostRuntime) -> Result<(), Fail> {
     let alloc = rt.alloc();
     let mut desk = pushed_desk(alloc)?;
     let largest = upload_of(alloc, 1_048_576)?;
-    assert!(rt;
-        matches!(
-            apply(alloc, &mut desk, &largest),
-            Ok(Answer::Stored { pages: 1 })
-        )
-    );
+    assert!(rt; is_stored(alloc, &mut desk, largest));
     assert!(rt; shows(alloc, &mut desk, 1_048_576)?);
-    assert!(rt; is_done(alloc, &mut desk, &deactivate(alloc, "main")?));
-    assert!(rt; is_done(alloc, &mut desk, &activate(alloc, "main")?));
+    assert!(rt; is_done(alloc, &mut desk, deactivate(alloc, "main")?));
+    assert!(rt; is_done(alloc, &mut desk, activate(alloc, "main")?));
     assert_eq!(rt; get(alloc, &mut desk, "/en/main/")?.status, 404);
     Ok(())
 }
@@ -56,7 +51,7 @@ fn a_page_of_one_byte_more_is_refused(rt: HostRuntime) -> Result<(), Fail> {
     let alloc = rt.alloc();
     let mut desk = pushed_desk(alloc)?;
     let larger = upload_of(alloc, 1_048_577)?;
-    assert!(rt; matches!(apply(alloc, &mut desk, &larger), Err(Refusal::BadPage)));
+    assert!(rt; matches!(refusal(alloc, &mut desk, larger), Some(Refusal::BadPage)));
     assert_eq!(rt; get(alloc, &mut desk, "/en/main/")?.status, 404);
     Ok(())
 }

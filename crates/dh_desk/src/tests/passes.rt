@@ -1,7 +1,10 @@
 //! Passes, and what they open.
 
-use super::{activate, apply, empty_desk, is_done, new_project, push, pushed_desk, text, version};
-use crate::{Answer, Command, Desk, Refusal};
+use super::{
+    activate, apply, empty_desk, get, is_done, new_project, push, pushed_desk, refusal, text,
+    version,
+};
+use crate::{Command, Desk, Refusal};
 use dh_paths::Text;
 use dh_reply::{Fault, Read};
 use dh_versions::Kind;
@@ -66,13 +69,25 @@ fn opens(alloc: Global, desk: &mut Desk<MemStore>, pass: &str) -> Result<bool, F
 fn a_pass_is_added_and_dropped_once(rt: HostRuntime) -> Result<(), Fail> {
     let alloc = rt.alloc();
     let mut desk = empty_desk(alloc)?;
-    let early = apply(alloc, &mut desk, &add_pass(alloc, "reader-7")?);
-    assert!(rt; matches!(early, Err(Refusal::NoProject)));
-    let none = apply(alloc, &mut desk, &drop_pass(alloc, "reader-7")?);
-    assert!(rt; matches!(none, Err(Refusal::NoProject)));
-    assert!(rt; is_done(alloc, &mut desk, &new_project(alloc, "docs.test")?));
-    let missing = apply(alloc, &mut desk, &drop_pass(alloc, "reader-7")?);
-    assert!(rt; matches!(missing, Err(Refusal::NoPass)));
+    assert!(rt;
+        matches!(
+            refusal(alloc, &mut desk, add_pass(alloc, "reader-7")?),
+            Some(Refusal::NoProject)
+        )
+    );
+    assert!(rt;
+        matches!(
+            refusal(alloc, &mut desk, drop_pass(alloc, "reader-7")?),
+            Some(Refusal::NoProject)
+        )
+    );
+    assert!(rt; is_done(alloc, &mut desk, new_project(alloc, "docs.test")?));
+    assert!(rt;
+        matches!(
+            refusal(alloc, &mut desk, drop_pass(alloc, "reader-7")?),
+            Some(Refusal::NoPass)
+        )
+    );
     Ok(())
 }
 
@@ -80,13 +95,21 @@ fn a_pass_is_added_and_dropped_once(rt: HostRuntime) -> Result<(), Fail> {
 fn a_pass_that_is_there_is_taken(rt: HostRuntime) -> Result<(), Fail> {
     let alloc = rt.alloc();
     let mut desk = pushed_desk(alloc)?;
-    assert!(rt; is_done(alloc, &mut desk, &add_pass(alloc, "reader-7")?));
-    let again = apply(alloc, &mut desk, &add_pass(alloc, "reader-7")?);
-    assert!(rt; matches!(again, Err(Refusal::PassTaken)));
-    assert!(rt; is_done(alloc, &mut desk, &drop_pass(alloc, "reader-7")?));
-    assert!(rt; is_done(alloc, &mut desk, &add_pass(alloc, "reader-7")?));
-    let blank = apply(alloc, &mut desk, &add_pass(alloc, "re@der")?);
-    assert!(rt; matches!(blank, Err(Refusal::BadToken)));
+    assert!(rt; is_done(alloc, &mut desk, add_pass(alloc, "reader-7")?));
+    assert!(rt;
+        matches!(
+            refusal(alloc, &mut desk, add_pass(alloc, "reader-7")?),
+            Some(Refusal::PassTaken)
+        )
+    );
+    assert!(rt; is_done(alloc, &mut desk, drop_pass(alloc, "reader-7")?));
+    assert!(rt; is_done(alloc, &mut desk, add_pass(alloc, "reader-7")?));
+    assert!(rt;
+        matches!(
+            refusal(alloc, &mut desk, add_pass(alloc, "re@der")?),
+            Some(Refusal::BadToken)
+        )
+    );
     Ok(())
 }
 
@@ -96,10 +119,14 @@ fn a_thousand_passes_are_enough(rt: HostRuntime) -> Result<(), Fail> {
     let mut desk = pushed_desk(alloc)?;
     for n in 0u32..1000u32 {
         let name = format!(in alloc; "p{n}")?;
-        assert!(rt; is_done(alloc, &mut desk, &add_pass(alloc, name.as_str())?));
+        assert!(rt; is_done(alloc, &mut desk, add_pass(alloc, name.as_str())?));
     }
-    let more = apply(alloc, &mut desk, &add_pass(alloc, "more")?);
-    assert!(rt; matches!(more, Err(Refusal::TooMany)));
+    assert!(rt;
+        matches!(
+            refusal(alloc, &mut desk, add_pass(alloc, "more")?),
+            Some(Refusal::TooMany)
+        )
+    );
     Ok(())
 }
 
@@ -108,12 +135,12 @@ fn a_grant_opens_its_version_to_its_pass(rt: HostRuntime) -> Result<(), Fail> {
     let alloc = rt.alloc();
     let mut desk = private_desk(alloc)?;
     assert!(rt; !opens(alloc, &mut desk, "reader-7")?);
-    assert!(rt; is_done(alloc, &mut desk, &grant(alloc, "reader-7", "1.0")?));
-    assert!(rt; is_done(alloc, &mut desk, &grant(alloc, "reader-7", "1.0")?));
+    assert!(rt; is_done(alloc, &mut desk, grant(alloc, "reader-7", "1.0")?));
+    assert!(rt; is_done(alloc, &mut desk, grant(alloc, "reader-7", "1.0")?));
     assert!(rt; opens(alloc, &mut desk, "reader-7")?);
     assert!(rt; !opens(alloc, &mut desk, "reader-8")?);
-    assert!(rt; is_done(alloc, &mut desk, &revoke(alloc, "reader-7", "1.0")?));
-    assert!(rt; is_done(alloc, &mut desk, &revoke(alloc, "reader-7", "1.0")?));
+    assert!(rt; is_done(alloc, &mut desk, revoke(alloc, "reader-7", "1.0")?));
+    assert!(rt; is_done(alloc, &mut desk, revoke(alloc, "reader-7", "1.0")?));
     assert!(rt; !opens(alloc, &mut desk, "reader-7")?);
     Ok(())
 }
@@ -122,9 +149,9 @@ fn a_grant_opens_its_version_to_its_pass(rt: HostRuntime) -> Result<(), Fail> {
 fn a_pass_that_comes_back_holds_nothing(rt: HostRuntime) -> Result<(), Fail> {
     let alloc = rt.alloc();
     let mut desk = private_desk(alloc)?;
-    assert!(rt; is_done(alloc, &mut desk, &grant(alloc, "reader-7", "1.0")?));
-    assert!(rt; is_done(alloc, &mut desk, &drop_pass(alloc, "reader-7")?));
-    assert!(rt; is_done(alloc, &mut desk, &add_pass(alloc, "reader-7")?));
+    assert!(rt; is_done(alloc, &mut desk, grant(alloc, "reader-7", "1.0")?));
+    assert!(rt; is_done(alloc, &mut desk, drop_pass(alloc, "reader-7")?));
+    assert!(rt; is_done(alloc, &mut desk, add_pass(alloc, "reader-7")?));
     assert!(rt; !opens(alloc, &mut desk, "reader-7")?);
     Ok(())
 }
@@ -133,10 +160,18 @@ fn a_pass_that_comes_back_holds_nothing(rt: HostRuntime) -> Result<(), Fail> {
 fn a_grant_needs_its_version_and_its_pass(rt: HostRuntime) -> Result<(), Fail> {
     let alloc = rt.alloc();
     let mut desk = private_desk(alloc)?;
-    let versionless = apply(alloc, &mut desk, &grant(alloc, "reader-8", "9.9")?);
-    assert!(rt; matches!(versionless, Err(Refusal::NoVersion)));
-    let passless = apply(alloc, &mut desk, &grant(alloc, "reader-8", "1.0")?);
-    assert!(rt; matches!(passless, Err(Refusal::NoPass)));
+    assert!(rt;
+        matches!(
+            refusal(alloc, &mut desk, grant(alloc, "reader-8", "9.9")?),
+            Some(Refusal::NoVersion)
+        )
+    );
+    assert!(rt;
+        matches!(
+            refusal(alloc, &mut desk, grant(alloc, "reader-8", "1.0")?),
+            Some(Refusal::NoPass)
+        )
+    );
     Ok(())
 }
 
@@ -144,9 +179,30 @@ fn a_grant_needs_its_version_and_its_pass(rt: HostRuntime) -> Result<(), Fail> {
 fn the_texts_of_a_grant_come_in_order(rt: HostRuntime) -> Result<(), Fail> {
     let alloc = rt.alloc();
     let mut desk = private_desk(alloc)?;
-    let worse = apply(alloc, &mut desk, &revoke(alloc, "re@der", "-x")?);
-    assert!(rt; matches!(worse, Err(Refusal::BadToken)));
-    let bad = apply(alloc, &mut desk, &revoke(alloc, "reader-7", "-x")?);
-    assert!(rt; matches!(bad, Err(Refusal::BadRef)));
+    assert!(rt;
+        matches!(
+            refusal(alloc, &mut desk, revoke(alloc, "re@der", "-x")?),
+            Some(Refusal::BadToken)
+        )
+    );
+    assert!(rt;
+        matches!(
+            refusal(alloc, &mut desk, revoke(alloc, "reader-7", "-x")?),
+            Some(Refusal::BadRef)
+        )
+    );
+    Ok(())
+}
+
+#[test]
+fn a_private_version_reads_like_none(rt: HostRuntime) -> Result<(), Fail> {
+    let alloc = rt.alloc();
+    let mut desk = private_desk(alloc)?;
+    let private = get(alloc, &mut desk, "/en/1.0/x")?;
+    let none = get(alloc, &mut desk, "/en/9.9/x")?;
+    assert_eq!(rt; private.status, 404);
+    assert_eq!(rt; none.status, 404);
+    assert!(rt; private.location.is_none() && none.location.is_none());
+    assert_eq!(rt; private.body.as_slice(), none.body.as_slice());
     Ok(())
 }

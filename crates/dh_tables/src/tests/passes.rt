@@ -108,6 +108,29 @@ fn grants(alloc: Global, tables: &mut Tables<MemStore>) -> Result<[bool; 3], Fai
     Ok(there)
 }
 
+/// How many versions a pass holds, and whether one of them is `2.0`.
+fn holdings(
+    alloc: Global,
+    tables: &mut Tables<MemStore>,
+    pass: &str,
+) -> Result<(usize, bool), Fail> {
+    let rows = tables.held_by(alloc, &docs(alloc)?, &Token::parse(alloc, pass)?)?;
+    Ok((
+        rows.len(),
+        rows.iter().any(|row| row.slug.as_str() == "2.0"),
+    ))
+}
+
+#[test]
+fn a_pass_has_its_grants_alone(rt: HostRuntime) -> Result<(), Fail> {
+    let alloc = rt.alloc();
+    let mut tables = granted(alloc)?;
+    assert!(rt; holdings(alloc, &mut tables, "p1")? == (2, true));
+    assert!(rt; holdings(alloc, &mut tables, "p2")? == (1, false));
+    assert!(rt; holdings(alloc, &mut tables, "p3")? == (0, false));
+    Ok(())
+}
+
 #[test]
 fn grants_are_held(rt: HostRuntime) -> Result<(), Fail> {
     let alloc = rt.alloc();

@@ -18,10 +18,10 @@ fn scripts_of_reads(rt: HostRuntime) -> Result<(), Fail> {
         "404 - 14\n"
     );
     let script =
-        b"new-project docs.test en main public wkey-1\npush docs.test wkey-1 k1 branch main\nget docs.test /?a=1\n";
+        b"new-project docs.test en main public wkey-1\nget docs.test /\npush docs.test wkey-1 k1 branch main\nget docs.test /?a=1\n";
     assert_eq!(rt;
         printed(alloc, script)?.as_str(),
-        "ok\nmade main active shown public\n302 /en/latest/?a=1 0\n"
+        "ok\n404 - 14\nmade main active shown public\n302 /en/latest/?a=1 0\n"
     );
     let script =
         b"get docs.test /page/%FF\nget docs.test http://other.test/\nget docs.test /page/%00";
@@ -131,6 +131,29 @@ fn scripts_that_are_refused(rt: HostRuntime) -> Result<(), Fail> {
     ] {
         assert_eq!(rt; printed_after(alloc, line)?.as_str(), wanted, "{line}");
     }
+    Ok(())
+}
+
+/// Whether so many lines of one beginning, each with a number, are all `ok`, and one more is one too many.
+fn is_full_after(alloc: Global, beginning: &str, count: u32) -> Result<bool, Fail> {
+    let mut lines = String::new(alloc);
+    for n in 0..count + 1 {
+        lines.push_str(format!(in alloc; "{beginning}{n}\n")?.as_str())?;
+    }
+    let printed = printed_after(alloc, lines.as_str())?;
+    Ok(
+        match printed.as_str().strip_suffix("refused 19 TooMany\n") {
+            Some(rest) => rest.lines().all(|line| line == "ok"),
+            None => false,
+        },
+    )
+}
+
+#[test]
+fn scripts_that_fill_a_project(rt: HostRuntime) -> Result<(), Fail> {
+    let alloc = rt.alloc();
+    assert!(rt; is_full_after(alloc, "add-lang docs.test x", 29)?);
+    assert!(rt; is_full_after(alloc, "add-pass docs.test p", 1000)?);
     Ok(())
 }
 
