@@ -134,10 +134,10 @@ fn scripts_that_are_refused(rt: HostRuntime) -> Result<(), Fail> {
     Ok(())
 }
 
-/// Whether so many lines of one beginning, each with a number, are all `ok`, and one more is one too many.
-fn is_full_after(alloc: Global, beginning: &str, count: u32) -> Result<bool, Fail> {
+/// Whether of so many lines of one beginning, each with a number, all are `ok` but the last, which is one too many.
+fn is_last_too_many(alloc: Global, beginning: &str, count: u32) -> Result<bool, Fail> {
     let mut lines = String::new(alloc);
-    for n in 0..count + 1 {
+    for n in 0..count {
         lines.push_str(format!(in alloc; "{beginning}{n}\n")?.as_str())?;
     }
     let printed = printed_after(alloc, lines.as_str())?;
@@ -152,8 +152,8 @@ fn is_full_after(alloc: Global, beginning: &str, count: u32) -> Result<bool, Fai
 #[test]
 fn scripts_that_fill_a_project(rt: HostRuntime) -> Result<(), Fail> {
     let alloc = rt.alloc();
-    assert!(rt; is_full_after(alloc, "add-lang docs.test x", 29)?);
-    assert!(rt; is_full_after(alloc, "add-pass docs.test p", 1000)?);
+    assert!(rt; is_last_too_many(alloc, "add-lang docs.test x", 30)?);
+    assert!(rt; is_last_too_many(alloc, "add-pass docs.test p", 1001)?);
     Ok(())
 }
 
