@@ -4,7 +4,7 @@ use Rattle.std.specs.Fmt.{decimal}
 use Rattle.dh_reply.specs.declared.answer.Allow.{Allow}
 use Rattle.dh_reply.specs.declared.answer.Reply.{Reply}
 
--- the phrase of a status that the host answers (RFC 9110, section 15); any other has none
+-- the phrase of a status that the host answers (RFC 9110, section 15; for 431 RFC 6585, section 5); any other has none
 abbrev pub phrase_of : ℕ → List ℕ
 phrase_of status =
     if status == 200 then codes "OK"

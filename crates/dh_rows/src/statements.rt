@@ -66,7 +66,7 @@ pub fn back<S: Alter>(conn: &mut Connection<S>) -> Result<(), Fault>
     run(conn, "ROLLBACK", &[])
 }
 
-/// Runs one INSERT or DELETE.
+/// Runs one INSERT, DELETE or CREATE TABLE.
 pub fn change<S: Alter>(
     conn: &mut Connection<S>,
     sql: &str,

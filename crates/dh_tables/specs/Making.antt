@@ -87,7 +87,8 @@ upto_holds = holds_table ∷ upto_pass
 abbrev pub our_tables : List Table
 our_tables = from_meta
 
--- none of the names is taken, and no foreign key names one of the tables
+-- none of the names is taken, no foreign key names one of the tables, and where a table counts its rows by AUTOINCREMENT,
+-- the table `sqlite_sequence` is there
 abbrev pub CanMake : Schema → Type 0
 CanMake schema = AllByRecursion (λ t. IsFree schema t.name × IsUnmentioned schema t.name) our_tables × (lacks_sequence schema ≡ false)
 

@@ -62,6 +62,7 @@ pub record Project : Type 0 where
   -- slugs and names of aliases, the newest first
   pub defaults : List Text
   pub passes : FinSet text_cmp
+  -- a pass and the slug of a version that it opens
   pub held : FinSet held_cmp
   -- the first answer to each retry key
   pub used : FinMap used_cmp Answer
