@@ -5,14 +5,14 @@ use Rattle.sqlite.specs.Effect.{Database}
 use Rattle.sqlite.specs.State.{HasCleanDisk}
 use Rattle.sqlite.specs.Held.{Held, state}
 use Rattle.dh_rows.specs.Calls.{IsHonest, Shows, LeavesNoMore, KeepsCommitted, seen, committed}
-use Rattle.dh_tables.specs.declared.answer.Answer.{Answer}
+use Rattle.dh_world.specs.declared.answer.Answer.{Answer}
 use Rattle.dh_tables.specs.Lists.{Lists, world_of}
 use Rattle.dh_tables.specs.Tables.{lists_of}
-use Rattle.dh_desk.specs.declared.command.Command.{Command}
-use Rattle.dh_desk.specs.declared.refusal.Refusal.{Refusal}
-use Rattle.dh_desk.specs.Texts.{bad_text}
-use Rattle.dh_desk.specs.Step.{step}
-use Rattle.dh_desk.specs.Checks.{IsSetAside}
+use Rattle.dh_world.specs.declared.command.Command.{Command}
+use Rattle.dh_world.specs.declared.refusal.Refusal.{Refusal}
+use Rattle.dh_world.specs.Texts.{bad_text}
+use Rattle.dh_world.specs.Step.{step}
+use Rattle.dh_world.specs.Checks.{IsSetAside}
 use Rattle.dh_desk.specs.Desk.{Turns}
 use Rattle.dh_desk.specs.Crashes.{spelled, LeavesStep, LeavesEnd}
 use Rattle.dh_desk.proofs.Turning.{right_texts}

@@ -4,12 +4,12 @@ use Rattle.std.specs.Prelude.{option_map}
 use Rattle.std.specs.FinMap.{get}
 use Rattle.std.specs.Result.{IsErrAnd}
 use Rattle.std.proofs.lemmas.Result.{err_from_is_err_and}
-use Rattle.dh_tables.specs.declared.answer.Answer.{Answer}
-use Rattle.dh_tables.specs.declared.answer.Answer.TheVariants.{Done}
+use Rattle.dh_world.specs.declared.answer.Answer.{Answer}
+use Rattle.dh_world.specs.declared.answer.Answer.TheVariants.{Done}
 use Rattle.dh_tables.specs.declared.records.ProjectRow.{ProjectRow}
 use Rattle.dh_tables.specs.declared.records.VersionRow.{VersionRow}
-use Rattle.dh_tables.specs.World.{Text, Project}
-use Rattle.dh_tables.specs.Seen.{is_alias}
+use Rattle.dh_world.specs.World.{Text, Project}
+use Rattle.dh_world.specs.Seen.{is_alias}
 use Rattle.dh_tables.specs.Lists.{Lists, world_of, project_of, is_project, is_version, is_page_under, is_held_on}
 use Rattle.dh_tables.specs.Rules.{has_project, has_version, AreInOrder}
 use Rattle.dh_tables.proofs.SeenLemmas.{get_project}
@@ -17,16 +17,16 @@ use Rattle.dh_tables.proofs.OrderLemmas.{order_without}
 use Rattle.dh_tables.proofs.AccessRules.{MayChoose, rules_gone, rules_with_front, order_with_defaults, order_without_version, order_without_grants}
 use Rattle.dh_tables.proofs.AccessChanges.{world_gone, world_with_defaults}
 use Rattle.dh_tables.proofs.WorldLemmas.{defaults_in}
-use Rattle.dh_desk.specs.declared.command.Command.{Command}
-use Rattle.dh_desk.specs.declared.command.Command.TheVariants.{Gone, SetDefault}
-use Rattle.dh_desk.specs.declared.refusal.Refusal.{Refusal}
-use Rattle.dh_desk.specs.declared.refusal.Refusal.TheVariants.{NoProject, Inactive}
-use Rattle.dh_desk.specs.Changes.{Change, at_version, without_name, without_version, with_default}
-use Rattle.dh_desk.specs.Checks.{IsSetAside}
+use Rattle.dh_world.specs.declared.command.Command.{Command}
+use Rattle.dh_world.specs.declared.command.Command.TheVariants.{Gone, SetDefault}
+use Rattle.dh_world.specs.declared.refusal.Refusal.{Refusal}
+use Rattle.dh_world.specs.declared.refusal.Refusal.TheVariants.{NoProject, Inactive}
+use Rattle.dh_world.specs.Changes.{Change, at_version, without_name, without_version, with_default}
+use Rattle.dh_world.specs.Checks.{IsSetAside}
 use Rattle.dh_desk.specs.Defaults.{defaults_but, with_defaults, without_records, bad_version_for_default, bad_default}
 use Rattle.dh_desk.specs.Desk.{AreSound, Turns}
-use Rattle.dh_desk.specs.Refusals.{unless}
-use Rattle.dh_desk.specs.Step.{settled, turn}
+use Rattle.dh_world.specs.Refusals.{unless}
+use Rattle.dh_world.specs.Step.{settled, turn}
 use Rattle.dh_desk.specs.Versions.{found_version}
 use Rattle.dh_desk.proofs.ProjectLemmas.{turn_at, no_project}
 use Rattle.dh_desk.proofs.PropertyLemmas.{IsThere, is_there, IsOn, version_missing, version_there}

@@ -10,30 +10,31 @@ use Rattle.std.proofs.lemmas.Result.{err_from_is_err_and}
 use Rattle.std.proofs.lemmas.Slice.Eq.{bytes_eq-Decides}
 use Rattle.sqlite_keyed.proofs.ListLemmas.{all_weaker}
 use Rattle.dh_rows.specs.Keyed.{IsFreeKey, same_key, added}
-use Rattle.dh_tables.specs.declared.answer.Answer.{Answer}
-use Rattle.dh_tables.specs.declared.answer.Answer.TheVariants.{Done}
+use Rattle.dh_world.specs.declared.answer.Answer.{Answer}
+use Rattle.dh_world.specs.declared.answer.Answer.TheVariants.{Done}
 use Rattle.dh_tables.specs.declared.records.PassRow.{PassRow}
 use Rattle.dh_tables.specs.declared.records.HeldRow.{HeldRow}
 use Rattle.dh_tables.specs.declared.records.ProjectRow.{ProjectRow}
 use Rattle.dh_tables.specs.declared.records.VersionRow.{VersionRow}
 use Rattle.dh_tables.specs.Codings as coding
-use Rattle.dh_tables.specs.World.{Text, text_cmp, Project}
+use Rattle.dh_world.specs.World.{Text, text_cmp, Project}
 use Rattle.dh_tables.specs.Lists.{Lists, of_host, world_of, project_of, is_project, is_version, is_pass, is_pass_of, is_held, is_held_by, granted}
 use Rattle.dh_tables.specs.Rules.{InOrder, has_project, has_pass}
 use Rattle.dh_tables.proofs.AccessChanges.{pass_count_in, world_with_pass, world_pass_gone, world_with_grant, world_without_grant}
 use Rattle.dh_tables.proofs.AccessRules.{rules_with_pass, rules_pass_gone, rules_with_grant, rules_without_grants, order_with_pass, order_without_pass, order_with_grant, order_without_grants}
 use Rattle.dh_tables.proofs.PassKeys.{pass_key}
 use Rattle.dh_tables.proofs.RecordLemmas.{found_none, none_found}
-use Rattle.dh_tables.proofs.SeenLemmas.{tied_text, text_total, found_in, find_in_filter, get_project}
+use Rattle.dh_world.proofs.MapLemmas.{tied_text, text_total, found_in, find_in_filter}
+use Rattle.dh_tables.proofs.SeenLemmas.{get_project}
 use Rattle.dh_tables.proofs.WorldLemmas.{row_of, has_pass_in, owned_by}
-use Rattle.dh_desk.specs.declared.command.Command.{Command}
-use Rattle.dh_desk.specs.declared.command.Command.TheVariants.{AddPass, DropPass, Grant, Revoke}
-use Rattle.dh_desk.specs.declared.refusal.Refusal.{Refusal}
-use Rattle.dh_desk.specs.declared.refusal.Refusal.TheVariants.{NoProject, PassTaken, NoPass, TooMany}
-use Rattle.dh_desk.specs.Changes.{Change, add_pass, at_pass, drop_pass}
-use Rattle.dh_desk.specs.Checks.{IsSetAside}
+use Rattle.dh_world.specs.declared.command.Command.{Command}
+use Rattle.dh_world.specs.declared.command.Command.TheVariants.{AddPass, DropPass, Grant, Revoke}
+use Rattle.dh_world.specs.declared.refusal.Refusal.{Refusal}
+use Rattle.dh_world.specs.declared.refusal.Refusal.TheVariants.{NoProject, PassTaken, NoPass, TooMany}
+use Rattle.dh_world.specs.Changes.{Change, add_pass, at_pass, drop_pass}
+use Rattle.dh_world.specs.Checks.{IsSetAside}
 use Rattle.dh_desk.specs.Passes.{asked_by, asked_pass, missing_by, missing_for}
-use Rattle.dh_desk.specs.Step.{settled, turn}
+use Rattle.dh_world.specs.Step.{settled, turn}
 use Rattle.dh_desk.specs.Versions.{found_version}
 use Rattle.dh_desk.specs.Desk.{AreSound, Turns}
 use Rattle.dh_desk.proofs.ProjectLemmas.{turn_at, no_project, found_some}

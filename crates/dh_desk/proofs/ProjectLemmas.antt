@@ -10,11 +10,11 @@ use Rattle.std.proofs.lemmas.Slice.Eq.{bytes_eq-Decides}
 use Rattle.std.specs.Prelude.{◌<◌, ◌≤◌, nat_lt}
 use Rattle.sqlite_keyed.proofs.ListLemmas.{all_weaker}
 use Rattle.dh_rows.specs.Keyed.{IsFreeKey, same_key, added}
-use Rattle.dh_tables.specs.declared.answer.Answer.TheVariants.{Done}
+use Rattle.dh_world.specs.declared.answer.Answer.TheVariants.{Done}
 use Rattle.dh_tables.specs.declared.records.ProjectRow.{ProjectRow}
 use Rattle.dh_tables.specs.declared.records.LangRow.{LangRow}
 use Rattle.dh_tables.specs.Codings as coding
-use Rattle.dh_tables.specs.World.{Text, Project}
+use Rattle.dh_world.specs.World.{Text, Project}
 use Rattle.dh_tables.specs.Lists.{Lists, world_of, project_of, is_project, is_lang_of}
 use Rattle.dh_tables.specs.Rules.{languages_of}
 use Rattle.dh_tables.proofs.SeenLemmas.{get_project}
@@ -24,12 +24,12 @@ use Rattle.dh_tables.proofs.RecordLemmas.{found_passes}
 use Rattle.dh_tables.proofs.RuleLemmas.{none_of_new, rules_with_project, rules_with_lang, lang_is_free}
 use Rattle.dh_tables.proofs.ChangeLemmas.{world_with_project, world_with_lang}
 use Rattle.dh_tables.proofs.WorldLemmas.{owned_by, languages_are}
-use Rattle.dh_desk.specs.declared.command.Command.{Command}
-use Rattle.dh_desk.specs.declared.command.Command.TheVariants.{NewProject, AddLang}
-use Rattle.dh_desk.specs.declared.refusal.Refusal.TheVariants.{NoProject, ProjectTaken, LangTaken, TooMany}
-use Rattle.dh_desk.specs.Changes.{Change, add_lang}
-use Rattle.dh_desk.specs.Step.{host_of, change_at, settled, turn}
-use Rattle.dh_desk.specs.declared.refusal.Refusal.{Refusal}
+use Rattle.dh_world.specs.declared.command.Command.{Command}
+use Rattle.dh_world.specs.declared.command.Command.TheVariants.{NewProject, AddLang}
+use Rattle.dh_world.specs.declared.refusal.Refusal.TheVariants.{NoProject, ProjectTaken, LangTaken, TooMany}
+use Rattle.dh_world.specs.Changes.{Change, add_lang}
+use Rattle.dh_world.specs.Step.{host_of, change_at, settled, turn}
+use Rattle.dh_world.specs.declared.refusal.Refusal.{Refusal}
 use Rattle.dh_desk.specs.Places.{place_for}
 use Rattle.dh_desk.specs.Desk.{AreSound}
 

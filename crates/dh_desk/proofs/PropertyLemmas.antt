@@ -11,13 +11,13 @@ use Rattle.std.proofs.lemmas.Slice.Eq.{bytes_eq-Decides}
 use Rattle.dh_paths.specs.Slugs.{slug_from}
 use Rattle.dh_versions.specs.declared.version.Version.{Version}
 use Rattle.dh_rows.specs.Keyed.{put}
-use Rattle.dh_tables.specs.declared.answer.Answer.{Answer}
-use Rattle.dh_tables.specs.declared.answer.Answer.TheVariants.{Done}
+use Rattle.dh_world.specs.declared.answer.Answer.{Answer}
+use Rattle.dh_world.specs.declared.answer.Answer.TheVariants.{Done}
 use Rattle.dh_tables.specs.declared.records.PageRow.{PageRow}
 use Rattle.dh_tables.specs.declared.records.ProjectRow.{ProjectRow}
 use Rattle.dh_tables.specs.declared.records.VersionRow.{VersionRow}
 use Rattle.dh_tables.specs.Codings as coding
-use Rattle.dh_tables.specs.World.{Text, Project}
+use Rattle.dh_world.specs.World.{Text, Project}
 use Rattle.dh_tables.specs.Lists.{Lists, world_of, project_of, is_project, is_version, is_page_of, is_page_under}
 use Rattle.dh_tables.specs.Rules.{has_project, has_active}
 use Rattle.dh_tables.proofs.SeenLemmas.{get_project}
@@ -26,16 +26,16 @@ use Rattle.dh_tables.proofs.RecordLemmas.{found_passes}
 use Rattle.dh_tables.proofs.RuleLemmas.{rules_with_version, rules_without, inactive_is_bare, dropped_is_bare}
 use Rattle.dh_tables.proofs.ChangeLemmas.{world_with_version, world_without_pages}
 use Rattle.dh_tables.proofs.WorldLemmas.{owned_by, version_in, changed_twice}
-use Rattle.dh_desk.specs.declared.command.Command.{Command}
-use Rattle.dh_desk.specs.declared.command.Command.TheVariants.{Deactivate}
-use Rattle.dh_desk.specs.declared.properties.Property.{Property}
-use Rattle.dh_desk.specs.declared.properties.Property.TheVariants as property
-use Rattle.dh_desk.specs.declared.refusal.Refusal.{Refusal}
-use Rattle.dh_desk.specs.declared.refusal.Refusal.TheVariants.{NoProject, NoVersion, OutOfMemory}
-use Rattle.dh_desk.specs.Changes.{Change, at_version, with_property, with_version, without_pages, opened, change}
-use Rattle.dh_desk.specs.Checks.{IsSetAside}
-use Rattle.dh_desk.specs.Step.{host_of, change_at, settled, turn}
-use Rattle.dh_desk.specs.Texts.{bad_text, bad_version}
+use Rattle.dh_world.specs.declared.command.Command.{Command}
+use Rattle.dh_world.specs.declared.command.Command.TheVariants.{Deactivate}
+use Rattle.dh_world.specs.declared.property.Property.{Property}
+use Rattle.dh_world.specs.declared.property.Property.TheVariants as property
+use Rattle.dh_world.specs.declared.refusal.Refusal.{Refusal}
+use Rattle.dh_world.specs.declared.refusal.Refusal.TheVariants.{NoProject, NoVersion, OutOfMemory}
+use Rattle.dh_world.specs.Changes.{Change, at_version, with_property, with_version, without_pages, opened, change}
+use Rattle.dh_world.specs.Checks.{IsSetAside}
+use Rattle.dh_world.specs.Step.{host_of, change_at, settled, turn}
+use Rattle.dh_world.specs.Texts.{bad_text, bad_version}
 use Rattle.dh_desk.specs.Versions.{found_by, found_version, setting}
 use Rattle.dh_desk.specs.Desk.{AreSound, Turns}
 use Rattle.dh_desk.proofs.ProjectLemmas.{turn_at, no_project, found_some}

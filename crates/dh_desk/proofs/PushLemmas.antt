@@ -9,33 +9,34 @@ use Rattle.dh_paths.specs.Slugs.{slug_text, slug_from}
 use Rattle.dh_versions.specs.declared.version.Kind.{Kind}
 use Rattle.dh_versions.specs.declared.version.Version.{Version}
 use Rattle.dh_rows.specs.Keyed.{IsFreeKey, added, put}
-use Rattle.dh_tables.specs.declared.answer.Answer.{Answer}
-use Rattle.dh_tables.specs.declared.answer.Answer.TheVariants.{Made, Known}
-use Rattle.dh_tables.specs.declared.records.Operation.TheVariants as operation
+use Rattle.dh_world.specs.declared.answer.Answer.{Answer}
+use Rattle.dh_world.specs.declared.answer.Answer.TheVariants.{Made, Known}
+use Rattle.dh_world.specs.declared.operation.Operation.TheVariants as operation
 use Rattle.dh_tables.specs.declared.records.UsedRow.{UsedRow}
 use Rattle.dh_tables.specs.declared.records.VersionRow.{VersionRow}
 use Rattle.dh_tables.specs.Codings as coding
-use Rattle.dh_tables.specs.World.{Text, Project, World}
+use Rattle.dh_world.specs.World.{Text, Project, World}
 use Rattle.dh_tables.specs.Lists.{Lists, world_of, is_used, is_version, kept_answer, keeping}
-use Rattle.dh_tables.proofs.AnswerLemmas.{told_again}
+use Rattle.dh_world.proofs.AnswerLemmas.{told_again}
 use Rattle.dh_tables.proofs.KeyLemmas.{used_is_free}
 use Rattle.dh_tables.proofs.OrderLemmas.{added_in_order, put_in_order}
 use Rattle.dh_tables.proofs.RuleLemmas.{rules_with_used, rules_with_version, inactive_is_bare}
 use Rattle.dh_tables.proofs.ChangeLemmas.{world_with_used, world_with_version}
-use Rattle.dh_tables.proofs.WorldLemmas.{owned_by, version_in, used_in, put_same, changed_twice}
-use Rattle.dh_desk.specs.declared.command.Command.TheVariants.{Push}
-use Rattle.dh_desk.specs.declared.refusal.Refusal.TheVariants.{WrongKey, SlugTaken}
-use Rattle.dh_desk.specs.Changes.{Change, once, pushed, push_key, same_kind, keep, new_version, with_version, made}
-use Rattle.dh_desk.specs.Step.{settled, turn}
+use Rattle.dh_tables.proofs.WorldLemmas.{owned_by, version_in, used_in, changed_twice}
+use Rattle.dh_world.proofs.MapLemmas.{put_same}
+use Rattle.dh_world.specs.declared.command.Command.TheVariants.{Push}
+use Rattle.dh_world.specs.declared.refusal.Refusal.TheVariants.{WrongKey, SlugTaken}
+use Rattle.dh_world.specs.Changes.{Change, once, pushed, push_key, same_kind, keep, new_version, with_version, made}
+use Rattle.dh_world.specs.Step.{settled, turn}
 use Rattle.dh_desk.specs.Desk.{AreSound}
 use Rattle.dh_desk.proofs.ProjectLemmas.{turn_at}
 
 -- the answer of a row that keeps it
 kept_again : (host slug key : Text) → IsTrue (is_slug slug) → kept_answer (keeping host slug operation.Push key (Known slug)) ≡ Known slug
-kept_again host slug key is = ap (λ o. Rattle.std.specs.Prelude.unwrap_or o Rattle.dh_tables.specs.declared.answer.Answer.TheVariants.Done) (told_again (Known slug) _ is refl)
+kept_again host slug key is = ap (λ o. Rattle.std.specs.Prelude.unwrap_or o Rattle.dh_world.specs.declared.answer.Answer.TheVariants.Done) (told_again (Known slug) _ is refl)
 
 kept_made : (host slug key : Text) (v : Version) → IsTrue (is_slug v.slug) → kept_answer (keeping host slug operation.Push key (made v)) ≡ made v
-kept_made host slug key v is = ap (λ o. Rattle.std.specs.Prelude.unwrap_or o Rattle.dh_tables.specs.declared.answer.Answer.TheVariants.Done) (told_again (made v) _ is refl)
+kept_made host slug key v is = ap (λ o. Rattle.std.specs.Prelude.unwrap_or o Rattle.dh_world.specs.declared.answer.Answer.TheVariants.Done) (told_again (made v) _ is refl)
 
 module _ (lists : Lists) (host : Text) (p : Project) (was : get (world_of lists) host ≡ Some p) (wkey key : Text) (kind : Kind) (name : Text) where
   -- by the write key, the answer that was kept, and the version with the slug
@@ -67,7 +68,7 @@ module _ (lists : Lists) (host : Text) (p : Project) (was : get (world_of lists)
 
   pub push_taken : bytes_eq wkey p.wkey ≡ true → find (is_used host (slug_text name) operation.Push key) lists.used ≡ None → (v : VersionRow) → find (is_version host (slug_text name)) lists.versions ≡ Some v
       → (same_kind v.version.kind kind && bytes_eq v.version.name name) ≡ false → turn (world_of lists) (Push host wkey key kind name) ≡ Err SlugTaken
-  push_taken e f v g other = fresh e f (Some v) g ∙ ap (λ b. settled (world_of lists) host (cond b (keep (push_key v.version.slug key) (Known v.version.slug) p) (Err SlugTaken))) other
+  push_taken e f v g other = fresh e f (Some v) g ∙ ap (λ b. settled (world_of lists) host (cond b (keep (push_key (slug_text name) key) (Known v.version.slug) p) (Err SlugTaken))) other
 
   -- the lists with the answer kept
   abbrev with_answer : UsedRow → Lists → Lists
@@ -81,8 +82,8 @@ module _ (lists : Lists) (host : Text) (p : Project) (was : get (world_of lists)
   push_known sound e f v g named is same =
       let row : UsedRow = keeping host (slug_text name) operation.Push key (Known (slug_text name)) in
       let free : IsFreeKey coding.used.key row lists.used = used_is_free row lists.used f in (
-        fresh e f (Some v) g ∙ ap (λ b. settled (world_of lists) host (cond b (keep (push_key v.version.slug key) (Known v.version.slug) p) (Err SlugTaken))) same
-            ∙ ap (λ s. settled (world_of lists) host (keep (push_key s key) (Known s) p)) named
+        fresh e f (Some v) g ∙ ap (λ b. settled (world_of lists) host (cond b (keep (push_key (slug_text name) key) (Known v.version.slug) p) (Err SlugTaken))) same
+            ∙ ap (λ s. settled (world_of lists) host (keep (push_key (slug_text name) key) (Known s) p)) named
             ∙ ap (λ w. Ok (w, Known (slug_text name)))
             (ap (λ a. insert (world_of lists) host (record p { used = insert p.used (push_key (slug_text name) key) a })) (sym (kept_again host (slug_text name) key is)) ∙ sym (world_with_used lists row p free was)),
         record {

@@ -10,27 +10,27 @@ use Rattle.dh_paths.specs.Texts.{is_host_name, is_ref_name, is_slug, is_token}
 use Rattle.dh_paths.specs.Slugs.{slug_text, slug_from}
 use Rattle.dh_versions.specs.declared.version.Kind.{Kind}
 use Rattle.dh_rows.specs.Keyed.{added, put}
-use Rattle.dh_tables.specs.declared.answer.Answer.{Answer}
-use Rattle.dh_tables.specs.declared.answer.Answer.TheVariants.{Known}
-use Rattle.dh_tables.specs.declared.records.Operation.TheVariants as operation
+use Rattle.dh_world.specs.declared.answer.Answer.{Answer}
+use Rattle.dh_world.specs.declared.answer.Answer.TheVariants.{Known}
+use Rattle.dh_world.specs.declared.operation.Operation.TheVariants as operation
 use Rattle.dh_tables.specs.declared.records.ProjectRow.{ProjectRow}
 use Rattle.dh_tables.specs.declared.records.UsedRow.{UsedRow}
 use Rattle.dh_tables.specs.declared.records.VersionRow.{VersionRow}
 use Rattle.dh_tables.specs.Codings as coding
-use Rattle.dh_tables.specs.World.{Text, Project}
+use Rattle.dh_world.specs.World.{Text, Project}
 use Rattle.dh_tables.specs.Lists.{Lists, world_of, project_of, is_project, is_used, is_version, kept_answer, keeping}
 use Rattle.dh_tables.proofs.RecordLemmas.{found_passes}
 use Rattle.dh_tables.proofs.SeenLemmas.{get_project}
 use Rattle.dh_tables.proofs.WorldLemmas.{wkey_of}
-use Rattle.dh_desk.specs.declared.command.Command.{Command}
-use Rattle.dh_desk.specs.declared.command.Command.TheVariants.{Push}
-use Rattle.dh_desk.specs.declared.refusal.Refusal.{Refusal}
-use Rattle.dh_desk.specs.declared.refusal.Refusal.TheVariants.{BadHost, BadToken, BadKey, BadRef, NoProject, WrongKey, SlugTaken, OutOfMemory}
-use Rattle.dh_desk.specs.Refusals.{unless, first_of}
-use Rattle.dh_desk.specs.Texts.{bad_text}
-use Rattle.dh_desk.specs.Changes.{same_kind, new_version, made}
-use Rattle.dh_desk.specs.Checks.{IsSetAside}
-use Rattle.dh_desk.specs.Step.{turn}
+use Rattle.dh_world.specs.declared.command.Command.{Command}
+use Rattle.dh_world.specs.declared.command.Command.TheVariants.{Push}
+use Rattle.dh_world.specs.declared.refusal.Refusal.{Refusal}
+use Rattle.dh_world.specs.declared.refusal.Refusal.TheVariants.{BadHost, BadToken, BadKey, BadRef, NoProject, WrongKey, SlugTaken, OutOfMemory}
+use Rattle.dh_world.specs.Refusals.{unless, first_of}
+use Rattle.dh_world.specs.Texts.{bad_text}
+use Rattle.dh_world.specs.Changes.{same_kind, new_version, made}
+use Rattle.dh_world.specs.Checks.{IsSetAside}
+use Rattle.dh_world.specs.Step.{turn}
 use Rattle.dh_desk.specs.Desk.{AreSound, Turns, Steps}
 use Rattle.dh_desk.proofs.Turning.{wrong_texts}
 use Rattle.dh_desk.proofs.ProjectLemmas.{turn_at, no_project}

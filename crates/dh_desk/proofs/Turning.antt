@@ -4,18 +4,18 @@ use Rattle.std.specs.Result.{IsErrAnd}
 use Rattle.std.proofs.lemmas.Result.{err_from_is_err_and}
 use Rattle.dh_reply.specs.declared.fault.Fault.{Fault}
 use Rattle.dh_reply.specs.declared.fault.Fault.TheVariants as fault
-use Rattle.dh_tables.specs.declared.answer.Answer.{Answer}
+use Rattle.dh_world.specs.declared.answer.Answer.{Answer}
 use Rattle.dh_tables.specs.Lists.{Lists, world_of}
 use Rattle.dh_tables.specs.Tables.{lists_of}
 use Rattle.sqlite_trees.specs.declared.store.Store.{Ghosts}
 use Rattle.sqlite.specs.Held.{Held}
 use Rattle.dh_rows.specs.Calls.{IsRefused, committed}
-use Rattle.dh_desk.specs.declared.command.Command.{Command}
-use Rattle.dh_desk.specs.declared.refusal.Refusal.{Refusal}
-use Rattle.dh_desk.specs.declared.refusal.Refusal.TheVariants.{OutOfMemory}
-use Rattle.dh_desk.specs.Checks.{refusal_from, IsSetAside}
-use Rattle.dh_desk.specs.Texts.{bad_text}
-use Rattle.dh_desk.specs.Step.{turn, step, after_texts}
+use Rattle.dh_world.specs.declared.command.Command.{Command}
+use Rattle.dh_world.specs.declared.refusal.Refusal.{Refusal}
+use Rattle.dh_world.specs.declared.refusal.Refusal.TheVariants.{OutOfMemory}
+use Rattle.dh_world.specs.Checks.{refusal_from, IsSetAside}
+use Rattle.dh_world.specs.Texts.{bad_text}
+use Rattle.dh_world.specs.Step.{turn, step, after_texts}
 use Rattle.dh_desk.specs.Desk.{AreSound, Turns, Steps}
 
 aside : (f : Fault) (e : Refusal) → e ≡ refusal_from f → IsSetAside e

@@ -6,28 +6,29 @@ use Rattle.std.specs.List.{AllByRecursion, list_any}
 use Rattle.std.specs.FinMap.{get, insert, retain_keys}
 use Rattle.std.specs.Str.{bytes_eq}
 use Rattle.dh_rows.specs.Keyed.{IsFreeKey, put}
-use Rattle.dh_tables.specs.declared.answer.Answer.{Answer}
-use Rattle.dh_tables.specs.declared.answer.Answer.TheVariants.{Done, Stored}
-use Rattle.dh_tables.specs.declared.records.Operation.TheVariants as operation
+use Rattle.dh_world.specs.declared.answer.Answer.{Answer}
+use Rattle.dh_world.specs.declared.answer.Answer.TheVariants.{Done, Stored}
+use Rattle.dh_world.specs.declared.operation.Operation.TheVariants as operation
 use Rattle.dh_tables.specs.declared.records.PageRow.{PageRow}
 use Rattle.dh_tables.specs.declared.records.UsedRow.{UsedRow}
 use Rattle.dh_tables.specs.declared.records.VersionRow.{VersionRow}
 use Rattle.dh_tables.specs.Codings as coding
-use Rattle.dh_tables.specs.World.{Text, Project}
+use Rattle.dh_world.specs.World.{Text, Project}
 use Rattle.dh_tables.specs.Lists.{Lists, world_of, is_used, is_version, is_page_under, kept_answer, keeping}
 use Rattle.dh_tables.specs.Rules.{has_project, has_active, has_language}
-use Rattle.dh_tables.proofs.AnswerLemmas.{told_again}
+use Rattle.dh_world.proofs.AnswerLemmas.{told_again}
 use Rattle.dh_tables.proofs.KeyLemmas.{used_is_free}
 use Rattle.dh_tables.proofs.OrderLemmas.{order_with_page, order_without, order_with_used}
 use Rattle.dh_tables.proofs.RuleLemmas.{rules_with_page, rules_without, rules_with_used}
 use Rattle.dh_tables.proofs.ChangeLemmas.{world_with_page, world_without_pages, world_with_used}
-use Rattle.dh_tables.proofs.WorldLemmas.{owned_by, speaks_in, version_in, used_in, put_same, changed_twice}
-use Rattle.dh_desk.specs.declared.command.Command.TheVariants.{Upload}
-use Rattle.dh_desk.specs.declared.pages.UploadedPage.{UploadedPage}
-use Rattle.dh_desk.specs.declared.refusal.Refusal.TheVariants.{WrongKey, NoVersion, Inactive, NoLang}
-use Rattle.dh_desk.specs.Changes.{Change, has_lang, once, uploaded, upload_key, keep, stored, cleared, with_pages}
+use Rattle.dh_tables.proofs.WorldLemmas.{owned_by, speaks_in, version_in, used_in, changed_twice}
+use Rattle.dh_world.proofs.MapLemmas.{put_same}
+use Rattle.dh_world.specs.declared.command.Command.TheVariants.{Upload}
+use Rattle.dh_world.specs.declared.pages.UploadedPage.{UploadedPage}
+use Rattle.dh_world.specs.declared.refusal.Refusal.TheVariants.{WrongKey, NoVersion, Inactive, NoLang}
+use Rattle.dh_world.specs.Changes.{Change, has_lang, once, uploaded, upload_key, keep, stored, cleared, with_pages}
 use Rattle.dh_desk.specs.Rows.{page_row, with_rows, without_rows, with_upload}
-use Rattle.dh_desk.specs.Step.{settled, turn}
+use Rattle.dh_world.specs.Step.{settled, turn}
 use Rattle.dh_desk.specs.Desk.{AreSound}
 use Rattle.dh_desk.proofs.ProjectLemmas.{turn_at}
 

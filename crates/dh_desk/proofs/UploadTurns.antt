@@ -6,25 +6,25 @@ use Rattle.std.specs.FinMap.{get}
 use Rattle.std.specs.Str.{bytes_eq}
 use Rattle.std.proofs.lemmas.Bool.{leb-true}
 use Rattle.dh_paths.specs.Texts.{is_host_name, is_lang, is_page_path, is_slug, is_token}
-use Rattle.dh_tables.specs.declared.answer.Answer.{Answer}
-use Rattle.dh_tables.specs.declared.answer.Answer.TheVariants.{Stored}
-use Rattle.dh_tables.specs.declared.records.Operation.TheVariants as operation
+use Rattle.dh_world.specs.declared.answer.Answer.{Answer}
+use Rattle.dh_world.specs.declared.answer.Answer.TheVariants.{Stored}
+use Rattle.dh_world.specs.declared.operation.Operation.TheVariants as operation
 use Rattle.dh_tables.specs.declared.records.LangRow.{LangRow}
 use Rattle.dh_tables.specs.declared.records.ProjectRow.{ProjectRow}
 use Rattle.dh_tables.specs.declared.records.UsedRow.{UsedRow}
 use Rattle.dh_tables.specs.declared.records.VersionRow.{VersionRow}
-use Rattle.dh_tables.specs.World.{Text, Project}
+use Rattle.dh_world.specs.World.{Text, Project}
 use Rattle.dh_tables.specs.Lists.{Lists, world_of, project_of, is_project, is_lang_of, is_used, is_version, kept_answer}
 use Rattle.dh_tables.proofs.SeenLemmas.{get_project}
 use Rattle.dh_tables.proofs.WorldLemmas.{wkey_of}
-use Rattle.dh_desk.specs.declared.command.Command.TheVariants.{Upload}
-use Rattle.dh_desk.specs.declared.pages.UploadedPage.{UploadedPage}
-use Rattle.dh_desk.specs.declared.refusal.Refusal.{Refusal}
-use Rattle.dh_desk.specs.declared.refusal.Refusal.TheVariants.{BadHost, BadToken, BadKey, BadRef, BadLang, BadPage, BadPath, NoProject, WrongKey, NoVersion, Inactive, NoLang}
-use Rattle.dh_desk.specs.Refusals.{unless, or_else, first_of}
+use Rattle.dh_world.specs.declared.command.Command.TheVariants.{Upload}
+use Rattle.dh_world.specs.declared.pages.UploadedPage.{UploadedPage}
+use Rattle.dh_world.specs.declared.refusal.Refusal.{Refusal}
+use Rattle.dh_world.specs.declared.refusal.Refusal.TheVariants.{BadHost, BadToken, BadKey, BadRef, BadLang, BadPage, BadPath, NoProject, WrongKey, NoVersion, Inactive, NoLang}
+use Rattle.dh_world.specs.Refusals.{unless, or_else, first_of}
 use Rattle.dh_desk.specs.Rows.{with_upload}
-use Rattle.dh_desk.specs.Texts.{is_count, is_media, is_body, has_path, bad_page, bad_pages, bad_text}
-use Rattle.dh_desk.specs.Step.{turn}
+use Rattle.dh_world.specs.Texts.{is_count, is_media, is_body, has_path, bad_page, bad_pages, bad_text}
+use Rattle.dh_world.specs.Step.{turn}
 use Rattle.dh_desk.specs.Desk.{AreSound}
 use Rattle.dh_desk.proofs.ProjectLemmas.{turn_at, no_project, any_of_map}
 use Rattle.dh_desk.proofs.UploadLemmas.{upload_wrong, upload_again, upload_nowhere, upload_inactive, upload_unspoken, upload_stored}

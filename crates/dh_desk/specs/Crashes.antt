@@ -5,12 +5,12 @@ use Rattle.sqlite_trees.specs.declared.store.Store.{Ghosts}
 use Rattle.sqlite.specs.Held.{Held, state}
 use Rattle.sqlite.specs.State.{HasCleanDisk}
 use Rattle.dh_rows.specs.Calls.{IsHonest, seen, committed}
-use Rattle.dh_tables.specs.declared.answer.Answer.{Answer}
+use Rattle.dh_world.specs.declared.answer.Answer.{Answer}
 use Rattle.dh_tables.specs.Lists.{Lists, world_of}
 use Rattle.dh_tables.specs.Tables.{lists_of}
-use Rattle.dh_desk.specs.declared.command.Command.{Command}
-use Rattle.dh_desk.specs.declared.refusal.Refusal.{Refusal}
-use Rattle.dh_desk.specs.Step.{step}
+use Rattle.dh_world.specs.declared.command.Command.{Command}
+use Rattle.dh_world.specs.declared.refusal.Refusal.{Refusal}
+use Rattle.dh_world.specs.Step.{step}
 
 module _ {S : Type 0} (g : Ghosts S) where
   -- the records in these trees, seen by the tables that are committed now

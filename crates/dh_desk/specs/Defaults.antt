@@ -1,14 +1,14 @@
 -- The defaults of a project, and the records of a version that goes.
 use Rattle.std.specs.Prelude.{not, if◌then◌else◌, List, map, filter, Option, Some, None, Result, Ok, Err}
-use Rattle.dh_tables.specs.World.{Text}
-use Rattle.dh_tables.specs.Seen.{is_alias}
+use Rattle.dh_world.specs.World.{Text}
+use Rattle.dh_world.specs.Seen.{is_alias}
 use Rattle.dh_tables.specs.Lists.{Lists, is_version, is_page_under, is_held_on, is_pick_of, set_picks}
 use Rattle.dh_tables.specs.Rules.{has_project}
 use Rattle.dh_tables.specs.declared.records.VersionRow.{VersionRow}
-use Rattle.dh_desk.specs.Changes.{without_name}
-use Rattle.dh_desk.specs.declared.refusal.Refusal.{Refusal}
-use Rattle.dh_desk.specs.declared.refusal.Refusal.TheVariants.{NoProject, Inactive}
-use Rattle.dh_desk.specs.Refusals.{unless}
+use Rattle.dh_world.specs.Changes.{without_name}
+use Rattle.dh_world.specs.declared.refusal.Refusal.{Refusal}
+use Rattle.dh_world.specs.declared.refusal.Refusal.TheVariants.{NoProject, Inactive}
+use Rattle.dh_world.specs.Refusals.{unless}
 use Rattle.dh_desk.specs.Versions.{found_version}
 
 -- the defaults of a host but for one name

@@ -4,16 +4,16 @@ use Rattle.std.specs.Coded.{Coded, code_by, coded×, coded_bool}
 use Rattle.sqlite_trees.specs.declared.store.Store.{Ghosts}
 use Rattle.sqlite.specs.Held.{Held, held_code}
 use Rattle.dh_rows.specs.Calls.{IsHonest, committed}
-use Rattle.dh_tables.specs.declared.answer.Answer.{Answer}
-use Rattle.dh_tables.specs.World.{World}
+use Rattle.dh_world.specs.declared.answer.Answer.{Answer}
+use Rattle.dh_world.specs.World.{World}
 use Rattle.dh_tables.specs.Lists.{Lists, world_of}
 use Rattle.dh_tables.specs.Tables.{lists_of}
 use Rattle.dh_tables.specs.Rules.{AreInOrder, KeepsRules}
-use Rattle.dh_desk.specs.declared.command.Command.{Command}
-use Rattle.dh_desk.specs.declared.refusal.Refusal.{Refusal}
-use Rattle.dh_desk.specs.declared.refusal.Refusal.TheVariants.{Store}
-use Rattle.dh_desk.specs.Checks.{IsSetAside}
-use Rattle.dh_desk.specs.Step.{turn, step}
+use Rattle.dh_world.specs.declared.command.Command.{Command}
+use Rattle.dh_world.specs.declared.refusal.Refusal.{Refusal}
+use Rattle.dh_world.specs.declared.refusal.Refusal.TheVariants.{Store}
+use Rattle.dh_world.specs.Checks.{IsSetAside}
+use Rattle.dh_world.specs.Step.{turn, step}
 
 -- the records are in order and keep the rules
 pub record AreSound (lists : Lists) : Type 0 where
@@ -29,11 +29,6 @@ Turns before after c (Err e) = IsSetAside e ⊎ (turn (world_of before) c ≡ Er
 abbrev pub Steps : Lists → Lists → Command → Result Answer Refusal → Type 0
 Steps before after c (Ok answer) = (step (world_of before) c ≡ Ok (world_of after, answer)) × AreSound after
 Steps before after c (Err e) = (after ≡ before) × (IsSetAside e ⊎ (step (world_of before) c ≡ Err e))
-
--- An accepted command is one step; a refused one changes nothing, and the refusal is the step's or one set aside.
-abbrev pub IsStep : World → World → Command → Result Answer Refusal → Type 0
-IsStep before after c (Ok answer) = step before c ≡ Ok (after, answer)
-IsStep before after c (Err e) = (after ≡ before) × (IsSetAside e ⊎ (step before c ≡ Err e))
 
 -- a desk: its tables, and whether a fault of the store has closed it
 pub record Standing (S : Type 0) : Type 0 where

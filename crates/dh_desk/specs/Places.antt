@@ -2,10 +2,10 @@
 use Rattle.std.specs.Prelude.{◌+◌, ℕ, nat_lt, if◌then◌else◌, List, length, Result, Ok, Err}
 use Rattle.std.specs.List.{list_any}
 use Rattle.std.specs.Str.{bytes_eq}
-use Rattle.dh_tables.specs.World.{Text}
+use Rattle.dh_world.specs.World.{Text}
 use Rattle.dh_tables.specs.declared.records.LangRow.{LangRow}
-use Rattle.dh_desk.specs.declared.refusal.Refusal.{Refusal}
-use Rattle.dh_desk.specs.declared.refusal.Refusal.TheVariants.{LangTaken, TooMany}
+use Rattle.dh_world.specs.declared.refusal.Refusal.{Refusal}
+use Rattle.dh_world.specs.declared.refusal.Refusal.TheVariants.{LangTaken, TooMany}
 
 -- after the languages of the project, of which it is none, where there are fewer than 30
 abbrev pub place_for : List LangRow → Text → Result ℕ Refusal

@@ -2,12 +2,12 @@
 use Rattle.std.specs.Prelude.{Bool, true, false, not, List, [], ◌∷◌, filter, length}
 use Rattle.dh_rows.specs.Keyed.{added, put}
 use Rattle.dh_tables.specs.Codings as coding
-use Rattle.dh_tables.specs.World.{Text}
+use Rattle.dh_world.specs.World.{Text}
 use Rattle.dh_tables.specs.Lists.{Lists, is_page_in, keeping}
-use Rattle.dh_tables.specs.declared.answer.Answer.TheVariants.{Stored}
-use Rattle.dh_tables.specs.declared.records.Operation.TheVariants as operation
+use Rattle.dh_world.specs.declared.answer.Answer.TheVariants.{Stored}
+use Rattle.dh_world.specs.declared.operation.Operation.TheVariants as operation
 use Rattle.dh_tables.specs.declared.records.PageRow.{PageRow}
-use Rattle.dh_desk.specs.declared.pages.UploadedPage.{UploadedPage}
+use Rattle.dh_world.specs.declared.pages.UploadedPage.{UploadedPage}
 
 abbrev pub page_row : Text → Text → Text → UploadedPage → PageRow
 page_row host slug lang x = record { host = host; slug = slug; lang = lang; path = x.path; page = record { media = x.media; body = x.body } }

@@ -1,15 +1,15 @@
 -- The version that a command names, and its record.
 use Rattle.std.specs.Prelude.{Bool, true, false, find, Option, Some, None, Result, Ok, Err}
-use Rattle.dh_tables.specs.World.{Text}
+use Rattle.dh_world.specs.World.{Text}
 use Rattle.dh_tables.specs.Lists.{Lists, is_version}
 use Rattle.dh_tables.specs.Rules.{has_project}
 use Rattle.dh_tables.specs.declared.records.VersionRow.{VersionRow}
-use Rattle.dh_desk.specs.declared.command.Command.{Command}
-use Rattle.dh_desk.specs.declared.command.Command.TheVariants.{Activate, Hide, Unhide, Publish, MakePrivate}
-use Rattle.dh_desk.specs.declared.properties.Property.{Property}
-use Rattle.dh_desk.specs.declared.properties.Property.TheVariants as property
-use Rattle.dh_desk.specs.declared.refusal.Refusal.{Refusal}
-use Rattle.dh_desk.specs.declared.refusal.Refusal.TheVariants.{NoProject, NoVersion}
+use Rattle.dh_world.specs.declared.command.Command.{Command}
+use Rattle.dh_world.specs.declared.command.Command.TheVariants.{Activate, Hide, Unhide, Publish, MakePrivate}
+use Rattle.dh_world.specs.declared.property.Property.{Property}
+use Rattle.dh_world.specs.declared.property.Property.TheVariants as property
+use Rattle.dh_world.specs.declared.refusal.Refusal.{Refusal}
+use Rattle.dh_world.specs.declared.refusal.Refusal.TheVariants.{NoProject, NoVersion}
 
 -- by whether there is a project, and by the record of the version
 abbrev pub found_by : Bool → Option VersionRow → Result VersionRow Refusal

@@ -5,17 +5,17 @@ ghost use Rattle.sqlite.specs.Held.{state};
 ghost use Rattle.sqlite.specs.State.{HasCleanDisk};
 ghost use Rattle.dh_rows.specs.Calls.{IsHonest, IsSame, LeavesNoMore, KeepsCommitted, seen, committed};
 ghost use Rattle.dh_rows.specs.Keyed.{added};
-ghost use Rattle.dh_tables.specs.Answers.{json_of};
+ghost use Rattle.dh_world.specs.Answers.{json_of};
 ghost use Rattle.dh_tables.specs.Codings as coding;
 ghost use Rattle.dh_tables.specs.Lists.{is_used, keeping};
 ghost use Rattle.dh_tables.specs.Tables.{lists_of};
-ghost use Rattle.dh_desk.specs.Checks.{IsSetAside};
+ghost use Rattle.dh_world.specs.Checks.{IsSetAside};
 ghost use Rattle.dh_desk.specs.Crashes.{LeavesEnd};
 ghost use Rattle.dh_desk.specs.Versions.{found_version};
 
-use crate::refusal::Refusal;
 use dh_paths::{HostName, Slug, Token};
-use dh_tables::{Answer, Operation, ProjectRow, Tables, VersionRow};
+use dh_tables::{ProjectRow, Tables, VersionRow};
+use dh_world::{Answer, Operation, Refusal};
 use sqlite::Alter;
 use std::alloc::Global;
 

@@ -3,20 +3,19 @@ ghost use Rattle.std.specs.Prelude.{◌≡◌, ◌⊎◌, true, ◌∷◌, map, 
 ghost use Rattle.sqlite.specs.Held.{state};
 ghost use Rattle.sqlite.specs.State.{HasCleanDisk};
 ghost use Rattle.dh_rows.specs.Calls.{IsHonest, Becomes, IsSame, LeavesNoMore, KeepsCommitted, seen, committed};
-ghost use Rattle.dh_tables.specs.Seen as names;
+ghost use Rattle.dh_world.specs.Seen as names;
 ghost use Rattle.dh_tables.specs.Tables.{lists_of};
-ghost use Rattle.dh_desk.specs.Changes.{without_name};
-ghost use Rattle.dh_desk.specs.Checks.{IsSetAside};
+ghost use Rattle.dh_world.specs.Changes.{without_name};
+ghost use Rattle.dh_world.specs.Checks.{IsSetAside};
 ghost use Rattle.dh_desk.specs.Crashes.{LeavesStep};
 ghost use Rattle.dh_desk.specs.Defaults.{defaults_but, with_defaults, without_records, bad_default};
 ghost use Rattle.dh_desk.specs.Desk.{AreSound, Turns, Steps};
 
 use crate::calls::{end, version_at};
-use crate::command::Command;
-use crate::refusal::Refusal;
 use crate::texts::version_in;
 use dh_paths::{HostName, Slug, Text};
-use dh_tables::{Answer, PickRow, Tables};
+use dh_tables::{PickRow, Tables};
+use dh_world::{Answer, Command, Refusal};
 use sqlite::Alter;
 use std::alloc::{AllocError, Global};
 

@@ -2,13 +2,12 @@
 ghost use Rattle.std.specs.Prelude.{◌≡◌, [], ◌∷◌, ⊤};
 ghost use Rattle.std.specs.List.{list_all};
 ghost use Rattle.dh_paths.specs.Texts.{is_page_path};
-ghost use Rattle.dh_desk.specs.Checks.{Checks};
-ghost use Rattle.dh_desk.specs.Refusals.{unless, first_of};
-ghost use Rattle.dh_desk.specs.Texts.{is_media_byte, is_media, is_count, has_path, bad_page, bad_pages};
+ghost use Rattle.dh_world.specs.Checks.{Checks};
+ghost use Rattle.dh_world.specs.Refusals.{unless, first_of};
+ghost use Rattle.dh_world.specs.Texts.{is_media_byte, is_media, is_count, has_path, bad_page, bad_pages};
 
-use crate::pages::{Pages, UploadedPage};
-use crate::refusal::Refusal;
 use dh_paths::{PagePath, Text};
+use dh_world::{Pages, Refusal, UploadedPage};
 use std::alloc::Global;
 
 fn all_media(bytes: &[u8]) -> bool

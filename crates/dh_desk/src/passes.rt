@@ -4,17 +4,16 @@ ghost use Rattle.sqlite.specs.Held.{state};
 ghost use Rattle.sqlite.specs.State.{HasCleanDisk};
 ghost use Rattle.dh_rows.specs.Calls.{IsHonest, IsSame, LeavesNoMore, KeepsCommitted, seen, committed};
 ghost use Rattle.dh_tables.specs.Tables.{lists_of};
-ghost use Rattle.dh_desk.specs.Checks.{IsSetAside};
+ghost use Rattle.dh_world.specs.Checks.{IsSetAside};
 ghost use Rattle.dh_desk.specs.Crashes.{LeavesStep};
 ghost use Rattle.dh_desk.specs.Desk.{AreSound, Turns, Steps};
 ghost use Rattle.dh_desk.specs.Passes.{asked_pass, missing_for};
 
 use crate::calls::{end, version_at};
-use crate::command::Command;
-use crate::refusal::Refusal;
 use crate::texts::{grant_in, pass_in};
 use dh_paths::Text;
-use dh_tables::{Answer, HeldRow, PassRow, Tables};
+use dh_tables::{HeldRow, PassRow, Tables};
+use dh_world::{Answer, Command, Refusal};
 use sqlite::Alter;
 use std::alloc::Global;
 

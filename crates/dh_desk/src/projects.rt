@@ -6,17 +6,16 @@ ghost use Rattle.sqlite.specs.Held.{state};
 ghost use Rattle.sqlite.specs.State.{HasCleanDisk};
 ghost use Rattle.dh_rows.specs.Calls.{IsHonest, LeavesNoMore, KeepsCommitted, seen, committed};
 ghost use Rattle.dh_tables.specs.Tables.{lists_of};
-ghost use Rattle.dh_desk.specs.Checks.{IsSetAside};
+ghost use Rattle.dh_world.specs.Checks.{IsSetAside};
 ghost use Rattle.dh_desk.specs.Crashes.{LeavesStep};
 ghost use Rattle.dh_desk.specs.Desk.{AreSound, Turns, Steps};
 ghost use Rattle.dh_desk.specs.Places.{place_for};
 
 use crate::calls::end;
-use crate::command::Command;
-use crate::refusal::Refusal;
 use crate::texts::{added_lang_in, project_in};
 use dh_paths::{HostName, Lang, Text};
-use dh_tables::{Answer, LangRow, ProjectRow, Tables};
+use dh_tables::{LangRow, ProjectRow, Tables};
+use dh_world::{Answer, Command, Refusal};
 use sqlite::Alter;
 use std::alloc::Global;
 

@@ -4,32 +4,20 @@ ghost use Rattle.sqlite.specs.Held.{state};
 ghost use Rattle.sqlite.specs.State.{HasCleanDisk};
 ghost use Rattle.dh_rows.specs.Calls.{IsHonest, LeavesNoMore, KeepsCommitted, seen, committed};
 ghost use Rattle.dh_tables.specs.Tables.{lists_of};
-ghost use Rattle.dh_desk.specs.Changes.{with_property};
-ghost use Rattle.dh_desk.specs.Checks.{IsSetAside};
+ghost use Rattle.dh_world.specs.Changes.{with_property};
+ghost use Rattle.dh_world.specs.Checks.{IsSetAside};
 ghost use Rattle.dh_desk.specs.Crashes.{LeavesStep};
 ghost use Rattle.dh_desk.specs.Desk.{AreSound, Turns, Steps};
 ghost use Rattle.dh_desk.specs.Versions.{setting};
 
 use crate::calls::{end, version_at};
-use crate::command::Command;
-use crate::refusal::Refusal;
 use crate::texts::version_in;
 use dh_paths::{HostName, Slug, Text};
-use dh_tables::{Answer, Tables};
+use dh_tables::Tables;
 use dh_versions::Version;
+use dh_world::{Answer, Command, Property, Refusal};
 use sqlite::Alter;
 use std::alloc::Global;
-
-/// What a command sets of a version. That it is inactive is none of these: then its pages go too.
-#[derive(Clone, Copy, Debug, PartialEq, Eq)]
-pub enum Property {
-    Active,
-    Hidden,
-    /// Not hidden.
-    Shown,
-    Public,
-    Private,
-}
 
 /// Sets a property, and leaves all else.
 fn set(version: &mut Version, property: Property)

@@ -9,19 +9,18 @@ ghost use Rattle.dh_paths.specs.Slugs.{slug_from};
 ghost use Rattle.dh_tables.specs.Codings as coding;
 ghost use Rattle.dh_tables.specs.Lists.{is_project, is_used, keeping};
 ghost use Rattle.dh_tables.specs.Tables.{lists_of};
-ghost use Rattle.dh_tables.specs.World.{Project};
-ghost use Rattle.dh_desk.specs.Changes.{same_kind, new_version, made};
-ghost use Rattle.dh_desk.specs.Checks.{IsSetAside};
+ghost use Rattle.dh_world.specs.World.{Project};
+ghost use Rattle.dh_world.specs.Changes.{same_kind, new_version, made};
+ghost use Rattle.dh_world.specs.Checks.{IsSetAside};
 ghost use Rattle.dh_desk.specs.Crashes.{LeavesStep};
 ghost use Rattle.dh_desk.specs.Desk.{AreSound, Turns, Steps};
 
 use crate::calls::{end, is_write_key, keep_answer};
-use crate::command::Command;
-use crate::refusal::Refusal;
 use crate::texts::{PushParts, push_in};
 use dh_paths::{RefName, Text};
-use dh_tables::{Answer, Operation, ProjectRow, Tables, VersionRow};
+use dh_tables::{ProjectRow, Tables, VersionRow};
 use dh_versions::{Kind, Version};
+use dh_world::{Answer, Command, Operation, Refusal};
 use sqlite::Alter;
 use std::alloc::Global;
 

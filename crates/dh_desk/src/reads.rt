@@ -7,10 +7,10 @@ ghost use Rattle.dh_paths.specs.Places.{split_of};
 ghost use Rattle.dh_rows.specs.Calls.{IsHonest, seen, committed};
 ghost use Rattle.dh_reply.specs.Replies.{is_system, reply_to};
 ghost use Rattle.dh_tables.specs.Lists.{world_of};
-ghost use Rattle.dh_tables.specs.Seen as caller;
+ghost use Rattle.dh_world.specs.Seen as caller;
 ghost use Rattle.dh_tables.specs.Tables.{lists_of};
 ghost use Rattle.dh_tables.specs.View.{Looks, shown};
-ghost use Rattle.dh_desk.specs.Reads.{host_named, pass_named};
+ghost use Rattle.dh_world.specs.Reads.{host_named, pass_named};
 
 use dh_paths::{HostName, TextFault, Token};
 use dh_reply::{Fault, Read, Reply, reply};

@@ -2,17 +2,15 @@
 ghost use Rattle.std.specs.Prelude.{◌≡◌, Bool, is_some};
 ghost use Rattle.dh_paths.specs.Texts.{is_host_name, is_lang, is_ref_name, is_slug, is_token};
 ghost use Rattle.dh_paths.specs.Slugs.{slug_from, slug_text};
-ghost use Rattle.dh_desk.specs.Checks.{Reads, Checks};
-ghost use Rattle.dh_desk.specs.Texts.{bad_text, bad_version, bad_pass, bad_grant};
-ghost use Rattle.dh_desk.specs.Refusals.{unless};
+ghost use Rattle.dh_world.specs.Checks.{Reads, Checks};
+ghost use Rattle.dh_world.specs.Texts.{bad_text, bad_version, bad_pass, bad_grant};
+ghost use Rattle.dh_world.specs.Refusals.{unless};
 
-use crate::command::Command;
 use crate::page_checks::check_pages;
-use crate::pages::Pages;
-use crate::refusal::Refusal;
 use dh_paths::{HostName, Lang, RefName, Slug, Text, TextFault, Token, slug_of};
 use dh_tables::{HeldRow, LangRow, PassRow, ProjectRow};
 use dh_versions::Kind;
+use dh_world::{Command, Pages, Refusal};
 use std::alloc::Global;
 
 fn host_in(alloc: Global, text: &Text) -> Result<HostName, Refusal>

@@ -8,20 +8,18 @@ ghost use Rattle.dh_rows.specs.Calls.{IsHonest, LeavesNoMore, KeepsCommitted, Be
 ghost use Rattle.dh_paths.specs.Texts.{is_page_path};
 ghost use Rattle.dh_tables.specs.Lists.{is_project, is_used};
 ghost use Rattle.dh_tables.specs.Tables.{lists_of};
-ghost use Rattle.dh_desk.specs.Checks.{IsSetAside};
+ghost use Rattle.dh_world.specs.Checks.{IsSetAside};
 ghost use Rattle.dh_desk.specs.Crashes.{LeavesStep};
 ghost use Rattle.dh_desk.specs.Desk.{AreSound, Turns, Steps};
 ghost use Rattle.dh_desk.specs.Rows.{page_row, with_rows, without_rows, with_upload};
 
 use crate::calls::{end, is_write_key, keep_answer};
-use crate::command::Command;
-use crate::pages::{Pages, UploadedPage};
 use crate::projects::is_among;
-use crate::refusal::Refusal;
 use crate::texts::{UploadParts, upload_in};
 use dh_paths::{Bytes, PagePath, Text};
 use dh_reply::Page;
-use dh_tables::{Answer, Operation, PageRow, ProjectRow, Tables};
+use dh_tables::{PageRow, ProjectRow, Tables};
+use dh_world::{Answer, Command, Operation, Pages, Refusal, UploadedPage};
 use sqlite::Alter;
 use std::alloc::Global;
 

@@ -5,10 +5,10 @@ use Rattle.std.specs.Io.KnownBytes.{Consumes}
 use Rattle.std.proofs.Math.Seq.{take-add}
 use Rattle.std.proofs.lemmas.List.{take-append-le, take-append-drop, take_all, length-take-le}
 use Rattle.std.proofs.lemmas.Bool.Decides.{nat_tests}
-use Rattle.dh_reply.specs.Ports.{CountsUpTo}
 use Rattle.dh_http.specs.declared.head_end.HeadEnd.TheVariants.{At, TooLarge, CutShort}
 use Rattle.dh_http.specs.declared.head_end.Scan.{Scan}
-use Rattle.dh_http.specs.Reading.{AddsSome}
+use Rattle.dh_ports.specs.Reading.{Adds, AddsSome}
+use Rattle.dh_ports.proofs.Taking.{takes_more}
 use Rattle.dh_http.specs.HeadEnd.{HeadSize, head_end_in, head_end_of, EndsHead}
 use Rattle.dh_http.specs.Scan.{after_byte, end_from, ended_or, behind, at_first, ScansTo}
 use Rattle.dh_http.proofs.Lines.{end_from-first, sized, behind_twice, unsome}
@@ -58,14 +58,6 @@ window limit came rest =
       ap (λ n. take n (came ++ rest)) (sym split) ∙ take-add m (limit - m) (came ++ rest)
           ∙ ap (λ front. front ++ take (limit - m) (drop m (came ++ rest))) (take-append-le m came rest within),
     )
-
--- what came grows
-pub takes_more : (old mid new : Option (List ℕ)) (before after : List ℕ) (came : Bool) → Consumes old mid before → AddsSome mid new before after came → Consumes old new after
-takes_more None mid new before after came p q = tt
-takes_more (Some x) None new before after came p q = absurd p
-takes_more (Some x) (Some y) None before after came p q = absurd q.1
-takes_more (Some x) (Some y) (Some z) before after came p q =
-    p ∙ ap (λ w. before ++ w) q.1 ∙ sym (append_assoc before q.0 z) ∙ ap (λ w. w ++ z) (sym q.2)
 
 -- the end by the search, of which the first 16,384 bytes are looked at
 head_end_of-search : (input : List ℕ) → head_end_of input ≡ head_end_in (end_from at_first (take 16384 input)) (length input)
@@ -160,13 +152,6 @@ scans_more mid new buf after piece seen limit scan next came e f r h q s =
     let sum_is : seen + length piece ≡ limit = omega arith in
     let P : List ℕ → ℕ → Type 0 = λ w k. ScansTo at_first w k next in
     subst (λ w. P w limit) front (subst (λ k. P (take seen buf ++ piece) k) sum_is (scans_on at_first scan next (take seen buf) piece seen (length piece) h s))
-
--- counts of calls add up
-pub counts_on : (a b c : Option ℕ) (n m k : ℕ) → CountsUpTo a b n → CountsUpTo b c m → n + m ≤ k → CountsUpTo a c k
-counts_on None b c n m k p q le = tt
-counts_on (Some x) None c n m k p q le = absurd p
-counts_on (Some x) (Some y) None n m k p q le = absurd q
-counts_on (Some x) (Some y) (Some z) n m k p q le = omega (arith, p, q)
 
 -- there are no more lines than bytes
 pub lines_more : (mid new : Option (List ℕ)) (buf after piece : List ℕ) (seen limit lines new_lines : ℕ) (came : Bool) → seen ≡ min (length buf) 16384 → limit ≡ min (length after) 16384 → piece ≡ take (limit - seen) (drop seen after) → AddsSome mid new buf after came → lines ≤ seen → new_lines ≤ lines + length piece → new_lines ≤ limit

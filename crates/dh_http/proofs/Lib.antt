@@ -1,5 +1,6 @@
 pub mod Lines
 pub mod Ends
+pub mod Needs
 pub mod Named
 pub mod Whole
-pub mod Asking
+pub mod Requests

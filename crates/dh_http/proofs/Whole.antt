@@ -9,7 +9,7 @@ use Rattle.httparse.specs.Grammar.{LineEnd, crlf, lf, print_end, print_blank, pr
 use Rattle.dh_http.specs.declared.head_end.Scan.{Scan}
 use Rattle.dh_http.specs.declared.head_end.Place.TheVariants.{Start, Return, Inside}
 use Rattle.dh_http.specs.HeadEnd.{HeadSize, lines_of, head_size, IsHeadText}
-use Rattle.dh_http.specs.Head.{IsHeadOf, HeadEndsByLines}
+use Rattle.dh_http.specs.Head.{IsHeadOf, Parts, HeadEndsByLines}
 use Rattle.dh_http.specs.Scan.{after_byte, behind, end_from, ended_or, at_first, ScansTo}
 use Rattle.dh_http.proofs.Lines.{end_from-first, behind_none, sized, unsome}
 use Rattle.dh_http.proofs.Ends.{scans_on}
@@ -170,3 +170,12 @@ none_of text t none h r = absurd (omega (arith, none h [] r, (whole text [] h t 
 
 pub some_of : (text rest : List ℕ) (h : RequestHead) → IsHeadText text → ReadsRequest text h rest → IsHeadOf text (Some h)
 some_of text rest h t r = subst (λ w. ReadsRequest text h w) ((whole text rest h t r).0) r
+
+-- parts that agree one by one
+pub same_parts : (a b : Parts) → a.method ≡ b.method → a.target ≡ b.target → a.host ≡ b.host → a.pass ≡ b.pass → a.key ≡ b.key → a ≡ b
+same_parts a b method target host pass key =
+    ap (λ v. record a { method = v }) method
+    ∙ ap (λ v. record b { target = v; host = a.host; pass = a.pass; key = a.key }) target
+    ∙ ap (λ v. record b { host = v; pass = a.pass; key = a.key }) host
+    ∙ ap (λ v. record b { pass = v; key = a.key }) pass
+    ∙ ap (λ v. record b { key = v }) key

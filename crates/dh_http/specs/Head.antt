@@ -1,5 +1,5 @@
 -- The head of a request, by the grammar of `httparse` (RFC 9112, sections 2 to 5), and the parts of it that count.
-use Rattle.std.specs.Prelude.{◌≡◌, List, ℕ, [], map, Option, Some, None, codes, length, ◌+◌, ◌++◌}
+use Rattle.std.specs.Prelude.{◌≡◌, List, ℕ, [], map, Option, Some, None, codes, length, ◌+◌, ◌<◌, ◌++◌}
 use Rattle.httparse.specs.Grammar.{RequestHead, IsRequestHead, ReadsRequest, print_request}
 use Rattle.httparse.specs.Spans.{name_and_value}
 use Rattle.dh_http.specs.declared.head.Head.{Head}
@@ -15,21 +15,50 @@ IsHeadOf text None = (head : RequestHead) → ¬ (ReadsRequest text head [])
 abbrev pub line_named : List ℕ → RequestHead → Option (Option (List ℕ))
 line_named name head = at_most_one (values_named name (map name_and_value head.fields))
 
--- the parts are those of the head
-pub record ShowsHead (head : RequestHead) (parts : Head) : Type 0 where
-  pub method : parts.method.now ≡ head.method
-  pub target : parts.target.now ≡ head.target
-  pub host : one_of parts.host ≡ line_named (codes "Host") head
-  pub pass : one_of parts.pass ≡ line_named (codes "Docs-Pass") head
-  pub key : one_of parts.key ≡ line_named (codes "Docs-Key") head
+-- every head that the text begins with has more fields than that
+abbrev pub HasMoreFields : List ℕ → ℕ → Type 0
+HasMoreFields text most =
+    (head : RequestHead) (rest : List ℕ) → ReadsRequest text head rest → most < length head.fields
 
--- the text is a head with these parts, or no head
+-- what counts of a head: its method, its target, and of each line that may stand once the value: none where it does not stand,
+-- and nothing where it stands twice
+pub record Parts : Type 0 where
+  pub method : List ℕ
+  pub target : List ℕ
+  pub host : Option (Option (List ℕ))
+  pub pass : Option (Option (List ℕ))
+  pub key : Option (Option (List ℕ))
+
+-- of a head of the grammar
+abbrev pub parts_of : RequestHead → Parts
+parts_of head = record {
+  method = head.method;
+  target = head.target;
+  host = line_named (codes "Host") head;
+  pass = line_named (codes "Docs-Pass") head;
+  key = line_named (codes "Docs-Key") head;
+}
+
+-- of a head as it was found in a text
+abbrev pub parts_found : Head → Parts
+parts_found found = record {
+  method = found.method.now;
+  target = found.target.now;
+  host = one_of found.host;
+  pass = one_of found.pass;
+  key = one_of found.key;
+}
+
+-- what was found is a head that the text is, or the text is none
 abbrev pub IsReadAs : List ℕ → Option Head → Type 0
 IsReadAs text None = IsHeadOf text None
-IsReadAs text (Some parts) = (head : RequestHead) × IsHeadOf text (Some head) × ShowsHead head parts
+IsReadAs text (Some found) =
+    (head : RequestHead) × IsHeadOf text (Some head) × (parts_found found ≡ parts_of head)
 
--- whatever follows a head of the grammar, by its lines the head ends where its text does, with a line a field beside the request line
+-- whatever follows a head of the grammar, by its lines the head ends where its text does, with a line a field beside the
+-- request line
 abbrev pub HeadEndsByLines : Type 0
 HeadEndsByLines =
     (head : RequestHead) (rest : List ℕ) → IsRequestHead head
-    → head_size (lines_of (print_request head ++ rest)) ≡ Some (record { bytes = length (print_request head); lines = 1 + length head.fields })
+    → head_size (lines_of (print_request head ++ rest))
+    ≡ Some (record { bytes = length (print_request head); lines = 1 + length head.fields })

@@ -1,6 +1,7 @@
 -- Where the head of a request ends (RFC 9112, section 2): empty lines, the request line, the field lines, and an empty line.
-use Rattle.std.specs.Prelude.{◌≡◌, ℕ, ◌+◌, ◌≤◌, Bool, true, false, List, [], ◌∷◌, length, take, Option, Some, None, if◌then◌else◌, ◌==◌, nat_le}
+use Rattle.std.specs.Prelude.{◌≡◌, ℕ, ◌+◌, ◌≤◌, ◌<◌, Bool, true, false, List, [], ◌∷◌, ◌++◌, length, take, Option, Some, None, if◌then◌else◌, ◌==◌, nat_le}
 use Rattle.std.specs.Option.{option_map}
+use Rattle.std.specs.Io.KnownBytes.{Consumes}
 use Rattle.dh_http.specs.declared.head_end.HeadEnd.{HeadEnd}
 use Rattle.dh_http.specs.declared.head_end.HeadEnd.TheVariants.{At, TooLarge, CutShort}
 
@@ -27,7 +28,8 @@ pub record HeadSize : Type 0 where
 
 -- the same with a line in front, which counts or does not
 abbrev pub with_line : List ℕ → ℕ → HeadSize → HeadSize
-with_line line count size = record { bytes = length line + 1 + size.bytes; lines = count + size.lines }
+with_line line count size =
+    record { bytes = length line + 1 + size.bytes; lines = count + size.lines }
 
 -- up to and with the first empty line
 abbrev pub size_to_empty : List (List ℕ) → Option HeadSize
@@ -54,10 +56,28 @@ head_end_of input = head_end_in (head_size (lines_of (take 16384 input))) (lengt
 
 -- the text is a head by its lines, and no more: at most 65 of them are not empty
 abbrev pub IsHeadText : List ℕ → Type 0
-IsHeadText text = (lines : ℕ) × (lines ≤ 65) × (head_size (lines_of text) ≡ Some (record { bytes = length text; lines = lines }))
+IsHeadText text =
+    (lines : ℕ)
+    × (lines ≤ 65)
+    × (head_size (lines_of text) ≡ Some (record { bytes = length text; lines = lines }))
 
 -- the bytes up to the end are the text of a head
 abbrev pub EndsHead : HeadEnd → List ℕ → Type 0
 EndsHead (At n) bytes = (n ≤ length bytes) × IsHeadText (take n bytes)
 EndsHead TooLarge bytes = Unit {0}
 EndsHead CutShort bytes = Unit {0}
+
+-- the head of an input that begins with these bytes is not whole yet, and not too large
+pub record NeedsMore (bytes : List ℕ) : Type 0 where
+  pub open_head : head_size (lines_of bytes) ≡ None
+  pub room : length bytes < 16384
+
+-- what was taken is a part of a head that needs more, and behind it so many bytes at most: no more was asked for once a head
+-- was whole
+abbrev pub IsNeeded : Option (List ℕ) → Option (List ℕ) → ℕ → Type 0
+IsNeeded old new most =
+    (part : List ℕ)
+    × (last : List ℕ)
+    × NeedsMore part
+    × Consumes old new (part ++ last)
+    × (length last ≤ most)

@@ -1,5 +1,5 @@
 -- The search for the end of a head, byte by byte.
-use Rattle.std.specs.Prelude.{◌≡◌, ℕ, ◌+◌, Bool, true, false, List, [], ◌∷◌, ◌++◌, Option, Some, None, if◌then◌else◌, ◌==◌}
+use Rattle.std.specs.Prelude.{◌≡◌, ℕ, ◌+◌, ◌≤◌, Bool, true, false, List, [], ◌∷◌, ◌++◌, length, Option, Some, None, if◌then◌else◌, ◌==◌}
 use Rattle.std.specs.Option.{option_map}
 use Rattle.dh_http.specs.declared.head_end.Place.{Place}
 use Rattle.dh_http.specs.declared.head_end.Place.TheVariants.{Start, Return, Inside}
@@ -21,13 +21,15 @@ ends_empty Inside = false
 -- behind the LF of a line, unless the head ends there
 abbrev pub after_line : Scan → Option Scan
 after_line scan =
-    if ends_empty scan.place then (if scan.lines == 0 then Some (record { lines = 0; place = Start }) else None)
+    if ends_empty scan.place
+    then (if scan.lines == 0 then Some (record { lines = 0; place = Start }) else None)
     else Some (record { lines = scan.lines + 1; place = Start })
 
 -- behind a byte, unless the head ends there
 abbrev pub after_byte : Scan → ℕ → Option Scan
 after_byte scan b =
-    if b == 10 then after_line scan else Some (record { lines = scan.lines; place = place_after scan.place b })
+    if b == 10 then after_line scan
+    else Some (record { lines = scan.lines; place = place_after scan.place b })
 
 -- with so many bytes in front
 abbrev pub behind : ℕ → HeadSize → HeadSize
@@ -49,4 +51,10 @@ at_first = record { lines = 0; place = Start }
 
 -- behind the bytes, of which there are n, the search stands at now: whatever follows, the end is found from there
 abbrev pub ScansTo : Scan → List ℕ → ℕ → Scan → Type 0
-ScansTo first bytes n now = (more : List ℕ) → end_from first (bytes ++ more) ≡ option_map (behind n) (end_from now more)
+ScansTo first bytes n now =
+    (more : List ℕ) → end_from first (bytes ++ more) ≡ option_map (behind n) (end_from now more)
+
+-- the head ends behind the n-th of the bytes, with the lines that the search counted
+abbrev pub FindsEnd : Scan → List ℕ → Scan → ℕ → Type 0
+FindsEnd first bytes now n =
+    (n ≤ length bytes) × (end_from first bytes ≡ Some (record { bytes = n; lines = now.lines }))

@@ -35,7 +35,8 @@ fn with_line<'b>(found: Lines<'b>, value: &'b [u8]) -> Lines<'b>
 /// The lines of the name, in any case.
 pub fn lines_named<'b>(text: &'b [u8], headers: &[HeaderSpan], name: &[u8]) -> Lines<'b>
     requires { All (IsHeaderWithin (length text.now)) headers.now }
-    ensures { one_of result ≡ at_most_one (values_named name.now (map (header_bytes text.now) headers.now)) }
+    ensures { one_of result
+        ≡ at_most_one (values_named name.now (map (header_bytes text.now) headers.now)) }
 {
     let mut found = Lines::Absent;
     for header in headers {

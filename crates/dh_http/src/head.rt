@@ -1,10 +1,10 @@
 //! The head of a request.
 
-ghost use Rattle.std.specs.Prelude.{◌≡◌, ℕ, List, ◌<◌, ◌≤◌, length, IfNone, IfSome};
-ghost use Rattle.httparse.specs.Grammar.{RequestHead, ReadsRequest};
+ghost use Rattle.std.specs.Prelude.{length, IfNone, IfSome};
+ghost use Rattle.httparse.specs.Grammar.{RequestHead};
 ghost use Rattle.httparse.specs.Spans.{IsRequestWithin, IsRequestAt};
 ghost use Rattle.dh_http.specs.HeadEnd.{IsHeadText};
-ghost use Rattle.dh_http.specs.Head.{IsReadAs};
+ghost use Rattle.dh_http.specs.Head.{IsReadAs, HasMoreFields};
 
 use crate::fields::{Lines, lines_named};
 use httparse::Status;
@@ -15,16 +15,20 @@ use httparse::spans::{EMPTY_HEADER_SPAN, HeaderSpan, RequestSpans, parse_request
 pub struct Head<'b> {
     pub method: &'b [u8],
     pub target: &'b [u8],
+    /// Of `Host`.
     pub host: Lines<'b>,
+    /// Of `Docs-Pass`.
     pub pass: Lines<'b>,
+    /// Of `Docs-Key`.
     pub key: Lines<'b>,
 }
 
 /// The head that the text begins with, of no more fields than there is room for.
 fn parse_head(text: &[u8], headers: &mut [HeaderSpan]) -> Option<RequestSpans>
-    ensures some { IfSome result (λ spans. (head : RequestHead) × IsRequestAt text.now headers.new spans head) }
+    ensures some { IfSome result (λ spans.
+        (head : RequestHead) × IsRequestAt text.now headers.new spans head) }
     ensures within { IfSome result (IsRequestWithin text.now headers.new) }
-    ensures none { IfNone result ((head : RequestHead) (rest : List ℕ) → ReadsRequest text.now head rest → length headers.old < length head.fields) }
+    ensures none { IfNone result (HasMoreFields text.now (length headers.old)) }
 {
     match parse_request(text, headers) {
         Ok(Status::Complete(spans)) => Some(spans),

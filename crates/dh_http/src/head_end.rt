@@ -1,15 +1,13 @@
 //! Where the head of a request ends.
 
-ghost use Rattle.std.specs.Prelude.{◌≡◌, ◌+◌, ◌^◌, ◌-◌, ◌≤◌, ◌<◌, [], length, Some, false, IfOk, OnOk, IfNone, IfSome, IsErrOf};
+ghost use Rattle.std.specs.Prelude.{◌≡◌, ◌+◌, ◌^◌, ◌-◌, ◌≤◌, ◌<◌, [], length, Some, false, IfOk, OnOk, IfNone, IfSome, IsErrOf, if◌then◌else◌};
 ghost use Rattle.std.specs.Io.KnownBytes.{Consumes};
-ghost use Rattle.dh_reply.specs.Ports.{CountsUpTo};
-ghost use Rattle.dh_http.specs.Reading.{reader_failed};
-ghost use Rattle.dh_http.specs.HeadEnd.{head_end_of, EndsHead};
-ghost use Rattle.dh_http.specs.Scan.{after_byte, end_from, ScansTo};
+ghost use Rattle.dh_ports.specs.Ports.{CountsUpTo};
+ghost use Rattle.dh_ports.specs.Reading.{reader_failed};
+ghost use Rattle.dh_http.specs.HeadEnd.{head_end_of, EndsHead, IsNeeded};
+ghost use Rattle.dh_http.specs.Scan.{after_byte, ScansTo, FindsEnd};
 
-use crate::intake::Intake;
-use crate::stop::Stop;
-use dh_reply::ports::Source;
+use dh_ports::{Intake, Source, Stop};
 
 /// Where in its line the search stands.
 #[derive(Clone, Copy, Debug, PartialEq, Eq, Drop)]
@@ -81,7 +79,7 @@ fn after(scan: Scan, byte: u8) -> Option<Scan>
 /// How many bytes it is to the end of the head, if it is among these.
 fn find_end(scan: &mut Scan, bytes: &[u8]) -> Option<usize>
     requires { scan.old.lines + length bytes.now < 2 ^ 64 }
-    ensures found { IfSome result (λ n. (n ≤ length bytes.now) × (end_from scan.old bytes.now ≡ Some (record { bytes = n; lines = scan.new.lines }))) }
+    ensures found { IfSome result (FindsEnd scan.old bytes.now scan.new) }
     ensures none { IfNone result (ScansTo scan.old bytes.now (length bytes.now) scan.new) }
     ensures lines { scan.new.lines ≤ scan.old.lines + length bytes.now }
 {
@@ -94,15 +92,19 @@ fn find_end(scan: &mut Scan, bytes: &[u8]) -> Option<usize>
     None
 }
 
-/// Reads up to the end of the head. Each read brings a byte and a head has no more than 16,384, so there are never too many
-/// reads.
+/// Reads up to the end of the head, and not once more. Each read brings a byte and a head has no more than 16,384, so there are
+/// never too many reads.
 pub fn read_head<R: Source>(intake: &mut Intake, source: &mut R) -> Result<HeadEnd, Stop>
     requires empty { intake.old.bytes.items ≡ [] }
     requires unasked { intake.old.turns ≡ 0 }
     requires fine { R.broken source.old ≡ false }
-    ensures taken { OnOk result (Consumes (R.left source.old) (R.left source.new) intake.new.bytes.items) }
-    ensures end { IfOk result (λ end. IfSome (R.left source.old) (λ input. end ≡ head_end_of input)) }
+    ensures taken { OnOk result
+        (Consumes (R.left source.old) (R.left source.new) intake.new.bytes.items) }
+    ensures end { IfOk result (λ end.
+        IfSome (R.left source.old) (λ input. end ≡ head_end_of input)) }
     ensures text { IfOk result (λ end. EndsHead end intake.new.bytes.items) }
+    ensures needed { IsNeeded (R.left source.old) (R.left source.new)
+        (if reader_failed result then 0 else 4096) }
     ensures broken { R.broken source.new ≡ reader_failed result }
     ensures turns { IsErrOf result Stop.TooManyTurns → ⊥ }
     ensures little { OnOk result (length intake.new.bytes.items ≤ 20480) }

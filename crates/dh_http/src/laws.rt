@@ -1,13 +1,13 @@
 //! What holds of all requests. Each law is the contract of a function that does nothing.
 
 ghost use Rattle.std.specs.Prelude.{◌≡◌, ℕ, List};
-ghost use Rattle.dh_http.specs.declared.asked.Asked.{Asked};
+ghost use Rattle.dh_http.specs.declared.request.Request.{Request};
 ghost use Rattle.dh_http.specs.Head.{HeadEndsByLines};
 ghost use Rattle.dh_http.specs.Request.{IsRequest};
 
 /// Some bytes are no more than one request.
 pub fn one_reading()
-    ensures { (input : List ℕ) (a b : Asked) → IsRequest input a → IsRequest input b → a ≡ b }
+    ensures { (input : List ℕ) (a b : Request) → IsRequest input a → IsRequest input b → a ≡ b }
 {}
 
 /// A head of the grammar is a head by its lines, and has a line a field beside the request line.

@@ -1,17 +1,16 @@
-//! HTTP requests: how they are read, and what they ask.
+//! HTTP requests: how they are read, and what they ask for.
 #![tactic(auto)]
 
-pub mod asked;
+mod fault;
 mod fields;
 mod head;
 mod head_end;
-mod intake;
 mod laws;
-pub mod stop;
+pub mod request;
 
-pub use asked::{Asked, read_request};
+pub use dh_ports::Stop;
 pub use laws::{one_reading, whole_head};
-pub use stop::Stop;
+pub use request::{Request, read_request};
 
 #[cfg(test)]
 mod tests;

@@ -1,6 +1,6 @@
 use super::*;
+use dh_ports::{Failed, Source};
 use dh_reply::Allow;
-use dh_reply::ports::{Failed, Source};
 use std::test::Fail;
 
 /// A source over memory, in pieces, which fails after so many calls.
@@ -37,7 +37,7 @@ impl<'a> Source for Pieces<'a> {
     }
 }
 
-fn ask(rt: &HostRuntime, input: &[u8], piece: usize) -> Result<Asked, Stop> {
+fn ask(rt: &HostRuntime, input: &[u8], piece: usize) -> Result<Request, Stop> {
     let mut source = Pieces {
         rest: input,
         piece,
@@ -47,10 +47,10 @@ fn ask(rt: &HostRuntime, input: &[u8], piece: usize) -> Result<Asked, Stop> {
     read_request(rt.alloc(), &mut source)
 }
 
-/// What was asked, in words: the host, the pass, the path, the query; or the status.
-fn words(rt: &HostRuntime, asked: &Asked) -> Result<String, Fail> {
-    match asked {
-        Asked::Read {
+/// What is asked for, in words: the host, the pass, the path, the query; or the status.
+fn words(rt: &HostRuntime, request: &Request) -> Result<String, Fail> {
+    match request {
+        Request::Read {
             host,
             pass,
             read,
@@ -71,7 +71,7 @@ fn words(rt: &HostRuntime, asked: &Asked) -> Result<String, Fail> {
             };
             Ok(format!(in rt.alloc(); "read {host} {pass} {} {query} {head}", read.path.as_str())?)
         }
-        Asked::Refused {
+        Request::Refused {
             status,
             allow,
             head,
@@ -87,8 +87,8 @@ fn words(rt: &HostRuntime, asked: &Asked) -> Result<String, Fail> {
 }
 
 fn said(rt: &HostRuntime, input: &[u8], piece: usize) -> Result<String, Fail> {
-    let asked = ask(rt, input, piece)?;
-    words(rt, &asked)
+    let request = ask(rt, input, piece)?;
+    words(rt, &request)
 }
 
 const STORED: &[u8] = b"GET /en/latest/install.html HTTP/1.1\r\nHost: docs.test\r\n\r\n";
@@ -194,6 +194,39 @@ fn a_large_head(rt: HostRuntime) -> Result<(), Fail> {
     Ok(())
 }
 
+/// A request whose path has so many letters, and then bytes that are no part of it.
+fn with_path(rt: &HostRuntime, letters: usize) -> Result<Vec<u8>, Fail> {
+    let mut input = Vec::new(rt.alloc());
+    input.extend_from_slice(b"GET /")?;
+    for _ in 0..letters {
+        input.push(b'a')?;
+    }
+    input.extend_from_slice(b" HTTP/1.1\r\nHost: docs.test\r\n\r\nbehind the head")?;
+    Ok(input)
+}
+
+/// Reads a request of so many letters, in pieces of 16 bytes, from a source that fails once the head is whole.
+fn reads_no_more(rt: &HostRuntime, letters: usize) -> Result<bool, Fail> {
+    let input = with_path(rt, letters)?;
+    let head = input.len().saturating_sub(b"behind the head".len());
+    let mut source = Pieces {
+        rest: input.as_slice(),
+        piece: 16,
+        calls: head.div_ceil(16),
+        stopped: false,
+    };
+    let request = read_request(rt.alloc(), &mut source);
+    Ok(source.calls == 0 && !source.stopped && matches!(request, Ok(Request::Read { .. })))
+}
+
+#[test]
+fn no_read_behind_the_head(rt: HostRuntime) -> Result<(), Fail> {
+    for letters in 0..16 {
+        assert!(rt; reads_no_more(&rt, letters)?);
+    }
+    Ok(())
+}
+
 #[test]
 fn a_reader_that_fails(rt: HostRuntime) -> Result<(), Fail> {
     let mut source = Pieces {
@@ -202,8 +235,8 @@ fn a_reader_that_fails(rt: HostRuntime) -> Result<(), Fail> {
         calls: 3,
         stopped: false,
     };
-    let asked = read_request(rt.alloc(), &mut source);
-    assert!(rt; matches!(asked, Err(Stop::Read)));
+    let request = read_request(rt.alloc(), &mut source);
+    assert!(rt; matches!(request, Err(Stop::Read)));
     assert!(rt; source.failed());
     Ok(())
 }

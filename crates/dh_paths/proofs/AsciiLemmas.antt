@@ -1,5 +1,5 @@
 -- Texts whose bytes pass a test of ASCII bytes are UTF-8.
-use Rattle.std.proofs.Common.{◌≡◌, ℕ, ◌<◌, Bool, true, false, ◌&&◌, List, refl, arith}
+use Rattle.std.proofs.Common.{◌≡◌, ℕ, ◌<◌, Bool, true, false, List, refl, arith}
 use Rattle.std.specs.List.{list_all}
 use Rattle.std.specs.Str.{IsAscii, IsUtf8}
 use Rattle.std.proofs.lemmas.Bool.Decides.{nat_tests}
@@ -9,6 +9,7 @@ use Rattle.std.proofs.lemmas.Str.{IsUtf8-from_ascii}
 use Rattle.std.proofs.lemmas.Str.Ascii.{IsAscii-from_all}
 use Rattle.dh_paths.specs.Texts.{is_host_byte, is_host_name}
 use Rattle.dh_paths.specs.Targets.{is_target_byte}
+use Rattle.dh_paths.proofs.PartLemmas.{first, second}
 
 ascii_by : (test : ℕ → Bool) → ((b : ℕ) → test b ≡ true → b < 128) → (text : List ℕ) → list_all test text ≡ true → IsAscii text
 ascii_by test below text h =
@@ -22,14 +23,6 @@ target_ascii text h = ascii_by is_target_byte target_below text h
 
 host_below : (b : ℕ) → is_host_byte b ≡ true → b < 128
 host_below b h = grind (arith, nat_tests)
-
-second : (a b : Bool) → (a && b) ≡ true → b ≡ true
-second true b h = h
-second false b h = absurd (cc)
-
-first : (a b : Bool) → (a && b) ≡ true → a ≡ true
-first true b h = refl
-first false b h = h
 
 host_name_utf8 : (text : List ℕ) → is_host_name text ≡ true → IsUtf8 text
 host_name_utf8 text h =

@@ -1,5 +1,7 @@
+pub mod Bytes
 pub mod Texts
 pub mod Escapes
 pub mod Places
 pub mod Slugs
 pub mod Targets
+pub mod Forms

@@ -4,6 +4,7 @@ use Rattle.std.specs.List.{starts_with, join_with_byte}
 use Rattle.std.specs.Str.{bytes_eq}
 use Rattle.dh_paths.specs.declared.place.Split.{Split}
 use Rattle.dh_paths.specs.declared.place.Split.TheVariants as code
+use Rattle.dh_paths.specs.Bytes.{slash}
 use Rattle.dh_paths.specs.Texts.{segments}
 
 pub data Place : Type 0 where
@@ -18,7 +19,7 @@ pub data Place : Type 0 where
 -- by the parts between slashes: `/l/n` is bare and `/l/n/rest` a file, with l and n not empty
 abbrev pub address_of : List (List ℕ) → Place
 address_of ([] ∷ l ∷ n ∷ []) = if length l == 0 || length n == 0 then Other else Bare l n
-address_of ([] ∷ l ∷ n ∷ r ∷ rs) = if length l == 0 || length n == 0 then Other else File l n (join_with_byte 47 (r ∷ rs))
+address_of ([] ∷ l ∷ n ∷ r ∷ rs) = if length l == 0 || length n == 0 then Other else File l n (join_with_byte slash (r ∷ rs))
 address_of _ = Other
 
 -- the first that fits

@@ -1,11 +1,12 @@
 -- The slug of a version, from the name of its branch or tag (Read the Docs, "Versions").
 use Rattle.std.specs.Prelude.{ℕ, ◌+◌, ◌&&◌, nat_le, if◌then◌else◌, Option, Some, None, List, [], ◌∷◌, ◌++◌, map}
 use Rattle.std.specs.Str.{chars}
+use Rattle.dh_paths.specs.Bytes.{dash}
 use Rattle.dh_paths.specs.Texts.{is_slug_byte, is_lower_or_digit, is_slug}
 
 -- capitals are lowered, and what a slug cannot hold becomes `-`
 abbrev pub slug_char : ℕ → ℕ
-slug_char c = if nat_le 65 c && nat_le c 90 then c + 32 else if is_slug_byte c then c else 45
+slug_char c = if nat_le 65 c && nat_le c 90 then c + 32 else if is_slug_byte c then c else dash
 
 -- the text from its first letter or digit on
 abbrev pub from_letter : List ℕ → List ℕ

@@ -1,9 +1,10 @@
 -- The target of a request and the host part of an address (RFC 9112, section 3.2; RFC 3986, section 3.2).
-use Rattle.std.specs.Prelude.{ℕ, ◌+◌, Bool, true, ◌&&◌, ◌||◌, not, ◌==◌, nat_le, nat_lt, if◌then◌else◌, Option, Some, None, is_some, List, [], ◌∷◌, slice_index, take, drop, map, codes}
+use Rattle.std.specs.Prelude.{ℕ, ◌+◌, ◌<◌, IsTrue, length, Bool, true, false, ◌&&◌, ◌||◌, not, ◌==◌, nat_le, nat_lt, if◌then◌else◌, Option, Some, None, is_some, List, [], ◌∷◌, slice_index, take, drop, map, codes}
 use Rattle.std.specs.Char.{to_ascii_lowercase}
 use Rattle.std.specs.List.{list_all, position, prefix_len, before_first}
-use Rattle.std.specs.Option.{option_map, option_and_then}
+use Rattle.std.specs.Option.{option_map, option_map_or, option_and_then}
 use Rattle.std.specs.Str.{is_utf8, str_eq_ignore_ascii_case}
+use Rattle.dh_paths.specs.Bytes.{exclamation, hash, dollar, percent, comma, dash, dot, slash, colon, semicolon, equals, question, open_bracket, close_bracket, underscore, tilde}
 use Rattle.dh_paths.specs.Escapes.{unescaped}
 use Rattle.dh_paths.specs.Texts.{is_digit, is_no_control, is_host_name, first_byte}
 use Rattle.dh_paths.specs.declared.target.Target.{Target}
@@ -12,26 +13,27 @@ use Rattle.dh_paths.specs.declared.target.Target.{Target}
 abbrev pub is_name_byte : ℕ → Bool
 is_name_byte b =
     (nat_le 65 b && nat_le b 90) || (nat_le 97 b && nat_le b 122) || is_digit b
-    || b == 45 || b == 46 || b == 95 || b == 126 || b == 33 || b == 36 || (nat_le 37 b && nat_le b 44) || b == 59 || b == 61
+    || b == dash || b == dot || b == underscore || b == tilde || b == exclamation || b == dollar || (nat_le percent b && nat_le b comma)
+    || b == semicolon || b == equals
 
 -- `0-9 A-F a-f : .`: what an address in brackets is written with
 abbrev pub is_address_byte : ℕ → Bool
-is_address_byte b = is_digit b || (nat_le 65 b && nat_le b 70) || (nat_le 97 b && nat_le b 102) || b == 58 || b == 46
+is_address_byte b = is_digit b || (nat_le 65 b && nat_le b 70) || (nat_le 97 b && nat_le b 102) || b == colon || b == dot
 
 -- `[`, one or more address bytes, `]`: how long it is, 0 where the text begins with none
 abbrev pub bracketed_len : List ℕ → ℕ
 bracketed_len text =
     let inner = prefix_len is_address_byte (drop 1 text) in
-    if nat_lt 0 inner && slice_index text (inner + 1) == 93 then inner + 2 else 0
+    if nat_lt 0 inner && slice_index text (inner + 1) == close_bracket then inner + 2 else 0
 
 -- how long the name is that the text begins with
 abbrev pub name_len : List ℕ → ℕ
-name_len text = if first_byte text == 91 then bracketed_len text else prefix_len is_name_byte text
+name_len text = if first_byte text == open_bracket then bracketed_len text else prefix_len is_name_byte text
 
 -- nothing, or a colon and decimal digits or none
 abbrev pub is_port : List ℕ → Bool
 is_port [] = true
-is_port (b ∷ digits) = b == 58 && list_all is_digit digits
+is_port (b ∷ digits) = b == colon && list_all is_digit digits
 
 -- the name in small letters, where it is one that a project can have
 abbrev pub host_named : List ℕ → Option (List ℕ)
@@ -44,12 +46,16 @@ host_of (b ∷ bs) =
     let len = name_len (b ∷ bs) in
     if nat_lt 0 len && is_port (drop len (b ∷ bs)) then Some (host_named (take len (b ∷ bs))) else None
 
+-- the text is a host part that is not empty, whatever host it names
+abbrev pub NamesSome : List ℕ → Type 0
+NamesSome text = (0 < length text) × IsTrue (is_some (host_of text))
+
 -- a byte of a target: 0x21 to 0x7E, and not `#`
 abbrev pub is_target_byte : ℕ → Bool
-is_target_byte b = nat_le 33 b && nat_le b 126 && not (b == 35)
+is_target_byte b = nat_le 33 b && nat_le b 126 && not (b == hash)
 
 abbrev pub is_question : ℕ → Bool
-is_question b = b == 63
+is_question b = b == question
 
 -- what stands after the first `?`
 abbrev pub query_of : List ℕ → Option (List ℕ)
@@ -72,21 +78,32 @@ after_scheme text =
 
 -- how long the host part is: up to the first `/` or `?`
 abbrev pub authority_len : List ℕ → ℕ
-authority_len text = prefix_len (λ b. not (b == 47 || b == 63)) text
+authority_len text = prefix_len (λ b. not (b == slash || b == question)) text
 
 -- a path begins with a slash, also one that is left out
 abbrev pub rooted : List ℕ → List ℕ
-rooted text = if first_byte text == 47 then text else 47 ∷ text
+rooted text = if first_byte text == slash then text else slash ∷ text
+
+-- the text begins with a host part that is not empty, up to the first `/` or `?` or its end
+abbrev pub begins_with_host_part : List ℕ → Bool
+begins_with_host_part text =
+    let len = authority_len text in
+    nat_lt 0 len && is_some (host_of (take len text))
 
 -- a host part that is not empty, and then nothing, a path or a query
 unfoldable pub absolute_of : List ℕ → Option Target
 absolute_of text =
     let len = authority_len text in
-    if nat_lt 0 len && is_some (host_of (take len text)) then target_at (Some (take len text)) (rooted (drop len text)) else None
+    if begins_with_host_part text then target_at (Some (take len text)) (rooted (drop len text)) else None
+
+-- a target by its form alone, whatever its path decodes to
+abbrev pub has_form : List ℕ → Bool
+has_form text =
+    list_all is_target_byte text && (first_byte text == slash || option_map_or begins_with_host_part (after_scheme text) false)
 
 -- the target that the bytes are: in origin form or in absolute form
 unfoldable pub target_of : List ℕ → Option Target
 target_of text =
     if not (list_all is_target_byte text) then None
-    else if first_byte text == 47 then target_at None text
+    else if first_byte text == slash then target_at None text
     else option_and_then absolute_of (after_scheme text)

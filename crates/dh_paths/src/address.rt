@@ -1,27 +1,31 @@
-ghost use Rattle.std.specs.Prelude.{MatchOption, true, false, ◌≡◌, ◌∷◌, [], nat_eq, length, drop};
-ghost use Rattle.std.specs.List.{starts_with};
-ghost use Rattle.dh_paths.specs.Texts.{segments};
+//! What a path names.
+
+ghost use Rattle.std.specs.Prelude.{MatchOption, Some, None, ◌≡◌, ◌∷◌, []};
+ghost use Rattle.dh_paths.specs.Texts.{rest_after, segments};
 ghost use Rattle.dh_paths.specs.Places.{place, split_of, address_of, Other};
 
 use crate::place::Split;
 
-/// What stands after the front.
-fn rest_after<'a>(text: &'a str, front: &str) -> Option<&'a str>
-    ensures { MatchOption result (starts_with nat_eq text.now front.now ≡ false) (λ x. (starts_with nat_eq text.now front.now ≡ true) × (x.now ≡ drop (length front.now) text.now)) }
+/// What follows the front, where the text begins with it.
+pub fn rest_after<'a>(text: &'a str, front: &str) -> Option<&'a str>
+    ensures { MatchOption result (rest_after front.now text.now ≡ None)
+        (λ rest. rest_after front.now text.now ≡ Some rest.now) }
 {
     text.strip_prefix(front)
 }
 
 /// What stands before the first slash, and after it.
 fn at_slash(text: &str) -> Option<(&str, &str)>
-    ensures { MatchOption result (segments text.now ≡ text.now ∷ []) (λ x. segments text.now ≡ x.0.now ∷ segments x.1.now) }
+    ensures { MatchOption result (segments text.now ≡ text.now ∷ [])
+        (λ (first, rest). segments text.now ≡ first.now ∷ segments rest.now) }
 {
     text.split_once('/')
 }
 
 /// What stands after a slash at the front.
 fn after_slash(text: &str) -> Option<&str>
-    ensures { MatchOption result (address_of (segments text.now) ≡ Other) (λ x. segments text.now ≡ [] ∷ segments x.now) }
+    ensures { MatchOption result (address_of (segments text.now) ≡ Other)
+        (λ rest. segments text.now ≡ [] ∷ segments rest.now) }
 {
     text.strip_prefix('/')
 }

@@ -1,3 +1,5 @@
+//! Percent escapes of paths (RFC 3986, section 2.1).
+
 ghost use Rattle.std.specs.Prelude.{◌≡◌, ◌<◌, ◌↔◌, IfOk, OnErr, IsTrue, string_bytes, length};
 ghost use Rattle.dh_paths.specs.Escapes.{escaped, unescaped};
 
@@ -16,7 +18,7 @@ const ESCAPED: AsciiSet = ascii_set!(
         .remove(b'/')
 );
 
-/// The path as it stands in an address, with capital hexadecimal digits.
+/// The path as it stands in an address, with capital hexadecimal digits. An empty path takes no memory.
 pub fn encode_path(alloc: Global, path: &str) -> Result<String, AllocError>
     ensures ok { IfOk result (λ s. string_bytes s ≡ escaped path.now) }
     ensures err { OnErr result (0 < length (escaped path.now)) }

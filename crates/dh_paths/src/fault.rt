@@ -1,3 +1,5 @@
+//! Why a text is refused.
+
 ghost use Rattle.std.specs.Prelude.{◌≡◌};
 ghost use Rattle.dh_paths.specs.declared.fault.TextFault.TheVariants.{Memory};
 

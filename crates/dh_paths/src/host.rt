@@ -1,8 +1,10 @@
-ghost use Rattle.std.specs.Prelude.{◌≡◌, ◌≤◌, IfOk, length, map};
+//! The host part of an address: a name and a port or none.
+
+ghost use Rattle.std.specs.Prelude.{◌≡◌, ◌≤◌, ◌<◌, IfOk, Err, IsTrue, is_some, length, map};
 ghost use Rattle.std.specs.Char.{to_ascii_lowercase};
 ghost use Rattle.std.specs.List.{list_all, prefix_len};
 ghost use Rattle.dh_paths.specs.Texts.{is_digit, Answers};
-ghost use Rattle.dh_paths.specs.Targets.{is_name_byte, is_address_byte, bracketed_len, name_len, is_port, host_named, host_of};
+ghost use Rattle.dh_paths.specs.Targets.{is_name_byte, is_address_byte, bracketed_len, name_len, is_port, host_named, host_of, NamesSome};
 
 use crate::checked::HostName;
 use crate::fault::TextFault;
@@ -99,14 +101,16 @@ fn named(alloc: Global, name: &[u8]) -> Result<Option<HostName>, TextFault>
 ///
 /// What is no host part is refused by `BadHost`.
 pub fn host_name(alloc: Global, text: &str) -> Result<Option<HostName>, TextFault>
-    ensures { Answers (host_of text.now) TextFault.BadHost result }
+    ensures host { Answers (host_of text.now) TextFault.BadHost result }
+    ensures memory { result ≡ Err TextFault.Memory → NamesSome text.now }
 {
     host_part(alloc, text.as_bytes())
 }
 
 /// The same of bytes that may be no text, as the value of a `Host` line.
 pub fn host_part(alloc: Global, bytes: &[u8]) -> Result<Option<HostName>, TextFault>
-    ensures { Answers (host_of bytes.now) TextFault.BadHost result }
+    ensures host { Answers (host_of bytes.now) TextFault.BadHost result }
+    ensures memory { result ≡ Err TextFault.Memory → NamesSome bytes.now }
 {
     if bytes.is_empty() {
         return Ok(None);

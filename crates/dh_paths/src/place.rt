@@ -1,3 +1,5 @@
+//! The parts of a path.
+
 /// What a path names (Read the Docs, "Understanding documentation URLs").
 ///
 /// A language and a name are not empty and hold no slash; a rest may be empty.
@@ -15,5 +17,6 @@ pub enum Split<'a> {
     Bare(&'a str, &'a str),
     /// `/language/name/rest`
     File(&'a str, &'a str, &'a str),
+    /// Any other path.
     Other,
 }

@@ -1,4 +1,6 @@
-ghost use Rattle.std.specs.Prelude.{◌≡◌, ◌<◌, IfOk, OnOk, string_bytes};
+//! The slug of a version, from the name of its branch or tag.
+
+ghost use Rattle.std.specs.Prelude.{◌≡◌, ◌<◌, IfOk, OnOk, OnErr, Err, string_bytes, length};
 ghost use Rattle.dh_paths.specs.Texts.{Answers};
 ghost use Rattle.dh_paths.specs.Slugs.{slug_char, slug_text, slug_from, with_byte};
 
@@ -21,7 +23,8 @@ fn lowered(c: char) -> u8
 /// Adds a byte, unless it would begin the text and is no letter or digit.
 fn push_byte(text: &mut String, byte: u8) -> Result<(), AllocError>
     requires { byte < 128 }
-    ensures { OnOk result (string_bytes text.new ≡ with_byte (string_bytes text.old) byte) }
+    ensures text { OnOk result (string_bytes text.new ≡ with_byte (string_bytes text.old) byte) }
+    ensures memory { OnErr result (0 < length (with_byte (string_bytes text.old) byte)) }
 {
     if text.is_empty() && !lower_or_digit(byte) {
         return Ok(());
@@ -30,7 +33,8 @@ fn push_byte(text: &mut String, byte: u8) -> Result<(), AllocError>
 }
 
 fn make_slug_text(alloc: Global, name: &str) -> Result<String, AllocError>
-    ensures { IfOk result (λ s. string_bytes s ≡ slug_text name.now) }
+    ensures text { IfOk result (λ s. string_bytes s ≡ slug_text name.now) }
+    ensures memory { OnErr result (0 < length (slug_text name.now)) }
 {
     let mut text = String::new(alloc);
     for c in name.chars() {
@@ -43,7 +47,8 @@ fn make_slug_text(alloc: Global, name: &str) -> Result<String, AllocError>
 /// made `-`, and what stands before the first letter or digit left out. A name that leaves no text, or more than
 /// 128 bytes, is refused by `BadRef`.
 pub fn slug_of(alloc: Global, name: &RefName) -> Result<Slug, TextFault>
-    ensures { Answers (slug_from name.now) TextFault.BadRef result }
+    ensures slug { Answers (slug_from name.now) TextFault.BadRef result }
+    ensures memory { result ≡ Err TextFault.Memory → 0 < length (slug_text name.now) }
 {
     let text = make_slug_text(alloc, name.as_str())?;
     Slug::parse(alloc, text.as_str())

@@ -1,7 +1,10 @@
-ghost use Rattle.std.specs.Prelude.{◌≡◌, ◌≤◌, ◌∷◌, IfOk, IfSome, Some, is_some, length, take};
+//! The target of a request.
+
+ghost use Rattle.std.specs.Prelude.{◌≡◌, ◌≤◌, ◌∷◌, IfOk, IfSome, Some, Err, IsTrue, is_some, length, take};
 ghost use Rattle.std.specs.List.{list_all, prefix_len, position, before_first};
 ghost use Rattle.std.specs.Option.{option_copied, option_map};
 ghost use Rattle.std.specs.Str.{IsAscii, str_eq_ignore_ascii_case};
+ghost use Rattle.dh_paths.specs.Bytes.{slash};
 ghost use Rattle.dh_paths.specs.Texts.{Answers};
 
 use crate::classes::all_no_control;
@@ -12,14 +15,15 @@ use percent_encoding::{DecodeError, percent_decode};
 use std::alloc::{AllocError, Global};
 
 /// The target of a request: the host part as written, the path decoded, the query as written after the first `?`.
-#[derive(Drop)]
+#[derive(Debug, Drop)]
 pub struct Target {
+    /// None in origin form.
     pub host: Option<Text>,
     pub path: Text,
     pub query: Option<Text>,
 }
 
-ghost use Rattle.dh_paths.specs.Targets.{is_target_byte, is_question, query_of, path_of, target_at, after_scheme, authority_len, rooted, host_of, absolute_of, target_of};
+ghost use Rattle.dh_paths.specs.Targets.{is_target_byte, is_question, query_of, path_of, target_at, after_scheme, authority_len, rooted, host_of, begins_with_host_part, absolute_of, has_form, target_of};
 
 fn all_target(bytes: &[u8]) -> bool
     ensures { result ≡ list_all is_target_byte bytes.now }
@@ -46,7 +50,7 @@ fn question(bytes: &[u8]) -> Option<usize>
     bytes.iter().position(|b| *b == b'?')
 }
 
-/// What stands before the first `?`, and after it.
+/// What stands before the first `?`, and after it where there is one.
 fn at_question(bytes: &[u8]) -> (&[u8], Option<&[u8]>)
     ensures path { result.0.now ≡ before_first is_question bytes.now }
     ensures query { option_copied result.1 ≡ query_of bytes.now }
@@ -135,7 +139,7 @@ fn authority(bytes: &[u8]) -> usize
 
 /// The bytes with a slash before them.
 fn behind_slash(alloc: Global, text: &[u8]) -> Result<Vec<u8>, AllocError>
-    ensures { IfOk result (λ v. v.items ≡ 47 ∷ text.now) }
+    ensures { IfOk result (λ v. v.items ≡ slash ∷ text.now) }
 {
     let mut rooted = vec![in alloc; b'/']?;
     rooted.extend_from_slice(text)?;
@@ -155,7 +159,8 @@ fn rooted_at(alloc: Global, host: Text, rest: &[u8]) -> Result<Target, TextFault
 }
 
 fn host_part(alloc: Global, text: &str) -> Result<bool, TextFault>
-    ensures { Answers (Some (is_some (host_of text.now))) TextFault.BadTarget result }
+    ensures host { Answers (Some (is_some (host_of text.now))) TextFault.BadTarget result }
+    ensures memory { result ≡ Err TextFault.Memory → IsTrue (is_some (host_of text.now)) }
 {
     match host_name(alloc, text) {
         Ok(_) => Ok(true),
@@ -168,7 +173,8 @@ fn host_part(alloc: Global, text: &str) -> Result<bool, TextFault>
 #[tactic(auto, unfolding(crate::specs::Targets::absolute_of))]
 fn absolute(alloc: Global, text: &[u8]) -> Result<Target, TextFault>
     requires { IsAscii text.now }
-    ensures { Answers (absolute_of text.now) TextFault.BadTarget result }
+    ensures target { Answers (absolute_of text.now) TextFault.BadTarget result }
+    ensures memory { result ≡ Err TextFault.Memory → IsTrue (begins_with_host_part text.now) }
 {
     let len = authority(text);
     if len == 0 {
@@ -189,7 +195,8 @@ impl Target {
     /// UTF-8 or has a control byte, any other form.
     #[tactic(auto, unfolding(crate::specs::Targets::target_of))]
     pub fn read(alloc: Global, bytes: &[u8]) -> Result<Target, TextFault>
-        ensures { Answers (target_of bytes.now) TextFault.BadTarget result }
+        ensures target { Answers (target_of bytes.now) TextFault.BadTarget result }
+        ensures memory { result ≡ Err TextFault.Memory → IsTrue (has_form bytes.now) }
     {
         if !all_target(bytes) {
             return Err(TextFault::BadTarget);

@@ -1,3 +1,5 @@
+//! The texts, read and told, by examples.
+
 use super::*;
 use std::test::Fail;
 

@@ -1,10 +1,12 @@
+//! Texts and bytes that pass no test.
+
 ghost use Rattle.std.specs.Prelude.{◌≡◌, IfOk, string_bytes};
 
 use std::alloc::{AllocError, Global};
 use std::marker::Model;
 
 /// A text, which contracts see as its bytes.
-#[derive(Drop)]
+#[derive(Debug, Drop)]
 pub struct Text {
     inner: String,
 }
@@ -18,12 +20,14 @@ impl Model for Text {
 }
 
 impl Text {
+    /// The text that the string holds. It takes no memory.
     pub fn wrap(inner: String) -> Text
         ensures { result ≡ string_bytes inner }
     {
         Text { inner }
     }
 
+    /// A copy of the text.
     pub fn copy_of(alloc: Global, text: &str) -> Result<Text, AllocError>
         ensures { IfOk result (λ t. t ≡ text.now) }
     {
@@ -32,6 +36,7 @@ impl Text {
         })
     }
 
+    /// The text.
     pub fn as_str(&self) -> &str
         ensures { result.now ≡ self.now }
     {
@@ -40,7 +45,7 @@ impl Text {
 }
 
 /// Bytes, which contracts see as their list.
-#[derive(Drop)]
+#[derive(Debug, Drop)]
 pub struct Bytes {
     inner: Vec<u8>,
 }
@@ -54,12 +59,14 @@ impl Model for Bytes {
 }
 
 impl Bytes {
+    /// The bytes that the vector holds. It takes no memory.
     pub fn wrap(inner: Vec<u8>) -> Bytes
         ensures { result ≡ inner.items }
     {
         Bytes { inner }
     }
 
+    /// A copy of the bytes.
     pub fn copy_of(alloc: Global, bytes: &[u8]) -> Result<Bytes, AllocError>
         ensures { IfOk result (λ b. b ≡ bytes.now) }
     {
@@ -68,6 +75,7 @@ impl Bytes {
         })
     }
 
+    /// The bytes.
     pub fn as_slice(&self) -> &[u8]
         ensures { result.now ≡ self.now }
     {

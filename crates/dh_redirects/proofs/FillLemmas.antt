@@ -1,44 +1,24 @@
 -- That the code's escapes and cuts are those of `sent`, `filled` and `one_slash`.
-use Rattle.std.proofs.Common.{◌≡◌, ◌≢◌, ℕ, suc, ◌+◌, ◌<◌, ◌/◌, ◌%◌, Bool, true, false, not, cond, ◌==◌, List, [], ◌∷◌, ◌++◌, drop, slice_index, Option, Some, None, MatchOption, Bor, refl, sym, ◌∙◌, ap, ap₂, arith, lit<, append_assoc}
+use Rattle.std.proofs.Common.{◌≡◌, ◌≢◌, ℕ, suc, ◌+◌, Bool, true, false, cond, ◌==◌, List, [], ◌∷◌, ◌++◌, drop, slice_index, Option, Some, None, MatchOption, Bor, refl, sym, ◌∙◌, ap, arith, lit<, append_assoc}
 use Rattle.std.specs.List.{All, prefix_len, flat_map}
 use Rattle.std.specs.Option.{option_map_or, option_copied}
-use Rattle.std.specs.Fmt.{digit_glyph}
 use Rattle.std.specs.Str.Pattern.{FindsCharPrefix, CutsPrefixes, IsTrimStartMatches}
-use Rattle.std.proofs.lemmas.Bool.{agree_below, agree_below_at}
-use Rattle.std.proofs.lemmas.List.Elements.{All-head, All-tail}
 use Rattle.std.proofs.lemmas.Str.Pattern.{drop_at_char, strip_prefix_char}
 use Rattle.percent_encoding.specs.AsciiSet.{should_percent_encode}
-use Rattle.percent_encoding.specs.Percent.{percent_encode, percent_encode_byte, encode_byte}
+use Rattle.percent_encoding.specs.Percent.{percent_encode}
 use Rattle.percent_encoding.proofs.PercentLemmas.{IsByte}
-use Rattle.dh_paths.specs.Escapes.{escape_of, escaped}
+use Rattle.dh_paths.specs.Escapes.{escaped}
+use Rattle.dh_paths.proofs.EscapeLemmas.{EscapesBut, percent_encode-kept}
 use Rattle.dh_redirects.specs.declared.fill.TheConstants.{UNSENT}
-use Rattle.dh_redirects.specs.Locations.{is_sent, sent, sent_byte, after_colon, colon_parts, filled}
+use Rattle.dh_redirects.specs.Locations.{is_sent, sent, after_colon, colon_parts, filled}
 
-table : agree_below (should_percent_encode UNSENT) (λ b. not (is_sent b)) 256 ≡ true
+table : EscapesBut UNSENT is_sent
 unfolding should_percent_encode
 table = refl
 
-swapped : {A : Type 0} (x : Bool) (p q : A) → cond (not x) p q ≡ cond x q p
-swapped true p q = refl
-swapped false p q = refl
-
-escape_same : (b : ℕ) → b < 256 → percent_encode_byte b ≡ escape_of b
-unfolding percent_encode_byte
-escape_same b small =
-    let high : b / 16 % 16 ≡ b / 16 = omega arith in
-    ap (λ h. 37 ∷ digit_glyph true h ∷ digit_glyph true (b % 16) ∷ []) high
-
-byte_same : (b : ℕ) → b < 256 → encode_byte UNSENT b ≡ sent_byte b
-byte_same b small =
-    ap (λ x. cond x (percent_encode_byte b) (b ∷ [])) (agree_below_at (should_percent_encode UNSENT) (λ x. not (is_sent x)) 256 b table small)
-    ∙ swapped (is_sent b) (percent_encode_byte b) (b ∷ [])
-    ∙ ap (λ x. cond (is_sent b) (b ∷ []) x) (escape_same b small)
-
 pub percent_encode-sent : (bs : List ℕ) → All IsByte bs → percent_encode UNSENT bs ≡ sent bs
-unfolding percent_encode sent
-percent_encode-sent [] h = refl
-percent_encode-sent (b ∷ bs) h =
-    ap₂ ◌++◌ (byte_same b (All-head IsByte b bs h)) (percent_encode-sent bs (All-tail IsByte b bs h))
+unfolding sent
+percent_encode-sent bs h = percent_encode-kept UNSENT is_sent table bs h
 
 -- the parts that are left of To
 abbrev pub left_parts : Option (Bor (List ℕ)) → List (List ℕ)

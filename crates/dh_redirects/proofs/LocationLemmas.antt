@@ -1,7 +1,10 @@
--- A path result has one leading slash.
-use Rattle.std.proofs.Common.{◌≡◌, ℕ, Bool, true, false, cond, ◌==◌, List, [], ◌∷◌, ◌++◌, length, drop, slice_index, Option, Some, None, is_some, refl, if◌then◌else◌}
+-- A path result has one leading slash; and memory is asked for where a text is written.
+use Rattle.std.proofs.Common.{◌≡◌, ℕ, Bool, true, false, cond, ◌&&◌, ◌||◌, ◌==◌, List, [], ◌∷◌, ◌++◌, length, drop, slice_index, Option, Some, None, is_some, option_map, refl, sym, ap, ap₂, ◌∙◌, if◌then◌else◌}
 use Rattle.dh_redirects.specs.declared.redirect.Asked.{Asked}
-use Rattle.dh_redirects.specs.Locations.{one_slash, without_fragment, query_part, with_query_of, is_request, led, is_rooted}
+use Rattle.dh_redirects.specs.declared.redirect.Parts.{Parts}
+use Rattle.dh_redirects.specs.declared.redirect.Redirect.{Redirect}
+use Rattle.dh_redirects.specs.declared.redirect.RedirectKind.TheVariants.{CleanToHtml, HtmlToClean}
+use Rattle.dh_redirects.specs.Locations.{one_slash, without_fragment, query_part, with_query_of, is_request, led, is_rooted, html_file, clean_file, file_path, written_by, is_page, asks_memory}
 use Rattle.dh_redirects.proofs.TextLemmas.{before_first-cons}
 use Rattle.dh_redirects.proofs.FillLemmas.{after_slashes-head}
 
@@ -36,3 +39,18 @@ pub led-rooted : (on_site : Bool) (asked : Asked) (text address : List ℕ) → 
 led-rooted false asked text address h on = cc
 led-rooted true asked text address h on =
     rw (led_some asked text address h).0 (with_query_of-rooted _ asked.query (after_slashes-head text))
+
+some_mapped : (f : List ℕ → List ℕ) (o : Option (List ℕ)) (b : Bool) → is_some o ≡ true → (is_some (option_map f o) || b) ≡ true
+some_mapped f None b h = absurd (cc)
+some_mapped f (Some x) b h = refl
+
+-- memory is asked for where a file has another name
+pub asks-html : (r : Redirect) (asked : Asked) (parts : Parts) (file : List ℕ) → r.kind ≡ CleanToHtml → asked.parts ≡ Some parts → file ≡ parts.file → is_some (html_file file) ≡ true → asks_memory r asked ≡ true
+asks-html r asked parts file of_kind found same some =
+    ap₂ (λ k p. is_some (written_by k r.source r.target asked.path p) || (is_page k && is_some p)) of_kind found
+    ∙ some_mapped (file_path parts) (html_file parts.file) false (ap (λ f. is_some (html_file f)) (sym same) ∙ some)
+
+pub asks-clean : (r : Redirect) (asked : Asked) (parts : Parts) (file : List ℕ) → r.kind ≡ HtmlToClean → asked.parts ≡ Some parts → file ≡ parts.file → is_some (clean_file file) ≡ true → asks_memory r asked ≡ true
+asks-clean r asked parts file of_kind found same some =
+    ap₂ (λ k p. is_some (written_by k r.source r.target asked.path p) || (is_page k && is_some p)) of_kind found
+    ∙ some_mapped (file_path parts) (clean_file parts.file) false (ap (λ f. is_some (clean_file f)) (sym same) ∙ some)

@@ -1,28 +1,18 @@
 -- What cutting and searching a text gives, in the words of `specs/`.
-use Rattle.std.proofs.Common.{◌≡◌, ◌≢◌, ℕ, suc, min, ◌+◌, ◌-◌, ◌<◌, ◌≤◌, Bool, true, false, cond, not, ◌||◌, List, [], ◌∷◌, ◌++◌, length, take, drop, get_or, nat_eq, nat_lt, Option, Some, None, MatchOption, Bor, refl, sym, ap, subst, ◌∙◌, arith, length-take, lt-ltb, lit<}
+use Rattle.std.proofs.Common.{◌≡◌, ◌≢◌, ℕ, suc, min, ◌+◌, ◌-◌, ◌<◌, ◌≤◌, Bool, true, false, cond, not, ◌||◌, List, [], ◌∷◌, ◌++◌, length, take, drop, get_or, nat_eq, nat_lt, Some, None, refl, sym, ap, subst, ◌∙◌, arith, length-take, lt-ltb, lit<}
 use Rattle.std.specs.Bool.{MatchBool}
-use Rattle.std.specs.List.{position_or_len, before_first, starts_with, ends_with, slice_split, onto_first}
+use Rattle.std.specs.List.{position_or_len, before_first, starts_with, ends_with}
 use Rattle.std.specs.Str.{IsUtf8, IsCharBoundary}
 use Rattle.std.specs.Str.Iter.{HasSubslice}
-use Rattle.std.specs.Str.Pattern.{FindsCharSuffix, FindsText, FindsTextPrefix, FindsTextSuffix, StripsPrefix, StripsSuffix, HasMatch}
+use Rattle.std.specs.Str.Pattern.{FindsCharSuffix, FindsText, FindsTextSuffix, StripsSuffix, HasMatch}
 use Rattle.std.proofs.lemmas.Bool.Decides.{Decides-eqb}
 use Rattle.std.proofs.Math.Bool.{or-true}
 use Rattle.std.proofs.lemmas.Slice.Eq.{starts_is}
-use Rattle.std.proofs.lemmas.Str.Pattern.{strip_suffix_char, starts_text, ends_text, contains_text}
+use Rattle.std.proofs.lemmas.Str.Pattern.{strip_suffix_char, ends_text, contains_text}
 use Rattle.std.proofs.lemmas.Str.{IsCharBoundary-from_take}
 use Rattle.std.proofs.lemmas.List.{take_all, take_more, take_min}
-use Rattle.dh_redirects.specs.Redirects.{rest_after, holds, ends_in_star}
+use Rattle.dh_redirects.specs.Redirects.{holds, ends_in_star}
 use Rattle.dh_redirects.specs.Locations.{stem}
-
--- `strip_prefix` at a text
-pub rest_after_is : (p t : List ℕ) (r : Option (Bor (List ℕ))) → MatchOption r (FindsTextPrefix p t None) (λ x. StripsPrefix (FindsTextPrefix p) t x.now) → MatchOption r (rest_after p t ≡ None) (λ x. rest_after p t ≡ Some x.now)
-rest_after_is p t None h = rw (← starts_text false p t h) refl
-rest_after_is p t (Some x) h =
-    let n = h.0 in
-    let same : n ≡ length p = h.1.0 in
-    let starts : true ≡ starts_with nat_eq t p = starts_text true p t (n, h.1, rw same h.1.2) in
-    let rest : x.now ≡ drop (length p) t = rw (← same) h.2 in
-    rw (← starts, rest) refl
 
 same_answer : (x y : Bool) → (x ≡ true → y ≡ true) → (y ≡ true → x ≡ true) → x ≡ y
 same_answer true true f g = refl
@@ -75,15 +65,6 @@ before_either p q (x ∷ xs) =
       | true ↦ rw (or-true (p x)) refl
       | false ↦ rw (before_first-cons p x (before_first q xs), before_either p q xs) (elim (p x) as (λ w. cond w [] (x ∷ before_first (λ b. p b || q b) xs) ≡ cond (w || false) [] (x ∷ before_first (λ b. p b || q b) xs)) [ true ↦ refl | false ↦ refl ])
     ])
-
--- `split` at a byte that does not stand in the text
-pub slice_split_whole : (p : ℕ → Bool) (t : List ℕ) → position_or_len p t ≡ length t → slice_split p t ≡ t ∷ []
-slice_split_whole p [] h = refl
-slice_split_whole p (x ∷ xs) h =
-    elim (p x) as (λ b. cond (not b) (1 + position_or_len p xs) 0 ≡ suc (length xs) → cond b ([] ∷ slice_split p xs) (onto_first x (slice_split p xs)) ≡ (x ∷ xs) ∷ []) [
-      | true ↦ λ e. absurd (omega arith)
-      | false ↦ λ e. let own : position_or_len p xs ≡ length xs = omega arith in rw (slice_split_whole p xs own) refl
-    ] h
 
 -- a text may be cut where a text that begins it ends
 pub boundary_after : (t front : List ℕ) (k : ℕ) → IsUtf8 t → IsUtf8 front → front ≡ take k t → IsCharBoundary t (length front)

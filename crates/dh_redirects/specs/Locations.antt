@@ -1,16 +1,19 @@
 -- Where a redirect leads (Read the Docs, Redirects), over texts as lists of bytes.
-use Rattle.std.specs.Prelude.{ℕ, ◌+◌, ◌-◌, Bool, true, ◌&&◌, not, ◌==◌, nat_le, nat_lt, nat_eq, List, [], ◌∷◌, ◌++◌, length, take, drop, codes, slice_index, Option, Some, None, is_some, if◌then◌else◌}
-use Rattle.std.specs.List.{flat_map, starts_with, ends_with, before_first, position, prefix_len, slice_split}
+use Rattle.std.specs.Prelude.{◌≡◌, ◌≢◌, IsTrue, ℕ, ◌-◌, Bool, true, false, ◌&&◌, ◌||◌, not, ◌==◌, nat_le, nat_lt, nat_eq, List, [], ◌∷◌, ◌++◌, length, take, drop, codes, slice_index, Option, Some, None, is_some, if◌then◌else◌}
+use Rattle.std.specs.List.{flat_map, starts_with, ends_with, before_first, prefix_len, slice_split}
 use Rattle.std.specs.Option.{option_map, option_or, option_and_then, option_eq}
 use Rattle.std.specs.Str.{bytes_eq}
-use Rattle.dh_paths.specs.Escapes.{escape_of, escaped, unescaped}
+use Rattle.dh_paths.specs.Bytes.{hash, slash, colon, question, backslash}
+use Rattle.dh_paths.specs.Escapes.{kept_or_escaped, escaped, unescaped}
+use Rattle.dh_paths.specs.Targets.{is_question, query_of}
+use Rattle.dh_paths.specs.Texts.{rest_after}
 use Rattle.dh_redirects.specs.declared.redirect.RedirectKind.{RedirectKind}
 use Rattle.dh_redirects.specs.declared.redirect.RedirectKind.TheVariants.{Page, Exact, CleanToHtml, HtmlToClean}
 use Rattle.dh_redirects.specs.declared.redirect.Redirect.{Redirect}
 use Rattle.dh_redirects.specs.declared.redirect.Asked.{Asked}
 use Rattle.dh_redirects.specs.declared.redirect.Parts.{Parts}
 use Rattle.dh_redirects.specs.declared.redirect.Location.{Location}
-use Rattle.dh_redirects.specs.Redirects.{rest_after, is_path, ends_in_star, before_last_byte}
+use Rattle.dh_redirects.specs.Redirects.{is_path, ends_in_star, before_last_byte}
 
 -- the rest that From's final `*` stands for; without one From is the whole text, and the rest is empty
 abbrev pub matched : List ℕ → List ℕ → Option (List ℕ)
@@ -21,10 +24,10 @@ matched source text =
 
 -- a byte of To that stands as written: 0x21 to 0x7E, but `\`
 abbrev pub is_sent : ℕ → Bool
-is_sent b = nat_le 33 b && nat_le b 126 && not (b == 92)
+is_sent b = nat_le 33 b && nat_le b 126 && not (b == backslash)
 
 abbrev pub sent_byte : ℕ → List ℕ
-sent_byte b = if is_sent b then b ∷ [] else escape_of b
+sent_byte b = kept_or_escaped is_sent b
 
 -- a part of To, with every other byte escaped
 unfoldable pub sent : List ℕ → List ℕ
@@ -32,7 +35,7 @@ sent text = flat_map sent_byte text
 
 -- a part of To that follows a `:`: the rest stands for `:splat`
 abbrev pub after_colon : List ℕ → List ℕ → List ℕ
-after_colon rest part = if starts_with nat_eq part (codes "splat") then rest ++ sent (drop 5 part) else sent (58 ∷ part)
+after_colon rest part = if starts_with nat_eq part (codes "splat") then rest ++ sent (drop 5 part) else sent (colon ∷ part)
 
 -- the parts of To between its `:`, put together
 abbrev pub joined : List ℕ → List (List ℕ) → List ℕ
@@ -41,7 +44,7 @@ joined rest (first ∷ others) = sent first ++ flat_map (after_colon rest) other
 
 -- the parts of a text between its `:`
 abbrev pub colon_parts : List ℕ → List (List ℕ)
-colon_parts text = slice_split (λ b. b == 58) text
+colon_parts text = slice_split (λ b. b == colon) text
 
 -- To with the escaped rest for each `:splat`
 unfoldable pub filled : List ℕ → List ℕ → List ℕ
@@ -49,7 +52,7 @@ filled rest target = joined (escaped rest) (colon_parts target)
 
 -- `/language/version`, as requested
 abbrev pub version_path : Parts → List ℕ
-version_path parts = (47 ∷ parts.lang) ++ (47 ∷ parts.name)
+version_path parts = (slash ∷ parts.lang) ++ (slash ∷ parts.name)
 
 -- what stands before the end of a file, where something does
 abbrev pub stem : List ℕ → List ℕ → Option (List ℕ)
@@ -67,42 +70,62 @@ clean_file file =
 
 -- the address of another file of the version
 abbrev pub file_path : Parts → List ℕ → List ℕ
-file_path parts file = version_path parts ++ (47 ∷ escaped file)
+file_path parts file = version_path parts ++ (slash ∷ escaped file)
 
 -- where a page redirect leads: a path of To stands in the version
 abbrev pub in_version : Parts → List ℕ → List ℕ → List ℕ
 in_version parts target text = if is_path target then version_path parts ++ text else text
 
+-- To filled, where From fits the text
+abbrev pub filled_for : List ℕ → List ℕ → List ℕ → Option (List ℕ)
+filled_for source target text = option_map (λ rest. filled rest target) (matched source text)
+
+-- the same for a page redirect, where From fits the file behind a slash
+abbrev pub page_for : List ℕ → List ℕ → Parts → Option (List ℕ)
+page_for source target parts = option_map (λ rest. in_version parts target (filled rest target)) (matched source (slash ∷ parts.file))
+
 -- To filled, or the address of the changed file, where the redirect's kind and From fit what is asked; without parts only an exact one does
 abbrev pub written_by : RedirectKind → List ℕ → List ℕ → List ℕ → Option Parts → Option (List ℕ)
-written_by Exact source target path parts = option_map (λ rest. filled rest target) (matched source path)
+written_by Exact source target path parts = filled_for source target path
 written_by _ source target path None = None
-written_by Page source target path (Some parts) = option_map (λ rest. in_version parts target (filled rest target)) (matched source (47 ∷ parts.file))
+written_by Page source target path (Some parts) = page_for source target parts
 written_by CleanToHtml source target path (Some parts) = option_map (file_path parts) (html_file parts.file)
 written_by HtmlToClean source target path (Some parts) = option_map (file_path parts) (clean_file parts.file)
 
+-- the same of a redirect and what is asked
+abbrev pub written_of : Redirect → Asked → Option (List ℕ)
+written_of r asked = written_by r.kind r.source r.target asked.path asked.parts
+
+abbrev pub is_page : RedirectKind → Bool
+is_page Page = true
+is_page _ = false
+
+-- a text is written, or the path of a file to compare From with
+abbrev pub asks_memory : Redirect → Asked → Bool
+asks_memory r asked = is_some (written_of r asked) || (is_page r.kind && is_some asked.parts)
+
 -- the leading slashes made one
 abbrev pub one_slash : List ℕ → List ℕ
-one_slash text = 47 ∷ drop (prefix_len (λ b. b == 47) text) text
+one_slash text = slash ∷ drop (prefix_len (λ b. b == slash) text) text
 
 -- the address without its fragment, which the first `#` begins (RFC 3986, section 3.5)
 abbrev pub without_fragment : List ℕ → List ℕ
-without_fragment text = before_first (λ b. b == 35) text
+without_fragment text = before_first (λ b. b == hash) text
 
 -- what stands before the query and the fragment
 abbrev pub path_part : List ℕ → List ℕ
-path_part text = before_first (λ b. b == 63) (without_fragment text)
+path_part text = before_first is_question (without_fragment text)
 
 -- what follows the first `?` that stands before the fragment
 abbrev pub query_part : List ℕ → Option (List ℕ)
-query_part text = option_map (λ i. drop (i + 1) (without_fragment text)) (position (λ b. b == 63) (without_fragment text))
+query_part text = query_of (without_fragment text)
 
 -- a text that has no query gets this one, before its fragment
 unfoldable pub with_query_of : List ℕ → Option (List ℕ) → List ℕ
 with_query_of text None = text
 with_query_of text (Some query) =
     let address = without_fragment text in
-    if is_some (query_part text) then text else address ++ (63 ∷ query) ++ drop (length address) text
+    if is_some (query_part text) then text else address ++ (question ∷ query) ++ drop (length address) text
 
 -- whether the result is a path of this host, as of a To that is a path and of a changed file
 abbrev pub is_on_site : RedirectKind → List ℕ → Bool
@@ -124,8 +147,17 @@ led on_site asked text =
 unfoldable pub redirect_result : Redirect → Asked → Option Location
 redirect_result r asked =
     option_map (λ text. record { status = r.status; text = text })
-    (option_and_then (led (is_on_site r.kind r.target) asked) (written_by r.kind r.source r.target asked.path asked.parts))
+    (option_and_then (led (is_on_site r.kind r.target) asked) (written_of r asked))
 
 -- the text begins with `/`, and not with `//`
 abbrev pub is_rooted : List ℕ → Bool
-is_rooted text = slice_index text 0 == 47 && not (slice_index text 1 == 47)
+is_rooted text = slice_index text 0 == slash && not (slice_index text 1 == slash)
+
+-- a redirect to a path leads to a path of this host
+abbrev pub StaysOnSite : Redirect → Location → Type 0
+StaysOnSite r location = IsTrue (is_on_site r.kind r.target) → IsTrue (is_rooted location.text)
+
+-- a redirect to a path does not lead to the request itself
+abbrev pub LeadsElsewhere : Redirect → Asked → Location → Type 0
+LeadsElsewhere r asked location =
+    IsTrue (is_on_site r.kind r.target) → unescaped (path_part location.text) ≡ asked.path → query_part location.text ≢ asked.query

@@ -1,16 +1,13 @@
 -- Redirects of a documentation host (Read the Docs, Redirects), and which of them are refused.
-use Rattle.std.specs.Prelude.{ℕ, ◌-◌, Bool, true, false, ◌&&◌, ◌||◌, not, ◌==◌, nat_le, nat_eq, List, [], ◌∷◌, length, take, drop, codes, find, Option, Some, None, if◌then◌else◌}
+use Rattle.std.specs.Prelude.{ℕ, ◌-◌, Bool, true, false, ◌&&◌, ◌||◌, not, ◌==◌, nat_le, nat_eq, List, [], ◌∷◌, length, take, codes, find, Option, Some, None}
 use Rattle.std.specs.List.{list_all, list_any, starts_with, before_first}
-use Rattle.dh_paths.specs.Texts.{is_no_control, first_byte, last_byte}
+use Rattle.dh_paths.specs.Bytes.{hash, star, slash, question}
+use Rattle.dh_paths.specs.Texts.{is_no_control, first_byte, last_byte, rest_after}
 use Rattle.dh_redirects.specs.declared.redirect.RedirectKind.{RedirectKind}
 use Rattle.dh_redirects.specs.declared.redirect.RedirectKind.TheVariants.{Page, Exact, CleanToHtml, HtmlToClean}
 use Rattle.dh_redirects.specs.declared.redirect.Redirect.{Redirect}
 use Rattle.dh_redirects.specs.declared.redirect.BadRedirect.{BadRedirect}
 use Rattle.dh_redirects.specs.declared.redirect.BadRedirect.TheVariants.{BadSource, EarlyStar, BadTarget, SplatWithoutStar, BadStatus, UnusedText}
-
--- what follows the front, where the text begins with it
-abbrev pub rest_after : List ℕ → List ℕ → Option (List ℕ)
-rest_after front text = if starts_with nat_eq text front then Some (drop (length front) text) else None
 
 -- the needle stands somewhere in the text
 abbrev pub holds : List ℕ → List ℕ → Bool
@@ -18,30 +15,42 @@ holds needle [] = starts_with nat_eq [] needle
 holds needle (b ∷ bs) = starts_with nat_eq (b ∷ bs) needle || holds needle bs
 
 abbrev pub is_path : List ℕ → Bool
-is_path target = first_byte target == 47
+is_path target = first_byte target == slash
+
+-- what stands in To for the rest that From's final `*` stands for
+abbrev pub splat : List ℕ
+splat = codes ":splat"
 
 -- a host, which no rest may fill, stands before the next `/`, `?` or `#`
 abbrev pub begins_with_host : Option (List ℕ) → Bool
 begins_with_host None = false
 begins_with_host (Some text) =
-    let host = before_first (λ b. b == 47 || b == 63 || b == 35) text in
-    not (length host == 0) && not (holds (codes ":splat") host)
+    let host = before_first (λ b. b == slash || b == question || b == hash) text in
+    not (length host == 0) && not (holds splat host)
 
 -- `http://` or `https://`, and a host
 abbrev pub is_absolute : List ℕ → Bool
 is_absolute target =
     begins_with_host (rest_after (codes "http://") target) || begins_with_host (rest_after (codes "https://") target)
 
--- at most 512 bytes, no control byte
+-- the most bytes of From and of To
+abbrev pub most_text : ℕ
+most_text = 512
+
+-- short enough, no control byte
 abbrev pub is_short_text : List ℕ → Bool
-is_short_text text = nat_le (length text) 512 && list_all is_no_control text
+is_short_text text = nat_le (length text) most_text && list_all is_no_control text
 
 abbrev pub ends_in_star : List ℕ → Bool
-ends_in_star source = last_byte source == 42
+ends_in_star source = last_byte source == star
 
 -- the text without its last byte
 abbrev pub before_last_byte : List ℕ → List ℕ
 before_last_byte text = take (length text - 1) text
+
+-- a `*` stands before the last byte
+abbrev pub has_early_star : List ℕ → Bool
+has_early_star source = list_any (λ b. b == star) (before_last_byte source)
 
 -- the kinds that have a From and a To
 abbrev pub has_texts : RedirectKind → Bool
@@ -53,12 +62,21 @@ has_texts HtmlToClean = false
 -- whether a redirect has this fault
 abbrev pub has_fault : Redirect → BadRedirect → Bool
 has_fault r BadSource = has_texts r.kind && not (is_path r.source && is_short_text r.source)
-has_fault r EarlyStar = has_texts r.kind && list_any (λ b. b == 42) (before_last_byte r.source)
+has_fault r EarlyStar = has_texts r.kind && has_early_star r.source
 has_fault r BadTarget = has_texts r.kind && not (is_short_text r.target && (is_path r.target || is_absolute r.target))
-has_fault r SplatWithoutStar = has_texts r.kind && holds (codes ":splat") r.target && not (ends_in_star r.source)
+has_fault r SplatWithoutStar = has_texts r.kind && holds splat r.target && not (ends_in_star r.source)
 has_fault r BadStatus = not (r.status == 301 || r.status == 302)
 has_fault r UnusedText = not (has_texts r.kind) && not (length r.source == 0 && length r.target == 0)
 
 -- the first of its faults, if it has one
 unfoldable pub first_fault : Redirect → Option BadRedirect
 first_fault r = find (has_fault r) (BadSource ∷ EarlyStar ∷ BadTarget ∷ SplatWithoutStar ∷ UnusedText ∷ BadStatus ∷ [])
+
+-- the number by which a refusal tells a fault
+abbrev pub fault_number : BadRedirect → ℕ
+fault_number BadSource = 1
+fault_number EarlyStar = 2
+fault_number BadTarget = 3
+fault_number SplatWithoutStar = 4
+fault_number BadStatus = 5
+fault_number UnusedText = 6

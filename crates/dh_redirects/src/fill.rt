@@ -3,10 +3,10 @@
 ghost use Rattle.std.specs.Prelude.{◌≡◌, ◌==◌, ◌<◌, [], ◌∷◌, ◌++◌, drop, IfSome, IfOk, OnOk, Some, None, MatchOption, string_bytes, length, codes};
 ghost use Rattle.std.specs.List.{prefix_len};
 ghost use Rattle.std.specs.Option.{option_copied, option_map_or};
+ghost use Rattle.dh_paths.specs.Bytes.{slash};
 ghost use Rattle.dh_redirects.specs.Locations.{matched, sent, after_colon, colon_parts, filled, one_slash};
 
-use crate::texts::after;
-use dh_paths::encode_path;
+use dh_paths::{encode_path, rest_after};
 use percent_encoding::{AsciiSet, CONTROLS, ascii_set, utf8_percent_encode};
 use std::alloc::{AllocError, Global};
 
@@ -15,10 +15,11 @@ const UNSENT: AsciiSet = ascii_set!(CONTROLS.add(b' ').add(b'\\'));
 
 /// The rest that a final `*` of From stands for.
 pub fn rest_of<'a>(source: &str, text: &'a str) -> Option<&'a str>
-    ensures { MatchOption result (matched source.now text.now ≡ None) (λ rest. matched source.now text.now ≡ Some rest.now) }
+    ensures { MatchOption result (matched source.now text.now ≡ None)
+        (λ rest. matched source.now text.now ≡ Some rest.now) }
 {
     match source.strip_suffix('*') {
-        Some(front) => after(text, front),
+        Some(front) => rest_after(text, front),
         None if text == source => Some(""),
         None => None,
     }
@@ -32,7 +33,8 @@ fn push_sent(out: &mut String, text: &str) -> Result<(), AllocError>
 
 /// What stands before the first `:`, and after it.
 fn at_colon(text: &str) -> (&str, Option<&str>)
-    ensures parts { colon_parts text.now ≡ result.0.now ∷ option_map_or colon_parts (option_copied result.1) [] }
+    ensures parts { colon_parts text.now
+        ≡ result.0.now ∷ option_map_or colon_parts (option_copied result.1) [] }
     ensures shorter { IfSome result.1 (λ rest. length rest.now < length text.now) }
 {
     match text.split_once(':') {
@@ -43,9 +45,10 @@ fn at_colon(text: &str) -> (&str, Option<&str>)
 
 #[tactic(auto, unfolding(crate::specs::Locations::sent))]
 fn push_after_colon(out: &mut String, part: &str, rest: &str) -> Result<(), AllocError>
-    ensures { OnOk result (string_bytes out.new ≡ string_bytes out.old ++ after_colon rest.now part.now) }
+    ensures { OnOk result
+        (string_bytes out.new ≡ string_bytes out.old ++ after_colon rest.now part.now) }
 {
-    match after(part, "splat") {
+    match rest_after(part, "splat") {
         Some(tail) => {
             out.push_str(rest)?;
             push_sent(out, tail)
@@ -57,14 +60,15 @@ fn push_after_colon(out: &mut String, part: &str, rest: &str) -> Result<(), Allo
     }
 }
 
-/// Writes To, with the rest in place of each `:splat`.
+/// Writes To, with the rest in place of each `:splat`. On an error a part of it is written.
 pub fn push_filled(
     alloc: Global,
     out: &mut String,
     target: &str,
     rest: &str,
 ) -> Result<(), AllocError>
-    ensures { OnOk result (string_bytes out.new ≡ string_bytes out.old ++ filled rest.now target.now) }
+    ensures { OnOk result
+        (string_bytes out.new ≡ string_bytes out.old ++ filled rest.now target.now) }
 {
     let encoded = encode_path(alloc, rest)?;
     let (first, mut others) = at_colon(target);
@@ -79,7 +83,7 @@ pub fn push_filled(
 
 /// What follows the leading slashes.
 fn after_slashes(text: &str) -> &str
-    ensures { result.now ≡ drop (prefix_len (λ b. b == 47) text.now) text.now }
+    ensures { result.now ≡ drop (prefix_len (λ b. b == slash) text.now) text.now }
 {
     text.trim_start_matches('/')
 }

@@ -3,12 +3,13 @@
 
 mod files;
 mod fill;
-pub mod laws;
+mod laws;
 pub mod query;
 pub mod redirect;
 pub mod result;
 mod texts;
 
+pub use laws::to_is_filled_from_the_left;
 pub use query::with_query;
 pub use redirect::{Asked, BadRedirect, Location, Parts, Redirect, RedirectKind};
 

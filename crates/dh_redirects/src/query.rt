@@ -29,7 +29,8 @@ fn at_fragment(text: &str) -> (&str, &str)
 /// An address that has no query gets this one, before its fragment.
 #[tactic(auto, unfolding(crate::specs::Locations::with_query_of))]
 pub fn with_query(alloc: Global, text: &str, query: Option<&str>) -> Result<String, AllocError>
-    ensures { IfOk result (λ address. string_bytes address ≡ with_query_of text.now (option_copied query.entry)) }
+    ensures { IfOk result
+        (λ address. string_bytes address ≡ with_query_of text.now (option_copied query.entry)) }
 {
     match query {
         Some(query) if query_of(text).is_none() => {

@@ -1,8 +1,11 @@
-ghost use Rattle.std.specs.Prelude.{◌≡◌};
+//! Redirects, what a request asks of them, and which of them are refused.
+
+ghost use Rattle.std.specs.Prelude.{◌≡◌, IfOk};
 ghost use Rattle.std.specs.Result.{result_err};
 
 use crate::texts::{absolute, early_star, final_star, holds_splat, path, short_text};
 use dh_paths::{Lang, Slug, Text};
+use std::alloc::{AllocError, Global};
 use thiserror::Error;
 
 /// What a redirect compares and changes (Read the Docs, Redirects).
@@ -19,7 +22,7 @@ pub enum RedirectKind {
 }
 
 /// A redirect of a project. The kinds that change the file have an empty From and To.
-#[derive(Drop)]
+#[derive(Debug, Drop)]
 pub struct Redirect {
     pub kind: RedirectKind,
     /// From: a path, whose final `*` stands for any rest.
@@ -50,7 +53,7 @@ pub enum BadRedirect {
 }
 
 /// What a request asks for.
-#[derive(Drop)]
+#[derive(Debug, Drop)]
 pub struct Asked {
     /// The path, percent-decoded.
     pub path: Text,
@@ -61,7 +64,7 @@ pub struct Asked {
 }
 
 /// The parts of a path `/language/version/file`, decoded.
-#[derive(Drop)]
+#[derive(Debug, Drop)]
 pub struct Parts {
     pub lang: Lang,
     pub name: Slug,
@@ -69,7 +72,7 @@ pub struct Parts {
 }
 
 /// Where a redirect leads: its status, and the text of the `Location` field.
-#[derive(Drop)]
+#[derive(Debug, Drop)]
 pub struct Location {
     pub status: u16,
     pub text: Text,
@@ -86,8 +89,39 @@ impl RedirectKind {
     }
 }
 
+impl BadRedirect {
+    ghost use Rattle.dh_redirects.specs.Redirects.{fault_number};
+
+    /// The number by which a refusal tells the fault, 1 to 6.
+    pub fn number(self) -> u8
+        ensures { result ≡ fault_number self }
+    {
+        match self {
+            BadRedirect::BadSource => 1,
+            BadRedirect::EarlyStar => 2,
+            BadRedirect::BadTarget => 3,
+            BadRedirect::SplatWithoutStar => 4,
+            BadRedirect::BadStatus => 5,
+            BadRedirect::UnusedText => 6,
+        }
+    }
+}
+
 impl Redirect {
     ghost use Rattle.dh_redirects.specs.Redirects.{first_fault};
+
+    /// The same redirect again.
+    pub fn try_copy(&self, alloc: Global) -> Result<Redirect, AllocError>
+        ensures { IfOk result (λ copy. copy ≡ self.now) }
+    {
+        Ok(Redirect {
+            kind: self.kind,
+            source: Text::copy_of(alloc, self.source.as_str())?,
+            target: Text::copy_of(alloc, self.target.as_str())?,
+            status: self.status,
+            force: self.force,
+        })
+    }
 
     /// Tells the first fault of a redirect.
     #[tactic(auto, unfolding(crate::specs::Redirects::first_fault))]

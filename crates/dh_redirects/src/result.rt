@@ -1,9 +1,7 @@
 //! Where a redirect leads.
 
-ghost use Rattle.std.specs.Prelude.{◌≡◌, ◌≢◌, ◌∷◌, ◌++◌, IsTrue, IfOk, IfSome, OnOk, string_bytes};
-ghost use Rattle.std.specs.Option.{option_map};
-ghost use Rattle.dh_paths.specs.Escapes.{unescaped};
-ghost use Rattle.dh_redirects.specs.Locations.{version_path, file_path, in_version, filled, matched, written_by, is_on_site, redirect_result, led, is_rooted, path_part, query_part};
+ghost use Rattle.std.specs.Prelude.{◌≡◌, ◌++◌, IsTrue, IfOk, IfSome, OnOk, OnErr, is_some, string_bytes};
+ghost use Rattle.dh_redirects.specs.Locations.{version_path, file_path, filled_for, page_for, written_of, asks_memory, is_on_site, redirect_result, led, StaysOnSite, LeadsElsewhere};
 
 use crate::files::{clean_of, html_of};
 use crate::fill::{push_filled, rest_of, single_slash};
@@ -58,7 +56,10 @@ fn led_to(
 
 impl Redirect {
     fn exact_address(&self, alloc: Global, asked: &Asked) -> Result<Option<Text>, AllocError>
-        ensures { IfOk result (λ r. r ≡ option_map (λ rest. filled rest self.now.target) (matched self.now.source asked.now.path)) }
+        ensures value { IfOk result
+            (λ r. r ≡ filled_for self.now.source self.now.target asked.now.path) }
+        ensures memory { OnErr result
+            (IsTrue (is_some (filled_for self.now.source self.now.target asked.now.path))) }
     {
         let Some(rest) = rest_of(self.source.as_str(), asked.path.as_str()) else {
             return Ok(None);
@@ -69,7 +70,7 @@ impl Redirect {
     }
 
     fn page_address(&self, alloc: Global, parts: &Parts) -> Result<Option<Text>, AllocError>
-        ensures { IfOk result (λ r. r ≡ option_map (λ rest. in_version parts.now self.now.target (filled rest self.now.target)) (matched self.now.source (47 ∷ parts.now.file))) }
+        ensures { IfOk result (λ r. r ≡ page_for self.now.source self.now.target parts.now) }
     {
         let file = parts.file.as_str();
         let file = format!(in alloc; "/{file}")?;
@@ -86,7 +87,8 @@ impl Redirect {
 
     /// To filled, or the address of the changed file.
     fn written(&self, alloc: Global, asked: &Asked) -> Result<Option<Text>, AllocError>
-        ensures { IfOk result (λ r. r ≡ written_by self.now.kind self.now.source self.now.target asked.now.path asked.now.parts) }
+        ensures value { IfOk result (λ r. r ≡ written_of self.now asked.now) }
+        ensures memory { OnErr result (IsTrue (asks_memory self.now asked.now)) }
     {
         match (self.kind, &asked.parts) {
             (RedirectKind::Exact, _) => self.exact_address(alloc, asked),
@@ -115,15 +117,15 @@ impl Redirect {
         }
     }
 
-    /// Where the redirect leads for this request; the flag is not looked at.
+    /// Where the redirect leads for this request, or none where it has no result. The flag `force` is not looked at.
     #[tactic(auto, unfolding(crate::specs::Locations::redirect_result))]
     pub fn result(&self, alloc: Global, asked: &Asked) -> Result<Option<Location>, AllocError>
         ensures value { IfOk result (λ r. r ≡ redirect_result self.now asked.now) }
 
         // A path stays on this host, and is not the request itself.
-        ensures rooted { IfOk result (λ r. IfSome r (λ location. IsTrue (is_on_site self.now.kind self.now.target) → IsTrue (is_rooted location.text))) }
-        ensures elsewhere { IfOk result (λ r. IfSome r (λ location. IsTrue (is_on_site self.now.kind self.now.target)
-            → unescaped (path_part location.text) ≡ asked.now.path → query_part location.text ≢ asked.now.query)) }
+        ensures rooted { IfOk result (λ r. IfSome r (StaysOnSite self.now)) }
+        ensures elsewhere { IfOk result (λ r. IfSome r (LeadsElsewhere self.now asked.now)) }
+        ensures memory { OnErr result (IsTrue (asks_memory self.now asked.now)) }
     {
         let Some(text) = self.written(alloc, asked)? else {
             return Ok(None);

@@ -1,3 +1,5 @@
+//! Where redirects lead, by examples.
+
 use super::*;
 use dh_paths::{Lang, Slug, Text, TextFault};
 use std::alloc::{AllocError, Global};
@@ -292,6 +294,18 @@ fn faults(rt: HostRuntime) -> Result<(), Fail> {
 }
 
 #[test]
+fn redirects_are_copied(rt: HostRuntime) -> Result<(), Fail> {
+    let alloc = rt.alloc();
+    let copy = redirect(alloc, RedirectKind::Exact, 301, "/a/*", "/b/:splat")?.try_copy(alloc)?;
+    assert_eq!(rt; copy.source.as_str(), "/a/*");
+    assert_eq!(rt; copy.target.as_str(), "/b/:splat");
+    assert!(rt; copy.kind == RedirectKind::Exact && copy.status == 301 && !copy.force);
+    assert_eq!(rt; BadRedirect::BadSource.number(), 1);
+    assert_eq!(rt; BadRedirect::UnusedText.number(), 6);
+    Ok(())
+}
+
+#[test]
 fn queries(rt: HostRuntime) -> Result<(), Fail> {
     let alloc = rt.alloc();
     queried(&rt, alloc, "/y#top?b", Some("a"), "/y?a#top?b")?;
@@ -322,7 +336,7 @@ fn refusable(
     Ok(())
 }
 
-/// With an allocation refused at any place, a call answers as ever or wants memory.
+/// With an allocation refused at any place, a call answers as ever or is out of memory.
 #[test]
 fn refused_memory(rt: HostRuntime) {
     let alloc = rt.alloc();

@@ -1,17 +1,10 @@
 //! What the texts of a redirect are.
 
-ghost use Rattle.std.specs.Prelude.{◌≡◌, ◌<◌, ◌==◌, Some, None, MatchOption, codes};
-ghost use Rattle.std.specs.List.{before_first, list_all};
-ghost use Rattle.dh_paths.specs.Texts.{is_no_control};
-ghost use Rattle.dh_redirects.specs.Redirects.{rest_after, holds, is_path, begins_with_host, is_absolute, is_short_text, ends_in_star, before_last_byte};
-ghost use Rattle.std.specs.List.{list_any};
+ghost use Rattle.std.specs.Prelude.{◌≡◌, ◌<◌, ◌==◌, Some};
+ghost use Rattle.std.specs.List.{before_first};
+ghost use Rattle.dh_redirects.specs.Redirects.{splat, holds, is_path, begins_with_host, is_absolute, is_short_text, ends_in_star, has_early_star};
 
-/// What follows the front.
-pub fn after<'a>(text: &'a str, front: &str) -> Option<&'a str>
-    ensures { MatchOption result (rest_after front.now text.now ≡ None) (λ x. rest_after front.now text.now ≡ Some x.now) }
-{
-    text.strip_prefix(front)
-}
+use dh_paths::{all_no_control, rest_after};
 
 /// What stands before the first mark, or all where there is none.
 pub fn before(text: &str, mark: char) -> &str
@@ -24,14 +17,16 @@ pub fn before(text: &str, mark: char) -> &str
     }
 }
 
+/// Whether the text begins with a slash.
 pub fn path(text: &str) -> bool
     ensures { result ≡ is_path text.now }
 {
     text.starts_with('/')
 }
 
+/// Whether `:splat` stands somewhere in the text.
 pub fn holds_splat(text: &str) -> bool
-    ensures { result ≡ holds (codes ":splat") text.now }
+    ensures { result ≡ holds splat text.now }
 {
     text.contains(":splat")
 }
@@ -45,23 +40,22 @@ fn host_first(text: &str) -> bool
     !host.is_empty() && !holds_splat(host)
 }
 
+/// Whether the text is `http://` or `https://` and a host, with anything behind it.
 pub fn absolute(target: &str) -> bool
     ensures { result ≡ is_absolute target.now }
 {
-    after(target, "http://").is_some_and(|rest| host_first(rest))
-        || after(target, "https://").is_some_and(|rest| host_first(rest))
+    rest_after(target, "http://").is_some_and(|rest| host_first(rest))
+        || rest_after(target, "https://").is_some_and(|rest| host_first(rest))
 }
 
-fn all_no_control(bytes: &[u8]) -> bool
-    ensures { result ≡ list_all is_no_control bytes.now }
-{
-    bytes.iter().all(|b| *b >= 32 && *b != 127)
-}
+/// The most bytes of From and of To.
+const MOST_TEXT: usize = 512;
 
+/// Whether the text has at most 512 bytes and no control byte.
 pub fn short_text(text: &str) -> bool
     ensures { result ≡ is_short_text text.now }
 {
-    text.len() <= 512 && all_no_control(text.as_bytes())
+    text.len() <= MOST_TEXT && all_no_control(text.as_bytes())
 }
 
 /// Whether the last byte is a `*`.
@@ -73,7 +67,7 @@ pub fn final_star(source: &str) -> bool
 
 /// Whether a `*` stands before the last byte.
 pub fn early_star(source: &str) -> bool
-    ensures { result ≡ list_any (λ b. b == 42) (before_last_byte source.now) }
+    ensures { result ≡ has_early_star source.now }
 {
     match source.as_bytes().split_last() {
         Some((_, front)) => front.contains(&b'*'),

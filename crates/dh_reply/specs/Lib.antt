@@ -1,5 +1,5 @@
 pub mod Faults
-pub mod FileCases
+pub mod Lookup
 pub mod SeenProject
 pub mod Replies
 pub mod Statuses

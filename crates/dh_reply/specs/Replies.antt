@@ -1,10 +1,12 @@
 -- The reply to a read, as a function of the project that its caller sees.
-use Rattle.std.specs.Prelude.{ℕ, ◌-◌, Bool, true, false, ◌||◌, ◌==◌, if◌then◌else◌, Option, Some, None, List, [], ◌∷◌, ◌++◌, length, slice_index, slice_get, codes}
+use Rattle.std.specs.Prelude.{ℕ, ◌-◌, Bool, true, false, ◌||◌, ◌==◌, if◌then◌else◌, Option, Some, None, List, [], ◌∷◌, ◌++◌, length, slice_index, slice_get, unwrap_or, codes}
 use Rattle.std.specs.List.{find}
 use Rattle.std.specs.Option.{option_map, option_and_then}
 use Rattle.std.specs.Str.{bytes_eq}
 use Rattle.dh_paths.specs.Escapes.{escaped}
 use Rattle.dh_paths.specs.Places.{Place, split_of, Root, Robots, System, Page, Bare, File}
+use Rattle.dh_paths.specs.Texts.{is_slug}
+use Rattle.dh_reply.specs.declared.address.GoodAddress.{GoodAddress}
 use Rattle.dh_reply.specs.declared.answer.Named.{Named}
 use Rattle.dh_reply.specs.declared.answer.Page.{Page as FoundPage}
 use Rattle.dh_reply.specs.declared.answer.Reply.{Reply}
@@ -23,7 +25,13 @@ abbrev pub host_not_found : Reply
 host_not_found = fault_reply_of 404 None
 
 unfoldable pub page_reply : ℕ → FoundPage → Reply
-page_reply status page = record { status = status; location = None; allow = None; media = Some page.media; body = page.body }
+page_reply status page = record {
+  status = status;
+  location = None;
+  allow = None;
+  media = Some page.media;
+  body = page.body;
+}
 
 -- a `?` and the query, where there is one
 abbrev pub with_query : List ℕ → Option (List ℕ) → List ℕ
@@ -32,7 +40,13 @@ with_query text (Some query) = text ++ 63 ∷ query
 
 -- 302 with the query carried over
 unfoldable pub redirect : List ℕ → Option (List ℕ) → Reply
-redirect to query = record { status = 302; location = Some (with_query to query); allow = None; media = None; body = [] }
+redirect to query = record {
+  status = 302;
+  location = Some (with_query to query);
+  allow = None;
+  media = None;
+  body = [];
+}
 
 -- `/lang/name/file`
 unfoldable pub address : List ℕ → List ℕ → List ℕ → List ℕ
@@ -45,68 +59,106 @@ main_lang p = slice_get p.langs 0
 abbrev pub known_lang : List (List ℕ) → List ℕ → Option (List ℕ)
 known_lang langs lang = find (λ l. bytes_eq l lang) langs
 
--- the language and the slug, where both are there
-abbrev pub both_of : Option (List ℕ) → Option Named → Option (List ℕ × List ℕ)
-both_of (Some lang) (Some named) = Some (lang, named.slug)
-both_of _ _ = None
+-- the name, where it has the form of a slug
+abbrev pub slug_named : List ℕ → Option (List ℕ)
+slug_named name = if is_slug name then Some name else None
 
--- the language and the version's slug of a good address: the language is the project's, the name resolves
-unfoldable pub good : SeenProject → List ℕ → List ℕ → Option (List ℕ × List ℕ)
-good p lang name = both_of (known_lang p.langs lang) (resolved p name)
+-- the three together, where each is there
+abbrev pub good_of : Option (List ℕ) → Option (List ℕ) → Option Named → Option GoodAddress
+good_of (Some name) (Some lang) (Some named) =
+    Some (record { lang = lang; name = name; slug = named.slug })
+good_of _ _ _ = None
+
+-- an address is good: the language is the project's, and the name is a slug's text and resolves
+unfoldable pub good : SeenProject → List ℕ → List ℕ → Option GoodAddress
+good p lang name = good_of (slug_named name) (known_lang p.langs lang) (resolved p name)
+
+-- the address at a place, where it is good
+abbrev pub good_at : SeenProject → Place → Option GoodAddress
+good_at p (Bare lang name) = good p lang name
+good_at p (File lang name file) = good p lang name
+good_at p _ = None
 
 -- an empty file, or one that ends in `/`, stands for `index.html` there
 unfoldable pub indexed : List ℕ → List ℕ
-indexed file = if length file == 0 || slice_index file (length file - 1) == 47 then file ++ codes "index.html" else file
+indexed file =
+    if length file == 0 || slice_index file (length file - 1) == 47 then file ++ codes "index.html"
+    else file
+
+-- the first case that holds, if one does
+abbrev pub first_of : List (Option Reply) → Option Reply
+first_of [] = None
+first_of (None ∷ cases) = first_of cases
+first_of (Some r ∷ cases) = Some r
+
+-- ---- something is served
 
 -- to the file in the default version and the main language, where there is a default
 unfoldable pub home_to : SeenProject → List ℕ → Option (List ℕ) → Option Reply
-home_to p file query = option_and_then (λ lang. option_map (λ name. redirect (address lang name file) query) p.default) (main_lang p)
-
--- `/` and `/page/file`
-abbrev pub home : SeenProject → Place → Option (List ℕ) → Option Reply
-home p Root query = home_to p [] query
-home p (Page file) query = home_to p file query
-home p _ query = None
-
--- the page exists
-abbrev pub found : SeenProject → Place → Option Reply
-found p (File lang name file) = option_and_then (λ (at : List ℕ × List ℕ). option_map (page_reply 200) (page_at p at.0 at.1 (indexed file))) (good p lang name)
-found p _ = None
+home_to p file query =
+    option_and_then
+    (λ lang. option_map (λ name. redirect (address lang name file) query) p.default)
+    (main_lang p)
 
 -- the same address with `/` at its end
 abbrev pub slash_added : List ℕ → Option (List ℕ) → Reply
 slash_added path query = redirect (escaped path ++ 47 ∷ []) query
 
--- the slash at the end is missing
-abbrev pub slashed : SeenProject → Place → List ℕ → Option (List ℕ) → Option Reply
-slashed p (Bare lang name) path query = option_map (λ _. slash_added path query) (good p lang name)
-slashed p (File lang name file) path query =
-    option_and_then (λ (at : List ℕ × List ℕ). option_map (λ _. slash_added path query) (page_at p at.0 at.1 (file ++ codes "/index.html"))) (good p lang name)
-slashed p _ path query = None
+-- the page that a file stands for
+abbrev pub page_found : SeenProject → GoodAddress → List ℕ → Option FoundPage
+page_found p at file = page_at p at.lang at.slug (indexed file)
 
-abbrev pub not_found_page : SeenProject → List ℕ → List ℕ → Option Reply
-not_found_page p lang slug = option_map (page_reply 404) (page_at p lang slug (codes "404.html"))
+-- the page of the folder that a file names
+abbrev pub folder_found : SeenProject → GoodAddress → List ℕ → Option FoundPage
+folder_found p at file = page_at p at.lang at.slug (file ++ codes "/index.html")
 
--- 404 with `404.html` of the requested version and language
-abbrev pub own_not_found : SeenProject → Place → Option Reply
-own_not_found p (File lang name file) = option_and_then (λ (at : List ℕ × List ℕ). not_found_page p at.0 at.1) (good p lang name)
-own_not_found p _ = None
+-- a file of a good address: its page is there, or the slash at its end is missing
+abbrev pub file_served
+    : SeenProject → GoodAddress → List ℕ → List ℕ → Option (List ℕ) → Option Reply
+file_served p at file path query =
+    first_of (option_map (page_reply 200) (page_found p at file)
+    ∷ option_map (λ _. slash_added path query) (folder_found p at file) ∷ [])
 
--- 404 with `404.html` of the default version in the main language
-unfoldable pub home_not_found : SeenProject → Option Reply
-home_not_found p =
-    option_and_then (λ name. option_and_then (λ (named : Named). option_and_then (λ lang. not_found_page p lang named.slug) (main_lang p)) (resolved p name)) p.default
+-- what a place serves: `/` and `/page/file` lead home, a good address with no file lacks its slash
+abbrev pub served
+    : SeenProject → Place → Option GoodAddress → List ℕ → Option (List ℕ) → Option Reply
+served p Root _ path query = home_to p [] query
+served p (Page file) _ path query = home_to p file query
+served p (Bare lang name) (Some at) path query = Some (slash_added path query)
+served p (File lang name file) (Some at) path query = file_served p at file path query
+served p _ _ path query = None
 
--- the first case that holds, and else 404 with the host's text
-abbrev pub first_case : List (Option Reply) → Reply
-first_case [] = host_not_found
-first_case (None ∷ cases) = first_case cases
-first_case (Some r ∷ cases) = r
+-- ---- nothing is served
 
--- the table of cases for a project
+-- 404 with `404.html` of a version in a language
+abbrev pub not_found : SeenProject → List ℕ → List ℕ → Option Reply
+not_found p lang slug = option_map (page_reply 404) (page_at p lang slug (codes "404.html"))
+
+-- the same of the requested version and language
+abbrev pub own_not_found : SeenProject → Option GoodAddress → Option Reply
+own_not_found p own = option_and_then (λ (at : GoodAddress). not_found p at.lang at.slug) own
+
+-- the version that the default name stands for
+abbrev pub default_version : SeenProject → Option Named
+default_version p = option_and_then (resolved p) p.default
+
+-- the same of the default version in the main language
+unfoldable pub default_not_found : SeenProject → Option Reply
+default_not_found p =
+    option_and_then
+    (λ (named : Named). option_and_then (λ lang. not_found p lang named.slug) (main_lang p))
+    (default_version p)
+
+-- the first of the two, and else 404 with the host's text
+abbrev pub nothing_served : SeenProject → Option GoodAddress → Reply
+nothing_served p own =
+    unwrap_or (first_of (own_not_found p own ∷ default_not_found p ∷ [])) host_not_found
+
+-- ---- the reply
+
 abbrev pub project_reply : SeenProject → Place → List ℕ → Option (List ℕ) → Reply
 project_reply p place path query =
-    first_case (home p place query ∷ found p place ∷ slashed p place path query ∷ own_not_found p place ∷ home_not_found p ∷ [])
+    unwrap_or (served p place (good_at p place) path query) (nothing_served p (good_at p place))
 
 -- the reply to a read (Read the Docs, Versions); of `/robots.txt` and `/_/..` it says nothing
 abbrev pub reply_to : Option SeenProject → List ℕ → Option (List ℕ) → Reply

@@ -2,6 +2,7 @@
 //! to.
 #![tactic(auto)]
 
+mod address;
 pub mod answer;
 pub mod fault;
 pub mod items;

@@ -1,10 +1,10 @@
 //! The texts and replies of the table's cases.
 
-ghost use Rattle.std.specs.Prelude.{◌≡◌, ◌++◌, IfOk, OnOk, string_bytes};
-ghost use Rattle.dh_reply.specs.Replies.{page_reply, with_query, redirect, address, indexed, known_lang, both_of, slash_added};
+ghost use Rattle.std.specs.Prelude.{◌≡◌, ◌++◌, IfOk, IsSome, OnErr, OnOk, string_bytes};
+ghost use Rattle.dh_reply.specs.Replies.{page_reply, with_query, redirect, address, indexed, slash_added};
 
-use crate::answer::{Named, Page, Reply};
-use dh_paths::{Bytes, Lang, Slug, Text, encode_path};
+use crate::answer::{Page, Reply};
+use dh_paths::{Bytes, Text, encode_path};
 use std::alloc::{AllocError, Global};
 
 #[tactic(auto, unfolding(crate::specs::Replies::page_reply))]
@@ -21,7 +21,8 @@ pub fn make_page_reply(status: u16, page: Page) -> Reply
 }
 
 fn add_query(to: &mut String, query: &Option<Text>) -> Result<(), AllocError>
-    ensures { OnOk result (string_bytes to.new ≡ with_query (string_bytes to.old) query.now) }
+    ensures added { OnOk result (string_bytes to.new ≡ with_query (string_bytes to.old) query.now) }
+    ensures short { OnErr result (IsSome query.now) }
 {
     if let Some(query) = query {
         to.push('?')?;
@@ -32,7 +33,8 @@ fn add_query(to: &mut String, query: &Option<Text>) -> Result<(), AllocError>
 
 #[tactic(auto, unfolding(crate::specs::Replies::redirect))]
 fn make_redirect(alloc: Global, mut to: String, query: &Option<Text>) -> Result<Reply, AllocError>
-    ensures { IfOk result (λ r. r ≡ redirect (string_bytes to) query.now) }
+    ensures made { IfOk result (λ r. r ≡ redirect (string_bytes to) query.now) }
+    ensures short { OnErr result (IsSome query.now) }
 {
     add_query(&mut to, query)?;
     Ok(Reply {
@@ -97,19 +99,4 @@ pub fn joined(alloc: Global, front: &str, back: &str) -> Result<String, AllocErr
     let mut text = String::from_str(alloc, front)?;
     text.push_str(back)?;
     Ok(text)
-}
-
-pub fn take_lang(langs: Vec<Lang>, lang: &str) -> Option<Lang>
-    ensures { result ≡ known_lang langs.items lang.now }
-{
-    langs.into_iter().find(|known| known.as_str() == lang)
-}
-
-pub fn both(lang: Option<Lang>, named: Option<Named>) -> Option<(Lang, Slug)>
-    ensures { result ≡ both_of lang named }
-{
-    match (lang, named) {
-        (Some(lang), Some(named)) => Some((lang, named.slug)),
-        _ => None,
-    }
 }

@@ -1,19 +1,15 @@
 //! The reply to a read: each case of the table is a function of its own.
 
-ghost use Rattle.std.specs.Prelude.{◌≡◌, ◌≤◌, ◌++◌, ◌∷◌, [], false, IfOk, IfSome, IsTrue, codes};
-ghost use Rattle.std.specs.Option.{option_and_then};
-ghost use Rattle.dh_paths.specs.Places.{split_of, Bare};
-ghost use Rattle.dh_reply.specs.Faults.{UnlessStore, OnStore};
-ghost use Rattle.dh_reply.specs.FileCases.{good_reply, file_reply};
-ghost use Rattle.dh_reply.specs.SeenProject.{page_at};
-ghost use Rattle.dh_reply.specs.Replies.{is_system, home_to, home_not_found, good, indexed, first_case, slashed, not_found_page, reply_to};
+ghost use Rattle.std.specs.Prelude.{◌≡◌, false};
+ghost use Rattle.dh_paths.specs.Places.{place, split_of};
+ghost use Rattle.dh_reply.specs.Lookup.{Asks, Tells, TellsMaybe, TellsOf};
+ghost use Rattle.dh_reply.specs.Replies as spec;
 
-use crate::answer::{Page, Read, Reply};
+use crate::address::{GoodAddress, good_address, slug_of, take_lang};
+use crate::answer::{Named, Page, Read, Reply};
 use crate::fault::Fault;
 use crate::lookup::Lookup;
-use crate::make::{
-    both, joined, make_home, make_indexed, make_page_reply, make_slashed, take_lang,
-};
+use crate::make::{joined, make_home, make_indexed, make_page_reply, make_slashed};
 use crate::statuses::fault_reply;
 use dh_paths::{Lang, Slug, Split, Text, split};
 use std::alloc::Global;
@@ -26,12 +22,9 @@ fn home<L: Lookup>(
     file: &str,
     query: &Option<Text>,
 ) -> Result<Option<Reply>, Fault>
-    ensures leads { L.leads lookup.old lookup.new }
-    ensures keeps { UnlessStore result (L.keeps lookup.old lookup.new) }
-    ensures doubt { L.doubt lookup.old ≤ L.doubt lookup.new }
-    ensures store { OnStore result (IsTrue L.can_fail) }
-    ensures kept { L.doubt lookup.new ≡ 0 → UnlessStore result (L.content lookup.new ≡ L.content lookup.old) }
-    ensures value { L.doubt lookup.new ≡ 0 → IfOk result (λ r. r ≡ option_and_then (λ p. home_to p file.now query.now) (L.content lookup.old)) }
+    ensures asks { Asks L.meaning lookup.old lookup.new result }
+    ensures value { TellsMaybe L.meaning lookup.old lookup.new result
+        (λ p. spec.home_to p file.now query.now) }
 {
     let langs = lookup.langs(alloc)?;
     let name = lookup.default(alloc)?;
@@ -47,38 +40,166 @@ fn home<L: Lookup>(
     }
 }
 
-/// 404 with the page of a version and language, where it has one.
+/// The good address with that language and name, if it is one.
+#[tactic(auto, unfolding(crate::specs::Replies::good))]
+fn find_good<L: Lookup>(
+    alloc: Global,
+    lookup: &mut L,
+    lang: &str,
+    name: &str,
+) -> Result<Option<GoodAddress>, Fault>
+    ensures asks { Asks L.meaning lookup.old lookup.new result }
+    ensures value { TellsMaybe L.meaning lookup.old lookup.new result
+        (λ p. spec.good p lang.now name.now) }
+{
+    let Some(name) = slug_of(alloc, name)? else {
+        return Ok(None);
+    };
+    let langs = lookup.langs(alloc)?;
+    let named = lookup.name(alloc, name.as_str())?;
+    Ok(good_address(name, take_lang(langs, lang), named))
+}
+
+/// The good address at a place, if there is one.
+fn good_at<L: Lookup>(
+    alloc: Global,
+    lookup: &mut L,
+    asked: &Split,
+) -> Result<Option<GoodAddress>, Fault>
+    ensures asks { Asks L.meaning lookup.old lookup.new result }
+    ensures value { TellsMaybe L.meaning lookup.old lookup.new result
+        (λ p. spec.good_at p (place asked.now)) }
+{
+    match asked {
+        Split::Bare(lang, name) => find_good(alloc, lookup, lang, name),
+        Split::File(lang, name, _) => find_good(alloc, lookup, lang, name),
+        _ => Ok(None),
+    }
+}
+
+/// The page that a file of a version stands for.
+fn page_found<L: Lookup>(
+    alloc: Global,
+    lookup: &mut L,
+    at: &GoodAddress,
+    file: &str,
+) -> Result<Option<Page>, Fault>
+    ensures asks { Asks L.meaning lookup.old lookup.new result }
+    ensures value { TellsMaybe L.meaning lookup.old lookup.new result
+        (λ p. spec.page_found p at.now file.now) }
+{
+    let file = make_indexed(alloc, file)?;
+    lookup.page(alloc, &at.lang, &at.slug, file.as_str())
+}
+
+/// The page of the folder that a file of a version names.
+fn folder_found<L: Lookup>(
+    alloc: Global,
+    lookup: &mut L,
+    at: &GoodAddress,
+    file: &str,
+) -> Result<Option<Page>, Fault>
+    ensures asks { Asks L.meaning lookup.old lookup.new result }
+    ensures value { TellsMaybe L.meaning lookup.old lookup.new result
+        (λ p. spec.folder_found p at.now file.now) }
+{
+    let file = joined(alloc, file, "/index.html")?;
+    lookup.page(alloc, &at.lang, &at.slug, file.as_str())
+}
+
+/// A file of a version: its page, or the way to its folder.
+fn file_served<L: Lookup>(
+    alloc: Global,
+    lookup: &mut L,
+    at: &GoodAddress,
+    file: &str,
+    read: &Read,
+) -> Result<Option<Reply>, Fault>
+    ensures asks { Asks L.meaning lookup.old lookup.new result }
+    ensures value { TellsMaybe L.meaning lookup.old lookup.new result
+        (λ p. spec.file_served p at.now file.now read.now.path read.now.query) }
+{
+    if let Some(page) = page_found(alloc, lookup, at, file)? {
+        return Ok(Some(make_page_reply(200, page)));
+    }
+    match folder_found(alloc, lookup, at, file)? {
+        Some(_) => Ok(Some(make_slashed(alloc, read.path.as_str(), &read.query)?)),
+        None => Ok(None),
+    }
+}
+
+/// What is served at a place: a page, or the way to one.
+fn served<L: Lookup>(
+    alloc: Global,
+    lookup: &mut L,
+    asked: &Split,
+    own: &Option<GoodAddress>,
+    read: &Read,
+) -> Result<Option<Reply>, Fault>
+    ensures asks { Asks L.meaning lookup.old lookup.new result }
+    ensures value { TellsOf L.meaning lookup.old lookup.new result
+        (λ p. spec.served p (place asked.now) own.now read.now.path read.now.query) }
+{
+    match (asked, own) {
+        (Split::Root, _) => home(alloc, lookup, "", &read.query),
+        (Split::Page(file), _) => home(alloc, lookup, file, &read.query),
+        (Split::Bare(_, _), Some(_)) => {
+            Ok(Some(make_slashed(alloc, read.path.as_str(), &read.query)?))
+        }
+        (Split::File(_, _, file), Some(at)) => file_served(alloc, lookup, at, file, read),
+        _ => Ok(None),
+    }
+}
+
+/// 404 with the page of a version in a language, where it has one.
 fn not_found<L: Lookup>(
     alloc: Global,
     lookup: &mut L,
     lang: &Lang,
     slug: &Slug,
 ) -> Result<Option<Reply>, Fault>
-    ensures leads { L.leads lookup.old lookup.new }
-    ensures keeps { UnlessStore result (L.keeps lookup.old lookup.new) }
-    ensures doubt { L.doubt lookup.old ≤ L.doubt lookup.new }
-    ensures store { OnStore result (IsTrue L.can_fail) }
-    ensures kept { L.doubt lookup.new ≡ 0 → UnlessStore result (L.content lookup.new ≡ L.content lookup.old) }
-    ensures value { L.doubt lookup.new ≡ 0 → IfOk result (λ r. r ≡ option_and_then (λ p. not_found_page p lang.now slug.now) (L.content lookup.old)) }
+    ensures asks { Asks L.meaning lookup.old lookup.new result }
+    ensures value { TellsMaybe L.meaning lookup.old lookup.new result
+        (λ p. spec.not_found p lang.now slug.now) }
 {
     let page = lookup.page(alloc, lang, slug, "404.html")?;
     Ok(page.map(|page| make_page_reply(404, page)))
 }
 
-/// 404 with the page of the default version in the main language, where it has one.
-#[tactic(auto, unfolding(crate::specs::Replies::home_not_found))]
-fn default_not_found<L: Lookup>(alloc: Global, lookup: &mut L) -> Result<Option<Reply>, Fault>
-    ensures leads { L.leads lookup.old lookup.new }
-    ensures keeps { UnlessStore result (L.keeps lookup.old lookup.new) }
-    ensures doubt { L.doubt lookup.old ≤ L.doubt lookup.new }
-    ensures store { OnStore result (IsTrue L.can_fail) }
-    ensures kept { L.doubt lookup.new ≡ 0 → UnlessStore result (L.content lookup.new ≡ L.content lookup.old) }
-    ensures value { L.doubt lookup.new ≡ 0 → IfOk result (λ r. r ≡ option_and_then home_not_found (L.content lookup.old)) }
+/// The same of the requested version and language.
+fn own_not_found<L: Lookup>(
+    alloc: Global,
+    lookup: &mut L,
+    own: &Option<GoodAddress>,
+) -> Result<Option<Reply>, Fault>
+    ensures asks { Asks L.meaning lookup.old lookup.new result }
+    ensures value { TellsMaybe L.meaning lookup.old lookup.new result
+        (λ p. spec.own_not_found p own.now) }
 {
-    let Some(name) = lookup.default(alloc)? else {
-        return Ok(None);
-    };
-    let Some(named) = lookup.name(alloc, name.as_str())? else {
+    match own {
+        Some(at) => not_found(alloc, lookup, &at.lang, &at.slug),
+        None => Ok(None),
+    }
+}
+
+/// The version that `/` leads to.
+fn default_version<L: Lookup>(alloc: Global, lookup: &mut L) -> Result<Option<Named>, Fault>
+    ensures asks { Asks L.meaning lookup.old lookup.new result }
+    ensures value { TellsMaybe L.meaning lookup.old lookup.new result spec.default_version }
+{
+    match lookup.default(alloc)? {
+        Some(name) => lookup.name(alloc, name.as_str()),
+        None => Ok(None),
+    }
+}
+
+/// The same of the default version in the main language.
+#[tactic(auto, unfolding(crate::specs::Replies::default_not_found))]
+fn default_not_found<L: Lookup>(alloc: Global, lookup: &mut L) -> Result<Option<Reply>, Fault>
+    ensures asks { Asks L.meaning lookup.old lookup.new result }
+    ensures value { TellsMaybe L.meaning lookup.old lookup.new result spec.default_not_found }
+{
+    let Some(named) = default_version(alloc, lookup)? else {
         return Ok(None);
     };
     let langs = lookup.langs(alloc)?;
@@ -88,193 +209,59 @@ fn default_not_found<L: Lookup>(alloc: Global, lookup: &mut L) -> Result<Option<
     }
 }
 
-/// The last cases: 404.
-fn missing<L: Lookup>(alloc: Global, lookup: &mut L) -> Result<Reply, Fault>
-    ensures leads { L.leads lookup.old lookup.new }
-    ensures keeps { UnlessStore result (L.keeps lookup.old lookup.new) }
-    ensures doubt { L.doubt lookup.old ≤ L.doubt lookup.new }
-    ensures store { OnStore result (IsTrue L.can_fail) }
-    ensures kept { L.doubt lookup.new ≡ 0 → UnlessStore result (L.content lookup.new ≡ L.content lookup.old) }
-    ensures value { L.doubt lookup.new ≡ 0 → IfOk result (λ r. IfSome (L.content lookup.old) (λ p. r ≡ first_case (home_not_found p ∷ []))) }
+/// The last cases, where nothing is served: 404.
+fn nothing_served<L: Lookup>(
+    alloc: Global,
+    lookup: &mut L,
+    own: &Option<GoodAddress>,
+) -> Result<Reply, Fault>
+    ensures asks { Asks L.meaning lookup.old lookup.new result }
+    ensures value { TellsOf L.meaning lookup.old lookup.new result
+        (λ p. spec.nothing_served p own.now) }
 {
+    if let Some(reply) = own_not_found(alloc, lookup, own)? {
+        return Ok(reply);
+    }
     match default_not_found(alloc, lookup)? {
         Some(reply) => Ok(reply),
         None => Ok(fault_reply(alloc, 404, None)?),
     }
 }
 
-/// `/` and `/page/file`.
-fn home_or_missing<L: Lookup>(
+/// The first case that holds at a place.
+fn project_reply<L: Lookup>(
     alloc: Global,
     lookup: &mut L,
-    file: &str,
-    query: &Option<Text>,
+    asked: &Split,
+    read: &Read,
 ) -> Result<Reply, Fault>
-    ensures leads { L.leads lookup.old lookup.new }
-    ensures keeps { UnlessStore result (L.keeps lookup.old lookup.new) }
-    ensures doubt { L.doubt lookup.old ≤ L.doubt lookup.new }
-    ensures store { OnStore result (IsTrue L.can_fail) }
-    ensures kept { L.doubt lookup.new ≡ 0 → UnlessStore result (L.content lookup.new ≡ L.content lookup.old) }
-    ensures value { L.doubt lookup.new ≡ 0 → IfOk result (λ r. IfSome (L.content lookup.old) (λ p. r ≡ first_case (home_to p file.now query.now ∷ home_not_found p ∷ []))) }
+    ensures asks { Asks L.meaning lookup.old lookup.new result }
+    ensures value { TellsOf L.meaning lookup.old lookup.new result
+        (λ p. spec.project_reply p (place asked.now) read.now.path read.now.query) }
 {
-    match home(alloc, lookup, file, query)? {
+    let own = good_at(alloc, lookup, asked)?;
+    match served(alloc, lookup, asked, &own, read)? {
         Some(reply) => Ok(reply),
-        None => missing(alloc, lookup),
-    }
-}
-
-/// The language and the version of an address, where it is good.
-#[tactic(auto, unfolding(crate::specs::Replies::good))]
-fn find_good<L: Lookup>(
-    alloc: Global,
-    lookup: &mut L,
-    lang: &str,
-    name: &str,
-) -> Result<Option<(Lang, Slug)>, Fault>
-    ensures leads { L.leads lookup.old lookup.new }
-    ensures keeps { UnlessStore result (L.keeps lookup.old lookup.new) }
-    ensures doubt { L.doubt lookup.old ≤ L.doubt lookup.new }
-    ensures store { OnStore result (IsTrue L.can_fail) }
-    ensures kept { L.doubt lookup.new ≡ 0 → UnlessStore result (L.content lookup.new ≡ L.content lookup.old) }
-    ensures value { L.doubt lookup.new ≡ 0 → IfOk result (λ r. r ≡ option_and_then (λ p. good p lang.now name.now) (L.content lookup.old)) }
-{
-    let langs = lookup.langs(alloc)?;
-    let named = lookup.name(alloc, name)?;
-    Ok(both(take_lang(langs, lang), named))
-}
-
-/// `/language/name`.
-fn bare<L: Lookup>(
-    alloc: Global,
-    lookup: &mut L,
-    lang: &str,
-    name: &str,
-    read: &Read,
-) -> Result<Reply, Fault>
-    ensures leads { L.leads lookup.old lookup.new }
-    ensures keeps { UnlessStore result (L.keeps lookup.old lookup.new) }
-    ensures doubt { L.doubt lookup.old ≤ L.doubt lookup.new }
-    ensures store { OnStore result (IsTrue L.can_fail) }
-    ensures kept { L.doubt lookup.new ≡ 0 → UnlessStore result (L.content lookup.new ≡ L.content lookup.old) }
-    ensures value { L.doubt lookup.new ≡ 0 → IfOk result (λ r. IfSome (L.content lookup.old) (λ p. r ≡ first_case (slashed p (Bare lang.now name.now) read.now.path read.now.query ∷ home_not_found p ∷ []))) }
-{
-    match find_good(alloc, lookup, lang, name)? {
-        Some(_) => Ok(make_slashed(alloc, read.path.as_str(), &read.query)?),
-        None => missing(alloc, lookup),
-    }
-}
-
-/// The page that a file of a good address stands for.
-fn page_found<L: Lookup>(
-    alloc: Global,
-    lookup: &mut L,
-    lang: &Lang,
-    slug: &Slug,
-    file: &str,
-) -> Result<Option<Page>, Fault>
-    ensures leads { L.leads lookup.old lookup.new }
-    ensures keeps { UnlessStore result (L.keeps lookup.old lookup.new) }
-    ensures doubt { L.doubt lookup.old ≤ L.doubt lookup.new }
-    ensures store { OnStore result (IsTrue L.can_fail) }
-    ensures kept { L.doubt lookup.new ≡ 0 → UnlessStore result (L.content lookup.new ≡ L.content lookup.old) }
-    ensures value { L.doubt lookup.new ≡ 0 → IfOk result (λ r. r ≡ option_and_then (λ p. page_at p lang.now slug.now (indexed file.now)) (L.content lookup.old)) }
-{
-    let file = make_indexed(alloc, file)?;
-    lookup.page(alloc, lang, slug, file.as_str())
-}
-
-/// The page of the folder that a file of a good address names.
-fn folder_found<L: Lookup>(
-    alloc: Global,
-    lookup: &mut L,
-    lang: &Lang,
-    slug: &Slug,
-    file: &str,
-) -> Result<Option<Page>, Fault>
-    ensures leads { L.leads lookup.old lookup.new }
-    ensures keeps { UnlessStore result (L.keeps lookup.old lookup.new) }
-    ensures doubt { L.doubt lookup.old ≤ L.doubt lookup.new }
-    ensures store { OnStore result (IsTrue L.can_fail) }
-    ensures kept { L.doubt lookup.new ≡ 0 → UnlessStore result (L.content lookup.new ≡ L.content lookup.old) }
-    ensures value { L.doubt lookup.new ≡ 0 → IfOk result (λ r. r ≡ option_and_then (λ p. page_at p lang.now slug.now (file.now ++ codes "/index.html")) (L.content lookup.old)) }
-{
-    let file = joined(alloc, file, "/index.html")?;
-    lookup.page(alloc, lang, slug, file.as_str())
-}
-
-/// A file of a good address.
-#[tactic(auto, unfolding(crate::specs::FileCases::good_reply))]
-fn good_file<L: Lookup>(
-    alloc: Global,
-    lookup: &mut L,
-    lang: &Lang,
-    slug: &Slug,
-    file: &str,
-    read: &Read,
-) -> Result<Reply, Fault>
-    ensures leads { L.leads lookup.old lookup.new }
-    ensures keeps { UnlessStore result (L.keeps lookup.old lookup.new) }
-    ensures doubt { L.doubt lookup.old ≤ L.doubt lookup.new }
-    ensures store { OnStore result (IsTrue L.can_fail) }
-    ensures kept { L.doubt lookup.new ≡ 0 → UnlessStore result (L.content lookup.new ≡ L.content lookup.old) }
-    ensures value { L.doubt lookup.new ≡ 0 → IfOk result (λ r. IfSome (L.content lookup.old) (λ p. r ≡ good_reply p lang.now slug.now file.now read.now.path read.now.query)) }
-{
-    if let Some(page) = page_found(alloc, lookup, lang, slug, file)? {
-        return Ok(make_page_reply(200, page));
-    }
-    if folder_found(alloc, lookup, lang, slug, file)?.is_some() {
-        return Ok(make_slashed(alloc, read.path.as_str(), &read.query)?);
-    }
-    match not_found(alloc, lookup, lang, slug)? {
-        Some(reply) => Ok(reply),
-        None => missing(alloc, lookup),
-    }
-}
-
-/// `/language/name/file`.
-#[tactic(auto, unfolding(crate::specs::FileCases::file_reply))]
-fn file<L: Lookup>(
-    alloc: Global,
-    lookup: &mut L,
-    lang: &str,
-    name: &str,
-    file: &str,
-    read: &Read,
-) -> Result<Reply, Fault>
-    ensures leads { L.leads lookup.old lookup.new }
-    ensures keeps { UnlessStore result (L.keeps lookup.old lookup.new) }
-    ensures doubt { L.doubt lookup.old ≤ L.doubt lookup.new }
-    ensures store { OnStore result (IsTrue L.can_fail) }
-    ensures kept { L.doubt lookup.new ≡ 0 → UnlessStore result (L.content lookup.new ≡ L.content lookup.old) }
-    ensures value { L.doubt lookup.new ≡ 0 → IfOk result (λ r. IfSome (L.content lookup.old) (λ p. r ≡ file_reply p (good p lang.now name.now) file.now read.now.path read.now.query)) }
-{
-    match find_good(alloc, lookup, lang, name)? {
-        Some((lang, slug)) => good_file(alloc, lookup, &lang, &slug, file, read),
-        None => missing(alloc, lookup),
+        None => nothing_served(alloc, lookup, &own),
     }
 }
 
 /// The reply to a read of what the lookup contains.
 ///
-/// `/robots.txt` and what begins with `/_/` have no reply of their own yet: 404 with the host's text.
-#[tactic(auto, using(crate::proofs::FileLemmas::file_reply_is))]
+/// `/robots.txt` and what begins with `/_/` have no reply of their own yet: 404 with the host's
+/// text.
 pub fn reply<L: Lookup>(alloc: Global, lookup: &mut L, read: &Read) -> Result<Reply, Fault>
-    ensures leads { L.leads lookup.old lookup.new }
-    ensures keeps { UnlessStore result (L.keeps lookup.old lookup.new) }
-    ensures doubt { L.doubt lookup.old ≤ L.doubt lookup.new }
-    ensures store { OnStore result (IsTrue L.can_fail) }
-    ensures kept { L.doubt lookup.new ≡ 0 → UnlessStore result (L.content lookup.new ≡ L.content lookup.old) }
-    ensures value { L.doubt lookup.new ≡ 0 → is_system (split_of read.now.path) ≡ false → IfOk result (λ r. r ≡ reply_to (L.content lookup.old) read.now.path read.now.query) }
+    ensures asks { Asks L.meaning lookup.old lookup.new result }
+    ensures value { spec.is_system (split_of read.now.path) ≡ false →
+        Tells L.meaning lookup.old lookup.new result
+        (λ content. spec.reply_to content read.now.path read.now.query) }
 {
     if !lookup.known()? {
         return Ok(fault_reply(alloc, 404, None)?);
     }
-    match split(read.path.as_str()) {
-        Split::Root => home_or_missing(alloc, lookup, "", &read.query),
-        Split::Page(file) => home_or_missing(alloc, lookup, file, &read.query),
-        Split::Bare(lang, name) => bare(alloc, lookup, lang, name, read),
-        Split::File(lang, name, rest) => file(alloc, lookup, lang, name, rest, read),
-        Split::Other => missing(alloc, lookup),
+    let asked = split(read.path.as_str());
+    match asked {
         Split::Robots | Split::System(_) => Ok(fault_reply(alloc, 404, None)?),
+        _ => project_reply(alloc, lookup, &asked, read),
     }
 }

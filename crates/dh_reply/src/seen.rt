@@ -1,8 +1,10 @@
-ghost use Rattle.std.specs.Prelude.{◌≡◌, IfOk, true, false};
-ghost use Rattle.std.specs.Option.{option_copied, option_map};
+ghost use Rattle.std.specs.Prelude.{◌≡◌, ◌<◌, length, IfOk, OnErr, true};
+ghost use Rattle.std.specs.Option.{option_copied};
 ghost use Rattle.std.specs.List.{find};
 ghost use Rattle.std.specs.Str.{bytes_eq};
 ghost use Rattle.std.proofs.Common.{◌∙◌, refl};
+ghost use Rattle.dh_reply.specs.Faults.{Gives};
+ghost use Rattle.dh_reply.specs.SeenProject as spec;
 ghost use Rattle.dh_reply.specs.SeenProject.{alias_of, resolved, stands_at, page_at};
 
 use crate::answer::{Named, Page};
@@ -29,7 +31,8 @@ fn copy_page(alloc: Global, page: &Page) -> Result<Page, AllocError>
 }
 
 fn copy_langs(alloc: Global, langs: &[Lang]) -> Result<Vec<Lang>, AllocError>
-    ensures { IfOk result (λ copy. copy.items ≡ langs.now) }
+    ensures copied { IfOk result (λ copy. copy.items ≡ langs.now) }
+    ensures short { OnErr result (0 < length langs.now) }
 {
     let mut copy = Vec::new(alloc);
     for lang in langs {
@@ -39,7 +42,8 @@ fn copy_langs(alloc: Global, langs: &[Lang]) -> Result<Vec<Lang>, AllocError>
 }
 
 fn copy_versions(alloc: Global, versions: &[Version]) -> Result<Vec<Version>, AllocError>
-    ensures { IfOk result (λ copy. copy.items ≡ versions.now) }
+    ensures copied { IfOk result (λ copy. copy.items ≡ versions.now) }
+    ensures short { OnErr result (0 < length versions.now) }
 {
     let mut copy = Vec::new(alloc);
     for version in versions {
@@ -49,7 +53,7 @@ fn copy_versions(alloc: Global, versions: &[Version]) -> Result<Vec<Version>, Al
 }
 
 fn copy_text(alloc: Global, text: &Option<Text>) -> Result<Option<Text>, AllocError>
-    ensures { IfOk result (λ copy. copy ≡ text.now) }
+    ensures { Gives text.now result }
 {
     match text {
         Some(text) => Ok(Some(Text::copy_of(alloc, text.as_str())?)),
@@ -85,7 +89,7 @@ fn find_page<'a>(
 }
 
 fn alias_to(alloc: Global, slug: &Option<Slug>) -> Result<Option<Named>, AllocError>
-    ensures { IfOk result (λ n. n ≡ option_map (λ s. record { slug = s; alias = true }) slug.now) }
+    ensures { Gives (spec.alias_to slug.now) result }
 {
     match slug {
         Some(slug) => Ok(Some(Named {
@@ -97,7 +101,7 @@ fn alias_to(alloc: Global, slug: &Option<Slug>) -> Result<Option<Named>, AllocEr
 }
 
 fn find_alias(alloc: Global, project: &SeenProject, name: &str) -> Result<Option<Named>, AllocError>
-    ensures { IfOk result (λ n. n ≡ alias_of project.now name.now) }
+    ensures { Gives (alias_of project.now name.now) result }
 {
     match name {
         "latest" => alias_to(alloc, &project.latest),
@@ -108,7 +112,7 @@ fn find_alias(alloc: Global, project: &SeenProject, name: &str) -> Result<Option
 
 #[tactic(auto, unfolding(crate::specs::SeenProject::resolved))]
 fn find_name(alloc: Global, project: &SeenProject, name: &str) -> Result<Option<Named>, AllocError>
-    ensures { IfOk result (λ n. n ≡ resolved project.now name.now) }
+    ensures { Gives (resolved project.now name.now) result }
 {
     match find_version(project.versions.as_slice(), name) {
         Some(version) => Ok(Some(Named {
@@ -127,7 +131,7 @@ fn page_of(
     slug: &Slug,
     path: &str,
 ) -> Result<Option<Page>, AllocError>
-    ensures { IfOk result (λ o. o ≡ page_at project.now lang.now slug.now path.now) }
+    ensures { Gives (page_at project.now lang.now slug.now path.now) result }
 {
     match find_page(project.pages.as_slice(), lang, slug, path) {
         Some(stored) => Ok(Some(copy_page(alloc, &stored.page)?)),
@@ -136,15 +140,13 @@ fn page_of(
 }
 
 impl Lookup for Seen {
-    ghost content = { λ seen. seen.project };
-
-    ghost doubt = { λ _. 0 };
-
-    ghost leads = { λ a b. b ≡ a };
-
-    ghost keeps = { λ a b. b ≡ a };
-
-    ghost can_fail = { false };
+    ghost meaning = { record {
+      content = λ seen. seen.project;
+      doubt = λ _. 0;
+      leads = λ a b. b ≡ a;
+      keeps = λ a b. b ≡ a;
+      fails = λ _ _. ⊥;
+    } };
 
     ghost leads_at = { λ a. refl };
 
@@ -153,6 +155,8 @@ impl Lookup for Seen {
     ghost leads_on = { λ a b c p q. q ∙ p };
 
     ghost keeps_on = { λ a b c p q. q ∙ p };
+
+    ghost fails_on = { λ a b c p it. it };
 
     fn known(&mut self) -> Result<bool, Fault> {
         Ok(self.project.is_some())

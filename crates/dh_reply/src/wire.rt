@@ -73,14 +73,16 @@ fn put_status_and_location(
     out: &mut Vec<u8>,
     reply: &Reply,
 ) -> Result<(), AllocError>
-    ensures { OnOk result (out.new.items ≡ out.old.items ++ (status_line reply.now.status ++ optional_line (codes "Location") reply.now.location)) }
+    ensures { OnOk result (out.new.items ≡ out.old.items
+        ++ (status_line reply.now.status ++ optional_line (codes "Location") reply.now.location)) }
 {
     put_status(alloc, out, reply.status)?;
     put_optional(out, "Location", &reply.location)
 }
 
 fn put_allow_and_media(out: &mut Vec<u8>, reply: &Reply) -> Result<(), AllocError>
-    ensures { OnOk result (out.new.items ≡ out.old.items ++ (allow_line reply.now.allow ++ optional_line (codes "Content-Type") reply.now.media)) }
+    ensures { OnOk result (out.new.items ≡ out.old.items
+        ++ (allow_line reply.now.allow ++ optional_line (codes "Content-Type") reply.now.media)) }
 {
     put_allow(out, reply.allow)?;
     put_optional(out, "Content-Type", &reply.media)

@@ -1,8 +1,11 @@
 -- From what the connection says of a statement to what is seen of the database.
-use Rattle.std.proofs.Common.{◌≡◌, ◌⊎◌, inl, inr, ℕ, Option, List, [], codes, Bool, true, false, None, Some, Ok, Err, Result, IsTrue, OnOk, OnErr, refl, sym, ap, subst, ◌∙◌, arith, append-nil, true≢false}
+use Rattle.std.proofs.Common.{◌≡◌, ◌⊎◌, inl, inr, ℕ, Option, List, [], codes, Bool, true, false, not, cond, ◌≤◌, ◌||◌, length, None, Some, IsSome, Ok, Err, Result, IsTrue, OnOk, OnErr, IfErr, IsErrAnd, refl, sym, ap, subst, ◌∙◌, arith, append-nil, true≢false}
 use Rattle.std.proofs.lemmas.Bool.{cases_Bool}
 use Rattle.sqlite_value.specs.Order.{Row}
+use Rattle.sqlite_disk.specs.Disk.{MoreFaults}
 use Rattle.sqlite_trees.specs.Tree.{Trees}
+use Rattle.sqlite_trees.specs.declared.error.StoreError.{StoreError}
+use Rattle.sqlite_trees.specs.declared.error.StoreError.TheVariants.{OutOfMemory, Io, Corrupt, Full, Broken, Unstorable}
 use Rattle.sqlite_trees.specs.declared.store.Store.{Ghosts}
 use Rattle.sqlite_schema.specs.declared.schema.Schema.{Schema}
 use Rattle.sqlite_schema.specs.declared.command.Command.{Command}
@@ -12,16 +15,20 @@ use Rattle.sqlite_resolve.specs.declared.compiled.Compiled.{Compiled}
 use Rattle.sqlite_resolve.specs.declared.error.CompileError.{CompileError}
 use Rattle.sqlite_tied.specs.Compute.{everything}
 use Rattle.sqlite.specs.declared.error.Error.{Error}
-use Rattle.sqlite.specs.Effect.{Database, Reads}
+use Rattle.sqlite.specs.Effect.{Database, Reads, is_query}
+use Rattle.sqlite.specs.Calls.{IsWrite}
+use Rattle.sqlite.specs.Does.{Does}
 use Rattle.sqlite.specs.Listing.{understood, reads_listing}
 use Rattle.sqlite.specs.State as state
-use Rattle.sqlite.specs.State.{State, HasCleanDisk, Survives, Executes, ExecutesIn, IsNotRun, FailsToQuery, Shown, RunsCommand, FailsToShow, ShowsRows, Runs, IsUnchanged, IsRolledBack, shows_rows, CommitsBy, MayCommit, text_of}
+use Rattle.sqlite.specs.State.{State, HasCleanDisk, Survives, Executes, ExecutesIn, IsNotRun, FailsToQuery, Shown, RunsCommand, FailsToShow, ShowsRows, Runs, Fails, IsUnchanged, IsRolledBack, shows_rows, CommitsBy, MayCommit, text_of}
 use Rattle.sqlite.specs.Clock.{timed}
 use Rattle.sqlite.specs.Held.{Held, state as state_of}
 use Rattle.sqlite.proofs.Callers as callers
 use Rattle.sqlite.proofs.Callers.{IsPlain, runs_as, reads_as, never_commits}
 use Rattle.dh_rows.specs.declared.fault.Fault.{Fault}
-use Rattle.dh_rows.specs.Calls.{command_of, statement_of, IsEdit, Edits, EditsAs, whole, IsHonest, LeavesTrees, LeavesNoMore, Shows, IsSame, IsUndone, IsRefused, Becomes}
+use Rattle.dh_rows.specs.declared.fault.Fault.TheVariants.{Store}
+use Rattle.dh_rows.specs.Faults.{fault_of}
+use Rattle.dh_rows.specs.Calls.{command_of, statement_of, IsEdit, Edits, EditsAs, whole, IsHonest, LeavesTrees, LeavesNoMore, KeepsCommitted, Lasts, Goes, GoesWithin, Sees, Runs as Ran, Makes, EditsAtMost, Begins, Commits, Undoes, Refuses, IsPlainText, IsEditText, SparesListing, AreRows, IsBlamed, Blames, IsRejected, IsUnanswered, Shows, IsSame, IsUndone, IsRefused, Becomes}
 
 -- ---- refusals
 
@@ -133,6 +140,145 @@ edit_commits sql params s db plain edits h =
     no_end k it (inl e) = subst IsEdit e it
     no_end k it (inr e) = subst IsEdit e.2 it
 
+-- ---- why a statement that begins or ends a transaction is refused
+
+-- a fault of the store's own
+blamed : {S : Type 0} (g : Ghosts S) (old new : Held S) (too_big : Type 0) (e : Error) → ¬ too_big → Fails (state_of g old) (state_of g new) too_big e → fault_of e ≡ Store → IsBlamed g old new
+blamed g old new too_big e small h is = go h.0 h.1 h.2
+  where
+    go : (cause : StoreError) → e ≡ state.store_error cause → state.HasCause (state_of g old) (state_of g new) too_big cause → IsBlamed g old new
+    go OutOfMemory same why = absurd (let x = sym (ap fault_of same) ∙ is in cc)
+    go Io same why = inl why
+    go Corrupt same why = inl why
+    go Full same why = inl why
+    go Broken same why = inr why
+    go Unstorable same why = absurd (small why)
+
+abbrev tail_of : Result Compiled CompileError → ℕ
+tail_of (Ok c) = c.tail
+tail_of (Err e) = 0
+
+abbrev parameters_of : Result Compiled CompileError → ℕ
+parameters_of (Ok c) = length c.names
+parameters_of (Err e) = 0
+
+-- The text is this one statement, with no parameter, whatever the schema is, and the statement changes no table.
+pub record IsBare (text : List ℕ) (k : Command) : Type 1 where
+  pub is : (schema : Schema) → callers.command_of (understood schema text) ≡ k
+  pub plain : (schema : Schema) → IsPlain (understood schema text)
+  pub whole : (schema : Schema) → length text ≤ tail_of (understood schema text)
+  pub free : (schema : Schema) → parameters_of (understood schema text) ≡ 0
+  pub silent : is_query k || (state.is_pragma k || false) ≡ false
+  pub spares : ¬ IsWrite k
+  pub small : (s : State) (params : Row) (text : List ℕ) → ¬ Does s.step_limit (state.mode_of s) params s.now text None k (Err None)
+
+module _ {S : Type 0} (g : Ghosts S) (old new : Held S) (text : List ℕ) (k : Command) (bare : IsBare text k) where
+  why : (e : Error) → Executes text [] (state_of g old) (state_of g new) (Err e) → fault_of e ≡ Store → IsBlamed g old new ⊎ state.IsMisplaced (state_of g old) k e
+  unfolding ExecutesIn IsNotRun
+  why e (inl (inl h)) is = elim h.0 [
+    | inl it ↦ absurd (subst IsPlain it.1 (bare.plain _))
+    | inr it ↦ elim it.2 [
+      | inl past ↦ absurd (past.0 (subst (λ r. length text ≤ tail_of r) it.1 (bare.whole _)))
+      | inr more ↦ elim more [
+        | inl given ↦ absurd (given.0 (sym (subst (λ r. parameters_of r ≡ 0) it.1 (bare.free _))))
+        | inr timed ↦ absurd (timed.0 (subst IsPlain it.1 (bare.plain _)).1)
+      ]
+    ]
+  ]
+  why e (inl (inr h)) is = inl (blamed g old new _ e (λ none. none) h is)
+  why e (inr h) is =
+      let c = h.0 in
+      let none = (subst IsPlain h.1.is (bare.plain _)).0 in
+      let same = command_is (bare.is _) h.1.is in
+      let silent : shows_rows false c ≡ false = rw (same, none) bare.silent in
+      elim (rw silent at h.2) [
+        | inl it ↦ elim it.0 [
+          | inl misplaced ↦ inr (subst (λ k. state.IsMisplaced (state_of g old) k e) same misplaced)
+          | inr does ↦ absurd (elim does.0 [ inl writes ↦ bare.spares (subst IsWrite same writes) | inr returns ↦ (let x = subst IsSome none returns in cc) ])
+        ]
+        | inr it ↦ inl (blamed g old new _ e (rw (same, none) (bare.small (state_of g old) _ _)) it is)
+      ]
+
+  -- A refusal is the store's own, but where the statement is out of place.
+  pub blames : (P : Type 0) (r : Result (Unit {0}) Fault) → IfErr r (IsRejected g old new text []) → ((e : Error) → state.IsMisplaced (state_of g old) k e → P) → Blames g old new r P
+  blames P (Ok u) told out clean = tt
+  blames P (Err fault) told out clean = λ is.
+      let it = told clean in
+      elim (why it.0 it.2 (sym it.1 ∙ is)) [ inl own ↦ inl own | inr misplaced ↦ inr (out it.0 misplaced) ]
+
+begin_bare : IsBare begin_text Begin
+unfolding understood everything
+begin_bare = record {
+  is = λ schema. refl;
+  plain = λ schema. (refl, refl);
+  whole = λ schema. let e : tail_of (understood schema begin_text) ≡ 5 = refl in omega arith;
+  free = λ schema. refl;
+  silent = refl;
+  spares = λ it. it;
+  small = λ s params text it. cc;
+}
+
+commit_bare : IsBare commit_text Commit
+unfolding understood everything
+commit_bare = record {
+  is = λ schema. refl;
+  plain = λ schema. (refl, refl);
+  whole = λ schema. let e : tail_of (understood schema commit_text) ≡ 6 = refl in omega arith;
+  free = λ schema. refl;
+  silent = refl;
+  spares = λ it. it;
+  small = λ s params text it. cc;
+}
+
+rollback_bare : IsBare rollback_text Rollback
+unfolding understood everything
+rollback_bare = record {
+  is = λ schema. refl;
+  plain = λ schema. (refl, refl);
+  whole = λ schema. let e : tail_of (understood schema rollback_text) ≡ 8 = refl in omega arith;
+  free = λ schema. refl;
+  silent = refl;
+  spares = λ it. it;
+  small = λ s params text it. cc;
+}
+
+module _ {S : Type 0} (g : Ghosts S) (old new : Held S) (r : Result (Unit {0}) Fault) where
+  pub begin_blames : IfErr r (IsRejected g old new begin_text []) → Blames g old new r (old.in_transaction ≡ true)
+  begin_blames told = blames g old new begin_text Begin begin_bare _ r told out
+    where
+      out : (e : Error) → state.IsMisplaced (state_of g old) Begin e → old.in_transaction ≡ true
+      out e (inl it) = elim it.1 [ inl within ↦ within.1 | inr ends ↦ absurd (elim ends.0 [ inl x ↦ cc | inr x ↦ cc ]) ]
+      out e (inr it) = absurd (elim it.2 [ inl x ↦ cc | inr x ↦ cc ])
+
+  pub commit_blames : IfErr r (IsRejected g old new commit_text []) → Blames g old new r (old.in_transaction ≡ false)
+  commit_blames told = blames g old new commit_text Commit commit_bare _ r told out
+    where
+      out : (e : Error) → state.IsMisplaced (state_of g old) Commit e → old.in_transaction ≡ false
+      out e (inl it) = elim it.1 [ inl begins ↦ absurd (let x = begins.0 in cc) | inr ends ↦ ends.1 ]
+      out e (inr it) = absurd (elim it.2 [ inl x ↦ cc | inr x ↦ cc ])
+
+  pub rollback_blames : IfErr r (IsRejected g old new rollback_text []) → old.in_transaction ≡ true → Blames g old new r ⊥
+  rollback_blames told within = blames g old new rollback_text Rollback rollback_bare _ r told out
+    where
+      out : (e : Error) → state.IsMisplaced (state_of g old) Rollback e → ⊥
+      out e (inl it) = elim it.1 [ inl begins ↦ absurd (let x = begins.0 in cc) | inr ends ↦ true≢false (sym within ∙ ends.1) ]
+      out e (inr it) = elim it.2 [ inl x ↦ absurd (cc) | inr x ↦ absurd (cc) ]
+
+pub within : (b c : Bool) → c ≡ not b → c ≡ false → b ≡ true
+within true c is e = refl
+within false c is e = absurd (true≢false (sym is ∙ e))
+
+-- what a statement was refused for, as a fault
+pub rejected : {S : Type 0} (g : Ghosts S) (old new : Held S) (sql : List ℕ) (params : Row) (e : Error) (r : Result (Unit {0}) Fault) → IsErrAnd r (λ fault. fault ≡ fault_of e)
+    → (HasCleanDisk (state_of g new) → Executes sql params (state_of g old) (state_of g new) (Err e)) → IfErr r (IsRejected g old new sql params)
+rejected g old new sql params e (Ok u) is runs = tt
+rejected g old new sql params e (Err fault) is runs = λ clean. (e, is, runs clean)
+
+pub unanswered : {S T : Type 0} (g : Ghosts S) (old new : Held S) (sql : List ℕ) (params : Row) (e : Error) (r : Result T Fault) → IsErrAnd r (λ fault. fault ≡ fault_of e)
+    → (HasCleanDisk (state_of g new) → FailsToQuery sql params (state_of g old) (state_of g new) e) → IfErr r (IsUnanswered g old new sql params)
+unanswered g old new sql params e (Ok x) is fails = tt
+unanswered g old new sql params e (Err fault) is fails = λ clean. (e, is, fails clean)
+
 -- ---- a statement that ran ran on an open connection
 
 module _ (old new : State) where
@@ -157,7 +303,7 @@ module _ (old new : State) where
   ran_open returning CreateView text params count h live = h.shown.was_open
   ran_open returning (DropView at) text params count h live = h.shown.was_open
 
-  executed_open : (sql : List ℕ) (params : Row) (count : ℕ) → Executes sql params old new (Ok count) → IsTrue new.is_open → IsTrue old.is_open
+  pub executed_open : (sql : List ℕ) (params : Row) (count : ℕ) → Executes sql params old new (Ok count) → IsTrue new.is_open → IsTrue old.is_open
   unfolding ExecutesIn
   executed_open sql params count h live = elim (cases_Bool (shows_rows false h.0)) [
     | inl shows ↦ absurd (let e = (rw shows at h.2).0 in cc)
@@ -177,6 +323,16 @@ module _ (old new : State) where
 module _ {S : Type 0} (g : Ghosts S) (old new : Held S) (P : Trees → Type 0) (survives : Survives (state_of g old) (state_of g new) P) where
   pub back_clean : HasCleanDisk (state_of g new) → HasCleanDisk (state_of g old)
   back_clean clean = omega (arith, survives.clean, clean)
+
+  -- only a fault shuts the store
+  pub lasts : (IsHonest g new → IsHonest g old) → Lasts g old new
+  lasts was = record {
+    clean = back_clean;
+    was = was;
+    counts = survives.counts;
+    lives = λ clean honest. elim (survives.closes clean honest.1) [ inl live ↦ inl (clean, live) | inr more ↦ inr more ];
+    limit = survives.limit;
+  }
 
   told : (now last : Database) (mode : Bool) → state.Shows (state_of g old) (state_of g new) now last mode → HasCleanDisk (state_of g new) → Shows g whole old new now last mode
   told now last mode it clean = record { was_honest = (back_clean clean, it.was_open); is_open = it.is_open; now_is = it.now_is; last_is = it.committed_is; mode = it.mode }
@@ -221,54 +377,39 @@ module _ {S : Type 0} (g : Ghosts S) (old new : Held S) where
 
 -- ---- each call, by its result
 
-module _ {S : Type 0} (g : Ghosts S) (old new : Held S) (sql : List ℕ) (params : Row) (r : Result (Unit {0}) Fault) (P : Trees → Type 0) (survives : Survives (state_of g old) (state_of g new) P) where
-  abbrev Ran : Type 0
-  Ran = HasCleanDisk (state_of g new) → OnOk r ((n : ℕ) × Executes sql params (state_of g old) (state_of g new) (Ok n))
-
+module _ {S : Type 0} (g : Ghosts S) (old new : Held S) (r : Result (Unit {0}) Fault) where
   abbrev Failed : Type 0
   Failed = HasCleanDisk (state_of g new) → OnErr r (IsUnchanged (state_of g old) (state_of g new) ⊎ IsRolledBack (state_of g old) (state_of g new))
 
-  module _ (ran : Ran) (failed : Failed) where
-    pub was : IsHonest g new → IsHonest g old
-    was honest = go r (ran honest.0) (failed honest.0)
-      where
-        go : (r : Result (Unit {0}) Fault) → OnOk r ((n : ℕ) × Executes sql params (state_of g old) (state_of g new) (Ok n)) → OnErr r (IsUnchanged (state_of g old) (state_of g new) ⊎ IsRolledBack (state_of g old) (state_of g new)) → IsHonest g old
-        go (Ok u) it err = (back_clean g old new P survives honest.0, executed_open _ _ sql params it.0 it.1 honest.1)
-        go (Err e) it err = stopped_was g old new P survives err honest
-
-    pub fails : IsHonest g new → OnErr r (IsRefused g whole old new)
+  module _ (P : Trees → Type 0) (survives : Survives (state_of g old) (state_of g new) P) (failed : Failed) where
+    pub fails : Refuses g whole old new r
     fails honest = go r (failed honest.0)
       where
         go : (r : Result (Unit {0}) Fault) → OnErr r (IsUnchanged (state_of g old) (state_of g new) ⊎ IsRolledBack (state_of g old) (state_of g new)) → OnErr r (IsRefused g whole old new)
         go (Ok u) err = tt
         go (Err e) err = stopped g old new P survives err honest
 
-module _ {S : Type 0} (g : Ghosts S) (old new : Held S) (r : Result (Unit {0}) Fault) where
-  module _ (survives : Survives (state_of g old) (state_of g new) (CommitsBy begin_text [] (state_of g old))) where
-    pub begun : Ran g old new begin_text [] r _ survives → IsHonest g old → HasCleanDisk (state_of g new) → OnOk r (Shows g whole old new (state_of g old).now (state_of g old).committed true)
-    begun ran honest clean = go r (ran clean)
+  module _ (survives : Survives (state_of g old) (state_of g new) (CommitsBy begin_text [] (state_of g old))) (ran : Ran g old new begin_text [] r) where
+    pub begun : Begins g whole old new r
+    begun clean = go r (ran clean)
       where
         go : (r : Result (Unit {0}) Fault) → OnOk r ((n : ℕ) × Executes begin_text [] (state_of g old) (state_of g new) (Ok n)) → OnOk r (Shows g whole old new (state_of g old).now (state_of g old).committed true)
         go (Ok u) it = told g old new _ survives _ _ _ (begins _ _ it.0 it.1).1 clean
         go (Err e) it = tt
 
-    -- only an open store begins
-    pub begun_open : Ran g old new begin_text [] r _ survives → HasCleanDisk (state_of g new) → OnOk r (IsHonest g old)
-    begun_open ran clean = go r (ran clean)
-      where
-        go : (r : Result (Unit {0}) Fault) → OnOk r ((n : ℕ) × Executes begin_text [] (state_of g old) (state_of g new) (Ok n)) → OnOk r (IsHonest g old)
-        go (Ok u) it = (told g old new _ survives _ _ _ (begins _ _ it.0 it.1).1 clean).was_honest
-        go (Err e) it = tt
-
-    pub begun_leaves : LeavesTrees g old new (λ db. ⊥)
-    begun_leaves = leaves g old new _ survives _ (λ _. begin_commits _)
-
     pub begun_no_more : LeavesNoMore g old new
     begun_no_more = leaves_no_more g old new _ survives (begin_commits _)
 
+    pub begun_goes : Lasts g old new → Failed → Goes g old new
+    begun_goes lasts failed = record {
+      lasts = lasts;
+      kept = λ honest. stays_committed g old new _ r (λ it. it.last_is) (begun honest.0) (fails _ survives failed honest);
+      quiet = λ _. begun_no_more;
+    }
+
   module _ (survives : Survives (state_of g old) (state_of g new) (CommitsBy commit_text [] (state_of g old))) where
-    pub done : Ran g old new commit_text [] r _ survives → IsHonest g old → HasCleanDisk (state_of g new) → OnOk r (Shows g whole old new (state_of g old).now (state_of g old).now false)
-    done ran honest clean = go r (ran clean)
+    pub done : Ran g old new commit_text [] r → Commits g whole old new r
+    done ran clean = go r (ran clean)
       where
         go : (r : Result (Unit {0}) Fault) → OnOk r ((n : ℕ) × Executes commit_text [] (state_of g old) (state_of g new) (Ok n)) → OnOk r (Shows g whole old new (state_of g old).now (state_of g old).now false)
         go (Ok u) it = told g old new _ survives _ _ _ (commits _ _ it.0 it.1).1 clean
@@ -277,19 +418,23 @@ module _ {S : Type 0} (g : Ghosts S) (old new : Held S) (r : Result (Unit {0}) F
     pub done_leaves : LeavesTrees g old new (λ db. db ≡ (state_of g old).now.trees)
     done_leaves = leaves g old new _ survives _ (λ _. commit_commits _)
 
-  module _ (survives : Survives (state_of g old) (state_of g new) (CommitsBy rollback_text [] (state_of g old))) where
-    pub gone_back : Ran g old new rollback_text [] r _ survives → IsHonest g new → OnOk r (IsUndone g whole old new)
-    gone_back ran honest = go r (ran honest.0)
+  module _ (survives : Survives (state_of g old) (state_of g new) (CommitsBy rollback_text [] (state_of g old))) (ran : Ran g old new rollback_text [] r) where
+    pub undoes : Undoes g whole old new r
+    undoes honest = go r (ran honest.0)
       where
         go : (r : Result (Unit {0}) Fault) → OnOk r ((n : ℕ) × Executes rollback_text [] (state_of g old) (state_of g new) (Ok n)) → OnOk r (IsUndone g whole old new)
         go (Ok u) it = undone g old new _ survives (rolls_back _ _ it.0 it.1).1 honest
         go (Err e) it = tt
 
-    pub gone_back_leaves : LeavesTrees g old new (λ db. ⊥)
-    gone_back_leaves = leaves g old new _ survives _ (λ _. rollback_commits _)
+    pub undone_no_more : LeavesNoMore g old new
+    undone_no_more = leaves_no_more g old new _ survives (rollback_commits _)
 
-    pub gone_back_no_more : LeavesNoMore g old new
-    gone_back_no_more = leaves_no_more g old new _ survives (rollback_commits _)
+    pub undone_goes : Lasts g old new → Failed → Goes g old new
+    undone_goes lasts failed = record {
+      lasts = lasts;
+      kept = λ honest. stays_committed g old new _ r (λ it. it.last_is) (undoes honest) (fails _ survives failed honest);
+      quiet = λ _. undone_no_more;
+    }
 
 -- ---- one write, and one query, of tables
 
@@ -311,38 +456,63 @@ wrote old new CreateTable text ps n it h = h
 wrote old new _ text ps n it h = absurd it
 
 module _ {S : Type 0} (g : Ghosts S) (old new : Held S) (sql : List ℕ) (params : Row) where
-  pub changed : (r : Result (Unit {0}) Fault) (P : Trees → Type 0) (survives : Survives (state_of g old) (state_of g new) P) → (IsHonest g old → IsPlain (understood (state_of g old).now.schema sql)) → (IsHonest g old → IsEdit (command_of (understood (state_of g old).now.schema sql)))
-      → Ran g old new sql params r P survives → IsHonest g old → HasCleanDisk (state_of g new) → OnOk r (Becomes g whole old new (state_of g new).now × Edits (state_of g old) sql params (state_of g new).now)
-  changed (Ok u) P survives plain edits ran honest clean =
-      let it = ran clean in
-      let w = wrote _ _ _ _ _ _ (edits honest) (ran_as sql params (state_of g old) (state_of g new) (plain honest) it.0 it.1) in
-      (told g old new P survives _ _ _ w.shown clean, (w.tally, w.changed, w.sound))
-  changed (Err e) P survives plain edits ran honest clean = tt
+  module _ (r : Result (Unit {0}) Fault) (survives : Survives (state_of g old) (state_of g new) (CommitsBy sql params (state_of g old)))
+      (plain : IsHonest g old → IsPlainText (state_of g old) sql) (edits : IsHonest g old → IsEditText (state_of g old) sql) (ran : Ran g old new sql params r) where
+    changed : IsHonest g old → HasCleanDisk (state_of g new) → OnOk r (Becomes g whole old new (state_of g new).now × Edits (state_of g old) sql params (state_of g new).now)
+    changed honest clean = go r (ran clean)
+      where
+        go : (r : Result (Unit {0}) Fault) → OnOk r ((n : ℕ) × Executes sql params (state_of g old) (state_of g new) (Ok n)) → OnOk r (Becomes g whole old new (state_of g new).now × Edits (state_of g old) sql params (state_of g new).now)
+        go (Ok u) it =
+            let w = wrote _ _ _ _ _ _ (edits honest) (ran_as sql params (state_of g old) (state_of g new) (plain honest) it.0 it.1) in
+            (told g old new _ survives _ _ _ w.shown clean, (w.tally, w.changed, w.sound))
+        go (Err e) it = tt
 
-  pub changed_leaves : Survives (state_of g old) (state_of g new) (CommitsBy sql params (state_of g old)) → (IsHonest g old → IsPlain (understood (state_of g old).now.schema sql)) → (IsHonest g old → IsEdit (command_of (understood (state_of g old).now.schema sql)))
-      → LeavesTrees g old new (λ db. (old.in_transaction ≡ false) × (after : Database) × Edits (state_of g old) sql params after × (db ≡ after.trees))
-  changed_leaves survives plain edits = leaves g old new _ survives _ (λ honest db. edit_commits sql params (state_of g old) db (plain honest) (edits honest))
+    pub makes : Makes g old new sql params r
+    makes honest clean = go r (changed honest clean)
+      where
+        go : (r : Result (Unit {0}) Fault) → OnOk r (Becomes g whole old new (state_of g new).now × Edits (state_of g old) sql params (state_of g new).now) → OnOk r (Edits (state_of g old) sql params (state_of g new).now)
+        go (Ok u) it = it.1
+        go (Err e) it = tt
 
-  -- within a transaction
-  pub changed_no_more : Survives (state_of g old) (state_of g new) (CommitsBy sql params (state_of g old)) → (IsHonest g old → IsPlain (understood (state_of g old).now.schema sql)) → (IsHonest g old → IsEdit (command_of (understood (state_of g old).now.schema sql)))
-      → old.in_transaction ≡ true → IsHonest g old → LeavesNoMore g old new
-  changed_no_more survives plain edits within honest =
-      leaves_no_more g old new _ survives (λ db it. true≢false (sym within ∙ (edit_commits sql params (state_of g old) db (plain honest) (edits honest) it).0))
+    pub changes_at_most : EditsAtMost g old new sql params
+    changes_at_most = leaves g old new _ survives _ (λ honest db. edit_commits sql params (state_of g old) db (plain honest) (edits honest))
 
-  module _ (P : Trees → Type 0) (survives : Survives (state_of g old) (state_of g new) P) (plain : IsHonest g old → IsPlain (understood (state_of g old).now.schema sql)) where
-    pub read : (IsHonest g old → reads_listing (state_of g old).now.schema sql ≡ false) → (rows : List Row) → Shown sql params (state_of g old) (state_of g new) rows → IsHonest g old
-        → Reads (command_of (understood (state_of g old).now.schema sql)) (state_of g old).now params rows
+    module _ (lasts : Lasts g old new) where
+      pub changed_sees : OnOk r (Sees g whole old new (state_of g new).now)
+      changed_sees = go r changed
+        where
+          go : (r : Result (Unit {0}) Fault) → (IsHonest g old → HasCleanDisk (state_of g new) → OnOk r (Becomes g whole old new (state_of g new).now × Edits (state_of g old) sql params (state_of g new).now))
+              → OnOk r (Sees g whole old new (state_of g new).now)
+          go (Ok u) it = record {
+            live = λ honest clean. (clean, (it honest clean).0.is_open);
+            now_is = λ honest. refl;
+            mode = λ honest. (it (lasts.was honest) honest.0).0.mode;
+            done = λ honest outside. (it (lasts.was honest) honest.0).0.last_is ∙ ap (λ b. cond b (state_of g old).committed (state_of g new).now) outside;
+          }
+          go (Err e) it = tt
+
+      -- within a transaction it commits nothing
+      pub changed_goes : Failed g old new r → GoesWithin g old new
+      changed_goes failed = record {
+        lasts = lasts;
+        kept = λ within honest. stays_committed g old new _ r (λ it. it.0.last_is ∙ ap (λ b. cond b (state_of g old).committed (state_of g new).now) within) (changed (lasts.was honest) honest.0) (fails g old new r _ survives failed honest);
+        quiet = λ within honest. leaves_no_more g old new _ survives (λ db it. true≢false (sym within ∙ (edit_commits sql params (state_of g old) db (plain honest) (edits honest) it).0));
+      }
+
+  module _ (P : Trees → Type 0) (survives : Survives (state_of g old) (state_of g new) P) (plain : IsHonest g old → IsPlainText (state_of g old) sql) where
+    pub read : (IsHonest g old → SparesListing (state_of g old) sql) → (rows : List Row) → Shown sql params (state_of g old) (state_of g new) rows → IsHonest g old → AreRows (state_of g old) sql params rows
     read unlisted rows h honest =
         rw (same_words sql (understood (state_of g old).now.schema sql)).0 (reads_as sql params (state_of g old) (state_of g new) (state_of g old).now.schema refl _ refl (plain honest) (unlisted honest) rows h)
 
-    pub stays : (rows : List Row) → Shown sql params (state_of g old) (state_of g new) rows → IsHonest g old → HasCleanDisk (state_of g new) → IsSame g whole old new
-    unfolding Shown
-    stays rows h honest clean =
-        let none = (subst IsPlain h.1.is (plain honest)).0 in
-        told g old new P survives _ _ _ ((rw none at h.2).3).0 clean
+    -- only an open store answers
+    pub shown_was : (rows : List Row) → Shown sql params (state_of g old) (state_of g new) rows → HasCleanDisk (state_of g new) → IsHonest g old
+    shown_was rows h clean = (back_clean g old new P survives clean, shown_open _ _ sql params rows h)
 
-    pub shown_was : (rows : List Row) → Shown sql params (state_of g old) (state_of g new) rows → IsHonest g new → IsHonest g old
-    shown_was rows h honest = (back_clean g old new P survives honest.0, shown_open _ _ sql params rows h)
+    pub stays : (rows : List Row) → Shown sql params (state_of g old) (state_of g new) rows → HasCleanDisk (state_of g new) → IsSame g whole old new
+    unfolding Shown
+    stays rows h clean =
+        let none = (subst IsPlain h.1.is (plain (shown_was rows h clean))).0 in
+        told g old new P survives _ _ _ ((rw none at h.2).3).0 clean
 
 -- what holds anyway holds where the call failed
 pub if_failed : {T E : Type 0} {P : Type 0} (r : Result T E) → P → OnErr r P

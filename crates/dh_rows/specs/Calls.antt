@@ -1,5 +1,6 @@
 -- What a call on a database shows of it: words over a view, which is what the caller reads of the database.
-use Rattle.std.specs.Prelude.{◌≡◌, ◌⊎◌, ℕ, Bool, false, if◌then◌else◌, Result, Ok, Err, IsTrue, List, [], None, ⊤}
+use Rattle.std.specs.Prelude.{◌≡◌, ◌⊎◌, ℕ, ◌≤◌, Bool, true, false, if◌then◌else◌, Result, Ok, Err, OnOk, OnErr, IfOk, IfErr, IsTrue, List, [], None, ⊤}
+use Rattle.sqlite_disk.specs.Disk.{MoreFaults}
 use Rattle.sqlite_value.specs.Order.{Row}
 use Rattle.sqlite_schema.specs.declared.command.Command.{Command}
 use Rattle.sqlite_schema.specs.declared.command.Command.TheVariants.{Insert, InsertOr, Delete, CreateTable, Nothing}
@@ -7,11 +8,16 @@ use Rattle.sqlite_resolve.specs.declared.compiled.Compiled.{Compiled}
 use Rattle.sqlite_resolve.specs.declared.error.CompileError.{CompileError}
 use Rattle.sqlite_trees.specs.Tree.{Trees}
 use Rattle.sqlite_trees.specs.declared.store.Store.{Ghosts}
-use Rattle.sqlite.specs.Effect.{Database, IsDatabase}
+use Rattle.sqlite.specs.Effect.{Database, IsDatabase, Reads}
+use Rattle.sqlite.specs.declared.error.Error.{Error}
 use Rattle.sqlite.specs.Does.{Tally, Does}
-use Rattle.sqlite.specs.Listing.{understood}
-use Rattle.sqlite.specs.State.{State, HasCleanDisk, mode_of, text_of}
+use Rattle.sqlite.specs.Given.{IsPlain}
+use Rattle.sqlite.specs.Listing.{understood, reads_listing}
+use Rattle.sqlite.specs.State.{State, HasCleanDisk, IsUnchanged, IsRolledBack, Executes, FailsToQuery, mode_of, text_of}
 use Rattle.sqlite.specs.Held.{Held, state}
+use Rattle.dh_rows.specs.declared.fault.Fault.{Fault}
+use Rattle.dh_rows.specs.declared.fault.Fault.TheVariants.{Store}
+use Rattle.dh_rows.specs.Faults.{fault_of}
 
 -- what a text means
 abbrev pub command_of : Result Compiled CompileError → Command
@@ -38,6 +44,22 @@ EditsAs s sql params after meaning = (tally : Tally) × Does s.step_limit (mode_
 abbrev pub Edits : State → List ℕ → Row → Database → Type 0
 Edits s sql params after = EditsAs s sql params after (understood s.now.schema sql)
 
+-- the text is one statement, with no RETURNING, that does not read the time
+abbrev pub IsPlainText : State → List ℕ → Type 0
+IsPlainText s sql = IsPlain (understood s.now.schema sql)
+
+-- the text is an INSERT, a DELETE or a CREATE TABLE
+abbrev pub IsEditText : State → List ℕ → Type 0
+IsEditText s sql = IsEdit (command_of (understood s.now.schema sql))
+
+-- the text does not read the listing of the schema
+abbrev pub SparesListing : State → List ℕ → Type 0
+SparesListing s sql = reads_listing s.now.schema sql ≡ false
+
+-- the rows are those that the text asks for
+abbrev pub AreRows : State → List ℕ → Row → List Row → Type 0
+AreRows s sql params rows = Reads (command_of (understood s.now.schema sql)) s.now params rows
+
 -- The databases that a connection sees and has committed keep their form, and outside a transaction they are one.
 pub record Keep (Holds : Database → Type 0) (s : State) : Type 0 where
   pub now : Holds s.now
@@ -62,6 +84,10 @@ module _ {S : Type 0} (g : Ghosts S) where
   abbrev pub LeavesTrees : Held S → Held S → (Trees → Type 0) → Type 0
   LeavesTrees old new P = IsHonest old → HasCleanDisk (state g new) → (db : Trees) → g.recovers new.store db → g.recovers old.store db ⊎ P db
 
+  -- A crash leaves what it could leave before the call, or the trees that were seen then.
+  abbrev pub LeavesSeen : Held S → Held S → Type 0
+  LeavesSeen old new = LeavesTrees old new (λ db. db ≡ (state g old).now.trees)
+
   -- A crash leaves nothing that it could not leave before.
   abbrev pub LeavesNoMore : Held S → Held S → Type 0
   LeavesNoMore old new = HasCleanDisk (state g new) → (db : Trees) → g.recovers new.store db → g.recovers old.store db
@@ -69,6 +95,69 @@ module _ {S : Type 0} (g : Ghosts S) where
   -- What is committed stays.
   abbrev pub KeepsCommitted : Held S → Held S → Type 0
   KeepsCommitted old new = IsHonest new → (state g new).committed ≡ (state g old).committed
+
+  -- The store counted a fault in the call, or was shut before it.
+  abbrev pub IsBlamed : Held S → Held S → Type 0
+  IsBlamed old new = MoreFaults (state g old).faults (state g new).faults ⊎ ((state g old).is_open ≡ false)
+
+  -- What every call leaves, whatever it answers.
+  pub record Lasts (old new : Held S) : Type 0 where
+    -- what the disk returned before the call was right, if what it returned after it was
+    pub clean : HasCleanDisk (state g new) → HasCleanDisk (state g old)
+    -- a store that is honest was honest
+    pub was : IsHonest new → IsHonest old
+    -- no fault is forgotten
+    pub counts : (state g old).faults ≤ (state g new).faults
+    -- only a fault shuts the store
+    pub lives : HasCleanDisk (state g new) → IsHonest old → IsHonest new ⊎ MoreFaults (state g old).faults (state g new).faults
+    -- the limit on a statement's steps stays
+    pub limit : new.step_limit ≡ old.step_limit
+
+  -- What a call leaves that commits nothing, whatever it answers.
+  pub record Goes (old new : Held S) : Type 0 where
+    pub lasts : Lasts old new
+    pub kept : KeepsCommitted old new
+    pub quiet : IsHonest old → LeavesNoMore old new
+
+  -- What a call leaves that commits nothing within a transaction, whatever it answers.
+  pub record GoesWithin (old new : Held S) : Type 0 where
+    pub lasts : Lasts old new
+    pub kept : old.in_transaction ≡ true → KeepsCommitted old new
+    pub quiet : old.in_transaction ≡ true → IsHonest old → LeavesNoMore old new
+
+  module _ {T : Type 0} (old new : Held S) where
+    -- What an answered look finds. Only an honest store answers.
+    abbrev pub Finds : {E : Type 0} → Result T E → (T → Type 0) → Type 0
+    Finds r P = HasCleanDisk (state g new) → IfOk r (λ x. IsHonest old × P x)
+
+    -- A refusal is the store's own, but where P holds.
+    abbrev pub Blames : Result T Fault → Type 0 → Type 0
+    Blames r P = HasCleanDisk (state g new) → IfErr r (λ fault. fault ≡ Store → IsBlamed old new ⊎ P)
+
+  -- A refused statement left all as it was, or undid the transaction.
+  abbrev pub Stops : {T E : Type 0} → Held S → Held S → Result T E → Type 0
+  Stops old new r = HasCleanDisk (state g new) → OnErr r (IsUnchanged (state g old) (state g new) ⊎ IsRolledBack (state g old) (state g new))
+
+  module _ (old new : Held S) (sql : List ℕ) (params : Row) where
+    -- the statement was refused for what the fault tells
+    abbrev pub IsRejected : Fault → Type 0
+    IsRejected fault = HasCleanDisk (state g new) → (e : Error) × (fault ≡ fault_of e) × Executes sql params (state g old) (state g new) (Err e)
+
+    -- the query was refused for what the fault tells
+    abbrev pub IsUnanswered : Fault → Type 0
+    IsUnanswered fault = HasCleanDisk (state g new) → (e : Error) × (fault ≡ fault_of e) × FailsToQuery sql params (state g old) (state g new) e
+
+    -- an answered statement ran
+    abbrev pub Runs : {E : Type 0} → Result (Unit {0}) E → Type 0
+    Runs r = HasCleanDisk (state g new) → OnOk r ((n : ℕ) × Executes sql params (state g old) (state g new) (Ok n))
+
+    -- an answered edit made of what was seen what is seen now
+    abbrev pub Makes : {E : Type 0} → Result (Unit {0}) E → Type 0
+    Makes r = IsHonest old → HasCleanDisk (state g new) → OnOk r (Edits (state g old) sql params (state g new).now)
+
+    -- A crash leaves what it could leave before the call or, outside a transaction, what the edit makes.
+    abbrev pub EditsAtMost : Type 0
+    EditsAtMost = LeavesTrees old new (λ db. (old.in_transaction ≡ false) × (after : Database) × Edits (state g old) sql params after × (db ≡ after.trees))
 
   module _ {W : Type 0} (view : Database → W) where
     -- what is seen now, and what was seen at the last commit
@@ -109,6 +198,39 @@ module _ {S : Type 0} (g : Ghosts S) where
       abbrev pub Becomes : W → Type 0
       Becomes w = Shows w (if old.in_transaction then committed old else w) old.in_transaction
 
+      -- What an answered call leaves, which neither begins nor ends a transaction.
+      pub record Sees (next : W) : Type 0 where
+        -- the store is as honest as it was
+        pub live : IsHonest old → HasCleanDisk (state g new) → IsHonest new
+        -- this is seen
+        pub now_is : IsHonest new → seen new ≡ next
+        -- a transaction stays open
+        pub mode : IsHonest new → new.in_transaction ≡ old.in_transaction
+        -- outside one it is committed
+        pub done : IsHonest new → old.in_transaction ≡ false → committed new ≡ next
+
+      -- A refused call leaves all as it was, or as it was at the last commit.
+      abbrev pub Refuses : {T E : Type 0} → Result T E → Type 0
+      Refuses r = IsHonest new → OnErr r IsRefused
+
+      -- An answered call leaves a honest store, whose transaction began, was committed, or left nothing.
+      abbrev pub Begins : {T E : Type 0} → Result T E → Type 0
+      Begins r = HasCleanDisk (state g new) → OnOk r (Shows (seen old) (committed old) true)
+
+      abbrev pub Commits : {T E : Type 0} → Result T E → Type 0
+      Commits r = HasCleanDisk (state g new) → OnOk r (Shows (seen old) (seen old) false)
+
+      abbrev pub Undoes : {T E : Type 0} → Result T E → Type 0
+      Undoes r = IsHonest new → OnOk r IsUndone
+
+      -- An answered look was at an honest store, and left all as it was.
+      abbrev pub Stays : {T E : Type 0} → Result T E → Type 0
+      Stays r = HasCleanDisk (state g new) → OnOk r IsSame
+
       -- A crash leaves what it could leave before the call, or trees that have P when seen by the tables of the last commit.
       abbrev pub Leaves : (W → Type 0) → Type 0
       Leaves P = LeavesTrees old new (λ db. P (view (record { schema = (state g old).committed.schema; trees = db })))
+
+      -- A crash leaves what it could leave before the call or, outside a transaction, this.
+      abbrev pub CommitsAtMost : W → Type 0
+      CommitsAtMost w = Leaves (λ v. (old.in_transaction ≡ false) × (v ≡ w))

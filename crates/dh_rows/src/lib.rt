@@ -2,11 +2,13 @@
 #![tactic(auto)]
 
 mod fault;
+mod laws;
 mod places;
 mod statements;
 #[cfg(test)]
 mod tests;
 
 pub use fault::Fault;
+pub use laws::{crash_law, memory_law};
 pub use places::{is_free, is_unmentioned, keeps_counts, place_of};
-pub use statements::{back, begin, change, commit, run, select};
+pub use statements::{begin, change, commit, rollback, run, select};

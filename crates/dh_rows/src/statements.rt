@@ -1,11 +1,8 @@
-ghost use Rattle.std.specs.Prelude.{◌≡◌, ℕ, ◌⊎◌, [], true, false, Ok, IfOk, OnOk, OnErr};
-ghost use Rattle.sqlite.specs.Effect.{Database, Reads};
-ghost use Rattle.sqlite.specs.Given.{IsPlain};
+ghost use Rattle.std.specs.Prelude.{◌≡◌, false, true, IfErr, OnOk};
 ghost use Rattle.sqlite.specs.Held.{state};
-ghost use Rattle.sqlite.specs.Listing.{understood, reads_listing};
-ghost use Rattle.sqlite.specs.State.{HasCleanDisk, IsUnchanged, IsRolledBack, Survives, Executes, CommitsBy};
+ghost use Rattle.sqlite.specs.State.{Survives, CommitsBy};
 ghost use Rattle.sqlite.specs.Values.{bound};
-ghost use Rattle.dh_rows.specs.Calls.{command_of, IsEdit, Edits, IsHonest, Shows, Becomes, IsSame, IsUndone, IsRefused, LeavesTrees, LeavesNoMore, KeepsCommitted, whole};
+ghost use Rattle.dh_rows.specs.Calls.{AreRows, Begins, Blames, Commits, EditsAtMost, Finds, Goes, GoesWithin, IsEditText, IsHonest, IsPlainText, IsRejected, IsUnanswered, Lasts, LeavesNoMore, LeavesSeen, Makes, Refuses, Runs, Sees, SparesListing, Stays, Stops, Undoes, whole};
 
 use crate::fault::Fault;
 use sqlite::types::ValueRef;
@@ -17,47 +14,45 @@ pub fn run<S: Alter>(
     sql: &str,
     params: &[ValueRef<'_>],
 ) -> Result<(), Fault>
-    ensures ok { HasCleanDisk (state S.Store conn.new) → OnOk result ((n : ℕ) × Executes sql.now (bound params.now) (state S.Store conn.old) (state S.Store conn.new) (Ok n)) }
-    ensures err { HasCleanDisk (state S.Store conn.new) → OnErr result (IsUnchanged (state S.Store conn.old) (state S.Store conn.new) ⊎ IsRolledBack (state S.Store conn.old) (state S.Store conn.new)) }
-    ensures survives { Survives (state S.Store conn.old) (state S.Store conn.new) (CommitsBy sql.now (bound params.now) (state S.Store conn.old)) }
+    ensures runs { Runs S.Store conn.old conn.new sql.now (bound params.now) result }
+    ensures told { IfErr result (IsRejected S.Store conn.old conn.new sql.now (bound params.now)) }
+    ensures err { Stops S.Store conn.old conn.new result }
+    ensures lasts { Lasts S.Store conn.old conn.new }
+    ensures survives { Survives (state S.Store conn.old) (state S.Store conn.new)
+        (CommitsBy sql.now (bound params.now) (state S.Store conn.old)) }
 {
     conn.execute(sql, params)?;
     Ok(())
 }
 
-/// Begins a transaction.
+/// Begins a transaction. Within one it is refused.
 pub fn begin<S: Alter>(conn: &mut Connection<S>) -> Result<(), Fault>
-    ensures ok { IsHonest S.Store conn.old → HasCleanDisk (state S.Store conn.new) → OnOk result (Shows S.Store whole conn.old conn.new (state S.Store conn.old).now (state S.Store conn.old).committed true) }
-    ensures err { IsHonest S.Store conn.new → OnErr result (IsRefused S.Store whole conn.old conn.new) }
-    ensures clean { HasCleanDisk (state S.Store conn.new) → HasCleanDisk (state S.Store conn.old) }
-    ensures was { IsHonest S.Store conn.new → IsHonest S.Store conn.old }
-    ensures crash { LeavesTrees S.Store conn.old conn.new (λ db. ⊥) }
-    ensures opened { HasCleanDisk (state S.Store conn.new) → OnOk result (IsHonest S.Store conn.old) }
-    ensures kept { KeepsCommitted S.Store conn.old conn.new }
+    ensures goes { Goes S.Store conn.old conn.new }
+    ensures begun { Begins S.Store whole conn.old conn.new result }
+    ensures err { Refuses S.Store whole conn.old conn.new result }
+    ensures told { Blames S.Store conn.old conn.new result (conn.old.in_transaction ≡ true) }
     ensures quiet { LeavesNoMore S.Store conn.old conn.new }
 {
     run(conn, "BEGIN", &[])
 }
 
-/// Commits what was changed since the begin.
+/// Commits what was changed since the begin. Outside a transaction it is refused.
 pub fn commit<S: Alter>(conn: &mut Connection<S>) -> Result<(), Fault>
-    ensures ok { IsHonest S.Store conn.old → HasCleanDisk (state S.Store conn.new) → OnOk result (Shows S.Store whole conn.old conn.new (state S.Store conn.old).now (state S.Store conn.old).now false) }
-    ensures err { IsHonest S.Store conn.new → OnErr result (IsRefused S.Store whole conn.old conn.new) }
-    ensures clean { HasCleanDisk (state S.Store conn.new) → HasCleanDisk (state S.Store conn.old) }
-    ensures was { IsHonest S.Store conn.new → IsHonest S.Store conn.old }
-    ensures crash { LeavesTrees S.Store conn.old conn.new (λ db. db ≡ (state S.Store conn.old).now.trees) }
+    ensures lasts { Lasts S.Store conn.old conn.new }
+    ensures committed { Commits S.Store whole conn.old conn.new result }
+    ensures err { Refuses S.Store whole conn.old conn.new result }
+    ensures told { Blames S.Store conn.old conn.new result (conn.old.in_transaction ≡ false) }
+    ensures crash { LeavesSeen S.Store conn.old conn.new }
 {
     run(conn, "COMMIT", &[])
 }
 
-/// Goes back to what was committed last. Outside a transaction it does nothing.
-pub fn back<S: Alter>(conn: &mut Connection<S>) -> Result<(), Fault>
-    ensures ok { IsHonest S.Store conn.new → OnOk result (IsUndone S.Store whole conn.old conn.new) }
-    ensures err { IsHonest S.Store conn.new → OnErr result (IsRefused S.Store whole conn.old conn.new) }
-    ensures clean { HasCleanDisk (state S.Store conn.new) → HasCleanDisk (state S.Store conn.old) }
-    ensures was { IsHonest S.Store conn.new → IsHonest S.Store conn.old }
-    ensures crash { LeavesTrees S.Store conn.old conn.new (λ db. ⊥) }
-    ensures kept { KeepsCommitted S.Store conn.old conn.new }
+/// Undoes what was changed since the begin. Outside a transaction it does nothing.
+pub fn rollback<S: Alter>(conn: &mut Connection<S>) -> Result<(), Fault>
+    ensures goes { Goes S.Store conn.old conn.new }
+    ensures undone { Undoes S.Store whole conn.old conn.new result }
+    ensures err { Refuses S.Store whole conn.old conn.new result }
+    ensures told { Blames S.Store conn.old conn.new result ⊥ }
     ensures quiet { LeavesNoMore S.Store conn.old conn.new }
 {
     if conn.is_autocommit() {
@@ -72,15 +67,14 @@ pub fn change<S: Alter>(
     sql: &str,
     params: &[ValueRef<'_>],
 ) -> Result<(), Fault>
-    requires plain { IsHonest S.Store conn.old → IsPlain (understood (state S.Store conn.old).now.schema sql.now) }
-    requires edits { IsHonest S.Store conn.old → IsEdit (command_of (understood (state S.Store conn.old).now.schema sql.now)) }
-    ensures ok { IsHonest S.Store conn.old → HasCleanDisk (state S.Store conn.new) → OnOk result (Becomes S.Store whole conn.old conn.new (state S.Store conn.new).now × Edits (state S.Store conn.old) sql.now (bound params.now) (state S.Store conn.new).now) }
-    ensures err { IsHonest S.Store conn.new → OnErr result (IsRefused S.Store whole conn.old conn.new) }
-    ensures clean { HasCleanDisk (state S.Store conn.new) → HasCleanDisk (state S.Store conn.old) }
-    ensures was { IsHonest S.Store conn.new → IsHonest S.Store conn.old }
-    ensures crash { LeavesTrees S.Store conn.old conn.new (λ db. (conn.old.in_transaction ≡ false) × (after : Database) × Edits (state S.Store conn.old) sql.now (bound params.now) after × (db ≡ after.trees)) }
-    ensures kept { conn.old.in_transaction ≡ true → KeepsCommitted S.Store conn.old conn.new }
-    ensures quiet { conn.old.in_transaction ≡ true → IsHonest S.Store conn.old → LeavesNoMore S.Store conn.old conn.new }
+    requires plain { IsHonest S.Store conn.old → IsPlainText (state S.Store conn.old) sql.now }
+    requires edits { IsHonest S.Store conn.old → IsEditText (state S.Store conn.old) sql.now }
+    ensures goes { GoesWithin S.Store conn.old conn.new }
+    ensures sees { OnOk result (Sees S.Store whole conn.old conn.new (state S.Store conn.new).now) }
+    ensures made { Makes S.Store conn.old conn.new sql.now (bound params.now) result }
+    ensures err { Refuses S.Store whole conn.old conn.new result }
+    ensures told { IfErr result (IsRejected S.Store conn.old conn.new sql.now (bound params.now)) }
+    ensures crash { EditsAtMost S.Store conn.old conn.new sql.now (bound params.now) }
 {
     run(conn, sql, params)
 }
@@ -91,16 +85,14 @@ pub fn select<S: Alter>(
     sql: &str,
     params: &[ValueRef<'_>],
 ) -> Result<Vec<Row>, Fault>
-    requires plain { IsHonest S.Store conn.old → IsPlain (understood (state S.Store conn.old).now.schema sql.now) }
-    requires listing { IsHonest S.Store conn.old → reads_listing (state S.Store conn.old).now.schema sql.now ≡ false }
-    ensures rows { IsHonest S.Store conn.old → HasCleanDisk (state S.Store conn.new) → IfOk result (λ rows. Reads (command_of (understood (state S.Store conn.old).now.schema sql.now)) (state S.Store conn.old).now (bound params.now) rows.items) }
-    ensures same { HasCleanDisk (state S.Store conn.new) → OnOk result (IsHonest S.Store conn.old → IsSame S.Store whole conn.old conn.new) }
-    ensures err { IsHonest S.Store conn.new → OnErr result (IsRefused S.Store whole conn.old conn.new) }
-    ensures clean { HasCleanDisk (state S.Store conn.new) → HasCleanDisk (state S.Store conn.old) }
-    ensures was { IsHonest S.Store conn.new → IsHonest S.Store conn.old }
-    ensures crash { LeavesTrees S.Store conn.old conn.new (λ db. ⊥) }
-    ensures kept { KeepsCommitted S.Store conn.old conn.new }
-    ensures quiet { IsHonest S.Store conn.old → LeavesNoMore S.Store conn.old conn.new }
+    requires plain { IsHonest S.Store conn.old → IsPlainText (state S.Store conn.old) sql.now }
+    requires listing { IsHonest S.Store conn.old → SparesListing (state S.Store conn.old) sql.now }
+    ensures rows { Finds S.Store conn.old conn.new result
+        (λ rows. AreRows (state S.Store conn.old) sql.now (bound params.now) rows.items) }
+    ensures goes { Goes S.Store conn.old conn.new }
+    ensures same { Stays S.Store whole conn.old conn.new result }
+    ensures err { Refuses S.Store whole conn.old conn.new result }
+    ensures told { IfErr result (IsUnanswered S.Store conn.old conn.new sql.now (bound params.now)) }
 {
     Ok(conn.query_all(sql, params)?)
 }

@@ -1,4 +1,4 @@
-use crate::{Fault, back, begin, commit, is_free, is_unmentioned, keeps_counts, place_of, run};
+use crate::{Fault, begin, commit, is_free, is_unmentioned, keeps_counts, place_of, rollback, run};
 use sqlite::{Connection, Error, params};
 use std::test::Fail;
 
@@ -36,9 +36,9 @@ fn a_transaction_goes_back(rt: HostRuntime) -> Result<(), Fail> {
         params!["a", 1i64, "x"],
     )?;
     assert_eq!(rt; conn.query_all("SELECT name FROM note", &[])?.len(), 1);
-    back(&mut conn)?;
+    rollback(&mut conn)?;
     assert_eq!(rt; conn.query_all("SELECT name FROM note", &[])?.len(), 0);
-    back(&mut conn)?;
+    rollback(&mut conn)?;
     Ok(())
 }
 

@@ -6,7 +6,7 @@ use Rattle.std.proofs.lemmas.List.{append-nil, map-append}
 use Rattle.std.proofs.lemmas.List.Folds.{list_any-append}
 use Rattle.std.proofs.lemmas.List.Elements.{filter_more, filter_map-append}
 use Rattle.dh_versions.specs.declared.version.Kind.{Kind}
-use Rattle.dh_rules.specs.Rules.{is_met, actions_met, activates, hides, chooses, privacy_of, last_said}
+use Rattle.dh_rules.specs.Rules.{is_met, actions_met, activates, hides, sets_default, privacy_of, last_said}
 use Rattle.dh_rules.specs.declared.rule.Action.{Action}
 use Rattle.dh_rules.specs.declared.rule.Rule.{Rule}
 use Rattle.dh_rules.specs.declared.rule.Fresh.{Fresh}
@@ -17,7 +17,7 @@ pub record MarksBy (actions : List Action) (fresh : Fresh) (marks : Marks) : Typ
   pub active : marks.active ≡ (fresh.active || list_any activates actions)
   pub hidden : marks.hidden ≡ (fresh.hidden || list_any hides actions)
   pub private : marks.private ≡ last_said (filter_map privacy_of actions) fresh.private
-  pub chosen : marks.chosen ≡ (fresh.chosen || list_any chooses actions)
+  pub chosen : marks.chosen ≡ (fresh.chosen || list_any sets_default actions)
 
 -- the marks are what the first n rules make of it
 abbrev pub MarksAfter : List Rule → ℕ → Fresh → Marks → Type 0
@@ -44,14 +44,14 @@ last_said_one (y ∷ ys) o before = last_said_one ys o y
 -- one action more
 marks_more : (actions : List Action) (fresh : Fresh) (a : Action) (marks more : Marks) → MarksBy actions fresh marks →
     more.active ≡ (marks.active || activates a) → more.hidden ≡ (marks.hidden || hides a) →
-    more.private ≡ unwrap_or (privacy_of a) marks.private → more.chosen ≡ (marks.chosen || chooses a) → MarksBy (actions ++ a ∷ []) fresh more
+    more.private ≡ unwrap_or (privacy_of a) marks.private → more.chosen ≡ (marks.chosen || sets_default a) → MarksBy (actions ++ a ∷ []) fresh more
 marks_more actions fresh a marks more h active hidden private chosen = record {
   active = active ∙ (ap (λ (b : Bool). b || activates a) h.active ∙ sym (any_one activates fresh.active actions a));
   hidden = hidden ∙ (ap (λ (b : Bool). b || hides a) h.hidden ∙ sym (any_one hides fresh.hidden actions a));
   private = private ∙ (ap (λ (b : Bool). unwrap_or (privacy_of a) b) h.private
       ∙ (sym (last_said_one (filter_map privacy_of actions) (privacy_of a) fresh.private)
       ∙ ap (λ (xs : List Bool). last_said xs fresh.private) (sym (filter_map-append privacy_of actions (a ∷ [])))));
-  chosen = chosen ∙ (ap (λ (b : Bool). b || chooses a) h.chosen ∙ sym (any_one chooses fresh.chosen actions a));
+  chosen = chosen ∙ (ap (λ (b : Bool). b || sets_default a) h.chosen ∙ sym (any_one sets_default fresh.chosen actions a));
 }
 
 -- the actions of one rule more
@@ -78,7 +78,7 @@ rule_skipped rules n rule fresh marks below at unmet h =
 pub rule_performed : (rules : List Rule) (n : ℕ) (rule : Rule) (fresh : Fresh) (marks more : Marks) → n < length rules → get_or rules n rule ≡ rule →
     is_met rule fresh.kind fresh.name ≡ true → MarksAfter rules n fresh marks →
     more.active ≡ (marks.active || activates rule.action) → more.hidden ≡ (marks.hidden || hides rule.action) →
-    more.private ≡ unwrap_or (privacy_of rule.action) marks.private → more.chosen ≡ (marks.chosen || chooses rule.action) → MarksAfter rules (n + 1) fresh more
+    more.private ≡ unwrap_or (privacy_of rule.action) marks.private → more.chosen ≡ (marks.chosen || sets_default rule.action) → MarksAfter rules (n + 1) fresh more
 rule_performed rules n rule fresh marks more below at met h active hidden private chosen =
     subst (λ (actions : List Action). MarksBy actions fresh more)
     (sym (actions_more rules n rule fresh.kind fresh.name below at ∙ ap (λ (b : Bool). actions_met (take n rules) fresh.kind fresh.name ++ cond b (rule.action ∷ []) []) met))

@@ -33,7 +33,7 @@ within_limit depth P (Some x) h f = let within : depth x ≤ 250 = f x h in grin
 
 -- a text that reads within the limit on nesting is an expression
 expression_if_read : (text : List ℕ) (hir : Hir) (names : Names) → Reads default_config text hir names → is_expression text ≡ true
-unfolding Reads
+unfolding Reads is_expression
 expression_if_read text hir names h = within_limit (λ (x : Nested Re × Names). x.0.depth) _ (read default_config (chars text)) h (λ x p. p.0)
 
 -- the text of a compiled regex is an expression
@@ -43,6 +43,7 @@ compiled_is_expression text r h = let reads = h.2 in expression_if_read text _ _
 -- a compiled regex has a match in a name exactly where the text is found in it
 pub compiled_finds : (text : List ℕ) (r : Regex) → IsCompiled text r → (name : List ℕ) → ((k : ℕ) → get_or name k 0 < 256) →
     is_some (find_str (regex_pattern r) name 0) ≡ is_found text name
+unfolding is_expression is_found
 compiled_finds text r h name bytes = by_read (read default_config (chars text)) refl
   where
     by_read : (o : Option (Nested Re × Names)) → read default_config (chars text) ≡ o → is_some (find_str (regex_pattern r) name 0) ≡ is_found text name
@@ -83,6 +84,7 @@ found_somewhere re name = (by_search (find_str re name 0) refl, λ h. find_str_c
 
 -- the test is true exactly where the text is found
 pub is_found-law : (text name : List ℕ) → IsTrue (is_found text name) ↔ IsFoundIn text name
+unfolding is_found
 is_found-law text name = by_read (read default_config (chars text))
   where
     by_read : (o : Option (Nested Re × Names)) → IsTrue (option_map_or (λ (re, names). is_some (find_str re.value name 0)) o false)

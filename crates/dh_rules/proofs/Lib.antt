@@ -1,2 +1,3 @@
 pub mod ApplyLemmas
 pub mod FoundLemmas
+pub mod TextLemmas

@@ -1,9 +1,9 @@
 -- What automation rules do with a new version.
-use Rattle.std.specs.Prelude.{◌≡◌, ◌⊎◌, ℕ, ◌<◌, ◌+◌, nat_le, length, List, [], ◌∷◌, Bool, true, false, ◌&&◌, ◌||◌, Option, Some, None, Result, Err, IsOk, ⊤, slice_get, filter, map}
+use Rattle.std.specs.Prelude.{◌≡◌, ℕ, ◌<◌, ◌+◌, nat_le, length, List, [], ◌∷◌, Bool, true, false, not, ◌&&◌, ◌||◌, Option, Some, None, Result, Err, IsOk, ⊤, slice_get, filter, map}
 use Rattle.std.specs.List.{list_any, filter_map}
 use Rattle.dh_versions.specs.declared.version.Kind.{Kind}
-use Rattle.dh_versions.specs.declared.version.Kind.TheVariants.{Branch, Tag}
-use Rattle.dh_rules.specs.Patterns.{is_expression, is_match, MayBeRefused, MayBeRefusedPattern}
+use Rattle.dh_versions.specs.Kinds.{same_kind}
+use Rattle.dh_rules.specs.Patterns.{is_expression, is_match, is_all, IsCustom}
 use Rattle.dh_rules.specs.declared.fault.CheckFault.{CheckFault}
 use Rattle.dh_rules.specs.declared.fault.CheckFault.TheVariants.{BadPattern}
 use Rattle.dh_rules.specs.declared.pattern.Pattern.{Pattern}
@@ -12,12 +12,6 @@ use Rattle.dh_rules.specs.declared.rule.Action.{Action}
 use Rattle.dh_rules.specs.declared.rule.Action.TheVariants.{Activate, Hide, Public, Private, Default}
 use Rattle.dh_rules.specs.declared.rule.Rule.{Rule}
 use Rattle.dh_rules.specs.declared.rule.Fresh.{Fresh}
-
-abbrev pub same_kind : Kind → Kind → Bool
-same_kind Branch Branch = true
-same_kind Branch Tag = false
-same_kind Tag Branch = false
-same_kind Tag Tag = true
 
 -- whether the rule is for versions of this kind and its pattern matches this name
 abbrev pub is_met : Rule → Kind → List ℕ → Bool
@@ -38,12 +32,12 @@ hides Public = false
 hides Private = false
 hides Default = false
 
-abbrev pub chooses : Action → Bool
-chooses Default = true
-chooses Activate = false
-chooses Hide = false
-chooses Public = false
-chooses Private = false
+abbrev pub sets_default : Action → Bool
+sets_default Default = true
+sets_default Activate = false
+sets_default Hide = false
+sets_default Public = false
+sets_default Private = false
 
 -- whether the action makes a version private, if it speaks of that
 abbrev pub privacy_of : Action → Option Bool
@@ -62,7 +56,7 @@ abbrev pub last_said : List Bool → Bool → Bool
 last_said [] before = before
 last_said (x ∷ rest) before = last_said rest x
 
--- a new version after the rules: of all that are met, active, hidden or chosen if one of them says so or it was before, and private as the last that speaks of it says
+-- a new version after the rules: of all that are met, active, hidden or default if one of them says so or it was before, and private as the last that speaks of it says
 abbrev pub after_rules : List Rule → Fresh → Fresh
 after_rules rules fresh =
     let actions = actions_met rules fresh.kind fresh.name in
@@ -70,28 +64,40 @@ after_rules rules fresh =
       active = fresh.active || list_any activates actions;
       hidden = fresh.hidden || list_any hides actions;
       private = last_said (filter_map privacy_of actions) fresh.private;
-      chosen = fresh.chosen || list_any chooses actions;
+      chosen = fresh.chosen || list_any sets_default actions;
     }
 
--- a command may add the rule: a custom text is an expression of at most 200 bytes
-abbrev pub is_allowed : Pattern → Bool
-is_allowed All = true
-is_allowed SemVer = true
-is_allowed (Custom text) = nat_le (length text) 200 && is_expression text
+-- the most bytes of a custom pattern's text
+abbrev pub most_expression : ℕ
+most_expression = 200
 
--- the pattern is custom, and over 200 bytes or one that `regex` may refuse
-abbrev pub IsBad : Pattern → Type 0
-IsBad All = ⊥
-IsBad SemVer = ⊥
-IsBad (Custom text) = (200 < length text) ⊎ MayBeRefused text
+-- a custom text is short enough to be kept
+abbrev pub is_short : Pattern → Bool
+is_short All = true
+is_short SemVer = true
+is_short (Custom text) = nat_le (length text) most_expression
+
+-- a custom text is an expression
+abbrev pub is_readable : Pattern → Bool
+is_readable All = true
+is_readable SemVer = true
+is_readable (Custom text) = is_expression text
+
+-- a command may add the rule
+abbrev pub is_allowed : Pattern → Bool
+is_allowed pattern = is_short pattern && is_readable pattern
 
 -- what the check answers without asking `regex`: it passes other patterns, and refuses a custom text over 200 bytes
 abbrev pub AnswersUnasked : Pattern → Result ⊤ CheckFault → Type 0
 AnswersUnasked All answer = IsOk answer
 AnswersUnasked SemVer answer = IsOk answer
-AnswersUnasked (Custom text) answer = 200 < length text → answer ≡ Err BadPattern
+AnswersUnasked (Custom text) answer = most_expression < length text → answer ≡ Err BadPattern
 
--- at this place, from 1, stands a rule of the kind with a custom pattern that `regex` may refuse
-abbrev pub MayBeRefusedAt : List Rule → Kind → ℕ → Type 0
-MayBeRefusedAt rules kind place =
-    (before : ℕ) × (rule : Rule) × (place ≡ before + 1) × (slice_get rules before ≡ Some rule) × (rule.kind ≡ kind) × MayBeRefusedPattern rule.pattern
+-- at this place, from 1, stands a rule of the kind with a custom pattern
+abbrev pub IsCustomAt : List Rule → Kind → ℕ → Type 0
+IsCustomAt rules kind place =
+    (before : ℕ) × (rule : Rule) × (place ≡ before + 1) × (slice_get rules before ≡ Some rule) × (rule.kind ≡ kind) × IsCustom rule.pattern
+
+-- a rule of the kind has a pattern for which something is computed
+abbrev pub asks_for : List Rule → Kind → Bool
+asks_for rules kind = list_any (λ r. same_kind r.kind kind && not (is_all r.pattern)) rules

@@ -1,7 +1,7 @@
 //! Applying a project's rules to a new version.
 
-ghost use Rattle.std.specs.Prelude.{◌≡◌, ◌||◌, ℕ, OnOk, OnErr, unwrap_or};
-ghost use Rattle.dh_rules.specs.Rules.{activates, hides, chooses, privacy_of, after_rules, MayBeRefusedAt};
+ghost use Rattle.std.specs.Prelude.{◌≡◌, ◌||◌, ℕ, IsTrue, OnOk, OnErr, unwrap_or};
+ghost use Rattle.dh_rules.specs.Rules.{activates, hides, sets_default, privacy_of, after_rules, IsCustomAt, asks_for};
 
 use crate::fault::RuleFault;
 use crate::rule::{Action, Fresh, Rule};
@@ -20,7 +20,7 @@ fn perform(marks: &mut Marks, action: Action)
     ensures active { marks.new.active ≡ (marks.old.active || activates action) }
     ensures hidden { marks.new.hidden ≡ (marks.old.hidden || hides action) }
     ensures private { marks.new.private ≡ unwrap_or (privacy_of action) marks.old.private }
-    ensures chosen { marks.new.chosen ≡ (marks.old.chosen || chooses action) }
+    ensures chosen { marks.new.chosen ≡ (marks.old.chosen || sets_default action) }
 {
     if action.activates() {
         marks.active = true;
@@ -40,7 +40,9 @@ pub fn apply(alloc: Global, rules: &[Rule], fresh: &mut Fresh) -> Result<(), Rul
     ensures ok { OnOk result (fresh.new ≡ after_rules rules.now fresh.old) }
     ensures err { OnErr result (fresh.new ≡ fresh.old) }
     ensures refused { (place : ℕ) → result ≡ Err (RuleFault.PatternRefused place)
-        → MayBeRefusedAt rules.now fresh.old.kind place }
+        → IsCustomAt rules.now fresh.old.kind place }
+    ensures memory { result ≡ Err RuleFault.Memory
+        → IsTrue (asks_for rules.now fresh.old.kind) }
 {
     let mut marks = Marks {
         active: fresh.active,

@@ -1,3 +1,5 @@
+//! Why a rule is refused, and why rules are not applied.
+
 ghost use Rattle.std.specs.Prelude.{◌≡◌};
 ghost use Rattle.dh_rules.specs.declared.fault.CheckFault.TheVariants as check;
 ghost use Rattle.dh_rules.specs.declared.fault.RuleFault.TheVariants as rules;

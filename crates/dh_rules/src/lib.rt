@@ -9,7 +9,7 @@ pub mod rule;
 
 pub use applied::apply;
 pub use fault::{CheckFault, RuleFault};
-pub use laws::patterns_match;
+pub use laws::{patterns_differ_in_text, patterns_match};
 pub use pattern::Pattern;
 pub use rule::{Action, Fresh, Rule};
 

@@ -1,7 +1,7 @@
 //! The patterns of rules.
 
-ghost use Rattle.std.specs.Prelude.{◌≡◌, ◌↔◌, IsTrue, IfOk, IfNone, IfSome, string_bytes};
-ghost use Rattle.dh_rules.specs.Patterns.{is_found, IsFoundIn, MayBeRefused, IsCompiled};
+ghost use Rattle.std.specs.Prelude.{◌≡◌, ◌↔◌, IsTrue, IfOk, OnErr, IfNone, IfSome, false, string_bytes};
+ghost use Rattle.dh_rules.specs.Patterns.{is_found, IsFoundIn, IsCompiled};
 
 use dh_paths::{RefName, Text};
 use dh_versions::is_semver;
@@ -9,8 +9,9 @@ use regex::Regex;
 use std::alloc::{AllocError, Global};
 
 /// Which names a rule is for.
-#[derive(Drop)]
+#[derive(Debug, Drop)]
 pub enum Pattern {
+    /// Every name.
     All,
     /// SemVer names, pre-releases too.
     SemVer,
@@ -19,7 +20,7 @@ pub enum Pattern {
 }
 
 impl Pattern {
-    ghost use Rattle.dh_rules.specs.Patterns.{pattern_text, IsPatternOf, MatchesName, is_match, MayBeRefusedPattern};
+    ghost use Rattle.dh_rules.specs.Patterns.{pattern_text, IsPatternOf, MatchesName, is_match, is_all, IsCustom};
 
     /// The pattern that a line writes `all`, `semver`, or `re:` and the expression; none for another text.
     pub fn read(alloc: Global, text: &str) -> Result<Option<Pattern>, AllocError>
@@ -51,12 +52,27 @@ impl Pattern {
         }
     }
 
+    /// The same pattern again.
+    pub fn try_copy(&self, alloc: Global) -> Result<Pattern, AllocError>
+        ensures { IfOk result (λ copy. copy ≡ self.now) }
+    {
+        match self {
+            Pattern::All => Ok(Pattern::All),
+            Pattern::SemVer => Ok(Pattern::SemVer),
+            Pattern::Custom(expression) => Ok(Pattern::Custom(Text::copy_of(
+                alloc,
+                expression.as_str(),
+            )?)),
+        }
+    }
+
     /// Whether the pattern matches a name; none where `regex` refuses it.
     pub fn matches(&self, alloc: Global, name: &RefName) -> Result<Option<bool>, AllocError>
         ensures value { IfOk result (λ o. IfSome o (λ yes. yes ≡ is_match self.now name.now)) }
         ensures meaning { IfOk result (λ o. IfSome o
             (λ yes. IsTrue yes ↔ MatchesName self.now name.now)) }
-        ensures refused { IfOk result (λ o. IfNone o (MayBeRefusedPattern self.now)) }
+        ensures refused { IfOk result (λ o. IfNone o (IsCustom self.now)) }
+        ensures memory { OnErr result (is_all self.now ≡ false) }
     {
         match self {
             Pattern::All => Ok(Some(true)),
@@ -71,7 +87,6 @@ fn found_in(alloc: Global, expression: &str, name: &str) -> Result<Option<bool>,
     ensures value { IfOk result (λ o. IfSome o (λ yes. yes ≡ is_found expression.now name.now)) }
     ensures meaning { IfOk result (λ o. IfSome o
         (λ yes. IsTrue yes ↔ IsFoundIn expression.now name.now)) }
-    ensures refused { IfOk result (λ o. IfNone o (MayBeRefused expression.now)) }
 {
     match compiled(alloc, expression)? {
         Some(regex) => Ok(Some(regex.matcher(alloc)?.is_match(name))),
@@ -81,8 +96,7 @@ fn found_in(alloc: Global, expression: &str, name: &str) -> Result<Option<bool>,
 
 /// The expression, compiled; none where `regex` refuses it.
 pub(crate) fn compiled(alloc: Global, expression: &str) -> Result<Option<Regex>, AllocError>
-    ensures read { IfOk result (λ o. IfSome o (IsCompiled expression.now)) }
-    ensures refused { IfOk result (λ o. IfNone o (MayBeRefused expression.now)) }
+    ensures { IfOk result (λ o. IfSome o (IsCompiled expression.now)) }
 {
     match Regex::new(alloc, expression) {
         Ok(regex) => Ok(Some(regex)),

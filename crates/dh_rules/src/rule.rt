@@ -1,12 +1,12 @@
 //! Rules, and the new versions that they act on.
 
-ghost use Rattle.std.specs.Prelude.{◌≡◌, IsTrue, OnOk};
+ghost use Rattle.std.specs.Prelude.{◌≡◌, IsTrue, IfOk, OnOk};
 
 use crate::fault::CheckFault;
 use crate::pattern::{Pattern, compiled};
 use dh_paths::RefName;
 use dh_versions::Kind;
-use std::alloc::Global;
+use std::alloc::{AllocError, Global};
 
 /// The most bytes that the text of a custom pattern may have.
 pub const MAX_EXPRESSION: usize = 200;
@@ -14,10 +14,13 @@ pub const MAX_EXPRESSION: usize = 200;
 /// What a rule does with a new version.
 #[derive(Clone, Copy, Debug, PartialEq, Eq)]
 pub enum Action {
+    /// Activates the version.
     Activate,
     /// Hides the version, and activates it.
     Hide,
+    /// Makes the version public.
     Public,
+    /// Makes the version private.
     Private,
     /// Sets the version as default, and activates it.
     Default,
@@ -35,7 +38,7 @@ impl Action {
 }
 
 /// An automation rule of a project.
-#[derive(Drop)]
+#[derive(Debug, Drop)]
 pub struct Rule {
     /// The rule is for versions of this kind.
     pub kind: Kind,
@@ -44,12 +47,24 @@ pub struct Rule {
 }
 
 impl Rule {
-    ghost use Rattle.dh_rules.specs.Rules.{is_allowed, IsBad, AnswersUnasked};
+    ghost use Rattle.dh_rules.specs.Rules.{is_allowed, AnswersUnasked};
+    ghost use Rattle.dh_rules.specs.Patterns.{IsCustom};
+
+    /// The same rule again.
+    pub fn try_copy(&self, alloc: Global) -> Result<Rule, AllocError>
+        ensures { IfOk result (λ copy. copy ≡ self.now) }
+    {
+        Ok(Rule {
+            kind: self.kind,
+            pattern: self.pattern.try_copy(alloc)?,
+            action: self.action,
+        })
+    }
 
     /// Whether a command may add the rule.
     pub fn check(&self, alloc: Global) -> Result<(), CheckFault>
         ensures ok { OnOk result (IsTrue (is_allowed self.now.pattern)) }
-        ensures bad { result ≡ Err CheckFault.BadPattern → IsBad self.now.pattern }
+        ensures bad { result ≡ Err CheckFault.BadPattern → IsCustom self.now.pattern }
         ensures unasked { AnswersUnasked self.now.pattern result }
     {
         let Pattern::Custom(text) = &self.pattern else {
@@ -66,7 +81,7 @@ impl Rule {
 }
 
 /// A new version before it is stored.
-#[derive(Drop)]
+#[derive(Debug, Drop)]
 pub struct Fresh {
     pub kind: Kind,
     /// The name of the branch or tag.

@@ -1,3 +1,5 @@
+//! What rules do, and what is refused, by examples.
+
 use crate::{Action, CheckFault, Fresh, Pattern, Rule, RuleFault, apply};
 use dh_paths::{RefName, Text};
 use dh_versions::Kind;
@@ -136,6 +138,17 @@ fn patterns_are_written_as_read(rt: HostRuntime) -> Result<(), Fail> {
     }
     for text in ["", "All", "re", "regex:a"] {
         assert!(rt; Pattern::read(alloc, text)?.is_none(), "{text}");
+    }
+    Ok(())
+}
+
+#[test]
+fn rules_are_copied(rt: HostRuntime) -> Result<(), Fail> {
+    let alloc = rt.alloc();
+    for pattern in ["all", "semver", "re:^v[0-9]+$"] {
+        let copy = rule(alloc, Kind::Branch, pattern, Action::Default)?.try_copy(alloc)?;
+        assert_eq!(rt; copy.pattern.text(alloc)?.as_str(), pattern);
+        assert!(rt; copy.kind == Kind::Branch && copy.action == Action::Default);
     }
     Ok(())
 }

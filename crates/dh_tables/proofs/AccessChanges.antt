@@ -15,17 +15,17 @@ use Rattle.dh_tables.specs.declared.records.PickRow.{PickRow}
 use Rattle.dh_tables.specs.declared.records.PassRow.{PassRow}
 use Rattle.dh_tables.specs.declared.records.HeldRow.{HeldRow}
 use Rattle.dh_tables.specs.Codings as coding
-use Rattle.dh_tables.specs.World.{Text, text_cmp, HeldKey, held_cmp, Project}
+use Rattle.dh_world.specs.World.{Text, text_cmp, HeldKey, held_cmp, Project, lies_under}
 use Rattle.dh_tables.specs.Lists.{Lists, project_of, world_of, is_version, is_page_under, is_pick_of, is_pass_of, is_pass, is_held, is_held_by, is_held_on, set_picks, granted}
-use Rattle.dh_tables.specs.Rules.{InOrder, lies_under}
+use Rattle.dh_tables.specs.Rules.{InOrder}
 use Rattle.dh_tables.proofs.KeyLemmas.{turned}
 use Rattle.dh_tables.proofs.PassKeys.{held_place, same_pass, same_held}
 use Rattle.dh_tables.proofs.GrantLemmas.{grant_is_free, granted_new, granted_there}
 use Rattle.dh_tables.proofs.PickLists.{set_of_host, set_elsewhere, names_ranked}
-use Rattle.dh_tables.proofs.SeenLemmas.{tied_text, tied_held, text_total, held_total, held_exact}
+use Rattle.dh_world.proofs.MapLemmas.{tied_text, tied_held, text_total, held_total, held_exact, put_same}
 use Rattle.dh_tables.proofs.RecordLemmas.{all_that, kept_of, put_here, put_there, put_free, dropped_here, dropped_there}
 use Rattle.dh_tables.proofs.ChangeLemmas.{part_changed, versions_of, with_versions, versions_are, world_without_pages}
-use Rattle.dh_tables.proofs.WorldLemmas.{row_of, held_in, put_same, changed_twice}
+use Rattle.dh_tables.proofs.WorldLemmas.{row_of, held_in, changed_twice}
 use Rattle.dh_tables.proofs.OrderLemmas.{filtered_in_order}
 
 -- ---- one key is removed

@@ -15,13 +15,13 @@ use Rattle.dh_tables.specs.declared.records.PickRow.{PickRow}
 use Rattle.dh_tables.specs.declared.records.PassRow.{PassRow}
 use Rattle.dh_tables.specs.declared.records.HeldRow.{HeldRow}
 use Rattle.dh_tables.specs.Codings as coding
-use Rattle.dh_tables.specs.World.{Text, Project}
-use Rattle.dh_tables.specs.Seen.{is_alias}
+use Rattle.dh_world.specs.World.{Text, Project}
+use Rattle.dh_world.specs.Seen.{is_alias}
 use Rattle.dh_tables.specs.Lists.{Lists, world_of, is_project, is_version, is_page_of, is_page_under, is_pick_of, is_pass, is_held, is_held_by, is_held_on, set_picks, ranked, granted}
 use Rattle.dh_tables.specs.Rules.{InOrder, AreInOrder, has_project, has_active, has_version, has_pass, AreDefaults, KeepsRules}
 use Rattle.dh_tables.proofs.GrantLemmas.{grant_is_free, granted_new, granted_there}
 use Rattle.dh_tables.proofs.PickLists.{set_of_host, set_elsewhere, set_in_order, all_set, all_with, all_ranked, names_ranked, ranks_ranked}
-use Rattle.dh_tables.proofs.SeenLemmas.{find_in_filter, find_same}
+use Rattle.dh_world.proofs.MapLemmas.{find_in_filter, find_same}
 use Rattle.dh_tables.proofs.RecordLemmas.{all_that, all_added}
 use Rattle.dh_tables.proofs.OrderLemmas.{added_in_order, filtered_in_order}
 use Rattle.dh_tables.proofs.RuleLemmas.{rules_without, dropped_is_bare, all_found}

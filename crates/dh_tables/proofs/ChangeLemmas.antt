@@ -10,18 +10,19 @@ use Rattle.sqlite_keyed.proofs.ListLemmas.{filter_none}
 use Rattle.dh_rows.specs.Keyed.{by_key, IsFreeKey, added, put}
 use Rattle.dh_versions.specs.declared.version.Version.{Version}
 use Rattle.dh_reply.specs.declared.answer.Page.{Page}
-use Rattle.dh_tables.specs.declared.answer.Answer.{Answer}
+use Rattle.dh_world.specs.declared.answer.Answer.{Answer}
 use Rattle.dh_tables.specs.declared.records.ProjectRow.{ProjectRow}
 use Rattle.dh_tables.specs.declared.records.LangRow.{LangRow}
 use Rattle.dh_tables.specs.declared.records.VersionRow.{VersionRow}
 use Rattle.dh_tables.specs.declared.records.PageRow.{PageRow}
 use Rattle.dh_tables.specs.declared.records.UsedRow.{UsedRow}
 use Rattle.dh_tables.specs.Codings as coding
-use Rattle.dh_tables.specs.World.{Text, text_cmp, PageKey, page_cmp, used_cmp, op_code, Project}
+use Rattle.dh_world.specs.World.{Text, text_cmp, PageKey, page_cmp, used_cmp, op_code, Project, lies_under}
 use Rattle.dh_tables.specs.Lists.{Lists, project_of, world_of, kept_answer, is_project, is_lang_of, is_page_under, is_pick_of}
-use Rattle.dh_tables.specs.Rules.{InOrder, languages_of, KeepsRules, lies_under}
-use Rattle.dh_tables.proofs.KeyLemmas.{turned, same_version, page_place, same_page, used_place, used_total, used_exact, same_used}
-use Rattle.dh_tables.proofs.SeenLemmas.{get_project, tied_text, text_total, page_total, page_exact, held_total, held_exact}
+use Rattle.dh_tables.specs.Rules.{InOrder, languages_of, KeepsRules}
+use Rattle.dh_tables.proofs.KeyLemmas.{turned, same_version, page_place, same_page, used_place, same_used}
+use Rattle.dh_world.proofs.MapLemmas.{used_total, used_exact, tied_text, text_total, page_total, page_exact, held_total, held_exact}
+use Rattle.dh_tables.proofs.SeenLemmas.{get_project}
 use Rattle.dh_tables.proofs.WorldLemmas.{owned_by, languages_are}
 use Rattle.dh_tables.proofs.PassKeys.{held_place}
 use Rattle.dh_tables.proofs.RuleLemmas.{places_below, langs_with, find_project, none_of_new, grants_owned}

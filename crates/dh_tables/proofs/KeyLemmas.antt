@@ -2,11 +2,8 @@
 use Rattle.std.proofs.Common.{◌≡◌, ℕ, ◌<◌, pos, Bool, true, false, ◌&&◌, List, find, None, refl, sym, ap, ◌∙◌, arith, Ordering, Less, Equal, Greater, is_eq}
 use Rattle.std.specs.Str.{bytes_eq}
 use Rattle.std.specs.Ordering.{eq_by_cmp, ordering_then, nat_cmp}
-use Rattle.std.specs.Cmp.{IsTotalOrder, nat_cmp_total, eq_by_cmp_equiv}
-use Rattle.std.specs.FinMap.{IsAntisymmetric}
+use Rattle.std.specs.Cmp.{eq_by_cmp_equiv}
 use Rattle.std.proofs.lemmas.Bool.Decides.{nat_tests}
-use Rattle.std.proofs.lemmas.Cmp.{on_total, then_total}
-use Rattle.std.proofs.lemmas.Map.Lookups.{exact_bytes, exact_pairs, exact_unsigned}
 use Rattle.std.proofs.lemmas.Map.Text.{is_eq-slice_cmp}
 use Rattle.sqlite_value.specs.declared.value.Value.TheVariants.{Text, Int}
 use Rattle.sqlite_value.specs.Order.{value_cmp}
@@ -19,15 +16,14 @@ use Rattle.dh_tables.specs.declared.records.VersionRow.{VersionRow}
 use Rattle.dh_tables.specs.declared.records.PageRow.{PageRow}
 use Rattle.dh_tables.specs.declared.records.UsedRow.{UsedRow}
 use Rattle.dh_tables.specs.declared.records.PassRow.{PassRow}
-use Rattle.dh_tables.specs.declared.records.Operation.{Operation}
-use Rattle.dh_tables.specs.declared.records.Operation.TheVariants.{Push, Upload}
+use Rattle.dh_world.specs.declared.operation.Operation.{Operation}
+use Rattle.dh_world.specs.declared.operation.Operation.TheVariants.{Push, Upload}
 use Rattle.dh_tables.specs.Codings as coding
-use Rattle.dh_tables.specs.Codings.{is_upload}
-use Rattle.dh_tables.specs.World.{text_cmp, pair_cmp, PageKey, page_cmp, UsedKey, used_cmp, op_code}
+use Rattle.dh_world.specs.World.{is_upload, text_cmp, PageKey, page_cmp, UsedKey, used_cmp, op_code}
 use Rattle.dh_tables.specs.Lists.{is_project, is_used, is_pass, same_op}
 use Rattle.dh_tables.proofs.Keys.{version_key, page_key}
 use Rattle.dh_tables.proofs.PassKeys.{pass_key}
-use Rattle.dh_tables.proofs.SeenLemmas.{text_total, tied_text, tied_page}
+use Rattle.dh_world.proofs.MapLemmas.{text_total, tied_text, tied_page}
 use Rattle.dh_tables.proofs.RecordLemmas.{none_found}
 
 eq_then : (p q : Ordering) → is_eq (ordering_then p q) ≡ (is_eq p && is_eq q)
@@ -92,12 +88,6 @@ same_page x y =
 
 abbrev pub used_place : UsedRow → UsedKey
 used_place x = (x.slug, (op_code x.op, x.retry))
-
-pub used_total : IsTotalOrder used_cmp
-used_total = then_total (on_total (λ (k : UsedKey). k.0) text_total) (then_total (on_total (λ (k : UsedKey). k.1.0) nat_cmp_total) (on_total (λ (k : UsedKey). k.1.1) text_total))
-
-pub used_exact : IsAntisymmetric used_cmp
-used_exact = exact_pairs text_cmp (pair_cmp nat_cmp text_cmp) exact_bytes (exact_pairs nat_cmp text_cmp exact_unsigned exact_bytes)
 
 same_flag : (a b : Operation) → is_eq (value_cmp (flag (is_upload a)) (flag (is_upload b))) ≡ eq_by_cmp nat_cmp (op_code a) (op_code b)
 unfolding value_cmp lib.Ieee.is_nan lib.Ieee.lt

@@ -1,4 +1,3 @@
-pub mod AnswerLemmas
 pub mod ReadingLemmas
 pub mod CallLemmas
 pub mod Matching
@@ -25,4 +24,3 @@ pub mod AccessRules
 pub mod ViewLemmas
 pub mod SlugOrder
 pub mod Shown
-pub mod VeilLemmas

@@ -12,10 +12,11 @@ use Rattle.sqlite_sql.specs.Ops.{binary, is_true, from_truth}
 use Rattle.dh_rows.specs.Keyed.{flag, is_set}
 use Rattle.dh_versions.specs.declared.version.Kind.{Kind}
 use Rattle.dh_versions.specs.declared.version.Kind.TheVariants.{Branch, Tag}
-use Rattle.dh_tables.specs.Codings.{is_tag, is_upload}
+use Rattle.dh_tables.specs.Codings.{is_tag}
+use Rattle.dh_world.specs.World.{is_upload}
 use Rattle.dh_tables.specs.Lists.{same_op}
-use Rattle.dh_tables.specs.declared.records.Operation.{Operation}
-use Rattle.dh_tables.specs.declared.records.Operation.TheVariants.{Push, Upload}
+use Rattle.dh_world.specs.declared.operation.Operation.{Operation}
+use Rattle.dh_world.specs.declared.operation.Operation.TheVariants.{Push, Upload}
 
 truth : (b : Bool) → is_true (from_truth (Some b)) ≡ b
 truth true = refl

@@ -9,10 +9,10 @@ use Rattle.dh_rows.specs.Keyed.{same_key}
 use Rattle.dh_tables.specs.declared.records.PassRow.{PassRow}
 use Rattle.dh_tables.specs.declared.records.HeldRow.{HeldRow}
 use Rattle.dh_tables.specs.Codings as coding
-use Rattle.dh_tables.specs.World as world
-use Rattle.dh_tables.specs.World.{text_cmp, HeldKey, held_cmp}
+use Rattle.dh_world.specs.World as world
+use Rattle.dh_world.specs.World.{text_cmp, HeldKey, held_cmp}
 use Rattle.dh_tables.specs.Lists.{is_pass, is_held}
-use Rattle.dh_tables.proofs.SeenLemmas.{tied_text, tied_held}
+use Rattle.dh_world.proofs.MapLemmas.{tied_text, tied_held}
 
 eq_then : (p q : Ordering) → is_eq (ordering_then p q) ≡ (is_eq p && is_eq q)
 eq_then Less q = refl

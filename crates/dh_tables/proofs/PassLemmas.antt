@@ -8,9 +8,9 @@ use Rattle.dh_tables.specs.declared.records.ProjectRow.{ProjectRow}
 use Rattle.dh_tables.specs.declared.records.VersionRow.{VersionRow}
 use Rattle.dh_tables.specs.declared.records.PassRow.{PassRow}
 use Rattle.dh_tables.specs.declared.records.HeldRow.{HeldRow}
-use Rattle.dh_tables.specs.World.{Text, holds}
+use Rattle.dh_world.specs.World.{Text, holds, may_see}
 use Rattle.dh_tables.specs.Lists.{Lists, project_of, is_pass, is_held, is_held_by}
-use Rattle.dh_tables.specs.View.{may_see, opens}
+use Rattle.dh_tables.specs.View.{opens}
 use Rattle.dh_tables.proofs.SeenLemmas.{holds_is}
 
 module _ (lists : Lists) (row : ProjectRow) (pass : Option Text) (own : Text) (is : pass ≡ Some own) where

@@ -14,9 +14,9 @@ use Rattle.sqlite_trees.specs.Tree.{IsAscending}
 use Rattle.sqlite_keyed.specs.Lists.{insert_sorted}
 use Rattle.sqlite_keyed.proofs.ListLemmas.{all_weaker, all-filter, filter_none}
 use Rattle.dh_rows.specs.Keyed.{by_key, same_key, IsFreeKey, added, put}
-use Rattle.dh_tables.specs.World.{Text}
+use Rattle.dh_world.specs.World.{Text}
 use Rattle.dh_tables.specs.Lists.{of_host}
-use Rattle.dh_tables.proofs.SeenLemmas.{found_in, find_in_filter, find_same}
+use Rattle.dh_world.proofs.MapLemmas.{found_in, find_in_filter, find_same}
 
 -- ---- what a search finds
 

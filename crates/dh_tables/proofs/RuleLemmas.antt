@@ -22,8 +22,8 @@ use Rattle.dh_tables.specs.declared.records.UsedRow.{UsedRow}
 use Rattle.dh_tables.specs.declared.records.PassRow.{PassRow}
 use Rattle.dh_tables.specs.declared.records.HeldRow.{HeldRow}
 use Rattle.dh_tables.specs.Codings as coding
-use Rattle.dh_tables.specs.World.{Text}
-use Rattle.dh_tables.specs.Seen.{is_alias}
+use Rattle.dh_world.specs.World.{Text}
+use Rattle.dh_world.specs.Seen.{is_alias}
 use Rattle.dh_tables.specs.Lists.{Lists, is_project, is_lang_of, is_version, is_page_of, is_pick_of, is_pass}
 use Rattle.dh_tables.specs.Making.{no_lists}
 use Rattle.dh_tables.specs.Rules.{InOrder, has_project, has_language, has_active, has_version, has_pass, AreLanguages, AreDefaults, KeepsRules}

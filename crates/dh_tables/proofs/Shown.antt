@@ -19,11 +19,13 @@ use Rattle.dh_tables.specs.declared.records.ProjectRow.{ProjectRow}
 use Rattle.dh_tables.specs.declared.records.VersionRow.{VersionRow}
 use Rattle.dh_tables.specs.declared.records.PickRow.{PickRow}
 use Rattle.dh_tables.specs.declared.records.HeldRow.{HeldRow}
-use Rattle.dh_tables.specs.World.{Text, text_cmp, Project, holds, is_visible}
+use Rattle.dh_world.specs.World.{Text, text_cmp, Project, holds, is_visible, may_see}
 use Rattle.dh_tables.specs.Lists.{Lists, project_of, world_of, is_project, is_version, is_version_of, is_page, is_lang_of, is_pick_of}
-use Rattle.dh_tables.specs.Seen.{seen_project, without_default, default_of, visible_versions}
-use Rattle.dh_tables.specs.View.{RiseBySlug, may_see, opens}
-use Rattle.dh_tables.proofs.SeenLemmas.{tied_text, get_project, get_version, get_page, seen_page}
+use Rattle.dh_world.specs.Seen.{seen_project, without_default, default_of, visible_versions}
+use Rattle.dh_tables.specs.View.{RiseBySlug, opens}
+use Rattle.dh_world.proofs.MapLemmas.{tied_text}
+use Rattle.dh_tables.proofs.SeenLemmas.{get_project, get_version, get_page}
+use Rattle.dh_world.proofs.SeenLemmas.{seen_page}
 use Rattle.dh_tables.proofs.SlugOrder.{by_slug, visible_entries, each_found, each, same_filter}
 
 -- ---- the version with a slug

@@ -18,13 +18,13 @@ use Rattle.dh_versions.specs.declared.version.Version.{Version}
 use Rattle.dh_tables.specs.declared.records.ProjectRow.{ProjectRow}
 use Rattle.dh_tables.specs.declared.records.VersionRow.{VersionRow}
 use Rattle.dh_tables.specs.Codings.{versions}
-use Rattle.dh_tables.specs.World.{text_cmp, Project, holds, is_visible}
-use Rattle.dh_tables.specs.World as world
+use Rattle.dh_world.specs.World.{text_cmp, holds, is_visible, may_see}
+use Rattle.dh_world.specs.World as world
 use Rattle.dh_tables.specs.Lists.{Lists, project_of, is_version_of}
-use Rattle.dh_tables.specs.Seen.{visible_versions}
+use Rattle.dh_world.specs.Seen.{visible_versions}
 use Rattle.dh_tables.specs.Tables.{Holds, lists_of}
-use Rattle.dh_tables.specs.View.{RiseBySlug, may_see}
-use Rattle.dh_tables.proofs.SeenLemmas.{text_total}
+use Rattle.dh_tables.specs.View.{RiseBySlug}
+use Rattle.dh_world.proofs.MapLemmas.{text_total}
 
 abbrev pub by_slug : VersionRow → world.Text × Version
 by_slug r = (r.version.slug, r.version)

@@ -27,8 +27,9 @@ use Rattle.dh_tables.specs.declared.records.UsedRow.{UsedRow}
 use Rattle.dh_tables.specs.declared.records.PickRow.{PickRow}
 use Rattle.dh_tables.specs.declared.records.PassRow.{PassRow}
 use Rattle.dh_tables.specs.declared.records.HeldRow.{HeldRow}
-use Rattle.dh_tables.specs.declared.records.Operation.{Operation}
-use Rattle.dh_tables.specs.Codings.{is_upload, projects, langs, versions, pages, used, picks, passes, held}
+use Rattle.dh_world.specs.declared.operation.Operation.{Operation}
+use Rattle.dh_world.specs.World.{is_upload}
+use Rattle.dh_tables.specs.Codings.{projects, langs, versions, pages, used, picks, passes, held}
 use Rattle.dh_tables.specs.Tables.{Holds, lists_of, meta, meta_table, project_table, lang_table, version_table, page_table, used_table, pick_table, pass_table, holds_table}
 use Rattle.dh_tables.specs.Lists.{is_project, is_lang_of, is_version_of, is_version, is_page_of, is_page_in, is_page, is_used, same_op, is_pick_of, is_pass_of, is_pass, is_held, is_held_by, is_held_on}
 use Rattle.dh_tables.proofs.Matching.{equal_text, equal_op, one, two, three, four, flag_back, kind_back, op_back}

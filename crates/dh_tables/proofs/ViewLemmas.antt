@@ -9,10 +9,10 @@ use Rattle.dh_reply.specs.declared.fault.Fault.TheVariants.{Store, Memory}
 use Rattle.dh_reply.specs.Faults.{UnlessStore}
 use Rattle.dh_rows.specs.Calls.{IsHonest, IsSame, IsRefused, Leaves, seen}
 use Rattle.dh_tables.specs.Tables.{lists_of}
-use Rattle.dh_tables.specs.World.{Text}
+use Rattle.dh_world.specs.World.{Text}
 use Rattle.dh_tables.specs.Lists.{world_of}
-use Rattle.dh_tables.specs.Seen as caller
-use Rattle.dh_tables.specs.View.{doubt_of, shown, IsSettled, Looks, unmoved_on}
+use Rattle.dh_world.specs.Seen as caller
+use Rattle.dh_tables.specs.View.{doubt_of, shown, IsSettled, Looks}
 
 -- ---- doubt
 
@@ -61,15 +61,6 @@ module _ {S : Type 0} (g : Ghosts S) where
       go : (n : ℕ) → doubt_of g b ≡ n → doubt_of g a ≤ n
       go zero e = let z = undoubted a (was_honest a b it (honest b e)) in omega arith
       go (suc n) e = let m = most a in omega arith
-
-  pub looks_none : (a : Held S) → Looks g a a
-  looks_none a = record {
-    clean = λ it. it;
-    unmoved = λ it. record { same = record { was_honest = it; is_open = it.1; now_is = refl; last_is = refl; mode = refl }; left = λ _ _ db may. inl may };
-  }
-
-  pub looks_on : (a b c : Held S) → Looks g a b → Looks g b c → Looks g a c
-  looks_on a b c p q = record { clean = λ it. p.clean (q.clean it); unmoved = λ it. unmoved_on (p.unmoved (q.unmoved it).same.was_honest) (q.unmoved it) }
 
   pub still_settled : (a b : Held S) → Looks g a b → (IsHonest g a → IsSettled g a) → IsHonest g b → IsSettled g b
   still_settled a b it was h =

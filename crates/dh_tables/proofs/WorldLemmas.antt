@@ -1,25 +1,22 @@
 -- What the project of a host says of the lists that spell it, and projects put back one after the other.
-use Rattle.std.proofs.Common.{◌≡◌, Bool, true, false, ◌&&◌, cond, map, filter, find, length, is_some, Option, Some, None, IsTrue, refl, sym, ap, ◌∙◌, is_eq}
+use Rattle.std.proofs.Common.{◌≡◌, Bool, true, false, ◌&&◌, map, filter, find, length, is_some, Option, Some, None, IsTrue, refl, sym, ap, ◌∙◌}
 use Rattle.std.specs.Prelude.{option_map}
 use Rattle.std.specs.Option.{option_map_or}
 use Rattle.std.specs.List.{list_any}
 use Rattle.std.specs.Str.{bytes_eq}
-use Rattle.std.specs.Ordering.{eq_by_cmp}
-use Rattle.std.specs.Cmp.{Equal-is}
-use Rattle.std.specs.FinMap.{get, contains_key, insert, get-insert, get-from_entries, same_map}
-use Rattle.std.proofs.lemmas.Cmp.{tied_itself}
+use Rattle.std.specs.FinMap.{get, contains_key, insert, get-from_entries}
 use Rattle.std.proofs.lemmas.List.{length-map}
-use Rattle.std.proofs.lemmas.Map.Lookups.{exact_bytes}
 use Rattle.std.proofs.lemmas.Slice.Eq.{bytes_eq-Decides}
 use Rattle.dh_tables.specs.declared.records.ProjectRow.{ProjectRow}
 use Rattle.dh_tables.specs.declared.records.VersionRow.{VersionRow}
-use Rattle.dh_tables.specs.declared.records.Operation.{Operation}
-use Rattle.dh_tables.specs.World.{Text, text_cmp, used_cmp, op_code, Project, World}
+use Rattle.dh_world.specs.declared.operation.Operation.{Operation}
+use Rattle.dh_world.specs.World.{Text, used_cmp, op_code, Project}
 use Rattle.dh_tables.specs.Lists.{Lists, of_host, project_of, world_of, kept_answer, is_project, is_version, is_page, is_used, is_lang_of, is_pick_of, is_pass, is_held}
 use Rattle.dh_tables.specs.Rules.{has_project, languages_of, has_language, has_active, has_version, has_pass}
-use Rattle.dh_tables.proofs.KeyLemmas.{used_place, used_total, tied_used_key}
+use Rattle.dh_tables.proofs.KeyLemmas.{used_place, tied_used_key}
+use Rattle.dh_world.proofs.MapLemmas.{used_total, found_in, find_in_filter, find_same, get_back, put_twice}
 use Rattle.dh_tables.proofs.RecordLemmas.{found_passes}
-use Rattle.dh_tables.proofs.SeenLemmas.{found_in, find_in_filter, find_same, get_project, get_version, get_page, get_pass, get_held, text_total}
+use Rattle.dh_tables.proofs.SeenLemmas.{get_project, get_version, get_page, get_pass, get_held}
 
 -- ---- the row of a project
 
@@ -136,28 +133,6 @@ module _ (lists : Lists) (host : Text) (p : Project) (was : get (world_of lists)
   held_in pass slug = ap (λ (x : Project). get x.held (pass, slug)) (sym spelt.spells) ∙ get_held lists row pass slug ∙ ap (λ h. option_map (λ x. tt) (find (is_held h pass slug) lists.held)) spelt.host_is
 
 -- ---- one project put back after the other
-
-itself : (host : Text) → eq_by_cmp text_cmp host host ≡ true
-itself host = ap is_eq (tied_itself text_total host)
-
-pub get_back : (w : World) (host : Text) (p : Project) → get (insert w host p) host ≡ Some p
-get_back w host p = get-insert text_total w host p host ∙ ap (λ b. cond b (Some p) (get w host)) (itself host)
-
--- of two projects put back under one host the second stays
-pub put_twice : (w : World) (host : Text) (p q : Project) → insert (insert w host p) host q ≡ insert w host q
-put_twice w host p q = same_map text_total exact_bytes _ _ (λ name. get-insert text_total (insert w host p) host q name ∙ go name (eq_by_cmp text_cmp name host) refl ∙ sym (get-insert text_total w host q name))
-  where
-    go : (name : Text) (b : Bool) → eq_by_cmp text_cmp name host ≡ b → cond (eq_by_cmp text_cmp name host) (Some q) (get (insert w host p) name) ≡ cond (eq_by_cmp text_cmp name host) (Some q) (get w name)
-    go name true e = rw e refl
-    go name false e = rw e (get-insert text_total w host p name ∙ rw e refl)
-
--- a project put back as it is changes nothing
-pub put_same : (w : World) (host : Text) (p : Project) → get w host ≡ Some p → insert w host p ≡ w
-put_same w host p was = same_map text_total exact_bytes _ _ (λ name. get-insert text_total w host p name ∙ go name (eq_by_cmp text_cmp name host) refl)
-  where
-    go : (name : Text) (b : Bool) → eq_by_cmp text_cmp name host ≡ b → cond b (Some p) (get w name) ≡ get w name
-    go name true e = sym was ∙ ap (get w) (sym (exact_bytes name host ((Equal-is (text_cmp name host)).0 e)))
-    go name false e = refl
 
 -- two changes of one project, one after the other
 pub changed_twice : (lists middle last : Lists) (host : Text) (p q : Project) → world_of middle ≡ insert (world_of lists) host p

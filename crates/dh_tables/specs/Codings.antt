@@ -14,16 +14,12 @@ use Rattle.dh_tables.specs.declared.records.UsedRow.{UsedRow}
 use Rattle.dh_tables.specs.declared.records.PickRow.{PickRow}
 use Rattle.dh_tables.specs.declared.records.PassRow.{PassRow}
 use Rattle.dh_tables.specs.declared.records.HeldRow.{HeldRow}
-use Rattle.dh_tables.specs.declared.records.Operation.{Operation}
-use Rattle.dh_tables.specs.declared.records.Operation.TheVariants.{Push, Upload}
+use Rattle.dh_world.specs.World.{is_upload}
+use Rattle.dh_world.specs.declared.operation.Operation.TheVariants.{Push, Upload}
 
 abbrev pub is_tag : Kind → Bool
 is_tag Branch = false
 is_tag Tag = true
-
-abbrev pub is_upload : Operation → Bool
-is_upload Push = false
-is_upload Upload = true
 
 -- the number that a column reads as
 abbrev pub number_in : Value → ℕ

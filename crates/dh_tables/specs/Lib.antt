@@ -1,6 +1,3 @@
-pub mod Answers
-pub mod World
-pub mod Seen
 pub mod Lists
 pub mod Codings
 pub mod Rules

@@ -5,10 +5,10 @@ use Rattle.std.specs.Str.{bytes_eq}
 use Rattle.std.specs.FinMap.{from_entries}
 use Rattle.dh_rows.specs.Keyed.{added}
 use Rattle.dh_tables.specs.Codings as coding
-use Rattle.dh_tables.specs.declared.answer.Answer.{Answer}
-use Rattle.dh_tables.specs.declared.answer.Answer.TheVariants.{Done}
-use Rattle.dh_tables.specs.Answers.{answer_of, json_of}
-use Rattle.dh_tables.specs.World.{Text, Project, World, op_code}
+use Rattle.dh_world.specs.declared.answer.Answer.{Answer}
+use Rattle.dh_world.specs.declared.answer.Answer.TheVariants.{Done}
+use Rattle.dh_world.specs.Answers.{answer_of, json_of}
+use Rattle.dh_world.specs.World.{Text, Project, World, op_code}
 use Rattle.dh_tables.specs.declared.records.ProjectRow.{ProjectRow}
 use Rattle.dh_tables.specs.declared.records.LangRow.{LangRow}
 use Rattle.dh_tables.specs.declared.records.VersionRow.{VersionRow}
@@ -17,8 +17,8 @@ use Rattle.dh_tables.specs.declared.records.UsedRow.{UsedRow}
 use Rattle.dh_tables.specs.declared.records.PickRow.{PickRow}
 use Rattle.dh_tables.specs.declared.records.PassRow.{PassRow}
 use Rattle.dh_tables.specs.declared.records.HeldRow.{HeldRow}
-use Rattle.dh_tables.specs.declared.records.Operation.{Operation}
-use Rattle.dh_tables.specs.declared.records.Operation.TheVariants.{Push, Upload}
+use Rattle.dh_world.specs.declared.operation.Operation.{Operation}
+use Rattle.dh_world.specs.declared.operation.Operation.TheVariants.{Push, Upload}
 
 -- a list for each table, in the order of its keys
 pub record Lists : Type 0 where

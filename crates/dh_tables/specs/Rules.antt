@@ -1,5 +1,5 @@
 -- What the records keep besides being in the order of their keys.
-use Rattle.std.specs.Prelude.{◌≡◌, Bool, false, ◌&&◌, ◌||◌, IsTrue, List, map, filter, length, slice_get, find, Option, Some, None, is_some}
+use Rattle.std.specs.Prelude.{◌≡◌, Bool, false, ◌&&◌, ◌||◌, IsTrue, List, map, filter, length, slice_get, find, Some, is_some}
 use Rattle.std.specs.declared.cmp.Ordering.TheVariants.{Less}
 use Rattle.std.specs.List.{AllByRecursion, IsDistinct, list_any, range_with_len}
 use Rattle.std.specs.Option.{option_map_or}
@@ -8,8 +8,8 @@ use Rattle.sqlite_value.specs.Order.{Row}
 use Rattle.sqlite_trees.specs.Tree.{IsAscending}
 use Rattle.dh_paths.specs.Slugs.{slug_from}
 use Rattle.dh_rows.specs.Keyed.{by_key}
-use Rattle.dh_tables.specs.World.{Text, PageKey}
-use Rattle.dh_tables.specs.Seen.{is_alias}
+use Rattle.dh_world.specs.World.{Text}
+use Rattle.dh_world.specs.Seen.{is_alias}
 use Rattle.dh_tables.specs.Codings as coding
 use Rattle.dh_tables.specs.Lists.{Lists, is_project, is_lang_of, is_version, is_pick_of, is_pass}
 use Rattle.dh_tables.specs.declared.records.LangRow.{LangRow}
@@ -81,8 +81,3 @@ pub record KeepsRules (lists : Lists) : Type 0 where
   pub chosen : AllByRecursion (λ d. IsTrue (is_alias d.name || has_version lists d.host d.name)) lists.picks
   -- a grant's pass and version are there
   pub granted : AllByRecursion (λ x. IsTrue (has_pass lists x.host x.pass && has_version lists x.host x.slug)) lists.held
-
--- the page is one of this version, and of this language where one is given
-abbrev pub lies_under : Text → Option Text → PageKey → Bool
-lies_under slug None key = bytes_eq key.0 slug
-lies_under slug (Some lang) key = bytes_eq key.0 slug && bytes_eq key.1.0 lang

@@ -1,34 +1,75 @@
--- What a view of the tables shows, and what a look at them leaves.
-use Rattle.std.specs.Prelude.{◌≡◌, ℕ, Bool, false, not, ◌&&◌, ◌||◌, List, map, Option, IsTrue}
-use Rattle.std.proofs.Common.{inl, inr, ◌∙◌}
-use Rattle.std.specs.List.{list_any}
+-- What a view of the tables shows, and what looks at them leave.
+use Rattle.std.specs.Prelude.{◌≡◌, ℕ, Bool, not, ◌&&◌, List, map, Option, Result, Vec, IfOk, IsTrue, is_some, option_and_then, false, ⊤}
+use Rattle.std.proofs.Common.{inl, inr, refl, ◌∙◌}
+use Rattle.std.specs.List.{list_any, AllByRecursion}
 use Rattle.std.specs.Str.{bytes_eq}
-use Rattle.std.specs.FinMap.{is_sorted}
+use Rattle.std.specs.FinMap.{FinMap, get, is_sorted}
 use Rattle.sqlite_trees.specs.View.{doubt}
 use Rattle.sqlite_trees.specs.declared.store.Store.{Ghosts}
 use Rattle.sqlite.specs.State.{HasCleanDisk}
 use Rattle.sqlite.specs.Held.{Held, state}
 use Rattle.dh_rows.specs.Calls.{IsHonest, IsSame, Leaves, seen, committed}
 use Rattle.dh_versions.specs.declared.version.Version.{Version}
+use Rattle.dh_reply.specs.Faults.{OnStore}
+use Rattle.dh_reply.specs.SeenProject.{resolved}
+use Rattle.dh_reply.specs.declared.fault.Fault.{Fault}
 use Rattle.dh_reply.specs.declared.seen_project.SeenProject.{SeenProject}
 use Rattle.dh_tables.specs.declared.records.VersionRow.{VersionRow}
 use Rattle.dh_tables.specs.declared.records.HeldRow.{HeldRow}
-use Rattle.dh_tables.specs.World.{Text, text_cmp}
-use Rattle.dh_tables.specs.Seen as caller
-use Rattle.dh_tables.specs.Lists.{world_of}
+use Rattle.dh_tables.specs.declared.records.ProjectRow.{ProjectRow}
+use Rattle.dh_world.specs.World.{Text, text_cmp, Project, holds, may_see}
+use Rattle.dh_world.specs.Seen as caller
+use Rattle.dh_tables.specs.Lists.{Lists, project_of, world_of}
 use Rattle.dh_tables.specs.Tables.{lists_of}
+
+-- ---- what a caller sees of the records
 
 -- the slugs strictly rise, by their bytes
 abbrev pub RiseBySlug : List VersionRow → Type 0
 RiseBySlug rows = IsTrue (is_sorted text_cmp (map (λ r. (r.version.slug, r.version)) rows))
 
--- the version is active, and it is public or the caller's pass holds it
-abbrev pub may_see : Version → Bool → Bool
-may_see v held = v.active && (not v.private || held)
-
 -- one of the grants is on the version
 abbrev pub opens : List HeldRow → Text → Bool
 opens grants slug = list_any (λ x. bytes_eq x.slug slug) grants
+
+-- the caller who holds these grants may see the version
+abbrev pub is_shown : List HeldRow → VersionRow → Bool
+is_shown grants row = may_see row.version (opens grants row.version.slug)
+
+-- the grants open those versions that are held
+abbrev pub OpensAs : List HeldRow → (Text → Bool) → Type 0
+OpensAs grants held = (slug : Text) → opens grants slug ≡ held slug
+
+-- of these versions they show those that a caller who holds that may see
+abbrev pub ShowsAs : List VersionRow → List HeldRow → (Text → Bool) → Type 0
+ShowsAs rows grants held =
+    AllByRecursion (λ r. is_shown grants r ≡ may_see r.version (held r.version.slug)) rows
+
+-- the project under a host
+abbrev pub project_in : Lists → Option Text → Option Project
+project_in l host = option_and_then (get (world_of l)) host
+
+-- the same as the caller sees it
+abbrev pub shown_under : Lists → Option Text → Option Text → Option SeenProject
+shown_under l host pass = caller.seen (world_of l) host pass
+
+module _ (l : Lists) (row : ProjectRow) (pass : Option Text) where
+  -- the pass is one of the project's, and holds the version
+  abbrev pub held_in : Text → Bool
+  held_in slug = holds (project_of l row) pass slug
+
+  abbrev pub visible_in : FinMap text_cmp Version
+  visible_in = caller.visible_versions (project_of l row) pass
+
+  -- the project as the caller sees it
+  abbrev pub shown_in : SeenProject
+  shown_in = caller.seen_project (project_of l row) pass
+
+  -- the name stands for a version that the caller sees
+  abbrev pub resolves : Text → Bool
+  resolves name = is_some (resolved shown_in name)
+
+-- ---- what looks leave
 
 module _ {S : Type 0} (g : Ghosts S) where
   -- 0 while the disk has returned what was written and no fault has shut the store, else 1
@@ -37,7 +78,7 @@ module _ {S : Type 0} (g : Ghosts S) where
 
   -- what the tables show under a host to the holder of this pass, or to a caller with none
   abbrev pub shown : Held S → Option Text → Option Text → Option SeenProject
-  shown h host pass = caller.seen (world_of (seen g lists_of h)) host pass
+  shown h host pass = shown_under (seen g lists_of h) host pass
 
   -- no transaction is open, and what is seen was committed
   pub record IsSettled (h : Held S) : Type 0 where
@@ -54,8 +95,44 @@ module _ {S : Type 0} (g : Ghosts S) where
     pub clean : HasCleanDisk (state g new) → HasCleanDisk (state g old)
     pub unmoved : IsHonest g new → IsUnmoved old new
 
+  -- Why a look may answer `Store`. The calls of the tables tell no cause yet, so none is asked for.
+  abbrev pub Fails : Held S → Held S → Type 0
+  Fails old new = ⊤
+
+  module _ {T : Type 0} (old new : Held S) (result : Result T Fault) where
+    -- One look, or several in turn.
+    pub record Queries : Type 0 where
+      -- whatever was answered
+      pub looks : Looks old new
+      -- `Store` is answered with a cause alone
+      pub told : OnStore result (Fails old new)
+
+    -- Where the store is honest, an answer and the records before stand so to each other.
+    abbrev pub Learns : (Lists → T → Type 0) → Type 0
+    Learns fact = IsHonest g new → IfOk result (fact (seen g lists_of old))
+
+    -- Where the store is honest, an answer is this of the records before.
+    abbrev pub Reads : (Lists → T) → Type 0
+    Reads value = Learns (λ l read. read ≡ value l)
+
+  -- the same of a list
+  abbrev pub ReadsAll
+      : {U Z : Type 0} → Held S → Held S → Result (Vec U Z) Fault → (Lists → List U) → Type 0
+  ReadsAll old new result value = Learns old new result (λ l read. read.items ≡ value l)
+
+  pub unmoved_none : (h : Held S) → IsHonest g h → IsUnmoved h h
+  unmoved_none h it = record {
+    same = record { was_honest = it; is_open = it.1; now_is = refl; last_is = refl; mode = refl };
+    left = λ _ _ db may. inl may;
+  }
+
+  pub looks_none : (h : Held S) → Looks h h
+  looks_none h = record { clean = λ it. it; unmoved = unmoved_none h }
+
 -- what holds over two looks in turn
-pub unmoved_on : {S : Type 0} {g : Ghosts S} {a b c : Held S} → IsUnmoved g a b → IsUnmoved g b c → IsUnmoved g a c
+pub unmoved_on
+    : {S : Type 0} {g : Ghosts S} {a b c : Held S}
+    → IsUnmoved g a b → IsUnmoved g b c → IsUnmoved g a c
 unmoved_on p q = record {
   same = record {
     was_honest = p.same.was_honest;
@@ -64,5 +141,14 @@ unmoved_on p q = record {
     last_is = q.same.last_is ∙ p.same.last_is;
     mode = q.same.mode ∙ p.same.mode;
   };
-  left = λ it ok db may. elim (q.left q.same.was_honest ok db may) [ inl before ↦ p.left it q.same.was_honest.0 db before | inr none ↦ absurd none ];
+  left = λ it ok db may.
+      elim (q.left q.same.was_honest ok db may)
+      [ inl before ↦ p.left it q.same.was_honest.0 db before | inr none ↦ absurd none ];
+}
+
+pub looks_on
+    : {S : Type 0} {g : Ghosts S} {a b c : Held S} → Looks g a b → Looks g b c → Looks g a c
+looks_on p q = record {
+  clean = λ it. p.clean (q.clean it);
+  unmoved = λ it. unmoved_on (p.unmoved (q.unmoved it).same.was_honest) (q.unmoved it);
 }

@@ -1,16 +1,18 @@
-ghost use Rattle.std.specs.Prelude.{◌≡◌, List, map, slice_get, string_bytes, IfOk};
+ghost use Rattle.std.specs.Prelude.{◌≡◌, List, map, slice_get, string_bytes, IfOk, IsSome};
 ghost use Rattle.sqlite_value.specs.declared.value.Value.TheVariants.{Int, Text as SqlText, Blob};
 ghost use Rattle.sqlite_value.specs.Order.{column};
 ghost use Rattle.dh_rows.specs.Keyed.{Coding, flag};
+ghost use Rattle.dh_world.specs.Answers.{answer_of};
 ghost use Rattle.dh_tables.specs.Codings as spec;
 
 use crate::query::fault_of;
 use crate::records::{
-    HeldRow, LangRow, Operation, PageRow, PassRow, PickRow, ProjectRow, UsedRow, VersionRow,
+    HeldRow, LangRow, PageRow, PassRow, PickRow, ProjectRow, UsedRow, VersionRow,
 };
 use dh_paths::{Bytes, HostName, Lang, PagePath, RefName, Slug, Text, TextFault, Token};
 use dh_reply::{Fault, Page};
 use dh_versions::{Kind, Version};
+use dh_world::{Answer, Operation};
 use sqlite::Row;
 use std::alloc::Global;
 
@@ -19,6 +21,18 @@ fn fault_of_text(fault: TextFault) -> Fault {
     match fault {
         TextFault::Memory => Fault::Memory,
         _ => Fault::Store,
+    }
+}
+
+/// The answer that a kept text tells.
+pub(crate) fn kept_answer(alloc: Global, text: &str) -> Result<Option<Answer>, Fault>
+    ensures told { IfOk result (λ o. o ≡ answer_of text.now) }
+    ensures some { IfOk result (λ o. IsSome o) }
+{
+    match Answer::read(alloc, text) {
+        Ok(Some(answer)) => Ok(Some(answer)),
+        Ok(None) => Err(Fault::Store),
+        Err(_) => Err(Fault::Memory),
     }
 }
 

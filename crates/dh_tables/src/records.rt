@@ -4,6 +4,7 @@ ghost use Rattle.dh_tables.specs.Codings as coding;
 use dh_paths::{HostName, Lang, PagePath, RefName, Slug, Text, Token};
 use dh_reply::Page;
 use dh_versions::{Kind, Version};
+use dh_world::Operation;
 
 /// A project, but for its lists.
 #[derive(Drop)]
@@ -68,21 +69,6 @@ pub struct HeldRow {
     pub host: HostName,
     pub pass: Token,
     pub slug: Slug,
-}
-
-/// The commands that carry a retry key.
-#[derive(Clone, Copy, Debug, PartialEq, Eq)]
-pub enum Operation {
-    Push,
-    Upload,
-}
-
-impl Operation {
-    pub fn is_upload(self) -> bool
-        ensures { result ≡ coding.is_upload self }
-    {
-        self == Operation::Upload
-    }
 }
 
 pub(crate) fn is_tag(kind: Kind) -> bool

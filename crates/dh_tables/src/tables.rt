@@ -3,7 +3,7 @@ ghost use Rattle.sqlite.specs.Held.{state};
 ghost use Rattle.sqlite.specs.State.{HasCleanDisk};
 ghost use Rattle.dh_rows.specs.Calls.{IsHonest, Shows, Becomes, IsSame, IsUndone, IsRefused, Leaves, LeavesNoMore, LeavesCommitted, KeepsCommitted, seen, committed};
 ghost use Rattle.dh_rows.specs.Keyed.{IsFreeKey, added, put};
-ghost use Rattle.dh_tables.specs.Answers.{json_of};
+ghost use Rattle.dh_world.specs.Answers.{json_of};
 ghost use Rattle.dh_tables.specs.Codings as coding;
 ghost use Rattle.dh_tables.specs.Lists as spec;
 ghost use Rattle.dh_tables.specs.Making.{CanMake, CommitsNothing, no_lists};
@@ -14,12 +14,13 @@ ghost use Rattle.std.specs.FinMap.{empty};
 
 mod passes;
 
-use crate::answer::{Answer, kept_answer};
 use crate::making::{can_make, make_at_once, make_tables};
 use crate::query::{all_records, fault_of, first_record, has_record, write};
-use crate::records::{LangRow, Operation, PageRow, ProjectRow, UsedRow, VersionRow, is_tag};
+use crate::reading::kept_answer;
+use crate::records::{LangRow, PageRow, ProjectRow, UsedRow, VersionRow, is_tag};
 use dh_paths::{HostName, Lang, Slug, Token};
 use dh_reply::Fault;
+use dh_world::{Answer, Operation};
 use sqlite::{Alter, Connection, MemStore, params};
 use std::alloc::Global;
 use std::marker::Model;
@@ -94,7 +95,7 @@ impl<S: Alter> Tables<S> {
         ensures kept { KeepsCommitted S.Store self.old self.new }
         ensures quiet { LeavesNoMore S.Store self.old self.new }
     {
-        match dh_rows::back(&mut self.conn) {
+        match dh_rows::rollback(&mut self.conn) {
             Ok(()) => Ok(()),
             Err(fault) => Err(fault_of(fault)),
         }

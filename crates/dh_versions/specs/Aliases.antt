@@ -50,6 +50,10 @@ abbrev pub is_branch : Kind → Bool
 is_branch Branch = true
 is_branch Tag = false
 
+-- a member is a tag, whatever its name
+abbrev pub has_tag : List Version → Bool
+has_tag versions = list_any (λ v. not (is_branch v.kind)) versions
+
 -- the place of the first branch whose name is the default branch
 abbrev pub latest_of : List Version → List ℕ → Option ℕ
 latest_of versions default = position (λ v. is_branch v.kind && bytes_eq v.name default) versions

@@ -1,7 +1,7 @@
 //! The versions that the names `stable` and `latest` stand for.
 
-ghost use Rattle.std.specs.Prelude.{◌≡◌, IfOk};
-ghost use Rattle.dh_versions.specs.Aliases.{Rank, rank_of, rank_cmp, is_above, stable_of, latest_of};
+ghost use Rattle.std.specs.Prelude.{◌≡◌, IfOk, OnErr, IsTrue};
+ghost use Rattle.dh_versions.specs.Aliases.{Rank, rank_of, rank_cmp, is_above, has_tag, stable_of, latest_of};
 
 use crate::releases::release;
 use crate::version::{Kind, Version};
@@ -12,7 +12,8 @@ type Numbers = (u64, u64, u64);
 
 /// Whether both are release tags and the first is above the second: by number, and at equal numbers by the bytes of the slug.
 pub fn higher(alloc: Global, first: &Version, second: &Version) -> Result<bool, AllocError>
-    ensures { IfOk result (λ yes. yes ≡ is_above first.now second.now) }
+    ensures value { IfOk result (λ yes. yes ≡ is_above first.now second.now) }
+    ensures memory { OnErr result (first.now.kind ≡ Kind.Tag) }
 {
     let Some(numbers) = release(alloc, &first.name, first.kind)? else {
         return Ok(false);
@@ -23,9 +24,10 @@ pub fn higher(alloc: Global, first: &Version, second: &Version) -> Result<bool, 
     Ok((numbers, first.slug.as_str()) > (others, second.slug.as_str()))
 }
 
-/// The place of the version that `stable` stands for: the first release that no other is above.
+/// The place of the version that `stable` stands for: the first release that no other is above. None where no tag is a release.
 pub fn stable(alloc: Global, versions: &[Version]) -> Result<Option<usize>, AllocError>
-    ensures { IfOk result (λ place. place ≡ stable_of versions.now) }
+    ensures value { IfOk result (λ place. place ≡ stable_of versions.now) }
+    ensures memory { OnErr result (IsTrue (has_tag versions.now)) }
 {
     let mut best: Option<(usize, Numbers)> = None;
     for (i, version) in versions.iter().enumerate() {

@@ -1,6 +1,6 @@
 //! Release numbers.
 
-ghost use Rattle.std.specs.Prelude.{◌≡◌, ◌↔◌, IfOk, IsTrue, MatchOption, option_map};
+ghost use Rattle.std.specs.Prelude.{◌≡◌, ◌↔◌, IfOk, OnErr, IsTrue, MatchOption, option_map};
 ghost use Rattle.semver.specs.Identifiers.{parts_of};
 ghost use Rattle.dh_versions.specs.Release.{IsSemVer, IsReleaseOf, Numbers, without_v, version_of, is_semver_name, release_of};
 
@@ -37,7 +37,7 @@ pub fn is_semver(alloc: Global, name: &RefName) -> Result<bool, AllocError>
     Ok(version_in(alloc, name.as_str())?.is_some())
 }
 
-/// The numbers of a release: a tag that is SemVer without a pre-release.
+/// The major, minor and patch number of a release: a tag that is SemVer without a pre-release. None for every other name.
 pub fn release(
     alloc: Global,
     name: &RefName,
@@ -47,6 +47,7 @@ pub fn release(
         ((n : Numbers) → IsReleaseOf kind name.now n → ⊥)
         (IsReleaseOf kind name.now)) }
     ensures value { IfOk result (λ numbers. numbers ≡ release_of kind name.now) }
+    ensures memory { OnErr result (kind ≡ Kind.Tag) }
 {
     if kind == Kind::Branch {
         return Ok(None);

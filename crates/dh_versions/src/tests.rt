@@ -1,3 +1,5 @@
+//! Names, aliases and copies, by examples.
+
 use crate::{Kind, Version, higher, is_semver, latest, release, stable};
 use dh_paths::{RefName, Slug, TextFault};
 use std::alloc::Global;

@@ -1,3 +1,5 @@
+//! A version, and what it comes from.
+
 ghost use Rattle.std.specs.Prelude.{◌≡◌, IfOk};
 
 use dh_paths::{RefName, Slug};
@@ -11,7 +13,7 @@ pub enum Kind {
 }
 
 /// A version of a project's documentation.
-#[derive(Drop)]
+#[derive(Debug, Drop)]
 pub struct Version {
     /// Its name in addresses.
     pub slug: Slug,
@@ -22,11 +24,12 @@ pub struct Version {
     pub active: bool,
     /// A hidden version is served and left out of lists.
     pub hidden: bool,
-    /// A private version is served only to those who hold a pass for it.
+    /// A private version is served only to a pass with a grant for it.
     pub private: bool,
 }
 
 impl Version {
+    /// The same version again.
     pub fn try_copy(&self, alloc: Global) -> Result<Version, AllocError>
         ensures { IfOk result (λ copy. copy ≡ self.now) }
     {

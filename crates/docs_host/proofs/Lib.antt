@@ -1,6 +1,3 @@
 pub mod AnswerLemmas
-pub mod AppLemmas
-pub mod ReadingLemmas
-pub mod LineLemmas
-pub mod ScriptLemmas
+pub mod CallerLemmas
 pub mod FillLemmas

@@ -1,18 +1,21 @@
 -- The sample as a world: what three commands leave.
-use Rattle.std.specs.Prelude.{◌≡◌, ◌⊎◌, Bool, false, true, List, [], ◌∷◌, ◌++◌, codes, Result, Ok, Err}
+use Rattle.std.specs.Prelude.{◌≡◌, ◌⊎◌, ℕ, ◌+◌, ◌<◌, false, List, [], ◌∷◌, ◌++◌, length, take, codes, Result, Ok, Err}
+use Rattle.std.specs.Result.{result_unwrap_or}
+use Rattle.std.specs.FinMap.{empty}
 use Rattle.dh_versions.specs.declared.version.Kind.TheVariants.{Branch}
-use Rattle.dh_tables.specs.World.{Text, World}
-use Rattle.dh_desk.specs.declared.command.Command.{Command}
-use Rattle.dh_desk.specs.declared.command.Command.TheVariants.{NewProject, Push, Upload}
-use Rattle.dh_desk.specs.declared.pages.UploadedPage.{UploadedPage}
-use Rattle.dh_desk.specs.declared.refusal.Refusal.{Refusal}
-use Rattle.dh_tables.specs.declared.answer.Answer.{Answer}
-use Rattle.dh_desk.specs.Checks.{IsSetAside}
-use Rattle.dh_desk.specs.Step.{step}
+use Rattle.dh_world.specs.World.{Text, World}
+use Rattle.dh_world.specs.declared.command.Command.{Command}
+use Rattle.dh_world.specs.declared.command.Command.TheVariants.{NewProject, Push, Upload}
+use Rattle.dh_world.specs.declared.pages.UploadedPage.{UploadedPage}
+use Rattle.dh_world.specs.declared.refusal.Refusal.{Refusal}
+use Rattle.dh_world.specs.declared.answer.Answer.{Answer}
+use Rattle.dh_world.specs.Checks.{IsSetAside}
+use Rattle.dh_world.specs.Step.{step}
 
 -- a page whose body is the text and LF
 abbrev pub uploaded_page : Text → Text → UploadedPage
-uploaded_page path text = record { path = path; media = codes "text/html; charset=utf-8"; body = text ++ 10 ∷ [] }
+uploaded_page path text =
+    record { path = path; media = codes "text/html; charset=utf-8"; body = text ++ 10 ∷ [] }
 
 abbrev pub sample_uploads : List UploadedPage
 sample_uploads =
@@ -28,7 +31,9 @@ abbrev pub push_sample : Command
 push_sample = Push (codes "docs.test") (codes "sample-key") (codes "s1") Branch (codes "main")
 
 abbrev pub upload_sample : Command
-upload_sample = Upload (codes "docs.test") (codes "sample-key") (codes "s2") (codes "main") (codes "en") false sample_uploads
+upload_sample =
+    Upload (codes "docs.test") (codes "sample-key") (codes "s2") (codes "main") (codes "en") false
+    sample_uploads
 
 -- the world after a step, and what comes behind it; or the refusal
 abbrev pub on_step : Result (World × Answer) Refusal → (World → Result World Refusal) → Result World Refusal
@@ -40,11 +45,25 @@ abbrev pub after_all : List Command → World → Result World Refusal
 after_all [] w = Ok w
 after_all (c ∷ cs) w = on_step (step w c) (after_all cs)
 
--- a world with the sample added, where no command is refused
-abbrev pub with_sample : World → Result World Refusal
-with_sample = after_all (make_sample ∷ push_sample ∷ upload_sample ∷ [])
+-- the commands of the sample, in turn
+abbrev pub sample_commands : List Command
+sample_commands = make_sample ∷ push_sample ∷ upload_sample ∷ []
 
--- the world has the sample added; or a command was refused, by its step or by what is set aside
+-- the sample's world: what its commands make of an empty one
+unfoldable pub sample_world : World
+sample_world = result_unwrap_or (after_all sample_commands empty) empty
+
+-- one command was refused, by its step or by what is set aside, and none behind it was done: so many before it were
+pub record StopsBehind (cs : List Command) (before after : World) (e : Refusal) (done : ℕ) : Type 0 where
+  pub some_left : done < length cs
+  pub only_those : after_all (take done cs) before ≡ Ok after
+  pub why : IsSetAside e ⊎ (after_all (take (done + 1) cs) before ≡ Err e)
+
+-- all commands are done; or those before one that was refused, and no other
+abbrev pub DoesAll : List Command → World → World → Result Unit Refusal → Type 0
+DoesAll commands before after (Ok done) = after_all commands before ≡ Ok after
+DoesAll commands before after (Err e) = (done : ℕ) × StopsBehind commands before after e done
+
+-- the world has the sample added, or the part of it that was done before the first refusal
 abbrev pub Fills : World → World → Result Unit Refusal → Type 0
-Fills before after (Ok done) = with_sample before ≡ Ok after
-Fills before after (Err e) = IsSetAside e ⊎ (with_sample before ≡ Err e)
+Fills = DoesAll sample_commands

@@ -2,19 +2,26 @@
 
 ghost use Rattle.std.specs.Prelude.{◌≡◌, ◌∷◌, ◌++◌, [], IfOk};
 ghost use Rattle.dh_rows.specs.Calls.{IsHonest};
-ghost use Rattle.dh_desk.specs.Desk.{IsStep, world};
-ghost use Rattle.docs_host.specs.SampleWorld.{uploaded_page, sample_uploads, make_sample, push_sample, upload_sample, Fills};
+ghost use Rattle.dh_world.specs.Step.{IsStep};
+ghost use Rattle.dh_desk.specs.Desk.{world};
+ghost use Rattle.docs_host.specs.SampleWorld.{uploaded_page, sample_uploads, make_sample, push_sample, upload_sample, sample_world, Fills};
+ghost use Rattle.std.specs.FinMap.{empty};
+ghost use Rattle.sqlite.specs.Steps.{over_memory};
 
-use crate::sample::{HTML, body};
 use dh_desk::{Answer, Command, Desk, Pages, Refusal, UploadedPage};
-use dh_paths::Text;
+use dh_paths::{Bytes, Text};
+use dh_reply::Fault;
+use dh_tables::Tables;
 use dh_versions::Kind;
-use sqlite::Alter;
+use sqlite::{Alter, MemStore};
 use std::alloc::{AllocError, Global};
 
 const HOST: &str = "docs.test";
 
 const WRITE_KEY: &str = "sample-key";
+
+/// The media type of each page.
+const HTML: &str = "text/html; charset=utf-8";
 
 fn make_command(alloc: Global) -> Result<Command, AllocError>
     ensures { IfOk result (λ command. command ≡ make_sample) }
@@ -38,6 +45,15 @@ fn push_command(alloc: Global) -> Result<Command, AllocError>
         kind: Kind::Branch,
         name: Text::copy_of(alloc, "main")?,
     })
+}
+
+/// The text and LF.
+fn body(alloc: Global, text: &str) -> Result<Bytes, AllocError>
+    ensures { IfOk result (λ body. body ≡ text.now ++ 10 ∷ []) }
+{
+    let mut bytes = Vec::from_slice(alloc, text.as_bytes())?;
+    bytes.push(b'\n')?;
+    Ok(Bytes::wrap(bytes))
 }
 
 fn page(alloc: Global, path: &str, text: &str) -> Result<UploadedPage, AllocError>
@@ -76,7 +92,8 @@ fn upload_command(alloc: Global) -> Result<Command, AllocError>
 
 /// Makes the sample project.
 fn make_project<S: Alter>(alloc: Global, desk: &mut Desk<S>) -> Result<Answer, Refusal>
-    ensures step { IsHonest S.Store desk.new.tables → IsStep (world S.Store desk.old) (world S.Store desk.new) make_sample result }
+    ensures step { IsHonest S.Store desk.new.tables
+        → IsStep (world S.Store desk.old) (world S.Store desk.new) make_sample result }
     ensures was { IsHonest S.Store desk.new.tables → IsHonest S.Store desk.old.tables }
 {
     let command = make_command(alloc)?;
@@ -85,7 +102,8 @@ fn make_project<S: Alter>(alloc: Global, desk: &mut Desk<S>) -> Result<Answer, R
 
 /// Pushes its branch.
 fn push_branch<S: Alter>(alloc: Global, desk: &mut Desk<S>) -> Result<Answer, Refusal>
-    ensures step { IsHonest S.Store desk.new.tables → IsStep (world S.Store desk.old) (world S.Store desk.new) push_sample result }
+    ensures step { IsHonest S.Store desk.new.tables
+        → IsStep (world S.Store desk.old) (world S.Store desk.new) push_sample result }
     ensures was { IsHonest S.Store desk.new.tables → IsHonest S.Store desk.old.tables }
 {
     let command = push_command(alloc)?;
@@ -94,20 +112,39 @@ fn push_branch<S: Alter>(alloc: Global, desk: &mut Desk<S>) -> Result<Answer, Re
 
 /// Stores its pages.
 fn store_pages<S: Alter>(alloc: Global, desk: &mut Desk<S>) -> Result<Answer, Refusal>
-    ensures step { IsHonest S.Store desk.new.tables → IsStep (world S.Store desk.old) (world S.Store desk.new) upload_sample result }
+    ensures step { IsHonest S.Store desk.new.tables
+        → IsStep (world S.Store desk.old) (world S.Store desk.new) upload_sample result }
     ensures was { IsHonest S.Store desk.new.tables → IsHonest S.Store desk.old.tables }
 {
     let command = upload_command(alloc)?;
     desk.apply(alloc, &command)
 }
 
-/// Makes the sample project, pushes its branch and stores its pages: three commands. The first refusal is answered, and what was done before it stays.
+/// Makes the sample project, pushes its branch and stores its pages: three commands. The first refusal is answered: what was done
+/// before it stays, and the rest is not done.
 pub fn fill_sample<S: Alter>(alloc: Global, desk: &mut Desk<S>) -> Result<(), Refusal>
-    ensures fills { IsHonest S.Store desk.new.tables → Fills (world S.Store desk.old) (world S.Store desk.new) result }
+    ensures fills { IsHonest S.Store desk.new.tables
+        → Fills (world S.Store desk.old) (world S.Store desk.new) result }
     ensures was { IsHonest S.Store desk.new.tables → IsHonest S.Store desk.old.tables }
 {
     make_project(alloc, desk)?;
     push_branch(alloc, desk)?;
     store_pages(alloc, desk)?;
     Ok(())
+}
+
+/// A desk in memory, with no project.
+pub fn empty_desk(alloc: Global) -> Result<Desk<MemStore>, Fault>
+    ensures { IfOk result (λ desk. world over_memory desk ≡ empty) }
+{
+    Ok(Desk::over(Tables::in_memory(alloc)?))
+}
+
+/// A desk in memory, with the sample project alone.
+pub fn sample_desk(alloc: Global) -> Result<Desk<MemStore>, Refusal>
+    ensures { IfOk result (λ desk. world over_memory desk ≡ sample_world) }
+{
+    let mut desk = empty_desk(alloc)?;
+    fill_sample(alloc, &mut desk)?;
+    Ok(desk)
 }

@@ -2,24 +2,15 @@
 #![tactic(auto)]
 
 mod answer;
-mod app;
 mod filling;
-mod lines;
-mod outcomes;
-mod reading;
-mod sample;
-mod script;
 
 use answer::answer_sample;
-use app::docs_command;
 use clap::Error;
-use dh_desk::Desk;
+use dh_lines::{LineFault, Order, docs_command, line_of};
+use dh_ports::Port;
 use dh_reply::Fault;
-use dh_reply::ports::Port;
-use dh_tables::Tables;
-use lines::{LineFault, Order, line_of};
-use script::run_script;
-use sqlite::MemStore;
+use dh_script::run_script;
+use filling::empty_desk;
 use std::alloc::Global;
 use std::io::{self, ErrorKind};
 use std::process::ExitCode;
@@ -50,15 +41,6 @@ fn check_words(alloc: Global, words: &[String]) -> Result<(), Error> {
     let command = docs_command(alloc)?;
     let _matches = command.try_get_matches_from(words)?;
     Ok(())
-}
-
-fn empty_desk(alloc: Global) -> Result<Desk<MemStore>, Fault> {
-    let tables = Tables::in_memory(alloc)?;
-    if tables.is_settled() {
-        Ok(Desk::over(tables))
-    } else {
-        Err(Fault::Store)
-    }
 }
 
 /// Tells a fault on standard error, and gives the exit status. Where standard error fails too, the status is all there is.
@@ -133,6 +115,3 @@ fn main(rt: HostRuntime) -> ExitCode {
         }
     }
 }
-
-#[cfg(test)]
-mod tests;

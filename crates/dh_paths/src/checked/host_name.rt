@@ -1,3 +1,5 @@
+//! The name of a host.
+
 ghost use Rattle.std.specs.Prelude.{◌≡◌, IfOk, IsTrue};
 ghost use Rattle.std.specs.List.{list_all};
 ghost use Rattle.dh_paths.specs.Texts.{is_host_byte, is_host_name, Parses};
@@ -20,14 +22,14 @@ fn passes_host_name(text: &str) -> bool
 {
     let bytes = text.as_bytes();
     1 <= bytes.len()
-        && bytes.len() <= 253
+        && bytes.len() <= HostName::MOST_BYTES
         && all_host(bytes)
         && lower_or_digit(first_of(bytes))
         && lower_or_digit(last_of(bytes))
 }
 
 /// The name of a host, as `docs.example.org`: 1 to 253 bytes, `a-z 0-9 . -`, the first and the last a letter or digit.
-#[derive(Drop)]
+#[derive(Debug, Drop)]
 pub struct HostName {
     inner: String,
 }
@@ -44,6 +46,10 @@ impl Model for HostName {
 }
 
 impl HostName {
+    /// The most bytes that it has.
+    pub const MOST_BYTES: usize = 253;
+
+    /// The text as a value of this type. `BadHost` where it is none.
     pub fn parse(alloc: Global, text: &str) -> Result<HostName, TextFault>
         ensures { Parses is_host_name TextFault.BadHost text.now result }
     {
@@ -55,6 +61,7 @@ impl HostName {
         })
     }
 
+    /// The text.
     pub fn as_str(&self) -> &str
         ensures text { result.now ≡ self.now }
         ensures checked { IsTrue (is_host_name self.now) }
@@ -62,6 +69,7 @@ impl HostName {
         self.inner.as_str()
     }
 
+    /// The same text again.
     pub fn try_copy(&self, alloc: Global) -> Result<HostName, AllocError>
         ensures { IfOk result (λ copy. copy ≡ self.now) }
     {

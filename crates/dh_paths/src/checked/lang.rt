@@ -1,3 +1,5 @@
+//! A language.
+
 ghost use Rattle.std.specs.Prelude.{◌≡◌, IfOk, IsTrue};
 ghost use Rattle.std.specs.List.{list_all};
 ghost use Rattle.dh_paths.specs.Texts.{is_lang_byte, is_lang, Parses};
@@ -20,7 +22,7 @@ fn passes_lang(text: &str) -> bool
 {
     let bytes = text.as_bytes();
     2 <= bytes.len()
-        && bytes.len() <= 16
+        && bytes.len() <= Lang::MOST_BYTES
         && all_lang(bytes)
         && matches!(first_of(bytes), b'a'..=b'z')
         && last_of(bytes) != b'-'
@@ -28,7 +30,7 @@ fn passes_lang(text: &str) -> bool
 }
 
 /// A language, as `en` or `pt-br`: 2 to 16 bytes, `a-z 0-9 -`, the first a letter, the last not `-`. It is not `page`, which addresses use.
-#[derive(Drop)]
+#[derive(Debug, Drop)]
 pub struct Lang {
     inner: String,
 }
@@ -45,6 +47,10 @@ impl Model for Lang {
 }
 
 impl Lang {
+    /// The most bytes that it has.
+    pub const MOST_BYTES: usize = 16;
+
+    /// The text as a value of this type. `BadLang` where it is none.
     pub fn parse(alloc: Global, text: &str) -> Result<Lang, TextFault>
         ensures { Parses is_lang TextFault.BadLang text.now result }
     {
@@ -56,6 +62,7 @@ impl Lang {
         })
     }
 
+    /// The text.
     pub fn as_str(&self) -> &str
         ensures text { result.now ≡ self.now }
         ensures checked { IsTrue (is_lang self.now) }
@@ -63,6 +70,7 @@ impl Lang {
         self.inner.as_str()
     }
 
+    /// The same text again.
     pub fn try_copy(&self, alloc: Global) -> Result<Lang, AllocError>
         ensures { IfOk result (λ copy. copy ≡ self.now) }
     {

@@ -1,3 +1,5 @@
+//! The path of a page in its version.
+
 ghost use Rattle.std.specs.Prelude.{◌≡◌, IfOk, IsTrue};
 ghost use Rattle.std.specs.List.{list_all};
 ghost use Rattle.dh_paths.specs.Texts.{is_segment, segments, is_page_path, Parses};
@@ -23,11 +25,14 @@ fn passes_page_path(text: &str) -> bool
     ensures { result ≡ is_page_path text.now }
 {
     let bytes = text.as_bytes();
-    1 <= bytes.len() && bytes.len() <= 512 && all_no_control(bytes) && all_segments(bytes)
+    1 <= bytes.len()
+        && bytes.len() <= PagePath::MOST_BYTES
+        && all_no_control(bytes)
+        && all_segments(bytes)
 }
 
 /// The path of a page in its version, as `guide/index.html`: 1 to 512 bytes, no control byte, no empty part between slashes and none that is `.` or `..`.
-#[derive(Drop)]
+#[derive(Debug, Drop)]
 pub struct PagePath {
     inner: String,
 }
@@ -44,6 +49,10 @@ impl Model for PagePath {
 }
 
 impl PagePath {
+    /// The most bytes that it has.
+    pub const MOST_BYTES: usize = 512;
+
+    /// The text as a value of this type. `BadPath` where it is none.
     pub fn parse(alloc: Global, text: &str) -> Result<PagePath, TextFault>
         ensures { Parses is_page_path TextFault.BadPath text.now result }
     {
@@ -55,6 +64,7 @@ impl PagePath {
         })
     }
 
+    /// The text.
     pub fn as_str(&self) -> &str
         ensures text { result.now ≡ self.now }
         ensures checked { IsTrue (is_page_path self.now) }
@@ -62,6 +72,7 @@ impl PagePath {
         self.inner.as_str()
     }
 
+    /// The same text again.
     pub fn try_copy(&self, alloc: Global) -> Result<PagePath, AllocError>
         ensures { IfOk result (λ copy. copy ≡ self.now) }
     {

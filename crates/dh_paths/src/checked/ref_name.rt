@@ -1,3 +1,5 @@
+//! The name of a branch or a tag.
+
 ghost use Rattle.std.specs.Prelude.{◌≡◌, IfOk, IsTrue};
 ghost use Rattle.dh_paths.specs.Texts.{is_ref_name, Parses};
 
@@ -10,11 +12,11 @@ fn passes_ref_name(text: &str) -> bool
     ensures { result ≡ is_ref_name text.now }
 {
     let bytes = text.as_bytes();
-    1 <= bytes.len() && bytes.len() <= 255 && all_no_control(bytes)
+    1 <= bytes.len() && bytes.len() <= RefName::MOST_BYTES && all_no_control(bytes)
 }
 
 /// The name of a branch or a tag as its repository has it: 1 to 255 bytes with no control byte.
-#[derive(Drop)]
+#[derive(Debug, Drop)]
 pub struct RefName {
     inner: String,
 }
@@ -31,6 +33,10 @@ impl Model for RefName {
 }
 
 impl RefName {
+    /// The most bytes that it has.
+    pub const MOST_BYTES: usize = 255;
+
+    /// The text as a value of this type. `BadRef` where it is none.
     pub fn parse(alloc: Global, text: &str) -> Result<RefName, TextFault>
         ensures { Parses is_ref_name TextFault.BadRef text.now result }
     {
@@ -42,6 +48,7 @@ impl RefName {
         })
     }
 
+    /// The text.
     pub fn as_str(&self) -> &str
         ensures text { result.now ≡ self.now }
         ensures checked { IsTrue (is_ref_name self.now) }
@@ -49,6 +56,7 @@ impl RefName {
         self.inner.as_str()
     }
 
+    /// The same text again.
     pub fn try_copy(&self, alloc: Global) -> Result<RefName, AllocError>
         ensures { IfOk result (λ copy. copy ≡ self.now) }
     {

@@ -1,3 +1,5 @@
+//! The name of a version in addresses.
+
 ghost use Rattle.std.specs.Prelude.{◌≡◌, IfOk, IsTrue};
 ghost use Rattle.std.specs.List.{list_all};
 ghost use Rattle.dh_paths.specs.Texts.{is_slug_byte, is_slug, Parses};
@@ -17,11 +19,14 @@ fn passes_slug(text: &str) -> bool
     ensures { result ≡ is_slug text.now }
 {
     let bytes = text.as_bytes();
-    1 <= bytes.len() && bytes.len() <= 128 && all_slug(bytes) && lower_or_digit(first_of(bytes))
+    1 <= bytes.len()
+        && bytes.len() <= Slug::MOST_BYTES
+        && all_slug(bytes)
+        && lower_or_digit(first_of(bytes))
 }
 
 /// The name of a version in addresses: 1 to 128 bytes, `a-z 0-9 . _ -`, the first a letter or digit.
-#[derive(Drop)]
+#[derive(Debug, Drop)]
 pub struct Slug {
     inner: String,
 }
@@ -38,6 +43,10 @@ impl Model for Slug {
 }
 
 impl Slug {
+    /// The most bytes that it has.
+    pub const MOST_BYTES: usize = 128;
+
+    /// The text as a value of this type. `BadRef` where it is none.
     pub fn parse(alloc: Global, text: &str) -> Result<Slug, TextFault>
         ensures { Parses is_slug TextFault.BadRef text.now result }
     {
@@ -49,6 +58,7 @@ impl Slug {
         })
     }
 
+    /// The text.
     pub fn as_str(&self) -> &str
         ensures text { result.now ≡ self.now }
         ensures checked { IsTrue (is_slug self.now) }
@@ -56,6 +66,7 @@ impl Slug {
         self.inner.as_str()
     }
 
+    /// The same text again.
     pub fn try_copy(&self, alloc: Global) -> Result<Slug, AllocError>
         ensures { IfOk result (λ copy. copy ≡ self.now) }
     {

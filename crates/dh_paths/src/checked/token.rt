@@ -1,3 +1,5 @@
+//! Passes and keys.
+
 ghost use Rattle.std.specs.Prelude.{◌≡◌, IfOk, IsTrue};
 ghost use Rattle.std.specs.List.{list_all};
 ghost use Rattle.dh_paths.specs.Texts.{is_token_byte, is_token, Parses};
@@ -18,11 +20,11 @@ fn passes_token(text: &str) -> bool
     ensures { result ≡ is_token text.now }
 {
     let bytes = text.as_bytes();
-    1 <= bytes.len() && bytes.len() <= 64 && all_token(bytes)
+    1 <= bytes.len() && bytes.len() <= Token::MOST_BYTES && all_token(bytes)
 }
 
 /// A pass or a key: 1 to 64 bytes, `A-Z a-z 0-9 - . _ ~`.
-#[derive(Drop)]
+#[derive(Debug, Drop)]
 pub struct Token {
     inner: String,
 }
@@ -39,6 +41,10 @@ impl Model for Token {
 }
 
 impl Token {
+    /// The most bytes that it has.
+    pub const MOST_BYTES: usize = 64;
+
+    /// The text as a value of this type. `BadToken` where it is none.
     pub fn parse(alloc: Global, text: &str) -> Result<Token, TextFault>
         ensures { Parses is_token TextFault.BadToken text.now result }
     {
@@ -50,6 +56,7 @@ impl Token {
         })
     }
 
+    /// The text.
     pub fn as_str(&self) -> &str
         ensures text { result.now ≡ self.now }
         ensures checked { IsTrue (is_token self.now) }
@@ -57,6 +64,7 @@ impl Token {
         self.inner.as_str()
     }
 
+    /// The same text again.
     pub fn try_copy(&self, alloc: Global) -> Result<Token, AllocError>
         ensures { IfOk result (λ copy. copy ≡ self.now) }
     {

@@ -1,12 +1,12 @@
 use Rattle.std.proofs.Common.{◌≡◌, ◌∙◌, ◌∷◌, sym, ap, subst, Ok, inl, inr}
 use Rattle.dh_rows.specs.Calls.{seen}
-use Rattle.dh_tables.specs.declared.answer.Answer.TheVariants.{Done}
+use Rattle.dh_world.specs.declared.answer.Answer.TheVariants.{Done}
 use Rattle.dh_tables.specs.Lists.{Lists, world_of}
 use Rattle.dh_tables.specs.Tables.{lists_of}
-use Rattle.dh_desk.specs.declared.command.Command.TheVariants.{SetDefault}
+use Rattle.dh_world.specs.declared.command.Command.TheVariants.{SetDefault}
 use Rattle.dh_desk.specs.Defaults.{defaults_but, with_defaults}
 use Rattle.dh_desk.specs.Desk.{AreSound}
-use Rattle.dh_desk.specs.Step.{turn}
+use Rattle.dh_world.specs.Step.{turn}
 use Rattle.dh_desk.proofs.DefaultLemmas.{default_refused, default_set, turns_checked}
 use Rattle.dh_desk.proofs.defaults.make_default.Goals as goal
 

@@ -1,12 +1,12 @@
 use Rattle.std.proofs.Common.{◌≡◌, ◌∙◌, sym, ap, subst, Ok}
 use Rattle.dh_rows.specs.Calls.{seen}
-use Rattle.dh_tables.specs.declared.answer.Answer.TheVariants.{Done}
+use Rattle.dh_world.specs.declared.answer.Answer.TheVariants.{Done}
 use Rattle.dh_tables.specs.Lists.{Lists, world_of}
 use Rattle.dh_tables.specs.Tables.{lists_of}
-use Rattle.dh_desk.specs.declared.command.Command.TheVariants.{Gone}
+use Rattle.dh_world.specs.declared.command.Command.TheVariants.{Gone}
 use Rattle.dh_desk.specs.Defaults.{defaults_but, with_defaults, without_records}
 use Rattle.dh_desk.specs.Desk.{AreSound}
-use Rattle.dh_desk.specs.Step.{turn}
+use Rattle.dh_world.specs.Step.{turn}
 use Rattle.dh_desk.proofs.PropertyLemmas.{turns_missing}
 use Rattle.dh_desk.proofs.DefaultLemmas.{none_gone, version_gone}
 use Rattle.dh_desk.proofs.defaults.make_gone.Goals as goal

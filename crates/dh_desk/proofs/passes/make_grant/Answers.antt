@@ -1,12 +1,12 @@
 use Rattle.std.proofs.Common.{◌≡◌, ◌∙◌, sym, ap, subst, Ok, Some}
 use Rattle.dh_rows.specs.Calls.{seen}
-use Rattle.dh_tables.specs.declared.answer.Answer.TheVariants.{Done}
+use Rattle.dh_world.specs.declared.answer.Answer.TheVariants.{Done}
 use Rattle.dh_tables.specs.Lists.{Lists, world_of}
 use Rattle.dh_tables.specs.Tables.{lists_of}
-use Rattle.dh_desk.specs.declared.command.Command.TheVariants.{Grant}
+use Rattle.dh_world.specs.declared.command.Command.TheVariants.{Grant}
 use Rattle.dh_desk.specs.Desk.{AreSound}
 use Rattle.dh_desk.specs.Passes.{missing_for}
-use Rattle.dh_desk.specs.Step.{turn}
+use Rattle.dh_world.specs.Step.{turn}
 use Rattle.dh_desk.proofs.PassLemmas.{turns_either, none_granted, grant_made, with_grant}
 use Rattle.dh_desk.proofs.passes.make_grant.Goals as goal
 

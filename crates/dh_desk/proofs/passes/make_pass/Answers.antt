@@ -1,14 +1,14 @@
 use Rattle.std.proofs.Common.{◌≡◌, ◌∙◌, ◌<◌, ◌≤◌, sym, ap, subst, Ok, Err, inr, filter, length}
 use Rattle.dh_rows.specs.Calls.{seen}
 use Rattle.dh_rows.specs.Keyed.{IsFreeKey}
-use Rattle.dh_tables.specs.declared.answer.Answer.TheVariants.{Done}
+use Rattle.dh_world.specs.declared.answer.Answer.TheVariants.{Done}
 use Rattle.dh_tables.specs.Codings as coding
 use Rattle.dh_tables.specs.Lists.{Lists, world_of, is_pass_of}
 use Rattle.dh_tables.specs.Tables.{lists_of}
-use Rattle.dh_desk.specs.declared.command.Command.TheVariants.{AddPass}
+use Rattle.dh_world.specs.declared.command.Command.TheVariants.{AddPass}
 use Rattle.dh_desk.specs.Desk.{AreSound}
 use Rattle.dh_desk.specs.Passes.{asked_pass}
-use Rattle.dh_desk.specs.Step.{turn}
+use Rattle.dh_world.specs.Step.{turn}
 use Rattle.dh_desk.proofs.PassLemmas.{turns_either, unasked_added, pass_taken, passes_full, pass_is_free, pass_made, with_pass}
 use Rattle.dh_desk.proofs.passes.make_pass.Goals as goal
 

@@ -1,12 +1,12 @@
 use Rattle.std.proofs.Common.{◌≡◌, ◌∙◌, sym, ap, subst, Ok, Err, true, false, inr}
 use Rattle.dh_rows.specs.Calls.{seen}
-use Rattle.dh_tables.specs.declared.answer.Answer.TheVariants.{Done}
+use Rattle.dh_world.specs.declared.answer.Answer.TheVariants.{Done}
 use Rattle.dh_tables.specs.Lists.{Lists, world_of}
 use Rattle.dh_tables.specs.Tables.{lists_of}
-use Rattle.dh_desk.specs.declared.command.Command.TheVariants.{DropPass}
+use Rattle.dh_world.specs.declared.command.Command.TheVariants.{DropPass}
 use Rattle.dh_desk.specs.Desk.{AreSound}
 use Rattle.dh_desk.specs.Passes.{asked_pass}
-use Rattle.dh_desk.specs.Step.{turn}
+use Rattle.dh_world.specs.Step.{turn}
 use Rattle.dh_desk.proofs.PassLemmas.{turns_either, unasked_dropped, none_dropped, pass_dropped, without_pass, without_grants_by}
 use Rattle.dh_desk.proofs.passes.remove_pass.Goals as goal
 

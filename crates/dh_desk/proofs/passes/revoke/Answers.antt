@@ -3,8 +3,8 @@ use Rattle.dh_rows.specs.Calls.{seen, committed}
 use Rattle.dh_tables.specs.declared.records.HeldRow.{HeldRow}
 use Rattle.dh_tables.specs.Lists.{Lists}
 use Rattle.dh_tables.specs.Tables.{lists_of}
-use Rattle.dh_desk.specs.declared.command.Command.{Command}
-use Rattle.dh_desk.specs.declared.command.Command.TheVariants.{Revoke}
+use Rattle.dh_world.specs.declared.command.Command.{Command}
+use Rattle.dh_world.specs.declared.command.Command.TheVariants.{Revoke}
 use Rattle.dh_desk.specs.Desk.{Turns}
 use Rattle.dh_desk.proofs.Crashing.{ended_leaves, refused_after, worked_no_more}
 use Rattle.dh_desk.proofs.Turning.{steps_aside, stays, ended}

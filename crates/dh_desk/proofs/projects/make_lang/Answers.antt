@@ -1,13 +1,13 @@
 use Rattle.std.proofs.Common.{◌≡◌, ◌∙◌, sym, ap, subst, inr, find, filter, not, List, Ok, Err}
 use Rattle.dh_rows.specs.Keyed.{IsFreeKey, added}
 use Rattle.dh_rows.specs.Calls.{seen}
-use Rattle.dh_tables.specs.declared.answer.Answer.TheVariants.{Done}
+use Rattle.dh_world.specs.declared.answer.Answer.TheVariants.{Done}
 use Rattle.dh_tables.specs.declared.records.LangRow.{LangRow}
 use Rattle.dh_tables.specs.Codings as coding
 use Rattle.dh_tables.specs.Lists.{Lists, world_of, is_project, is_lang_of}
 use Rattle.dh_tables.specs.Tables.{lists_of}
-use Rattle.dh_desk.specs.declared.command.Command.TheVariants.{AddLang}
-use Rattle.dh_desk.specs.Step.{turn}
+use Rattle.dh_world.specs.declared.command.Command.TheVariants.{AddLang}
+use Rattle.dh_world.specs.Step.{turn}
 use Rattle.dh_desk.specs.Desk.{AreSound}
 use Rattle.dh_desk.specs.Places.{place_for}
 use Rattle.dh_desk.proofs.ProjectLemmas.{no_project_for, found_some, free_place, lang_made, lang_refused, lang_row}

@@ -1,13 +1,13 @@
 use Rattle.std.proofs.Common.{◌≡◌, ◌∙◌, sym, ap, subst, inr, find, Ok}
 use Rattle.dh_rows.specs.Keyed.{IsFreeKey, added}
 use Rattle.dh_rows.specs.Calls.{seen}
-use Rattle.dh_tables.specs.declared.answer.Answer.TheVariants.{Done}
+use Rattle.dh_world.specs.declared.answer.Answer.TheVariants.{Done}
 use Rattle.dh_tables.specs.declared.records.LangRow.{LangRow}
 use Rattle.dh_tables.specs.Codings as coding
 use Rattle.dh_tables.specs.Lists.{Lists, world_of, is_project}
 use Rattle.dh_tables.specs.Tables.{lists_of}
 use Rattle.dh_tables.proofs.KeyLemmas.{project_is_free}
-use Rattle.dh_desk.specs.Step.{turn}
+use Rattle.dh_world.specs.Step.{turn}
 use Rattle.dh_desk.specs.Desk.{AreSound}
 use Rattle.dh_desk.proofs.ProjectLemmas.{project_command, main_is_free, project_made, found_none, project_taken}
 use Rattle.dh_desk.proofs.Turning.{turns_aside}

@@ -3,8 +3,8 @@ use Rattle.dh_rows.specs.Calls.{seen, committed}
 use Rattle.dh_tables.specs.Lists.{Lists}
 use Rattle.dh_tables.specs.Tables.{lists_of}
 use Rattle.dh_tables.specs.declared.records.ProjectRow.{ProjectRow}
-use Rattle.dh_desk.specs.declared.command.Command.{Command}
-use Rattle.dh_desk.specs.declared.command.Command.TheVariants.{NewProject}
+use Rattle.dh_world.specs.declared.command.Command.{Command}
+use Rattle.dh_world.specs.declared.command.Command.TheVariants.{NewProject}
 use Rattle.dh_desk.specs.Desk.{AreSound, Turns}
 use Rattle.dh_desk.proofs.ProjectLemmas.{project_command}
 use Rattle.dh_desk.proofs.Crashing.{ended_leaves, refused_after, worked_no_more}

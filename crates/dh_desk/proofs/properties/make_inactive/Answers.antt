@@ -1,12 +1,12 @@
 use Rattle.std.proofs.Common.{◌≡◌, ◌∙◌, sym, ap, subst, Ok, false}
 use Rattle.dh_rows.specs.Calls.{seen}
-use Rattle.dh_tables.specs.declared.answer.Answer.TheVariants.{Done}
+use Rattle.dh_world.specs.declared.answer.Answer.TheVariants.{Done}
 use Rattle.dh_tables.specs.declared.records.VersionRow.{VersionRow}
 use Rattle.dh_tables.specs.Lists.{Lists, world_of}
 use Rattle.dh_tables.specs.Tables.{lists_of}
-use Rattle.dh_desk.specs.declared.command.Command.TheVariants.{Deactivate}
+use Rattle.dh_world.specs.declared.command.Command.TheVariants.{Deactivate}
 use Rattle.dh_desk.specs.Desk.{AreSound}
-use Rattle.dh_desk.specs.Step.{turn}
+use Rattle.dh_world.specs.Step.{turn}
 use Rattle.dh_desk.proofs.PropertyLemmas.{none_deactivated, deactivated, turns_missing, with_row, without}
 use Rattle.dh_desk.proofs.properties.make_inactive.Goals as goal
 

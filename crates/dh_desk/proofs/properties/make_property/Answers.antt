@@ -1,11 +1,11 @@
 use Rattle.std.proofs.Common.{◌≡◌, ◌∙◌, sym, ap, subst, Ok}
 use Rattle.dh_versions.specs.declared.version.Version.{Version}
 use Rattle.dh_rows.specs.Calls.{seen}
-use Rattle.dh_tables.specs.declared.answer.Answer.TheVariants.{Done}
+use Rattle.dh_world.specs.declared.answer.Answer.TheVariants.{Done}
 use Rattle.dh_tables.specs.Lists.{Lists, world_of}
 use Rattle.dh_tables.specs.Tables.{lists_of}
 use Rattle.dh_desk.specs.Desk.{AreSound}
-use Rattle.dh_desk.specs.Step.{turn}
+use Rattle.dh_world.specs.Step.{turn}
 use Rattle.dh_desk.specs.Versions.{setting}
 use Rattle.dh_desk.proofs.PropertyLemmas.{no_property, property_set, turns_missing, with_row}
 use Rattle.dh_desk.proofs.properties.make_property.Goals as goal

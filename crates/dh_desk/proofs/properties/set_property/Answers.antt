@@ -2,7 +2,7 @@ use Rattle.std.proofs.Common.{◌∙◌, ap, ap₂, subst}
 use Rattle.dh_rows.specs.Calls.{seen, committed}
 use Rattle.dh_tables.specs.Lists.{Lists}
 use Rattle.dh_tables.specs.Tables.{lists_of}
-use Rattle.dh_desk.specs.declared.command.Command.{Command}
+use Rattle.dh_world.specs.declared.command.Command.{Command}
 use Rattle.dh_desk.specs.Versions.{setting}
 use Rattle.dh_desk.proofs.PropertyLemmas.{setting_texts, setting_wrong}
 use Rattle.dh_desk.specs.Desk.{Turns}

@@ -3,8 +3,8 @@ use Rattle.dh_paths.specs.Slugs.{slug_from}
 use Rattle.dh_rows.specs.Calls.{seen, committed}
 use Rattle.dh_tables.specs.Lists.{Lists}
 use Rattle.dh_tables.specs.Tables.{lists_of}
-use Rattle.dh_desk.specs.declared.command.Command.{Command}
-use Rattle.dh_desk.specs.declared.command.Command.TheVariants.{Push}
+use Rattle.dh_world.specs.declared.command.Command.{Command}
+use Rattle.dh_world.specs.declared.command.Command.TheVariants.{Push}
 use Rattle.dh_desk.specs.declared.texts.PushParts.{PushParts}
 use Rattle.dh_desk.specs.Desk.{Turns}
 use Rattle.dh_desk.proofs.Crashing.{ended_leaves, refused_after, worked_no_more}

@@ -1,12 +1,12 @@
 use Rattle.std.proofs.Common.{◌≡◌, ◌∙◌, sym, subst, inr, IfOk}
 use Rattle.dh_rows.specs.Calls.{seen}
-use Rattle.dh_tables.specs.declared.answer.Answer.TheVariants.{Known}
-use Rattle.dh_tables.specs.World.{Text}
+use Rattle.dh_world.specs.declared.answer.Answer.TheVariants.{Known}
+use Rattle.dh_world.specs.World.{Text}
 use Rattle.dh_tables.specs.Lists.{Lists, project_of}
 use Rattle.dh_tables.specs.Tables.{lists_of}
 use Rattle.dh_tables.proofs.WorldLemmas.{branch_of, new_private_of}
-use Rattle.dh_desk.specs.declared.command.Command.TheVariants.{Push}
-use Rattle.dh_desk.specs.Changes.{made}
+use Rattle.dh_world.specs.declared.command.Command.TheVariants.{Push}
+use Rattle.dh_world.specs.Changes.{made}
 use Rattle.dh_desk.proofs.PushTurns.{turns_over, answered, with_made, taken_here, known_here, made_here}
 use Rattle.dh_desk.proofs.pushes.push_fresh.Goals as goal
 

@@ -1,7 +1,7 @@
 use Rattle.std.proofs.Common.{◌≡◌, List, ℕ, Option, IfOk, subst}
 use Rattle.dh_reply.specs.Replies.{reply_to}
 use Rattle.dh_tables.specs.Lists.{Lists, world_of}
-use Rattle.dh_tables.specs.Seen as caller
+use Rattle.dh_world.specs.Seen as caller
 use Rattle.dh_desk.proofs.reads.read.Goals as goal
 
 pub returns-clause-value : goal.returns-clause-value

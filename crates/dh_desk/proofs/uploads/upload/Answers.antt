@@ -4,9 +4,9 @@ use Rattle.dh_paths.specs.Texts.{is_page_path}
 use Rattle.dh_rows.specs.Calls.{seen, committed}
 use Rattle.dh_tables.specs.Lists.{Lists}
 use Rattle.dh_tables.specs.Tables.{lists_of}
-use Rattle.dh_desk.specs.declared.command.Command.{Command}
-use Rattle.dh_desk.specs.declared.command.Command.TheVariants.{Upload}
-use Rattle.dh_desk.specs.declared.pages.UploadedPage.{UploadedPage}
+use Rattle.dh_world.specs.declared.command.Command.{Command}
+use Rattle.dh_world.specs.declared.command.Command.TheVariants.{Upload}
+use Rattle.dh_world.specs.declared.pages.UploadedPage.{UploadedPage}
 use Rattle.dh_desk.specs.declared.texts.UploadParts.{UploadParts}
 use Rattle.dh_desk.specs.Desk.{Turns}
 use Rattle.dh_desk.proofs.Crashing.{ended_leaves, refused_after, worked_no_more}

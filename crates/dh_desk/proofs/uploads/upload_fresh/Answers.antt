@@ -3,11 +3,11 @@ use Rattle.std.specs.List.{list_any}
 use Rattle.std.proofs.lemmas.Bool.{not-true, not-false}
 use Rattle.std.specs.Str.{bytes_eq}
 use Rattle.dh_rows.specs.Calls.{seen}
-use Rattle.dh_tables.specs.declared.answer.Answer.TheVariants.{Stored}
+use Rattle.dh_world.specs.declared.answer.Answer.TheVariants.{Stored}
 use Rattle.dh_tables.specs.declared.records.LangRow.{LangRow}
 use Rattle.dh_tables.specs.Lists.{Lists, is_lang_of}
 use Rattle.dh_tables.specs.Tables.{lists_of}
-use Rattle.dh_desk.specs.declared.command.Command.TheVariants.{Upload}
+use Rattle.dh_world.specs.declared.command.Command.TheVariants.{Upload}
 use Rattle.dh_desk.specs.Rows.{with_upload}
 use Rattle.dh_desk.proofs.PushTurns.{turns_over}
 use Rattle.dh_desk.proofs.UploadTurns.{nowhere_here, inactive_here, unspoken_here, stored_here}

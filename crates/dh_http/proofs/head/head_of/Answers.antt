@@ -1,6 +1,6 @@
 use Rattle.std.proofs.Common.{List, ℕ, ap, ◌∙◌, codes}
 use Rattle.dh_http.specs.Fields.{NameAndValue, values_named, at_most_one}
-use Rattle.dh_http.proofs.Whole.{none_of, some_of}
+use Rattle.dh_http.proofs.Whole.{none_of, some_of, same_parts}
 use Rattle.dh_http.proofs.head.head_of.Goals as goal
 
 pub returns-in_default : goal.returns-in_default
@@ -12,11 +12,10 @@ returns c =
     let lines = λ (name : List ℕ) (p : List NameAndValue). at_most_one (values_named name p) in (
       found.0,
       some_of c.args.text.now _ found.0 c.requires found.1.reads,
-      record {
-        method = c.of.ensures ∙ found.1.method;
-        target = c.of-2.ensures ∙ found.1.path;
-        host = c.lines_named.ensures ∙ ap (lines (codes "Host")) found.1.fields;
-        pass = c.lines_named-2.ensures ∙ ap (lines (codes "Docs-Pass")) found.1.fields;
-        key = c.lines_named-3.ensures ∙ ap (lines (codes "Docs-Key")) found.1.fields;
-      },
+      same_parts _ _
+          (c.of.ensures ∙ found.1.method)
+          (c.of-2.ensures ∙ found.1.path)
+          (c.lines_named.ensures ∙ ap (lines (codes "Host")) found.1.fields)
+          (c.lines_named-2.ensures ∙ ap (lines (codes "Docs-Pass")) found.1.fields)
+          (c.lines_named-3.ensures ∙ ap (lines (codes "Docs-Key")) found.1.fields),
     )

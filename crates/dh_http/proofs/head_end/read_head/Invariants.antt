@@ -1,6 +1,7 @@
 use Rattle.std.proofs.Common.{◌≡◌, ◌-◌, ◌≤◌, min, false, length, take}
 use Rattle.std.specs.Io.KnownBytes.{Consumes}
-use Rattle.dh_reply.specs.Ports.{CountsUpTo}
+use Rattle.dh_ports.specs.Ports.{CountsUpTo}
+use Rattle.dh_http.specs.HeadEnd.{IsNeeded}
 use Rattle.dh_http.specs.Scan.{ScansTo, at_first}
 use Rattle.dh_http.proofs.head_end.read_head.Given as goal
 
@@ -8,6 +9,7 @@ abbrev pub invariant-pieces : goal.invariant-pieces
 invariant-pieces g l = record {
   seen : l.seen ≡ min (length l.intake.bytes.items) 16384;
   taken : Consumes (g.R.Source.left l.fn.source) (g.R.Source.left l.source) l.intake.bytes.items;
+  needed : IsNeeded (g.R.Source.left l.fn.source) (g.R.Source.left l.source) 4096;
   asked : CountsUpTo (g.R.Source.fills l.fn.source) (g.R.Source.fills l.source) l.intake.turns;
   few : l.intake.turns ≤ 100000;
   little : length l.intake.bytes.items ≤ 20480;

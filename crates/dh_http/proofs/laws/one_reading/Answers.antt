@@ -1,4 +1,4 @@
-use Rattle.dh_http.proofs.Asking.{one}
+use Rattle.dh_http.proofs.Requests.{one}
 use Rattle.dh_http.proofs.laws.one_reading.Goals as goal
 
 pub returns : goal.returns

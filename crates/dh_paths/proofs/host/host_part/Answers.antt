@@ -6,8 +6,8 @@ use Rattle.dh_paths.specs.declared.fault.TextFault.TheVariants.{BadHost}
 use Rattle.dh_paths.proofs.HostLemmas.{host_of-named}
 use Rattle.dh_paths.proofs.host.host_part.Goals as goal
 
-pub returns : goal.returns
-returns c =
+pub returns-clause-host : goal.returns-clause-host
+returns-clause-host c =
     let bytes = c.args.bytes.now in
     let len = c.len_of_name-len.result in
     let some : 0 < length bytes = grind (arith, nat_tests) in

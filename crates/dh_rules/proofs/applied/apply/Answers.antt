@@ -1,6 +1,7 @@
 use Rattle.std.proofs.Common.{rules, ◌≡◌, ◌+◌, Bool, true, ◌&&◌, sym, ◌∙◌, ap, subst}
 use Rattle.dh_rules.specs.Patterns.{is_match}
-use Rattle.dh_rules.specs.Rules.{same_kind, is_met}
+use Rattle.dh_versions.specs.Kinds.{same_kind}
+use Rattle.dh_rules.specs.Rules.{is_met}
 use Rattle.dh_rules.proofs.ApplyLemmas.{MarksAfter, rule_performed, rule_skipped}
 use Rattle.dh_rules.specs.declared.applied.Marks.{Marks}
 use Rattle.dh_rules.proofs.applied.apply.Goals as goal

@@ -5,7 +5,7 @@ use Rattle.dh_rules.proofs.pattern.found_in.Goals as goal
 
 pub returns-in_ok-matcher-in-Some-clause-value : goal.returns-in_ok-matcher-in-Some-clause-value
 returns-in_ok-matcher-in-Some-clause-value c =
-    let made = rw c.in-Some.is at c.in_ok-regex.ensures.read in
+    let made = rw c.in-Some.is at c.in_ok-regex.ensures in
     rw (c.is_match.ensures.found, c.in_ok-matcher-in-Some.ensures.pattern)
     (compiled_finds c.args.expression.now c.in-Some.regex made c.args.name.now (λ k. (c.type_inv.name k).fits))
 

@@ -43,8 +43,8 @@ loop-i-preserved c =
           ]
     ]
 
-pub returns : goal.returns
-returns c =
+pub returns-clause-value : goal.returns-clause-value
+returns-clause-value c =
     let end : c.loop-i.i ≡ length c.args.versions.now = omega arith in
     let places : c.map.result ≡ option_map (λ (p : ℕ × Numbers). p.0) c.loop-i.best = search rules in
     places ∙ best_is_stable c.args.versions.now c.loop-i.best (subst (λ (n : ℕ). IsBest c.args.versions.now n c.loop-i.best) end c.loop-i.invariant)

@@ -12,7 +12,7 @@ returns-clause-ok c = elim c.match-branch-2.branch [
       let seen : c.args.self.now.pattern ≡ Custom c.as_str-2.result.now = search rules in
       let same : c.as_str.result.now ≡ c.as_str-2.result.now = search rules in
       let short : length c.as_str-2.result.now ≤ 200 = omega (arith, ap length same) in
-      let made = rw w.in-Some.is at c.in_ok-compiled.ensures.read in
+      let made = rw w.in-Some.is at c.in_ok-compiled.ensures in
       rw w.result-is (subst (λ (p : Pattern). IsTrue (is_allowed p)) (sym seen) (allowed_if_compiled c.as_str-2.result.now w.in-Some.field-0 short made))
   | in-None w ↦ rw w.result-is tt
 ]

@@ -1,0 +1,5 @@
+pub mod Planning
+pub mod PushPlans
+pub mod UploadPlans
+pub mod LanguagePlans
+pub mod DefaultPlans

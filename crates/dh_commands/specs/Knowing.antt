@@ -1,0 +1,41 @@
+-- What was found of a project, and plans that follow from it.
+use Rattle.std.specs.Prelude.{◌≡◌, false, if◌then◌else◌, [], Some, Result, IfSome}
+use Rattle.std.specs.Option.{option_and_then, option_map_or}
+use Rattle.std.specs.FinMap.{get, contains_key, len}
+use Rattle.dh_paths.specs.Slugs.{slug_from}
+use Rattle.dh_world.specs.Changes.{change}
+use Rattle.dh_world.specs.World.{Text, Project}
+use Rattle.dh_world.specs.declared.refusal.Refusal.{Refusal}
+use Rattle.dh_commands.specs.Commands.{command_of}
+use Rattle.dh_commands.specs.Edits.{Plans}
+use Rattle.dh_commands.specs.Planned.{Planned}
+use Rattle.dh_commands.specs.Questions.{Asked, asked}
+use Rattle.dh_commands.specs.declared.checked.CheckedChange.{CheckedChange}
+use Rattle.dh_commands.specs.declared.facts.Facts.{Facts}
+use Rattle.dh_commands.specs.declared.facts.ProjectSettings.{ProjectSettings}
+
+-- the settings are this project's
+pub record HasSettings (p : Project) (s : ProjectSettings) : Type 0 where
+  pub branch : p.branch ≡ s.branch
+  pub new_private : p.new_private ≡ s.new_private
+  pub wkey : p.wkey ≡ s.wkey
+
+-- the answers to these questions are this project's; what is not asked is empty
+pub record Answers (q : Asked) (f : Facts) (p : Project) : Type 0 where
+  pub version : option_and_then (get p.versions) q.version ≡ f.version
+  -- the version has the slug that was asked for, which comes from its name
+  pub named : IfSome f.version (λ v. (Some v.slug ≡ q.version) × (slug_from v.name ≡ Some v.slug))
+  pub first_answer : option_and_then (get p.used) q.retry_key ≡ f.first_answer
+  pub languages : (if q.languages then p.languages else []) ≡ f.languages.items
+  pub defaults : (if q.defaults then p.defaults else []) ≡ f.defaults.items
+  pub has_pass : option_map_or (contains_key p.passes) q.pass false ≡ f.has_pass
+  pub pass_count : (if q.pass_count then len p.passes else 0) ≡ f.pass_count
+
+-- the facts are this project's, as far as the command asks for them
+pub record Knows (c : CheckedChange) (f : Facts) (p : Project) : Type 0 where
+  pub settings : HasSettings p f.settings
+  pub answers : Answers (asked c f.settings) f p
+
+-- The result is the plan of the command's change of each project that has these facts, or the change's refusal.
+abbrev pub Decides : CheckedChange → Facts → Result Planned Refusal → Type 0
+Decides c f r = (host : Text) (p : Project) → Knows c f p → Plans p (change (command_of host c) p) r

@@ -1,0 +1,88 @@
+//! Commands whose texts are values of their types.
+ghost use Rattle.std.specs.Prelude.{◌≡◌, ◌≤◌, Some, length};
+ghost use Rattle.std.proofs.Props.{props};
+ghost use Rattle.dh_paths.specs.Slugs.{slug_from};
+
+use crate::facts::ProjectSettings;
+use dh_paths::{HostName, Lang, PagePath, RefName, Slug, Token};
+use dh_versions::Kind;
+use dh_world::{Property, UploadedPage};
+use std::marker::Model;
+
+/// A project to be made.
+#[derive(Drop)]
+pub struct NewProject {
+    /// The main language, and for now the only one.
+    pub lang: Lang,
+    pub settings: ProjectSettings,
+}
+
+/// A push of a branch or tag.
+#[derive(Drop)]
+pub struct CheckedPush {
+    pub wkey: Token,
+    /// The retry key.
+    pub key: Token,
+    pub kind: Kind,
+    pub name: RefName,
+    /// The slug that the name has.
+    pub slug: Slug,
+    ghost named: { slug_from name ≡ Some slug } by { Prim.hlevel props },
+}
+
+/// A page of an upload, whose body stays where the command has it. Contracts see the page.
+#[derive(Drop)]
+pub struct CheckedPage<'c> {
+    pub path: PagePath,
+    pub page: &'c UploadedPage,
+}
+
+impl<'c> Model for CheckedPage<'c> {
+    ghost use Rattle.std.specs.Prelude.{◌≡◌};
+    ghost use Rattle.dh_world.specs.declared.pages.UploadedPage.{UploadedPage};
+
+    ghost Value = { UploadedPage };
+
+    ghost view = { λ x. x.page.now };
+
+    ghost invariant = { λ x. x.path ≡ x.page.now.path };
+}
+
+/// An upload of pages of a version in a language.
+#[derive(Drop)]
+pub struct CheckedUpload<'c> {
+    pub wkey: Token,
+    /// The retry key.
+    pub key: Token,
+    pub slug: Slug,
+    pub lang: Lang,
+    /// Whether the pages that are there are removed first.
+    pub replace: bool,
+    pub pages: Vec<CheckedPage<'c>>,
+    ghost few: { length pages.items ≤ 256 },
+}
+
+/// What a command asks of the project of its host.
+#[derive(Drop)]
+pub enum CheckedChange<'c> {
+    NewProject(NewProject),
+    AddLang { lang: Lang },
+    Push(CheckedPush),
+    Upload(CheckedUpload<'c>),
+    /// Activate, Hide, Unhide, Publish and MakePrivate.
+    SetProperty { slug: Slug, property: Property },
+    Deactivate { slug: Slug },
+    Gone { slug: Slug },
+    SetDefault { name: Slug },
+    AddPass { pass: Token },
+    DropPass { pass: Token },
+    Grant { pass: Token, slug: Slug },
+    Revoke { pass: Token, slug: Slug },
+}
+
+/// A command whose texts are right. The pages of an upload are borrowed from the command itself.
+#[derive(Drop)]
+pub struct CheckedCommand<'c> {
+    pub host: HostName,
+    pub change: CheckedChange<'c>,
+}

@@ -1,0 +1,34 @@
+//! What is known of a project.
+use dh_paths::{Lang, RefName, Slug, Token};
+use dh_versions::Version;
+use dh_world::Answer;
+
+/// A project's own parts, without its lists.
+#[derive(Drop)]
+pub struct ProjectSettings {
+    /// The name of the default branch.
+    pub branch: RefName,
+    /// Whether a new version is private.
+    pub new_private: bool,
+    /// The key that pushes and uploads carry.
+    pub wkey: Token,
+}
+
+/// What was found of the project of a command: the answers to its questions. Where it does not ask,
+/// there is none: `None`, an empty list, false or 0.
+#[derive(Drop)]
+pub struct Facts {
+    pub settings: ProjectSettings,
+    /// The version with the slug that was asked for, where it is there.
+    pub version: Option<Version>,
+    /// The first answer to the retry key.
+    pub first_answer: Option<Answer>,
+    /// The main one first.
+    pub languages: Vec<Lang>,
+    /// Slugs and names of aliases, the newest first.
+    pub defaults: Vec<Slug>,
+    /// Whether the project has the pass.
+    pub has_pass: bool,
+    /// How many passes the project has.
+    pub pass_count: usize,
+}

@@ -1,0 +1,71 @@
+//! Passes, and the versions that they hold.
+ghost use Rattle.std.specs.Prelude.{◌≡◌};
+ghost use Rattle.dh_commands.specs.Knowing.{Decides};
+ghost use Rattle.dh_commands.specs.Plans.{missing_for_grant};
+
+use crate::checked::CheckedChange;
+use crate::edits::Edit;
+use crate::facts::Facts;
+use crate::plan::Plan;
+use dh_paths::{Slug, Token};
+use dh_world::{Answer, Refusal};
+use std::alloc::Global;
+
+/// The most passes of a project.
+const MOST_PASSES: usize = 1000;
+
+/// Adds a pass that is not there, where there is room.
+pub fn add_pass<'c>(alloc: Global, pass: Token, facts: Facts) -> Result<Plan<'c>, Refusal>
+    ensures { Decides (CheckedChange.AddPass pass) facts result }
+{
+    if facts.has_pass {
+        return Err(Refusal::PassTaken);
+    }
+    if facts.pass_count >= MOST_PASSES {
+        return Err(Refusal::TooMany);
+    }
+    Ok(Plan::one(alloc, Edit::AddPass(pass), Answer::Done)?)
+}
+
+/// Removes a pass that is there, with its grants.
+pub fn drop_pass<'c>(alloc: Global, pass: Token, facts: Facts) -> Result<Plan<'c>, Refusal>
+    ensures { Decides (CheckedChange.DropPass pass) facts result }
+{
+    if !facts.has_pass {
+        return Err(Refusal::NoPass);
+    }
+    Ok(Plan::one(alloc, Edit::RemovePass(pass), Answer::Done)?)
+}
+
+/// What a grant lacks: its version, or its pass.
+fn missing(facts: &Facts) -> Option<Refusal>
+    ensures { result ≡ missing_for_grant facts.now.version facts.now.has_pass }
+{
+    if facts.version.is_none() {
+        return Some(Refusal::NoVersion);
+    }
+    if !facts.has_pass {
+        return Some(Refusal::NoPass);
+    }
+    None
+}
+
+/// Adds a grant, where its version and its pass are there.
+pub fn grant<'c>(alloc: Global, pass: Token, slug: Slug, facts: Facts) -> Result<Plan<'c>, Refusal>
+    ensures { Decides (CheckedChange.Grant pass slug) facts result }
+{
+    if let Some(refusal) = missing(&facts) {
+        return Err(refusal);
+    }
+    Ok(Plan::one(alloc, Edit::Grant { pass, slug }, Answer::Done)?)
+}
+
+/// Removes a grant, where its version and its pass are there.
+pub fn revoke<'c>(alloc: Global, pass: Token, slug: Slug, facts: Facts) -> Result<Plan<'c>, Refusal>
+    ensures { Decides (CheckedChange.Revoke pass slug) facts result }
+{
+    if let Some(refusal) = missing(&facts) {
+        return Err(refusal);
+    }
+    Ok(Plan::one(alloc, Edit::Revoke { pass, slug }, Answer::Done)?)
+}

@@ -1,0 +1,50 @@
+//! New projects, and their languages.
+ghost use Rattle.std.specs.Prelude.{◌≡◌};
+ghost use Rattle.std.specs.List.{list_any};
+ghost use Rattle.std.specs.Str.{bytes_eq};
+ghost use Rattle.dh_commands.specs.Knowing.{Decides};
+ghost use Rattle.dh_commands.specs.Plans.{Opens};
+
+use crate::checked::{CheckedChange, NewProject};
+use crate::edits::Edit;
+use crate::facts::Facts;
+use crate::plan::Plan;
+use dh_paths::Lang;
+use dh_world::{Answer, Refusal};
+use std::alloc::Global;
+
+/// The most languages of a project.
+const MOST_LANGUAGES: usize = 30;
+
+/// The project that a command makes where its host has none.
+pub fn open(change: CheckedChange<'_>) -> Result<NewProject, Refusal>
+    ensures { Opens change.entry result }
+{
+    match change {
+        CheckedChange::NewProject(project) => Ok(project),
+        _ => Err(Refusal::NoProject),
+    }
+}
+
+/// Whether a language is one of these.
+pub fn is_among(languages: &[Lang], lang: &Lang) -> bool
+    ensures { result ≡ list_any (λ l. bytes_eq l lang.now) languages.now }
+{
+    languages.iter().any(|l| l.as_str() == lang.as_str())
+}
+
+/// Adds a language after the others, where it is not there and there is room.
+pub fn add_lang<'c>(alloc: Global, lang: Lang, facts: Facts) -> Result<Plan<'c>, Refusal>
+    ensures { Decides (CheckedChange.AddLang lang) facts result }
+{
+    let languages = facts.languages.as_slice();
+    if is_among(languages, &lang) {
+        return Err(Refusal::LangTaken);
+    }
+    let count = languages.len();
+    if count >= MOST_LANGUAGES {
+        return Err(Refusal::TooMany);
+    }
+    let place = count as u32 + 1;
+    Ok(Plan::one(alloc, Edit::AddLang { lang, place }, Answer::Done)?)
+}

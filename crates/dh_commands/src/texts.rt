@@ -1,0 +1,58 @@
+//! The texts of commands, read one by one.
+ghost use Rattle.std.specs.Prelude.{◌≡◌, Some};
+ghost use Rattle.dh_paths.specs.Texts.{is_host_name, is_lang, is_ref_name, is_slug, is_token};
+ghost use Rattle.dh_paths.specs.Slugs.{slug_from};
+ghost use Rattle.dh_world.specs.Checks.{Reads, Checks};
+ghost use Rattle.dh_commands.specs.Commands.{bad_name};
+
+use dh_paths::{HostName, Lang, RefName, Slug, Text, TextFault, Token, slug_of};
+use dh_world::Refusal;
+use std::alloc::Global;
+
+pub fn host_in(alloc: Global, text: &Text) -> Result<HostName, Refusal>
+    ensures { Reads is_host_name Refusal.BadHost text.now result }
+{
+    Ok(HostName::parse(alloc, text.as_str())?)
+}
+
+pub fn lang_in(alloc: Global, text: &Text) -> Result<Lang, Refusal>
+    ensures { Reads is_lang Refusal.BadLang text.now result }
+{
+    Ok(Lang::parse(alloc, text.as_str())?)
+}
+
+pub fn ref_in(alloc: Global, text: &Text) -> Result<RefName, Refusal>
+    ensures { Reads is_ref_name Refusal.BadRef text.now result }
+{
+    Ok(RefName::parse(alloc, text.as_str())?)
+}
+
+pub fn slug_in(alloc: Global, text: &Text) -> Result<Slug, Refusal>
+    ensures { Reads is_slug Refusal.BadRef text.now result }
+{
+    Ok(Slug::parse(alloc, text.as_str())?)
+}
+
+/// A write key or a pass.
+pub fn token_in(alloc: Global, text: &Text) -> Result<Token, Refusal>
+    ensures { Reads is_token Refusal.BadToken text.now result }
+{
+    Ok(Token::parse(alloc, text.as_str())?)
+}
+
+pub fn retry_key_in(alloc: Global, text: &Text) -> Result<Token, Refusal>
+    ensures { Reads is_token Refusal.BadKey text.now result }
+{
+    match Token::parse(alloc, text.as_str()) {
+        Ok(key) => Ok(key),
+        Err(TextFault::Memory) => Err(Refusal::OutOfMemory),
+        Err(_) => Err(Refusal::BadKey),
+    }
+}
+
+/// The slug of a branch or tag.
+pub fn slug_in_name(alloc: Global, name: &RefName) -> Result<Slug, Refusal>
+    ensures { Checks (bad_name name.now) (λ slug. slug_from name.now ≡ Some slug) result }
+{
+    Ok(slug_of(alloc, name)?)
+}

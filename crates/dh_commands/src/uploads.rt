@@ -1,0 +1,104 @@
+//! Uploads of pages.
+ghost use Rattle.std.specs.Prelude.{◌≡◌, ◌++◌, IfOk, OnOk};
+ghost use Rattle.dh_commands.specs.Knowing.{Decides};
+ghost use Rattle.dh_commands.specs.Plans.{pages_put, plan_stored};
+
+use crate::checked::{CheckedChange, CheckedPage, CheckedUpload};
+use crate::edits::{Edit, FirstAnswer};
+use crate::facts::Facts;
+use crate::plan::Plan;
+use crate::projects::is_among;
+use crate::questions::is_write_key;
+use dh_paths::{Lang, Slug};
+use dh_world::{Answer, Operation, Refusal};
+use std::alloc::{AllocError, Global};
+
+/// Adds an edit for each page.
+fn put_pages<'c>(
+    alloc: Global,
+    edits: &mut Vec<Edit<'c>>,
+    slug: &Slug,
+    lang: &Lang,
+    pages: Vec<CheckedPage<'c>>,
+) -> Result<(), AllocError>
+    ensures { OnOk result (edits.new.items
+        ≡ edits.old.items ++ pages_put slug.now lang.now pages.entry.items) }
+{
+    for page in pages {
+        edits.push(Edit::PutPage {
+            slug: slug.try_copy(alloc)?,
+            lang: lang.try_copy(alloc)?,
+            page,
+        })?;
+    }
+    Ok(())
+}
+
+/// The pages are stored, and their number is the first answer to the retry key.
+fn store<'c>(alloc: Global, upload: CheckedUpload<'c>) -> Result<Plan<'c>, AllocError>
+    ensures { IfOk result (λ plan. plan ≡ plan_stored upload.entry) }
+{
+    let CheckedUpload {
+        key,
+        slug,
+        lang,
+        replace,
+        pages,
+        ..
+    } = upload;
+    let count = pages.len() as u32;
+    let mut edits = Vec::new(alloc);
+    if replace {
+        edits.push(Edit::RemovePages {
+            slug: slug.try_copy(alloc)?,
+            lang: lang.try_copy(alloc)?,
+        })?;
+    }
+    put_pages(alloc, &mut edits, &slug, &lang, pages)?;
+    edits.push(Edit::PutAnswer(FirstAnswer {
+        slug,
+        operation: Operation::Upload,
+        key,
+        answer: Answer::Stored { pages: count },
+    }))?;
+    Ok(Plan {
+        edits,
+        answer: Answer::Stored { pages: count },
+    })
+}
+
+/// An upload: a retry key that was used gives its first answer; else the version has to be there
+/// and active, and the language one of the project's.
+pub fn upload<'c>(
+    alloc: Global,
+    upload: CheckedUpload<'c>,
+    facts: Facts,
+) -> Result<Plan<'c>, Refusal>
+    ensures { Decides (CheckedChange.Upload upload.entry) facts result }
+{
+    let Facts {
+        settings,
+        version,
+        first_answer,
+        languages,
+        ..
+    } = facts;
+    if !is_write_key(&settings, &upload.wkey) {
+        return Err(Refusal::WrongKey);
+    }
+    if let Some(answer) = first_answer {
+        return Ok(Plan::none(alloc, answer));
+    }
+    match version {
+        None => return Err(Refusal::NoVersion),
+        Some(version) => {
+            if !version.active {
+                return Err(Refusal::Inactive);
+            }
+        }
+    }
+    if !is_among(&languages, &upload.lang) {
+        return Err(Refusal::NoLang);
+    }
+    Ok(store(alloc, upload)?)
+}

@@ -1,0 +1,85 @@
+-- The words of a form are its line.
+use Rattle.std.proofs.Common.{◌≡◌, ◌∙◌, codes, false, true, refl, ap, List, [], ◌∷◌, map, Option}
+use Rattle.std.proofs.Common.{Some, None}
+use Rattle.std.specs.Prelude.{find, option_map}
+use Rattle.clap.specs.Walk.{Text, answers_to}
+use Rattle.clap.specs.Simple.{App, Shape, built, built_leaf, inherited, label_of, subcommand_of}
+use Rattle.clap.specs.Faults.{defaults_fault}
+use Rattle.clap.specs.declared.error.kind.ErrorKind.TheVariants.{UnknownArgument, InvalidSubcommand}
+use Rattle.dh_world.specs.declared.command.Command.{Command}
+use Rattle.dh_words.specs.Words.{is_plain, has_command}
+use Rattle.dh_words.proofs.NameLemmas.{IsQuiet}
+use Rattle.dh_words.proofs.TokenLemmas.{Token, chosen, text_of, Fits, tokens_rows, tokens_level}
+use Rattle.dh_words.proofs.FormLemmas.{form_matches, form_fails, stray_fails}
+use Rattle.dh_lines.specs.App.{docs_app, bare_app, version_app, pass_app, grant_app}
+use Rattle.dh_lines.specs.Lines.{line_in, as_line, order_of, order_in, unless_faulty, Orders}
+use Rattle.dh_lines.specs.Lines.{OrdersOnVersion, OrdersOnPass, OrdersOnGrant}
+use Rattle.dh_lines.specs.declared.lines.Line.{Line}
+use Rattle.dh_lines.specs.declared.lines.Order.{Order}
+use Rattle.dh_lines.specs.declared.lines.Order.TheVariants.{Act}
+
+quiet : IsQuiet (built docs_app)
+unfolding defaults_fault
+quiet = record { help = refl; defaults = refl; checks = refl }
+
+-- what building makes of a command of the program
+abbrev pub below : App → Shape
+below a = built_leaf (inherited bare_app.top a.top)
+
+-- the program has the command under this name
+abbrev pub IsCommand : Text → App → Type 0
+IsCommand name a = find (λ s. answers_to name (label_of s)) (built docs_app).subs ≡ Some (below a)
+
+-- the words of the command order this
+abbrev pub Reads : Text → App → List Token → Order → Type 0
+Reads name a ts order = order_in name (tokens_rows (below a) ts) ≡ Some order
+
+pub form_line : (name : Text) (ts : List Token) (a : App) (order : Order) → IsCommand name a
+    → (below a).name ≡ name → Fits ts → tokens_level (below a) ts ≡ [] → Reads name a ts order
+    → Orders (name ∷ map text_of ts) order
+unfolding line_in
+form_line name ts a order found is fits passes reads =
+    let words = name ∷ map text_of ts in
+    let faultless = form_fails (built docs_app) (below a) name ts found is fits quiet ∙ passes in
+    let matches = form_matches (built docs_app) (below a) name ts found is fits in
+    let ordered = option_map as_line (order_of (subcommand_of docs_app words)) in
+    ap (λ kinds. unless_faulty kinds ordered) faultless
+    ∙ ap (λ o. option_map as_line (order_of o)) matches ∙ ap (option_map as_line) reads
+
+module _ (name : Text) where
+  module _ (command : Text → Text → Command) where
+    pub version_line : IsCommand name (version_app name)
+        → ((host slug : Text) → Reads name (version_app name)
+        (chosen host ∷ chosen slug ∷ []) (Act (command host slug)))
+        → OrdersOnVersion name command
+    unfolding defaults_fault
+    version_line found reads host slug plain =
+        form_line name (chosen host ∷ chosen slug ∷ []) (version_app name) (Act (command host slug))
+        found refl plain refl (reads host slug)
+
+    pub pass_line : IsCommand name (pass_app name)
+        → ((host pass : Text) → Reads name (pass_app name)
+        (chosen host ∷ chosen pass ∷ []) (Act (command host pass)))
+        → OrdersOnPass name command
+    unfolding defaults_fault
+    pass_line found reads host pass plain =
+        form_line name (chosen host ∷ chosen pass ∷ []) (pass_app name) (Act (command host pass))
+        found refl plain refl (reads host pass)
+
+  pub grant_line : (command : Text → Text → Text → Command) → IsCommand name (grant_app name)
+      → ((host pass slug : Text) → Reads name (grant_app name)
+      (chosen host ∷ chosen pass ∷ chosen slug ∷ []) (Act (command host pass slug)))
+      → OrdersOnGrant name command
+  unfolding defaults_fault
+  grant_line command found reads host pass slug plain =
+      form_line name (chosen host ∷ chosen pass ∷ chosen slug ∷ []) (grant_app name)
+      (Act (command host pass slug)) found refl plain refl (reads host pass slug)
+
+pub stray_line : (name : Text) (rest : List Text) → is_plain name ≡ true
+    → has_command docs_app name ≡ false → line_in (name ∷ rest) ≡ None
+unfolding line_in
+stray_line name rest plain none =
+    let ordered = option_map as_line (order_of (subcommand_of docs_app (name ∷ rest))) in
+    let more = InvalidSubcommand ∷ [] in
+    ap (λ kinds. unless_faulty kinds ordered)
+    (stray_fails (built docs_app) name rest UnknownArgument more none plain refl)

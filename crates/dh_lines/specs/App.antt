@@ -1,0 +1,84 @@
+-- The words of the program and of a script's line, as `clap` sees them.
+use Rattle.std.specs.Prelude.{true, map, List, [], ◌∷◌, ◌++◌, codes}
+use Rattle.clap.specs.Walk.{Text}
+use Rattle.clap.specs.Simple.{App, new_app, with_rule}
+use Rattle.dh_words.specs.Apps.{option_rule, flag_rule, form, with_apps}
+
+abbrev pub new_project_app : App
+new_project_app = form (codes "new-project")
+    (codes "host" ∷ codes "lang" ∷ codes "branch" ∷ codes "privacy" ∷ codes "wkey" ∷ [])
+
+abbrev pub add_lang_app : App
+add_lang_app = form (codes "add-lang") (codes "host" ∷ codes "lang" ∷ [])
+
+abbrev pub push_app : App
+push_app = form (codes "push")
+    (codes "host" ∷ codes "wkey" ∷ codes "key" ∷ codes "kind" ∷ codes "ref" ∷ [])
+
+abbrev pub upload_app : App
+upload_app = with_rule (form (codes "upload")
+    (codes "host" ∷ codes "wkey" ∷ codes "key" ∷ codes "slug" ∷ codes "lang" ∷ codes "path"
+    ∷ codes "type" ∷ codes "text" ∷ []))
+    (flag_rule (codes "replace"))
+
+abbrev pub project_apps : List App
+project_apps = new_project_app ∷ add_lang_app ∷ push_app ∷ upload_app ∷ []
+
+-- `NAME HOST SLUG`: a command on one version
+abbrev pub version_app : Text → App
+version_app name = form name (codes "host" ∷ codes "slug" ∷ [])
+
+abbrev pub version_apps : List App
+version_apps =
+    version_app (codes "activate")
+    ∷ version_app (codes "deactivate")
+    ∷ version_app (codes "hide")
+    ∷ version_app (codes "unhide")
+    ∷ version_app (codes "publish")
+    ∷ version_app (codes "make-private")
+    ∷ version_app (codes "gone")
+    ∷ version_app (codes "set-default")
+    ∷ []
+
+-- `NAME HOST PASS`: a command on one pass
+abbrev pub pass_app : Text → App
+pass_app name = form name (codes "host" ∷ codes "pass" ∷ [])
+
+-- `NAME HOST PASS SLUG`: a command on one grant
+abbrev pub grant_app : Text → App
+grant_app name = form name (codes "host" ∷ codes "pass" ∷ codes "slug" ∷ [])
+
+abbrev pub pass_apps : List App
+pass_apps =
+    pass_app (codes "add-pass")
+    ∷ pass_app (codes "drop-pass")
+    ∷ grant_app (codes "grant")
+    ∷ grant_app (codes "revoke")
+    ∷ []
+
+abbrev pub get_app : App
+get_app = with_rule (form (codes "get") (codes "host" ∷ codes "target" ∷ []))
+    (option_rule (codes "pass"))
+
+abbrev pub script_app : App
+script_app = form (codes "script") []
+
+abbrev pub answer_app : App
+answer_app = form (codes "answer") []
+
+-- the program without its subcommands, one of which has to be named; its words come without the
+-- program's own name
+abbrev pub bare_app : App
+bare_app = record (new_app (codes "docs_host")) {
+  top = record (new_app (codes "docs_host")).top {
+    no_binary_name = true;
+    disable_help_subcommand = true;
+    arg_required_else_help = true;
+    subcommand_required = true;
+  };
+}
+
+-- the program: the lines of scripts, and what it does with its input
+abbrev pub docs_app : App
+docs_app = with_apps bare_app
+    (project_apps ++ version_apps ++ pass_apps ++ (get_app ∷ script_app ∷ answer_app ∷ []))

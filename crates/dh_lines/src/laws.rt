@@ -1,0 +1,103 @@
+//! Laws of lines: the words of each form are its line. A word that the caller chooses is plain: it
+//! does not begin with `-`.
+
+ghost use Rattle.std.specs.Prelude.{◌≡◌, true, false, Some, None, codes, ◌∷◌, [], List};
+ghost use Rattle.clap.specs.Walk.{Text};
+ghost use Rattle.dh_versions.specs.declared.version.Kind.TheVariants.{Branch, Tag};
+ghost use Rattle.dh_world.specs.declared.command.Command.TheVariants.{NewProject, AddLang, Push};
+ghost use Rattle.dh_world.specs.declared.command.Command.TheVariants.{Upload, Activate, Deactivate};
+ghost use Rattle.dh_world.specs.declared.command.Command.TheVariants.{Hide, Unhide, Publish};
+ghost use Rattle.dh_world.specs.declared.command.Command.TheVariants.{MakePrivate, Gone};
+ghost use Rattle.dh_world.specs.declared.command.Command.TheVariants.{SetDefault};
+ghost use Rattle.dh_world.specs.declared.command.Command.TheVariants.{AddPass, DropPass, Grant};
+ghost use Rattle.dh_world.specs.declared.command.Command.TheVariants.{Revoke};
+ghost use Rattle.dh_words.specs.Words.{is_plain, ArePlain, has_command};
+ghost use Rattle.dh_lines.specs.App.{docs_app};
+ghost use Rattle.dh_lines.specs.Lines.{line_in, one_page, Orders, OrdersOnVersion, OrdersOnPass};
+ghost use Rattle.dh_lines.specs.Lines.{OrdersOnGrant};
+ghost use Rattle.dh_lines.specs.declared.lines.Order.TheVariants.{Act, Get, Script, Answer};
+
+/// The lines on projects and pushes.
+pub fn project_lines()
+    ensures new_public { (host lang branch wkey : Text)
+        → ArePlain (host ∷ lang ∷ branch ∷ wkey ∷ [])
+        → Orders (codes "new-project" ∷ host ∷ lang ∷ branch ∷ codes "public" ∷ wkey ∷ [])
+        (Act (NewProject host lang branch false wkey)) }
+    ensures new_private { (host lang branch wkey : Text)
+        → ArePlain (host ∷ lang ∷ branch ∷ wkey ∷ [])
+        → Orders (codes "new-project" ∷ host ∷ lang ∷ branch ∷ codes "private" ∷ wkey ∷ [])
+        (Act (NewProject host lang branch true wkey)) }
+    ensures add_lang { (host lang : Text) → ArePlain (host ∷ lang ∷ [])
+        → Orders (codes "add-lang" ∷ host ∷ lang ∷ []) (Act (AddLang host lang)) }
+    ensures push_branch { (host wkey key name : Text) → ArePlain (host ∷ wkey ∷ key ∷ name ∷ [])
+        → Orders (codes "push" ∷ host ∷ wkey ∷ key ∷ codes "branch" ∷ name ∷ [])
+        (Act (Push host wkey key Branch name)) }
+    ensures push_tag { (host wkey key name : Text) → ArePlain (host ∷ wkey ∷ key ∷ name ∷ [])
+        → Orders (codes "push" ∷ host ∷ wkey ∷ key ∷ codes "tag" ∷ name ∷ [])
+        (Act (Push host wkey key Tag name)) }
+{}
+
+/// The lines that upload a page, whose body is the last word before `--replace`.
+pub fn upload_lines()
+    ensures upload { (host wkey key slug lang path media body : Text)
+        → ArePlain (host ∷ wkey ∷ key ∷ slug ∷ lang ∷ path ∷ media ∷ body ∷ [])
+        → Orders (codes "upload" ∷ host ∷ wkey ∷ key ∷ slug ∷ lang ∷ path ∷ media ∷ body ∷ [])
+        (Act (Upload host wkey key slug lang false
+        (record { path = path; media = media; body = body } ∷ []))) }
+    ensures replace { (host wkey key slug lang path media body : Text)
+        → ArePlain (host ∷ wkey ∷ key ∷ slug ∷ lang ∷ path ∷ media ∷ body ∷ [])
+        → Orders (codes "upload" ∷ host ∷ wkey ∷ key ∷ slug ∷ lang ∷ path ∷ media ∷ body
+        ∷ codes "--replace" ∷ [])
+        (Act (Upload host wkey key slug lang true
+        (record { path = path; media = media; body = body } ∷ []))) }
+    ensures replace_first { (host wkey key slug lang path media body : Text)
+        → ArePlain (host ∷ wkey ∷ key ∷ slug ∷ lang ∷ path ∷ media ∷ body ∷ [])
+        → Orders (codes "upload" ∷ codes "--replace" ∷ host ∷ wkey ∷ key ∷ slug ∷ lang ∷ path
+        ∷ media ∷ body ∷ [])
+        (Act (Upload host wkey key slug lang true
+        (record { path = path; media = media; body = body } ∷ []))) }
+{}
+
+/// The lines on one version.
+pub fn version_lines()
+    ensures activate { OrdersOnVersion (codes "activate") Activate }
+    ensures deactivate { OrdersOnVersion (codes "deactivate") Deactivate }
+    ensures hide { OrdersOnVersion (codes "hide") Hide }
+    ensures unhide { OrdersOnVersion (codes "unhide") Unhide }
+    ensures publish { OrdersOnVersion (codes "publish") Publish }
+    ensures make_private { OrdersOnVersion (codes "make-private") MakePrivate }
+    ensures gone { OrdersOnVersion (codes "gone") Gone }
+    ensures set_default { OrdersOnVersion (codes "set-default") SetDefault }
+{}
+
+/// The lines on passes and grants.
+pub fn pass_lines()
+    ensures add_pass { OrdersOnPass (codes "add-pass") AddPass }
+    ensures drop_pass { OrdersOnPass (codes "drop-pass") DropPass }
+    ensures grant { OrdersOnGrant (codes "grant") Grant }
+    ensures revoke { OrdersOnGrant (codes "revoke") Revoke }
+{}
+
+/// The lines that read, without a pass, and with it behind or before the other words.
+pub fn get_lines()
+    ensures get { (host target : Text) → ArePlain (host ∷ target ∷ [])
+        → Orders (codes "get" ∷ host ∷ target ∷ []) (Get host target None) }
+    ensures pass { (host target pass : Text) → ArePlain (host ∷ target ∷ pass ∷ [])
+        → Orders (codes "get" ∷ host ∷ target ∷ codes "--pass" ∷ pass ∷ [])
+        (Get host target (Some pass)) }
+    ensures pass_first { (pass host target : Text) → ArePlain (pass ∷ host ∷ target ∷ [])
+        → Orders (codes "get" ∷ codes "--pass" ∷ pass ∷ host ∷ target ∷ [])
+        (Get host target (Some pass)) }
+{}
+
+/// What the program itself does with its input.
+pub fn program_lines()
+    ensures script { Orders (codes "script" ∷ []) Script }
+    ensures answer { Orders (codes "answer" ∷ []) Answer }
+{}
+
+/// Words whose first is plain and names no command are no line.
+pub fn stray_lines()
+    ensures { (name : Text) (rest : List Text) → is_plain name ≡ true
+        → has_command docs_app name ≡ false → line_in (name ∷ rest) ≡ None }
+{}

@@ -1,0 +1,15 @@
+//! Lines: the words of the program or of a script's line, and what a line prints. Nothing here
+//! knows the store.
+#![tactic(auto)]
+
+mod app;
+mod laws;
+mod lines;
+mod outcomes;
+
+pub use app::docs_command;
+pub use laws::{
+    get_lines, pass_lines, program_lines, project_lines, stray_lines, upload_lines, version_lines,
+};
+pub use lines::{Line, LineFault, Order, line_by, line_of};
+pub use outcomes::outcome_text;

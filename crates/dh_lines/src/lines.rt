@@ -1,0 +1,378 @@
+//! Lines: the words of the program, or of one line of a script.
+
+use crate::app::docs_command;
+use clap::ArgMatches;
+use clap::error::ErrorKind;
+use dh_paths::{Bytes, Text};
+use dh_versions::Kind;
+use dh_world::{Command, Pages, UploadedPage};
+use std::alloc::{AllocError, Global};
+use thiserror::Error;
+
+/// What a line orders.
+#[derive(Drop)]
+pub enum Order {
+    /// A command of the desk.
+    Act(Command),
+    /// A read.
+    Get {
+        /// Counts whatever host the target gives.
+        host: Text,
+        /// As it came: `Target::read` may refuse it.
+        target: Text,
+        pass: Option<Text>,
+    },
+    /// To run the lines of standard input.
+    Script,
+    /// To answer the request of standard input.
+    Answer,
+}
+
+/// A line.
+#[derive(Drop)]
+pub struct Line {
+    pub order: Order,
+}
+
+/// Why words gave no line.
+#[derive(Clone, Copy, Debug, PartialEq, Eq, Error)]
+pub enum LineFault {
+    /// They are none.
+    #[error("Usage")]
+    Usage,
+    /// Out of memory.
+    #[error("Memory")]
+    Memory,
+}
+
+impl From<AllocError> for LineFault {
+    ghost use Rattle.dh_lines.specs.declared.lines.LineFault.TheVariants.{Memory};
+
+    ghost from_gives = { λ _ fault. fault ≡ Memory };
+
+    fn from(_refused: AllocError) -> LineFault {
+        LineFault::Memory
+    }
+}
+
+ghost use Rattle.std.specs.Prelude.{◌≡◌, ◌∷◌, [], IfOk, option_map, map, string_bytes};
+ghost use Rattle.clap.specs.Walk.{first_of, rows_of};
+ghost use Rattle.clap.specs.Matches.{found_of};
+ghost use Rattle.clap.specs.Simple.{subcommand_rows_of};
+ghost use Rattle.dh_words.specs.Apps.{StandsFor};
+ghost use Rattle.dh_lines.specs.App.{docs_app};
+ghost use Rattle.dh_lines.specs.Lines.{one_page as pages_of};
+ghost use Rattle.dh_lines.specs.Lines.{is_set, privacy_of, kind_of, new_project_in, add_lang_in};
+ghost use Rattle.dh_lines.specs.Lines.{push_in, upload_in, command_on, version_in, add_pass_in};
+ghost use Rattle.dh_lines.specs.Lines.{drop_pass_in, grant_in, revoke_in, access_in, command_in};
+ghost use Rattle.dh_lines.specs.Lines.{get_in, order_of, line_in, Says, Matches};
+
+fn value<'a>(matches: &ArgMatches<'a>, id: &str) -> Option<&'a str>
+    ensures { option_map (λ s. s.now) result ≡ first_of id.now (rows_of (found_of matches.now)) }
+{
+    matches.get_str(id)
+}
+
+/// A word that has to be there.
+fn word(alloc: Global, matches: &ArgMatches<'_>, id: &str) -> Result<Text, LineFault>
+    ensures { Says (first_of id.now (rows_of (found_of matches.now))) result }
+{
+    match value(matches, id) {
+        Some(text) => Ok(Text::copy_of(alloc, text)?),
+        None => Err(LineFault::Usage),
+    }
+}
+
+/// The bytes of a word that has to be there.
+fn word_bytes(alloc: Global, matches: &ArgMatches<'_>, id: &str) -> Result<Bytes, LineFault>
+    ensures { Says (first_of id.now (rows_of (found_of matches.now))) result }
+{
+    match value(matches, id) {
+        Some(text) => Ok(Bytes::copy_of(alloc, text.as_bytes())?),
+        None => Err(LineFault::Usage),
+    }
+}
+
+/// The value of an option, where it is given.
+fn option_value(
+    alloc: Global,
+    matches: &ArgMatches<'_>,
+    id: &str,
+) -> Result<Option<Text>, AllocError>
+    ensures { IfOk result (λ o. o ≡ first_of id.now (rows_of (found_of matches.now))) }
+{
+    match value(matches, id) {
+        Some(text) => Ok(Some(Text::copy_of(alloc, text)?)),
+        None => Ok(None),
+    }
+}
+
+/// Whether a flag is given.
+fn has_flag(matches: &ArgMatches<'_>, id: &str) -> bool
+    ensures { result ≡ is_set id.now (rows_of (found_of matches.now)) }
+{
+    match value(matches, id) {
+        Some(text) => text == "true",
+        None => false,
+    }
+}
+
+fn read_privacy(text: &str) -> Option<bool>
+    ensures { result ≡ privacy_of text.now }
+{
+    match text {
+        "public" => Some(false),
+        "private" => Some(true),
+        _ => None,
+    }
+}
+
+fn read_kind(text: &str) -> Option<Kind>
+    ensures { result ≡ kind_of text.now }
+{
+    match text {
+        "branch" => Some(Kind::Branch),
+        "tag" => Some(Kind::Tag),
+        _ => None,
+    }
+}
+
+fn new_project(alloc: Global, matches: &ArgMatches<'_>) -> Result<Command, LineFault>
+    ensures { Says (new_project_in (rows_of (found_of matches.now))) result }
+{
+    let host = word(alloc, matches, "host")?;
+    let lang = word(alloc, matches, "lang")?;
+    let branch = word(alloc, matches, "branch")?;
+    let privacy = word(alloc, matches, "privacy")?;
+    let wkey = word(alloc, matches, "wkey")?;
+    match read_privacy(privacy.as_str()) {
+        Some(private) => Ok(Command::NewProject {
+            host,
+            lang,
+            branch,
+            private,
+            wkey,
+        }),
+        None => Err(LineFault::Usage),
+    }
+}
+
+fn add_lang(alloc: Global, matches: &ArgMatches<'_>) -> Result<Command, LineFault>
+    ensures { Says (add_lang_in (rows_of (found_of matches.now))) result }
+{
+    let host = word(alloc, matches, "host")?;
+    let lang = word(alloc, matches, "lang")?;
+    Ok(Command::AddLang { host, lang })
+}
+
+fn push(alloc: Global, matches: &ArgMatches<'_>) -> Result<Command, LineFault>
+    ensures { Says (push_in (rows_of (found_of matches.now))) result }
+{
+    let host = word(alloc, matches, "host")?;
+    let wkey = word(alloc, matches, "wkey")?;
+    let key = word(alloc, matches, "key")?;
+    let kind_word = word(alloc, matches, "kind")?;
+    let name = word(alloc, matches, "ref")?;
+    match read_kind(kind_word.as_str()) {
+        Some(kind) => Ok(Command::Push {
+            host,
+            wkey,
+            key,
+            kind,
+            name,
+        }),
+        None => Err(LineFault::Usage),
+    }
+}
+
+fn one_page(alloc: Global, path: Text, media: Text, body: Bytes) -> Result<Pages, AllocError>
+    ensures { IfOk result (λ pages. pages ≡ pages_of path media body) }
+{
+    let mut pages = Vec::new(alloc);
+    pages.push(UploadedPage { path, media, body })?;
+    Ok(Pages::wrap(pages))
+}
+
+fn upload(alloc: Global, matches: &ArgMatches<'_>) -> Result<Command, LineFault>
+    ensures { Says (upload_in (rows_of (found_of matches.now))) result }
+{
+    let host = word(alloc, matches, "host")?;
+    let wkey = word(alloc, matches, "wkey")?;
+    let key = word(alloc, matches, "key")?;
+    let slug = word(alloc, matches, "slug")?;
+    let lang = word(alloc, matches, "lang")?;
+    let path = word(alloc, matches, "path")?;
+    let media = word(alloc, matches, "type")?;
+    let body = word_bytes(alloc, matches, "text")?;
+    Ok(Command::Upload {
+        host,
+        wkey,
+        key,
+        slug,
+        lang,
+        replace: has_flag(matches, "replace"),
+        pages: one_page(alloc, path, media, body)?,
+    })
+}
+
+/// The command of this name on one version.
+fn named_on(name: &str, host: Text, slug: Text) -> Option<Command>
+    ensures { result ≡ command_on name.now host slug }
+{
+    match name {
+        "activate" => Some(Command::Activate { host, slug }),
+        "deactivate" => Some(Command::Deactivate { host, slug }),
+        "hide" => Some(Command::Hide { host, slug }),
+        "unhide" => Some(Command::Unhide { host, slug }),
+        "publish" => Some(Command::Publish { host, slug }),
+        "make-private" => Some(Command::MakePrivate { host, slug }),
+        "gone" => Some(Command::Gone { host, slug }),
+        "set-default" => Some(Command::SetDefault { host, name: slug }),
+        _ => None,
+    }
+}
+
+fn version(alloc: Global, name: &str, matches: &ArgMatches<'_>) -> Result<Command, LineFault>
+    ensures { Says (version_in name.now (rows_of (found_of matches.now))) result }
+{
+    let host = word(alloc, matches, "host")?;
+    let slug = word(alloc, matches, "slug")?;
+    match named_on(name, host, slug) {
+        Some(command) => Ok(command),
+        None => Err(LineFault::Usage),
+    }
+}
+
+fn add_pass(alloc: Global, matches: &ArgMatches<'_>) -> Result<Command, LineFault>
+    ensures { Says (add_pass_in (rows_of (found_of matches.now))) result }
+{
+    let host = word(alloc, matches, "host")?;
+    let pass = word(alloc, matches, "pass")?;
+    Ok(Command::AddPass { host, pass })
+}
+
+fn drop_pass(alloc: Global, matches: &ArgMatches<'_>) -> Result<Command, LineFault>
+    ensures { Says (drop_pass_in (rows_of (found_of matches.now))) result }
+{
+    let host = word(alloc, matches, "host")?;
+    let pass = word(alloc, matches, "pass")?;
+    Ok(Command::DropPass { host, pass })
+}
+
+fn grant(alloc: Global, matches: &ArgMatches<'_>) -> Result<Command, LineFault>
+    ensures { Says (grant_in (rows_of (found_of matches.now))) result }
+{
+    let host = word(alloc, matches, "host")?;
+    let pass = word(alloc, matches, "pass")?;
+    let slug = word(alloc, matches, "slug")?;
+    Ok(Command::Grant { host, pass, slug })
+}
+
+fn revoke(alloc: Global, matches: &ArgMatches<'_>) -> Result<Command, LineFault>
+    ensures { Says (revoke_in (rows_of (found_of matches.now))) result }
+{
+    let host = word(alloc, matches, "host")?;
+    let pass = word(alloc, matches, "pass")?;
+    let slug = word(alloc, matches, "slug")?;
+    Ok(Command::Revoke { host, pass, slug })
+}
+
+fn get(alloc: Global, matches: &ArgMatches<'_>) -> Result<Order, LineFault>
+    ensures { Says (get_in (rows_of (found_of matches.now))) result }
+{
+    let host = word(alloc, matches, "host")?;
+    let target = word(alloc, matches, "target")?;
+    let pass = option_value(alloc, matches, "pass")?;
+    Ok(Order::Get { host, target, pass })
+}
+
+/// A line on a pass, or on one version.
+#[tactic(auto, unfolding(crate::specs::Lines::access_in))]
+fn access(alloc: Global, name: &str, matches: &ArgMatches<'_>) -> Result<Command, LineFault>
+    ensures { Says (access_in name.now (rows_of (found_of matches.now))) result }
+{
+    match name {
+        "add-pass" => add_pass(alloc, matches),
+        "drop-pass" => drop_pass(alloc, matches),
+        "grant" => grant(alloc, matches),
+        "revoke" => revoke(alloc, matches),
+        _ => version(alloc, name, matches),
+    }
+}
+
+/// A line that is a command.
+#[tactic(auto, unfolding(crate::specs::Lines::command_in))]
+fn command(alloc: Global, name: &str, matches: &ArgMatches<'_>) -> Result<Command, LineFault>
+    ensures { Says (command_in name.now (rows_of (found_of matches.now))) result }
+{
+    match name {
+        "new-project" => new_project(alloc, matches),
+        "add-lang" => add_lang(alloc, matches),
+        "push" => push(alloc, matches),
+        "upload" => upload(alloc, matches),
+        _ => access(alloc, name, matches),
+    }
+}
+
+fn read_order(alloc: Global, matches: &ArgMatches<'_>) -> Result<Order, LineFault>
+    ensures { Says (order_of (subcommand_rows_of matches.now)) result }
+{
+    let (name, words) = match matches.subcommand() {
+        Some(found) => found,
+        None => return Err(LineFault::Usage),
+    };
+    match name {
+        "get" => get(alloc, words),
+        "script" => Ok(Order::Script),
+        "answer" => Ok(Order::Answer),
+        _ => Ok(Order::Act(command(alloc, name, words)?)),
+    }
+}
+
+/// What `clap` matches in the words.
+fn read_words<'a>(
+    program: &mut clap::Command<'a>,
+    words: &'a [String],
+) -> Result<ArgMatches<'a>, LineFault>
+    requires { StandsFor docs_app program.old }
+    ensures matches { Matches (map string_bytes words.now) result }
+    ensures stands { StandsFor docs_app program.new }
+{
+    let error = match program.try_get_matches_from_mut(words) {
+        Ok(matches) => return Ok(matches),
+        Err(error) => error,
+    };
+    if error.kind() == ErrorKind::OutOfMemory {
+        return Err(LineFault::Memory);
+    }
+    Err(LineFault::Usage)
+}
+
+/// The line that the words are, by a program that `docs_command` made: it is built at the first
+/// call, and the words of each call live as long as it.
+///
+/// `Usage`: the words are no line, or ask for help. `Memory`: an allocation was refused.
+pub fn line_by<'a>(
+    alloc: Global,
+    program: &mut clap::Command<'a>,
+    words: &'a [String],
+) -> Result<Line, LineFault>
+    requires { StandsFor docs_app program.old }
+    ensures says { Says (line_in (map string_bytes words.now)) result }
+    ensures stands { StandsFor docs_app program.new }
+{
+    let matches = read_words(program, words)?;
+    let order = read_order(alloc, &matches)?;
+    Ok(Line { order })
+}
+
+/// The line that the words are: the program's words without its own name, or those of a script's
+/// line. For line after line `line_by` is faster.
+///
+/// `Usage`: the words are no line, or ask for help. `Memory`: an allocation was refused.
+pub fn line_of(alloc: Global, words: &[String]) -> Result<Line, LineFault>
+    ensures { Says (line_in (map string_bytes words.now)) result }
+{
+    let mut program = docs_command(alloc)?;
+    line_by(alloc, &mut program, words)
+}

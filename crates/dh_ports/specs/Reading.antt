@@ -1,0 +1,46 @@
+-- What reading takes from a source.
+use Rattle.std.specs.Prelude.{◌≡◌, ℕ, ◌≤◌, ◌<◌, Bool, true, false, List, [], ◌++◌, length, Option, Result, Ok, Err}
+use Rattle.std.specs.Io.KnownBytes.{Consumes, IsAtEnd}
+use Rattle.dh_ports.specs.declared.stop.Stop.{Stop}
+use Rattle.dh_ports.specs.declared.stop.Stop.TheVariants.{Read, TooManyTurns, Memory}
+
+-- the reader failed
+abbrev pub reader_failed : {A : Type 0} → Result A Stop → Bool
+reader_failed (Ok value) = false
+reader_failed (Err Read) = true
+reader_failed (Err TooManyTurns) = false
+reader_failed (Err Memory) = false
+
+-- the source lost no more than so many bytes, where it tells them
+abbrev pub TookAtMost : Option (List ℕ) → Option (List ℕ) → ℕ → Type 0
+TookAtMost old new most = (bytes : List ℕ) × Consumes old new bytes × (length bytes ≤ most)
+
+-- some bytes came, or the source is at its end
+abbrev pub CameOrEnded : Option (List ℕ) → List ℕ → Bool → Type 0
+CameOrEnded left bytes true = 0 < length bytes
+CameOrEnded left bytes false = (bytes ≡ []) × IsAtEnd left
+
+-- the bytes that the source lost, at most 4,096, were put behind those that were there; came says whether there were any
+abbrev pub AddsSome : Option (List ℕ) → Option (List ℕ) → List ℕ → List ℕ → Bool → Type 0
+AddsSome old new before after came =
+    (bytes : List ℕ)
+    × Consumes old new bytes
+    × (after ≡ before ++ bytes)
+    × CameOrEnded new bytes came
+    × (length bytes ≤ 4096)
+
+-- the most bytes that a read took which stopped
+abbrev pub most_lost : Stop → ℕ
+most_lost Read = 0
+most_lost TooManyTurns = 0
+most_lost Memory = 4096
+
+-- one read; where it stopped, the bytes that were there stay, and no others came
+abbrev pub Adds : Option (List ℕ) → Option (List ℕ) → List ℕ → List ℕ → Result Bool Stop → Type 0
+Adds old new before after (Ok came) = AddsSome old new before after came
+Adds old new before after (Err stop) = (after ≡ before) × TookAtMost old new (most_lost stop)
+
+-- so many reads brought these bytes, and no more may be made: each brought a byte at least
+pub record IsFull (turns : ℕ) (bytes : List ℕ) : Type 0 where
+  pub turns_used : turns ≡ 100000
+  pub bytes_came : 100000 ≤ length bytes

@@ -1,0 +1,77 @@
+//! Bounded reading.
+
+ghost use Rattle.std.specs.Prelude.{◌≡◌, ◌+◌, ◌-◌, ◌≤◌, false, [], min, vec_len, IfOk, OnOk, IsErrOf, if◌then◌else◌};
+ghost use Rattle.dh_ports.specs.Ports.{CountsUpTo, CountsAtLeast};
+ghost use Rattle.dh_ports.specs.Reading.{reader_failed, Adds, IsFull};
+
+use crate::source::Source;
+use crate::stop::Stop;
+use std::alloc::Global;
+
+/// The most reads that may bring bytes.
+const MOST_READS: u32 = 100_000;
+
+/// The most bytes that one read asks for.
+const PIECE: usize = 4096;
+
+/// What was read so far, and in how many reads that brought bytes: at most 100,000.
+#[derive(Drop)]
+pub struct Intake {
+    pub bytes: Vec<u8>,
+    pub turns: u32,
+    ghost counted: { turns ≤ vec_len bytes },
+    ghost bounded: { turns ≤ 100000 },
+}
+
+impl Intake {
+    /// Nothing read yet.
+    pub fn new(alloc: Global) -> Intake
+        ensures empty { result.bytes.items ≡ [] }
+        ensures unasked { result.turns ≡ 0 }
+    {
+        Intake {
+            bytes: Vec::new(alloc),
+            turns: 0,
+        }
+    }
+
+    /// Reads once, up to 4,096 bytes, and answers whether any came: none come only at the end. After 100,000 reads it asks the
+    /// source no more. The bytes from before stay in any case.
+    pub fn more<R: Source>(&mut self, source: &mut R) -> Result<bool, Stop>
+        requires { R.broken source.old ≡ false }
+        ensures adds { Adds (R.left source.old) (R.left source.new)
+            self.old.bytes.items self.new.bytes.items result }
+        ensures broken { R.broken source.new ≡ reader_failed result }
+        ensures turns { IfOk result (λ came.
+            self.new.turns ≡ self.old.turns + (if came then 1 else 0)) }
+        ensures full { IsErrOf result Stop.TooManyTurns
+            → IsFull self.old.turns self.old.bytes.items × (source.new ≡ source.old) }
+        ensures reads { CountsUpTo (R.fills source.old) (R.fills source.new)
+            (min 1 (100000 - self.old.turns)) }
+        ensures asked { OnOk result (CountsAtLeast (R.fills source.old) (R.fills source.new) 1) }
+        ensures few { self.new.turns ≤ 100000 }
+    {
+        if self.turns == MOST_READS {
+            return Err(Stop::TooManyTurns);
+        }
+        let mut room = [0u8; PIECE];
+        match source.fill(&mut room) {
+            Err(_) => Err(Stop::Read),
+            Ok(0) => Ok(false),
+            Ok(count) => {
+                if self.bytes.extend_from_slice(&room[..count]).is_err() {
+                    return Err(Stop::Memory);
+                }
+                self.turns += 1;
+                Ok(true)
+            }
+        }
+    }
+    /// All that was read.
+    pub fn into_bytes(self) -> Vec<u8>
+        ensures { result.items ≡ self.bytes.items }
+    {
+        let Intake { bytes, turns: _ } = self;
+        bytes
+    }
+}

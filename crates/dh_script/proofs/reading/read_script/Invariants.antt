@@ -1,0 +1,17 @@
+use Rattle.std.proofs.Common.{◌≡◌, ◌≤◌, ◌-◌, false, length}
+use Rattle.std.specs.Io.KnownBytes.{Consumes}
+use Rattle.dh_ports.specs.Ports.{CountsUpTo, CountsAtLeast}
+use Rattle.dh_script.proofs.reading.read_script.Given as goal
+
+abbrev pub invariant-pieces : goal.invariant-pieces
+invariant-pieces g l = record {
+  taken : Consumes (g.R.Source.left l.fn.source) (g.R.Source.left l.source) l.intake.bytes.items;
+  asked : CountsUpTo (g.R.Source.fills l.fn.source) (g.R.Source.fills l.source) l.intake.turns;
+  counted : CountsAtLeast (g.R.Source.fills l.fn.source) (g.R.Source.fills l.source) l.intake.turns;
+  little : length l.intake.bytes.items ≤ 1048576;
+  few : l.intake.turns ≤ 100000;
+  fine : g.R.Source.broken l.source ≡ false;
+}
+
+abbrev pub decreases-pieces : goal.decreases-pieces
+decreases-pieces g l = 100000 - l.intake.turns

@@ -1,0 +1,68 @@
+-- What a line of a script does and prints, and what a script leaves.
+use Rattle.std.specs.Prelude.{◌≡◌, Bool, true, false, codes, Option, Some, None, option_and_then}
+use Rattle.std.specs.Prelude.{Result, Ok, Err, IfOk}
+use Rattle.dh_paths.specs.Places.{split_of}
+use Rattle.dh_paths.specs.Targets.{target_of}
+use Rattle.dh_paths.specs.declared.target.Target.{Target}
+use Rattle.dh_reply.specs.Replies.{is_system, reply_to}
+use Rattle.dh_reply.specs.declared.answer.Reply.{Reply}
+use Rattle.dh_reply.specs.declared.fault.Fault.{Fault}
+use Rattle.dh_world.specs.World.{Text, World}
+use Rattle.dh_world.specs.Seen.{seen}
+use Rattle.dh_world.specs.declared.answer.Answer.{Answer}
+use Rattle.dh_world.specs.Step.{IsStep}
+use Rattle.dh_world.specs.Reads.{host_named, pass_named}
+use Rattle.dh_world.specs.declared.command.Command.{Command}
+use Rattle.dh_world.specs.declared.outcome.Outcome.{Outcome}
+use Rattle.dh_world.specs.declared.outcome.Outcome.TheVariants.{Applied, Refused, Replied, Failed}
+use Rattle.dh_world.specs.declared.refusal.Refusal.{Refusal}
+use Rattle.dh_lines.specs.Outcomes.{text_of_outcome}
+use Rattle.dh_lines.specs.declared.lines.Line.{Line}
+use Rattle.dh_lines.specs.declared.lines.Order.{Order}
+use Rattle.dh_lines.specs.declared.lines.Order.TheVariants as order
+use Rattle.dh_script.specs.declared.reading.ScriptFault.{ScriptFault}
+use Rattle.dh_script.specs.declared.reading.ScriptFault.TheVariants.{Read, TooLong, NotText}
+use Rattle.dh_script.specs.declared.reading.ScriptFault.TheVariants.{TooManyTurns, UnreadMemory}
+
+abbrev pub outcome_of : Result Answer Refusal → Outcome
+outcome_of (Ok answer) = Applied answer
+outcome_of (Err refusal) = Refused refusal
+
+abbrev pub outcome_of_read : Result Reply Fault → Outcome
+outcome_of_read (Ok reply) = Replied reply
+outcome_of_read (Err fault) = Failed fault
+
+-- a command is one step of the world, or is refused, or set aside; its outcome is printed
+abbrev pub Acts : World → Command → World → Text → Type 0
+Acts before c after text = (answer : Result Answer Refusal) × IsStep before after c answer × (text ≡ text_of_outcome (outcome_of answer))
+
+-- a read of a target that is none prints `bad target`; any other prints the outcome of the read
+-- under the host named, whatever host the target gives: its reply is the definition's over what the
+-- caller sees, but for `/robots.txt` and `/_/..`
+abbrev pub GetsAt : World → Text → Option Text → Option Target → Text → Type 0
+GetsAt w host pass None text = text ≡ codes "bad target"
+GetsAt w host pass (Some t) text =
+    (reply : Result Reply Fault)
+    × (is_system (split_of t.path) ≡ false → IfOk reply (λ r. r ≡ reply_to (seen w (host_named host) (option_and_then pass_named pass)) t.path t.query))
+    × (text ≡ text_of_outcome (outcome_of_read reply))
+
+-- what a line does to the world, and prints; what is no line of a script prints `usage`, and
+-- neither that nor a read changes the world
+abbrev pub DoesOrder : World → Order → World → Text → Type 0
+DoesOrder before (order.Act c) after text = Acts before c after text
+DoesOrder before (order.Get host target pass) after text = (after ≡ before) × GetsAt before host pass (target_of target) text
+DoesOrder before order.Script after text = (after ≡ before) × (text ≡ codes "usage")
+DoesOrder before order.Answer after text = (after ≡ before) × (text ≡ codes "usage")
+
+abbrev pub Does : World → Option Line → World → Text → Type 0
+Does before None after text = (after ≡ before) × (text ≡ codes "usage")
+Does before (Some line) after text = DoesOrder before line.order after text
+
+-- whether the answer is that the script was not read
+abbrev pub is_unread : {A : Type 0} → Result A ScriptFault → Bool
+is_unread (Err Read) = true
+is_unread (Err TooLong) = true
+is_unread (Err NotText) = true
+is_unread (Err TooManyTurns) = true
+is_unread (Err UnreadMemory) = true
+is_unread _ = false

@@ -1,0 +1,277 @@
+//! Scripts: lines of commands and reads, one after another.
+
+ghost use Rattle.std.specs.Prelude.{◌≡◌, true, false, map, string_bytes, option_map, IfOk, IfErr};
+ghost use Rattle.std.specs.Prelude.{IfSome, OnOk};
+ghost use Rattle.dh_paths.specs.Targets.{target_of};
+ghost use Rattle.dh_ports.specs.Ports.{CountsUpTo};
+ghost use Rattle.dh_rows.specs.Calls.{IsHonest};
+ghost use Rattle.dh_desk.specs.Desk.{world};
+ghost use Rattle.dh_words.specs.Apps.{StandsFor};
+ghost use Rattle.dh_lines.specs.App.{docs_app};
+ghost use Rattle.dh_lines.specs.Lines.{line_in};
+ghost use Rattle.dh_script.specs.Reading.{reader_failed, writer_failed, TookAtMost, IsCause};
+ghost use Rattle.dh_script.specs.Reading.{IsScript};
+ghost use Rattle.dh_script.specs.Script.{outcome_of, outcome_of_read, Acts, GetsAt, DoesOrder};
+ghost use Rattle.dh_script.specs.Script.{Does};
+ghost use Rattle.dh_script.specs.Script.{is_unread};
+
+use crate::reading::{ScriptFault, read_script};
+use dh_desk::Desk;
+use dh_lines::{LineFault, Order, docs_command, line_by, outcome_text};
+use dh_paths::{Target, Text, TextFault};
+use dh_ports::{Sink, Source, put_all};
+use dh_reply::{Fault, Read, Reply};
+use dh_world::{Answer, Command, Outcome, Refusal};
+use sqlite::Alter;
+use std::alloc::{AllocError, Global};
+
+/// The most lines that one program of words reads, since their words live as long as it.
+const BATCH: usize = 1024;
+
+fn commanded(answer: Result<Answer, Refusal>) -> Outcome
+    ensures { result ≡ outcome_of answer }
+{
+    match answer {
+        Ok(answer) => Outcome::Applied(answer),
+        Err(refusal) => Outcome::Refused(refusal),
+    }
+}
+
+fn read_out(reply: Result<Reply, Fault>) -> Outcome
+    ensures { result ≡ outcome_of_read reply }
+{
+    match reply {
+        Ok(reply) => Outcome::Replied(reply),
+        Err(fault) => Outcome::Failed(fault),
+    }
+}
+
+fn act_text<S: Alter>(
+    alloc: Global,
+    desk: &mut Desk<S>,
+    command: &Command,
+) -> Result<String, AllocError>
+    ensures acts { IsHonest S.Store desk.new.tables
+        → IfOk result (λ text. Acts (world S.Store desk.old) command.now
+        (world S.Store desk.new) (string_bytes text)) }
+    ensures was { IsHonest S.Store desk.new.tables → IsHonest S.Store desk.old.tables }
+{
+    let outcome = commanded(desk.apply(alloc, command));
+    outcome_text(alloc, &outcome)
+}
+
+fn pass_text(pass: &Option<Text>) -> Option<&str>
+    ensures { option_map (λ text. text.now) result ≡ pass.now }
+{
+    match pass {
+        Some(pass) => Some(pass.as_str()),
+        None => None,
+    }
+}
+
+fn read_text<S: Alter>(
+    alloc: Global,
+    desk: &mut Desk<S>,
+    host: &Text,
+    pass: &Option<Text>,
+    target: Target,
+) -> Result<String, AllocError>
+    ensures gets { IsHonest S.Store desk.new.tables
+        → IfOk result (λ text. GetsAt (world S.Store desk.old) host.now pass.now (Some target)
+        (string_bytes text)) }
+    ensures same { IsHonest S.Store desk.new.tables
+        → world S.Store desk.new ≡ world S.Store desk.old }
+    ensures was { IsHonest S.Store desk.new.tables → IsHonest S.Store desk.old.tables }
+{
+    let Target {
+        host: _,
+        path,
+        query,
+    } = target;
+    let asked = Read { path, query };
+    let outcome = read_out(desk.read(alloc, host.as_str(), pass_text(pass), &asked));
+    outcome_text(alloc, &outcome)
+}
+
+fn get_text<S: Alter>(
+    alloc: Global,
+    desk: &mut Desk<S>,
+    host: &Text,
+    target: &Text,
+    pass: &Option<Text>,
+) -> Result<String, AllocError>
+    ensures gets { IsHonest S.Store desk.new.tables
+        → IfOk result (λ text. GetsAt (world S.Store desk.old) host.now pass.now
+        (target_of target.now) (string_bytes text)) }
+    ensures same { IsHonest S.Store desk.new.tables
+        → world S.Store desk.new ≡ world S.Store desk.old }
+    ensures was { IsHonest S.Store desk.new.tables → IsHonest S.Store desk.old.tables }
+{
+    match Target::read(alloc, target.as_str().as_bytes()) {
+        Ok(target) => read_text(alloc, desk, host, pass, target),
+        Err(TextFault::Memory) => Err(AllocError),
+        Err(_) => String::from_str(alloc, "bad target"),
+    }
+}
+
+fn order_text<S: Alter>(
+    alloc: Global,
+    desk: &mut Desk<S>,
+    order: &Order,
+) -> Result<String, AllocError>
+    ensures does { IsHonest S.Store desk.new.tables
+        → IfOk result (λ text. DoesOrder (world S.Store desk.old) order.now
+        (world S.Store desk.new) (string_bytes text)) }
+    ensures was { IsHonest S.Store desk.new.tables → IsHonest S.Store desk.old.tables }
+{
+    match order {
+        Order::Act(command) => act_text(alloc, desk, command),
+        Order::Get { host, target, pass } => get_text(alloc, desk, host, target, pass),
+        Order::Script => String::from_str(alloc, "usage"),
+        Order::Answer => String::from_str(alloc, "usage"),
+    }
+}
+
+/// Does what the words of a line order, and gives what the line prints.
+fn line_text<'a, S: Alter>(
+    alloc: Global,
+    desk: &mut Desk<S>,
+    program: &mut clap::Command<'a>,
+    words: &'a [String],
+) -> Result<String, AllocError>
+    requires { StandsFor docs_app program.old }
+    ensures stands { StandsFor docs_app program.new }
+    ensures does { IsHonest S.Store desk.new.tables
+        → IfOk result (λ text. Does (world S.Store desk.old)
+        (line_in (map string_bytes words.now)) (world S.Store desk.new) (string_bytes text)) }
+    ensures was { IsHonest S.Store desk.new.tables → IsHonest S.Store desk.old.tables }
+{
+    match line_by(alloc, program, words) {
+        Ok(line) => order_text(alloc, desk, &line.order),
+        Err(LineFault::Usage) => String::from_str(alloc, "usage"),
+        Err(LineFault::Memory) => Err(AllocError),
+    }
+}
+
+/// Does what the words of a line order, and writes what the line prints.
+fn run_words<'a, S: Alter, W: Sink>(
+    alloc: Global,
+    desk: &mut Desk<S>,
+    program: &mut clap::Command<'a>,
+    words: &'a [String],
+    sink: &mut W,
+) -> Result<(), ScriptFault>
+    requires writes { W.broken sink.old ≡ false }
+    requires stands { StandsFor docs_app program.old }
+    ensures stays { StandsFor docs_app program.new }
+    ensures broken { W.broken sink.new ≡ writer_failed result }
+    ensures read { is_unread result ≡ false }
+{
+    let mut text = match line_text(alloc, desk, program, words) {
+        Ok(text) => text,
+        Err(_) => return Err(ScriptFault::Memory),
+    };
+    if text.push('\n').is_err() {
+        return Err(ScriptFault::Memory);
+    }
+    match put_all(sink, text.as_bytes()) {
+        Ok(()) => Ok(()),
+        Err(_) => Err(ScriptFault::Write),
+    }
+}
+
+/// Runs lines by one program of words.
+fn run_batch<'a, S: Alter, W: Sink>(
+    alloc: Global,
+    desk: &mut Desk<S>,
+    lines: &'a [Vec<String>],
+    sink: &mut W,
+) -> Result<(), ScriptFault>
+    requires { W.broken sink.old ≡ false }
+    ensures broken { W.broken sink.new ≡ writer_failed result }
+    ensures read { is_unread result ≡ false }
+{
+    let mut program = match docs_command(alloc) {
+        Ok(program) => program,
+        Err(_) => return Err(ScriptFault::Memory),
+    };
+    for words in lines {
+        run_words(alloc, desk, &mut program, words.as_slice(), sink)?;
+    }
+    Ok(())
+}
+
+/// The words of a line, which stand between its spaces and tabs. A comment has none.
+fn words_of(alloc: Global, line: &str) -> Result<Vec<String>, AllocError> {
+    let mut words = Vec::new(alloc);
+    if line.starts_with('#') {
+        return Ok(words);
+    }
+    for word in line.split([' ', '\t']) {
+        if !word.is_empty() {
+            words.push(String::from_str(alloc, word)?)?;
+        }
+    }
+    Ok(words)
+}
+
+/// Adds the words of a line to a batch, unless it has none.
+fn add_line(alloc: Global, batch: &mut Vec<Vec<String>>, line: &str) -> Result<(), AllocError> {
+    let words = words_of(alloc, line)?;
+    if !words.is_empty() {
+        batch.push(words)?;
+    }
+    Ok(())
+}
+
+fn run_lines<S: Alter, W: Sink>(
+    alloc: Global,
+    desk: &mut Desk<S>,
+    text: &str,
+    sink: &mut W,
+) -> Result<(), ScriptFault>
+    requires { W.broken sink.old ≡ false }
+    ensures broken { W.broken sink.new ≡ writer_failed result }
+    ensures read { is_unread result ≡ false }
+{
+    let mut batch = Vec::new(alloc);
+    for line in text.lines() {
+        if add_line(alloc, &mut batch, line).is_err() {
+            return Err(ScriptFault::Memory);
+        }
+        if batch.len() == BATCH {
+            run_batch(alloc, desk, batch.as_slice(), sink)?;
+            batch.clear();
+        }
+    }
+    run_batch(alloc, desk, batch.as_slice(), sink)
+}
+
+/// Runs the lines of a script, which is read whole before its first line runs: at most 1,048,576
+/// bytes in at most 100,000 reads. A line ends with LF or CR LF, and the last may lack its end; its
+/// words stand between spaces and tabs. A line without words is passed over, and so is one that
+/// begins with `#`. Each other line writes one line: what came of its command or read, `bad target`
+/// for a read whose target is none, or `usage`.
+pub fn run_script<S: Alter, R: Source, W: Sink>(
+    alloc: Global,
+    desk: &mut Desk<S>,
+    source: &mut R,
+    sink: &mut W,
+) -> Result<(), ScriptFault>
+    requires reader { R.broken source.old ≡ false }
+    requires writer { W.broken sink.old ≡ false }
+    ensures read_fault { R.broken source.new ≡ reader_failed result }
+    ensures write_fault { W.broken sink.new ≡ writer_failed result }
+    ensures unread { is_unread result ≡ true
+        → (desk.new ≡ desk.old) × (W.held sink.new ≡ W.held sink.old) }
+    ensures cause { IfErr result (λ fault. IfSome (R.left source.old) (IsCause fault)) }
+    ensures script { OnOk result (IfSome (R.left source.old) IsScript) }
+    ensures taken { TookAtMost (R.left source.old) (R.left source.new) 1052672 }
+    ensures reads { CountsUpTo (R.fills source.old) (R.fills source.new) 100000 }
+{
+    let bytes = read_script(alloc, source)?;
+    match str::from_utf8(bytes.as_slice()) {
+        Ok(text) => run_lines(alloc, desk, text, sink),
+        Err(_) => Err(ScriptFault::NotText),
+    }
+}

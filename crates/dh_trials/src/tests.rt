@@ -1,0 +1,95 @@
+//! A desk over tables in memory, and its calls. Those have no clause here, so that they stay out of a test's proof.
+
+mod answers;
+mod memory;
+mod tables;
+mod uploads;
+
+use dh_desk::{Answer, Command, Desk, Pages, Refusal, UploadedPage};
+use dh_paths::{Bytes, Text};
+use dh_reply::{Fault, Read, Reply};
+use dh_tables::Tables;
+use dh_versions::Kind;
+use sqlite::MemStore;
+use std::alloc::Global;
+use std::test::Fail;
+
+fn text(alloc: Global, text: &str) -> Result<Text, Fail> {
+    Ok(Text::copy_of(alloc, text)?)
+}
+
+fn empty_desk(alloc: Global) -> Result<Desk<MemStore>, Fail> {
+    let tables = Tables::in_memory(alloc)?;
+    if tables.is_settled() {
+        Ok(Desk::over(tables))
+    } else {
+        Err(Fail::from(Fault::Store))
+    }
+}
+
+fn new_project(alloc: Global) -> Result<Command, Fail> {
+    Ok(Command::NewProject {
+        host: text(alloc, "docs.test")?,
+        lang: text(alloc, "en")?,
+        branch: text(alloc, "main")?,
+        private: false,
+        wkey: text(alloc, "wkey-1")?,
+    })
+}
+
+/// A push of the default branch.
+fn push_main(alloc: Global) -> Result<Command, Fail> {
+    Ok(Command::Push {
+        host: text(alloc, "docs.test")?,
+        wkey: text(alloc, "wkey-1")?,
+        key: text(alloc, "k1")?,
+        kind: Kind::Branch,
+        name: text(alloc, "main")?,
+    })
+}
+
+/// An upload to `main`, in place of the pages that are there.
+fn upload(alloc: Global, pages: Vec<UploadedPage>) -> Result<Command, Fail> {
+    Ok(Command::Upload {
+        host: text(alloc, "docs.test")?,
+        wkey: text(alloc, "wkey-1")?,
+        key: text(alloc, "u1")?,
+        slug: text(alloc, "main")?,
+        lang: text(alloc, "en")?,
+        replace: true,
+        pages: Pages::wrap(pages),
+    })
+}
+
+/// A page whose body is so many times the letter `x`.
+fn page(alloc: Global, path: &str, media: &str, size: usize) -> Result<UploadedPage, Fail> {
+    Ok(UploadedPage {
+        path: text(alloc, path)?,
+        media: text(alloc, media)?,
+        body: Bytes::wrap(vec![in alloc; b'x'; size]?),
+    })
+}
+
+fn apply(alloc: Global, desk: &mut Desk<MemStore>, command: &Command) -> Result<Answer, Refusal> {
+    desk.apply(alloc, command)
+}
+
+fn get(alloc: Global, desk: &mut Desk<MemStore>, path: &str) -> Result<Reply, Fail> {
+    let asked = Read {
+        path: text(alloc, path)?,
+        query: None,
+    };
+    Ok(desk.read(alloc, "docs.test", None, &asked)?)
+}
+
+/// A desk with a project, whose default branch is pushed.
+fn pushed_desk(alloc: Global) -> Result<Desk<MemStore>, Fail> {
+    let mut desk = empty_desk(alloc)?;
+    if apply(alloc, &mut desk, &new_project(alloc)?).is_err() {
+        return Err(Fail::from("no project"));
+    }
+    if apply(alloc, &mut desk, &push_main(alloc)?).is_err() {
+        return Err(Fail::from("no version"));
+    }
+    Ok(desk)
+}

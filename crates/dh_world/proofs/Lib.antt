@@ -1,0 +1,5 @@
+pub mod AnswerLemmas
+pub mod MapLemmas
+pub mod SeenLemmas
+pub mod VeilLemmas
+pub mod RetryLemmas

@@ -1,0 +1,117 @@
+-- A caller sees the same in a world that holds nothing but what he sees.
+use Rattle.std.proofs.Common.{◌≡◌, Bool, true, false, not, ◌&&◌, ◌||◌, cond, List, [], ◌∷◌, filter, Option, Some, None, is_some, refl, sym, ap, ◌∙◌, true≢false, Ordering}
+use Rattle.std.specs.Prelude.{option_map}
+use Rattle.std.specs.Option.{option_map_or}
+use Rattle.std.specs.Str.{bytes_eq}
+use Rattle.std.specs.Cmp.{IsTotalOrder}
+use Rattle.std.specs.FinMap.{FinMap, IsAntisymmetric, empty, get, retain_keys, get-empty, get-insert, get-retain_keys, same_map}
+use Rattle.std.proofs.lemmas.Map.Lookups.{exact_bytes}
+use Rattle.std.proofs.lemmas.Slice.Eq.{bytes_eq-Decides}
+use Rattle.dh_versions.specs.declared.version.Version.{Version}
+use Rattle.dh_reply.specs.declared.seen_project.SeenProject.{SeenProject}
+use Rattle.dh_reply.specs.SeenProject.{resolved}
+use Rattle.dh_world.specs.World.{Text, text_cmp, Project, World, holds, may_see, is_visible}
+use Rattle.dh_world.specs.Seen.{default_of, visible_versions, visible_pages, without_default, with_default, seen_project, seen, is_alias, is_own, is_seen_name, veiled, alone, veil}
+use Rattle.dh_world.proofs.MapLemmas.{tied_text, text_total, page_total, page_exact, held_exact}
+
+-- ---- maps of which a test of the keys keeps a part
+
+module _ {K X : Type 0} {R : K → K → Ordering} (exact : IsAntisymmetric R) where
+  get_retained : (m : FinMap R X) (p : K → Bool) (q : K) → get (retain_keys m p) q ≡ cond (p q) (get m q) None
+  get_retained m p q = get-retain_keys m p q (λ x t. ap p (sym (exact q x t)))
+
+  get_passing : (m : FinMap R X) (p : K → Bool) (q : K) → p q ≡ true → get (retain_keys m p) q ≡ get m q
+  get_passing m p q e = get_retained m p q ∙ ap (λ b. cond b (get m q) None) e
+
+  -- what passes the narrower test may be tested by the wider one first
+  retain_wider : IsTotalOrder R → (m : FinMap R X) (p wide : K → Bool) → ((k : K) → p k ≡ true → wide k ≡ true) → retain_keys (retain_keys m wide) p ≡ retain_keys m p
+  retain_wider total m p wide h = same_map total exact _ _ (λ k. get_retained (retain_keys m wide) p k ∙ go k (p k) refl ∙ sym (get_retained m p k))
+    where
+      go : (k : K) (b : Bool) → p k ≡ b → cond b (get (retain_keys m wide) k) None ≡ cond b (get m k) None
+      go k true e = get_passing m wide k (h k e)
+      go k false e = refl
+
+-- ---- the same versions are visible
+
+own_pass : (pass : Text) → bytes_eq pass pass ≡ true
+own_pass pass = (bytes_eq-Decides pass pass).1 refl
+
+module _ (p : Project) (pass : Option Text) (slug : Text) where
+  abbrev visible_as : Option Version → Bool → Bool
+  visible_as o held = option_map_or (λ v. may_see v held) o false
+
+  still_held : is_visible p pass slug ≡ true → holds (veiled p pass) pass slug ≡ holds p pass slug
+  still_held e = go pass e
+    where
+      go : (t : Option Text) → is_visible p t slug ≡ true → holds (veiled p t) t slug ≡ holds p t slug
+      go None e = refl
+      go (Some t) e = λ i.
+          is_some (get_passing exact_bytes p.passes (is_own (Some t)) t (own_pass t) i)
+          && is_some (get_passing held_exact p.held (λ key. is_own (Some t) key.0 && is_visible p (Some t) key.1) (t, slug) (ap (λ b. b && is_visible p (Some t) slug) (own_pass t) ∙ e) i)
+
+  same_visible : is_visible (veiled p pass) pass slug ≡ is_visible p pass slug
+  same_visible = go (is_visible p pass slug) refl
+    where
+      go : (b : Bool) → is_visible p pass slug ≡ b → is_visible (veiled p pass) pass slug ≡ b
+      go true e =
+          ap (λ o. visible_as o (holds (veiled p pass) pass slug)) (get_passing exact_bytes p.versions (is_visible p pass) slug e)
+          ∙ ap (visible_as (get p.versions slug)) (still_held e) ∙ e
+      go false e =
+          ap (λ o. visible_as o (holds (veiled p pass) pass slug)) (get_retained exact_bytes p.versions (is_visible p pass) slug ∙ ap (λ b. cond b (get p.versions slug) None) e)
+
+-- ---- the same is seen
+
+-- names that do not resolve may be left out
+default_filter : (resolves keep : Text → Bool) → ((n : Text) → keep n ≡ false → resolves n ≡ false) → (names : List Text) → default_of resolves (filter keep names) ≡ default_of resolves names
+default_filter resolves keep h [] = refl
+default_filter resolves keep h (n ∷ names) = go (keep n) refl (default_filter resolves keep h names)
+  where
+    go : (b : Bool) → keep n ≡ b → default_of resolves (filter keep names) ≡ default_of resolves names
+        → default_of resolves (cond b (n ∷ filter keep names) (filter keep names)) ≡ cond (resolves n) (Some n) (default_of resolves names)
+    go true e more = ap (cond (resolves n) (Some n)) more
+    go false e more = more ∙ sym (ap (λ b. cond b (Some n) (default_of resolves names)) (h n e))
+
+module _ (p : Project) (pass : Option Text) where
+  abbrev undecided : SeenProject
+  undecided = without_default p.languages p.branch (visible_versions p pass) (visible_pages p pass)
+
+  -- what a name stands for does not go by the default
+  same_name : (name : Text) → resolved (seen_project p pass) name ≡ resolved undecided name
+  unfolding seen_project resolved
+  same_name name = refl
+
+  passed_over : (name : Text) → is_seen_name p pass name ≡ false → is_some (resolved undecided name) ≡ false
+  passed_over name e = ap is_some (sym (same_name name)) ∙ last (is_alias name) (is_some (resolved (seen_project p pass) name)) e
+    where
+      last : (a b : Bool) → (a || b) ≡ false → b ≡ false
+      last true b e = absurd (true≢false e)
+      last false b e = e
+
+  same_versions : visible_versions (veiled p pass) pass ≡ visible_versions p pass
+  same_versions =
+      ap (retain_keys (visible_versions p pass)) (λ i slug. same_visible p pass slug i)
+      ∙ retain_wider exact_bytes text_total p.versions (is_visible p pass) (is_visible p pass) (λ slug e. e)
+
+  same_pages : visible_pages (veiled p pass) pass ≡ visible_pages p pass
+  same_pages =
+      ap (retain_keys (visible_pages p pass)) (λ i key. same_visible p pass key.0 i)
+      ∙ retain_wider page_exact page_total p.pages (λ key. is_visible p pass key.0) (λ key. is_visible p pass key.0) (λ key e. e)
+
+  seen_veiled : seen_project (veiled p pass) pass ≡ seen_project p pass
+  unfolding seen_project
+  seen_veiled =
+      (λ i. with_default (without_default p.languages p.branch (same_versions i) (same_pages i)) (filter (is_seen_name p pass) p.defaults))
+      ∙ ap (λ d. record undecided { «default» = d }) (default_filter (λ name. is_some (resolved undecided name)) (is_seen_name p pass) passed_over p.defaults)
+
+-- ---- worlds
+
+found_alone : (host : Text) (p : Project) → get (alone host (Some p)) host ≡ Some p
+found_alone host p = get-insert text_total (empty {R = text_cmp}) host p host ∙ ap (λ b. cond b (Some p) (get (empty {R = text_cmp}) host)) (tied_text host host ∙ (bytes_eq-Decides host host).1 refl)
+
+seen_alone : (host : Text) (pass : Option Text) (o : Option Project) → seen (alone host (option_map (λ p. veiled p pass) o)) (Some host) pass ≡ option_map (λ p. seen_project p pass) o
+seen_alone host pass None = ap (option_map (λ p. seen_project p pass)) (get-empty text_cmp host)
+seen_alone host pass (Some p) = ap (option_map (λ p. seen_project p pass)) (found_alone host (veiled p pass)) ∙ ap Some (seen_veiled p pass)
+
+pub veil_law : (w : World) (host pass : Option Text) → seen (veil w host pass) host pass ≡ seen w host pass
+veil_law w None pass = refl
+veil_law w (Some host) pass = seen_alone host pass (get w host)

@@ -1,0 +1,64 @@
+-- What a command answers, and the JSON that is kept and sent of it.
+use Rattle.std.specs.Prelude.{◌<◌, ◌^◌, ℕ, Bool, List, Option, Some, None, codes, nat_lt, option_map, option_and_then, if◌then◌else◌, IsTrue}
+use Rattle.std.specs.Str.{bytes_eq}
+use Rattle.serde_json.specs.Data.{Data, boolean, number, unsigned, string, object, no_members, member}
+use Rattle.serde_json.specs.Find.{get, as_str, as_bool, as_number, as_u64}
+use Rattle.serde_json.specs.Read.{read}
+use Rattle.serde_json.specs.Written.{compact_text}
+use Rattle.dh_paths.specs.Texts.{is_slug}
+use Rattle.dh_world.specs.declared.answer.Answer.{Answer}
+use Rattle.dh_world.specs.declared.answer.Answer.TheVariants.{Done, Made, Known, Stored}
+
+-- its slug is one, its count of pages fits 32 bits
+abbrev pub IsAnswer : Answer → Type 0
+IsAnswer Done = Unit {0}
+IsAnswer (Made slug active hidden private) = IsTrue (is_slug slug)
+IsAnswer (Known slug) = IsTrue (is_slug slug)
+IsAnswer (Stored pages) = pages < 2 ^ 32
+
+-- the answer as a JSON object, its keys in the order of their bytes; `Done` has none
+abbrev pub data_of : Answer → Option Data
+data_of Done = None
+data_of (Made slug active hidden private) = Some (object
+    (member (codes "active") (boolean active) (member (codes "answer") (string (codes "made"))
+    (member (codes "hidden") (boolean hidden) (member (codes "private") (boolean private)
+    (member (codes "slug") (string slug) no_members))))))
+data_of (Known slug) = Some (object (member (codes "answer") (string (codes "known")) (member (codes "slug") (string slug) no_members)))
+data_of (Stored pages) = Some (object (member (codes "answer") (string (codes "stored")) (member (codes "pages") (number (unsigned pages)) no_members)))
+
+-- its text, with no spaces
+abbrev pub json_of : Answer → Option (List ℕ)
+json_of a = option_map compact_text (data_of a)
+
+-- ---- the answer that an object reads as
+
+abbrev pub text_at : List ℕ → Data → Option (List ℕ)
+text_at key d = option_and_then as_str (get key d)
+
+abbrev pub flag_at : List ℕ → Data → Option Bool
+flag_at key d = option_and_then as_bool (get key d)
+
+abbrev pub slug_in : Data → Option (List ℕ)
+slug_in d = option_and_then (λ s. if is_slug s then Some s else None) (text_at (codes "slug") d)
+
+abbrev pub pages_in : Data → Option ℕ
+pages_in d = option_and_then (λ n. if nat_lt n (2 ^ 32) then Some n else None) (option_and_then as_u64 (option_and_then as_number (get (codes "pages") d)))
+
+abbrev pub made_in : Data → Option Answer
+made_in d =
+    option_and_then (λ slug. option_and_then (λ active. option_and_then (λ hidden. option_map (λ private. Made slug active hidden private)
+    (flag_at (codes "private") d)) (flag_at (codes "hidden") d)) (flag_at (codes "active") d)) (slug_in d)
+
+abbrev pub named_in : List ℕ → Data → Option Answer
+named_in name d =
+    if bytes_eq name (codes "made") then made_in d
+    else if bytes_eq name (codes "known") then option_map Known (slug_in d)
+    else if bytes_eq name (codes "stored") then option_map Stored (pages_in d)
+    else None
+
+abbrev pub answer_in : Data → Option Answer
+answer_in d = option_and_then (λ name. named_in name d) (text_at (codes "answer") d)
+
+-- the answer that a kept text tells
+abbrev pub answer_of : List ℕ → Option Answer
+answer_of text = option_and_then answer_in (read text)

@@ -1,0 +1,247 @@
+-- What each command makes of the project of its host, once its texts are found to be values of their types.
+use Rattle.std.specs.Prelude.{Bool, true, false, not, ◌&&◌, nat_lt, if◌then◌else◌, List, [], ◌∷◌, ◌++◌, filter, length, Option, Some, None, Result, Ok, Err}
+use Rattle.std.specs.List.{list_any}
+use Rattle.std.specs.Str.{bytes_eq}
+use Rattle.std.specs.FinMap.{FinMap, empty, get, insert, remove, retain_keys, contains_key, len}
+use Rattle.dh_paths.specs.Slugs.{slug_text}
+use Rattle.dh_versions.specs.declared.version.Kind.{Kind}
+use Rattle.dh_versions.specs.declared.version.Kind.TheVariants.{Branch, Tag}
+use Rattle.dh_versions.specs.declared.version.Version.{Version}
+use Rattle.dh_reply.specs.declared.answer.Page.{Page}
+use Rattle.dh_world.specs.declared.answer.Answer.{Answer}
+use Rattle.dh_world.specs.declared.answer.Answer.TheVariants.{Done, Made, Known, Stored}
+use Rattle.dh_world.specs.declared.operation.Operation.TheVariants as operation
+use Rattle.dh_world.specs.World.{Text, Project, page_cmp, lies_under, UsedKey, op_code}
+use Rattle.dh_world.specs.Seen.{is_alias}
+use Rattle.dh_world.specs.declared.command.Command.{Command}
+use Rattle.dh_world.specs.declared.command.Command.TheVariants.{NewProject, AddLang, Push, Upload, Activate, Deactivate, Hide, Unhide, Publish, MakePrivate, Gone, SetDefault, AddPass, DropPass, Grant, Revoke}
+use Rattle.dh_world.specs.declared.pages.UploadedPage.{UploadedPage}
+use Rattle.dh_world.specs.declared.property.Property.{Property}
+use Rattle.dh_world.specs.declared.property.Property.TheVariants as property
+use Rattle.dh_world.specs.declared.refusal.Refusal.{Refusal}
+use Rattle.dh_world.specs.declared.refusal.Refusal.TheVariants.{NoProject, ProjectTaken, WrongKey, LangTaken, NoLang, NoVersion, SlugTaken, Inactive, TooMany, PassTaken, NoPass}
+
+-- the project as it then is, and the answer; or the refusal
+abbrev pub Change : Type 0
+Change = Result (Project × Answer) Refusal
+
+abbrev pub has_lang : Project → Text → Bool
+has_lang p lang = list_any (λ l. bytes_eq l lang) p.languages
+
+-- ---- NewProject and AddLang
+
+-- a project with one language and nothing else
+abbrev pub new_project : Text → Text → Bool → Text → Project
+new_project lang branch private wkey = record {
+  languages = lang ∷ [];
+  branch = branch;
+  new_private = private;
+  wkey = wkey;
+  versions = empty;
+  pages = empty;
+  defaults = [];
+  passes = empty;
+  held = empty;
+  used = empty;
+}
+
+-- the language is not there, there are fewer than 30: it is added last
+abbrev pub add_lang : Text → Project → Change
+add_lang lang p =
+    if has_lang p lang then Err LangTaken
+    else if nat_lt (length p.languages) 30 then Ok (record p { languages = p.languages ++ lang ∷ [] }, Done)
+    else Err TooMany
+
+-- ---- retry keys
+
+abbrev pub push_key : Text → Text → UsedKey
+push_key slug key = (slug, (op_code operation.Push, key))
+
+abbrev pub upload_key : Text → Text → UsedKey
+upload_key slug key = (slug, (op_code operation.Upload, key))
+
+-- the answer is kept as the first one to its key
+abbrev pub keep : UsedKey → Answer → Project → Change
+keep key answer p = Ok (record p { used = insert p.used key answer }, answer)
+
+-- a key that was used gives its first answer and changes nothing; any other lets the command run, and keeps its answer
+abbrev pub once : Project → Option Answer → Change → Change
+once p (Some first) change = Ok (p, first)
+once p None change = change
+
+-- ---- Push
+
+abbrev pub same_kind : Kind → Kind → Bool
+same_kind Branch Branch = true
+same_kind Tag Tag = true
+same_kind _ _ = false
+
+-- a branch whose name is the default branch
+abbrev pub is_default_branch : Project → Kind → Text → Bool
+is_default_branch p kind name = same_kind kind Branch && bytes_eq name p.branch
+
+-- a new version is not hidden, has the project's privacy, and is active only if it is the default branch
+abbrev pub new_version : Project → Kind → Text → Version
+new_version p kind name = record {
+  slug = slug_text name;
+  kind = kind;
+  name = name;
+  active = is_default_branch p kind name;
+  hidden = false;
+  private = p.new_private;
+}
+
+-- the project with a version under a slug
+abbrev pub with_version : Project → Text → Version → Project
+with_version p slug v = record p { versions = insert p.versions slug v }
+
+abbrev pub made : Version → Answer
+made v = Made v.slug v.active v.hidden v.private
+
+-- by the version that has the slug: the same branch or tag is known, another has taken the slug; where there is none, it is made
+abbrev pub pushed : Project → Text → Kind → Text → Option Version → Change
+pushed p key kind name (Some v) =
+    if same_kind v.kind kind && bytes_eq v.name name then keep (push_key (slug_text name) key) (Known v.slug) p
+    else Err SlugTaken
+pushed p key kind name None =
+    let v : Version = new_version p kind name in
+    keep (push_key (slug_text name) key) (made v) (with_version p v.slug v)
+
+-- by the write key, by the answer kept under the retry key, and by the version with the slug
+abbrev pub push : Text → Text → Kind → Text → Project → Change
+push wkey key kind name p =
+    if bytes_eq wkey p.wkey then once p (get p.used (push_key (slug_text name) key)) (pushed p key kind name (get p.versions (slug_text name)))
+    else Err WrongKey
+
+-- ---- Upload
+
+-- with `replace`, the pages without those of the version and language
+abbrev pub cleared : Bool → Text → Text → FinMap page_cmp Page → FinMap page_cmp Page
+cleared true slug lang pages = retain_keys pages (λ key. not (lies_under slug (Some lang) key))
+cleared false slug lang pages = pages
+
+-- one page after the other, each in place of one that has its path
+abbrev pub with_pages : Text → Text → List UploadedPage → FinMap page_cmp Page → FinMap page_cmp Page
+with_pages slug lang [] pages = pages
+with_pages slug lang (x ∷ xs) pages = with_pages slug lang xs (insert pages (slug, (lang, x.path)) (record { media = x.media; body = x.body }))
+
+abbrev pub stored : Text → Text → Bool → List UploadedPage → Project → Project
+stored slug lang replace uploaded p = record p { pages = with_pages slug lang uploaded (cleared replace slug lang p.pages) }
+
+-- by the version with the slug: it has to be there and active, and the language one of the project's
+abbrev pub uploaded : Project → Text → Text → Text → Bool → List UploadedPage → Option Version → Change
+uploaded p key slug lang replace pages None = Err NoVersion
+uploaded p key slug lang replace pages (Some v) =
+    if not v.active then Err Inactive
+    else if not (has_lang p lang) then Err NoLang
+    else keep (upload_key slug key) (Stored (length pages)) (stored slug lang replace pages p)
+
+-- by the write key, by the answer kept under the retry key, and by the version with the slug
+abbrev pub upload : Text → Text → Text → Text → Bool → List UploadedPage → Project → Change
+upload wkey key slug lang replace pages p =
+    if bytes_eq wkey p.wkey then once p (get p.used (upload_key slug key)) (uploaded p key slug lang replace pages (get p.versions slug))
+    else Err WrongKey
+
+-- ---- the properties of a version
+
+-- what follows for a version, which has to be there
+abbrev pub at_version : Option Version → (Version → Change) → Change
+at_version None next = Err NoVersion
+at_version (Some v) next = next v
+
+-- the version with one property set, and all else as it was
+abbrev pub with_property : Property → Version → Version
+with_property property.Active v = record v { active = true }
+with_property property.Hidden v = record v { hidden = true }
+with_property property.Shown v = record v { hidden = false }
+with_property property.Public v = record v { private = false }
+with_property property.Private v = record v { private = true }
+
+abbrev pub set_property : Property → Text → Project → Change
+set_property property slug p = at_version (get p.versions slug) (λ v. Ok (with_version p slug (with_property property v), Done))
+
+-- the project without the pages of a version, in all languages
+abbrev pub without_pages : Text → Project → Project
+without_pages slug p = record p { pages = retain_keys p.pages (λ key. not (lies_under slug None key)) }
+
+-- the version is inactive, and its pages are gone
+abbrev pub deactivate : Text → Project → Change
+deactivate slug p = at_version (get p.versions slug) (λ v. Ok (without_pages slug (with_version p slug (record v { active = false })), Done))
+
+-- ---- Gone and SetDefault
+
+-- the names but for this one
+abbrev pub without_name : Text → List Text → List Text
+without_name name names = filter (λ n. not (bytes_eq n name)) names
+
+-- the project without a version: its pages, the grants on it and its name among the defaults go with it, and used keys stay
+abbrev pub without_version : Text → Project → Project
+without_version slug p = record (without_pages slug p) {
+  versions = remove p.versions slug;
+  defaults = without_name slug p.defaults;
+  held = retain_keys p.held (λ key. not (bytes_eq key.1 slug));
+}
+
+abbrev pub gone : Text → Project → Change
+gone slug p = at_version (get p.versions slug) (λ v. Ok (without_version slug p, Done))
+
+-- the name is the first of the defaults, and stands there once
+abbrev pub with_default : Text → Project → Project
+with_default name p = record p { defaults = name ∷ without_name name p.defaults }
+
+-- an alias may stand for nothing; a version has to be there and active
+abbrev pub set_default : Text → Project → Change
+set_default name p =
+    if is_alias name then Ok (with_default name p, Done)
+    else at_version (get p.versions name) (λ v. if v.active then Ok (with_default name p, Done) else Err Inactive)
+
+-- ---- passes
+
+-- the pass is not there, there are fewer than 1,000: it is added, and holds nothing
+abbrev pub add_pass : Text → Project → Change
+add_pass pass p =
+    if contains_key p.passes pass then Err PassTaken
+    else if nat_lt (len p.passes) 1000 then Ok (record p { passes = insert p.passes pass tt }, Done)
+    else Err TooMany
+
+-- what follows where the project has the pass
+abbrev pub at_pass : Project → Text → Project → Change
+at_pass p pass after = if contains_key p.passes pass then Ok (after, Done) else Err NoPass
+
+-- the pass goes, with its grants
+abbrev pub drop_pass : Text → Project → Change
+drop_pass pass p = at_pass p pass (record p { passes = remove p.passes pass; held = retain_keys p.held (λ key. not (bytes_eq key.0 pass)) })
+
+-- by the version and then by the pass: the pass holds the version
+abbrev pub grant : Text → Text → Project → Change
+grant pass slug p = at_version (get p.versions slug) (λ v. at_pass p pass (record p { held = insert p.held (pass, slug) tt }))
+
+-- and no longer
+abbrev pub revoke : Text → Text → Project → Change
+revoke pass slug p = at_version (get p.versions slug) (λ v. at_pass p pass (record p { held = remove p.held (pass, slug) }))
+
+-- ---- all commands
+
+-- where the host has no project
+abbrev pub opened : Command → Change
+opened (NewProject host lang branch private wkey) = Ok (new_project lang branch private wkey, Done)
+opened _ = Err NoProject
+
+-- where the host has a project
+abbrev pub change : Command → Project → Change
+change (NewProject host lang branch private wkey) p = Err ProjectTaken
+change (AddLang host lang) p = add_lang lang p
+change (Push host wkey key kind name) p = push wkey key kind name p
+change (Upload host wkey key slug lang replace pages) p = upload wkey key slug lang replace pages p
+change (Activate host slug) p = set_property property.Active slug p
+change (Deactivate host slug) p = deactivate slug p
+change (Hide host slug) p = set_property property.Hidden slug p
+change (Unhide host slug) p = set_property property.Shown slug p
+change (Publish host slug) p = set_property property.Public slug p
+change (MakePrivate host slug) p = set_property property.Private slug p
+change (Gone host slug) p = gone slug p
+change (SetDefault host name) p = set_default name p
+change (AddPass host pass) p = add_pass pass p
+change (DropPass host pass) p = drop_pass pass p
+change (Grant host pass slug) p = grant pass slug p
+change (Revoke host pass slug) p = revoke pass slug p

@@ -1,0 +1,38 @@
+-- What the checks of texts answer, and the refusals for faults.
+use Rattle.std.specs.Prelude.{◌≡◌, ◌⊎◌, Bool, true, false, Option, Some, None, Result, Ok, Err}
+use Rattle.dh_world.specs.World.{Text}
+use Rattle.dh_paths.specs.declared.fault.TextFault.{TextFault}
+use Rattle.dh_paths.specs.declared.fault.TextFault.TheVariants as text
+use Rattle.dh_reply.specs.declared.fault.Fault.{Fault}
+use Rattle.dh_reply.specs.declared.fault.Fault.TheVariants as fault
+use Rattle.dh_world.specs.declared.refusal.Refusal.{Refusal}
+use Rattle.dh_world.specs.declared.refusal.Refusal.TheVariants.{BadHost, BadLang, BadRef, BadPath, BadToken, Store, OutOfMemory}
+
+-- the refusal of a command for what a text is not; no command has a target
+abbrev pub refusal_of : TextFault → Refusal
+refusal_of text.BadHost = BadHost
+refusal_of text.BadLang = BadLang
+refusal_of text.BadRef = BadRef
+refusal_of text.BadPath = BadPath
+refusal_of text.BadToken = BadToken
+refusal_of text.BadTarget = BadPath
+refusal_of text.Memory = OutOfMemory
+
+-- a text that passes is taken as it is; the refusal comes only of one that does not pass, or of want of memory
+abbrev pub Reads : (Text → Bool) → Refusal → Text → Result Text Refusal → Type 0
+Reads test refusal text (Ok value) = (value ≡ text) × (test text ≡ true)
+Reads test refusal text (Err e) = ((e ≡ refusal) × (test text ≡ false)) ⊎ (e ≡ OutOfMemory)
+
+-- what has the property is answered only where nothing is wrong; a refusal is the first wrong thing, or want of memory
+abbrev pub Checks : {A : Type 0} → Option Refusal → (A → Type 0) → Result A Refusal → Type 0
+Checks wrong P (Ok value) = (wrong ≡ None) × P value
+Checks wrong P (Err e) = (wrong ≡ Some e) ⊎ (e ≡ OutOfMemory)
+
+-- the refusal of a command for a fault of the tables
+abbrev pub refusal_from : Fault → Refusal
+refusal_from fault.Store = Store
+refusal_from fault.Memory = OutOfMemory
+
+-- a fault of the store, and want of memory, may come wherever they occur
+abbrev pub IsSetAside : Refusal → Type 0
+IsSetAside e = (e ≡ Store) ⊎ (e ≡ OutOfMemory)

@@ -1,0 +1,10 @@
+pub mod World
+pub mod Answers
+pub mod Seen
+pub mod Refusals
+pub mod Checks
+pub mod Texts
+pub mod Changes
+pub mod Step
+pub mod Retries
+pub mod Reads

@@ -1,0 +1,20 @@
+-- Whose project is asked for, and by whom.
+use Rattle.std.specs.Prelude.{Bool, true, false, if◌then◌else◌, Option, Some, None, Result, Err}
+use Rattle.dh_paths.specs.Texts.{is_host_name, is_token}
+use Rattle.dh_reply.specs.declared.answer.Reply.{Reply}
+use Rattle.dh_reply.specs.declared.fault.Fault.{Fault}
+use Rattle.dh_reply.specs.declared.fault.Fault.TheVariants.{Store}
+use Rattle.dh_world.specs.World.{Text}
+
+-- a name that is no host's names no project
+abbrev pub host_named : Text → Option Text
+host_named name = if is_host_name name then Some name else None
+
+-- a text that is no pass is none
+abbrev pub pass_named : Text → Option Text
+pass_named text = if is_token text then Some text else None
+
+-- whether the answer is a fault of the store
+abbrev pub is_unanswered : Result Reply Fault → Bool
+is_unanswered (Err Store) = true
+is_unanswered _ = false

@@ -1,0 +1,71 @@
+-- The numbers and names of refusals, and how checks stand one after the other.
+use Rattle.std.specs.Prelude.{ℕ, Bool, true, false, List, [], ◌∷◌, Option, Some, None, codes}
+use Rattle.dh_world.specs.declared.refusal.Refusal.{Refusal}
+use Rattle.dh_world.specs.declared.refusal.Refusal.TheVariants.{BadHost, BadLang, BadRef, BadPath, BadPage, BadPattern, BadRedirect, BadToken, BadKey, NoProject, ProjectTaken, WrongKey, LangTaken, NoLang, NoVersion, SlugTaken, Inactive, BadPlace, TooMany, PassTaken, NoPass, PatternRefused, Store, OutOfMemory}
+
+abbrev pub number_of : Refusal → ℕ
+number_of BadHost = 1
+number_of BadLang = 2
+number_of BadRef = 3
+number_of BadPath = 4
+number_of BadPage = 5
+number_of BadPattern = 6
+number_of (BadRedirect fault) = 7
+number_of BadToken = 8
+number_of BadKey = 9
+number_of NoProject = 10
+number_of ProjectTaken = 11
+number_of WrongKey = 12
+number_of LangTaken = 13
+number_of NoLang = 14
+number_of NoVersion = 15
+number_of SlugTaken = 16
+number_of Inactive = 17
+number_of BadPlace = 18
+number_of TooMany = 19
+number_of PassTaken = 20
+number_of NoPass = 21
+number_of (PatternRefused place) = 22
+number_of Store = 23
+number_of OutOfMemory = 24
+
+abbrev pub name_of : Refusal → List ℕ
+name_of BadHost = codes "BadHost"
+name_of BadLang = codes "BadLang"
+name_of BadRef = codes "BadRef"
+name_of BadPath = codes "BadPath"
+name_of BadPage = codes "BadPage"
+name_of BadPattern = codes "BadPattern"
+name_of (BadRedirect fault) = codes "BadRedirect"
+name_of BadToken = codes "BadToken"
+name_of BadKey = codes "BadKey"
+name_of NoProject = codes "NoProject"
+name_of ProjectTaken = codes "ProjectTaken"
+name_of WrongKey = codes "WrongKey"
+name_of LangTaken = codes "LangTaken"
+name_of NoLang = codes "NoLang"
+name_of NoVersion = codes "NoVersion"
+name_of SlugTaken = codes "SlugTaken"
+name_of Inactive = codes "Inactive"
+name_of BadPlace = codes "BadPlace"
+name_of TooMany = codes "TooMany"
+name_of PassTaken = codes "PassTaken"
+name_of NoPass = codes "NoPass"
+name_of (PatternRefused place) = codes "PatternRefused"
+name_of Store = codes "Store"
+name_of OutOfMemory = codes "OutOfMemory"
+
+-- the refusal, unless the test passes
+abbrev pub unless : Bool → Refusal → Option Refusal
+unless true refusal = None
+unless false refusal = Some refusal
+
+-- this refusal, else the other
+abbrev pub or_else : Option Refusal → Option Refusal → Option Refusal
+or_else (Some refusal) rest = Some refusal
+or_else None rest = rest
+
+-- the first refusal of a list of checks
+abbrev pub first_of : List (Option Refusal) → Option Refusal
+first_of [] = None
+first_of (check ∷ checks) = or_else check (first_of checks)

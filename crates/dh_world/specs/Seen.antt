@@ -1,0 +1,88 @@
+-- What a caller sees of a project (Read the Docs, Versions).
+use Rattle.std.specs.Prelude.{Bool, false, ◌&&◌, ◌||◌, if◌then◌else◌, List, [], ◌∷◌, map, filter, slice_get, Option, Some, None, is_some, option_map, option_and_then, codes}
+use Rattle.std.specs.Str.{bytes_eq}
+use Rattle.std.specs.FinMap.{FinMap, empty, get, insert, retain_keys, entries, keys, values}
+use Rattle.dh_versions.specs.Aliases.{latest_of, stable_of}
+use Rattle.dh_versions.specs.declared.version.Version.{Version}
+use Rattle.dh_reply.specs.declared.answer.Page.{Page}
+use Rattle.dh_reply.specs.declared.seen_project.SeenProject.{SeenProject}
+use Rattle.dh_reply.specs.declared.seen_project.StoredPage.{StoredPage}
+use Rattle.dh_reply.specs.SeenProject.{resolved}
+use Rattle.dh_world.specs.World.{Text, text_cmp, PageKey, page_cmp, Project, World, is_visible}
+
+-- `latest` or `stable`
+abbrev pub is_alias : Text → Bool
+is_alias name = bytes_eq name (codes "latest") || bytes_eq name (codes "stable")
+
+-- the first of the names that resolves; else `latest`, else `stable`, each if it resolves
+abbrev pub default_of : (Text → Bool) → List Text → Option Text
+default_of resolves [] =
+    if resolves (codes "latest") then Some (codes "latest")
+    else if resolves (codes "stable") then Some (codes "stable")
+    else None
+default_of resolves (name ∷ names) = if resolves name then Some name else default_of resolves names
+
+abbrev pub visible_versions : Project → Option Text → FinMap text_cmp Version
+visible_versions p pass = retain_keys p.versions (is_visible p pass)
+
+abbrev pub visible_pages : Project → Option Text → FinMap page_cmp Page
+visible_pages p pass = retain_keys p.pages (λ key. is_visible p pass key.0)
+
+abbrev pub stored_page : PageKey × Page → StoredPage
+stored_page e = record { lang = e.0.1.0; slug = e.0.0; path = e.0.1.1; page = e.1 }
+
+-- languages, versions in the order of their slugs, pages, and the two aliases of those versions; the default is left open
+unfoldable pub without_default : List Text → Text → FinMap text_cmp Version → FinMap page_cmp Page → SeenProject
+without_default languages branch versions pages = record {
+  langs = languages;
+  versions = values versions;
+  pages = map stored_page (entries pages);
+  latest = option_and_then (slice_get (keys versions)) (latest_of (values versions) branch);
+  stable = option_and_then (slice_get (keys versions)) (stable_of (values versions));
+  «default» = None;
+}
+
+abbrev pub with_default : SeenProject → List Text → SeenProject
+with_default p names = record p { «default» = default_of (λ name. is_some (resolved p name)) names }
+
+-- the project as the holder of this pass sees it, or a caller with none: no private version that the pass does not hold, no rank, pass or key
+unfoldable pub seen_project : Project → Option Text → SeenProject
+seen_project p pass = with_default (without_default p.languages p.branch (visible_versions p pass) (visible_pages p pass)) p.defaults
+
+-- what that caller sees under a host
+abbrev pub seen : World → Option Text → Option Text → Option SeenProject
+seen w host pass = option_map (λ p. seen_project p pass) (option_and_then (get w) host)
+
+-- the caller's own pass
+abbrev pub is_own : Option Text → Text → Bool
+is_own None x = false
+is_own (Some pass) x = bytes_eq x pass
+
+-- An alias, or a name that stands for a version that the caller sees.
+abbrev pub is_seen_name : Project → Option Text → Text → Bool
+is_seen_name p pass name = is_alias name || is_some (resolved (seen_project p pass) name)
+
+-- What is left of a project that holds nothing but what this caller sees: the visible versions, their pages, the defaults that he may see, and of the passes his own with the visible slugs that it holds.
+abbrev pub veiled : Project → Option Text → Project
+veiled p pass = record {
+  languages = p.languages;
+  branch = p.branch;
+  new_private = false;
+  wkey = codes "x";
+  versions = visible_versions p pass;
+  pages = visible_pages p pass;
+  defaults = filter (is_seen_name p pass) p.defaults;
+  passes = retain_keys p.passes (is_own pass);
+  held = retain_keys p.held (λ key. is_own pass key.0 && is_visible p pass key.1);
+  used = empty;
+}
+
+-- a world of this project alone, or of none
+abbrev pub alone : Text → Option Project → World
+alone host None = empty
+alone host (Some p) = insert empty host p
+
+-- the world with the project of that host alone, and of it only what this caller sees
+abbrev pub veil : World → Option Text → Option Text → World
+veil w None pass = empty
+veil w (Some host) pass = alone host (option_map (λ p. veiled p pass) (get w host))

@@ -1,0 +1,94 @@
+-- What a documentation host holds: to each host its project.
+use Rattle.std.specs.Prelude.{ℕ, Bool, true, false, not, ◌&&◌, ◌||◌, List, Option, Some, None}
+use Rattle.std.specs.Option.{option_map_or}
+use Rattle.std.specs.Str.{bytes_eq}
+use Rattle.std.specs.declared.cmp.Ordering.{Ordering}
+use Rattle.std.specs.Ordering.{nat_cmp, ordering_then}
+use Rattle.std.specs.Cmp.Lexicographic.{slice_cmp}
+use Rattle.std.specs.FinMap.{FinMap, get, contains_key}
+use Rattle.std.specs.FinSet.{FinSet}
+use Rattle.dh_versions.specs.declared.version.Version.{Version}
+use Rattle.dh_reply.specs.declared.answer.Page.{Page}
+use Rattle.dh_world.specs.declared.answer.Answer.{Answer}
+use Rattle.dh_world.specs.declared.operation.Operation.{Operation}
+use Rattle.dh_world.specs.declared.operation.Operation.TheVariants.{Push, Upload}
+
+abbrev pub Text : Type 0
+Text = List ℕ
+
+-- texts in the order of their bytes
+abbrev pub text_cmp : Text → Text → Ordering
+text_cmp = slice_cmp nat_cmp
+
+-- by the first parts, and where they tie by the second
+abbrev pub pair_cmp : {A B : Type 0} → (A → A → Ordering) → (B → B → Ordering) → A × B → A × B → Ordering
+pair_cmp first second x y = ordering_then (first x.0 y.0) (second x.1 y.1)
+
+-- slug, language and path of a page
+abbrev pub PageKey : Type 0
+PageKey = Text × (Text × Text)
+
+abbrev pub page_cmp : PageKey → PageKey → Ordering
+page_cmp = pair_cmp text_cmp (pair_cmp text_cmp text_cmp)
+
+-- the page is one of this version, and of this language where one is given
+abbrev pub lies_under : Text → Option Text → PageKey → Bool
+lies_under slug None key = bytes_eq key.0 slug
+lies_under slug (Some lang) key = bytes_eq key.0 slug && bytes_eq key.1.0 lang
+
+abbrev pub op_code : Operation → ℕ
+op_code Push = 0
+op_code Upload = 1
+
+abbrev pub is_upload : Operation → Bool
+is_upload Push = false
+is_upload Upload = true
+
+-- slug, 0 for a push and 1 for an upload, retry key
+abbrev pub UsedKey : Type 0
+UsedKey = Text × (ℕ × Text)
+
+abbrev pub used_cmp : UsedKey → UsedKey → Ordering
+used_cmp = pair_cmp text_cmp (pair_cmp nat_cmp text_cmp)
+
+-- a pass and a slug that it holds
+abbrev pub HeldKey : Type 0
+HeldKey = Text × Text
+
+abbrev pub held_cmp : HeldKey → HeldKey → Ordering
+held_cmp = pair_cmp text_cmp text_cmp
+
+-- A project; rules and redirects are to join it.
+pub record Project : Type 0 where
+  -- the main one first
+  pub languages : List Text
+  pub branch : Text
+  -- whether a new version is private
+  pub new_private : Bool
+  -- the write key
+  pub wkey : Text
+  pub versions : FinMap text_cmp Version
+  pub pages : FinMap page_cmp Page
+  -- slugs and names of aliases, the newest first
+  pub defaults : List Text
+  pub passes : FinSet text_cmp
+  -- a pass and the slug of a version that it opens
+  pub held : FinSet held_cmp
+  -- the first answer to each retry key
+  pub used : FinMap used_cmp Answer
+
+abbrev pub World : Type 0
+World = FinMap text_cmp Project
+
+-- the pass is one of the project's, and holds the version
+abbrev pub holds : Project → Option Text → Text → Bool
+holds p None slug = false
+holds p (Some pass) slug = contains_key p.passes pass && contains_key p.held (pass, slug)
+
+-- the version is active, and it is public or the caller's pass holds it
+abbrev pub may_see : Version → Bool → Bool
+may_see v held = v.active && (not v.private || held)
+
+-- the version with the slug is one that the caller may see
+abbrev pub is_visible : Project → Option Text → Text → Bool
+is_visible p pass slug = option_map_or (λ v. may_see v (holds p pass slug)) (get p.versions slug) false

@@ -1,0 +1,22 @@
+//! What a documentation host means: its world, what a caller sees of it, and the one step that each command is.
+#![tactic(auto)]
+
+pub mod answer;
+pub mod command;
+mod laws;
+pub mod operation;
+pub mod outcome;
+pub mod pages;
+pub mod property;
+pub mod refusal;
+
+pub use answer::Answer;
+pub use command::Command;
+pub use laws::{
+    answers_for_good, first_is_kept, kept_is_answered, kept_stays, veil_law, veiled_reply,
+};
+pub use operation::Operation;
+pub use outcome::Outcome;
+pub use pages::{Pages, UploadedPage};
+pub use property::Property;
+pub use refusal::Refusal;

@@ -1,5 +1,0 @@
-use Rattle.std.proofs.Common.{◌≡◌, false}
-use Rattle.docs_host.proofs.script.run_lines.Given as goal
-
-abbrev pub invariant-loop-line : goal.invariant-loop-line
-invariant-loop-line g l = record { fine : g.W.Sink.broken l.sink ≡ false }
