@@ -6,8 +6,9 @@ use Rattle.sqlite_trees.specs.declared.store.Store.{Ghosts}
 use Rattle.sqlite.specs.Effect.{Database}
 use Rattle.sqlite.specs.State.{HasCleanDisk}
 use Rattle.sqlite.specs.Held.{Held, state}
-use Rattle.dh_rows.specs.Calls.{whole, Edits, Keep, AreOurs, IsHonest, LeavesTrees, Leaves, Shows, IsSame, IsUndone, IsRefused, Becomes, KeepsCommitted, seen, committed}
-use Rattle.dh_rows.proofs.Views.{changes, leaves, leaves_now}
+use Rattle.dh_rows.specs.Calls.{whole, Edits, EditsAtMost, Makes, Keep, AreOurs, IsHonest, LeavesTrees, Leaves, Lasts, Goes, GoesWithin, Stays, Sees, Refuses, Shows, IsSame, IsUndone, IsRefused, Becomes, KeepsCommitted, CommitsAtMost, seen, committed}
+use Rattle.dh_rows.proofs.Views.{leaves, leaves_now}
+use Rattle.dh_tables.specs.Calling.{Asks, Writes, Learns}
 use Rattle.dh_tables.specs.Lists.{Lists}
 use Rattle.dh_tables.specs.Making.{GoesOn, CommitsNothing}
 use Rattle.dh_tables.specs.Tables.{Holds, lists_of}
@@ -86,24 +87,40 @@ module _ {S : Type 0} (g : Ghosts S) (old new : Held S) where
       let honest : IsHonest g old = was (clean, live) in
       by_result r (λ p. undone_keeps (ours honest.0 honest.1) p) (λ q. refused_keeps (ours honest.0 honest.1) q) (ok (clean, live)) (err (clean, live))
 
-  -- a read leaves the tables ours
-  pub read_ours : {T E : Type 0} (r : Result T E) → AreOurs Holds (state g old) → (IsHonest g new → IsHonest g old) → (IsHonest g old → HasCleanDisk (state g new) → OnOk r (IsSame g whole old new)) → (IsHonest g new → OnErr r (IsRefused g whole old new)) → AreOurs Holds (state g new)
-  read_ours r ours was same err = stay_ours _ r ours was same err same_keeps
+  -- a look leaves the tables ours
+  pub read_ours : {T E : Type 0} (r : Result T E) → AreOurs Holds (state g old) → Goes g old new → Stays g whole old new r → Refuses g whole old new r → AreOurs Holds (state g new)
+  read_ours r ours goes same err = stay_ours _ r ours goes.lasts.was (λ _. same) err same_keeps
 
   pub commit_leaves : AreOurs Holds (state g old) → LeavesTrees g old new (λ db. db ≡ (state g old).now.trees) → Leaves g lists_of old new (λ w. w ≡ lists_of (state g old).now)
   commit_leaves ours left = leaves_now g lists_of old new (λ honest. (ours honest.0 honest.1).steady) left
 
--- ---- the value of a read
+-- ---- looks
 
-pub first_value : {X E : Type 0} {R : Type 0} {P : List R → Type 0} (encode : X → R) (r : Result (Option X) E) (ys : List X) (v : Option X) → IfOk r (λ o. (xs : List X) → ((rows : List R) → P rows → rows ≡ map encode xs) → o ≡ slice_get xs 0)
+module _ {S : Type 0} (g : Ghosts S) (old new : Held S) where
+  -- what a query leaves, over the lists
+  pub asked : {T : Type 0} (r : Result T Fault) → Goes g old new → Stays g whole old new r → Refuses g whole old new r → Asks g old new r
+  asked r goes same err = record {
+    goes = goes;
+    same = λ clean. on_ok g old new (shown g old new _ _ _) r (same clean);
+    err = λ honest. on_err g old new (refused g old new) r (err honest);
+  }
+
+  -- an answer is of a store that is honest before and after
+  pub answered : {T : Type 0} (r : Result T Fault) (fact : Lists → T → Type 0) → Asks g old new r → Learns g old new r fact → HasCleanDisk (state g new) → IfOk r (λ x. IsHonest g old × fact (seen g lists_of old) x)
+  answered (Ok x) fact asks learns clean = let same = asks.same clean in (same.was_honest, learns (clean, same.is_open))
+  answered (Err e) fact asks learns clean = tt
+
+-- ---- the value of a look
+
+pub first_value : (H : Type 0) {X E : Type 0} {R : Type 0} {P : List R → Type 0} (encode : X → R) (r : Result (Option X) E) (ys : List X) (v : Option X) → IfOk r (λ o. H × ((xs : List X) → ((rows : List R) → P rows → rows ≡ map encode xs) → o ≡ slice_get xs 0))
     → ((rows : List R) → P rows → rows ≡ map encode ys) → slice_get ys 0 ≡ v → IfOk r (λ o. o ≡ v)
-first_value encode (Ok o) ys v h reads e = h ys reads ∙ e
-first_value encode (Err x) ys v h reads e = tt
+first_value H encode (Ok o) ys v h reads e = h.1 ys reads ∙ e
+first_value H encode (Err x) ys v h reads e = tt
 
-pub all_value : {X V E : Type 0} {R : Type 0} {P : List R → Type 0} (encode : X → R) (items : V → List X) (r : Result V E) (ys : List X) → IfOk r (λ v. (xs : List X) → ((rows : List R) → P rows → rows ≡ map encode xs) → items v ≡ xs)
+pub all_value : (H : Type 0) {X V E : Type 0} {R : Type 0} {P : List R → Type 0} (encode : X → R) (items : V → List X) (r : Result V E) (ys : List X) → IfOk r (λ v. H × ((xs : List X) → ((rows : List R) → P rows → rows ≡ map encode xs) → items v ≡ xs))
     → ((rows : List R) → P rows → rows ≡ map encode ys) → IfOk r (λ v. items v ≡ ys)
-all_value encode items (Ok v) ys h reads = h ys reads
-all_value encode items (Err x) ys h reads = tt
+all_value H encode items (Ok v) ys h reads = h.1 ys reads
+all_value H encode items (Err x) ys h reads = tt
 
 -- ---- a write
 
@@ -115,28 +132,50 @@ pub record Changed (db after : Database) (change : Lists → Lists) : Type 0 whe
 
 module _ {S : Type 0} (g : Ghosts S) (old new : Held S) (ours : AreOurs Holds (state g old)) (sql : List ℕ) (params : Row) (change : Lists → Lists)
     (effect : IsHonest g old → (after : Database) → Edits (state g old) sql params after → Changed (state g old).now after change) where
-  abbrev Ran : Result (Unit {0}) Fault → Type 0
-  Ran r = IsHonest g old → HasCleanDisk (state g new) → OnOk r (Becomes g whole old new (state g new).now × Edits (state g old) sql params (state g new).now)
+  abbrev Saw : Result (Unit {0}) Fault → Type 0
+  Saw r = OnOk r (Sees g whole old new (state g new).now)
 
   both : IsHonest g old → (after : Database) → Edits (state g old) sql params after → (after.schema ≡ (state g old).now.schema) × (lists_of after ≡ change (lists_of (state g old).now))
   both honest after it = let e = effect honest after it in (e.schema, e.lists)
 
-  pub written : (r : Result (Unit {0}) Fault) → Ran r → IsHonest g old → HasCleanDisk (state g new) → OnOk r (Becomes g lists_of old new (change (lists_of (state g old).now)))
-  written r ran honest clean = changes g lists_of old new sql params (change (lists_of (state g old).now)) both r (ran honest) honest clean
+  saw : (r : Result (Unit {0}) Fault) → Lasts g old new → Saw r → Makes g old new sql params r → OnOk r (Sees g lists_of old new (change (seen g lists_of old)))
+  saw (Ok u) lasts it made =
+      let lists : (honest : IsHonest g new) → lists_of (state g new).now ≡ change (lists_of (state g old).now) = λ honest. let was = lasts.was honest in (effect was (state g new).now (made was honest.0)).lists in
+      record { live = it.live; now_is = lists; mode = it.mode; done = λ honest out. ap lists_of (it.done honest out) ∙ lists honest }
+  saw (Err e) lasts it made = tt
 
-  pub write_leaves : LeavesTrees g old new (λ db. (old.in_transaction ≡ false) × (after : Database) × Edits (state g old) sql params after × (db ≡ after.trees))
-      → Leaves g lists_of old new (λ w. (old.in_transaction ≡ false) × (w ≡ change (lists_of (state g old).now)))
-  write_leaves left = leaves g lists_of old new sql params (change (lists_of (state g old).now)) both (λ honest. (ours honest.0 honest.1).steady) left
+  -- what a statement leaves, over the lists
+  pub wrote : (r : Result (Unit {0}) Fault) → GoesWithin g old new → Saw r → Makes g old new sql params r → Refuses g whole old new r → EditsAtMost g old new sql params → Writes g old new r change
+  wrote r goes sees made err crash = record {
+    goes = goes;
+    sees = saw r goes.lasts sees made;
+    err = λ honest. on_err g old new (refused g old new) r (err honest);
+    crash = leaves g lists_of old new sql params (change (lists_of (state g old).now)) both (λ honest. (ours honest.0 honest.1).steady) crash;
+  }
 
-  after_write : Keep Holds (state g old) → (now : Database) → Changed (state g old).now now change → (b : Bool) → Shows g whole old new now (cond b (state g old).committed now) b → Keep Holds (state g new)
-  after_write k now e true it = keeps g old new now (state g old).committed true it e.holds k.last (e.schema ∙ k.steady) (λ x. absurd (true≢false x))
-  after_write k now e false it = keeps g old new now now false it e.holds e.holds refl (λ _. refl)
+  after_write : IsHonest g new → Keep Holds (state g old) → Changed (state g old).now (state g new).now change → GoesWithin g old new → Sees g whole old new (state g new).now → (b : Bool) → old.in_transaction ≡ b → Keep Holds (state g new)
+  after_write honest k e goes it true within = record {
+    now = e.holds;
+    last = subst Holds (sym (goes.kept within honest)) k.last;
+    steady = e.schema ∙ k.steady ∙ sym (ap (λ (d : Database). d.schema) (goes.kept within honest));
+    settled = λ out. absurd (true≢false (sym (it.mode honest ∙ within) ∙ out));
+  }
+  after_write honest k e goes it false out = record {
+    now = e.holds;
+    last = subst Holds (sym (it.done honest out)) e.holds;
+    steady = sym (ap (λ (d : Database). d.schema) (it.done honest out));
+    settled = λ _. sym (it.done honest out);
+  }
 
-  pub written_ours : (r : Result (Unit {0}) Fault) → (IsHonest g new → IsHonest g old) → Ran r → (IsHonest g new → OnErr r (IsRefused g whole old new)) → AreOurs Holds (state g new)
-  written_ours r was ran err clean live =
-      let honest : IsHonest g old = was (clean, live) in
+  pub written_ours : (r : Result (Unit {0}) Fault) → GoesWithin g old new → Saw r → Makes g old new sql params r → Refuses g whole old new r → AreOurs Holds (state g new)
+  written_ours r goes sees made err clean live =
+      let honest : IsHonest g old = goes.lasts.was (clean, live) in
       let k = ours honest.0 honest.1 in
-      by_result g old new r (λ p. after_write k (state g new).now (effect honest (state g new).now p.1) old.in_transaction p.0) (λ q. refused_keeps g old new k q) (ran honest clean) (err (clean, live))
+      go r sees (made honest clean) (err (clean, live)) k honest (clean, live)
+    where
+      go : (r : Result (Unit {0}) Fault) → Saw r → OnOk r (Edits (state g old) sql params (state g new).now) → OnErr r (IsRefused g whole old new) → Keep Holds (state g old) → IsHonest g old → IsHonest g new → Keep Holds (state g new)
+      go (Ok u) it made err k was now = after_write now k (effect was (state g new).now made) goes it old.in_transaction refl
+      go (Err e) it made err k was now = refused_keeps g old new k err
 
 -- ---- making tables
 

@@ -107,19 +107,6 @@ module _ {S : Type 0} (g : Ghosts S) where
       -- `Store` is answered with a cause alone
       pub told : OnStore result (Fails old new)
 
-    -- Where the store is honest, an answer and the records before stand so to each other.
-    abbrev pub Learns : (Lists → T → Type 0) → Type 0
-    Learns fact = IsHonest g new → IfOk result (fact (seen g lists_of old))
-
-    -- Where the store is honest, an answer is this of the records before.
-    abbrev pub Reads : (Lists → T) → Type 0
-    Reads value = Learns (λ l read. read ≡ value l)
-
-  -- the same of a list
-  abbrev pub ReadsAll
-      : {U Z : Type 0} → Held S → Held S → Result (Vec U Z) Fault → (Lists → List U) → Type 0
-  ReadsAll old new result value = Learns old new result (λ l read. read.items ≡ value l)
-
   pub unmoved_none : (h : Held S) → IsHonest g h → IsUnmoved h h
   unmoved_none h it = record {
     same = record { was_honest = it; is_open = it.1; now_is = refl; last_is = refl; mode = refl };

@@ -9,7 +9,8 @@ ghost use Rattle.dh_rows.specs.Calls.{IsHonest};
 ghost use Rattle.dh_reply.specs.SeenProject.{resolved, page_at};
 ghost use Rattle.dh_tables.specs.Lists.{project_of};
 ghost use Rattle.dh_world.specs.Seen.{visible_versions};
-ghost use Rattle.dh_tables.specs.View.{IsSettled, IsUnmoved, Fails, Learns, Looks, Queries, Reads, ReadsAll, doubt_of, looks_on, project_in, shown, shown_under, unmoved_on};
+ghost use Rattle.dh_tables.specs.Calling.{Learns, Reads, ReadsAll};
+ghost use Rattle.dh_tables.specs.View.{IsSettled, IsUnmoved, Fails, Looks, Queries, doubt_of, looks_on, project_in, shown, shown_under, unmoved_on};
 
 mod aliases;
 mod defaults;
