@@ -4,5 +4,6 @@ pub mod Rules
 pub mod Tables
 pub mod Changes
 pub mod Calling
+pub mod InTurn
 pub mod Making
 pub mod View

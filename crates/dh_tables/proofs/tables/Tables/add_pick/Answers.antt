@@ -19,7 +19,7 @@ invariant_of-self g c =
     let fits : FitsSigned w64 c.in_ok-rank.rank = search rules in
     written_ours g.S.Store c.self.inside.conn c.write.new.conn c.self.invariant add_pick_text (Text c.args.host.now ∷ Text c.args.name.now ∷ Int (to_z w64 (of_z w64 c.in_ok-rank.rank)) ∷ []) (λ l. record l { picks = added picks.key (record { host = c.args.host.now; name = c.args.name.now; rank = c.args.rank }) l.picks }) (λ honest. add_pick_ranked (state g.S.Store c.self.inside.conn) (c.self.invariant honest.0 honest.1).now (record { host = c.args.host.now; name = c.args.name.now; rank = c.args.rank }) (to_z w64 (of_z w64 c.in_ok-rank.rank)) (to_z-of_z w64 c.in_ok-rank.rank fits ∙ c.in_ok-rank.ensures) ((rw (← c.self.view_is) at c.requires.free) honest)) c.write.result c.write.ensures.goes c.write.ensures.sees (rw (c.params-to_sql.ensures, c.params-to_sql-2.ensures, c.params-to_sql-3.ensures, c.as_str.ensures.text, c.as_str-2.ensures.text) at c.write.ensures.made) c.write.ensures.err
 
-pub returns-clause-writes : goal.returns-clause-writes
-returns-clause-writes g c =
+pub returns : goal.returns
+returns g c =
     let fits : FitsSigned w64 c.in_ok-rank.rank = search rules in
-    rw (← c.self.view_is) (wrote g.S.Store c.self.inside.conn c.write.new.conn c.self.invariant add_pick_text (Text c.args.host.now ∷ Text c.args.name.now ∷ Int (to_z w64 (of_z w64 c.in_ok-rank.rank)) ∷ []) (λ l. record l { picks = added picks.key (record { host = c.args.host.now; name = c.args.name.now; rank = c.args.rank }) l.picks }) (λ honest. add_pick_ranked (state g.S.Store c.self.inside.conn) (c.self.invariant honest.0 honest.1).now (record { host = c.args.host.now; name = c.args.name.now; rank = c.args.rank }) (to_z w64 (of_z w64 c.in_ok-rank.rank)) (to_z-of_z w64 c.in_ok-rank.rank fits ∙ c.in_ok-rank.ensures) ((rw (← c.self.view_is) at c.requires.free) honest)) c.write.result c.write.ensures.goes c.write.ensures.sees (rw (c.params-to_sql.ensures, c.params-to_sql-2.ensures, c.params-to_sql-3.ensures, c.as_str.ensures.text, c.as_str-2.ensures.text) at c.write.ensures.made) c.write.ensures.err (rw (c.params-to_sql.ensures, c.params-to_sql-2.ensures, c.params-to_sql-3.ensures, c.as_str.ensures.text, c.as_str-2.ensures.text) at c.write.ensures.crash))
+    record { writes = rw (← c.self.view_is) (wrote g.S.Store c.self.inside.conn c.write.new.conn c.self.invariant add_pick_text (Text c.args.host.now ∷ Text c.args.name.now ∷ Int (to_z w64 (of_z w64 c.in_ok-rank.rank)) ∷ []) (λ l. record l { picks = added picks.key (record { host = c.args.host.now; name = c.args.name.now; rank = c.args.rank }) l.picks }) (λ honest. add_pick_ranked (state g.S.Store c.self.inside.conn) (c.self.invariant honest.0 honest.1).now (record { host = c.args.host.now; name = c.args.name.now; rank = c.args.rank }) (to_z w64 (of_z w64 c.in_ok-rank.rank)) (to_z-of_z w64 c.in_ok-rank.rank fits ∙ c.in_ok-rank.ensures) ((rw (← c.self.view_is) at c.requires.free) honest)) c.write.result c.write.ensures.goes c.write.ensures.sees (rw (c.params-to_sql.ensures, c.params-to_sql-2.ensures, c.params-to_sql-3.ensures, c.as_str.ensures.text, c.as_str-2.ensures.text) at c.write.ensures.made) c.write.ensures.err (rw (c.params-to_sql.ensures, c.params-to_sql-2.ensures, c.params-to_sql-3.ensures, c.as_str.ensures.text, c.as_str-2.ensures.text) at c.write.ensures.crash)) }
