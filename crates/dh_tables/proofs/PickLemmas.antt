@@ -1,5 +1,6 @@
 -- Defaults that are added one after the other, in the order of their ranks.
 use Rattle.std.proofs.Common.{◌≡◌, ℕ, suc, zero, ◌+◌, ◌<◌, ◌≤◌, true, false, true≢false, Result, Ok, Err, OnOk, not, List, [], ◌∷◌, filter, drop, length, slice_index_or, refl, sym, ap, subst, ◌∙◌, arith, add-one}
+use Rattle.std.proofs.Math.Seq.{drop-nil}
 use Rattle.std.specs.List.{AllByRecursion}
 use Rattle.sqlite_trees.specs.declared.store.Store.{Ghosts}
 use Rattle.sqlite.specs.Held.{Held}
@@ -51,7 +52,7 @@ module _ {S : Type 0} (g : Ghosts S) (host : List ℕ) (names : List (List ℕ))
     more_goes it = goes_on had.goes had.sees.live (goes_within it at)
 
     -- one more is added
-    pub one_more : (name d : List ℕ) → i < length names → name ≡ slice_index_or names i d → Writes g now next (Ok tt) (change.add_pick (pick_row host name (i + 1))) → AreAdded next (i + 1)
+    pub one_more : (name d : List ℕ) → i < length names → name ≡ slice_index_or names i d → Writes g now next (Ok (tt {0})) (change.add_pick (pick_row host name (i + 1))) → AreAdded next (i + 1)
     one_more name d h e it =
         let x : PickRow = pick_row host name (i + 1) in
         let was : IsHonest g next → IsHonest g now = it.goes.lasts.was in
@@ -74,7 +75,7 @@ module _ {S : Type 0} (g : Ghosts S) (host : List ℕ) (names : List (List ℕ))
         }
 
   -- all are added
-  pub all_added : (now : Held S) (i : ℕ) → length names ≤ i → AreAdded now i → WritesWithin g old now (Ok tt) (change.with_picks (ranked host 1 names))
+  pub all_added : (now : Held S) (i : ℕ) → length names ≤ i → AreAdded now i → WritesWithin g old now (Ok (tt {0})) (change.with_picks (ranked host 1 names))
   all_added now i past had =
       let lists : (honest : IsHonest g now) → seen g lists_of now ≡ change.with_picks (ranked host 1 names) (seen g lists_of old) = λ honest.
           had.sees.now_is honest ∙ ap (λ p. record (seen g lists_of old) { picks = p }) (ap (λ ns. with_picks (ranked host (i + 1) ns) (seen g lists_of now).picks) (sym (none_left names i past)) ∙ had.left honest) in
@@ -89,7 +90,7 @@ pub taken_out : (host : List ℕ) (now before : Lists) → now ≡ record before
 taken_out host now before e = subst (λ (l : Lists). AllByRecursion (λ r. is_pick_of host r ≡ false) l.picks) (sym e) (all_taken_out host before.picks)
 
 module _ {S : Type 0} (g : Ghosts S) (old middle new : Held S) (host : List ℕ) (names : List (List ℕ)) (r : Result (Unit {0}) Fault) where
-  pub set_after : (IsHonest g old → old.in_transaction ≡ true) → Writes g old middle (Ok tt) (change.drop_picks host) → WritesWithin g middle new r (change.with_picks (ranked host 1 names)) → WritesWithin g old new r (change.set_picks host names)
+  pub set_after : (IsHonest g old → old.in_transaction ≡ true) → Writes g old middle (Ok (tt {0})) (change.drop_picks host) → WritesWithin g middle new r (change.with_picks (ranked host 1 names)) → WritesWithin g old new r (change.set_picks host names)
   set_after within dropped it = record {
     goes = goes_on (goes_within dropped.goes within) dropped.sees.live it.goes;
     sees = go r it.sees;

@@ -68,17 +68,6 @@ module _ {S : Type 0} (g : Ghosts S) where
       let before = was same.was_honest in
       record { outside = same.mode ∙ before.outside; same = same.now_is ∙ before.same ∙ sym same.last_is }
 
-  -- ---- one look
-
-  refused_unmoved : (a b : Held S) → IsSettled g a → IsRefused g lists_of a b → IsSame g lists_of a b
-  refused_unmoved a b was (inl it) = it
-  refused_unmoved a b was (inr it) = record { was_honest = it.was_honest; is_open = it.is_open; now_is = it.now_is ∙ sym was.same; last_is = it.last_is; mode = it.mode ∙ sym was.outside }
-
-  pub looked : {T E : Type 0} (a b : Held S) (r : Result T E) → (IsHonest g a → IsSettled g a) → (HasCleanDisk (state g b) → HasCleanDisk (state g a)) → (IsHonest g b → IsHonest g a)
-      → (IsHonest g a → HasCleanDisk (state g b) → OnOk r (IsSame g lists_of a b)) → (IsHonest g b → OnErr r (IsRefused g lists_of a b)) → Leaves g lists_of a b (λ w. ⊥) → Looks g a b
-  looked a b (Ok x) settled clean was same err crash = record { clean = clean; unmoved = λ it. record { same = same (was it) it.0; left = crash } }
-  looked a b (Err e) settled clean was same err crash = record { clean = clean; unmoved = λ it. record { same = refused_unmoved a b (settled (was it)) (err it); left = crash } }
-
   pub shown_same : (a b : Held S) (host pass : Option Text) → Looks g a b → IsHonest g b → shown g b host pass ≡ shown g a host pass
   shown_same a b host pass it h = ap (λ l. caller.seen (world_of l) host pass) (it.unmoved h).same.now_is
 

@@ -27,4 +27,4 @@ pub returns-clause-value : goal.returns-clause-value
 returns-clause-value g c = rw (← c.self.view_is) (λ now. let honest = c.all_records.ensures.goes.lasts.was now in all_value _ versions.encode (λ v. v.items) c.all_records.result (filter (is_version_of c.args.host.now) (lists_of (state g.S.Store c.self.inside.conn).now).versions) (c.all_records.ensures.value now.0) (λ rows it. (versions_answers (state g.S.Store c.self.inside.conn) (c.self.invariant honest.0 honest.1).now c.args.host.now).reads rows (as_reads _ versions_text _ _ _ (rw (c.params-to_sql.ensures, c.as_str.ensures.text) at it) refl)))
 
 pub returns-clause-order : goal.returns-clause-order
-returns-clause-order g c = rw (← c.self.view_is) (λ now. let honest = c.all_records.ensures.goes.lasts.was now in kept_by RiseBySlug (λ v. v.items) c.all_records.result (filter (is_version_of c.args.host.now) (lists_of (state g.S.Store c.self.inside.conn).now).versions) (all_value _ versions.encode (λ v. v.items) c.all_records.result (filter (is_version_of c.args.host.now) (lists_of (state g.S.Store c.self.inside.conn).now).versions) (c.all_records.ensures.value now.0) (λ rows it. (versions_answers (state g.S.Store c.self.inside.conn) (c.self.invariant honest.0 honest.1).now c.args.host.now).reads rows (as_reads _ versions_text _ _ _ (rw (c.params-to_sql.ensures, c.as_str.ensures.text) at it) refl))) (host_rises (state g.S.Store c.self.inside.conn).now (c.self.invariant honest.0 honest.1).now c.args.host.now))
+returns-clause-order g c = (λ now. let honest = c.all_records.ensures.goes.lasts.was now in kept_by RiseBySlug (λ v. v.items) c.all_records.result (filter (is_version_of c.args.host.now) (lists_of (state g.S.Store c.self.inside.conn).now).versions) (all_value _ versions.encode (λ v. v.items) c.all_records.result (filter (is_version_of c.args.host.now) (lists_of (state g.S.Store c.self.inside.conn).now).versions) (c.all_records.ensures.value now.0) (λ rows it. (versions_answers (state g.S.Store c.self.inside.conn) (c.self.invariant honest.0 honest.1).now c.args.host.now).reads rows (as_reads _ versions_text _ _ _ (rw (c.params-to_sql.ensures, c.as_str.ensures.text) at it) refl))) (host_rises (state g.S.Store c.self.inside.conn).now (c.self.invariant honest.0 honest.1).now c.args.host.now))
