@@ -1,12 +1,1 @@
-pub mod Turning
-pub mod ProjectLemmas
-pub mod EmptyLemmas
-pub mod Becoming
-pub mod PushLemmas
-pub mod PushTurns
-pub mod UploadLemmas
-pub mod UploadTurns
-pub mod PropertyLemmas
-pub mod DefaultLemmas
-pub mod PassLemmas
-pub mod Crashing
+pub mod Applying

@@ -1,34 +1,16 @@
--- What the calls of the desk make of its tables.
-use Rattle.std.specs.Prelude.{◌≡◌, ◌⊎◌, Bool, true, false, Result, Ok, Err, refl}
+-- A desk, and the world of its tables.
+use Rattle.std.specs.Prelude.{Bool, true, false, Result, Ok, Err, refl}
 use Rattle.std.specs.Coded.{Coded, code_by, coded×, coded_bool}
 use Rattle.sqlite_trees.specs.declared.store.Store.{Ghosts}
 use Rattle.sqlite.specs.Held.{Held, held_code}
-use Rattle.dh_rows.specs.Calls.{IsHonest, committed}
-use Rattle.dh_world.specs.declared.answer.Answer.{Answer}
+use Rattle.dh_rows.specs.Calls.{IsHonest}
+use Rattle.dh_tables.specs.Lists.{world_of}
+use Rattle.dh_transactions.specs.Going.{last_records}
+use Rattle.dh_transactions.specs.Sound.{AreSound}
 use Rattle.dh_world.specs.World.{World}
-use Rattle.dh_tables.specs.Lists.{Lists, world_of}
-use Rattle.dh_tables.specs.Tables.{lists_of}
-use Rattle.dh_tables.specs.Rules.{AreInOrder, KeepsRules}
-use Rattle.dh_world.specs.declared.command.Command.{Command}
+use Rattle.dh_world.specs.declared.answer.Answer.{Answer}
 use Rattle.dh_world.specs.declared.refusal.Refusal.{Refusal}
 use Rattle.dh_world.specs.declared.refusal.Refusal.TheVariants.{Store}
-use Rattle.dh_world.specs.Checks.{IsSetAside}
-use Rattle.dh_world.specs.Step.{turn, step}
-
--- the records are in order and keep the rules
-pub record AreSound (lists : Lists) : Type 0 where
-  pub order : AreInOrder lists
-  pub rules : KeepsRules lists
-
--- the calls of a command whose texts are right, before their commit
-abbrev pub Turns : Lists → Lists → Command → Result Answer Refusal → Type 0
-Turns before after c (Ok answer) = (turn (world_of before) c ≡ Ok (world_of after, answer)) × AreSound after
-Turns before after c (Err e) = IsSetAside e ⊎ (turn (world_of before) c ≡ Err e)
-
--- all calls of a command, by what is committed
-abbrev pub Steps : Lists → Lists → Command → Result Answer Refusal → Type 0
-Steps before after c (Ok answer) = (step (world_of before) c ≡ Ok (world_of after, answer)) × AreSound after
-Steps before after c (Err e) = (after ≡ before) × (IsSetAside e ⊎ (step (world_of before) c ≡ Err e))
 
 -- a desk: its tables, and whether a fault of the store has closed it
 pub record Standing (S : Type 0) : Type 0 where
@@ -36,7 +18,9 @@ pub record Standing (S : Type 0) : Type 0 where
   pub closed : Bool
 
 abbrev pub standing_code : {S : Type 0} → Coded S → Coded (Standing S)
-standing_code code = code_by (Held _ × Bool) (coded× (held_code code) coded_bool) (λ d. (d.tables, d.closed)) (λ p. record { tables = p.0; closed = p.1 }) (λ _. refl)
+standing_code code =
+    code_by (Held _ × Bool) (coded× (held_code code) coded_bool)
+    (λ d. (d.tables, d.closed)) (λ p. record { tables = p.0; closed = p.1 }) (λ _. refl)
 
 -- whether the answer is a fault of the store
 abbrev pub is_fault : Result Answer Refusal → Bool
@@ -46,8 +30,8 @@ is_fault _ = false
 module _ {S : Type 0} (g : Ghosts S) where
   -- the world that the tables spell, as it was committed last
   abbrev pub world : Standing S → World
-  world d = world_of (committed g lists_of d.tables)
+  world d = world_of (last_records g d.tables)
 
   -- while the store is honest, what is committed is sound
   abbrev pub IsKept : Held S → Type 0
-  IsKept h = IsHonest g h → AreSound (committed g lists_of h)
+  IsKept h = IsHonest g h → AreSound (last_records g h)

@@ -1,29 +1,26 @@
-ghost use Rattle.std.specs.Prelude.{◌≡◌, ◌⊎◌, true, false, Err, IfOk, OnOk, IfErr};
+//! The desk and its two calls.
+ghost use Rattle.std.specs.Prelude.{◌≡◌, ◌⊎◌, true, false, Err, IfOk, IfErr, OnOk};
 ghost use Rattle.std.specs.Option.{option_map, option_and_then};
 ghost use Rattle.sqlite.specs.Held.{state};
 ghost use Rattle.sqlite.specs.State.{HasCleanDisk};
-ghost use Rattle.dh_rows.specs.Calls.{IsHonest, LeavesNoMore, LeavesCommitted, seen, committed};
 ghost use Rattle.dh_paths.specs.Places.{split_of};
 ghost use Rattle.dh_reply.specs.Replies.{is_system, reply_to};
-ghost use Rattle.dh_world.specs.Seen as caller;
+ghost use Rattle.dh_rows.specs.Calls.{IsHonest, LeavesNoMore, LeavesCommitted};
 ghost use Rattle.dh_tables.specs.Tables.{lists_of};
-ghost use Rattle.dh_world.specs.Reads.{host_named, pass_named, is_unanswered};
+ghost use Rattle.dh_transactions.specs.Crashes.{LeavesStep, LeavesEither};
+ghost use Rattle.dh_transactions.specs.Going.{IsOver, last_records};
+ghost use Rattle.dh_transactions.specs.Sound.{Steps};
 ghost use Rattle.dh_world.specs.Checks.{IsSetAside};
-ghost use Rattle.dh_desk.specs.Crashes.{LeavesStep, LeavesEither};
-ghost use Rattle.dh_desk.specs.Desk.{AreSound, Steps, IsKept, is_fault, world};
+ghost use Rattle.dh_world.specs.Reads.{host_named, pass_named, is_unanswered};
+ghost use Rattle.dh_world.specs.Seen as caller;
 ghost use Rattle.dh_world.specs.Step.{IsStep};
+ghost use Rattle.dh_desk.specs.Desk.{IsKept, is_fault, world};
 
-use crate::defaults::{gone, set_default};
-use crate::passes::{add_pass, drop_pass, grant, revoke};
-use crate::projects::{add_lang, new_project};
-use crate::properties::{deactivate, set_property};
-use crate::pushes::push;
 use crate::reads::read;
-use crate::uploads::upload;
-use dh_paths::Text;
 use dh_reply::{Fault, Read, Reply};
 use dh_tables::Tables;
-use dh_world::{Answer, Command, Property, Refusal};
+use dh_transactions::run;
+use dh_world::{Answer, Command, Refusal};
 use sqlite::{Alter, Connection};
 use std::alloc::Global;
 use std::marker::Model;
@@ -56,79 +53,24 @@ impl<S: Alter> Model for Desk<S> {
     ghost invariant = { λ d. IsKept S.Store d.tables };
 }
 
-/// A command on tables outside a transaction.
-fn run<S: Alter>(
-    tables: &mut Tables<S>,
-    alloc: Global,
-    command: &Command,
-) -> Result<Answer, Refusal>
-    requires settled { IsHonest S.Store tables.old → seen S.Store lists_of tables.old ≡ committed S.Store lists_of tables.old }
-    requires sound { IsHonest S.Store tables.old → AreSound (committed S.Store lists_of tables.old) }
-    ensures steps { IsHonest S.Store tables.new → Steps (committed S.Store lists_of tables.old) (committed S.Store lists_of tables.new) command.now result }
-    ensures crash { LeavesStep S.Store tables.old tables.new command.now }
-    ensures refused { IfErr result (λ e. IsSetAside e ⊎ LeavesNoMore S.Store tables.old tables.new) }
-    ensures live { HasCleanDisk (state S.Store tables.new) → OnOk result (IsHonest S.Store tables.new) }
-    ensures clean { HasCleanDisk (state S.Store tables.new) → HasCleanDisk (state S.Store tables.old) }
-    ensures was { IsHonest S.Store tables.new → IsHonest S.Store tables.old }
-{
-    match command {
-        Command::NewProject {
-            host,
-            lang,
-            branch,
-            private,
-            wkey,
-        } => new_project(tables, alloc, host, lang, branch, *private, wkey),
-        Command::AddLang { host, lang } => add_lang(tables, alloc, host, lang),
-        Command::Push {
-            host,
-            wkey,
-            key,
-            kind,
-            name,
-        } => push(tables, alloc, host, wkey, key, *kind, name),
-        Command::Upload {
-            host,
-            wkey,
-            key,
-            slug,
-            lang,
-            replace,
-            pages,
-        } => upload(tables, alloc, host, wkey, key, slug, lang, *replace, pages),
-        Command::Activate { host, slug } => {
-            set_property(tables, alloc, host, slug, Property::Active)
-        }
-        Command::Deactivate { host, slug } => deactivate(tables, alloc, host, slug),
-        Command::Hide { host, slug } => set_property(tables, alloc, host, slug, Property::Hidden),
-        Command::Unhide { host, slug } => set_property(tables, alloc, host, slug, Property::Shown),
-        Command::Publish { host, slug } => {
-            set_property(tables, alloc, host, slug, Property::Public)
-        }
-        Command::MakePrivate { host, slug } => {
-            set_property(tables, alloc, host, slug, Property::Private)
-        }
-        Command::Gone { host, slug } => gone(tables, alloc, host, slug),
-        Command::SetDefault { host, name } => set_default(tables, alloc, host, name),
-        Command::AddPass { host, pass } => add_pass(tables, alloc, host, pass),
-        Command::DropPass { host, pass } => drop_pass(tables, alloc, host, pass),
-        Command::Grant { host, pass, slug } => grant(tables, alloc, host, pass, slug),
-        Command::Revoke { host, pass, slug } => revoke(tables, alloc, host, pass, slug),
-    }
-}
-
-/// A command on tables that may have a transaction open, which is undone.
+/// Does a command on tables that may have a transaction open, which is undone first.
 fn apply<S: Alter>(
     tables: &mut Tables<S>,
     alloc: Global,
     command: &Command,
 ) -> Result<Answer, Refusal>
     requires { IsKept S.Store tables.old }
-    ensures steps { IsHonest S.Store tables.new → Steps (committed S.Store lists_of tables.old) (committed S.Store lists_of tables.new) command.now result }
+    ensures steps { IsHonest S.Store tables.new
+        → Steps (last_records S.Store tables.old) (last_records S.Store tables.new) command.now
+        result }
+    ensures outside { IsHonest S.Store tables.new → IsOver S.Store tables.new result }
     ensures crash { LeavesStep S.Store tables.old tables.new command.now }
-    ensures refused { IfErr result (λ e. IsSetAside e ⊎ LeavesNoMore S.Store tables.old tables.new) }
-    ensures live { HasCleanDisk (state S.Store tables.new) → OnOk result (IsHonest S.Store tables.new) }
-    ensures clean { HasCleanDisk (state S.Store tables.new) → HasCleanDisk (state S.Store tables.old) }
+    ensures refused { IfErr result
+        (λ e. IsSetAside e ⊎ LeavesNoMore S.Store tables.old tables.new) }
+    ensures live { HasCleanDisk (state S.Store tables.new)
+        → OnOk result (IsHonest S.Store tables.new) }
+    ensures clean { HasCleanDisk (state S.Store tables.new)
+        → HasCleanDisk (state S.Store tables.old) }
     ensures was { IsHonest S.Store tables.new → IsHonest S.Store tables.old }
 {
     tables.back()?;
@@ -170,17 +112,27 @@ impl<S: Alter> Desk<S> {
         tables.into_conn()
     }
 
-    /// Does a command, as one transaction. An accepted one has changed the world; a refused one has left it as it was. After a fault of the store the desk answers it to each command.
+    /// Does a command, as one transaction. An accepted one has changed the world; a refused one has
+    /// left it as it was. After a fault of the store the desk answers it to each command.
     pub fn apply(&mut self, alloc: Global, command: &Command) -> Result<Answer, Refusal>
-        ensures step { IsHonest S.Store self.new.tables → IsStep (world S.Store self.old) (world S.Store self.new) command.now result }
-        ensures left { IsHonest S.Store self.new.tables → LeavesCommitted S.Store lists_of self.new.tables }
+        ensures step { IsHonest S.Store self.new.tables
+            → IsStep (world S.Store self.old) (world S.Store self.new) command.now result }
+        ensures outside { IsHonest S.Store self.new.tables
+            → IsOver S.Store self.new.tables result }
+        ensures left { IsHonest S.Store self.new.tables
+            → LeavesCommitted S.Store lists_of self.new.tables }
         ensures crash { LeavesEither S.Store self.old.tables self.new.tables command.now }
-        ensures refused { IfErr result (λ e. IsSetAside e ⊎ LeavesNoMore S.Store self.old.tables self.new.tables) }
-        ensures shut { (state S.Store self.old.tables).is_open ≡ false → LeavesNoMore S.Store self.old.tables self.new.tables }
-        ensures live { HasCleanDisk (state S.Store self.new.tables) → OnOk result (IsHonest S.Store self.new.tables) }
-        ensures closed { self.old.closed ≡ true → (result ≡ Err Refusal.Store) × (self.new ≡ self.old) }
+        ensures refused { IfErr result
+            (λ e. IsSetAside e ⊎ LeavesNoMore S.Store self.old.tables self.new.tables) }
+        ensures shut { (state S.Store self.old.tables).is_open ≡ false
+            → LeavesNoMore S.Store self.old.tables self.new.tables }
+        ensures live { HasCleanDisk (state S.Store self.new.tables)
+            → OnOk result (IsHonest S.Store self.new.tables) }
+        ensures closed { self.old.closed ≡ true
+            → (result ≡ Err Refusal.Store) × (self.new ≡ self.old) }
         ensures closes { self.new.closed ≡ is_fault result }
-        ensures clean { HasCleanDisk (state S.Store self.new.tables) → HasCleanDisk (state S.Store self.old.tables) }
+        ensures clean { HasCleanDisk (state S.Store self.new.tables)
+            → HasCleanDisk (state S.Store self.old.tables) }
         ensures was { IsHonest S.Store self.new.tables → IsHonest S.Store self.old.tables }
     {
         if self.closed {
@@ -191,9 +143,12 @@ impl<S: Alter> Desk<S> {
         answer
     }
 
-    /// The reply to a read under a host, for a caller who shows this pass or none. A name that is no host's names no project, and a text that is no pass counts as none. After a fault of the store the desk answers it to each call.
+    /// The reply to a read under a host, for a caller who shows this pass or none. A name that is no
+    /// host's names no project, and a text that is no pass counts as none. After a fault of the store
+    /// the desk answers it to each call.
     ///
-    /// `/robots.txt` and what begins with `/_/` have no reply of their own yet: 404 with the host's text.
+    /// `/robots.txt` and what begins with `/_/` have no reply of their own yet: 404 with the host's
+    /// text.
     pub fn read(
         &mut self,
         alloc: Global,
@@ -201,12 +156,23 @@ impl<S: Alter> Desk<S> {
         pass: Option<&str>,
         asked: &Read,
     ) -> Result<Reply, Fault>
-        ensures value { IsHonest S.Store self.new.tables → is_system (split_of asked.now.path) ≡ false → IfOk result (λ r. r ≡ reply_to (caller.seen (world S.Store self.old) (host_named host.now) (option_and_then pass_named (option_map (λ text. text.now) pass.entry))) asked.now.path asked.now.query) }
-        ensures same { IsHonest S.Store self.new.tables → world S.Store self.new ≡ world S.Store self.old }
-        ensures left { IsHonest S.Store self.new.tables → LeavesCommitted S.Store lists_of self.new.tables }
-        ensures closed { self.old.closed ≡ true → (result ≡ Err Fault.Store) × (self.new ≡ self.old) }
+        ensures value { IsHonest S.Store self.new.tables
+            → is_system (split_of asked.now.path) ≡ false
+            → IfOk result (λ r. r ≡ reply_to (caller.seen (world S.Store self.old)
+            (host_named host.now)
+            (option_and_then pass_named (option_map (λ text. text.now) pass.entry)))
+            asked.now.path asked.now.query) }
+        ensures same { IsHonest S.Store self.new.tables
+            → world S.Store self.new ≡ world S.Store self.old }
+        ensures outside { IsHonest S.Store self.new.tables
+            → OnOk result (self.new.tables.in_transaction ≡ false) }
+        ensures left { IsHonest S.Store self.new.tables
+            → LeavesCommitted S.Store lists_of self.new.tables }
+        ensures closed { self.old.closed ≡ true
+            → (result ≡ Err Fault.Store) × (self.new ≡ self.old) }
         ensures closes { self.new.closed ≡ is_unanswered result }
-        ensures clean { HasCleanDisk (state S.Store self.new.tables) → HasCleanDisk (state S.Store self.old.tables) }
+        ensures clean { HasCleanDisk (state S.Store self.new.tables)
+            → HasCleanDisk (state S.Store self.old.tables) }
         ensures was { IsHonest S.Store self.new.tables → IsHonest S.Store self.old.tables }
     {
         if self.closed {

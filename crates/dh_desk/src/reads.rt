@@ -1,16 +1,16 @@
 //! Reads.
-ghost use Rattle.std.specs.Prelude.{◌≡◌, false, IfOk};
+ghost use Rattle.std.specs.Prelude.{◌≡◌, false, IfOk, OnOk};
 ghost use Rattle.std.specs.Option.{option_map, option_and_then};
 ghost use Rattle.sqlite.specs.Held.{state};
 ghost use Rattle.sqlite.specs.State.{HasCleanDisk};
 ghost use Rattle.dh_paths.specs.Places.{split_of};
-ghost use Rattle.dh_rows.specs.Calls.{IsHonest, seen, committed};
+ghost use Rattle.dh_rows.specs.Calls.{IsHonest};
 ghost use Rattle.dh_reply.specs.Replies.{is_system, reply_to};
 ghost use Rattle.dh_tables.specs.Lists.{world_of};
-ghost use Rattle.dh_world.specs.Seen as caller;
-ghost use Rattle.dh_tables.specs.Tables.{lists_of};
 ghost use Rattle.dh_tables.specs.View.{Looks, shown};
+ghost use Rattle.dh_transactions.specs.Going.{last_records};
 ghost use Rattle.dh_world.specs.Reads.{host_named, pass_named};
+ghost use Rattle.dh_world.specs.Seen as caller;
 
 use dh_paths::{HostName, TextFault, Token};
 use dh_reply::{Fault, Read, Reply, reply};
@@ -42,7 +42,8 @@ fn token_in(alloc: Global, text: &str) -> Result<Option<Token>, Fault>
 
 /// The pass that a caller shows: a text that is none counts as none.
 fn pass_in(alloc: Global, pass: Option<&str>) -> Result<Option<Token>, Fault>
-    ensures { IfOk result (λ o. o ≡ option_and_then pass_named (option_map (λ text. text.now) pass.entry)) }
+    ensures { IfOk result (λ o. o
+        ≡ option_and_then pass_named (option_map (λ text. text.now) pass.entry)) }
 {
     match pass {
         Some(text) => token_in(alloc, text),
@@ -59,7 +60,10 @@ fn look<S: Alter>(
     read: &Read,
 ) -> Result<Reply, Fault>
     ensures looks { Looks S.Store tables.old tables.new }
-    ensures value { IsHonest S.Store tables.new → is_system (split_of read.now.path) ≡ false → IfOk result (λ r. r ≡ reply_to (shown S.Store tables.old host pass) read.now.path read.now.query) }
+    ensures value { IsHonest S.Store tables.new
+        → is_system (split_of read.now.path) ≡ false
+        → IfOk result (λ r. r
+        ≡ reply_to (shown S.Store tables.old host pass) read.now.path read.now.query) }
 {
     let mut view = View::new(tables, host, pass);
     let answer = reply(alloc, &mut view, read);
@@ -75,9 +79,17 @@ pub fn read<S: Alter>(
     pass: Option<&str>,
     asked: &Read,
 ) -> Result<Reply, Fault>
-    ensures value { IsHonest S.Store tables.new → is_system (split_of asked.now.path) ≡ false → IfOk result (λ r. r ≡ reply_to (caller.seen (world_of (committed S.Store lists_of tables.old)) (host_named host.now) (option_and_then pass_named (option_map (λ text. text.now) pass.entry))) asked.now.path asked.now.query) }
-    ensures same { IsHonest S.Store tables.new → committed S.Store lists_of tables.new ≡ committed S.Store lists_of tables.old }
-    ensures clean { HasCleanDisk (state S.Store tables.new) → HasCleanDisk (state S.Store tables.old) }
+    ensures value { IsHonest S.Store tables.new
+        → is_system (split_of asked.now.path) ≡ false
+        → IfOk result (λ r. r ≡ reply_to (caller.seen (world_of (last_records S.Store tables.old))
+        (host_named host.now)
+        (option_and_then pass_named (option_map (λ text. text.now) pass.entry)))
+        asked.now.path asked.now.query) }
+    ensures same { IsHonest S.Store tables.new
+        → last_records S.Store tables.new ≡ last_records S.Store tables.old }
+    ensures outside { IsHonest S.Store tables.new → OnOk result (tables.new.in_transaction ≡ false) }
+    ensures clean { HasCleanDisk (state S.Store tables.new)
+        → HasCleanDisk (state S.Store tables.old) }
     ensures was { IsHonest S.Store tables.new → IsHonest S.Store tables.old }
 {
     let host = host_in(alloc, host)?;

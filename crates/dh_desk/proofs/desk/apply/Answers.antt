@@ -1,19 +1,22 @@
 use Rattle.std.proofs.Common.{◌∙◌, sym, subst}
-use Rattle.dh_rows.specs.Calls.{committed}
-use Rattle.dh_tables.specs.Lists.{Lists}
-use Rattle.dh_tables.specs.Tables.{lists_of}
-use Rattle.dh_desk.specs.Desk.{AreSound, Steps}
-use Rattle.dh_desk.proofs.Crashing.{step_after}
-use Rattle.dh_desk.proofs.Turning.{steps_aside, stays}
+use Rattle.dh_desk.proofs.Applying.{steps_aside, over_aside, stays}
 use Rattle.dh_desk.proofs.desk.apply.Goals as goal
+use Rattle.dh_tables.specs.Lists.{Lists}
+use Rattle.dh_transactions.proofs.Crashing.{step_after}
+use Rattle.dh_transactions.specs.Going.{last_records}
+use Rattle.dh_transactions.specs.Sound.{AreSound, Steps}
 
 pub returns-in_err-back-clause-steps : goal.returns-in_err-back-clause-steps
 returns-in_err-back-clause-steps g c honest =
-    steps_aside (committed g.S.Store lists_of c.args.tables.now) (committed g.S.Store lists_of c.back.new.self) c.args.command.now _ _
+    steps_aside (last_records g.S.Store c.args.tables.now) (last_records g.S.Store c.back.new.self) c.args.command.now _ _
     (stays g.S.Store c.args.tables.now c.back.new.self (c.in_err-back.ensures.err honest)) c.from_residual.ensures.1
+
+pub returns-in_err-back-clause-outside : goal.returns-in_err-back-clause-outside
+returns-in_err-back-clause-outside g c honest = over_aside g.S.Store c.back.new.self _ _ c.from_residual.ensures.1
 
 pub run-requires : goal.run-requires
 run-requires g c = record {
+  outside = λ honest. (c.in_ok-back.ensures.ok honest).mode;
   settled = λ honest. let it = c.in_ok-back.ensures.ok honest in it.now_is ∙ sym it.last_is;
   sound = λ honest. subst AreSound (sym (c.in_ok-back.ensures.ok honest).last_is) (c.requires (c.back.ensures.was honest));
 }
@@ -21,7 +24,7 @@ run-requires g c = record {
 pub returns-clause-steps : goal.returns-clause-steps
 returns-clause-steps g c honest =
     let h1 = c.run.ensures.was honest in
-    let P : Lists → Type 0 = λ l. Steps l (committed g.S.Store lists_of c.run.new.tables) c.args.command.now c.run.result in
+    let P : Lists → Type 0 = λ l. Steps l (last_records g.S.Store c.run.new.tables) c.args.command.now c.run.result in
     subst P (c.in_ok-back.ensures.ok h1).last_is (c.run.ensures.steps honest)
 
 pub returns-clause-crash : goal.returns-clause-crash

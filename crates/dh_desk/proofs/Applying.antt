@@ -1,0 +1,43 @@
+-- A command after what stood open was undone.
+use Rattle.std.proofs.Common.{◌≡◌, ◌⊎◌, Result, Ok, Err, sym, ap, subst, inl, inr}
+use Rattle.std.specs.Result.{IsErrAnd}
+use Rattle.std.proofs.lemmas.Result.{err_from_is_err_and}
+use Rattle.sqlite_trees.specs.declared.store.Store.{Ghosts}
+use Rattle.sqlite.specs.Held.{Held}
+use Rattle.dh_reply.specs.declared.fault.Fault.{Fault}
+use Rattle.dh_reply.specs.declared.fault.Fault.TheVariants as fault
+use Rattle.dh_rows.specs.Calls.{IsRefused}
+use Rattle.dh_tables.specs.Lists.{Lists}
+use Rattle.dh_tables.specs.Tables.{lists_of}
+use Rattle.dh_transactions.specs.Going.{IsOver, last_records}
+use Rattle.dh_transactions.specs.Sound.{Steps}
+use Rattle.dh_world.specs.Checks.{refusal_from, IsSetAside}
+use Rattle.dh_world.specs.declared.answer.Answer.{Answer}
+use Rattle.dh_world.specs.declared.command.Command.{Command}
+use Rattle.dh_world.specs.declared.refusal.Refusal.{Refusal}
+
+aside : (f : Fault) (e : Refusal) → e ≡ refusal_from f → IsSetAside e
+aside fault.Store e is = inl is
+aside fault.Memory e is = inr is
+
+-- a fault of the tables, where nothing was committed
+pub steps_aside
+    : (before after : Lists) (c : Command) (f : Fault) (r : Result Answer Refusal)
+    → after ≡ before → IsErrAnd r (λ e. e ≡ refusal_from f) → Steps before after c r
+steps_aside before after c f r same is =
+    let at = err_from_is_err_and r is in
+    subst (Steps before after c) (sym at.1) (same, inl (aside f at.0 at.2))
+
+pub over_aside
+    : {S : Type 0} (g : Ghosts S) (new : Held S) (f : Fault) (r : Result Answer Refusal)
+    → IsErrAnd r (λ e. e ≡ refusal_from f) → IsOver g new r
+over_aside g new f r is =
+    let at = err_from_is_err_and r is in
+    subst (IsOver g new) (sym at.1) (inl (aside f at.0 at.2))
+
+-- a refused call leaves what is committed
+pub stays
+    : {S : Type 0} (g : Ghosts S) (old new : Held S) → IsRefused g lists_of old new
+    → last_records g new ≡ last_records g old
+stays g old new (inl it) = it.last_is
+stays g old new (inr it) = it.last_is

@@ -1,6 +1,0 @@
-use Rattle.std.proofs.Common.{◌≡◌, [], take, drop}
-use Rattle.dh_world.specs.Texts.{bad_pages}
-use Rattle.dh_desk.proofs.page_checks.check_each.Given as goal
-
-abbrev pub invariant-loop-i : goal.invariant-loop-i
-invariant-loop-i l = bad_pages [] l.pages ≡ bad_pages (take l.i l.pages) (drop l.i l.pages)

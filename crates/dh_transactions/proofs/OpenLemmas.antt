@@ -1,0 +1,54 @@
+-- A project made where the host has none.
+use Rattle.std.proofs.Common.{◌≡◌, find, Option, Some, None, Ok, Err, refl, sym, ap, ◌∙◌, subst}
+use Rattle.std.specs.FinMap.{get}
+use Rattle.dh_commands.specs.Commands.{command_of}
+use Rattle.dh_commands.specs.Plans.{Opens}
+use Rattle.dh_commands.specs.declared.checked.CheckedChange.{CheckedChange}
+use Rattle.dh_commands.specs.declared.checked.NewProject.{NewProject}
+use Rattle.dh_rows.specs.Keyed.{IsFreeKey}
+use Rattle.dh_tables.proofs.ChangeLemmas.{world_with_project}
+use Rattle.dh_tables.proofs.KeyLemmas.{project_is_free}
+use Rattle.dh_tables.proofs.OrderLemmas.{order_with_project, order_with_lang}
+use Rattle.dh_tables.proofs.RuleLemmas.{first_lang_is_free, rules_with_project}
+use Rattle.dh_tables.proofs.WorldLemmas.{no_row}
+use Rattle.dh_tables.specs.Codings as coding
+use Rattle.dh_tables.specs.Lists.{Lists, world_of, is_project}
+use Rattle.dh_tables.specs.declared.records.LangRow.{LangRow}
+use Rattle.dh_tables.specs.declared.records.ProjectRow.{ProjectRow}
+use Rattle.dh_transactions.proofs.Turning.{turn_at}
+use Rattle.dh_transactions.specs.Opening.{project_row, main_lang, with_row, with_project}
+use Rattle.dh_transactions.specs.Sound.{AreSound, Turns}
+use Rattle.dh_world.specs.Step.{settled}
+use Rattle.dh_world.specs.World.{Text}
+use Rattle.dh_world.specs.declared.answer.Answer.TheVariants.{Done}
+
+module _ (host : Text) (lists : Lists) (none : get (world_of lists) host ≡ None) where
+  pub row_is_free : (row : ProjectRow) → row.host ≡ host → IsFreeKey coding.projects.key row lists.projects
+  row_is_free row home =
+      project_is_free row lists.projects (subst (λ h. find (is_project h) lists.projects ≡ None) (sym home) (no_row lists host none))
+
+  module _ (sound : AreSound lists) where
+    pub main_is_free : (lang : LangRow) → lang.host ≡ host → IsFreeKey coding.langs.key lang lists.langs
+    main_is_free lang home =
+        first_lang_is_free lists lang sound.rules (subst (λ h. find (is_project h) lists.projects ≡ None) (sym home) (no_row lists host none))
+
+    module _ (x : NewProject) where
+      abbrev row : ProjectRow
+      row = project_row host x
+
+      abbrev lang : LangRow
+      lang = main_lang host x.lang
+
+      made_sound : AreSound (with_project host x lists)
+      made_sound = record {
+        order = order_with_lang (with_row row lists) (order_with_project lists sound.order row (row_is_free row refl)) lang (main_is_free lang refl);
+        rules = rules_with_project lists row lang sound.rules (no_row lists host none) refl refl refl;
+      }
+
+      -- the command's turn, where this is the project that it makes
+      pub opened_here : (change : CheckedChange) → Opens change (Ok x) → Turns lists (with_project host x lists) (command_of host change) (Ok Done)
+      opened_here change opens = (
+        turn_at host change lists None none ∙ ap (settled (world_of lists) host) (opens host)
+            ∙ ap (λ w. Ok (w, Done)) (sym (world_with_project lists row lang sound.rules (no_row lists host none) refl refl)),
+        made_sound,
+      )

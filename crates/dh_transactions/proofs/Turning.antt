@@ -1,0 +1,90 @@
+-- What a command makes of the world, by what is found under its host.
+use Rattle.std.proofs.Common.{◌≡◌, ◌⊎◌, Some, None, Option, Result, Ok, Err, IfOk, IfErr, refl, sym, ap, ◌∙◌, subst, inl, inr}
+use Rattle.std.specs.FinMap.{get}
+use Rattle.std.specs.Result.{IsErrAnd}
+use Rattle.std.proofs.lemmas.Result.{err_from_is_err_and}
+use Rattle.dh_commands.specs.Commands.{command_of}
+use Rattle.dh_commands.specs.declared.checked.CheckedChange.{CheckedChange}
+use Rattle.dh_commands.specs.declared.checked.CheckedChange.TheVariants.{NewProject, AddLang, Push, Upload, SetProperty, Deactivate, Gone, SetDefault, AddPass, DropPass, Grant, Revoke}
+use Rattle.dh_tables.specs.Lists.{Lists, world_of}
+use Rattle.dh_transactions.specs.Sound.{AreSound, Turns, Steps}
+use Rattle.dh_world.specs.Checks.{IsSetAside}
+use Rattle.dh_world.specs.Step.{host_of, change_at, settled, turn, step, after_texts}
+use Rattle.dh_world.specs.Texts.{bad_text}
+use Rattle.dh_world.specs.World.{Text, Project}
+use Rattle.dh_world.specs.declared.answer.Answer.{Answer}
+use Rattle.dh_world.specs.declared.command.Command.{Command}
+use Rattle.dh_world.specs.declared.property.Property.TheVariants.{Active, Hidden, Shown, Public, Private}
+use Rattle.dh_world.specs.declared.refusal.Refusal.{Refusal}
+use Rattle.dh_world.specs.declared.refusal.Refusal.TheVariants.{OutOfMemory}
+
+host_is : (host : Text) (change : CheckedChange) → host_of (command_of host change) ≡ host
+host_is host (NewProject x) = refl
+host_is host (AddLang lang) = refl
+host_is host (Push x) = refl
+host_is host (Upload x) = refl
+host_is host (SetProperty slug Active) = refl
+host_is host (SetProperty slug Hidden) = refl
+host_is host (SetProperty slug Shown) = refl
+host_is host (SetProperty slug Public) = refl
+host_is host (SetProperty slug Private) = refl
+host_is host (Deactivate slug) = refl
+host_is host (Gone slug) = refl
+host_is host (SetDefault name) = refl
+host_is host (AddPass pass) = refl
+host_is host (DropPass pass) = refl
+host_is host (Grant pass slug) = refl
+host_is host (Revoke pass slug) = refl
+
+-- a turn by what is found under the host
+pub turn_at
+    : (host : Text) (change : CheckedChange) (lists : Lists) (o : Option Project)
+    → get (world_of lists) host ≡ o
+    → turn (world_of lists) (command_of host change) ≡ settled (world_of lists) host (change_at (command_of host change) o)
+turn_at host change lists o e =
+    let c : Command = command_of host change in
+    ap (λ h. settled (world_of lists) h (change_at c (get (world_of lists) h))) (host_is host change)
+    ∙ ap (λ x. settled (world_of lists) host (change_at c x)) e
+
+-- ---- texts
+
+-- a command whose texts are right is its turn
+pub right_texts
+    : (lists : Lists) (c : Command) → bad_text c ≡ None
+    → step (world_of lists) c ≡ turn (world_of lists) c
+right_texts lists c e = ap (after_texts (world_of lists) c) e
+
+-- a command whose texts are not right is refused, unless out of memory
+pub steps_wrong
+    : (start : Lists) (c : Command) (e : Refusal) (r : Result Answer Refusal)
+    → IsErrAnd r (λ x. x ≡ e) → (bad_text c ≡ Some e) ⊎ (e ≡ OutOfMemory) → Steps start start c r
+steps_wrong start c e r is why =
+    let at = err_from_is_err_and r is in
+    subst (Steps start start c) (sym (at.1 ∙ ap Err at.2)) (refl, go why)
+  where
+    go : (bad_text c ≡ Some e) ⊎ (e ≡ OutOfMemory) → IsSetAside e ⊎ (step (world_of start) c ≡ Err e)
+    go (inl is) = inr (ap (after_texts (world_of start) c) is)
+    go (inr is) = inl (inr is)
+
+-- ---- the end
+
+-- a command that was begun, worked on and ended, where `start` was seen and committed at its begin
+pub ended
+    : (start worked after kept : Lists) (c : Command) (result answer : Result Answer Refusal)
+    → bad_text c ≡ None → kept ≡ start → Turns start worked c result
+    → IfOk answer (λ a. (result ≡ Ok a) × (after ≡ worked))
+    → IfErr answer (λ e. (after ≡ kept) × (IsSetAside e ⊎ (result ≡ Err e)))
+    → Steps start after c answer
+ended start worked after kept c result (Ok a) right same turned ok err =
+    let at : Turns start worked c (Ok a) = subst (Turns start worked c) ok.0 turned in
+    let P : Lists → Type 0 = λ l. (step (world_of start) c ≡ Ok (world_of l, a)) × AreSound l in
+    subst P (sym ok.1) (right_texts start c right ∙ at.0, at.1)
+ended start worked after kept c result (Err e) right same turned ok err = (err.0 ∙ same, go err.1)
+  where
+    go : IsSetAside e ⊎ (result ≡ Err e) → IsSetAside e ⊎ (step (world_of start) c ≡ Err e)
+    go (inl is) = inl is
+    go (inr is) = turn_refused (subst (Turns start worked c) is turned)
+      where
+        turn_refused : Turns start worked c (Err e) → IsSetAside e ⊎ (step (world_of start) c ≡ Err e)
+        turn_refused (inl x) = inl x
+        turn_refused (inr x) = inr (right_texts start c right ∙ x)

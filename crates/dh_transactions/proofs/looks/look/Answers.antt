@@ -1,0 +1,26 @@
+use Rattle.std.proofs.Common.{subst}
+use Rattle.dh_transactions.proofs.LookLemmas.{facts_here}
+use Rattle.dh_transactions.proofs.looks.look.Goals as goal
+use Rattle.dh_transactions.specs.Finding.{FindsSettings}
+use Rattle.dh_transactions.specs.Going.{records}
+
+pub returns-clause-value : goal.returns-clause-value
+returns-clause-value g c honest sound =
+    let h5 = c.pass_count.ensures.goes.was honest in
+    let h4 = c.has_pass.ensures.goes.was h5 in
+    let h3 = c.defaults_for.ensures.goes.was h4 in
+    let h2 = c.languages_for.ensures.goes.was h3 in
+    let h1 = c.first_answer_for.ensures.goes.was h2 in
+    let h0 = c.version_for.ensures.goes.was h1 in
+    let lists = records g.S.Store c.args.tables.now in
+    facts_here c.args.host.now c.args.change.now lists
+    (records g.S.Store c.settings_of.new.tables) (records g.S.Store c.version_for.new.tables)
+    (records g.S.Store c.first_answer_for.new.tables) (records g.S.Store c.languages_for.new.tables)
+    (records g.S.Store c.defaults_for.new.tables) (records g.S.Store c.has_pass.new.tables)
+    c.questions_of-questions.result _
+    (c.in_ok-settings.ensures.looks.now_is h0) (c.in_ok-version.ensures.looks.now_is h1)
+    (c.in_ok-first_answer.ensures.looks.now_is h2) (c.in_ok-languages.ensures.looks.now_is h3)
+    (c.in_ok-defaults.ensures.looks.now_is h4) (c.in_ok-has_pass.ensures.looks.now_is h5)
+    sound (subst (FindsSettings c.args.host.now lists) c.in-Some.is (c.in_ok-settings.ensures.value h0)) c.questions_of-questions.ensures
+    (c.in_ok-version.ensures.value h1) (c.in_ok-first_answer.ensures.value h2) (c.in_ok-languages.ensures.value h3)
+    (c.in_ok-defaults.ensures.value h4) (c.in_ok-has_pass.ensures.value h5) (c.in_ok-pass_count.ensures.value honest)

@@ -1,0 +1,26 @@
+use Rattle.std.proofs.Common.{refl, sym, subst}
+use Rattle.dh_rows.specs.Keyed.{IsFreeKey}
+use Rattle.dh_tables.specs.Codings as coding
+use Rattle.dh_tables.specs.Lists.{Lists}
+use Rattle.dh_tables.specs.declared.records.LangRow.{LangRow}
+use Rattle.dh_tables.specs.declared.records.ProjectRow.{ProjectRow}
+use Rattle.dh_transactions.proofs.OpenLemmas.{row_is_free, main_is_free}
+use Rattle.dh_transactions.proofs.opening.add_project.Goals as goal
+use Rattle.dh_transactions.specs.Going.{records}
+use Rattle.dh_transactions.specs.Opening.{project_row, main_lang}
+
+pub add_row-requires-clause-free : goal.add_row-requires-clause-free
+add_row-requires-clause-free g c honest =
+    let lists : Lists = records g.S.Store c.args.tables.now in
+    let P : ProjectRow → Type 0 = λ r. IsFreeKey coding.projects.key r lists.projects in
+    subst P (sym c.in_ok-row.ensures.0)
+    (row_is_free c.args.host.now lists (c.requires.none honest) (project_row c.args.host.now c.args.project) refl)
+
+pub add_main-requires-clause-free : goal.add_main-requires-clause-free
+add_main-requires-clause-free g c honest =
+    let h0 = c.add_row.ensures.goes.was honest in
+    let lists : Lists = records g.S.Store c.args.tables.now in
+    let P : LangRow → Lists → Type 0 = λ r l. IsFreeKey coding.langs.key r l.langs in
+    subst (λ r. P r (records g.S.Store c.add_row.new.tables)) (sym c.in_ok-row.ensures.1)
+    (subst (P (main_lang c.args.host.now c.args.project.lang)) (sym (c.in_ok-add_row.ensures.sees.now_is honest))
+    (main_is_free c.args.host.now lists (c.requires.none h0) (c.requires.sound h0) (main_lang c.args.host.now c.args.project.lang) refl))

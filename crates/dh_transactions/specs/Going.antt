@@ -1,0 +1,57 @@
+-- How calls on the tables go, one after the other.
+use Rattle.std.specs.Prelude.{◌≡◌, ◌⊎◌, false, Result, Ok, Err, IfOk, OnOk}
+use Rattle.sqlite_trees.specs.declared.store.Store.{Ghosts}
+use Rattle.sqlite.specs.Held.{Held, state}
+use Rattle.sqlite.specs.State.{HasCleanDisk}
+use Rattle.dh_rows.specs.Calls.{IsHonest, LeavesNoMore, KeepsCommitted, seen, committed}
+use Rattle.dh_tables.specs.Lists.{Lists}
+use Rattle.dh_tables.specs.Tables.{lists_of}
+use Rattle.dh_world.specs.Checks.{IsSetAside}
+use Rattle.dh_world.specs.declared.answer.Answer.{Answer}
+use Rattle.dh_world.specs.declared.refusal.Refusal.{Refusal}
+
+module _ {S : Type 0} (g : Ghosts S) where
+  -- the records that are seen now, and those of the last commit
+  abbrev pub records : Held S → Lists
+  records h = seen g lists_of h
+
+  abbrev pub last_records : Held S → Lists
+  last_records h = committed g lists_of h
+
+  module _ (old new : Held S) where
+    -- Calls that commit nothing, whatever they answered.
+    pub record Goes : Type 0 where
+      -- what the disk returned before them was right, if what it returned after them was
+      pub clean : HasCleanDisk (state g new) → HasCleanDisk (state g old)
+      -- a store that is honest was honest
+      pub was : IsHonest g new → IsHonest g old
+      -- what is committed stays
+      pub kept : KeepsCommitted g old new
+      -- a crash leaves nothing more
+      pub quiet : IsHonest g old → LeavesNoMore g old new
+
+    -- Calls that were answered.
+    pub record Sees (next : Lists) : Type 0 where
+      -- the store is as honest as it was
+      pub live : IsHonest g old → HasCleanDisk (state g new) → IsHonest g new
+      -- these records are seen
+      pub now_is : IsHonest g new → records new ≡ next
+      -- a transaction stays open
+      pub mode : IsHonest g new → new.in_transaction ≡ old.in_transaction
+
+    -- the store is as honest as it was
+    abbrev pub Stays : Type 0
+    Stays = IsHonest g old → HasCleanDisk (state g new) → IsHonest g new
+
+    -- looks that were answered
+    abbrev pub Looks : {T E : Type 0} → Result T E → Type 0
+    Looks r = OnOk r (Sees (records old))
+
+    -- Where the store is honest, an answer and the records before stand so to each other.
+    abbrev pub Finds : {T E : Type 0} → Result T E → (Lists → T → Type 0) → Type 0
+    Finds r fact = IsHonest g new → IfOk r (fact (records old))
+
+  -- A command that was answered, or refused for what it asks, has left no transaction open.
+  abbrev pub IsOver : Held S → Result Answer Refusal → Type 0
+  IsOver new (Ok answer) = new.in_transaction ≡ false
+  IsOver new (Err e) = IsSetAside e ⊎ (new.in_transaction ≡ false)

@@ -1,0 +1,6 @@
+pub mod Sound
+pub mod Going
+pub mod Finding
+pub mod RowEdits
+pub mod Opening
+pub mod Crashes

@@ -1,0 +1,32 @@
+-- The records of a project that a command makes.
+use Rattle.dh_commands.specs.declared.checked.NewProject.{NewProject}
+use Rattle.dh_rows.specs.Keyed.{added}
+use Rattle.dh_tables.specs.Codings as coding
+use Rattle.dh_tables.specs.Lists.{Lists}
+use Rattle.dh_tables.specs.declared.records.LangRow.{LangRow}
+use Rattle.dh_tables.specs.declared.records.ProjectRow.{ProjectRow}
+use Rattle.dh_world.specs.World.{Text}
+
+abbrev pub project_row : Text → NewProject → ProjectRow
+project_row host x = record {
+  host = host;
+  main = x.lang;
+  branch = x.settings.branch;
+  wkey = x.settings.wkey;
+  new_private = x.settings.new_private;
+}
+
+-- its main language stands first
+abbrev pub main_lang : Text → Text → LangRow
+main_lang host lang = record { host = host; lang = lang; place = 1 }
+
+abbrev pub with_row : ProjectRow → Lists → Lists
+with_row row l = record l { projects = added coding.projects.key row l.projects }
+
+abbrev pub with_lang : LangRow → Lists → Lists
+with_lang row l = record l { langs = added coding.langs.key row l.langs }
+
+-- the lists with the project and its main language
+abbrev pub with_project : Text → NewProject → Lists → Lists
+with_project host x l =
+    with_lang (main_lang host x.lang) (with_row (project_row host x) l)

@@ -1,0 +1,27 @@
+-- What a command makes of sound records.
+use Rattle.std.specs.Prelude.{◌≡◌, ◌⊎◌, Result, Ok, Err}
+use Rattle.dh_tables.specs.Lists.{Lists, world_of}
+use Rattle.dh_tables.specs.Rules.{AreInOrder, KeepsRules}
+use Rattle.dh_world.specs.Checks.{IsSetAside}
+use Rattle.dh_world.specs.Step.{turn, step}
+use Rattle.dh_world.specs.declared.answer.Answer.{Answer}
+use Rattle.dh_world.specs.declared.command.Command.{Command}
+use Rattle.dh_world.specs.declared.refusal.Refusal.{Refusal}
+
+-- the records are in order and keep the rules
+pub record AreSound (lists : Lists) : Type 0 where
+  pub order : AreInOrder lists
+  pub rules : KeepsRules lists
+
+-- a command whose texts are right, before its commit
+abbrev pub Turns : Lists → Lists → Command → Result Answer Refusal → Type 0
+Turns before after c (Ok answer) =
+    (turn (world_of before) c ≡ Ok (world_of after, answer)) × AreSound after
+Turns before after c (Err e) = IsSetAside e ⊎ (turn (world_of before) c ≡ Err e)
+
+-- a command in whole, by what is committed
+abbrev pub Steps : Lists → Lists → Command → Result Answer Refusal → Type 0
+Steps before after c (Ok answer) =
+    (step (world_of before) c ≡ Ok (world_of after, answer)) × AreSound after
+Steps before after c (Err e) =
+    (after ≡ before) × (IsSetAside e ⊎ (step (world_of before) c ≡ Err e))

@@ -1,0 +1,10 @@
+//! Commands on the tables: each is one transaction, which looks up what the command asks for, makes
+//! the edits that are decided on, and is committed where the command is accepted.
+#![tactic(auto)]
+
+mod edits;
+mod looks;
+mod opening;
+mod transaction;
+
+pub use transaction::run;

@@ -1,0 +1,206 @@
+//! Looking up what a command has to know of the project of its host.
+ghost use Rattle.std.specs.Prelude.{◌≡◌, false, [], map, option_map, if◌then◌else◌, IfOk, IfErr};
+ghost use Rattle.std.specs.Option.{option_and_then, option_map_or};
+ghost use Rattle.std.specs.FinMap.{get, contains_key, len};
+ghost use Rattle.dh_world.specs.Checks.{IsSetAside};
+ghost use Rattle.dh_transactions.specs.Finding.{OfProject, IsVersion, FindsSettings, FindsFacts, asked_key};
+ghost use Rattle.dh_transactions.specs.Going.{Goes, Looks, Finds};
+ghost use Rattle.dh_transactions.specs.Sound.{AreSound};
+
+use dh_commands::{CheckedChange, Facts, ProjectSettings, RetryKey, questions_of};
+use dh_paths::{HostName, Lang, Slug, Token};
+use dh_tables::{LangRow, PickRow, ProjectRow, Tables};
+use dh_versions::Version;
+use dh_world::{Answer, Refusal};
+use sqlite::Alter;
+use std::alloc::{AllocError, Global};
+
+fn settings_of<S: Alter>(
+    tables: &mut Tables<S>,
+    alloc: Global,
+    host: &HostName,
+) -> Result<Option<ProjectSettings>, Refusal>
+    ensures goes { Goes S.Store tables.old tables.new }
+    ensures looks { Looks S.Store tables.old tables.new result }
+    ensures value { Finds S.Store tables.old tables.new result (FindsSettings host.now) }
+    ensures err { IfErr result IsSetAside }
+{
+    let Some(row) = tables.project(alloc, host)? else {
+        return Ok(None);
+    };
+    let ProjectRow {
+        branch,
+        wkey,
+        new_private,
+        ..
+    } = row;
+    Ok(Some(ProjectSettings {
+        branch,
+        new_private,
+        wkey,
+    }))
+}
+
+fn version_for<S: Alter>(
+    tables: &mut Tables<S>,
+    alloc: Global,
+    host: &HostName,
+    slug: Option<&Slug>,
+) -> Result<Option<Version>, Refusal>
+    ensures goes { Goes S.Store tables.old tables.new }
+    ensures looks { Looks S.Store tables.old tables.new result }
+    ensures value { Finds S.Store tables.old tables.new result (λ l version. AreSound l
+        → OfProject host.now (IsVersion (option_map (λ s. s.now) slug.entry) version) l) }
+    ensures err { IfErr result IsSetAside }
+{
+    let Some(slug) = slug else {
+        return Ok(None);
+    };
+    match tables.version(alloc, host, slug)? {
+        Some(row) => Ok(Some(row.version)),
+        None => Ok(None),
+    }
+}
+
+fn first_answer_for<S: Alter>(
+    tables: &mut Tables<S>,
+    alloc: Global,
+    host: &HostName,
+    retry_key: Option<RetryKey<'_>>,
+) -> Result<Option<Answer>, Refusal>
+    ensures goes { Goes S.Store tables.old tables.new }
+    ensures looks { Looks S.Store tables.old tables.new result }
+    ensures value { Finds S.Store tables.old tables.new result (λ l answer. OfProject host.now
+        (λ p. option_and_then (get p.used) (asked_key retry_key.entry) ≡ answer) l) }
+    ensures err { IfErr result IsSetAside }
+{
+    match retry_key {
+        Some(asked) => Ok(tables.used(alloc, host, asked.slug, asked.operation, asked.key)?),
+        None => Ok(None),
+    }
+}
+
+fn languages_in(alloc: Global, rows: Vec<LangRow>) -> Result<Vec<Lang>, AllocError>
+    ensures { IfOk result (λ languages. languages.items ≡ map (λ row. row.lang) rows.items) }
+{
+    rows.into_iter().map(|row| row.lang).collect(alloc)
+}
+
+/// The languages, where they are asked for.
+fn languages_for<S: Alter>(
+    tables: &mut Tables<S>,
+    alloc: Global,
+    host: &HostName,
+    ask: bool,
+) -> Result<Vec<Lang>, Refusal>
+    ensures goes { Goes S.Store tables.old tables.new }
+    ensures looks { Looks S.Store tables.old tables.new result }
+    ensures value { Finds S.Store tables.old tables.new result (λ l languages.
+        OfProject host.now (λ p. (if ask then p.languages else []) ≡ languages.items) l) }
+    ensures err { IfErr result IsSetAside }
+{
+    if !ask {
+        return Ok(Vec::new(alloc));
+    }
+    let rows = tables.langs(alloc, host)?;
+    Ok(languages_in(alloc, rows)?)
+}
+
+fn names_in(alloc: Global, rows: Vec<PickRow>) -> Result<Vec<Slug>, AllocError>
+    ensures { IfOk result (λ names. names.items ≡ map (λ row. row.name) rows.items) }
+{
+    rows.into_iter().map(|row| row.name).collect(alloc)
+}
+
+/// The defaults, where they are asked for.
+fn defaults_for<S: Alter>(
+    tables: &mut Tables<S>,
+    alloc: Global,
+    host: &HostName,
+    ask: bool,
+) -> Result<Vec<Slug>, Refusal>
+    ensures goes { Goes S.Store tables.old tables.new }
+    ensures looks { Looks S.Store tables.old tables.new result }
+    ensures value { Finds S.Store tables.old tables.new result (λ l names.
+        OfProject host.now (λ p. (if ask then p.defaults else []) ≡ names.items) l) }
+    ensures err { IfErr result IsSetAside }
+{
+    if !ask {
+        return Ok(Vec::new(alloc));
+    }
+    let rows = tables.picks(alloc, host)?;
+    Ok(names_in(alloc, rows)?)
+}
+
+/// Whether the project has the pass, where one is asked for.
+fn has_pass<S: Alter>(
+    tables: &mut Tables<S>,
+    alloc: Global,
+    host: &HostName,
+    pass: Option<&Token>,
+) -> Result<bool, Refusal>
+    ensures goes { Goes S.Store tables.old tables.new }
+    ensures looks { Looks S.Store tables.old tables.new result }
+    ensures value { Finds S.Store tables.old tables.new result (λ l has. OfProject host.now
+        (λ p. option_map_or (contains_key p.passes) (option_map (λ t. t.now) pass.entry) false ≡ has)
+        l) }
+    ensures err { IfErr result IsSetAside }
+{
+    match pass {
+        Some(pass) => Ok(tables.pass(alloc, host, pass)?.is_some()),
+        None => Ok(false),
+    }
+}
+
+/// How many passes the project has, where that is asked for.
+fn pass_count<S: Alter>(
+    tables: &mut Tables<S>,
+    host: &HostName,
+    ask: bool,
+) -> Result<usize, Refusal>
+    ensures goes { Goes S.Store tables.old tables.new }
+    ensures looks { Looks S.Store tables.old tables.new result }
+    ensures value { Finds S.Store tables.old tables.new result (λ l count. AreSound l
+        → OfProject host.now (λ p. (if ask then len p.passes else 0) ≡ count) l) }
+    ensures err { IfErr result IsSetAside }
+{
+    if ask {
+        Ok(tables.pass_count(host)?)
+    } else {
+        Ok(0)
+    }
+}
+
+/// What the command has to know of the project of its host, or `None` where there is none.
+pub fn look<S: Alter>(
+    tables: &mut Tables<S>,
+    alloc: Global,
+    host: &HostName,
+    change: &CheckedChange<'_>,
+) -> Result<Option<Facts>, Refusal>
+    ensures goes { Goes S.Store tables.old tables.new }
+    ensures looks { Looks S.Store tables.old tables.new result }
+    ensures value { Finds S.Store tables.old tables.new result
+        (λ l facts. AreSound l → FindsFacts host.now change.now l facts) }
+    ensures err { IfErr result IsSetAside }
+{
+    let Some(settings) = settings_of(tables, alloc, host)? else {
+        return Ok(None);
+    };
+    let questions = questions_of(change, &settings);
+    let version = version_for(tables, alloc, host, questions.version)?;
+    let first_answer = first_answer_for(tables, alloc, host, questions.retry_key)?;
+    let languages = languages_for(tables, alloc, host, questions.languages)?;
+    let defaults = defaults_for(tables, alloc, host, questions.defaults)?;
+    let has_pass = has_pass(tables, alloc, host, questions.pass)?;
+    let pass_count = pass_count(tables, host, questions.pass_count)?;
+    Ok(Some(Facts {
+        settings,
+        version,
+        first_answer,
+        languages,
+        defaults,
+        has_pass,
+        pass_count,
+    }))
+}

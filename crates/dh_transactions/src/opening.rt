@@ -1,0 +1,116 @@
+//! Making a project where the host has none.
+ghost use Rattle.std.specs.Prelude.{◌≡◌, true, None, IfOk, IfErr, OnOk};
+ghost use Rattle.std.specs.FinMap.{get};
+ghost use Rattle.dh_commands.specs.Commands.{command_of};
+ghost use Rattle.dh_rows.specs.Calls.{IsHonest};
+ghost use Rattle.dh_rows.specs.Keyed.{IsFreeKey};
+ghost use Rattle.dh_tables.specs.Codings as coding;
+ghost use Rattle.dh_tables.specs.Lists.{world_of};
+ghost use Rattle.dh_world.specs.Checks.{IsSetAside};
+ghost use Rattle.dh_transactions.specs.Going.{Goes, Sees, Stays, records};
+ghost use Rattle.dh_transactions.specs.Opening.{project_row, main_lang, with_row, with_lang, with_project};
+ghost use Rattle.dh_transactions.specs.Sound.{AreSound, Turns};
+
+use dh_commands::{CheckedChange, NewProject, ProjectSettings, open};
+use dh_paths::{HostName, Lang};
+use dh_tables::{LangRow, ProjectRow, Tables};
+use dh_world::{Answer, Refusal};
+use sqlite::Alter;
+use std::alloc::{AllocError, Global};
+
+/// The record of a project, and its main language.
+fn rows_of(
+    alloc: Global,
+    host: &HostName,
+    project: NewProject,
+) -> Result<(ProjectRow, LangRow), AllocError>
+    ensures { IfOk result (λ rows. (rows.0 ≡ project_row host.now project)
+        × (rows.1 ≡ main_lang host.now project.lang)) }
+{
+    let NewProject { lang, settings } = project;
+    let ProjectSettings {
+        branch,
+        new_private,
+        wkey,
+    } = settings;
+    let main = LangRow {
+        host: host.try_copy(alloc)?,
+        lang: lang.try_copy(alloc)?,
+        place: 1,
+    };
+    let row = ProjectRow {
+        host: host.try_copy(alloc)?,
+        main: lang,
+        branch,
+        wkey,
+        new_private,
+    };
+    Ok((row, main))
+}
+
+fn add_row<S: Alter>(tables: &mut Tables<S>, row: &ProjectRow) -> Result<(), Refusal>
+    requires within { IsHonest S.Store tables.old → tables.old.in_transaction ≡ true }
+    requires free { IsHonest S.Store tables.old
+        → IsFreeKey coding.projects.key row.now (records S.Store tables.old).projects }
+    ensures goes { Goes S.Store tables.old tables.new }
+    ensures sees { OnOk result (Sees S.Store tables.old tables.new
+        (with_row row.now (records S.Store tables.old))) }
+    ensures err { IfErr result IsSetAside }
+{
+    Ok(tables.add_project(row)?)
+}
+
+fn add_main<S: Alter>(tables: &mut Tables<S>, lang: &LangRow) -> Result<(), Refusal>
+    requires within { IsHonest S.Store tables.old → tables.old.in_transaction ≡ true }
+    requires free { IsHonest S.Store tables.old
+        → IsFreeKey coding.langs.key lang.now (records S.Store tables.old).langs }
+    ensures goes { Goes S.Store tables.old tables.new }
+    ensures sees { OnOk result (Sees S.Store tables.old tables.new
+        (with_lang lang.now (records S.Store tables.old))) }
+    ensures err { IfErr result IsSetAside }
+{
+    Ok(tables.add_lang(lang)?)
+}
+
+/// Adds the records of a project and its main language.
+fn add_project<S: Alter>(
+    tables: &mut Tables<S>,
+    alloc: Global,
+    host: &HostName,
+    project: NewProject,
+) -> Result<(), Refusal>
+    requires within { IsHonest S.Store tables.old → tables.old.in_transaction ≡ true }
+    requires sound { IsHonest S.Store tables.old → AreSound (records S.Store tables.old) }
+    requires none { IsHonest S.Store tables.old
+        → get (world_of (records S.Store tables.old)) host.now ≡ None }
+    ensures goes { Goes S.Store tables.old tables.new }
+    ensures sees { OnOk result (Sees S.Store tables.old tables.new
+        (with_project host.now project (records S.Store tables.old))) }
+    ensures err { IfErr result IsSetAside }
+{
+    let (row, main) = rows_of(alloc, host, project)?;
+    add_row(tables, &row)?;
+    add_main(tables, &main)
+}
+
+/// Makes the project that the command asks for, where its host has none.
+pub fn open_project<S: Alter>(
+    tables: &mut Tables<S>,
+    alloc: Global,
+    host: &HostName,
+    change: CheckedChange<'_>,
+) -> Result<Answer, Refusal>
+    requires within { IsHonest S.Store tables.old → tables.old.in_transaction ≡ true }
+    requires sound { IsHonest S.Store tables.old → AreSound (records S.Store tables.old) }
+    requires none { IsHonest S.Store tables.old
+        → get (world_of (records S.Store tables.old)) host.now ≡ None }
+    ensures goes { Goes S.Store tables.old tables.new }
+    ensures live { OnOk result (Stays S.Store tables.old tables.new) }
+    ensures turns { IsHonest S.Store tables.new
+        → Turns (records S.Store tables.old) (records S.Store tables.new)
+        (command_of host.now change.entry) result }
+{
+    let project = open(change)?;
+    add_project(tables, alloc, host, project)?;
+    Ok(Answer::Done)
+}

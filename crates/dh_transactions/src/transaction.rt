@@ -1,0 +1,102 @@
+//! A command as one transaction.
+ghost use Rattle.std.specs.Prelude.{◌≡◌, ◌⊎◌, true, false, Ok, Err, IfOk, IfErr, OnOk};
+ghost use Rattle.sqlite.specs.Held.{state};
+ghost use Rattle.sqlite.specs.State.{HasCleanDisk};
+ghost use Rattle.dh_commands.specs.Commands.{command_of};
+ghost use Rattle.dh_rows.specs.Calls.{IsHonest, LeavesNoMore};
+ghost use Rattle.dh_world.specs.Checks.{IsSetAside};
+ghost use Rattle.dh_transactions.specs.Crashes.{LeavesEnd, LeavesStep};
+ghost use Rattle.dh_transactions.specs.Going.{Goes, Stays, IsOver, records, last_records};
+ghost use Rattle.dh_transactions.specs.Sound.{AreSound, Turns, Steps};
+
+use crate::edits::make_edits;
+use crate::looks::look;
+use crate::opening::open_project;
+use dh_commands::{CheckedChange, CheckedCommand, Plan, check, decide};
+use dh_paths::HostName;
+use dh_tables::Tables;
+use dh_world::{Answer, Command, Refusal};
+use sqlite::Alter;
+use std::alloc::Global;
+
+/// Looks up what the command asks for, decides, and makes the edits that are decided on.
+fn work<S: Alter>(
+    tables: &mut Tables<S>,
+    alloc: Global,
+    host: &HostName,
+    change: CheckedChange<'_>,
+) -> Result<Answer, Refusal>
+    requires within { IsHonest S.Store tables.old → tables.old.in_transaction ≡ true }
+    requires sound { IsHonest S.Store tables.old → AreSound (records S.Store tables.old) }
+    ensures goes { Goes S.Store tables.old tables.new }
+    ensures live { OnOk result (Stays S.Store tables.old tables.new) }
+    ensures turns { IsHonest S.Store tables.new
+        → Turns (records S.Store tables.old) (records S.Store tables.new)
+        (command_of host.now change.entry) result }
+{
+    let Some(facts) = look(tables, alloc, host, &change)? else {
+        return open_project(tables, alloc, host, change);
+    };
+    let Plan { edits, answer } = decide(alloc, change, facts)?;
+    make_edits(tables, alloc, host, edits)?;
+    Ok(answer)
+}
+
+/// Ends a transaction: it is committed where the command was accepted, and else undone.
+fn end<S: Alter>(tables: &mut Tables<S>, worked: Result<Answer, Refusal>) -> Result<Answer, Refusal>
+    ensures ok { IsHonest S.Store tables.new → IfOk result (λ answer. (worked ≡ Ok answer)
+        × (last_records S.Store tables.new ≡ records S.Store tables.old)) }
+    ensures err { IsHonest S.Store tables.new → IfErr result (λ e.
+        (last_records S.Store tables.new ≡ last_records S.Store tables.old)
+        × (IsSetAside e ⊎ (worked ≡ Err e))) }
+    ensures outside { IsHonest S.Store tables.new → IsOver S.Store tables.new result }
+    ensures crash { LeavesEnd S.Store tables.old tables.new worked }
+    ensures refused { IfErr result
+        (λ e. IsSetAside e ⊎ LeavesNoMore S.Store tables.old tables.new) }
+    ensures live { OnOk worked (IsHonest S.Store tables.old)
+        → HasCleanDisk (state S.Store tables.new) → OnOk result (IsHonest S.Store tables.new) }
+    ensures clean { HasCleanDisk (state S.Store tables.new)
+        → HasCleanDisk (state S.Store tables.old) }
+    ensures was { IsHonest S.Store tables.new → IsHonest S.Store tables.old }
+{
+    match worked {
+        Ok(answer) => {
+            tables.commit()?;
+            Ok(answer)
+        }
+        Err(Refusal::Store) => Err(Refusal::Store),
+        Err(refusal) => {
+            tables.back()?;
+            Err(refusal)
+        }
+    }
+}
+
+/// Does a command on tables outside a transaction.
+pub fn run<S: Alter>(
+    tables: &mut Tables<S>,
+    alloc: Global,
+    command: &Command,
+) -> Result<Answer, Refusal>
+    requires outside { IsHonest S.Store tables.old → tables.old.in_transaction ≡ false }
+    requires settled { IsHonest S.Store tables.old
+        → records S.Store tables.old ≡ last_records S.Store tables.old }
+    requires sound { IsHonest S.Store tables.old → AreSound (last_records S.Store tables.old) }
+    ensures steps { IsHonest S.Store tables.new
+        → Steps (last_records S.Store tables.old) (last_records S.Store tables.new) command.now
+        result }
+    ensures outside { IsHonest S.Store tables.new → IsOver S.Store tables.new result }
+    ensures crash { LeavesStep S.Store tables.old tables.new command.now }
+    ensures refused { IfErr result
+        (λ e. IsSetAside e ⊎ LeavesNoMore S.Store tables.old tables.new) }
+    ensures live { HasCleanDisk (state S.Store tables.new)
+        → OnOk result (IsHonest S.Store tables.new) }
+    ensures clean { HasCleanDisk (state S.Store tables.new)
+        → HasCleanDisk (state S.Store tables.old) }
+    ensures was { IsHonest S.Store tables.new → IsHonest S.Store tables.old }
+{
+    let CheckedCommand { host, change } = check(alloc, command)?;
+    tables.begin()?;
+    let worked = work(tables, alloc, &host, change);
+    end(tables, worked)
+}
