@@ -1,12 +1,12 @@
 -- From what a statement does to the database to what it does to the lists, and what stays true of the tables.
-use Rattle.std.proofs.Common.{◌≡◌, inl, inr, ℕ, Bool, true, false, cond, List, map, Option, Result, Ok, Err, IfOk, OnOk, OnErr, slice_get, refl, sym, ap, subst, ◌∙◌, true≢false}
+use Rattle.std.proofs.Common.{◌≡◌, inl, inr, ℕ, Bool, true, false, List, map, Option, Result, Ok, Err, IfOk, OnOk, OnErr, slice_get, refl, sym, ap, subst, ◌∙◌, true≢false}
 use Rattle.sqlite_value.specs.Order.{Row}
 use Rattle.dh_reply.specs.declared.fault.Fault.{Fault}
 use Rattle.sqlite_trees.specs.declared.store.Store.{Ghosts}
 use Rattle.sqlite.specs.Effect.{Database}
 use Rattle.sqlite.specs.State.{HasCleanDisk}
 use Rattle.sqlite.specs.Held.{Held, state}
-use Rattle.dh_rows.specs.Calls.{whole, Edits, EditsAtMost, Makes, Keep, AreOurs, IsHonest, LeavesTrees, Leaves, Lasts, Goes, GoesWithin, Stays, Sees, Refuses, Shows, IsSame, IsUndone, IsRefused, Becomes, KeepsCommitted, CommitsAtMost, seen, committed}
+use Rattle.dh_rows.specs.Calls.{whole, Edits, EditsAtMost, Makes, Keep, AreOurs, IsHonest, LeavesTrees, Leaves, Lasts, Goes, GoesWithin, Stays, Sees, Refuses, Shows, IsSame, IsUndone, IsRefused, seen}
 use Rattle.dh_rows.proofs.Views.{leaves, leaves_now}
 use Rattle.dh_tables.specs.Calling.{Asks, Writes, Learns}
 use Rattle.dh_tables.specs.InTurn.{lasts_on, goes_anywhere, refused_on}

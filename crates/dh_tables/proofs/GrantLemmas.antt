@@ -1,5 +1,5 @@
 -- Grants: one that is not there is a free key, and what granting makes of the records.
-use Rattle.std.proofs.Common.{◌≡◌, true, false, cond, List, find, is_some, Option, None, Some, true≢false, inl, inr, refl, sym, ap, subst, ◌∙◌}
+use Rattle.std.proofs.Common.{◌≡◌, true, false, cond, List, find, is_some, Option, None, Some, true≢false, refl, ap, ◌∙◌}
 use Rattle.sqlite_keyed.proofs.ListLemmas.{all_weaker}
 use Rattle.sqlite_keyed.proofs.SliceLemmas.{any_is_found}
 use Rattle.dh_rows.specs.Keyed.{same_key, IsFreeKey, added}

@@ -58,7 +58,7 @@ module _ {S : Type 0} (g : Ghosts S) (host : List ℕ) (names : List (List ℕ))
         let was : IsHonest g next → IsHonest g now = it.goes.lasts.was in
         let picks_are : (honest : IsHonest g next) → (seen g lists_of next).picks ≡ added coding.picks.key x (seen g lists_of now).picks = λ honest. ap (λ (l : Lists). l.picks) (it.sees.now_is honest) in
         let lists_are : (honest : IsHonest g next) → seen g lists_of next ≡ record (seen g lists_of old) { picks = (seen g lists_of next).picks } = λ honest.
-            it.sees.now_is honest ∙ ap (λ (l : Lists). record l { picks = added coding.picks.key x (seen g lists_of now).picks }) (had.sees.now_is (was honest)) ∙ ap (λ p. record (seen g lists_of old) { picks = p }) (sym (picks_are honest)) in
+        it.sees.now_is honest ∙ ap (λ (l : Lists). record l { picks = added coding.picks.key x (seen g lists_of now).picks }) (had.sees.now_is (was honest)) ∙ ap (λ p. record (seen g lists_of old) { picks = p }) (sym (picks_are honest)) in
         record {
           goes = more_goes it.goes;
           sees = record {
@@ -78,7 +78,7 @@ module _ {S : Type 0} (g : Ghosts S) (host : List ℕ) (names : List (List ℕ))
   pub all_added : (now : Held S) (i : ℕ) → length names ≤ i → AreAdded now i → WritesWithin g old now (Ok (tt {0})) (change.with_picks (ranked host 1 names))
   all_added now i past had =
       let lists : (honest : IsHonest g now) → seen g lists_of now ≡ change.with_picks (ranked host 1 names) (seen g lists_of old) = λ honest.
-          had.sees.now_is honest ∙ ap (λ p. record (seen g lists_of old) { picks = p }) (ap (λ ns. with_picks (ranked host (i + 1) ns) (seen g lists_of now).picks) (sym (none_left names i past)) ∙ had.left honest) in
+      had.sees.now_is honest ∙ ap (λ p. record (seen g lists_of old) { picks = p }) (ap (λ ns. with_picks (ranked host (i + 1) ns) (seen g lists_of now).picks) (sym (none_left names i past)) ∙ had.left honest) in
       record {
         goes = had.goes;
         sees = record { live = had.sees.live; now_is = lists; mode = had.sees.mode; done = λ honest out. had.sees.done honest out ∙ sym (had.sees.now_is honest) ∙ lists honest };

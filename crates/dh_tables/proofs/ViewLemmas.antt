@@ -1,13 +1,12 @@
 -- What looks leave, one after the other.
-use Rattle.std.proofs.Common.{◌≡◌, ◌≤◌, inl, inr, ℕ, Bool, true, false, ◌&&◌, Option, Result, Ok, Err, IsTrue, IfOk, OnOk, OnErr, refl, sym, ap, ◌∙◌, arith, zero, suc, true≢false}
+use Rattle.std.proofs.Common.{◌≡◌, ◌≤◌, ℕ, Bool, true, false, ◌&&◌, Option, Result, Ok, Err, IsTrue, IfOk, refl, sym, ap, ◌∙◌, arith, zero, suc, true≢false}
 use Rattle.sqlite_trees.specs.View.{doubt}
 use Rattle.sqlite_trees.specs.declared.store.Store.{Ghosts}
-use Rattle.sqlite.specs.State.{HasCleanDisk}
 use Rattle.sqlite.specs.Held.{Held, state}
 use Rattle.dh_reply.specs.declared.fault.Fault.{Fault}
 use Rattle.dh_reply.specs.declared.fault.Fault.TheVariants.{Store, Memory}
 use Rattle.dh_reply.specs.Faults.{UnlessStore}
-use Rattle.dh_rows.specs.Calls.{IsHonest, IsSame, IsRefused, Leaves, seen}
+use Rattle.dh_rows.specs.Calls.{IsHonest, seen}
 use Rattle.dh_tables.specs.Tables.{lists_of}
 use Rattle.dh_world.specs.World.{Text}
 use Rattle.dh_tables.specs.Lists.{world_of}

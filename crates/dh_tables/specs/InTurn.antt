@@ -1,12 +1,12 @@
 -- What calls leave that come one after the other.
-use Rattle.std.specs.Prelude.{◌≡◌, ◌⊎◌, ℕ, ◌≤◌, ◌+◌, ◌-◌, ◌^◌, min, true}
+use Rattle.std.specs.Prelude.{◌≡◌, ℕ, ◌≤◌, ◌+◌, ◌-◌, ◌^◌, min, true}
 use Rattle.std.proofs.Common.{inl, inr, refl, ◌∙◌, le_refl, le_trans, add-le-add}
 use Rattle.std.proofs.Math.Nat.{le-min, min-le_left, min-le_right}
 use Rattle.sqlite_trees.specs.declared.store.Store.{Ghosts}
 use Rattle.sqlite.specs.State.{HasCleanDisk}
 use Rattle.sqlite.specs.Held.{Held, state}
 use Rattle.sqlite.specs.Effect.{Database}
-use Rattle.dh_rows.specs.Calls.{IsHonest, Lasts, Goes, GoesWithin, Sees, Shows, IsSame, IsRefused, seen}
+use Rattle.dh_rows.specs.Calls.{IsHonest, Lasts, Goes, GoesWithin, Sees, IsSame, IsRefused}
 
 -- as faults are counted: more than later is more than before
 more_before
