@@ -8,7 +8,7 @@ use Rattle.sqlite.specs.State.{HasCleanDisk}
 use Rattle.sqlite.specs.Held.{Held, state}
 use Rattle.dh_rows.specs.Calls.{whole, Edits, EditsAtMost, Makes, Keep, AreOurs, IsHonest, LeavesTrees, Leaves, Lasts, Goes, GoesWithin, Stays, Sees, Refuses, Shows, IsSame, IsUndone, IsRefused, seen}
 use Rattle.dh_rows.proofs.Views.{leaves, leaves_now}
-use Rattle.dh_tables.specs.Calling.{Asks, Writes, Learns}
+use Rattle.dh_tables.specs.Calling.{Asks, Writes}
 use Rattle.dh_tables.specs.InTurn.{lasts_on, goes_anywhere, refused_on}
 use Rattle.dh_tables.specs.Lists.{Lists}
 use Rattle.dh_tables.specs.Making.{IsMade, GoesOn, Builds, BuildsOne, AreCommitted}
@@ -105,11 +105,6 @@ module _ {S : Type 0} (g : Ghosts S) (old new : Held S) where
     same = λ clean. on_ok g old new (shown g old new _ _ _) r (same clean);
     err = λ honest. on_err g old new (refused g old new) r (err honest);
   }
-
-  -- an answer is of a store that is honest before and after
-  pub answered : {T : Type 0} (r : Result T Fault) (fact : Lists → T → Type 0) → Asks g old new r → Learns g old new r fact → HasCleanDisk (state g new) → IfOk r (λ x. IsHonest g old × fact (seen g lists_of old) x)
-  answered (Ok x) fact asks learns clean = let same = asks.same clean in (same.was_honest, learns (clean, same.is_open))
-  answered (Err e) fact asks learns clean = tt
 
 -- ---- the value of a look
 
