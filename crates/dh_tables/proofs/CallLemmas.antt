@@ -1,15 +1,17 @@
 -- From what a statement does to the database to what it does to the lists, and what stays true of the tables.
-use Rattle.std.proofs.Common.{◌≡◌, inl, inr, ℕ, Bool, true, false, cond, List, map, Option, Result, Ok, Err, IfOk, OnOk, OnErr, slice_get, refl, sym, ap, subst, ◌∙◌, true≢false}
+use Rattle.std.proofs.Common.{◌≡◌, inl, inr, ℕ, Bool, true, false, List, map, Option, Result, Ok, Err, IfOk, OnOk, OnErr, slice_get, refl, sym, ap, subst, ◌∙◌, true≢false}
 use Rattle.sqlite_value.specs.Order.{Row}
 use Rattle.dh_reply.specs.declared.fault.Fault.{Fault}
 use Rattle.sqlite_trees.specs.declared.store.Store.{Ghosts}
 use Rattle.sqlite.specs.Effect.{Database}
 use Rattle.sqlite.specs.State.{HasCleanDisk}
 use Rattle.sqlite.specs.Held.{Held, state}
-use Rattle.dh_rows.specs.Calls.{whole, Edits, Keep, AreOurs, IsHonest, LeavesTrees, Leaves, Shows, IsSame, IsUndone, IsRefused, Becomes, KeepsCommitted, seen, committed}
-use Rattle.dh_rows.proofs.Views.{changes, leaves, leaves_now}
+use Rattle.dh_rows.specs.Calls.{whole, Edits, EditsAtMost, Makes, Keep, AreOurs, IsHonest, LeavesTrees, Leaves, Lasts, Goes, GoesWithin, Stays, Sees, Refuses, Shows, IsSame, IsUndone, IsRefused, seen}
+use Rattle.dh_rows.proofs.Views.{leaves, leaves_now}
+use Rattle.dh_tables.specs.Calling.{Asks, Writes}
+use Rattle.dh_tables.specs.InTurn.{lasts_on, goes_anywhere, refused_on}
 use Rattle.dh_tables.specs.Lists.{Lists}
-use Rattle.dh_tables.specs.Making.{GoesOn, CommitsNothing}
+use Rattle.dh_tables.specs.Making.{IsMade, GoesOn, Builds, BuildsOne, AreCommitted}
 use Rattle.dh_tables.specs.Tables.{Holds, lists_of}
 
 module _ {S : Type 0} (g : Ghosts S) (old new : Held S) where
@@ -86,24 +88,35 @@ module _ {S : Type 0} (g : Ghosts S) (old new : Held S) where
       let honest : IsHonest g old = was (clean, live) in
       by_result r (λ p. undone_keeps (ours honest.0 honest.1) p) (λ q. refused_keeps (ours honest.0 honest.1) q) (ok (clean, live)) (err (clean, live))
 
-  -- a read leaves the tables ours
-  pub read_ours : {T E : Type 0} (r : Result T E) → AreOurs Holds (state g old) → (IsHonest g new → IsHonest g old) → (IsHonest g old → HasCleanDisk (state g new) → OnOk r (IsSame g whole old new)) → (IsHonest g new → OnErr r (IsRefused g whole old new)) → AreOurs Holds (state g new)
-  read_ours r ours was same err = stay_ours _ r ours was same err same_keeps
+  -- a look leaves the tables ours
+  pub read_ours : {T E : Type 0} (r : Result T E) → AreOurs Holds (state g old) → Goes g old new → Stays g whole old new r → Refuses g whole old new r → AreOurs Holds (state g new)
+  read_ours r ours goes same err = stay_ours _ r ours goes.lasts.was (λ _. same) err same_keeps
 
   pub commit_leaves : AreOurs Holds (state g old) → LeavesTrees g old new (λ db. db ≡ (state g old).now.trees) → Leaves g lists_of old new (λ w. w ≡ lists_of (state g old).now)
   commit_leaves ours left = leaves_now g lists_of old new (λ honest. (ours honest.0 honest.1).steady) left
 
--- ---- the value of a read
+-- ---- looks
 
-pub first_value : {X E : Type 0} {R : Type 0} {P : List R → Type 0} (encode : X → R) (r : Result (Option X) E) (ys : List X) (v : Option X) → IfOk r (λ o. (xs : List X) → ((rows : List R) → P rows → rows ≡ map encode xs) → o ≡ slice_get xs 0)
+module _ {S : Type 0} (g : Ghosts S) (old new : Held S) where
+  -- what a query leaves, over the lists
+  pub asked : {T : Type 0} (r : Result T Fault) → Goes g old new → Stays g whole old new r → Refuses g whole old new r → Asks g old new r
+  asked r goes same err = record {
+    goes = goes;
+    same = λ clean. on_ok g old new (shown g old new _ _ _) r (same clean);
+    err = λ honest. on_err g old new (refused g old new) r (err honest);
+  }
+
+-- ---- the value of a look
+
+pub first_value : (H : Type 0) {X E : Type 0} {R : Type 0} {P : List R → Type 0} (encode : X → R) (r : Result (Option X) E) (ys : List X) (v : Option X) → IfOk r (λ o. H × ((xs : List X) → ((rows : List R) → P rows → rows ≡ map encode xs) → o ≡ slice_get xs 0))
     → ((rows : List R) → P rows → rows ≡ map encode ys) → slice_get ys 0 ≡ v → IfOk r (λ o. o ≡ v)
-first_value encode (Ok o) ys v h reads e = h ys reads ∙ e
-first_value encode (Err x) ys v h reads e = tt
+first_value H encode (Ok o) ys v h reads e = h.1 ys reads ∙ e
+first_value H encode (Err x) ys v h reads e = tt
 
-pub all_value : {X V E : Type 0} {R : Type 0} {P : List R → Type 0} (encode : X → R) (items : V → List X) (r : Result V E) (ys : List X) → IfOk r (λ v. (xs : List X) → ((rows : List R) → P rows → rows ≡ map encode xs) → items v ≡ xs)
+pub all_value : (H : Type 0) {X V E : Type 0} {R : Type 0} {P : List R → Type 0} (encode : X → R) (items : V → List X) (r : Result V E) (ys : List X) → IfOk r (λ v. H × ((xs : List X) → ((rows : List R) → P rows → rows ≡ map encode xs) → items v ≡ xs))
     → ((rows : List R) → P rows → rows ≡ map encode ys) → IfOk r (λ v. items v ≡ ys)
-all_value encode items (Ok v) ys h reads = h ys reads
-all_value encode items (Err x) ys h reads = tt
+all_value H encode items (Ok v) ys h reads = h.1 ys reads
+all_value H encode items (Err x) ys h reads = tt
 
 -- ---- a write
 
@@ -115,117 +128,146 @@ pub record Changed (db after : Database) (change : Lists → Lists) : Type 0 whe
 
 module _ {S : Type 0} (g : Ghosts S) (old new : Held S) (ours : AreOurs Holds (state g old)) (sql : List ℕ) (params : Row) (change : Lists → Lists)
     (effect : IsHonest g old → (after : Database) → Edits (state g old) sql params after → Changed (state g old).now after change) where
-  abbrev Ran : Result (Unit {0}) Fault → Type 0
-  Ran r = IsHonest g old → HasCleanDisk (state g new) → OnOk r (Becomes g whole old new (state g new).now × Edits (state g old) sql params (state g new).now)
+  abbrev Saw : Result (Unit {0}) Fault → Type 0
+  Saw r = OnOk r (Sees g whole old new (state g new).now)
 
   both : IsHonest g old → (after : Database) → Edits (state g old) sql params after → (after.schema ≡ (state g old).now.schema) × (lists_of after ≡ change (lists_of (state g old).now))
   both honest after it = let e = effect honest after it in (e.schema, e.lists)
 
-  pub written : (r : Result (Unit {0}) Fault) → Ran r → IsHonest g old → HasCleanDisk (state g new) → OnOk r (Becomes g lists_of old new (change (lists_of (state g old).now)))
-  written r ran honest clean = changes g lists_of old new sql params (change (lists_of (state g old).now)) both r (ran honest) honest clean
+  saw : (r : Result (Unit {0}) Fault) → Lasts g old new → Saw r → Makes g old new sql params r → OnOk r (Sees g lists_of old new (change (seen g lists_of old)))
+  saw (Ok u) lasts it made =
+      let lists : (honest : IsHonest g new) → lists_of (state g new).now ≡ change (lists_of (state g old).now) = λ honest. let was = lasts.was honest in (effect was (state g new).now (made was honest.0)).lists in
+      record { live = it.live; now_is = lists; mode = it.mode; done = λ honest out. ap lists_of (it.done honest out) ∙ lists honest }
+  saw (Err e) lasts it made = tt
 
-  pub write_leaves : LeavesTrees g old new (λ db. (old.in_transaction ≡ false) × (after : Database) × Edits (state g old) sql params after × (db ≡ after.trees))
-      → Leaves g lists_of old new (λ w. (old.in_transaction ≡ false) × (w ≡ change (lists_of (state g old).now)))
-  write_leaves left = leaves g lists_of old new sql params (change (lists_of (state g old).now)) both (λ honest. (ours honest.0 honest.1).steady) left
+  -- what a statement leaves, over the lists
+  pub wrote : (r : Result (Unit {0}) Fault) → GoesWithin g old new → Saw r → Makes g old new sql params r → Refuses g whole old new r → EditsAtMost g old new sql params → Writes g old new r change
+  wrote r goes sees made err crash = record {
+    goes = goes;
+    sees = saw r goes.lasts sees made;
+    err = λ honest. on_err g old new (refused g old new) r (err honest);
+    crash = leaves g lists_of old new sql params (change (lists_of (state g old).now)) both (λ honest. (ours honest.0 honest.1).steady) crash;
+  }
 
-  after_write : Keep Holds (state g old) → (now : Database) → Changed (state g old).now now change → (b : Bool) → Shows g whole old new now (cond b (state g old).committed now) b → Keep Holds (state g new)
-  after_write k now e true it = keeps g old new now (state g old).committed true it e.holds k.last (e.schema ∙ k.steady) (λ x. absurd (true≢false x))
-  after_write k now e false it = keeps g old new now now false it e.holds e.holds refl (λ _. refl)
+  after_write : IsHonest g new → Keep Holds (state g old) → Changed (state g old).now (state g new).now change → GoesWithin g old new → Sees g whole old new (state g new).now → (b : Bool) → old.in_transaction ≡ b → Keep Holds (state g new)
+  after_write honest k e goes it true within = record {
+    now = e.holds;
+    last = subst Holds (sym (goes.kept within honest)) k.last;
+    steady = e.schema ∙ k.steady ∙ sym (ap (λ (d : Database). d.schema) (goes.kept within honest));
+    settled = λ out. absurd (true≢false (sym (it.mode honest ∙ within) ∙ out));
+  }
+  after_write honest k e goes it false out = record {
+    now = e.holds;
+    last = subst Holds (sym (it.done honest out)) e.holds;
+    steady = sym (ap (λ (d : Database). d.schema) (it.done honest out));
+    settled = λ _. sym (it.done honest out);
+  }
 
-  pub written_ours : (r : Result (Unit {0}) Fault) → (IsHonest g new → IsHonest g old) → Ran r → (IsHonest g new → OnErr r (IsRefused g whole old new)) → AreOurs Holds (state g new)
-  written_ours r was ran err clean live =
-      let honest : IsHonest g old = was (clean, live) in
+  pub written_ours : (r : Result (Unit {0}) Fault) → GoesWithin g old new → Saw r → Makes g old new sql params r → Refuses g whole old new r → AreOurs Holds (state g new)
+  written_ours r goes sees made err clean live =
+      let honest : IsHonest g old = goes.lasts.was (clean, live) in
       let k = ours honest.0 honest.1 in
-      by_result g old new r (λ p. after_write k (state g new).now (effect honest (state g new).now p.1) old.in_transaction p.0) (λ q. refused_keeps g old new k q) (ran honest clean) (err (clean, live))
+      go r sees (made honest clean) (err (clean, live)) k honest (clean, live)
+    where
+      go : (r : Result (Unit {0}) Fault) → Saw r → OnOk r (Edits (state g old) sql params (state g new).now) → OnErr r (IsRefused g whole old new) → Keep Holds (state g old) → IsHonest g old → IsHonest g new → Keep Holds (state g new)
+      go (Ok u) it made err k was now = after_write now k (effect was (state g new).now made) goes it old.in_transaction refl
+      go (Err e) it made err k was now = refused_keeps g old new k err
 
 -- ---- making tables
 
-pub made_ok : {T E Q R : Type 0} (P : Type 0) (r : Result T E) → (Q → R) → OnOk r (P × Q) → OnOk r (P × R)
-made_ok P (Ok x) f h = (h.0, f h.1)
-made_ok P (Err e) f h = tt
-
-module _ {S : Type 0} (g : Ghosts S) (old middle new : Held S) where
-  pub goes_on : GoesOn g old middle → GoesOn g middle new → GoesOn g old new
-  goes_on a b = record { honest = b.honest; mode = b.mode ∙ a.mode; settled = λ out. b.settled (a.mode ∙ out); waits = λ within. b.waits (a.mode ∙ within) ∙ a.waits within }
-
-  pub goes_on_ok : {T E : Type 0} (P : Type 0) (r : Result T E) → GoesOn g old middle → OnOk r (GoesOn g middle new × P) → OnOk r (GoesOn g old new × P)
-  goes_on_ok P (Ok x) a h = (goes_on a h.0, h.1)
-  goes_on_ok P (Err e) a h = tt
-
-  pub nothing_on : IsHonest g old → GoesOn g old middle → old.in_transaction ≡ true → CommitsNothing g middle new → CommitsNothing g old new
-  nothing_on honest a within h = (honest, h.1 ∙ a.waits within)
-
-  pub nothing_on_err : {T E : Type 0} (r : Result T E) → IsHonest g old → GoesOn g old middle → old.in_transaction ≡ true → OnErr r (CommitsNothing g middle new) → OnErr r (CommitsNothing g old new)
-  nothing_on_err (Ok x) honest a within h = tt
-  nothing_on_err (Err e) honest a within h = nothing_on honest a within h
-
 module _ {S : Type 0} (g : Ghosts S) (old new : Held S) where
-  pub went : HasCleanDisk (state g new) → Becomes g whole old new (state g new).now → GoesOn g old new
-  went clean it = record {
-    honest = (clean, it.is_open);
-    mode = it.mode;
-    settled = λ out. sym (it.last_is ∙ ap (λ b. cond b (state g old).committed (state g new).now) out);
-    waits = λ within. it.last_is ∙ ap (λ b. cond b (state g old).committed (state g new).now) within;
+  -- one statement, by what it makes of the database
+  pub built_one : (sql : List ℕ) (params : Row) (P : Database → Type 0) (r : Result (Unit {0}) Fault) → (IsHonest g old → (after : Database) → Edits (state g old) sql params after → P after)
+      → GoesWithin g old new → OnOk r (Sees g whole old new (state g new).now) → Makes g old new sql params r → Refuses g whole old new r → BuildsOne g old new r P
+  built_one sql params P r effect goes sees made err = record {
+    builds = record { goes = goes; made = λ honest clean. go honest clean r sees (made honest clean) };
+    err = err;
+  }
+    where
+      go : IsHonest g old → HasCleanDisk (state g new) → (r : Result (Unit {0}) Fault) → OnOk r (Sees g whole old new (state g new).now) → OnOk r (Edits (state g old) sql params (state g new).now) → OnOk r (GoesOn g old new × P (state g new).now)
+      go honest clean (Ok u) s it =
+          let now = s.live honest clean in
+          (record { honest = now; mode = s.mode now; settled = λ out. sym (s.done now out); waits = λ within. goes.kept within now }, effect honest (state g new).now it)
+      go honest clean (Err e) s it = tt
+
+  -- what an answered step made
+  pub built : (P : Database → Type 0) → Builds g old new (Ok tt) P → IsHonest g new → P (state g new).now
+  built P it honest = (it.made (it.goes.lasts.was honest) honest.0).1
+
+module _ {S : Type 0} (g : Ghosts S) (old middle new : Held S) (P : Database → Type 0) (first : Builds g old middle (Ok tt) P) where
+  -- what comes after an answered step
+  pub goes_after : GoesWithin g middle new → GoesWithin g old new
+  goes_after it = record {
+    lasts = lasts_on first.goes.lasts it.lasts;
+    kept = λ within honest. let was = it.lasts.was honest in it.kept ((first.made (first.goes.lasts.was was) was.0).0.mode ∙ within) honest ∙ first.goes.kept within was;
+    quiet = λ within honest clean db may.
+        let back = it.lasts.clean clean in
+        let on = (first.made honest back).0 in
+        first.goes.quiet within honest back db (it.quiet (on.mode ∙ within) on.honest clean db may);
   }
 
-  pub went_ok : {T E : Type 0} (P : Type 0) (r : Result T E) → HasCleanDisk (state g new) → OnOk r (Becomes g whole old new (state g new).now × P) → OnOk r (GoesOn g old new × P)
-  went_ok P (Ok x) clean h = (went clean h.0, h.1)
-  went_ok P (Err e) clean h = tt
-
-  pub refused_nothing : IsRefused g whole old new → CommitsNothing g old new
-  refused_nothing (inl it) = (it.was_honest, it.last_is)
-  refused_nothing (inr it) = (it.was_honest, it.last_is)
+  pub builds_on : (Q : Database → Type 0) (r : Result (Unit {0}) Fault) → Builds g middle new r Q → Builds g old new r Q
+  builds_on Q r it = record {
+    goes = goes_after it.goes;
+    made = λ honest clean. let on = (first.made honest (it.goes.lasts.clean clean)).0 in go on r (it.made on.honest clean);
+  }
+    where
+      go : GoesOn g old middle → (r : Result (Unit {0}) Fault) → OnOk r (GoesOn g middle new × Q (state g new).now) → OnOk r (GoesOn g old new × Q (state g new).now)
+      go a (Ok u) h = (record { honest = h.0.honest; mode = h.0.mode ∙ a.mode; settled = λ out. h.0.settled (a.mode ∙ out); waits = λ within. h.0.waits (a.mode ∙ within) ∙ a.waits within }, h.1)
+      go a (Err e) h = tt
 
 -- what is committed is what was made
-pub committed_made : {S T E : Type 0} (P : Database → Type 0) (g : Ghosts S) (middle new : Held S) (r : Result T E) → HasCleanDisk (state g new) → P (state g middle).now → OnOk r (Shows g whole middle new (state g middle).now (state g middle).now false)
-    → OnOk r (IsHonest g new × (new.in_transaction ≡ false) × ((state g new).now ≡ (state g new).committed) × P (state g new).now)
-committed_made P g middle new (Ok x) clean made h = ((clean, h.is_open), h.mode, h.now_is ∙ sym h.last_is, subst P (sym h.now_is) made)
-committed_made P g middle new (Err e) clean made h = tt
+pub committed_made : {S T E : Type 0} (g : Ghosts S) (middle new : Held S) (r : Result T E) → HasCleanDisk (state g new) → IsMade (state g middle).now → OnOk r (Shows g whole middle new (state g middle).now (state g middle).now false)
+    → OnOk r (AreCommitted g new)
+committed_made g middle new (Ok x) clean made h = record { honest = (clean, h.is_open); outside = h.mode; settled = h.now_is ∙ sym h.last_is; made = subst IsMade (sym h.now_is) made }
+committed_made g middle new (Err e) clean made h = tt
 
 -- ---- calls in turn
 
-module _ {S W : Type 0} (g : Ghosts S) (view : Database → W) (old middle new : Held S) where
-  -- within a transaction, the last of two changes is what is seen
-  pub becomes_on : (v w : W) → old.in_transaction ≡ true → Becomes g view old middle v → Becomes g view middle new w → Becomes g view old new w
-  becomes_on v w within a b = record {
-    was_honest = a.was_honest;
-    is_open = b.is_open;
-    now_is = b.now_is;
-    last_is = b.last_is ∙ ap (λ c. cond c (committed g view middle) w) (a.mode ∙ within) ∙ a.last_is ∙ ap (λ c. cond c (committed g view old) v) within
-        ∙ sym (ap (λ c. cond c (committed g view old) w) within);
-    mode = b.mode ∙ a.mode;
+module _ {S T : Type 0} (g : Ghosts S) (old middle new : Held S) (x : T) (look : Asks g old middle (Ok x)) where
+  -- an answered look leaves all as it was
+  pub still : HasCleanDisk (state g middle) → IsSame g lists_of old middle
+  still clean = look.same clean
+
+  -- a change after an answered look
+  pub wrote_after : {U : Type 0} (r : Result U Fault) (first change : Lists → Lists) → (IsHonest g middle → first (seen g lists_of old) ≡ change (seen g lists_of old)) → Writes g middle new r first → Writes g old new r change
+  wrote_after r first change is it =
+      let between : (clean : HasCleanDisk (state g middle)) → IsHonest g middle = λ clean. (clean, (still clean).is_open) in
+      let becomes : (honest : IsHonest g middle) → first (seen g lists_of middle) ≡ change (seen g lists_of old) = λ honest. ap first (still honest.0).now_is ∙ is honest in
+      record {
+        goes = record {
+          lasts = lasts_on look.goes.lasts it.goes.lasts;
+          kept = λ within honest. let was = it.goes.lasts.was honest in it.goes.kept ((still was.0).mode ∙ within) honest ∙ look.goes.kept was;
+          quiet = λ within honest clean db may. let back = it.goes.lasts.clean clean in look.goes.quiet honest back db (it.goes.quiet ((still back).mode ∙ within) (between back) clean db may);
+        };
+        sees = on_ok g old new
+            (λ s. record {
+              live = λ honest clean. s.live (between (it.goes.lasts.clean clean)) clean;
+              now_is = λ honest. s.now_is honest ∙ becomes (it.goes.lasts.was honest);
+              mode = λ honest. s.mode honest ∙ (still (it.goes.lasts.was honest).0).mode;
+              done = λ honest out. let was = it.goes.lasts.was honest in s.done honest ((still was.0).mode ∙ out) ∙ becomes was;
+            })
+            r it.sees;
+        err = λ honest. on_err g old new (refused_on (still (it.goes.lasts.was honest).0)) r (it.err honest);
+        crash = λ honest clean db may.
+            let back = it.goes.lasts.clean clean in
+            elim (it.crash (between back) clean db may) [
+              | inl before ↦ inl (look.goes.quiet honest back db before)
+              | inr left ↦ inr (sym (still back).mode ∙ left.0, sym (ap (λ (d : Database). lists_of (record { schema = d.schema; trees = db })) (look.goes.kept (between back))) ∙ left.1 ∙ becomes (between back))
+            ];
+      }
+
+module _ {S T : Type 0} (g : Ghosts S) (old new : Held S) where
+  -- an answered look after which nothing is to be changed; outside a transaction what is seen is committed
+  pub wrote_nothing : {U : Type 0} (x : T) (u : U) (change : Lists → Lists) → AreOurs Holds (state g old) → Asks g old new (Ok x) → (IsHonest g new → change (seen g lists_of old) ≡ seen g lists_of old) → Writes g old new (Ok u) change
+  wrote_nothing x u change ours look none = record {
+    goes = goes_anywhere look.goes;
+    sees = record {
+      live = λ honest clean. (clean, (look.same clean).is_open);
+      now_is = λ honest. (look.same honest.0).now_is ∙ sym (none honest);
+      mode = λ honest. (look.same honest.0).mode;
+      done = λ honest out. let was = look.goes.lasts.was honest in (look.same honest.0).last_is ∙ sym (ap lists_of ((ours was.0 was.1).settled out)) ∙ sym (none honest);
+    };
+    err = λ _. tt;
+    crash = λ honest clean db may. inl (look.goes.quiet honest clean db may);
   }
-
-  -- a change after a look
-  pub becomes_after : (f : W → W) → IsSame g view old middle → Becomes g view middle new (f (seen g view middle)) → Becomes g view old new (f (seen g view old))
-  becomes_after f a b = record {
-    was_honest = a.was_honest;
-    is_open = b.is_open;
-    now_is = b.now_is ∙ ap f a.now_is;
-    last_is = b.last_is ∙ (λ i. cond (a.mode i) (a.last_is i) (f (a.now_is i)));
-    mode = b.mode ∙ a.mode;
-  }
-
-  -- what a crash leaves of a change after a look
-  pub leaves_after : (f : W → W) → (HasCleanDisk (state g new) → HasCleanDisk (state g middle)) → (IsHonest g old → HasCleanDisk (state g middle) → IsSame g view old middle) → KeepsCommitted g old middle
-      → Leaves g view old middle (λ w. ⊥) → Leaves g view middle new (λ w. (middle.in_transaction ≡ false) × (w ≡ f (seen g view middle)))
-      → Leaves g view old new (λ w. (old.in_transaction ≡ false) × (w ≡ f (seen g view old)))
-  leaves_after f back same kept look change honest clean db may =
-      let it = same honest (back clean) in
-      let between : IsHonest g middle = (back clean, it.is_open) in
-      elim (change between clean db may) [
-        | inl before ↦ elim (look honest (back clean) db before) [ inl first ↦ inl first | inr none ↦ absurd none ]
-        | inr left ↦ inr (sym it.mode ∙ left.0, sym (ap (λ (d : Database). view (record { schema = d.schema; trees = db })) (kept between)) ∙ left.1 ∙ ap f it.now_is)
-      ]
-
--- within a transaction, nothing changes where nothing is done
-pub same_becomes : {S W : Type 0} (g : Ghosts S) (view : Database → W) (old : Held S) → IsHonest g old → old.in_transaction ≡ true → Becomes g view old old (seen g view old)
-same_becomes g view old honest within = record { was_honest = honest; is_open = honest.1; now_is = refl; last_is = sym (ap (λ c. cond c (committed g view old) (seen g view old)) within); mode = refl }
-
--- outside a transaction, what is the same after a look is committed
-pub same_is_change : {S : Type 0} (g : Ghosts S) (old new : Held S) → AreOurs Holds (state g old) → IsHonest g old → IsSame g lists_of old new → Becomes g lists_of old new (seen g lists_of old)
-same_is_change g old new ours honest it = record { was_honest = it.was_honest; is_open = it.is_open; now_is = it.now_is; last_is = go old.in_transaction refl; mode = it.mode }
-  where
-    go : (b : Bool) → old.in_transaction ≡ b → committed g lists_of new ≡ cond b (committed g lists_of old) (seen g lists_of old)
-    go true e = it.last_is
-    go false e = it.last_is ∙ sym (ap lists_of ((ours honest.0 honest.1).settled e))

@@ -7,10 +7,10 @@ first_mapped : {X R : Type 0} (encode : X → R) (ys : List X) → is_some (slic
 first_mapped encode [] = refl
 first_mapped encode (y ∷ ys) = refl
 
-pub any_value : {X E : Type 0} {R : Type 0} {P : List R → Type 0} (encode : X → R) (r : Result Bool E) (ys : List X) (v : Option X) → IfOk r (λ b. (rows : List R) × P rows × (b ≡ is_some (slice_get rows 0)))
+pub any_value : (H : Type 0) {X E : Type 0} {R : Type 0} {P : List R → Type 0} (encode : X → R) (r : Result Bool E) (ys : List X) (v : Option X) → IfOk r (λ b. H × ((rows : List R) × P rows × (b ≡ is_some (slice_get rows 0))))
     → ((rows : List R) → P rows → rows ≡ map encode ys) → slice_get ys 0 ≡ v → IfOk r (λ b. b ≡ is_some v)
-any_value encode (Ok b) ys v h reads e = h.2 ∙ ap (λ l. is_some (slice_get l 0)) (reads h.0 h.1) ∙ first_mapped encode ys ∙ ap is_some e
-any_value encode (Err x) ys v h reads e = tt
+any_value H encode (Ok b) ys v h reads e = h.1.2 ∙ ap (λ l. is_some (slice_get l 0)) (reads h.1.0 h.1.1) ∙ first_mapped encode ys ∙ ap is_some e
+any_value H encode (Err x) ys v h reads e = tt
 
 -- what holds of the list holds of the answer that is it
 pub kept_by : {V E X : Type 0} (P : List X → Type 0) (items : V → List X) (r : Result V E) (ys : List X) → IfOk r (λ v. items v ≡ ys) → P ys → IfOk r (λ v. P (items v))
@@ -18,6 +18,6 @@ kept_by P items (Ok v) ys e p = subst P (sym e) p
 kept_by P items (Err x) ys e p = tt
 
 -- as many rows as records
-pub count_value : {X E : Type 0} {R : Type 0} {P : List R → Type 0} (encode : X → R) (r : Result ℕ E) (ys : List X) → IfOk r (λ n. (rows : List R) × P rows × (n ≡ length rows)) → ((rows : List R) → P rows → rows ≡ map encode ys) → IfOk r (λ n. n ≡ length ys)
-count_value encode (Ok n) ys h reads = h.2 ∙ ap length (reads h.0 h.1) ∙ length-map ys encode
-count_value encode (Err x) ys h reads = tt
+pub count_value : (H : Type 0) {X E : Type 0} {R : Type 0} {P : List R → Type 0} (encode : X → R) (r : Result ℕ E) (ys : List X) → IfOk r (λ n. H × ((rows : List R) × P rows × (n ≡ length rows))) → ((rows : List R) → P rows → rows ≡ map encode ys) → IfOk r (λ n. n ≡ length ys)
+count_value H encode (Ok n) ys h reads = h.1.2 ∙ ap length (reads h.1.0 h.1.1) ∙ length-map ys encode
+count_value H encode (Err x) ys h reads = tt

@@ -1,5 +1,6 @@
 pub mod ReadingLemmas
 pub mod CallLemmas
+pub mod Following
 pub mod Matching
 pub mod SameText
 pub mod Statements

@@ -1,13 +1,12 @@
 -- What looks leave, one after the other.
-use Rattle.std.proofs.Common.{◌≡◌, ◌≤◌, inl, inr, ℕ, Bool, true, false, ◌&&◌, Option, Result, Ok, Err, IsTrue, IfOk, OnOk, OnErr, refl, sym, ap, ◌∙◌, arith, zero, suc, true≢false}
+use Rattle.std.proofs.Common.{◌≡◌, ◌≤◌, ℕ, Bool, true, false, ◌&&◌, Option, Result, Ok, Err, IsTrue, IfOk, refl, sym, ap, ◌∙◌, arith, zero, suc, true≢false}
 use Rattle.sqlite_trees.specs.View.{doubt}
 use Rattle.sqlite_trees.specs.declared.store.Store.{Ghosts}
-use Rattle.sqlite.specs.State.{HasCleanDisk}
 use Rattle.sqlite.specs.Held.{Held, state}
 use Rattle.dh_reply.specs.declared.fault.Fault.{Fault}
 use Rattle.dh_reply.specs.declared.fault.Fault.TheVariants.{Store, Memory}
 use Rattle.dh_reply.specs.Faults.{UnlessStore}
-use Rattle.dh_rows.specs.Calls.{IsHonest, IsSame, IsRefused, Leaves, seen}
+use Rattle.dh_rows.specs.Calls.{IsHonest, seen}
 use Rattle.dh_tables.specs.Tables.{lists_of}
 use Rattle.dh_world.specs.World.{Text}
 use Rattle.dh_tables.specs.Lists.{world_of}
@@ -67,17 +66,6 @@ module _ {S : Type 0} (g : Ghosts S) where
       let same = (it.unmoved h).same in
       let before = was same.was_honest in
       record { outside = same.mode ∙ before.outside; same = same.now_is ∙ before.same ∙ sym same.last_is }
-
-  -- ---- one look
-
-  refused_unmoved : (a b : Held S) → IsSettled g a → IsRefused g lists_of a b → IsSame g lists_of a b
-  refused_unmoved a b was (inl it) = it
-  refused_unmoved a b was (inr it) = record { was_honest = it.was_honest; is_open = it.is_open; now_is = it.now_is ∙ sym was.same; last_is = it.last_is; mode = it.mode ∙ sym was.outside }
-
-  pub looked : {T E : Type 0} (a b : Held S) (r : Result T E) → (IsHonest g a → IsSettled g a) → (HasCleanDisk (state g b) → HasCleanDisk (state g a)) → (IsHonest g b → IsHonest g a)
-      → (IsHonest g a → HasCleanDisk (state g b) → OnOk r (IsSame g lists_of a b)) → (IsHonest g b → OnErr r (IsRefused g lists_of a b)) → Leaves g lists_of a b (λ w. ⊥) → Looks g a b
-  looked a b (Ok x) settled clean was same err crash = record { clean = clean; unmoved = λ it. record { same = same (was it) it.0; left = crash } }
-  looked a b (Err e) settled clean was same err crash = record { clean = clean; unmoved = λ it. record { same = refused_unmoved a b (settled (was it)) (err it); left = crash } }
 
   pub shown_same : (a b : Held S) (host pass : Option Text) → Looks g a b → IsHonest g b → shown g b host pass ≡ shown g a host pass
   shown_same a b host pass it h = ap (λ l. caller.seen (world_of l) host pass) (it.unmoved h).same.now_is

@@ -91,6 +91,13 @@ is_held_by host pass r = bytes_eq r.host host && bytes_eq r.pass pass
 abbrev pub is_held_on : Text → Text → HeldRow → Bool
 is_held_on host slug r = bytes_eq r.host host && bytes_eq r.slug slug
 
+abbrev pub pick_row : Text → Text → ℕ → PickRow
+pick_row host name rank = record { host = host; name = name; rank = rank }
+
+abbrev pub used_row : Text → Text → Operation → Text → List ℕ → UsedRow
+used_row host slug op retry answer =
+    record { host = host; slug = slug; op = op; retry = retry; answer = answer }
+
 -- the records of a list of defaults, ranked from a number on
 abbrev pub ranked : Text → ℕ → List Text → List PickRow
 ranked host n [] = []

@@ -1,12 +1,14 @@
 -- The tables as they are made, one after the other.
-use Rattle.std.specs.Prelude.{◌≡◌, true, false, List, [], ◌∷◌}
+use Rattle.std.specs.Prelude.{◌≡◌, true, false, List, [], ◌∷◌, Result, OnOk}
 use Rattle.std.specs.List.{AllByRecursion}
 use Rattle.sqlite_schema.specs.declared.schema.Table.{Table}
 use Rattle.sqlite.specs.Does.{lacks_sequence}
 use Rattle.sqlite_trees.specs.declared.store.Store.{Ghosts}
 use Rattle.sqlite.specs.Effect.{Database}
 use Rattle.sqlite.specs.Held.{Held, state}
-use Rattle.dh_rows.specs.Calls.{IsHonest, whole, committed}
+use Rattle.sqlite.specs.State.{HasCleanDisk}
+use Rattle.dh_reply.specs.declared.fault.Fault.{Fault}
+use Rattle.dh_rows.specs.Calls.{IsHonest, GoesWithin, Refuses, whole, committed}
 use Rattle.dh_rows.specs.Places.{IsFree, IsUnmentioned, ArePlaced, Stands, rows_of}
 use Rattle.dh_tables.specs.Lists.{Lists}
 use Rattle.sqlite_schema.specs.declared.schema.Schema.{Schema}
@@ -103,3 +105,21 @@ module _ {S : Type 0} (g : Ghosts S) (old new : Held S) where
   -- nothing more is committed
   abbrev pub CommitsNothing : Type 0
   CommitsNothing = IsHonest g old × (committed g whole new ≡ committed g whole old)
+
+  module _ (result : Result (Unit {0}) Fault) where
+    -- What making leaves, of one table or of several in turn; answered, P is true of what is seen.
+    pub record Builds (P : Database → Type 0) : Type 0 where
+      pub goes : GoesWithin g old new
+      pub made : IsHonest g old → HasCleanDisk (state g new) → OnOk result (GoesOn × P (state g new).now)
+
+    -- The same of one statement: refused, it left all as it was, or undid the transaction.
+    pub record BuildsOne (P : Database → Type 0) : Type 0 where
+      pub builds : Builds P
+      pub err : Refuses g whole old new result
+
+-- All tables are made, and committed.
+pub record AreCommitted {S : Type 0} (g : Ghosts S) (h : Held S) : Type 0 where
+  pub honest : IsHonest g h
+  pub outside : h.in_transaction ≡ false
+  pub settled : (state g h).now ≡ (state g h).committed
+  pub made : IsMade (state g h).now

@@ -1,14 +1,13 @@
 -- What a view of the tables shows, and what looks at them leave.
-use Rattle.std.specs.Prelude.{◌≡◌, ℕ, Bool, not, ◌&&◌, List, map, Option, Result, Vec, IfOk, IsTrue, is_some, option_and_then, false, ⊤}
-use Rattle.std.proofs.Common.{inl, inr, refl, ◌∙◌}
+use Rattle.std.specs.Prelude.{◌≡◌, ℕ, Bool, ◌&&◌, List, map, Option, Result, IsTrue, is_some, option_and_then, false, ⊤}
+use Rattle.std.proofs.Common.{inl, inr}
 use Rattle.std.specs.List.{list_any, AllByRecursion}
 use Rattle.std.specs.Str.{bytes_eq}
 use Rattle.std.specs.FinMap.{FinMap, get, is_sorted}
 use Rattle.sqlite_trees.specs.View.{doubt}
 use Rattle.sqlite_trees.specs.declared.store.Store.{Ghosts}
-use Rattle.sqlite.specs.State.{HasCleanDisk}
 use Rattle.sqlite.specs.Held.{Held, state}
-use Rattle.dh_rows.specs.Calls.{IsHonest, IsSame, Leaves, seen, committed}
+use Rattle.dh_rows.specs.Calls.{IsHonest, IsSame, Lasts, Leaves, seen, committed}
 use Rattle.dh_versions.specs.declared.version.Version.{Version}
 use Rattle.dh_reply.specs.Faults.{OnStore}
 use Rattle.dh_reply.specs.SeenProject.{resolved}
@@ -19,6 +18,7 @@ use Rattle.dh_tables.specs.declared.records.HeldRow.{HeldRow}
 use Rattle.dh_tables.specs.declared.records.ProjectRow.{ProjectRow}
 use Rattle.dh_world.specs.World.{Text, text_cmp, Project, holds, may_see}
 use Rattle.dh_world.specs.Seen as caller
+use Rattle.dh_tables.specs.InTurn.{lasts_none, lasts_on, same_none, same_on}
 use Rattle.dh_tables.specs.Lists.{Lists, project_of, world_of}
 use Rattle.dh_tables.specs.Tables.{lists_of}
 
@@ -92,7 +92,7 @@ module _ {S : Type 0} (g : Ghosts S) where
 
   -- what a look leaves, whatever it answers
   pub record Looks (old new : Held S) : Type 0 where
-    pub clean : HasCleanDisk (state g new) → HasCleanDisk (state g old)
+    pub lasts : Lasts g old new
     pub unmoved : IsHonest g new → IsUnmoved old new
 
   -- Why a look may answer `Store`. The calls of the tables tell no cause yet, so none is asked for.
@@ -107,40 +107,21 @@ module _ {S : Type 0} (g : Ghosts S) where
       -- `Store` is answered with a cause alone
       pub told : OnStore result (Fails old new)
 
-    -- Where the store is honest, an answer and the records before stand so to each other.
-    abbrev pub Learns : (Lists → T → Type 0) → Type 0
-    Learns fact = IsHonest g new → IfOk result (fact (seen g lists_of old))
-
-    -- Where the store is honest, an answer is this of the records before.
-    abbrev pub Reads : (Lists → T) → Type 0
-    Reads value = Learns (λ l read. read ≡ value l)
-
-  -- the same of a list
-  abbrev pub ReadsAll
-      : {U Z : Type 0} → Held S → Held S → Result (Vec U Z) Fault → (Lists → List U) → Type 0
-  ReadsAll old new result value = Learns old new result (λ l read. read.items ≡ value l)
-
   pub unmoved_none : (h : Held S) → IsHonest g h → IsUnmoved h h
   unmoved_none h it = record {
-    same = record { was_honest = it; is_open = it.1; now_is = refl; last_is = refl; mode = refl };
+    same = same_none h it;
     left = λ _ _ db may. inl may;
   }
 
   pub looks_none : (h : Held S) → Looks h h
-  looks_none h = record { clean = λ it. it; unmoved = unmoved_none h }
+  looks_none h = record { lasts = lasts_none h; unmoved = unmoved_none h }
 
 -- what holds over two looks in turn
 pub unmoved_on
     : {S : Type 0} {g : Ghosts S} {a b c : Held S}
     → IsUnmoved g a b → IsUnmoved g b c → IsUnmoved g a c
 unmoved_on p q = record {
-  same = record {
-    was_honest = p.same.was_honest;
-    is_open = q.same.is_open;
-    now_is = q.same.now_is ∙ p.same.now_is;
-    last_is = q.same.last_is ∙ p.same.last_is;
-    mode = q.same.mode ∙ p.same.mode;
-  };
+  same = same_on p.same q.same;
   left = λ it ok db may.
       elim (q.left q.same.was_honest ok db may)
       [ inl before ↦ p.left it q.same.was_honest.0 db before | inr none ↦ absurd none ];
@@ -149,6 +130,6 @@ unmoved_on p q = record {
 pub looks_on
     : {S : Type 0} {g : Ghosts S} {a b c : Held S} → Looks g a b → Looks g b c → Looks g a c
 looks_on p q = record {
-  clean = λ it. p.clean (q.clean it);
+  lasts = lasts_on p.lasts q.lasts;
   unmoved = λ it. unmoved_on (p.unmoved (q.unmoved it).same.was_honest) (q.unmoved it);
 }

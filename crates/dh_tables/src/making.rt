@@ -1,9 +1,11 @@
-ghost use Rattle.std.specs.Prelude.{◌≡◌, ◌↔◌, [], ◌∷◌, false, true, IsTrue, OnOk, OnErr};
+//! Making the tables, one after the other.
+
+ghost use Rattle.std.specs.Prelude.{◌≡◌, ◌↔◌, [], ◌∷◌, IsTrue, OnOk, OnErr};
 ghost use Rattle.sqlite.specs.Held.{state};
 ghost use Rattle.sqlite.specs.State.{HasCleanDisk};
-ghost use Rattle.dh_rows.specs.Calls.{IsHonest, Shows, Becomes, IsRefused, whole};
+ghost use Rattle.dh_rows.specs.Calls.{IsHonest, Lasts, Begins, Commits, Refuses, whole};
 ghost use Rattle.dh_rows.specs.Places.{IsFree, IsUnmentioned, ArePlaced};
-ghost use Rattle.dh_tables.specs.Making.{CanMake, IsReady, IsMade, GoesOn, CommitsNothing, our_tables, from_meta, from_project, from_lang, from_version, from_page, from_used, from_pick, from_pass, from_holds, upto_meta, upto_project, upto_lang, upto_version, upto_page, upto_used, upto_pick, upto_pass, upto_holds};
+ghost use Rattle.dh_tables.specs.Making.{CanMake, IsReady, IsMade, Builds, BuildsOne, AreCommitted, CommitsNothing, our_tables, from_meta, from_project, from_lang, from_version, from_page, from_used, from_pick, from_pass, from_holds, upto_meta, upto_project, upto_lang, upto_version, upto_page, upto_used, upto_pick, upto_pass, upto_holds};
 
 use crate::query::{fault_of, write};
 use dh_reply::Fault;
@@ -12,11 +14,9 @@ use sqlite::{Alter, Connection, params};
 use sqlite_schema::schema::Schema;
 
 fn make_meta<S: Alter>(conn: &mut Connection<S>) -> Result<(), Fault>
-    requires { IsHonest S.Store conn.old → IsReady [] from_meta (state S.Store conn.old).now }
-    ensures ok { IsHonest S.Store conn.old → HasCleanDisk (state S.Store conn.new) → OnOk result (Becomes S.Store whole conn.old conn.new (state S.Store conn.new).now × IsReady upto_meta from_project (state S.Store conn.new).now) }
-    ensures err { IsHonest S.Store conn.new → OnErr result (IsRefused S.Store whole conn.old conn.new) }
-    ensures clean { HasCleanDisk (state S.Store conn.new) → HasCleanDisk (state S.Store conn.old) }
-    ensures was { IsHonest S.Store conn.new → IsHonest S.Store conn.old }
+    requires { IsHonest S.Store conn.old
+        → IsReady [] from_meta (state S.Store conn.old).now }
+    ensures builds { BuildsOne S.Store conn.old conn.new result (IsReady upto_meta from_project) }
 {
     write(
         conn,
@@ -26,11 +26,9 @@ fn make_meta<S: Alter>(conn: &mut Connection<S>) -> Result<(), Fault>
 }
 
 fn make_project<S: Alter>(conn: &mut Connection<S>) -> Result<(), Fault>
-    requires { IsHonest S.Store conn.old → IsReady upto_meta from_project (state S.Store conn.old).now }
-    ensures ok { IsHonest S.Store conn.old → HasCleanDisk (state S.Store conn.new) → OnOk result (Becomes S.Store whole conn.old conn.new (state S.Store conn.new).now × IsReady upto_project from_lang (state S.Store conn.new).now) }
-    ensures err { IsHonest S.Store conn.new → OnErr result (IsRefused S.Store whole conn.old conn.new) }
-    ensures clean { HasCleanDisk (state S.Store conn.new) → HasCleanDisk (state S.Store conn.old) }
-    ensures was { IsHonest S.Store conn.new → IsHonest S.Store conn.old }
+    requires { IsHonest S.Store conn.old
+        → IsReady upto_meta from_project (state S.Store conn.old).now }
+    ensures builds { BuildsOne S.Store conn.old conn.new result (IsReady upto_project from_lang) }
 {
     write(
         conn,
@@ -40,11 +38,9 @@ fn make_project<S: Alter>(conn: &mut Connection<S>) -> Result<(), Fault>
 }
 
 fn make_lang<S: Alter>(conn: &mut Connection<S>) -> Result<(), Fault>
-    requires { IsHonest S.Store conn.old → IsReady upto_project from_lang (state S.Store conn.old).now }
-    ensures ok { IsHonest S.Store conn.old → HasCleanDisk (state S.Store conn.new) → OnOk result (Becomes S.Store whole conn.old conn.new (state S.Store conn.new).now × IsReady upto_lang from_version (state S.Store conn.new).now) }
-    ensures err { IsHonest S.Store conn.new → OnErr result (IsRefused S.Store whole conn.old conn.new) }
-    ensures clean { HasCleanDisk (state S.Store conn.new) → HasCleanDisk (state S.Store conn.old) }
-    ensures was { IsHonest S.Store conn.new → IsHonest S.Store conn.old }
+    requires { IsHonest S.Store conn.old
+        → IsReady upto_project from_lang (state S.Store conn.old).now }
+    ensures builds { BuildsOne S.Store conn.old conn.new result (IsReady upto_lang from_version) }
 {
     write(
         conn,
@@ -54,11 +50,9 @@ fn make_lang<S: Alter>(conn: &mut Connection<S>) -> Result<(), Fault>
 }
 
 fn make_version<S: Alter>(conn: &mut Connection<S>) -> Result<(), Fault>
-    requires { IsHonest S.Store conn.old → IsReady upto_lang from_version (state S.Store conn.old).now }
-    ensures ok { IsHonest S.Store conn.old → HasCleanDisk (state S.Store conn.new) → OnOk result (Becomes S.Store whole conn.old conn.new (state S.Store conn.new).now × IsReady upto_version from_page (state S.Store conn.new).now) }
-    ensures err { IsHonest S.Store conn.new → OnErr result (IsRefused S.Store whole conn.old conn.new) }
-    ensures clean { HasCleanDisk (state S.Store conn.new) → HasCleanDisk (state S.Store conn.old) }
-    ensures was { IsHonest S.Store conn.new → IsHonest S.Store conn.old }
+    requires { IsHonest S.Store conn.old
+        → IsReady upto_lang from_version (state S.Store conn.old).now }
+    ensures builds { BuildsOne S.Store conn.old conn.new result (IsReady upto_version from_page) }
 {
     write(
         conn,
@@ -68,11 +62,9 @@ fn make_version<S: Alter>(conn: &mut Connection<S>) -> Result<(), Fault>
 }
 
 fn make_page<S: Alter>(conn: &mut Connection<S>) -> Result<(), Fault>
-    requires { IsHonest S.Store conn.old → IsReady upto_version from_page (state S.Store conn.old).now }
-    ensures ok { IsHonest S.Store conn.old → HasCleanDisk (state S.Store conn.new) → OnOk result (Becomes S.Store whole conn.old conn.new (state S.Store conn.new).now × IsReady upto_page from_used (state S.Store conn.new).now) }
-    ensures err { IsHonest S.Store conn.new → OnErr result (IsRefused S.Store whole conn.old conn.new) }
-    ensures clean { HasCleanDisk (state S.Store conn.new) → HasCleanDisk (state S.Store conn.old) }
-    ensures was { IsHonest S.Store conn.new → IsHonest S.Store conn.old }
+    requires { IsHonest S.Store conn.old
+        → IsReady upto_version from_page (state S.Store conn.old).now }
+    ensures builds { BuildsOne S.Store conn.old conn.new result (IsReady upto_page from_used) }
 {
     write(
         conn,
@@ -82,11 +74,9 @@ fn make_page<S: Alter>(conn: &mut Connection<S>) -> Result<(), Fault>
 }
 
 fn make_used<S: Alter>(conn: &mut Connection<S>) -> Result<(), Fault>
-    requires { IsHonest S.Store conn.old → IsReady upto_page from_used (state S.Store conn.old).now }
-    ensures ok { IsHonest S.Store conn.old → HasCleanDisk (state S.Store conn.new) → OnOk result (Becomes S.Store whole conn.old conn.new (state S.Store conn.new).now × IsReady upto_used from_pick (state S.Store conn.new).now) }
-    ensures err { IsHonest S.Store conn.new → OnErr result (IsRefused S.Store whole conn.old conn.new) }
-    ensures clean { HasCleanDisk (state S.Store conn.new) → HasCleanDisk (state S.Store conn.old) }
-    ensures was { IsHonest S.Store conn.new → IsHonest S.Store conn.old }
+    requires { IsHonest S.Store conn.old
+        → IsReady upto_page from_used (state S.Store conn.old).now }
+    ensures builds { BuildsOne S.Store conn.old conn.new result (IsReady upto_used from_pick) }
 {
     write(
         conn,
@@ -96,11 +86,9 @@ fn make_used<S: Alter>(conn: &mut Connection<S>) -> Result<(), Fault>
 }
 
 fn make_pick<S: Alter>(conn: &mut Connection<S>) -> Result<(), Fault>
-    requires { IsHonest S.Store conn.old → IsReady upto_used from_pick (state S.Store conn.old).now }
-    ensures ok { IsHonest S.Store conn.old → HasCleanDisk (state S.Store conn.new) → OnOk result (Becomes S.Store whole conn.old conn.new (state S.Store conn.new).now × IsReady upto_pick from_pass (state S.Store conn.new).now) }
-    ensures err { IsHonest S.Store conn.new → OnErr result (IsRefused S.Store whole conn.old conn.new) }
-    ensures clean { HasCleanDisk (state S.Store conn.new) → HasCleanDisk (state S.Store conn.old) }
-    ensures was { IsHonest S.Store conn.new → IsHonest S.Store conn.old }
+    requires { IsHonest S.Store conn.old
+        → IsReady upto_used from_pick (state S.Store conn.old).now }
+    ensures builds { BuildsOne S.Store conn.old conn.new result (IsReady upto_pick from_pass) }
 {
     write(
         conn,
@@ -110,11 +98,9 @@ fn make_pick<S: Alter>(conn: &mut Connection<S>) -> Result<(), Fault>
 }
 
 fn make_pass<S: Alter>(conn: &mut Connection<S>) -> Result<(), Fault>
-    requires { IsHonest S.Store conn.old → IsReady upto_pick from_pass (state S.Store conn.old).now }
-    ensures ok { IsHonest S.Store conn.old → HasCleanDisk (state S.Store conn.new) → OnOk result (Becomes S.Store whole conn.old conn.new (state S.Store conn.new).now × IsReady upto_pass from_holds (state S.Store conn.new).now) }
-    ensures err { IsHonest S.Store conn.new → OnErr result (IsRefused S.Store whole conn.old conn.new) }
-    ensures clean { HasCleanDisk (state S.Store conn.new) → HasCleanDisk (state S.Store conn.old) }
-    ensures was { IsHonest S.Store conn.new → IsHonest S.Store conn.old }
+    requires { IsHonest S.Store conn.old
+        → IsReady upto_pick from_pass (state S.Store conn.old).now }
+    ensures builds { BuildsOne S.Store conn.old conn.new result (IsReady upto_pass from_holds) }
 {
     write(
         conn,
@@ -124,11 +110,9 @@ fn make_pass<S: Alter>(conn: &mut Connection<S>) -> Result<(), Fault>
 }
 
 fn make_holds<S: Alter>(conn: &mut Connection<S>) -> Result<(), Fault>
-    requires { IsHonest S.Store conn.old → IsReady upto_pass from_holds (state S.Store conn.old).now }
-    ensures ok { IsHonest S.Store conn.old → HasCleanDisk (state S.Store conn.new) → OnOk result (Becomes S.Store whole conn.old conn.new (state S.Store conn.new).now × IsReady upto_holds [] (state S.Store conn.new).now) }
-    ensures err { IsHonest S.Store conn.new → OnErr result (IsRefused S.Store whole conn.old conn.new) }
-    ensures clean { HasCleanDisk (state S.Store conn.new) → HasCleanDisk (state S.Store conn.old) }
-    ensures was { IsHonest S.Store conn.new → IsHonest S.Store conn.old }
+    requires { IsHonest S.Store conn.old
+        → IsReady upto_pass from_holds (state S.Store conn.old).now }
+    ensures builds { BuildsOne S.Store conn.old conn.new result (IsReady upto_holds []) }
 {
     write(
         conn,
@@ -139,21 +123,17 @@ fn make_holds<S: Alter>(conn: &mut Connection<S>) -> Result<(), Fault>
 
 /// Writes the number of the schema.
 fn number<S: Alter>(conn: &mut Connection<S>) -> Result<(), Fault>
-    requires { IsHonest S.Store conn.old → IsReady upto_holds [] (state S.Store conn.old).now }
-    ensures ok { IsHonest S.Store conn.old → HasCleanDisk (state S.Store conn.new) → OnOk result (Becomes S.Store whole conn.old conn.new (state S.Store conn.new).now × IsMade (state S.Store conn.new).now) }
-    ensures err { IsHonest S.Store conn.new → OnErr result (IsRefused S.Store whole conn.old conn.new) }
-    ensures clean { HasCleanDisk (state S.Store conn.new) → HasCleanDisk (state S.Store conn.old) }
-    ensures was { IsHonest S.Store conn.new → IsHonest S.Store conn.old }
+    requires { IsHonest S.Store conn.old
+        → IsReady upto_holds [] (state S.Store conn.old).now }
+    ensures builds { BuildsOne S.Store conn.old conn.new result IsMade }
 {
     write(conn, "INSERT INTO meta VALUES (?1)", params![1i64])
 }
 
 fn make_first<S: Alter>(conn: &mut Connection<S>) -> Result<(), Fault>
-    requires { IsHonest S.Store conn.old → IsReady [] from_meta (state S.Store conn.old).now }
-    ensures ok { IsHonest S.Store conn.old → HasCleanDisk (state S.Store conn.new) → OnOk result (GoesOn S.Store conn.old conn.new × IsReady upto_lang from_version (state S.Store conn.new).now) }
-    ensures err { IsHonest S.Store conn.new → conn.old.in_transaction ≡ true → OnErr result (CommitsNothing S.Store conn.old conn.new) }
-    ensures clean { HasCleanDisk (state S.Store conn.new) → HasCleanDisk (state S.Store conn.old) }
-    ensures was { IsHonest S.Store conn.new → IsHonest S.Store conn.old }
+    requires { IsHonest S.Store conn.old
+        → IsReady [] from_meta (state S.Store conn.old).now }
+    ensures builds { Builds S.Store conn.old conn.new result (IsReady upto_lang from_version) }
 {
     make_meta(conn)?;
     make_project(conn)?;
@@ -161,11 +141,9 @@ fn make_first<S: Alter>(conn: &mut Connection<S>) -> Result<(), Fault>
 }
 
 fn make_second<S: Alter>(conn: &mut Connection<S>) -> Result<(), Fault>
-    requires { IsHonest S.Store conn.old → IsReady upto_lang from_version (state S.Store conn.old).now }
-    ensures ok { IsHonest S.Store conn.old → HasCleanDisk (state S.Store conn.new) → OnOk result (GoesOn S.Store conn.old conn.new × IsReady upto_used from_pick (state S.Store conn.new).now) }
-    ensures err { IsHonest S.Store conn.new → conn.old.in_transaction ≡ true → OnErr result (CommitsNothing S.Store conn.old conn.new) }
-    ensures clean { HasCleanDisk (state S.Store conn.new) → HasCleanDisk (state S.Store conn.old) }
-    ensures was { IsHonest S.Store conn.new → IsHonest S.Store conn.old }
+    requires { IsHonest S.Store conn.old
+        → IsReady upto_lang from_version (state S.Store conn.old).now }
+    ensures builds { Builds S.Store conn.old conn.new result (IsReady upto_used from_pick) }
 {
     make_version(conn)?;
     make_page(conn)?;
@@ -173,11 +151,9 @@ fn make_second<S: Alter>(conn: &mut Connection<S>) -> Result<(), Fault>
 }
 
 fn make_rest<S: Alter>(conn: &mut Connection<S>) -> Result<(), Fault>
-    requires { IsHonest S.Store conn.old → IsReady upto_used from_pick (state S.Store conn.old).now }
-    ensures ok { IsHonest S.Store conn.old → HasCleanDisk (state S.Store conn.new) → OnOk result (GoesOn S.Store conn.old conn.new × IsMade (state S.Store conn.new).now) }
-    ensures err { IsHonest S.Store conn.new → conn.old.in_transaction ≡ true → OnErr result (CommitsNothing S.Store conn.old conn.new) }
-    ensures clean { HasCleanDisk (state S.Store conn.new) → HasCleanDisk (state S.Store conn.old) }
-    ensures was { IsHonest S.Store conn.new → IsHonest S.Store conn.old }
+    requires { IsHonest S.Store conn.old
+        → IsReady upto_used from_pick (state S.Store conn.old).now }
+    ensures builds { Builds S.Store conn.old conn.new result IsMade }
 {
     make_pick(conn)?;
     make_pass(conn)?;
@@ -187,11 +163,9 @@ fn make_rest<S: Alter>(conn: &mut Connection<S>) -> Result<(), Fault>
 
 /// Makes the tables, with no record in them.
 pub fn make_tables<S: Alter>(conn: &mut Connection<S>) -> Result<(), Fault>
-    requires { IsHonest S.Store conn.old → IsReady [] our_tables (state S.Store conn.old).now }
-    ensures ok { IsHonest S.Store conn.old → HasCleanDisk (state S.Store conn.new) → OnOk result (GoesOn S.Store conn.old conn.new × IsMade (state S.Store conn.new).now) }
-    ensures err { IsHonest S.Store conn.new → conn.old.in_transaction ≡ true → OnErr result (CommitsNothing S.Store conn.old conn.new) }
-    ensures clean { HasCleanDisk (state S.Store conn.new) → HasCleanDisk (state S.Store conn.old) }
-    ensures was { IsHonest S.Store conn.new → IsHonest S.Store conn.old }
+    requires { IsHonest S.Store conn.old
+        → IsReady [] our_tables (state S.Store conn.old).now }
+    ensures builds { Builds S.Store conn.old conn.new result IsMade }
 {
     make_first(conn)?;
     make_second(conn)?;
@@ -224,10 +198,11 @@ pub fn can_make(schema: &Schema) -> bool
 pub fn make_at_once<S: Alter>(conn: &mut Connection<S>) -> Result<(), Fault>
     requires can { CanMake (state S.Store conn.old).now.schema }
     requires placed { IsHonest S.Store conn.old → ArePlaced (state S.Store conn.old).now.schema }
-    ensures ok { IsHonest S.Store conn.old → HasCleanDisk (state S.Store conn.new) → OnOk result (IsHonest S.Store conn.new × (conn.new.in_transaction ≡ false) × ((state S.Store conn.new).now ≡ (state S.Store conn.new).committed) × IsMade (state S.Store conn.new).now) }
-    ensures err { IsHonest S.Store conn.new → OnErr result (CommitsNothing S.Store conn.old conn.new) }
-    ensures clean { HasCleanDisk (state S.Store conn.new) → HasCleanDisk (state S.Store conn.old) }
-    ensures was { IsHonest S.Store conn.new → IsHonest S.Store conn.old }
+    ensures lasts { Lasts S.Store conn.old conn.new }
+    ensures ok { IsHonest S.Store conn.old → HasCleanDisk (state S.Store conn.new)
+        → OnOk result (AreCommitted S.Store conn.new) }
+    ensures err { IsHonest S.Store conn.new
+        → OnErr result (CommitsNothing S.Store conn.old conn.new) }
 {
     begin(conn)?;
     make_tables(conn)?;
@@ -235,10 +210,9 @@ pub fn make_at_once<S: Alter>(conn: &mut Connection<S>) -> Result<(), Fault>
 }
 
 fn begin<S: Alter>(conn: &mut Connection<S>) -> Result<(), Fault>
-    ensures ok { IsHonest S.Store conn.old → HasCleanDisk (state S.Store conn.new) → OnOk result (Shows S.Store whole conn.old conn.new (state S.Store conn.old).now (state S.Store conn.old).committed true) }
-    ensures err { IsHonest S.Store conn.new → OnErr result (IsRefused S.Store whole conn.old conn.new) }
-    ensures clean { HasCleanDisk (state S.Store conn.new) → HasCleanDisk (state S.Store conn.old) }
-    ensures was { IsHonest S.Store conn.new → IsHonest S.Store conn.old }
+    ensures lasts { Lasts S.Store conn.old conn.new }
+    ensures begun { Begins S.Store whole conn.old conn.new result }
+    ensures err { Refuses S.Store whole conn.old conn.new result }
 {
     match dh_rows::begin(conn) {
         Ok(()) => Ok(()),
@@ -247,10 +221,9 @@ fn begin<S: Alter>(conn: &mut Connection<S>) -> Result<(), Fault>
 }
 
 fn commit<S: Alter>(conn: &mut Connection<S>) -> Result<(), Fault>
-    ensures ok { IsHonest S.Store conn.old → HasCleanDisk (state S.Store conn.new) → OnOk result (Shows S.Store whole conn.old conn.new (state S.Store conn.old).now (state S.Store conn.old).now false) }
-    ensures err { IsHonest S.Store conn.new → OnErr result (IsRefused S.Store whole conn.old conn.new) }
-    ensures clean { HasCleanDisk (state S.Store conn.new) → HasCleanDisk (state S.Store conn.old) }
-    ensures was { IsHonest S.Store conn.new → IsHonest S.Store conn.old }
+    ensures lasts { Lasts S.Store conn.old conn.new }
+    ensures committed { Commits S.Store whole conn.old conn.new result }
+    ensures err { Refuses S.Store whole conn.old conn.new result }
 {
     match dh_rows::commit(conn) {
         Ok(()) => Ok(()),

@@ -1,13 +1,11 @@
-ghost use Rattle.std.specs.Prelude.{◌≡◌, ◌↔◌, ◌⊎◌, List, map, length, slice_get, is_some, true, false, IfOk, OnOk, OnErr};
+//! Statements on the rows, as the calls of the tables use them.
+
+ghost use Rattle.std.specs.Prelude.{◌≡◌, List, length, slice_get, is_some, OnOk};
 ghost use Rattle.sqlite_value.specs.Order.{Row as Values};
-ghost use Rattle.sqlite.specs.Effect.{Database, Reads};
-ghost use Rattle.sqlite.specs.Given.{IsPlain};
 ghost use Rattle.sqlite.specs.Held.{state};
-ghost use Rattle.sqlite.specs.Listing.{understood, reads_listing};
-ghost use Rattle.sqlite.specs.State.{HasCleanDisk};
 ghost use Rattle.sqlite.specs.Values.{bound};
-ghost use Rattle.dh_rows.specs.declared.fault.Fault.TheVariants as rows;
-ghost use Rattle.dh_rows.specs.Calls.{command_of, IsEdit, Edits, IsHonest, Becomes, IsSame, IsRefused, LeavesTrees, LeavesNoMore, KeepsCommitted, whole};
+ghost use Rattle.dh_rows.specs.Calls.{AreRows, EditsAtMost, Finds, Goes, GoesWithin, IsEditText, IsHonest, IsPlainText, Makes, Refuses, Sees, SparesListing, Stays, whole};
+ghost use Rattle.dh_tables.specs.Calling.{AreAsked, told_as};
 
 use crate::reading::{Record, all, first};
 use dh_reply::Fault;
@@ -17,7 +15,7 @@ use std::alloc::Global;
 
 /// The same refusal, as the layers above tell it.
 pub fn fault_of(fault: dh_rows::Fault) -> Fault
-    ensures { (result ≡ Fault.Memory) ↔ (fault ≡ rows.Memory) }
+    ensures { result ≡ told_as fault }
 {
     match fault {
         dh_rows::Fault::Store => Fault::Store,
@@ -32,16 +30,15 @@ pub fn first_record<S: Alter, R: Record>(
     sql: &str,
     params: &[ValueRef<'_>],
 ) -> Result<Option<R>, Fault>
-    requires plain { IsHonest S.Store conn.old → IsPlain (understood (state S.Store conn.old).now.schema sql.now) }
-    requires listing { IsHonest S.Store conn.old → reads_listing (state S.Store conn.old).now.schema sql.now ≡ false }
-    ensures value { IsHonest S.Store conn.old → HasCleanDisk (state S.Store conn.new) → IfOk result (λ o. (xs : List R) → ((rows : List Values) → Reads (command_of (understood (state S.Store conn.old).now.schema sql.now)) (state S.Store conn.old).now (bound params.now) rows → rows ≡ map R.coding.encode xs) → o ≡ slice_get xs 0) }
-    ensures same { IsHonest S.Store conn.old → HasCleanDisk (state S.Store conn.new) → OnOk result (IsSame S.Store whole conn.old conn.new) }
-    ensures err { IsHonest S.Store conn.new → OnErr result (IsRefused S.Store whole conn.old conn.new) }
-    ensures clean { HasCleanDisk (state S.Store conn.new) → HasCleanDisk (state S.Store conn.old) }
-    ensures was { IsHonest S.Store conn.new → IsHonest S.Store conn.old }
-    ensures crash { LeavesTrees S.Store conn.old conn.new (λ db. ⊥) }
-    ensures kept { KeepsCommitted S.Store conn.old conn.new }
-    ensures quiet { IsHonest S.Store conn.old → LeavesNoMore S.Store conn.old conn.new }
+    requires plain { IsHonest S.Store conn.old → IsPlainText (state S.Store conn.old) sql.now }
+    requires listing { IsHonest S.Store conn.old → SparesListing (state S.Store conn.old) sql.now }
+    ensures value { Finds S.Store conn.old conn.new result
+        (λ o. (xs : List R)
+        → AreAsked R.coding.encode (state S.Store conn.old) sql.now (bound params.now) xs
+        → o ≡ slice_get xs 0) }
+    ensures goes { Goes S.Store conn.old conn.new }
+    ensures same { Stays S.Store whole conn.old conn.new result }
+    ensures err { Refuses S.Store whole conn.old conn.new result }
 {
     match dh_rows::select(conn, sql, params) {
         Ok(rows) => first(alloc, &rows),
@@ -56,16 +53,15 @@ pub fn all_records<S: Alter, R: Record>(
     sql: &str,
     params: &[ValueRef<'_>],
 ) -> Result<Vec<R>, Fault>
-    requires plain { IsHonest S.Store conn.old → IsPlain (understood (state S.Store conn.old).now.schema sql.now) }
-    requires listing { IsHonest S.Store conn.old → reads_listing (state S.Store conn.old).now.schema sql.now ≡ false }
-    ensures value { IsHonest S.Store conn.old → HasCleanDisk (state S.Store conn.new) → IfOk result (λ v. (xs : List R) → ((rows : List Values) → Reads (command_of (understood (state S.Store conn.old).now.schema sql.now)) (state S.Store conn.old).now (bound params.now) rows → rows ≡ map R.coding.encode xs) → v.items ≡ xs) }
-    ensures same { IsHonest S.Store conn.old → HasCleanDisk (state S.Store conn.new) → OnOk result (IsSame S.Store whole conn.old conn.new) }
-    ensures err { IsHonest S.Store conn.new → OnErr result (IsRefused S.Store whole conn.old conn.new) }
-    ensures clean { HasCleanDisk (state S.Store conn.new) → HasCleanDisk (state S.Store conn.old) }
-    ensures was { IsHonest S.Store conn.new → IsHonest S.Store conn.old }
-    ensures crash { LeavesTrees S.Store conn.old conn.new (λ db. ⊥) }
-    ensures kept { KeepsCommitted S.Store conn.old conn.new }
-    ensures quiet { IsHonest S.Store conn.old → LeavesNoMore S.Store conn.old conn.new }
+    requires plain { IsHonest S.Store conn.old → IsPlainText (state S.Store conn.old) sql.now }
+    requires listing { IsHonest S.Store conn.old → SparesListing (state S.Store conn.old) sql.now }
+    ensures value { Finds S.Store conn.old conn.new result
+        (λ v. (xs : List R)
+        → AreAsked R.coding.encode (state S.Store conn.old) sql.now (bound params.now) xs
+        → v.items ≡ xs) }
+    ensures goes { Goes S.Store conn.old conn.new }
+    ensures same { Stays S.Store whole conn.old conn.new result }
+    ensures err { Refuses S.Store whole conn.old conn.new result }
 {
     match dh_rows::select(conn, sql, params) {
         Ok(rows) => all(alloc, &rows),
@@ -79,16 +75,15 @@ pub fn has_record<S: Alter>(
     sql: &str,
     params: &[ValueRef<'_>],
 ) -> Result<bool, Fault>
-    requires plain { IsHonest S.Store conn.old → IsPlain (understood (state S.Store conn.old).now.schema sql.now) }
-    requires listing { IsHonest S.Store conn.old → reads_listing (state S.Store conn.old).now.schema sql.now ≡ false }
-    ensures value { IsHonest S.Store conn.old → HasCleanDisk (state S.Store conn.new) → IfOk result (λ b. (rows : List Values) × Reads (command_of (understood (state S.Store conn.old).now.schema sql.now)) (state S.Store conn.old).now (bound params.now) rows × (b ≡ is_some (slice_get rows 0))) }
-    ensures same { IsHonest S.Store conn.old → HasCleanDisk (state S.Store conn.new) → OnOk result (IsSame S.Store whole conn.old conn.new) }
-    ensures err { IsHonest S.Store conn.new → OnErr result (IsRefused S.Store whole conn.old conn.new) }
-    ensures clean { HasCleanDisk (state S.Store conn.new) → HasCleanDisk (state S.Store conn.old) }
-    ensures was { IsHonest S.Store conn.new → IsHonest S.Store conn.old }
-    ensures crash { LeavesTrees S.Store conn.old conn.new (λ db. ⊥) }
-    ensures kept { KeepsCommitted S.Store conn.old conn.new }
-    ensures quiet { IsHonest S.Store conn.old → LeavesNoMore S.Store conn.old conn.new }
+    requires plain { IsHonest S.Store conn.old → IsPlainText (state S.Store conn.old) sql.now }
+    requires listing { IsHonest S.Store conn.old → SparesListing (state S.Store conn.old) sql.now }
+    ensures value { Finds S.Store conn.old conn.new result
+        (λ b. (rows : List Values)
+        × AreRows (state S.Store conn.old) sql.now (bound params.now) rows
+        × (b ≡ is_some (slice_get rows 0))) }
+    ensures goes { Goes S.Store conn.old conn.new }
+    ensures same { Stays S.Store whole conn.old conn.new result }
+    ensures err { Refuses S.Store whole conn.old conn.new result }
 {
     match dh_rows::select(conn, sql, params) {
         Ok(rows) => Ok(rows.first().is_some()),
@@ -102,16 +97,15 @@ pub fn count_records<S: Alter>(
     sql: &str,
     params: &[ValueRef<'_>],
 ) -> Result<usize, Fault>
-    requires plain { IsHonest S.Store conn.old → IsPlain (understood (state S.Store conn.old).now.schema sql.now) }
-    requires listing { IsHonest S.Store conn.old → reads_listing (state S.Store conn.old).now.schema sql.now ≡ false }
-    ensures value { IsHonest S.Store conn.old → HasCleanDisk (state S.Store conn.new) → IfOk result (λ n. (rows : List Values) × Reads (command_of (understood (state S.Store conn.old).now.schema sql.now)) (state S.Store conn.old).now (bound params.now) rows × (n ≡ length rows)) }
-    ensures same { IsHonest S.Store conn.old → HasCleanDisk (state S.Store conn.new) → OnOk result (IsSame S.Store whole conn.old conn.new) }
-    ensures err { IsHonest S.Store conn.new → OnErr result (IsRefused S.Store whole conn.old conn.new) }
-    ensures clean { HasCleanDisk (state S.Store conn.new) → HasCleanDisk (state S.Store conn.old) }
-    ensures was { IsHonest S.Store conn.new → IsHonest S.Store conn.old }
-    ensures crash { LeavesTrees S.Store conn.old conn.new (λ db. ⊥) }
-    ensures kept { KeepsCommitted S.Store conn.old conn.new }
-    ensures quiet { IsHonest S.Store conn.old → LeavesNoMore S.Store conn.old conn.new }
+    requires plain { IsHonest S.Store conn.old → IsPlainText (state S.Store conn.old) sql.now }
+    requires listing { IsHonest S.Store conn.old → SparesListing (state S.Store conn.old) sql.now }
+    ensures value { Finds S.Store conn.old conn.new result
+        (λ n. (rows : List Values)
+        × AreRows (state S.Store conn.old) sql.now (bound params.now) rows
+        × (n ≡ length rows)) }
+    ensures goes { Goes S.Store conn.old conn.new }
+    ensures same { Stays S.Store whole conn.old conn.new result }
+    ensures err { Refuses S.Store whole conn.old conn.new result }
 {
     match dh_rows::select(conn, sql, params) {
         Ok(rows) => Ok(rows.len()),
@@ -125,15 +119,13 @@ pub fn write<S: Alter>(
     sql: &str,
     params: &[ValueRef<'_>],
 ) -> Result<(), Fault>
-    requires plain { IsHonest S.Store conn.old → IsPlain (understood (state S.Store conn.old).now.schema sql.now) }
-    requires edits { IsHonest S.Store conn.old → IsEdit (command_of (understood (state S.Store conn.old).now.schema sql.now)) }
-    ensures ok { IsHonest S.Store conn.old → HasCleanDisk (state S.Store conn.new) → OnOk result (Becomes S.Store whole conn.old conn.new (state S.Store conn.new).now × Edits (state S.Store conn.old) sql.now (bound params.now) (state S.Store conn.new).now) }
-    ensures err { IsHonest S.Store conn.new → OnErr result (IsRefused S.Store whole conn.old conn.new) }
-    ensures clean { HasCleanDisk (state S.Store conn.new) → HasCleanDisk (state S.Store conn.old) }
-    ensures was { IsHonest S.Store conn.new → IsHonest S.Store conn.old }
-    ensures crash { LeavesTrees S.Store conn.old conn.new (λ db. (conn.old.in_transaction ≡ false) × (after : Database) × Edits (state S.Store conn.old) sql.now (bound params.now) after × (db ≡ after.trees)) }
-    ensures kept { conn.old.in_transaction ≡ true → KeepsCommitted S.Store conn.old conn.new }
-    ensures quiet { conn.old.in_transaction ≡ true → IsHonest S.Store conn.old → LeavesNoMore S.Store conn.old conn.new }
+    requires plain { IsHonest S.Store conn.old → IsPlainText (state S.Store conn.old) sql.now }
+    requires edits { IsHonest S.Store conn.old → IsEditText (state S.Store conn.old) sql.now }
+    ensures goes { GoesWithin S.Store conn.old conn.new }
+    ensures sees { OnOk result (Sees S.Store whole conn.old conn.new (state S.Store conn.new).now) }
+    ensures made { Makes S.Store conn.old conn.new sql.now (bound params.now) result }
+    ensures err { Refuses S.Store whole conn.old conn.new result }
+    ensures crash { EditsAtMost S.Store conn.old conn.new sql.now (bound params.now) }
 {
     match dh_rows::change(conn, sql, params) {
         Ok(()) => Ok(()),

@@ -172,7 +172,8 @@ impl Record for LangRow {
 }
 
 fn version_in(alloc: Global, row: &Row) -> Result<Version, Fault>
-    ensures { IfOk result (λ v. (y : VersionRow) → row.now ≡ spec.versions.encode y → v ≡ y.version) }
+    ensures { IfOk result (λ v. (y : VersionRow) → row.now ≡ spec.versions.encode y
+        → v ≡ y.version) }
 {
     Ok(Version {
         slug: slug_at(alloc, row, 1)?,
@@ -271,7 +272,8 @@ impl Record for HeldRow {
 
 /// The record of the first row, where there is one.
 pub fn first<R: Record>(alloc: Global, rows: &[Row]) -> Result<Option<R>, Fault>
-    ensures { IfOk result (λ o. (xs : List R) → rows.now ≡ map R.coding.encode xs → o ≡ slice_get xs 0) }
+    ensures { IfOk result (λ o. (xs : List R) → rows.now ≡ map R.coding.encode xs
+        → o ≡ slice_get xs 0) }
 {
     match rows.first() {
         Some(row) => Ok(Some(R::read(alloc, row)?)),

@@ -1,16 +1,20 @@
-ghost use Rattle.std.specs.Prelude.{◌≡◌, option_map, true, false, map, filter, not, find, is_some, ◌≢◌, IfOk, IfErr, OnOk, OnErr, IsSome, IsTrue};
+//! The tables, and the calls on them.
+
+ghost use Rattle.std.specs.Prelude.{◌≡◌, option_map, Some, None, true, false, filter, not, find, is_some, ◌≢◌, IfOk, IfErr, IsSome, IsTrue};
+ghost use Rattle.std.specs.FinMap.{empty};
 ghost use Rattle.sqlite.specs.Held.{state};
 ghost use Rattle.sqlite.specs.State.{HasCleanDisk};
-ghost use Rattle.dh_rows.specs.Calls.{IsHonest, Shows, Becomes, IsSame, IsUndone, IsRefused, Leaves, LeavesNoMore, LeavesCommitted, KeepsCommitted, seen, committed};
-ghost use Rattle.dh_rows.specs.Keyed.{IsFreeKey, added, put};
+ghost use Rattle.sqlite.specs.Steps.{over_memory};
+ghost use Rattle.dh_rows.specs.Calls.{IsHonest, Lasts, Goes, Begins, Commits, Undoes, Refuses, Leaves, LeavesNoMore, LeavesCommitted, seen, committed};
+ghost use Rattle.dh_rows.specs.Keyed.{IsFreeKey};
 ghost use Rattle.dh_world.specs.Answers.{json_of};
+ghost use Rattle.dh_tables.specs.Calling.{Asks, Blames, KeepsSchema, Learns, Reads, ReadsAll, Writes};
+ghost use Rattle.dh_tables.specs.Changes as change;
 ghost use Rattle.dh_tables.specs.Codings as coding;
 ghost use Rattle.dh_tables.specs.Lists as spec;
 ghost use Rattle.dh_tables.specs.Making.{CanMake, CommitsNothing, no_lists};
 ghost use Rattle.dh_tables.specs.Tables.{lists_of};
 ghost use Rattle.dh_tables.specs.View.{IsSettled, RiseBySlug};
-ghost use Rattle.sqlite.specs.Steps.{over_memory};
-ghost use Rattle.std.specs.FinMap.{empty};
 
 mod passes;
 
@@ -54,13 +58,10 @@ impl<S: Alter> Model for Tables<S> {
 impl<S: Alter> Tables<S> {
     /// Begins a transaction. Within one it is refused.
     pub fn begin(&mut self) -> Result<(), Fault>
-        ensures ok { IsHonest S.Store self.old → HasCleanDisk (state S.Store self.new) → OnOk result (Shows S.Store lists_of self.old self.new (seen S.Store lists_of self.old) (committed S.Store lists_of self.old) true) }
-        ensures err { IsHonest S.Store self.new → OnErr result (IsRefused S.Store lists_of self.old self.new) }
-        ensures clean { HasCleanDisk (state S.Store self.new) → HasCleanDisk (state S.Store self.old) }
-        ensures was { IsHonest S.Store self.new → IsHonest S.Store self.old }
-        ensures crash { Leaves S.Store lists_of self.old self.new (λ w. ⊥) }
-        ensures opened { HasCleanDisk (state S.Store self.new) → OnOk result (IsHonest S.Store self.old) }
-        ensures kept { KeepsCommitted S.Store self.old self.new }
+        ensures goes { Goes S.Store self.old self.new }
+        ensures begun { Begins S.Store lists_of self.old self.new result }
+        ensures err { Refuses S.Store lists_of self.old self.new result }
+        ensures told { Blames S.Store self.old self.new result (self.old.in_transaction ≡ true) }
         ensures quiet { LeavesNoMore S.Store self.old self.new }
     {
         match dh_rows::begin(&mut self.conn) {
@@ -69,14 +70,15 @@ impl<S: Alter> Tables<S> {
         }
     }
 
-    /// Commits what was changed since the begin.
+    /// Commits what was changed since the begin. Outside a transaction it is refused.
     pub fn commit(&mut self) -> Result<(), Fault>
-        ensures ok { IsHonest S.Store self.old → HasCleanDisk (state S.Store self.new) → OnOk result (Shows S.Store lists_of self.old self.new (seen S.Store lists_of self.old) (seen S.Store lists_of self.old) false) }
-        ensures err { IsHonest S.Store self.new → OnErr result (IsRefused S.Store lists_of self.old self.new) }
-        ensures clean { HasCleanDisk (state S.Store self.new) → HasCleanDisk (state S.Store self.old) }
-        ensures was { IsHonest S.Store self.new → IsHonest S.Store self.old }
-        ensures crash { Leaves S.Store lists_of self.old self.new (λ w. w ≡ seen S.Store lists_of self.old) }
-        ensures steady { IsHonest S.Store self.new → (state S.Store self.new).committed.schema ≡ (state S.Store self.old).committed.schema }
+        ensures lasts { Lasts S.Store self.old self.new }
+        ensures committed { Commits S.Store lists_of self.old self.new result }
+        ensures err { Refuses S.Store lists_of self.old self.new result }
+        ensures told { Blames S.Store self.old self.new result (self.old.in_transaction ≡ false) }
+        ensures crash { Leaves S.Store lists_of self.old self.new
+            (λ l. l ≡ seen S.Store lists_of self.old) }
+        ensures steady { KeepsSchema S.Store self.old self.new }
         ensures left { IsHonest S.Store self.new → LeavesCommitted S.Store lists_of self.new }
     {
         match dh_rows::commit(&mut self.conn) {
@@ -87,12 +89,10 @@ impl<S: Alter> Tables<S> {
 
     /// Goes back to the begin. Outside a transaction it does nothing.
     pub fn back(&mut self) -> Result<(), Fault>
-        ensures ok { IsHonest S.Store self.new → OnOk result (IsUndone S.Store lists_of self.old self.new) }
-        ensures err { IsHonest S.Store self.new → OnErr result (IsRefused S.Store lists_of self.old self.new) }
-        ensures clean { HasCleanDisk (state S.Store self.new) → HasCleanDisk (state S.Store self.old) }
-        ensures was { IsHonest S.Store self.new → IsHonest S.Store self.old }
-        ensures crash { Leaves S.Store lists_of self.old self.new (λ w. ⊥) }
-        ensures kept { KeepsCommitted S.Store self.old self.new }
+        ensures goes { Goes S.Store self.old self.new }
+        ensures undone { Undoes S.Store lists_of self.old self.new result }
+        ensures err { Refuses S.Store lists_of self.old self.new result }
+        ensures told { Blames S.Store self.old self.new result ⊥ }
         ensures quiet { LeavesNoMore S.Store self.old self.new }
     {
         match dh_rows::rollback(&mut self.conn) {
@@ -111,14 +111,9 @@ impl<S: Alter> Tables<S> {
 
     /// Whether there is a project under a host.
     pub fn has_project(&mut self, host: &HostName) -> Result<bool, Fault>
-        ensures value { IsHonest S.Store self.old → HasCleanDisk (state S.Store self.new) → IfOk result (λ b. b ≡ is_some (find (spec.is_project host.now) (seen S.Store lists_of self.old).projects)) }
-        ensures same { IsHonest S.Store self.old → HasCleanDisk (state S.Store self.new) → OnOk result (IsSame S.Store lists_of self.old self.new) }
-        ensures err { IsHonest S.Store self.new → OnErr result (IsRefused S.Store lists_of self.old self.new) }
-        ensures clean { HasCleanDisk (state S.Store self.new) → HasCleanDisk (state S.Store self.old) }
-        ensures was { IsHonest S.Store self.new → IsHonest S.Store self.old }
-        ensures crash { Leaves S.Store lists_of self.old self.new (λ w. ⊥) }
-        ensures kept { KeepsCommitted S.Store self.old self.new }
-        ensures quiet { IsHonest S.Store self.old → LeavesNoMore S.Store self.old self.new }
+        ensures asks { Asks S.Store self.old self.new result }
+        ensures value { Reads S.Store self.old self.new result
+            (λ l. is_some (find (spec.is_project host.now) l.projects)) }
     {
         let sql =
             "SELECT host, main, branch, wkey, private FROM project WHERE host = ?1 ORDER BY host";
@@ -127,14 +122,9 @@ impl<S: Alter> Tables<S> {
 
     /// The project under a host.
     pub fn project(&mut self, alloc: Global, host: &HostName) -> Result<Option<ProjectRow>, Fault>
-        ensures value { IsHonest S.Store self.old → HasCleanDisk (state S.Store self.new) → IfOk result (λ o. o ≡ find (spec.is_project host.now) (seen S.Store lists_of self.old).projects) }
-        ensures same { IsHonest S.Store self.old → HasCleanDisk (state S.Store self.new) → OnOk result (IsSame S.Store lists_of self.old self.new) }
-        ensures err { IsHonest S.Store self.new → OnErr result (IsRefused S.Store lists_of self.old self.new) }
-        ensures clean { HasCleanDisk (state S.Store self.new) → HasCleanDisk (state S.Store self.old) }
-        ensures was { IsHonest S.Store self.new → IsHonest S.Store self.old }
-        ensures crash { Leaves S.Store lists_of self.old self.new (λ w. ⊥) }
-        ensures kept { KeepsCommitted S.Store self.old self.new }
-        ensures quiet { IsHonest S.Store self.old → LeavesNoMore S.Store self.old self.new }
+        ensures asks { Asks S.Store self.old self.new result }
+        ensures value { Reads S.Store self.old self.new result
+            (λ l. find (spec.is_project host.now) l.projects) }
     {
         first_record(
             &mut self.conn,
@@ -146,14 +136,9 @@ impl<S: Alter> Tables<S> {
 
     /// The languages of a project, in the order of their places.
     pub fn langs(&mut self, alloc: Global, host: &HostName) -> Result<Vec<LangRow>, Fault>
-        ensures value { IsHonest S.Store self.old → HasCleanDisk (state S.Store self.new) → IfOk result (λ o. o.items ≡ filter (spec.is_lang_of host.now) (seen S.Store lists_of self.old).langs) }
-        ensures same { IsHonest S.Store self.old → HasCleanDisk (state S.Store self.new) → OnOk result (IsSame S.Store lists_of self.old self.new) }
-        ensures err { IsHonest S.Store self.new → OnErr result (IsRefused S.Store lists_of self.old self.new) }
-        ensures clean { HasCleanDisk (state S.Store self.new) → HasCleanDisk (state S.Store self.old) }
-        ensures was { IsHonest S.Store self.new → IsHonest S.Store self.old }
-        ensures crash { Leaves S.Store lists_of self.old self.new (λ w. ⊥) }
-        ensures kept { KeepsCommitted S.Store self.old self.new }
-        ensures quiet { IsHonest S.Store self.old → LeavesNoMore S.Store self.old self.new }
+        ensures asks { Asks S.Store self.old self.new result }
+        ensures value { ReadsAll S.Store self.old self.new result
+            (λ l. filter (spec.is_lang_of host.now) l.langs) }
     {
         all_records(
             &mut self.conn,
@@ -170,14 +155,9 @@ impl<S: Alter> Tables<S> {
         host: &HostName,
         slug: &Slug,
     ) -> Result<Option<VersionRow>, Fault>
-        ensures value { IsHonest S.Store self.old → HasCleanDisk (state S.Store self.new) → IfOk result (λ o. o ≡ find (spec.is_version host.now slug.now) (seen S.Store lists_of self.old).versions) }
-        ensures same { IsHonest S.Store self.old → HasCleanDisk (state S.Store self.new) → OnOk result (IsSame S.Store lists_of self.old self.new) }
-        ensures err { IsHonest S.Store self.new → OnErr result (IsRefused S.Store lists_of self.old self.new) }
-        ensures clean { HasCleanDisk (state S.Store self.new) → HasCleanDisk (state S.Store self.old) }
-        ensures was { IsHonest S.Store self.new → IsHonest S.Store self.old }
-        ensures crash { Leaves S.Store lists_of self.old self.new (λ w. ⊥) }
-        ensures kept { KeepsCommitted S.Store self.old self.new }
-        ensures quiet { IsHonest S.Store self.old → LeavesNoMore S.Store self.old self.new }
+        ensures asks { Asks S.Store self.old self.new result }
+        ensures value { Reads S.Store self.old self.new result
+            (λ l. find (spec.is_version host.now slug.now) l.versions) }
     {
         self.version_named(alloc, host, slug.as_str())
     }
@@ -189,14 +169,9 @@ impl<S: Alter> Tables<S> {
         host: &HostName,
         name: &str,
     ) -> Result<Option<VersionRow>, Fault>
-        ensures value { IsHonest S.Store self.old → HasCleanDisk (state S.Store self.new) → IfOk result (λ o. o ≡ find (spec.is_version host.now name.now) (seen S.Store lists_of self.old).versions) }
-        ensures same { IsHonest S.Store self.old → HasCleanDisk (state S.Store self.new) → OnOk result (IsSame S.Store lists_of self.old self.new) }
-        ensures err { IsHonest S.Store self.new → OnErr result (IsRefused S.Store lists_of self.old self.new) }
-        ensures clean { HasCleanDisk (state S.Store self.new) → HasCleanDisk (state S.Store self.old) }
-        ensures was { IsHonest S.Store self.new → IsHonest S.Store self.old }
-        ensures crash { Leaves S.Store lists_of self.old self.new (λ w. ⊥) }
-        ensures kept { KeepsCommitted S.Store self.old self.new }
-        ensures quiet { IsHonest S.Store self.old → LeavesNoMore S.Store self.old self.new }
+        ensures asks { Asks S.Store self.old self.new result }
+        ensures value { Reads S.Store self.old self.new result
+            (λ l. find (spec.is_version host.now name.now) l.versions) }
     {
         first_record(
             &mut self.conn,
@@ -208,15 +183,10 @@ impl<S: Alter> Tables<S> {
 
     /// The versions of a project, in the order of their slugs.
     pub fn versions(&mut self, alloc: Global, host: &HostName) -> Result<Vec<VersionRow>, Fault>
-        ensures value { IsHonest S.Store self.old → HasCleanDisk (state S.Store self.new) → IfOk result (λ o. o.items ≡ filter (spec.is_version_of host.now) (seen S.Store lists_of self.old).versions) }
-        ensures order { IsHonest S.Store self.old → HasCleanDisk (state S.Store self.new) → IfOk result (λ o. RiseBySlug o.items) }
-        ensures same { IsHonest S.Store self.old → HasCleanDisk (state S.Store self.new) → OnOk result (IsSame S.Store lists_of self.old self.new) }
-        ensures err { IsHonest S.Store self.new → OnErr result (IsRefused S.Store lists_of self.old self.new) }
-        ensures clean { HasCleanDisk (state S.Store self.new) → HasCleanDisk (state S.Store self.old) }
-        ensures was { IsHonest S.Store self.new → IsHonest S.Store self.old }
-        ensures crash { Leaves S.Store lists_of self.old self.new (λ w. ⊥) }
-        ensures kept { KeepsCommitted S.Store self.old self.new }
-        ensures quiet { IsHonest S.Store self.old → LeavesNoMore S.Store self.old self.new }
+        ensures asks { Asks S.Store self.old self.new result }
+        ensures value { ReadsAll S.Store self.old self.new result
+            (λ l. filter (spec.is_version_of host.now) l.versions) }
+        ensures order { Learns S.Store self.old self.new result (λ l o. RiseBySlug o.items) }
     {
         all_records(
             &mut self.conn,
@@ -235,14 +205,9 @@ impl<S: Alter> Tables<S> {
         lang: &Lang,
         path: &str,
     ) -> Result<Option<PageRow>, Fault>
-        ensures value { IsHonest S.Store self.old → HasCleanDisk (state S.Store self.new) → IfOk result (λ o. o ≡ find (spec.is_page host.now slug.now lang.now path.now) (seen S.Store lists_of self.old).pages) }
-        ensures same { IsHonest S.Store self.old → HasCleanDisk (state S.Store self.new) → OnOk result (IsSame S.Store lists_of self.old self.new) }
-        ensures err { IsHonest S.Store self.new → OnErr result (IsRefused S.Store lists_of self.old self.new) }
-        ensures clean { HasCleanDisk (state S.Store self.new) → HasCleanDisk (state S.Store self.old) }
-        ensures was { IsHonest S.Store self.new → IsHonest S.Store self.old }
-        ensures crash { Leaves S.Store lists_of self.old self.new (λ w. ⊥) }
-        ensures kept { KeepsCommitted S.Store self.old self.new }
-        ensures quiet { IsHonest S.Store self.old → LeavesNoMore S.Store self.old self.new }
+        ensures asks { Asks S.Store self.old self.new result }
+        ensures value { Reads S.Store self.old self.new result
+            (λ l. find (spec.is_page host.now slug.now lang.now path.now) l.pages) }
     {
         first_record(
             &mut self.conn,
@@ -254,14 +219,9 @@ impl<S: Alter> Tables<S> {
 
     /// Adds a project, whose host is free.
     pub fn add_project(&mut self, project: &ProjectRow) -> Result<(), Fault>
-        requires free { IsHonest S.Store self.old → IsFreeKey coding.projects.key project.now (seen S.Store lists_of self.old).projects }
-        ensures ok { IsHonest S.Store self.old → HasCleanDisk (state S.Store self.new) → OnOk result (Becomes S.Store lists_of self.old self.new (record (seen S.Store lists_of self.old) { projects = added coding.projects.key project.now (seen S.Store lists_of self.old).projects })) }
-        ensures err { IsHonest S.Store self.new → OnErr result (IsRefused S.Store lists_of self.old self.new) }
-        ensures clean { HasCleanDisk (state S.Store self.new) → HasCleanDisk (state S.Store self.old) }
-        ensures was { IsHonest S.Store self.new → IsHonest S.Store self.old }
-        ensures crash { Leaves S.Store lists_of self.old self.new (λ w. (self.old.in_transaction ≡ false) × (w ≡ record (seen S.Store lists_of self.old) { projects = added coding.projects.key project.now (seen S.Store lists_of self.old).projects })) }
-        ensures kept { self.old.in_transaction ≡ true → KeepsCommitted S.Store self.old self.new }
-        ensures quiet { self.old.in_transaction ≡ true → IsHonest S.Store self.old → LeavesNoMore S.Store self.old self.new }
+        requires free { IsHonest S.Store self.old
+            → IsFreeKey coding.projects.key project.now (seen S.Store lists_of self.old).projects }
+        ensures writes { Writes S.Store self.old self.new result (change.add_project project.now) }
     {
         write(
             &mut self.conn,
@@ -278,14 +238,9 @@ impl<S: Alter> Tables<S> {
 
     /// Adds a language, whose place is free, and which the project has not.
     pub fn add_lang(&mut self, lang: &LangRow) -> Result<(), Fault>
-        requires free { IsHonest S.Store self.old → IsFreeKey coding.langs.key lang.now (seen S.Store lists_of self.old).langs }
-        ensures ok { IsHonest S.Store self.old → HasCleanDisk (state S.Store self.new) → OnOk result (Becomes S.Store lists_of self.old self.new (record (seen S.Store lists_of self.old) { langs = added coding.langs.key lang.now (seen S.Store lists_of self.old).langs })) }
-        ensures err { IsHonest S.Store self.new → OnErr result (IsRefused S.Store lists_of self.old self.new) }
-        ensures clean { HasCleanDisk (state S.Store self.new) → HasCleanDisk (state S.Store self.old) }
-        ensures was { IsHonest S.Store self.new → IsHonest S.Store self.old }
-        ensures crash { Leaves S.Store lists_of self.old self.new (λ w. (self.old.in_transaction ≡ false) × (w ≡ record (seen S.Store lists_of self.old) { langs = added coding.langs.key lang.now (seen S.Store lists_of self.old).langs })) }
-        ensures kept { self.old.in_transaction ≡ true → KeepsCommitted S.Store self.old self.new }
-        ensures quiet { self.old.in_transaction ≡ true → IsHonest S.Store self.old → LeavesNoMore S.Store self.old self.new }
+        requires free { IsHonest S.Store self.old
+            → IsFreeKey coding.langs.key lang.now (seen S.Store lists_of self.old).langs }
+        ensures writes { Writes S.Store self.old self.new result (change.add_lang lang.now) }
     {
         write(
             &mut self.conn,
@@ -303,14 +258,9 @@ impl<S: Alter> Tables<S> {
         op: Operation,
         retry: &Token,
     ) -> Result<Option<UsedRow>, Fault>
-        ensures value { IsHonest S.Store self.old → HasCleanDisk (state S.Store self.new) → IfOk result (λ o. o ≡ find (spec.is_used host.now slug.now op retry.now) (seen S.Store lists_of self.old).used) }
-        ensures same { IsHonest S.Store self.old → HasCleanDisk (state S.Store self.new) → OnOk result (IsSame S.Store lists_of self.old self.new) }
-        ensures err { IsHonest S.Store self.new → OnErr result (IsRefused S.Store lists_of self.old self.new) }
-        ensures clean { HasCleanDisk (state S.Store self.new) → HasCleanDisk (state S.Store self.old) }
-        ensures was { IsHonest S.Store self.new → IsHonest S.Store self.old }
-        ensures crash { Leaves S.Store lists_of self.old self.new (λ w. ⊥) }
-        ensures kept { KeepsCommitted S.Store self.old self.new }
-        ensures quiet { IsHonest S.Store self.old → LeavesNoMore S.Store self.old self.new }
+        ensures asks { Asks S.Store self.old self.new result }
+        ensures value { Reads S.Store self.old self.new result
+            (λ l. find (spec.is_used host.now slug.now op retry.now) l.used) }
     {
         first_record(
             &mut self.conn,
@@ -329,14 +279,10 @@ impl<S: Alter> Tables<S> {
         op: Operation,
         retry: &Token,
     ) -> Result<Option<Answer>, Fault>
-        ensures value { IsHonest S.Store self.old → HasCleanDisk (state S.Store self.new) → IfOk result (λ o. o ≡ option_map spec.kept_answer (find (spec.is_used host.now slug.now op retry.now) (seen S.Store lists_of self.old).used)) }
-        ensures same { IsHonest S.Store self.old → HasCleanDisk (state S.Store self.new) → OnOk result (IsSame S.Store lists_of self.old self.new) }
-        ensures err { IsHonest S.Store self.new → OnErr result (IsRefused S.Store lists_of self.old self.new) }
-        ensures clean { HasCleanDisk (state S.Store self.new) → HasCleanDisk (state S.Store self.old) }
-        ensures was { IsHonest S.Store self.new → IsHonest S.Store self.old }
-        ensures crash { Leaves S.Store lists_of self.old self.new (λ w. ⊥) }
-        ensures kept { KeepsCommitted S.Store self.old self.new }
-        ensures quiet { IsHonest S.Store self.old → LeavesNoMore S.Store self.old self.new }
+        ensures asks { Asks S.Store self.old self.new result }
+        ensures value { Reads S.Store self.old self.new result
+            (λ l. option_map spec.kept_answer
+            (find (spec.is_used host.now slug.now op retry.now) l.used)) }
     {
         match self.used_row(alloc, host, slug, op, retry) {
             Ok(Some(row)) => kept_answer(alloc, row.answer.as_str()),
@@ -354,14 +300,11 @@ impl<S: Alter> Tables<S> {
         retry: &Token,
         answer: &str,
     ) -> Result<(), Fault>
-        requires free { IsHonest S.Store self.old → IsFreeKey coding.used.key (record { host = host.now; slug = slug.now; op = op; retry = retry.now; answer = answer.now }) (seen S.Store lists_of self.old).used }
-        ensures ok { IsHonest S.Store self.old → HasCleanDisk (state S.Store self.new) → OnOk result (Becomes S.Store lists_of self.old self.new (record (seen S.Store lists_of self.old) { used = added coding.used.key (record { host = host.now; slug = slug.now; op = op; retry = retry.now; answer = answer.now }) (seen S.Store lists_of self.old).used })) }
-        ensures err { IsHonest S.Store self.new → OnErr result (IsRefused S.Store lists_of self.old self.new) }
-        ensures clean { HasCleanDisk (state S.Store self.new) → HasCleanDisk (state S.Store self.old) }
-        ensures was { IsHonest S.Store self.new → IsHonest S.Store self.old }
-        ensures crash { Leaves S.Store lists_of self.old self.new (λ w. (self.old.in_transaction ≡ false) × (w ≡ record (seen S.Store lists_of self.old) { used = added coding.used.key (record { host = host.now; slug = slug.now; op = op; retry = retry.now; answer = answer.now }) (seen S.Store lists_of self.old).used })) }
-        ensures kept { self.old.in_transaction ≡ true → KeepsCommitted S.Store self.old self.new }
-        ensures quiet { self.old.in_transaction ≡ true → IsHonest S.Store self.old → LeavesNoMore S.Store self.old self.new }
+        requires free { IsHonest S.Store self.old
+            → IsFreeKey coding.used.key (spec.used_row host.now slug.now op retry.now answer.now)
+            (seen S.Store lists_of self.old).used }
+        ensures writes { Writes S.Store self.old self.new result
+            (change.add_used (spec.used_row host.now slug.now op retry.now answer.now)) }
     {
         write(
             &mut self.conn,
@@ -387,14 +330,11 @@ impl<S: Alter> Tables<S> {
         answer: &Answer,
     ) -> Result<(), Fault>
         requires told { IsSome (json_of answer.now) }
-        requires free { IsHonest S.Store self.old → IsFreeKey coding.used.key (spec.keeping host.now slug.now op retry.now answer.now) (seen S.Store lists_of self.old).used }
-        ensures ok { IsHonest S.Store self.old → HasCleanDisk (state S.Store self.new) → OnOk result (Becomes S.Store lists_of self.old self.new (record (seen S.Store lists_of self.old) { used = added coding.used.key (spec.keeping host.now slug.now op retry.now answer.now) (seen S.Store lists_of self.old).used })) }
-        ensures err { IsHonest S.Store self.new → OnErr result (IsRefused S.Store lists_of self.old self.new) }
-        ensures clean { HasCleanDisk (state S.Store self.new) → HasCleanDisk (state S.Store self.old) }
-        ensures was { IsHonest S.Store self.new → IsHonest S.Store self.old }
-        ensures crash { Leaves S.Store lists_of self.old self.new (λ w. (self.old.in_transaction ≡ false) × (w ≡ record (seen S.Store lists_of self.old) { used = added coding.used.key (spec.keeping host.now slug.now op retry.now answer.now) (seen S.Store lists_of self.old).used })) }
-        ensures kept { self.old.in_transaction ≡ true → KeepsCommitted S.Store self.old self.new }
-        ensures quiet { self.old.in_transaction ≡ true → IsHonest S.Store self.old → LeavesNoMore S.Store self.old self.new }
+        requires free { IsHonest S.Store self.old
+            → IsFreeKey coding.used.key (spec.keeping host.now slug.now op retry.now answer.now)
+            (seen S.Store lists_of self.old).used }
+        ensures writes { Writes S.Store self.old self.new result
+            (change.add_used (spec.keeping host.now slug.now op retry.now answer.now)) }
     {
         match answer.json(alloc) {
             Ok(text) => self.add_used(host, slug, op, retry, text.as_str()),
@@ -404,13 +344,8 @@ impl<S: Alter> Tables<S> {
 
     /// Removes the pages of a version.
     fn drop_pages_of(&mut self, host: &HostName, slug: &Slug) -> Result<(), Fault>
-        ensures ok { IsHonest S.Store self.old → HasCleanDisk (state S.Store self.new) → OnOk result (Becomes S.Store lists_of self.old self.new (record (seen S.Store lists_of self.old) { pages = filter (λ x. not (spec.is_page_of host.now slug.now x)) (seen S.Store lists_of self.old).pages })) }
-        ensures err { IsHonest S.Store self.new → OnErr result (IsRefused S.Store lists_of self.old self.new) }
-        ensures clean { HasCleanDisk (state S.Store self.new) → HasCleanDisk (state S.Store self.old) }
-        ensures was { IsHonest S.Store self.new → IsHonest S.Store self.old }
-        ensures crash { Leaves S.Store lists_of self.old self.new (λ w. (self.old.in_transaction ≡ false) × (w ≡ record (seen S.Store lists_of self.old) { pages = filter (λ x. not (spec.is_page_of host.now slug.now x)) (seen S.Store lists_of self.old).pages })) }
-        ensures kept { self.old.in_transaction ≡ true → KeepsCommitted S.Store self.old self.new }
-        ensures quiet { self.old.in_transaction ≡ true → IsHonest S.Store self.old → LeavesNoMore S.Store self.old self.new }
+        ensures writes { Writes S.Store self.old self.new result
+            (change.drop_pages host.now slug.now None) }
     {
         write(
             &mut self.conn,
@@ -421,13 +356,8 @@ impl<S: Alter> Tables<S> {
 
     /// Removes the pages of a version in a language.
     fn drop_pages_in(&mut self, host: &HostName, slug: &Slug, lang: &Lang) -> Result<(), Fault>
-        ensures ok { IsHonest S.Store self.old → HasCleanDisk (state S.Store self.new) → OnOk result (Becomes S.Store lists_of self.old self.new (record (seen S.Store lists_of self.old) { pages = filter (λ x. not (spec.is_page_in host.now slug.now lang.now x)) (seen S.Store lists_of self.old).pages })) }
-        ensures err { IsHonest S.Store self.new → OnErr result (IsRefused S.Store lists_of self.old self.new) }
-        ensures clean { HasCleanDisk (state S.Store self.new) → HasCleanDisk (state S.Store self.old) }
-        ensures was { IsHonest S.Store self.new → IsHonest S.Store self.old }
-        ensures crash { Leaves S.Store lists_of self.old self.new (λ w. (self.old.in_transaction ≡ false) × (w ≡ record (seen S.Store lists_of self.old) { pages = filter (λ x. not (spec.is_page_in host.now slug.now lang.now x)) (seen S.Store lists_of self.old).pages })) }
-        ensures kept { self.old.in_transaction ≡ true → KeepsCommitted S.Store self.old self.new }
-        ensures quiet { self.old.in_transaction ≡ true → IsHonest S.Store self.old → LeavesNoMore S.Store self.old self.new }
+        ensures writes { Writes S.Store self.old self.new result
+            (change.drop_pages host.now slug.now (Some lang.now)) }
     {
         write(
             &mut self.conn,
@@ -443,13 +373,8 @@ impl<S: Alter> Tables<S> {
         slug: &Slug,
         lang: Option<&Lang>,
     ) -> Result<(), Fault>
-        ensures ok { IsHonest S.Store self.old → HasCleanDisk (state S.Store self.new) → OnOk result (Becomes S.Store lists_of self.old self.new (record (seen S.Store lists_of self.old) { pages = filter (λ x. not (spec.is_page_under host.now slug.now (option_map (λ l. l.now) lang.entry) x)) (seen S.Store lists_of self.old).pages })) }
-        ensures err { IsHonest S.Store self.new → OnErr result (IsRefused S.Store lists_of self.old self.new) }
-        ensures clean { HasCleanDisk (state S.Store self.new) → HasCleanDisk (state S.Store self.old) }
-        ensures was { IsHonest S.Store self.new → IsHonest S.Store self.old }
-        ensures crash { Leaves S.Store lists_of self.old self.new (λ w. (self.old.in_transaction ≡ false) × (w ≡ record (seen S.Store lists_of self.old) { pages = filter (λ x. not (spec.is_page_under host.now slug.now (option_map (λ l. l.now) lang.entry) x)) (seen S.Store lists_of self.old).pages })) }
-        ensures kept { self.old.in_transaction ≡ true → KeepsCommitted S.Store self.old self.new }
-        ensures quiet { self.old.in_transaction ≡ true → IsHonest S.Store self.old → LeavesNoMore S.Store self.old self.new }
+        ensures writes { Writes S.Store self.old self.new result
+            (change.drop_pages host.now slug.now (option_map (λ l. l.now) lang.entry)) }
     {
         match lang {
             Some(lang) => self.drop_pages_in(host, slug, lang),
@@ -459,13 +384,7 @@ impl<S: Alter> Tables<S> {
 
     /// Adds a version, or puts it in place of the one with its slug.
     pub fn put_version(&mut self, row: &VersionRow) -> Result<(), Fault>
-        ensures ok { IsHonest S.Store self.old → HasCleanDisk (state S.Store self.new) → OnOk result (Becomes S.Store lists_of self.old self.new (record (seen S.Store lists_of self.old) { versions = put coding.versions.key row.now (seen S.Store lists_of self.old).versions })) }
-        ensures err { IsHonest S.Store self.new → OnErr result (IsRefused S.Store lists_of self.old self.new) }
-        ensures clean { HasCleanDisk (state S.Store self.new) → HasCleanDisk (state S.Store self.old) }
-        ensures was { IsHonest S.Store self.new → IsHonest S.Store self.old }
-        ensures crash { Leaves S.Store lists_of self.old self.new (λ w. (self.old.in_transaction ≡ false) × (w ≡ record (seen S.Store lists_of self.old) { versions = put coding.versions.key row.now (seen S.Store lists_of self.old).versions })) }
-        ensures kept { self.old.in_transaction ≡ true → KeepsCommitted S.Store self.old self.new }
-        ensures quiet { self.old.in_transaction ≡ true → IsHonest S.Store self.old → LeavesNoMore S.Store self.old self.new }
+        ensures writes { Writes S.Store self.old self.new result (change.put_version row.now) }
     {
         write(
             &mut self.conn,
@@ -484,13 +403,8 @@ impl<S: Alter> Tables<S> {
 
     /// Removes a version. Its pages and grants stay, and its name among the defaults.
     pub fn drop_version(&mut self, host: &HostName, slug: &Slug) -> Result<(), Fault>
-        ensures ok { IsHonest S.Store self.old → HasCleanDisk (state S.Store self.new) → OnOk result (Becomes S.Store lists_of self.old self.new (record (seen S.Store lists_of self.old) { versions = filter (λ x. not (spec.is_version host.now slug.now x)) (seen S.Store lists_of self.old).versions })) }
-        ensures err { IsHonest S.Store self.new → OnErr result (IsRefused S.Store lists_of self.old self.new) }
-        ensures clean { HasCleanDisk (state S.Store self.new) → HasCleanDisk (state S.Store self.old) }
-        ensures was { IsHonest S.Store self.new → IsHonest S.Store self.old }
-        ensures crash { Leaves S.Store lists_of self.old self.new (λ w. (self.old.in_transaction ≡ false) × (w ≡ record (seen S.Store lists_of self.old) { versions = filter (λ x. not (spec.is_version host.now slug.now x)) (seen S.Store lists_of self.old).versions })) }
-        ensures kept { self.old.in_transaction ≡ true → KeepsCommitted S.Store self.old self.new }
-        ensures quiet { self.old.in_transaction ≡ true → IsHonest S.Store self.old → LeavesNoMore S.Store self.old self.new }
+        ensures writes { Writes S.Store self.old self.new result
+            (change.drop_version host.now slug.now) }
     {
         let sql = "DELETE FROM version WHERE host = ?1 AND slug = ?2";
         write(&mut self.conn, sql, params![host.as_str(), slug.as_str()])
@@ -498,13 +412,7 @@ impl<S: Alter> Tables<S> {
 
     /// Adds a page, or puts it in place of the one with its path.
     pub fn put_page(&mut self, row: &PageRow) -> Result<(), Fault>
-        ensures ok { IsHonest S.Store self.old → HasCleanDisk (state S.Store self.new) → OnOk result (Becomes S.Store lists_of self.old self.new (record (seen S.Store lists_of self.old) { pages = put coding.pages.key row.now (seen S.Store lists_of self.old).pages })) }
-        ensures err { IsHonest S.Store self.new → OnErr result (IsRefused S.Store lists_of self.old self.new) }
-        ensures clean { HasCleanDisk (state S.Store self.new) → HasCleanDisk (state S.Store self.old) }
-        ensures was { IsHonest S.Store self.new → IsHonest S.Store self.old }
-        ensures crash { Leaves S.Store lists_of self.old self.new (λ w. (self.old.in_transaction ≡ false) × (w ≡ record (seen S.Store lists_of self.old) { pages = put coding.pages.key row.now (seen S.Store lists_of self.old).pages })) }
-        ensures kept { self.old.in_transaction ≡ true → KeepsCommitted S.Store self.old self.new }
-        ensures quiet { self.old.in_transaction ≡ true → IsHonest S.Store self.old → LeavesNoMore S.Store self.old self.new }
+        ensures writes { Writes S.Store self.old self.new result (change.put_page row.now) }
     {
         write(
             &mut self.conn,
@@ -536,10 +444,13 @@ pub enum TablesFault {
 impl<S: Alter> Tables<S> {
     /// Makes the tables, in a transaction of their own. A connection that is handed back may still be in it.
     pub fn create(conn: Connection<S>) -> Result<Tables<S>, (TablesFault, Connection<S>)>
-        ensures honest { IfOk result (λ t. IsHonest S.Store conn → HasCleanDisk (state S.Store t) → IsHonest S.Store t × (t.in_transaction ≡ false)) }
-        ensures none { IfOk result (λ t. IsHonest S.Store conn → HasCleanDisk (state S.Store t) → seen S.Store lists_of t ≡ no_lists) }
+        ensures honest { IfOk result (λ t. IsHonest S.Store conn → HasCleanDisk (state S.Store t)
+            → IsHonest S.Store t × (t.in_transaction ≡ false)) }
+        ensures none { IfOk result (λ t. IsHonest S.Store conn → HasCleanDisk (state S.Store t)
+            → seen S.Store lists_of t ≡ no_lists) }
         ensures left { IfOk result (λ t. IsHonest S.Store t → LeavesCommitted S.Store lists_of t) }
-        ensures ours { IfErr result (λ e. CanMake (state S.Store conn).now.schema → e.0 ≢ TablesFault.NotOurs) }
+        ensures ours { IfErr result (λ e. CanMake (state S.Store conn).now.schema
+            → e.0 ≢ TablesFault.NotOurs) }
         ensures back { IfErr result (λ e. IsHonest S.Store e.1 → CommitsNothing S.Store conn e.1) }
     {
         let mut conn = conn;

@@ -9,7 +9,9 @@ ghost use Rattle.dh_rows.specs.Calls.{IsHonest};
 ghost use Rattle.dh_reply.specs.SeenProject.{resolved, page_at};
 ghost use Rattle.dh_tables.specs.Lists.{project_of};
 ghost use Rattle.dh_world.specs.Seen.{visible_versions};
-ghost use Rattle.dh_tables.specs.View.{IsSettled, IsUnmoved, Fails, Learns, Looks, Queries, Reads, ReadsAll, doubt_of, looks_on, project_in, shown, shown_under, unmoved_on};
+ghost use Rattle.dh_tables.specs.Calling.{Learns, Reads, ReadsAll};
+ghost use Rattle.dh_tables.specs.InTurn.{lasts_none};
+ghost use Rattle.dh_tables.specs.View.{IsSettled, IsUnmoved, Fails, Looks, Queries, doubt_of, looks_on, project_in, shown, shown_under, unmoved_on};
 
 mod aliases;
 mod defaults;
@@ -206,7 +208,7 @@ impl<'a, S: Alter> Lookup for View<'a, S> {
       refl,
       refl,
       record {
-        clean = λ it. it;
+        lasts = lasts_none a.tables.now;
         unmoved = λ it. record {
           same = record { was_honest = it; is_open = it.1; now_is = refl; last_is = refl; mode = refl };
           left = λ _ _ db may. inl may;

@@ -1,12 +1,13 @@
-ghost use Rattle.std.specs.Prelude.{◌≡◌, pos, true, false, filter, not, find, is_some, length, IfOk, OnOk, OnErr};
+//! The calls on defaults, passes and grants.
+
+ghost use Rattle.std.specs.Prelude.{◌≡◌, pos, true, false, filter, find, is_some, length, IfOk};
 ghost use Rattle.std.specs.List.{AllByRecursion};
-ghost use Rattle.sqlite.specs.Held.{state};
-ghost use Rattle.sqlite.specs.State.{HasCleanDisk};
-ghost use Rattle.dh_rows.specs.Calls.{IsHonest, Becomes, IsSame, IsRefused, Leaves, LeavesNoMore, KeepsCommitted, seen};
-ghost use Rattle.dh_rows.specs.Keyed.{IsFreeKey, added};
+ghost use Rattle.dh_rows.specs.Calls.{IsHonest, seen};
+ghost use Rattle.dh_rows.specs.Keyed.{IsFreeKey};
+ghost use Rattle.dh_tables.specs.Calling.{Asks, Reads, ReadsAll, Writes, WritesWithin};
+ghost use Rattle.dh_tables.specs.Changes as change;
 ghost use Rattle.dh_tables.specs.Codings as coding;
 ghost use Rattle.dh_tables.specs.Lists as spec;
-ghost use Rattle.dh_tables.specs.Making.{CommitsNothing};
 ghost use Rattle.dh_tables.specs.Tables.{lists_of};
 
 use super::Tables;
@@ -30,14 +31,9 @@ fn signed(rank: u64) -> Result<i64, Fault>
 impl<S: Alter> Tables<S> {
     /// The defaults of a project, in the order of their ranks.
     pub fn picks(&mut self, alloc: Global, host: &HostName) -> Result<Vec<PickRow>, Fault>
-        ensures value { IsHonest S.Store self.old → HasCleanDisk (state S.Store self.new) → IfOk result (λ o. o.items ≡ filter (spec.is_pick_of host.now) (seen S.Store lists_of self.old).picks) }
-        ensures same { IsHonest S.Store self.old → HasCleanDisk (state S.Store self.new) → OnOk result (IsSame S.Store lists_of self.old self.new) }
-        ensures err { IsHonest S.Store self.new → OnErr result (IsRefused S.Store lists_of self.old self.new) }
-        ensures clean { HasCleanDisk (state S.Store self.new) → HasCleanDisk (state S.Store self.old) }
-        ensures was { IsHonest S.Store self.new → IsHonest S.Store self.old }
-        ensures crash { Leaves S.Store lists_of self.old self.new (λ w. ⊥) }
-        ensures kept { KeepsCommitted S.Store self.old self.new }
-        ensures quiet { IsHonest S.Store self.old → LeavesNoMore S.Store self.old self.new }
+        ensures asks { Asks S.Store self.old self.new result }
+        ensures value { ReadsAll S.Store self.old self.new result
+            (λ l. filter (spec.is_pick_of host.now) l.picks) }
     {
         let sql = "SELECT host, name, rank FROM pick WHERE host = ?1 ORDER BY host, rank";
         all_records(&mut self.conn, alloc, sql, params![host.as_str()])
@@ -45,14 +41,11 @@ impl<S: Alter> Tables<S> {
 
     /// Adds a default, whose rank is free.
     fn add_pick(&mut self, host: &HostName, name: &Slug, rank: u64) -> Result<(), Fault>
-        requires free { IsHonest S.Store self.old → IsFreeKey coding.picks.key (record { host = host.now; name = name.now; rank = rank }) (seen S.Store lists_of self.old).picks }
-        ensures ok { IsHonest S.Store self.old → HasCleanDisk (state S.Store self.new) → OnOk result (Becomes S.Store lists_of self.old self.new (record (seen S.Store lists_of self.old) { picks = added coding.picks.key (record { host = host.now; name = name.now; rank = rank }) (seen S.Store lists_of self.old).picks })) }
-        ensures err { IsHonest S.Store self.new → OnErr result (IsRefused S.Store lists_of self.old self.new) }
-        ensures clean { HasCleanDisk (state S.Store self.new) → HasCleanDisk (state S.Store self.old) }
-        ensures was { IsHonest S.Store self.new → IsHonest S.Store self.old }
-        ensures crash { Leaves S.Store lists_of self.old self.new (λ w. (self.old.in_transaction ≡ false) × (w ≡ record (seen S.Store lists_of self.old) { picks = added coding.picks.key (record { host = host.now; name = name.now; rank = rank }) (seen S.Store lists_of self.old).picks })) }
-        ensures kept { self.old.in_transaction ≡ true → KeepsCommitted S.Store self.old self.new }
-        ensures quiet { self.old.in_transaction ≡ true → IsHonest S.Store self.old → LeavesNoMore S.Store self.old self.new }
+        requires free { IsHonest S.Store self.old
+            → IsFreeKey coding.picks.key (spec.pick_row host.now name.now rank)
+            (seen S.Store lists_of self.old).picks }
+        ensures writes { Writes S.Store self.old self.new result
+            (change.add_pick (spec.pick_row host.now name.now rank)) }
     {
         let rank = signed(rank)?;
         write(
@@ -64,13 +57,7 @@ impl<S: Alter> Tables<S> {
 
     /// Removes the defaults of a project.
     fn drop_picks(&mut self, host: &HostName) -> Result<(), Fault>
-        ensures ok { IsHonest S.Store self.old → HasCleanDisk (state S.Store self.new) → OnOk result (Becomes S.Store lists_of self.old self.new (record (seen S.Store lists_of self.old) { picks = filter (λ x. not (spec.is_pick_of host.now x)) (seen S.Store lists_of self.old).picks })) }
-        ensures err { IsHonest S.Store self.new → OnErr result (IsRefused S.Store lists_of self.old self.new) }
-        ensures clean { HasCleanDisk (state S.Store self.new) → HasCleanDisk (state S.Store self.old) }
-        ensures was { IsHonest S.Store self.new → IsHonest S.Store self.old }
-        ensures crash { Leaves S.Store lists_of self.old self.new (λ w. (self.old.in_transaction ≡ false) × (w ≡ record (seen S.Store lists_of self.old) { picks = filter (λ x. not (spec.is_pick_of host.now x)) (seen S.Store lists_of self.old).picks })) }
-        ensures kept { self.old.in_transaction ≡ true → KeepsCommitted S.Store self.old self.new }
-        ensures quiet { self.old.in_transaction ≡ true → IsHonest S.Store self.old → LeavesNoMore S.Store self.old self.new }
+        ensures writes { Writes S.Store self.old self.new result (change.drop_picks host.now) }
     {
         write(
             &mut self.conn,
@@ -82,14 +69,11 @@ impl<S: Alter> Tables<S> {
     /// Adds the defaults of a project that has none.
     fn put_picks(&mut self, host: &HostName, names: &[Slug]) -> Result<(), Fault>
         requires within { IsHonest S.Store self.old → self.old.in_transaction ≡ true }
-        requires bare { IsHonest S.Store self.old → AllByRecursion (λ r. spec.is_pick_of host.now r ≡ false) (seen S.Store lists_of self.old).picks }
-        ensures ok { IsHonest S.Store self.old → HasCleanDisk (state S.Store self.new) → OnOk result (Becomes S.Store lists_of self.old self.new (record (seen S.Store lists_of self.old) { picks = spec.with_picks (spec.ranked host.now 1 names.now) (seen S.Store lists_of self.old).picks })) }
-        ensures err { IsHonest S.Store self.new → OnErr result (CommitsNothing S.Store self.old self.new) }
-        ensures clean { HasCleanDisk (state S.Store self.new) → HasCleanDisk (state S.Store self.old) }
-        ensures was { IsHonest S.Store self.new → IsHonest S.Store self.old }
-        ensures crash { Leaves S.Store lists_of self.old self.new (λ w. ⊥) }
-        ensures kept { KeepsCommitted S.Store self.old self.new }
-        ensures quiet { IsHonest S.Store self.old → LeavesNoMore S.Store self.old self.new }
+        requires bare { IsHonest S.Store self.old
+            → AllByRecursion (λ r. spec.is_pick_of host.now r ≡ false)
+            (seen S.Store lists_of self.old).picks }
+        ensures writes { WritesWithin S.Store self.old self.new result
+            (change.with_picks (spec.ranked host.now 1 names.now)) }
     {
         for (i, name) in names.iter().enumerate() {
             self.add_pick(host, name, i as u64 + 1)?;
@@ -100,13 +84,8 @@ impl<S: Alter> Tables<S> {
     /// Sets the defaults of a project, the newest first, within a transaction. A call that is refused may leave some of them until the transaction ends.
     pub fn set_picks(&mut self, host: &HostName, names: &[Slug]) -> Result<(), Fault>
         requires within { IsHonest S.Store self.old → self.old.in_transaction ≡ true }
-        ensures ok { IsHonest S.Store self.old → HasCleanDisk (state S.Store self.new) → OnOk result (Becomes S.Store lists_of self.old self.new (record (seen S.Store lists_of self.old) { picks = spec.set_picks host.now names.now (seen S.Store lists_of self.old).picks })) }
-        ensures err { IsHonest S.Store self.new → OnErr result (CommitsNothing S.Store self.old self.new) }
-        ensures clean { HasCleanDisk (state S.Store self.new) → HasCleanDisk (state S.Store self.old) }
-        ensures was { IsHonest S.Store self.new → IsHonest S.Store self.old }
-        ensures crash { Leaves S.Store lists_of self.old self.new (λ w. ⊥) }
-        ensures kept { KeepsCommitted S.Store self.old self.new }
-        ensures quiet { IsHonest S.Store self.old → LeavesNoMore S.Store self.old self.new }
+        ensures writes { WritesWithin S.Store self.old self.new result
+            (change.set_picks host.now names.now) }
     {
         self.drop_picks(host)?;
         self.put_picks(host, names)
@@ -119,14 +98,9 @@ impl<S: Alter> Tables<S> {
         host: &HostName,
         token: &Token,
     ) -> Result<Option<PassRow>, Fault>
-        ensures value { IsHonest S.Store self.old → HasCleanDisk (state S.Store self.new) → IfOk result (λ o. o ≡ find (spec.is_pass host.now token.now) (seen S.Store lists_of self.old).passes) }
-        ensures same { IsHonest S.Store self.old → HasCleanDisk (state S.Store self.new) → OnOk result (IsSame S.Store lists_of self.old self.new) }
-        ensures err { IsHonest S.Store self.new → OnErr result (IsRefused S.Store lists_of self.old self.new) }
-        ensures clean { HasCleanDisk (state S.Store self.new) → HasCleanDisk (state S.Store self.old) }
-        ensures was { IsHonest S.Store self.new → IsHonest S.Store self.old }
-        ensures crash { Leaves S.Store lists_of self.old self.new (λ w. ⊥) }
-        ensures kept { KeepsCommitted S.Store self.old self.new }
-        ensures quiet { IsHonest S.Store self.old → LeavesNoMore S.Store self.old self.new }
+        ensures asks { Asks S.Store self.old self.new result }
+        ensures value { Reads S.Store self.old self.new result
+            (λ l. find (spec.is_pass host.now token.now) l.passes) }
     {
         let sql = "SELECT host, pass FROM pass WHERE host = ?1 AND pass = ?2 ORDER BY host, pass";
         first_record(
@@ -139,14 +113,9 @@ impl<S: Alter> Tables<S> {
 
     /// How many passes a project has.
     pub fn pass_count(&mut self, host: &HostName) -> Result<usize, Fault>
-        ensures value { IsHonest S.Store self.old → HasCleanDisk (state S.Store self.new) → IfOk result (λ n. n ≡ length (filter (spec.is_pass_of host.now) (seen S.Store lists_of self.old).passes)) }
-        ensures same { IsHonest S.Store self.old → HasCleanDisk (state S.Store self.new) → OnOk result (IsSame S.Store lists_of self.old self.new) }
-        ensures err { IsHonest S.Store self.new → OnErr result (IsRefused S.Store lists_of self.old self.new) }
-        ensures clean { HasCleanDisk (state S.Store self.new) → HasCleanDisk (state S.Store self.old) }
-        ensures was { IsHonest S.Store self.new → IsHonest S.Store self.old }
-        ensures crash { Leaves S.Store lists_of self.old self.new (λ w. ⊥) }
-        ensures kept { KeepsCommitted S.Store self.old self.new }
-        ensures quiet { IsHonest S.Store self.old → LeavesNoMore S.Store self.old self.new }
+        ensures asks { Asks S.Store self.old self.new result }
+        ensures value { Reads S.Store self.old self.new result
+            (λ l. length (filter (spec.is_pass_of host.now) l.passes)) }
     {
         let sql = "SELECT host, pass FROM pass WHERE host = ?1 ORDER BY host, pass";
         count_records(&mut self.conn, sql, params![host.as_str()])
@@ -154,14 +123,9 @@ impl<S: Alter> Tables<S> {
 
     /// Adds a pass, which the project has not.
     pub fn add_pass(&mut self, row: &PassRow) -> Result<(), Fault>
-        requires free { IsHonest S.Store self.old → IsFreeKey coding.passes.key row.now (seen S.Store lists_of self.old).passes }
-        ensures ok { IsHonest S.Store self.old → HasCleanDisk (state S.Store self.new) → OnOk result (Becomes S.Store lists_of self.old self.new (record (seen S.Store lists_of self.old) { passes = added coding.passes.key row.now (seen S.Store lists_of self.old).passes })) }
-        ensures err { IsHonest S.Store self.new → OnErr result (IsRefused S.Store lists_of self.old self.new) }
-        ensures clean { HasCleanDisk (state S.Store self.new) → HasCleanDisk (state S.Store self.old) }
-        ensures was { IsHonest S.Store self.new → IsHonest S.Store self.old }
-        ensures crash { Leaves S.Store lists_of self.old self.new (λ w. (self.old.in_transaction ≡ false) × (w ≡ record (seen S.Store lists_of self.old) { passes = added coding.passes.key row.now (seen S.Store lists_of self.old).passes })) }
-        ensures kept { self.old.in_transaction ≡ true → KeepsCommitted S.Store self.old self.new }
-        ensures quiet { self.old.in_transaction ≡ true → IsHonest S.Store self.old → LeavesNoMore S.Store self.old self.new }
+        requires free { IsHonest S.Store self.old
+            → IsFreeKey coding.passes.key row.now (seen S.Store lists_of self.old).passes }
+        ensures writes { Writes S.Store self.old self.new result (change.add_pass row.now) }
     {
         write(
             &mut self.conn,
@@ -172,13 +136,8 @@ impl<S: Alter> Tables<S> {
 
     /// Removes a pass. What it holds stays.
     pub fn drop_pass(&mut self, host: &HostName, pass: &Token) -> Result<(), Fault>
-        ensures ok { IsHonest S.Store self.old → HasCleanDisk (state S.Store self.new) → OnOk result (Becomes S.Store lists_of self.old self.new (record (seen S.Store lists_of self.old) { passes = filter (λ x. not (spec.is_pass host.now pass.now x)) (seen S.Store lists_of self.old).passes })) }
-        ensures err { IsHonest S.Store self.new → OnErr result (IsRefused S.Store lists_of self.old self.new) }
-        ensures clean { HasCleanDisk (state S.Store self.new) → HasCleanDisk (state S.Store self.old) }
-        ensures was { IsHonest S.Store self.new → IsHonest S.Store self.old }
-        ensures crash { Leaves S.Store lists_of self.old self.new (λ w. (self.old.in_transaction ≡ false) × (w ≡ record (seen S.Store lists_of self.old) { passes = filter (λ x. not (spec.is_pass host.now pass.now x)) (seen S.Store lists_of self.old).passes })) }
-        ensures kept { self.old.in_transaction ≡ true → KeepsCommitted S.Store self.old self.new }
-        ensures quiet { self.old.in_transaction ≡ true → IsHonest S.Store self.old → LeavesNoMore S.Store self.old self.new }
+        ensures writes { Writes S.Store self.old self.new result
+            (change.drop_pass host.now pass.now) }
     {
         write(
             &mut self.conn,
@@ -189,14 +148,9 @@ impl<S: Alter> Tables<S> {
 
     /// Whether a pass holds a version.
     pub fn held(&mut self, host: &HostName, pass: &Token, slug: &Slug) -> Result<bool, Fault>
-        ensures value { IsHonest S.Store self.old → HasCleanDisk (state S.Store self.new) → IfOk result (λ b. b ≡ is_some (find (spec.is_held host.now pass.now slug.now) (seen S.Store lists_of self.old).held)) }
-        ensures same { IsHonest S.Store self.old → HasCleanDisk (state S.Store self.new) → OnOk result (IsSame S.Store lists_of self.old self.new) }
-        ensures err { IsHonest S.Store self.new → OnErr result (IsRefused S.Store lists_of self.old self.new) }
-        ensures clean { HasCleanDisk (state S.Store self.new) → HasCleanDisk (state S.Store self.old) }
-        ensures was { IsHonest S.Store self.new → IsHonest S.Store self.old }
-        ensures crash { Leaves S.Store lists_of self.old self.new (λ w. ⊥) }
-        ensures kept { KeepsCommitted S.Store self.old self.new }
-        ensures quiet { IsHonest S.Store self.old → LeavesNoMore S.Store self.old self.new }
+        ensures asks { Asks S.Store self.old self.new result }
+        ensures value { Reads S.Store self.old self.new result
+            (λ l. is_some (find (spec.is_held host.now pass.now slug.now) l.held)) }
     {
         let sql =
             "SELECT host, pass, slug FROM holds WHERE host = ?1 AND pass = ?2 AND slug = ?3 ORDER BY host, pass, slug";
@@ -209,14 +163,9 @@ impl<S: Alter> Tables<S> {
 
     /// Adds a grant, which is not there.
     fn add_grant(&mut self, row: &HeldRow) -> Result<(), Fault>
-        requires free { IsHonest S.Store self.old → IsFreeKey coding.held.key row.now (seen S.Store lists_of self.old).held }
-        ensures ok { IsHonest S.Store self.old → HasCleanDisk (state S.Store self.new) → OnOk result (Becomes S.Store lists_of self.old self.new (record (seen S.Store lists_of self.old) { held = added coding.held.key row.now (seen S.Store lists_of self.old).held })) }
-        ensures err { IsHonest S.Store self.new → OnErr result (IsRefused S.Store lists_of self.old self.new) }
-        ensures clean { HasCleanDisk (state S.Store self.new) → HasCleanDisk (state S.Store self.old) }
-        ensures was { IsHonest S.Store self.new → IsHonest S.Store self.old }
-        ensures crash { Leaves S.Store lists_of self.old self.new (λ w. (self.old.in_transaction ≡ false) × (w ≡ record (seen S.Store lists_of self.old) { held = added coding.held.key row.now (seen S.Store lists_of self.old).held })) }
-        ensures kept { self.old.in_transaction ≡ true → KeepsCommitted S.Store self.old self.new }
-        ensures quiet { self.old.in_transaction ≡ true → IsHonest S.Store self.old → LeavesNoMore S.Store self.old self.new }
+        requires free { IsHonest S.Store self.old
+            → IsFreeKey coding.held.key row.now (seen S.Store lists_of self.old).held }
+        ensures writes { Writes S.Store self.old self.new result (change.add_grant row.now) }
     {
         write(
             &mut self.conn,
@@ -227,13 +176,7 @@ impl<S: Alter> Tables<S> {
 
     /// Adds a grant, unless it is there.
     pub fn grant(&mut self, row: &HeldRow) -> Result<(), Fault>
-        ensures ok { IsHonest S.Store self.old → HasCleanDisk (state S.Store self.new) → OnOk result (Becomes S.Store lists_of self.old self.new (record (seen S.Store lists_of self.old) { held = spec.granted row.now (seen S.Store lists_of self.old).held })) }
-        ensures err { IsHonest S.Store self.new → OnErr result (IsRefused S.Store lists_of self.old self.new) }
-        ensures clean { HasCleanDisk (state S.Store self.new) → HasCleanDisk (state S.Store self.old) }
-        ensures was { IsHonest S.Store self.new → IsHonest S.Store self.old }
-        ensures crash { Leaves S.Store lists_of self.old self.new (λ w. (self.old.in_transaction ≡ false) × (w ≡ record (seen S.Store lists_of self.old) { held = spec.granted row.now (seen S.Store lists_of self.old).held })) }
-        ensures kept { self.old.in_transaction ≡ true → KeepsCommitted S.Store self.old self.new }
-        ensures quiet { self.old.in_transaction ≡ true → IsHonest S.Store self.old → LeavesNoMore S.Store self.old self.new }
+        ensures writes { Writes S.Store self.old self.new result (change.grant row.now) }
     {
         // The proof learns by it that what is seen outside a transaction is committed.
         let _ = &self.conn;
@@ -246,13 +189,8 @@ impl<S: Alter> Tables<S> {
 
     /// Removes a grant.
     pub fn revoke(&mut self, host: &HostName, pass: &Token, slug: &Slug) -> Result<(), Fault>
-        ensures ok { IsHonest S.Store self.old → HasCleanDisk (state S.Store self.new) → OnOk result (Becomes S.Store lists_of self.old self.new (record (seen S.Store lists_of self.old) { held = filter (λ x. not (spec.is_held host.now pass.now slug.now x)) (seen S.Store lists_of self.old).held })) }
-        ensures err { IsHonest S.Store self.new → OnErr result (IsRefused S.Store lists_of self.old self.new) }
-        ensures clean { HasCleanDisk (state S.Store self.new) → HasCleanDisk (state S.Store self.old) }
-        ensures was { IsHonest S.Store self.new → IsHonest S.Store self.old }
-        ensures crash { Leaves S.Store lists_of self.old self.new (λ w. (self.old.in_transaction ≡ false) × (w ≡ record (seen S.Store lists_of self.old) { held = filter (λ x. not (spec.is_held host.now pass.now slug.now x)) (seen S.Store lists_of self.old).held })) }
-        ensures kept { self.old.in_transaction ≡ true → KeepsCommitted S.Store self.old self.new }
-        ensures quiet { self.old.in_transaction ≡ true → IsHonest S.Store self.old → LeavesNoMore S.Store self.old self.new }
+        ensures writes { Writes S.Store self.old self.new result
+            (change.revoke host.now pass.now slug.now) }
     {
         let key = params![host.as_str(), pass.as_str(), slug.as_str()];
         write(
@@ -264,13 +202,8 @@ impl<S: Alter> Tables<S> {
 
     /// Removes all grants on a version.
     pub fn drop_grants_of(&mut self, host: &HostName, slug: &Slug) -> Result<(), Fault>
-        ensures ok { IsHonest S.Store self.old → HasCleanDisk (state S.Store self.new) → OnOk result (Becomes S.Store lists_of self.old self.new (record (seen S.Store lists_of self.old) { held = filter (λ x. not (spec.is_held_on host.now slug.now x)) (seen S.Store lists_of self.old).held })) }
-        ensures err { IsHonest S.Store self.new → OnErr result (IsRefused S.Store lists_of self.old self.new) }
-        ensures clean { HasCleanDisk (state S.Store self.new) → HasCleanDisk (state S.Store self.old) }
-        ensures was { IsHonest S.Store self.new → IsHonest S.Store self.old }
-        ensures crash { Leaves S.Store lists_of self.old self.new (λ w. (self.old.in_transaction ≡ false) × (w ≡ record (seen S.Store lists_of self.old) { held = filter (λ x. not (spec.is_held_on host.now slug.now x)) (seen S.Store lists_of self.old).held })) }
-        ensures kept { self.old.in_transaction ≡ true → KeepsCommitted S.Store self.old self.new }
-        ensures quiet { self.old.in_transaction ≡ true → IsHonest S.Store self.old → LeavesNoMore S.Store self.old self.new }
+        ensures writes { Writes S.Store self.old self.new result
+            (change.drop_grants_of host.now slug.now) }
     {
         write(
             &mut self.conn,
@@ -281,13 +214,8 @@ impl<S: Alter> Tables<S> {
 
     /// Removes all grants of a pass.
     pub fn drop_grants_by(&mut self, host: &HostName, pass: &Token) -> Result<(), Fault>
-        ensures ok { IsHonest S.Store self.old → HasCleanDisk (state S.Store self.new) → OnOk result (Becomes S.Store lists_of self.old self.new (record (seen S.Store lists_of self.old) { held = filter (λ x. not (spec.is_held_by host.now pass.now x)) (seen S.Store lists_of self.old).held })) }
-        ensures err { IsHonest S.Store self.new → OnErr result (IsRefused S.Store lists_of self.old self.new) }
-        ensures clean { HasCleanDisk (state S.Store self.new) → HasCleanDisk (state S.Store self.old) }
-        ensures was { IsHonest S.Store self.new → IsHonest S.Store self.old }
-        ensures crash { Leaves S.Store lists_of self.old self.new (λ w. (self.old.in_transaction ≡ false) × (w ≡ record (seen S.Store lists_of self.old) { held = filter (λ x. not (spec.is_held_by host.now pass.now x)) (seen S.Store lists_of self.old).held })) }
-        ensures kept { self.old.in_transaction ≡ true → KeepsCommitted S.Store self.old self.new }
-        ensures quiet { self.old.in_transaction ≡ true → IsHonest S.Store self.old → LeavesNoMore S.Store self.old self.new }
+        ensures writes { Writes S.Store self.old self.new result
+            (change.drop_grants_by host.now pass.now) }
     {
         let sql = "DELETE FROM holds WHERE host = ?1 AND pass = ?2";
         write(&mut self.conn, sql, params![host.as_str(), pass.as_str()])
@@ -300,14 +228,9 @@ impl<S: Alter> Tables<S> {
         host: &HostName,
         pass: &Token,
     ) -> Result<Vec<HeldRow>, Fault>
-        ensures value { IsHonest S.Store self.old → HasCleanDisk (state S.Store self.new) → IfOk result (λ o. o.items ≡ filter (spec.is_held_by host.now pass.now) (seen S.Store lists_of self.old).held) }
-        ensures same { IsHonest S.Store self.old → HasCleanDisk (state S.Store self.new) → OnOk result (IsSame S.Store lists_of self.old self.new) }
-        ensures err { IsHonest S.Store self.new → OnErr result (IsRefused S.Store lists_of self.old self.new) }
-        ensures clean { HasCleanDisk (state S.Store self.new) → HasCleanDisk (state S.Store self.old) }
-        ensures was { IsHonest S.Store self.new → IsHonest S.Store self.old }
-        ensures crash { Leaves S.Store lists_of self.old self.new (λ w. ⊥) }
-        ensures kept { KeepsCommitted S.Store self.old self.new }
-        ensures quiet { IsHonest S.Store self.old → LeavesNoMore S.Store self.old self.new }
+        ensures asks { Asks S.Store self.old self.new result }
+        ensures value { ReadsAll S.Store self.old self.new result
+            (λ l. filter (spec.is_held_by host.now pass.now) l.held) }
     {
         let sql =
             "SELECT host, pass, slug FROM holds WHERE host = ?1 AND pass = ?2 ORDER BY host, pass, slug";

@@ -4,7 +4,8 @@ ghost use Rattle.std.specs.Prelude.{◌≡◌, map, slice_get};
 ghost use Rattle.std.specs.Option.{option_and_then};
 ghost use Rattle.dh_rows.specs.Calls.{IsHonest};
 ghost use Rattle.dh_reply.specs.SeenProject.{alias_of, alias_to, resolved};
-ghost use Rattle.dh_tables.specs.View.{IsSettled, Queries, Reads, shown_in};
+ghost use Rattle.dh_tables.specs.Calling.{Reads};
+ghost use Rattle.dh_tables.specs.View.{IsSettled, Queries, shown_in};
 
 use crate::records::ProjectRow;
 use crate::tables::Tables;

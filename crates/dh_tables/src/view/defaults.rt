@@ -5,7 +5,8 @@ ghost use Rattle.std.specs.Option.{option_map};
 ghost use Rattle.dh_rows.specs.Calls.{IsHonest};
 ghost use Rattle.dh_reply.specs.SeenProject.{resolved};
 ghost use Rattle.dh_world.specs.Seen.{default_of};
-ghost use Rattle.dh_tables.specs.View.{IsSettled, Queries, Reads, resolves, shown_in};
+ghost use Rattle.dh_tables.specs.Calling.{Reads};
+ghost use Rattle.dh_tables.specs.View.{IsSettled, Queries, resolves, shown_in};
 
 use crate::records::{PickRow, ProjectRow};
 use crate::tables::Tables;

@@ -3,7 +3,8 @@
 ghost use Rattle.std.specs.Prelude.{is_some, find, filter};
 ghost use Rattle.dh_rows.specs.Calls.{IsHonest};
 ghost use Rattle.dh_tables.specs.Lists as spec;
-ghost use Rattle.dh_tables.specs.View.{IsSettled, Learns, Queries, Reads, ReadsAll, RiseBySlug};
+ghost use Rattle.dh_tables.specs.Calling.{Learns, Reads, ReadsAll};
+ghost use Rattle.dh_tables.specs.View.{IsSettled, Queries, RiseBySlug};
 
 use crate::records::{HeldRow, LangRow, PageRow, PassRow, PickRow, ProjectRow, VersionRow};
 use crate::tables::Tables;

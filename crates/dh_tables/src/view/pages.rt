@@ -6,7 +6,8 @@ ghost use Rattle.dh_rows.specs.Calls.{IsHonest};
 ghost use Rattle.dh_tables.specs.Lists as spec;
 ghost use Rattle.dh_reply.specs.SeenProject.{page_at};
 ghost use Rattle.dh_tables.specs.Lists.{project_of};
-ghost use Rattle.dh_tables.specs.View.{IsSettled, Queries, Reads, ReadsAll, shown_in};
+ghost use Rattle.dh_tables.specs.Calling.{Reads, ReadsAll};
+ghost use Rattle.dh_tables.specs.View.{IsSettled, Queries, shown_in};
 
 use crate::records::{LangRow, ProjectRow};
 use crate::tables::Tables;

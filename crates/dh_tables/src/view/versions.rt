@@ -5,7 +5,8 @@ ghost use Rattle.std.specs.List.{list_any};
 ghost use Rattle.std.specs.FinMap.{get, keys, values};
 ghost use Rattle.dh_rows.specs.Calls.{IsHonest};
 ghost use Rattle.dh_tables.specs.View as view;
-ghost use Rattle.dh_tables.specs.View.{IsSettled, Learns, OpensAs, Queries, Reads, ReadsAll, ShowsAs, held_in, is_shown, visible_in};
+ghost use Rattle.dh_tables.specs.Calling.{Learns, Reads, ReadsAll};
+ghost use Rattle.dh_tables.specs.View.{IsSettled, OpensAs, Queries, ShowsAs, held_in, is_shown, visible_in};
 ghost use Rattle.dh_world.specs.World as world;
 
 use crate::records::{HeldRow, ProjectRow, VersionRow};

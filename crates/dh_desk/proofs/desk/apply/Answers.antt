@@ -16,17 +16,17 @@ returns-in_err-back-clause-outside g c honest = over_aside g.S.Store c.back.new.
 
 pub run-requires : goal.run-requires
 run-requires g c = record {
-  outside = λ honest. (c.in_ok-back.ensures.ok honest).mode;
-  settled = λ honest. let it = c.in_ok-back.ensures.ok honest in it.now_is ∙ sym it.last_is;
-  sound = λ honest. subst AreSound (sym (c.in_ok-back.ensures.ok honest).last_is) (c.requires (c.back.ensures.was honest));
+  outside = λ honest. (c.in_ok-back.ensures.undone honest).mode;
+  settled = λ honest. let it = c.in_ok-back.ensures.undone honest in it.now_is ∙ sym it.last_is;
+  sound = λ honest. subst AreSound (sym (c.in_ok-back.ensures.undone honest).last_is) (c.requires (c.back.ensures.goes.lasts.was honest));
 }
 
 pub returns-clause-steps : goal.returns-clause-steps
 returns-clause-steps g c honest =
     let h1 = c.run.ensures.was honest in
     let P : Lists → Type 0 = λ l. Steps l (last_records g.S.Store c.run.new.tables) c.args.command.now c.run.result in
-    subst P (c.in_ok-back.ensures.ok h1).last_is (c.run.ensures.steps honest)
+    subst P (c.in_ok-back.ensures.undone h1).last_is (c.run.ensures.steps honest)
 
 pub returns-clause-crash : goal.returns-clause-crash
 returns-clause-crash g c =
-    step_after g.S.Store c.args.tables.now c.back.new.self c.run.new.tables c.args.command.now c.back.ensures.was c.back.ensures.quiet c.back.ensures.kept c.run.ensures.clean c.run.ensures.crash
+    step_after g.S.Store c.args.tables.now c.back.new.self c.run.new.tables c.args.command.now c.back.ensures.goes.lasts.was c.back.ensures.quiet c.back.ensures.goes.kept c.run.ensures.clean c.run.ensures.crash

@@ -6,6 +6,6 @@ use Rattle.dh_desk.proofs.reads.read.Goals as goal
 
 pub returns-clause-value : goal.returns-clause-value
 returns-clause-value g c honest plain =
-    let undone = c.in_ok-back.ensures.ok (c.look.ensures.looks.unmoved honest).same.was_honest in
+    let undone = c.in_ok-back.ensures.undone (c.look.ensures.looks.unmoved honest).same.was_honest in
     let by_lists : Lists → Type 0 = λ l. IfOk c.look.result (λ r. r ≡ reply_to (caller.seen (world_of l) c.in_ok-host.host c.in_ok-pass.pass) c.args.asked.now.path c.args.asked.now.query) in
     rw (c.in_ok-host.ensures, c.in_ok-pass.ensures) at (subst by_lists undone.now_is (c.look.ensures.value honest plain))

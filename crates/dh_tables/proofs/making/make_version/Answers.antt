@@ -1,6 +1,7 @@
+use Rattle.std.proofs.Common.{[]}
 use Rattle.sqlite.specs.Held.{state}
 use Rattle.dh_tables.proofs.Made.{make_version_asks, make_version_makes}
-use Rattle.dh_tables.proofs.CallLemmas.{made_ok}
+use Rattle.dh_tables.proofs.CallLemmas.{built_one}
 use Rattle.dh_tables.proofs.making.make_version.Goals as goal
 
 pub write-requires-clause-plain : goal.write-requires-clause-plain
@@ -9,5 +10,5 @@ write-requires-clause-plain g c honest = (make_version_asks (state g.S.Store c.a
 pub write-requires-clause-edits : goal.write-requires-clause-edits
 write-requires-clause-edits g c honest = (make_version_asks (state g.S.Store c.args.conn.now) (c.requires honest)).edits
 
-pub returns-clause-ok : goal.returns-clause-ok
-returns-clause-ok g c honest clean = made_ok _ c.write.result (make_version_makes (state g.S.Store c.args.conn.now) (c.requires honest) (state g.S.Store c.write.new.conn).now) (c.write.ensures.ok honest clean)
+pub returns : goal.returns
+returns g c = record { builds = built_one g.S.Store c.args.conn.now c.write.new.conn _ [] _ c.write.result (λ honest. make_version_makes (state g.S.Store c.args.conn.now) (c.requires honest)) c.write.ensures.goes c.write.ensures.sees c.write.ensures.made c.write.ensures.err }

@@ -7,5 +7,5 @@ pub returns-clause-value : goal.returns-clause-value
 returns-clause-value g c honest p was =
     ap (λ b. cond b p.defaults []) c.if-not-ask.false
     ∙ defaults_in (records g.S.Store c.args.tables.now) c.args.host.now p was
-    ∙ ap (map (λ row. row.name)) (sym (c.in_ok-rows.ensures.value (c.picks.ensures.was honest) honest.0))
+    ∙ ap (map (λ row. row.name)) (sym (c.in_ok-rows.ensures.value honest))
     ∙ sym c.in_ok-names_in.ensures

@@ -10,4 +10,4 @@ pub returns-in_ok-used-in-Some-clause-value : goal.returns-in_ok-used-in-Some-cl
 returns-in_ok-used-in-Some-clause-value g c honest p was =
     ap (λ o. option_and_then (get p.used) (asked_key o)) c.in-Some.is
     ∙ used_in (records g.S.Store c.args.tables.now) c.args.host.now p was c.in-Some.asked.slug.now c.in-Some.asked.operation c.in-Some.asked.key.now
-    ∙ sym (c.in_ok-used-in-Some.ensures.value (c.used.ensures.was honest) honest.0)
+    ∙ sym (c.in_ok-used-in-Some.ensures.value honest)

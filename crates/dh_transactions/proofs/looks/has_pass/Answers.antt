@@ -11,4 +11,4 @@ pub returns-in_ok-pass-in-Some-clause-value : goal.returns-in_ok-pass-in-Some-cl
 returns-in_ok-pass-in-Some-clause-value g c honest p was =
     ap (λ (o : Option (Bor Token)). option_map_or (contains_key p.passes) (option_map (λ t. t.now) o) false) c.in-Some.is
     ∙ has_pass_in (records g.S.Store c.args.tables.now) c.args.host.now p was c.in-Some.pass.now
-    ∙ ap is_some (sym (c.in_ok-pass-in-Some.ensures.value (c.pass.ensures.was honest) honest.0)) ∙ sym c.is_some.ensures
+    ∙ ap is_some (sym (c.in_ok-pass-in-Some.ensures.value honest)) ∙ sym c.is_some.ensures

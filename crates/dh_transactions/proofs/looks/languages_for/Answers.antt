@@ -7,5 +7,5 @@ pub returns-clause-value : goal.returns-clause-value
 returns-clause-value g c honest p was =
     ap (λ b. cond b p.languages []) c.if-not-ask.false
     ∙ languages_in (records g.S.Store c.args.tables.now) c.args.host.now p was
-    ∙ ap (map (λ row. row.lang)) (sym (c.in_ok-rows.ensures.value (c.langs.ensures.was honest) honest.0))
+    ∙ ap (map (λ row. row.lang)) (sym (c.in_ok-rows.ensures.value honest))
     ∙ sym c.in_ok-languages_in.ensures

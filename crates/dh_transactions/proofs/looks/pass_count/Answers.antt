@@ -8,4 +8,4 @@ pub returns-in_ok-pass_count-clause-value : goal.returns-in_ok-pass_count-clause
 returns-in_ok-pass_count-clause-value g c honest sound p was =
     ap (λ b. cond b (len p.passes) 0) c.if-ask.true
     ∙ pass_count_in (records g.S.Store c.args.tables.now) c.args.host.now p sound.order.passes was
-    ∙ sym (c.in_ok-pass_count.ensures.value (c.pass_count.ensures.was honest) honest.0)
+    ∙ sym (c.in_ok-pass_count.ensures.value honest)

@@ -6,9 +6,9 @@ use Rattle.dh_transactions.specs.Going.{records}
 pub returns-in_default-clause-value : goal.returns-in_default-clause-value
 returns-in_default-clause-value g c honest =
     no_settings c.args.host.now (records g.S.Store c.args.tables.now)
-    (sym (c.in_ok-row.ensures.value (c.project.ensures.was honest) honest.0) ∙ c.in_default.is)
+    (sym (c.in_ok-row.ensures.value honest) ∙ c.in_default.is)
 
 pub returns-clause-value : goal.returns-clause-value
 returns-clause-value g c honest =
     settings_here c.args.host.now (records g.S.Store c.args.tables.now) c.in-Some.row
-    (sym (c.in_ok-row.ensures.value (c.project.ensures.was honest) honest.0) ∙ c.in-Some.is)
+    (sym (c.in_ok-row.ensures.value honest) ∙ c.in-Some.is)

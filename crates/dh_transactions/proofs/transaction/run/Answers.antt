@@ -16,17 +16,17 @@ returns-clause-crash g c =
     let result = c.work-worked.result in
     let turned : IsHonest g.S.Store old → IsHonest g.S.Store begun → IsHonest g.S.Store worked → Turns (last_records g.S.Store old) (records g.S.Store worked) c.args.command.now result =
     λ h0 h1 h2.
-    let before = (c.in_ok-begin.ensures.ok h0 h1.0).now_is ∙ c.requires.settled h0 in
+    let before = (c.in_ok-begin.ensures.begun h1.0).now_is ∙ c.requires.settled h0 in
     let P : Lists → Command → Type 0 = λ l x. Turns l (records g.S.Store worked) x result in
     subst (P (last_records g.S.Store old)) c.in_ok-host.ensures.1
     (subst (λ l. P l (command_of c.in_ok-host.field-0.host c.in_ok-host.field-0.change)) before (c.work-worked.ensures.turns h2)) in
     ended_leaves g.S.Store old begun worked c.end.new.tables c.args.command.now result c.in_ok-host.ensures.0
-    c.in_ok-begin.ensures.opened c.begin.ensures.kept c.begin.ensures.quiet c.in_ok-begin.ensures.ok
+    (λ clean. (c.in_ok-begin.ensures.begun clean).was_honest) c.begin.ensures.goes.kept c.begin.ensures.quiet (λ _. c.in_ok-begin.ensures.begun)
     c.work-worked.ensures.goes.clean c.work-worked.ensures.goes.kept c.work-worked.ensures.goes.quiet
     (given_ok _ _ _ result c.work-worked.ensures.live) turned c.end.ensures.clean c.end.ensures.crash
 
 pub returns-clause-refused : goal.returns-clause-refused
 returns-clause-refused g c =
     refused_after g.S.Store c.args.tables.now c.work-worked.new.tables c.end.new.tables c.end.result
-    (worked_no_more g.S.Store c.args.tables.now c.begin.new.self c.work-worked.new.tables c.in_ok-begin.ensures.opened c.begin.ensures.quiet c.in_ok-begin.ensures.ok c.work-worked.ensures.goes.clean c.work-worked.ensures.goes.quiet)
+    (worked_no_more g.S.Store c.args.tables.now c.begin.new.self c.work-worked.new.tables (λ clean. (c.in_ok-begin.ensures.begun clean).was_honest) c.begin.ensures.quiet (λ _. c.in_ok-begin.ensures.begun) c.work-worked.ensures.goes.clean c.work-worked.ensures.goes.quiet)
     c.end.ensures.clean c.end.ensures.refused

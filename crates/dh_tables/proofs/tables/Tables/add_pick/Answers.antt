@@ -2,7 +2,7 @@ use Rattle.std.proofs.Common.{rules, [], ◌∷◌, ◌∙◌, w64, to_z, of_z, 
 use Rattle.std.proofs.lemmas.Int.{to_z-of_z}
 use Rattle.sqlite_value.specs.declared.value.Value.TheVariants.{Text, Int}
 use Rattle.sqlite.specs.Held.{state}
-use Rattle.dh_tables.proofs.CallLemmas.{written, written_ours, write_leaves}
+use Rattle.dh_tables.proofs.CallLemmas.{wrote, written_ours}
 use Rattle.dh_rows.specs.Keyed.{added}
 use Rattle.dh_tables.specs.Codings.{picks}
 use Rattle.dh_tables.proofs.Statements.{add_pick_text, add_pick_writes, add_pick_ranked}
@@ -17,14 +17,9 @@ write-requires-clause-edits g c honest = (add_pick_writes (state g.S.Store c.sel
 pub invariant_of-self : goal.invariant_of-self
 invariant_of-self g c =
     let fits : FitsSigned w64 c.in_ok-rank.rank = search rules in
-    written_ours g.S.Store c.self.inside.conn c.write.new.conn c.self.invariant add_pick_text (Text c.args.host.now ∷ Text c.args.name.now ∷ Int (to_z w64 (of_z w64 c.in_ok-rank.rank)) ∷ []) (λ l. record l { picks = added picks.key (record { host = c.args.host.now; name = c.args.name.now; rank = c.args.rank }) l.picks }) (λ honest. add_pick_ranked (state g.S.Store c.self.inside.conn) (c.self.invariant honest.0 honest.1).now (record { host = c.args.host.now; name = c.args.name.now; rank = c.args.rank }) (to_z w64 (of_z w64 c.in_ok-rank.rank)) (to_z-of_z w64 c.in_ok-rank.rank fits ∙ c.in_ok-rank.ensures) ((rw (← c.self.view_is) at c.requires.free) honest)) c.write.result c.write.ensures.was (rw (c.params-to_sql.ensures, c.params-to_sql-2.ensures, c.params-to_sql-3.ensures, c.as_str.ensures.text, c.as_str-2.ensures.text) at c.write.ensures.ok) c.write.ensures.err
+    written_ours g.S.Store c.self.inside.conn c.write.new.conn c.self.invariant add_pick_text (Text c.args.host.now ∷ Text c.args.name.now ∷ Int (to_z w64 (of_z w64 c.in_ok-rank.rank)) ∷ []) (λ l. record l { picks = added picks.key (record { host = c.args.host.now; name = c.args.name.now; rank = c.args.rank }) l.picks }) (λ honest. add_pick_ranked (state g.S.Store c.self.inside.conn) (c.self.invariant honest.0 honest.1).now (record { host = c.args.host.now; name = c.args.name.now; rank = c.args.rank }) (to_z w64 (of_z w64 c.in_ok-rank.rank)) (to_z-of_z w64 c.in_ok-rank.rank fits ∙ c.in_ok-rank.ensures) ((rw (← c.self.view_is) at c.requires.free) honest)) c.write.result c.write.ensures.goes c.write.ensures.sees (rw (c.params-to_sql.ensures, c.params-to_sql-2.ensures, c.params-to_sql-3.ensures, c.as_str.ensures.text, c.as_str-2.ensures.text) at c.write.ensures.made) c.write.ensures.err
 
-pub returns-clause-ok : goal.returns-clause-ok
-returns-clause-ok g c =
+pub returns : goal.returns
+returns g c =
     let fits : FitsSigned w64 c.in_ok-rank.rank = search rules in
-    rw (← c.self.view_is) (written g.S.Store c.self.inside.conn c.write.new.conn c.self.invariant add_pick_text (Text c.args.host.now ∷ Text c.args.name.now ∷ Int (to_z w64 (of_z w64 c.in_ok-rank.rank)) ∷ []) (λ l. record l { picks = added picks.key (record { host = c.args.host.now; name = c.args.name.now; rank = c.args.rank }) l.picks }) (λ honest. add_pick_ranked (state g.S.Store c.self.inside.conn) (c.self.invariant honest.0 honest.1).now (record { host = c.args.host.now; name = c.args.name.now; rank = c.args.rank }) (to_z w64 (of_z w64 c.in_ok-rank.rank)) (to_z-of_z w64 c.in_ok-rank.rank fits ∙ c.in_ok-rank.ensures) ((rw (← c.self.view_is) at c.requires.free) honest)) c.write.result (rw (c.params-to_sql.ensures, c.params-to_sql-2.ensures, c.params-to_sql-3.ensures, c.as_str.ensures.text, c.as_str-2.ensures.text) at c.write.ensures.ok))
-
-pub returns-clause-crash : goal.returns-clause-crash
-returns-clause-crash g c =
-    let fits : FitsSigned w64 c.in_ok-rank.rank = search rules in
-    rw (← c.self.view_is) (write_leaves g.S.Store c.self.inside.conn c.write.new.conn c.self.invariant add_pick_text (Text c.args.host.now ∷ Text c.args.name.now ∷ Int (to_z w64 (of_z w64 c.in_ok-rank.rank)) ∷ []) (λ l. record l { picks = added picks.key (record { host = c.args.host.now; name = c.args.name.now; rank = c.args.rank }) l.picks }) (λ honest. add_pick_ranked (state g.S.Store c.self.inside.conn) (c.self.invariant honest.0 honest.1).now (record { host = c.args.host.now; name = c.args.name.now; rank = c.args.rank }) (to_z w64 (of_z w64 c.in_ok-rank.rank)) (to_z-of_z w64 c.in_ok-rank.rank fits ∙ c.in_ok-rank.ensures) ((rw (← c.self.view_is) at c.requires.free) honest)) (rw (c.params-to_sql.ensures, c.params-to_sql-2.ensures, c.params-to_sql-3.ensures, c.as_str.ensures.text, c.as_str-2.ensures.text) at c.write.ensures.crash))
+    record { writes = rw (← c.self.view_is) (wrote g.S.Store c.self.inside.conn c.write.new.conn c.self.invariant add_pick_text (Text c.args.host.now ∷ Text c.args.name.now ∷ Int (to_z w64 (of_z w64 c.in_ok-rank.rank)) ∷ []) (λ l. record l { picks = added picks.key (record { host = c.args.host.now; name = c.args.name.now; rank = c.args.rank }) l.picks }) (λ honest. add_pick_ranked (state g.S.Store c.self.inside.conn) (c.self.invariant honest.0 honest.1).now (record { host = c.args.host.now; name = c.args.name.now; rank = c.args.rank }) (to_z w64 (of_z w64 c.in_ok-rank.rank)) (to_z-of_z w64 c.in_ok-rank.rank fits ∙ c.in_ok-rank.ensures) ((rw (← c.self.view_is) at c.requires.free) honest)) c.write.result c.write.ensures.goes c.write.ensures.sees (rw (c.params-to_sql.ensures, c.params-to_sql-2.ensures, c.params-to_sql-3.ensures, c.as_str.ensures.text, c.as_str-2.ensures.text) at c.write.ensures.made) c.write.ensures.err (rw (c.params-to_sql.ensures, c.params-to_sql-2.ensures, c.params-to_sql-3.ensures, c.as_str.ensures.text, c.as_str-2.ensures.text) at c.write.ensures.crash)) }

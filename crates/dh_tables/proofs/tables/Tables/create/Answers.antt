@@ -10,8 +10,8 @@ make_at_once-requires-clause-placed g c honest = placed _ (c.schema.ensures.live
 
 pub invariant_of-result : goal.invariant_of-result
 invariant_of-result g c clean live =
-    let it = c.in-Ok.ensures.ok (c.in-Ok.ensures.was (clean, live)) clean in
-    record { now = it.3.holds; last = subst Holds it.2 it.3.holds; steady = ap (λ (d : Database). d.schema) it.2; settled = λ _. it.2 }
+    let it = c.in-Ok.ensures.ok (c.in-Ok.ensures.lasts.was (clean, live)) clean in
+    record { now = it.made.holds; last = subst Holds it.settled it.made.holds; steady = ap (λ (d : Database). d.schema) it.settled; settled = λ _. it.settled }
 
 pub returns-in-Ok-clause-left : goal.returns-in-Ok-clause-left
 returns-in-Ok-clause-left g c honest w left =

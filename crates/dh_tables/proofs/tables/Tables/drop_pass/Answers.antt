@@ -1,5 +1,5 @@
 use Rattle.sqlite.specs.Held.{state}
-use Rattle.dh_tables.proofs.CallLemmas.{written, written_ours, write_leaves}
+use Rattle.dh_tables.proofs.CallLemmas.{wrote, written_ours}
 use Rattle.std.proofs.Common.{filter, not, [], ◌∷◌}
 use Rattle.sqlite_value.specs.declared.value.Value.TheVariants.{Text}
 use Rattle.dh_tables.specs.Lists.{is_pass}
@@ -13,10 +13,7 @@ pub write-requires-clause-edits : goal.write-requires-clause-edits
 write-requires-clause-edits g c honest = (drop_pass_writes (state g.S.Store c.self.inside.conn) (c.self.invariant honest.0 honest.1).now c.args.host.now c.args.pass.now).edits
 
 pub invariant_of-self : goal.invariant_of-self
-invariant_of-self g c = written_ours g.S.Store c.self.inside.conn c.write.new.conn c.self.invariant drop_pass_text (Text c.args.host.now ∷ Text c.args.pass.now ∷ []) (λ l. record l { passes = filter (λ x. not (is_pass c.args.host.now c.args.pass.now x)) l.passes }) (λ honest. drop_pass_changes (state g.S.Store c.self.inside.conn) (c.self.invariant honest.0 honest.1).now c.args.host.now c.args.pass.now) c.write.result c.write.ensures.was (rw (c.params-to_sql.ensures, c.params-to_sql-2.ensures, c.as_str.ensures.text, c.as_str-2.ensures.text) at c.write.ensures.ok) c.write.ensures.err
+invariant_of-self g c = written_ours g.S.Store c.self.inside.conn c.write.new.conn c.self.invariant drop_pass_text (Text c.args.host.now ∷ Text c.args.pass.now ∷ []) (λ l. record l { passes = filter (λ x. not (is_pass c.args.host.now c.args.pass.now x)) l.passes }) (λ honest. drop_pass_changes (state g.S.Store c.self.inside.conn) (c.self.invariant honest.0 honest.1).now c.args.host.now c.args.pass.now) c.write.result c.write.ensures.goes c.write.ensures.sees (rw (c.params-to_sql.ensures, c.params-to_sql-2.ensures, c.as_str.ensures.text, c.as_str-2.ensures.text) at c.write.ensures.made) c.write.ensures.err
 
-pub returns-clause-ok : goal.returns-clause-ok
-returns-clause-ok g c = rw (← c.self.view_is) (written g.S.Store c.self.inside.conn c.write.new.conn c.self.invariant drop_pass_text (Text c.args.host.now ∷ Text c.args.pass.now ∷ []) (λ l. record l { passes = filter (λ x. not (is_pass c.args.host.now c.args.pass.now x)) l.passes }) (λ honest. drop_pass_changes (state g.S.Store c.self.inside.conn) (c.self.invariant honest.0 honest.1).now c.args.host.now c.args.pass.now) c.write.result (rw (c.params-to_sql.ensures, c.params-to_sql-2.ensures, c.as_str.ensures.text, c.as_str-2.ensures.text) at c.write.ensures.ok))
-
-pub returns-clause-crash : goal.returns-clause-crash
-returns-clause-crash g c = rw (← c.self.view_is) (write_leaves g.S.Store c.self.inside.conn c.write.new.conn c.self.invariant drop_pass_text (Text c.args.host.now ∷ Text c.args.pass.now ∷ []) (λ l. record l { passes = filter (λ x. not (is_pass c.args.host.now c.args.pass.now x)) l.passes }) (λ honest. drop_pass_changes (state g.S.Store c.self.inside.conn) (c.self.invariant honest.0 honest.1).now c.args.host.now c.args.pass.now) (rw (c.params-to_sql.ensures, c.params-to_sql-2.ensures, c.as_str.ensures.text, c.as_str-2.ensures.text) at c.write.ensures.crash))
+pub returns : goal.returns
+returns g c = record { writes = rw (← c.self.view_is) (wrote g.S.Store c.self.inside.conn c.write.new.conn c.self.invariant drop_pass_text (Text c.args.host.now ∷ Text c.args.pass.now ∷ []) (λ l. record l { passes = filter (λ x. not (is_pass c.args.host.now c.args.pass.now x)) l.passes }) (λ honest. drop_pass_changes (state g.S.Store c.self.inside.conn) (c.self.invariant honest.0 honest.1).now c.args.host.now c.args.pass.now) c.write.result c.write.ensures.goes c.write.ensures.sees (rw (c.params-to_sql.ensures, c.params-to_sql-2.ensures, c.as_str.ensures.text, c.as_str-2.ensures.text) at c.write.ensures.made) c.write.ensures.err (rw (c.params-to_sql.ensures, c.params-to_sql-2.ensures, c.as_str.ensures.text, c.as_str-2.ensures.text) at c.write.ensures.crash)) }

@@ -1,5 +1,5 @@
 use Rattle.sqlite.specs.Held.{state}
-use Rattle.dh_tables.proofs.CallLemmas.{read_ours}
+use Rattle.dh_tables.proofs.CallLemmas.{asked, read_ours}
 use Rattle.std.proofs.Common.{filter, refl}
 use Rattle.std.specs.List.{find}
 use Rattle.dh_tables.specs.Codings.{projects}
@@ -18,7 +18,10 @@ pub has_record-requires-clause-listing : goal.has_record-requires-clause-listing
 has_record-requires-clause-listing g c honest = as_listing _ project_text _ (project_answers (state g.S.Store c.self.inside.conn) (c.self.invariant honest.0 honest.1).now c.args.host.now).listing refl
 
 pub invariant_of-self : goal.invariant_of-self
-invariant_of-self g c = read_ours g.S.Store c.self.inside.conn c.has_record.new.conn c.has_record.result c.self.invariant c.has_record.ensures.was c.has_record.ensures.same c.has_record.ensures.err
+invariant_of-self g c = read_ours g.S.Store c.self.inside.conn c.has_record.new.conn c.has_record.result c.self.invariant c.has_record.ensures.goes c.has_record.ensures.same c.has_record.ensures.err
+
+pub returns-clause-asks : goal.returns-clause-asks
+returns-clause-asks g c = rw (← c.self.view_is) (asked g.S.Store c.self.inside.conn c.has_record.new.conn c.has_record.result c.has_record.ensures.goes c.has_record.ensures.same c.has_record.ensures.err)
 
 pub returns-clause-value : goal.returns-clause-value
-returns-clause-value g c = rw (← c.self.view_is) (λ honest clean. any_value projects.encode c.has_record.result (filter (is_project c.args.host.now) (lists_of (state g.S.Store c.self.inside.conn).now).projects) (find (is_project c.args.host.now) (lists_of (state g.S.Store c.self.inside.conn).now).projects) (c.has_record.ensures.value honest clean) (λ rows it. (project_answers (state g.S.Store c.self.inside.conn) (c.self.invariant honest.0 honest.1).now c.args.host.now).reads rows (as_reads _ project_text _ _ _ (rw (c.params-to_sql.ensures, c.as_str.ensures.text) at it) refl)) (first_that (is_project c.args.host.now) (lists_of (state g.S.Store c.self.inside.conn).now).projects))
+returns-clause-value g c = rw (← c.self.view_is) (λ now. let honest = c.has_record.ensures.goes.lasts.was now in any_value _ projects.encode c.has_record.result (filter (is_project c.args.host.now) (lists_of (state g.S.Store c.self.inside.conn).now).projects) (find (is_project c.args.host.now) (lists_of (state g.S.Store c.self.inside.conn).now).projects) (c.has_record.ensures.value now.0) (λ rows it. (project_answers (state g.S.Store c.self.inside.conn) (c.self.invariant honest.0 honest.1).now c.args.host.now).reads rows (as_reads _ project_text _ _ _ (rw (c.params-to_sql.ensures, c.as_str.ensures.text) at it) refl)) (first_that (is_project c.args.host.now) (lists_of (state g.S.Store c.self.inside.conn).now).projects))

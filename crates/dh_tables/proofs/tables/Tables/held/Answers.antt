@@ -4,7 +4,7 @@ use Rattle.std.specs.List.{find}
 use Rattle.dh_tables.specs.Codings.{held}
 use Rattle.dh_tables.specs.Tables.{lists_of}
 use Rattle.dh_tables.specs.Lists.{is_held}
-use Rattle.dh_tables.proofs.CallLemmas.{read_ours}
+use Rattle.dh_tables.proofs.CallLemmas.{asked, read_ours}
 use Rattle.dh_tables.proofs.Finding.{first_that}
 use Rattle.dh_tables.proofs.Known.{any_value}
 use Rattle.dh_tables.proofs.Statements.{held_answers}
@@ -17,7 +17,10 @@ pub has_record-requires-clause-listing : goal.has_record-requires-clause-listing
 has_record-requires-clause-listing g c honest = (held_answers (state g.S.Store c.self.inside.conn) (c.self.invariant honest.0 honest.1).now c.args.host.now c.args.pass.now c.args.slug.now).listing
 
 pub invariant_of-self : goal.invariant_of-self
-invariant_of-self g c = read_ours g.S.Store c.self.inside.conn c.has_record.new.conn c.has_record.result c.self.invariant c.has_record.ensures.was c.has_record.ensures.same c.has_record.ensures.err
+invariant_of-self g c = read_ours g.S.Store c.self.inside.conn c.has_record.new.conn c.has_record.result c.self.invariant c.has_record.ensures.goes c.has_record.ensures.same c.has_record.ensures.err
+
+pub returns-clause-asks : goal.returns-clause-asks
+returns-clause-asks g c = rw (← c.self.view_is) (asked g.S.Store c.self.inside.conn c.has_record.new.conn c.has_record.result c.has_record.ensures.goes c.has_record.ensures.same c.has_record.ensures.err)
 
 pub returns-clause-value : goal.returns-clause-value
-returns-clause-value g c = rw (← c.self.view_is) (λ honest clean. any_value held.encode c.has_record.result (filter (is_held c.args.host.now c.args.pass.now c.args.slug.now) (lists_of (state g.S.Store c.self.inside.conn).now).held) (find (is_held c.args.host.now c.args.pass.now c.args.slug.now) (lists_of (state g.S.Store c.self.inside.conn).now).held) (c.has_record.ensures.value honest clean) (λ rows it. (held_answers (state g.S.Store c.self.inside.conn) (c.self.invariant honest.0 honest.1).now c.args.host.now c.args.pass.now c.args.slug.now).reads rows (rw (c.params-to_sql.ensures, c.params-to_sql-2.ensures, c.params-to_sql-3.ensures, c.as_str.ensures.text, c.as_str-2.ensures.text, c.as_str-3.ensures.text) at it)) (first_that (is_held c.args.host.now c.args.pass.now c.args.slug.now) (lists_of (state g.S.Store c.self.inside.conn).now).held))
+returns-clause-value g c = rw (← c.self.view_is) (λ now. let honest = c.has_record.ensures.goes.lasts.was now in any_value _ held.encode c.has_record.result (filter (is_held c.args.host.now c.args.pass.now c.args.slug.now) (lists_of (state g.S.Store c.self.inside.conn).now).held) (find (is_held c.args.host.now c.args.pass.now c.args.slug.now) (lists_of (state g.S.Store c.self.inside.conn).now).held) (c.has_record.ensures.value now.0) (λ rows it. (held_answers (state g.S.Store c.self.inside.conn) (c.self.invariant honest.0 honest.1).now c.args.host.now c.args.pass.now c.args.slug.now).reads rows (rw (c.params-to_sql.ensures, c.params-to_sql-2.ensures, c.params-to_sql-3.ensures, c.as_str.ensures.text, c.as_str-2.ensures.text, c.as_str-3.ensures.text) at it)) (first_that (is_held c.args.host.now c.args.pass.now c.args.slug.now) (lists_of (state g.S.Store c.self.inside.conn).now).held))

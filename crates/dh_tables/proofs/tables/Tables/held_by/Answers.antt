@@ -3,7 +3,7 @@ use Rattle.std.proofs.Common.{filter}
 use Rattle.dh_tables.specs.Codings.{held}
 use Rattle.dh_tables.specs.Tables.{lists_of}
 use Rattle.dh_tables.specs.Lists.{is_held_by}
-use Rattle.dh_tables.proofs.CallLemmas.{read_ours, all_value}
+use Rattle.dh_tables.proofs.CallLemmas.{asked, read_ours, all_value}
 use Rattle.dh_tables.proofs.Statements.{held_by_answers}
 use Rattle.dh_tables.proofs.tables.Tables.held_by.Goals as goal
 
@@ -14,7 +14,10 @@ pub all_records-requires-clause-listing : goal.all_records-requires-clause-listi
 all_records-requires-clause-listing g c honest = (held_by_answers (state g.S.Store c.self.inside.conn) (c.self.invariant honest.0 honest.1).now c.args.host.now c.args.pass.now).listing
 
 pub invariant_of-self : goal.invariant_of-self
-invariant_of-self g c = read_ours g.S.Store c.self.inside.conn c.all_records.new.conn c.all_records.result c.self.invariant c.all_records.ensures.was c.all_records.ensures.same c.all_records.ensures.err
+invariant_of-self g c = read_ours g.S.Store c.self.inside.conn c.all_records.new.conn c.all_records.result c.self.invariant c.all_records.ensures.goes c.all_records.ensures.same c.all_records.ensures.err
+
+pub returns-clause-asks : goal.returns-clause-asks
+returns-clause-asks g c = rw (← c.self.view_is) (asked g.S.Store c.self.inside.conn c.all_records.new.conn c.all_records.result c.all_records.ensures.goes c.all_records.ensures.same c.all_records.ensures.err)
 
 pub returns-clause-value : goal.returns-clause-value
-returns-clause-value g c = rw (← c.self.view_is) (λ honest clean. all_value held.encode (λ v. v.items) c.all_records.result (filter (is_held_by c.args.host.now c.args.pass.now) (lists_of (state g.S.Store c.self.inside.conn).now).held) (c.all_records.ensures.value honest clean) (λ rows it. (held_by_answers (state g.S.Store c.self.inside.conn) (c.self.invariant honest.0 honest.1).now c.args.host.now c.args.pass.now).reads rows (rw (c.params-to_sql.ensures, c.params-to_sql-2.ensures, c.as_str.ensures.text, c.as_str-2.ensures.text) at it)))
+returns-clause-value g c = rw (← c.self.view_is) (λ now. let honest = c.all_records.ensures.goes.lasts.was now in all_value _ held.encode (λ v. v.items) c.all_records.result (filter (is_held_by c.args.host.now c.args.pass.now) (lists_of (state g.S.Store c.self.inside.conn).now).held) (c.all_records.ensures.value now.0) (λ rows it. (held_by_answers (state g.S.Store c.self.inside.conn) (c.self.invariant honest.0 honest.1).now c.args.host.now c.args.pass.now).reads rows (rw (c.params-to_sql.ensures, c.params-to_sql-2.ensures, c.as_str.ensures.text, c.as_str-2.ensures.text) at it)))

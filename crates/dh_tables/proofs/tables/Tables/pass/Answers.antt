@@ -4,7 +4,7 @@ use Rattle.std.specs.List.{find}
 use Rattle.dh_tables.specs.Codings.{passes}
 use Rattle.dh_tables.specs.Tables.{lists_of}
 use Rattle.dh_tables.specs.Lists.{is_pass}
-use Rattle.dh_tables.proofs.CallLemmas.{read_ours, first_value}
+use Rattle.dh_tables.proofs.CallLemmas.{asked, read_ours, first_value}
 use Rattle.dh_tables.proofs.Finding.{first_that}
 use Rattle.dh_tables.proofs.Statements.{pass_answers}
 use Rattle.dh_tables.proofs.tables.Tables.pass.Goals as goal
@@ -16,7 +16,10 @@ pub first_record-requires-clause-listing : goal.first_record-requires-clause-lis
 first_record-requires-clause-listing g c honest = (pass_answers (state g.S.Store c.self.inside.conn) (c.self.invariant honest.0 honest.1).now c.args.host.now c.args.token.now).listing
 
 pub invariant_of-self : goal.invariant_of-self
-invariant_of-self g c = read_ours g.S.Store c.self.inside.conn c.first_record.new.conn c.first_record.result c.self.invariant c.first_record.ensures.was c.first_record.ensures.same c.first_record.ensures.err
+invariant_of-self g c = read_ours g.S.Store c.self.inside.conn c.first_record.new.conn c.first_record.result c.self.invariant c.first_record.ensures.goes c.first_record.ensures.same c.first_record.ensures.err
+
+pub returns-clause-asks : goal.returns-clause-asks
+returns-clause-asks g c = rw (← c.self.view_is) (asked g.S.Store c.self.inside.conn c.first_record.new.conn c.first_record.result c.first_record.ensures.goes c.first_record.ensures.same c.first_record.ensures.err)
 
 pub returns-clause-value : goal.returns-clause-value
-returns-clause-value g c = rw (← c.self.view_is) (λ honest clean. first_value passes.encode c.first_record.result (filter (is_pass c.args.host.now c.args.token.now) (lists_of (state g.S.Store c.self.inside.conn).now).passes) (find (is_pass c.args.host.now c.args.token.now) (lists_of (state g.S.Store c.self.inside.conn).now).passes) (c.first_record.ensures.value honest clean) (λ rows it. (pass_answers (state g.S.Store c.self.inside.conn) (c.self.invariant honest.0 honest.1).now c.args.host.now c.args.token.now).reads rows (rw (c.params-to_sql.ensures, c.params-to_sql-2.ensures, c.as_str.ensures.text, c.as_str-2.ensures.text) at it)) (first_that (is_pass c.args.host.now c.args.token.now) (lists_of (state g.S.Store c.self.inside.conn).now).passes))
+returns-clause-value g c = rw (← c.self.view_is) (λ now. let honest = c.first_record.ensures.goes.lasts.was now in first_value _ passes.encode c.first_record.result (filter (is_pass c.args.host.now c.args.token.now) (lists_of (state g.S.Store c.self.inside.conn).now).passes) (find (is_pass c.args.host.now c.args.token.now) (lists_of (state g.S.Store c.self.inside.conn).now).passes) (c.first_record.ensures.value now.0) (λ rows it. (pass_answers (state g.S.Store c.self.inside.conn) (c.self.invariant honest.0 honest.1).now c.args.host.now c.args.token.now).reads rows (rw (c.params-to_sql.ensures, c.params-to_sql-2.ensures, c.as_str.ensures.text, c.as_str-2.ensures.text) at it)) (first_that (is_pass c.args.host.now c.args.token.now) (lists_of (state g.S.Store c.self.inside.conn).now).passes))

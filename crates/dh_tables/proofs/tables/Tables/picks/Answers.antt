@@ -3,7 +3,7 @@ use Rattle.std.proofs.Common.{filter}
 use Rattle.dh_tables.specs.Codings.{picks}
 use Rattle.dh_tables.specs.Tables.{lists_of}
 use Rattle.dh_tables.specs.Lists.{is_pick_of}
-use Rattle.dh_tables.proofs.CallLemmas.{read_ours, all_value}
+use Rattle.dh_tables.proofs.CallLemmas.{asked, read_ours, all_value}
 use Rattle.dh_tables.proofs.Statements.{picks_answers}
 use Rattle.dh_tables.proofs.tables.Tables.picks.Goals as goal
 
@@ -14,7 +14,10 @@ pub all_records-requires-clause-listing : goal.all_records-requires-clause-listi
 all_records-requires-clause-listing g c honest = (picks_answers (state g.S.Store c.self.inside.conn) (c.self.invariant honest.0 honest.1).now c.args.host.now).listing
 
 pub invariant_of-self : goal.invariant_of-self
-invariant_of-self g c = read_ours g.S.Store c.self.inside.conn c.all_records.new.conn c.all_records.result c.self.invariant c.all_records.ensures.was c.all_records.ensures.same c.all_records.ensures.err
+invariant_of-self g c = read_ours g.S.Store c.self.inside.conn c.all_records.new.conn c.all_records.result c.self.invariant c.all_records.ensures.goes c.all_records.ensures.same c.all_records.ensures.err
+
+pub returns-clause-asks : goal.returns-clause-asks
+returns-clause-asks g c = rw (← c.self.view_is) (asked g.S.Store c.self.inside.conn c.all_records.new.conn c.all_records.result c.all_records.ensures.goes c.all_records.ensures.same c.all_records.ensures.err)
 
 pub returns-clause-value : goal.returns-clause-value
-returns-clause-value g c = rw (← c.self.view_is) (λ honest clean. all_value picks.encode (λ v. v.items) c.all_records.result (filter (is_pick_of c.args.host.now) (lists_of (state g.S.Store c.self.inside.conn).now).picks) (c.all_records.ensures.value honest clean) (λ rows it. (picks_answers (state g.S.Store c.self.inside.conn) (c.self.invariant honest.0 honest.1).now c.args.host.now).reads rows (rw (c.params-to_sql.ensures, c.as_str.ensures.text) at it)))
+returns-clause-value g c = rw (← c.self.view_is) (λ now. let honest = c.all_records.ensures.goes.lasts.was now in all_value _ picks.encode (λ v. v.items) c.all_records.result (filter (is_pick_of c.args.host.now) (lists_of (state g.S.Store c.self.inside.conn).now).picks) (c.all_records.ensures.value now.0) (λ rows it. (picks_answers (state g.S.Store c.self.inside.conn) (c.self.invariant honest.0 honest.1).now c.args.host.now).reads rows (rw (c.params-to_sql.ensures, c.as_str.ensures.text) at it)))

@@ -1,10 +1,10 @@
 use Rattle.std.proofs.Common.{refl}
 use Rattle.sqlite.specs.Held.{state}
-use Rattle.dh_tables.proofs.CallLemmas.{written, written_ours, write_leaves}
+use Rattle.dh_tables.proofs.CallLemmas.{wrote, written_ours}
 use Rattle.dh_rows.specs.Keyed.{put}
 use Rattle.dh_tables.specs.Codings.{pages}
 use Rattle.dh_tables.proofs.Statements.{put_page_text, put_page_writes, put_page_changes}
-use Rattle.dh_tables.proofs.SameText.{as_plain, as_edits, as_ran, as_left}
+use Rattle.dh_tables.proofs.SameText.{as_plain, as_edits, as_made, as_left}
 use Rattle.dh_tables.proofs.tables.Tables.put_page.Goals as goal
 
 pub write-requires-clause-plain : goal.write-requires-clause-plain
@@ -14,10 +14,7 @@ pub write-requires-clause-edits : goal.write-requires-clause-edits
 write-requires-clause-edits g c honest = as_edits _ put_page_text _ (put_page_writes (state g.S.Store c.self.inside.conn) (c.self.invariant honest.0 honest.1).now c.args.row.now).edits refl
 
 pub invariant_of-self : goal.invariant_of-self
-invariant_of-self g c = written_ours g.S.Store c.self.inside.conn c.write.new.conn c.self.invariant put_page_text (pages.encode c.args.row.now) (λ l. record l { pages = put pages.key c.args.row.now l.pages }) (λ honest. put_page_changes (state g.S.Store c.self.inside.conn) (c.self.invariant honest.0 honest.1).now c.args.row.now) c.write.result c.write.ensures.was (as_ran g.S.Store c.self.inside.conn c.write.new.conn put_page_text _ (pages.encode c.args.row.now) c.write.result (rw (c.params-to_sql.ensures, c.params-to_sql-2.ensures, c.params-to_sql-3.ensures, c.params-to_sql-4.ensures, c.params-to_sql-5.ensures, c.params-to_sql-6.ensures, c.as_str.ensures.text, c.as_str-2.ensures.text, c.as_str-3.ensures.text, c.as_str-4.ensures.text, c.as_str-5.ensures, c.as_slice.ensures) at c.write.ensures.ok) refl) c.write.ensures.err
+invariant_of-self g c = written_ours g.S.Store c.self.inside.conn c.write.new.conn c.self.invariant put_page_text (pages.encode c.args.row.now) (λ l. record l { pages = put pages.key c.args.row.now l.pages }) (λ honest. put_page_changes (state g.S.Store c.self.inside.conn) (c.self.invariant honest.0 honest.1).now c.args.row.now) c.write.result c.write.ensures.goes c.write.ensures.sees (as_made g.S.Store c.self.inside.conn c.write.new.conn put_page_text _ (pages.encode c.args.row.now) c.write.result (rw (c.params-to_sql.ensures, c.params-to_sql-2.ensures, c.params-to_sql-3.ensures, c.params-to_sql-4.ensures, c.params-to_sql-5.ensures, c.params-to_sql-6.ensures, c.as_str.ensures.text, c.as_str-2.ensures.text, c.as_str-3.ensures.text, c.as_str-4.ensures.text, c.as_str-5.ensures, c.as_slice.ensures) at c.write.ensures.made) refl) c.write.ensures.err
 
-pub returns-clause-ok : goal.returns-clause-ok
-returns-clause-ok g c = rw (← c.self.view_is) (written g.S.Store c.self.inside.conn c.write.new.conn c.self.invariant put_page_text (pages.encode c.args.row.now) (λ l. record l { pages = put pages.key c.args.row.now l.pages }) (λ honest. put_page_changes (state g.S.Store c.self.inside.conn) (c.self.invariant honest.0 honest.1).now c.args.row.now) c.write.result (as_ran g.S.Store c.self.inside.conn c.write.new.conn put_page_text _ (pages.encode c.args.row.now) c.write.result (rw (c.params-to_sql.ensures, c.params-to_sql-2.ensures, c.params-to_sql-3.ensures, c.params-to_sql-4.ensures, c.params-to_sql-5.ensures, c.params-to_sql-6.ensures, c.as_str.ensures.text, c.as_str-2.ensures.text, c.as_str-3.ensures.text, c.as_str-4.ensures.text, c.as_str-5.ensures, c.as_slice.ensures) at c.write.ensures.ok) refl))
-
-pub returns-clause-crash : goal.returns-clause-crash
-returns-clause-crash g c = rw (← c.self.view_is) (write_leaves g.S.Store c.self.inside.conn c.write.new.conn c.self.invariant put_page_text (pages.encode c.args.row.now) (λ l. record l { pages = put pages.key c.args.row.now l.pages }) (λ honest. put_page_changes (state g.S.Store c.self.inside.conn) (c.self.invariant honest.0 honest.1).now c.args.row.now) (as_left g.S.Store c.self.inside.conn c.write.new.conn put_page_text _ (pages.encode c.args.row.now) (rw (c.params-to_sql.ensures, c.params-to_sql-2.ensures, c.params-to_sql-3.ensures, c.params-to_sql-4.ensures, c.params-to_sql-5.ensures, c.params-to_sql-6.ensures, c.as_str.ensures.text, c.as_str-2.ensures.text, c.as_str-3.ensures.text, c.as_str-4.ensures.text, c.as_str-5.ensures, c.as_slice.ensures) at c.write.ensures.crash) refl))
+pub returns : goal.returns
+returns g c = record { writes = rw (← c.self.view_is) (wrote g.S.Store c.self.inside.conn c.write.new.conn c.self.invariant put_page_text (pages.encode c.args.row.now) (λ l. record l { pages = put pages.key c.args.row.now l.pages }) (λ honest. put_page_changes (state g.S.Store c.self.inside.conn) (c.self.invariant honest.0 honest.1).now c.args.row.now) c.write.result c.write.ensures.goes c.write.ensures.sees (as_made g.S.Store c.self.inside.conn c.write.new.conn put_page_text _ (pages.encode c.args.row.now) c.write.result (rw (c.params-to_sql.ensures, c.params-to_sql-2.ensures, c.params-to_sql-3.ensures, c.params-to_sql-4.ensures, c.params-to_sql-5.ensures, c.params-to_sql-6.ensures, c.as_str.ensures.text, c.as_str-2.ensures.text, c.as_str-3.ensures.text, c.as_str-4.ensures.text, c.as_str-5.ensures, c.as_slice.ensures) at c.write.ensures.made) refl) c.write.ensures.err (as_left g.S.Store c.self.inside.conn c.write.new.conn put_page_text _ (pages.encode c.args.row.now) (rw (c.params-to_sql.ensures, c.params-to_sql-2.ensures, c.params-to_sql-3.ensures, c.params-to_sql-4.ensures, c.params-to_sql-5.ensures, c.params-to_sql-6.ensures, c.as_str.ensures.text, c.as_str-2.ensures.text, c.as_str-3.ensures.text, c.as_str-4.ensures.text, c.as_str-5.ensures, c.as_slice.ensures) at c.write.ensures.crash) refl)) }

@@ -1,19 +1,19 @@
-use Rattle.dh_rows.specs.Calls.{IsHonest, seen}
+use Rattle.std.proofs.Common.{rules, ◌∙◌}
+use Rattle.dh_rows.specs.Calls.{seen}
+use Rattle.dh_tables.specs.InTurn.{goes_within}
 use Rattle.dh_tables.specs.Tables.{lists_of}
-use Rattle.dh_tables.proofs.CallLemmas.{on_ok}
-use Rattle.dh_tables.proofs.PickLemmas.{taken_out, set_seen}
+use Rattle.dh_tables.proofs.PickLemmas.{taken_out, set_after}
 use Rattle.dh_tables.proofs.tables.Tables.set_picks.Goals as goal
+
+pub put_picks-requires-clause-within : goal.put_picks-requires-clause-within
+put_picks-requires-clause-within g c honest = let it = c.in_ok-drop_picks.ensures.writes in it.sees.mode honest ∙ c.requires.within (it.goes.lasts.was honest)
 
 pub put_picks-requires-clause-bare : goal.put_picks-requires-clause-bare
 put_picks-requires-clause-bare g c honest =
-    let dropped = c.in_ok-drop_picks.ensures.ok (c.drop_picks.ensures.was honest) honest.0 in
-    taken_out c.args.host.now (seen g.S.Store lists_of c.drop_picks.new.self) (seen g.S.Store lists_of c.args.self.now) dropped.now_is
+    taken_out c.args.host.now (seen g.S.Store lists_of c.drop_picks.new.self) (seen g.S.Store lists_of c.args.self.now) (c.in_ok-drop_picks.ensures.writes.sees.now_is honest)
 
-pub returns-clause-ok : goal.returns-clause-ok
-returns-clause-ok g c honest clean =
-    let back = c.put_picks.ensures.clean clean in
-    let dropped = c.in_ok-drop_picks.ensures.ok honest back in
-    let between : IsHonest g.S.Store c.drop_picks.new.self = (back, dropped.is_open) in
-    on_ok g.S.Store c.args.self.now c.put_picks.new.self
-    (set_seen g.S.Store c.args.self.now c.drop_picks.new.self c.put_picks.new.self c.args.host.now c.args.names.now (c.requires.within honest) dropped)
-    c.put_picks.result (c.put_picks.ensures.ok between clean)
+pub returns : goal.returns
+returns g c = record { writes = set_after g.S.Store c.args.self.now c.drop_picks.new.self c.put_picks.new.self c.args.host.now c.args.names.now c.put_picks.result c.requires.within c.in_ok-drop_picks.ensures.writes c.put_picks.ensures.writes }
+
+pub returns-in_err-drop_picks : goal.returns-in_err-drop_picks
+returns-in_err-drop_picks g c = record { writes = record { goes = goes_within c.drop_picks.ensures.writes.goes c.requires.within; sees = search rules } }

@@ -1,5 +1,5 @@
 use Rattle.sqlite.specs.Held.{state}
-use Rattle.dh_tables.proofs.CallLemmas.{read_ours, first_value}
+use Rattle.dh_tables.proofs.CallLemmas.{asked, read_ours, first_value}
 use Rattle.std.proofs.Common.{filter, refl}
 use Rattle.std.specs.List.{find}
 use Rattle.dh_tables.specs.Codings.{used}
@@ -17,7 +17,10 @@ pub first_record-requires-clause-listing : goal.first_record-requires-clause-lis
 first_record-requires-clause-listing g c honest = as_listing _ used_text _ (used_answers (state g.S.Store c.self.inside.conn) (c.self.invariant honest.0 honest.1).now c.args.host.now c.args.slug.now c.args.op c.args.retry.now).listing refl
 
 pub invariant_of-self : goal.invariant_of-self
-invariant_of-self g c = read_ours g.S.Store c.self.inside.conn c.first_record.new.conn c.first_record.result c.self.invariant c.first_record.ensures.was c.first_record.ensures.same c.first_record.ensures.err
+invariant_of-self g c = read_ours g.S.Store c.self.inside.conn c.first_record.new.conn c.first_record.result c.self.invariant c.first_record.ensures.goes c.first_record.ensures.same c.first_record.ensures.err
+
+pub returns-clause-asks : goal.returns-clause-asks
+returns-clause-asks g c = rw (← c.self.view_is) (asked g.S.Store c.self.inside.conn c.first_record.new.conn c.first_record.result c.first_record.ensures.goes c.first_record.ensures.same c.first_record.ensures.err)
 
 pub returns-clause-value : goal.returns-clause-value
-returns-clause-value g c = rw (← c.self.view_is) (λ honest clean. first_value used.encode c.first_record.result (filter (is_used c.args.host.now c.args.slug.now c.args.op c.args.retry.now) (lists_of (state g.S.Store c.self.inside.conn).now).used) (find (is_used c.args.host.now c.args.slug.now c.args.op c.args.retry.now) (lists_of (state g.S.Store c.self.inside.conn).now).used) (c.first_record.ensures.value honest clean) (λ rows it. (used_answers (state g.S.Store c.self.inside.conn) (c.self.invariant honest.0 honest.1).now c.args.host.now c.args.slug.now c.args.op c.args.retry.now).reads rows (as_reads _ used_text _ _ _ (rw (c.params-to_sql.ensures, c.params-to_sql-2.ensures, c.params-to_sql-3.ensures, c.params-to_sql-4.ensures, c.as_str.ensures.text, c.as_str-2.ensures.text, c.as_str-3.ensures.text, c.is_upload.ensures) at it) refl)) (first_that (is_used c.args.host.now c.args.slug.now c.args.op c.args.retry.now) (lists_of (state g.S.Store c.self.inside.conn).now).used))
+returns-clause-value g c = rw (← c.self.view_is) (λ now. let honest = c.first_record.ensures.goes.lasts.was now in first_value _ used.encode c.first_record.result (filter (is_used c.args.host.now c.args.slug.now c.args.op c.args.retry.now) (lists_of (state g.S.Store c.self.inside.conn).now).used) (find (is_used c.args.host.now c.args.slug.now c.args.op c.args.retry.now) (lists_of (state g.S.Store c.self.inside.conn).now).used) (c.first_record.ensures.value now.0) (λ rows it. (used_answers (state g.S.Store c.self.inside.conn) (c.self.invariant honest.0 honest.1).now c.args.host.now c.args.slug.now c.args.op c.args.retry.now).reads rows (as_reads _ used_text _ _ _ (rw (c.params-to_sql.ensures, c.params-to_sql-2.ensures, c.params-to_sql-3.ensures, c.params-to_sql-4.ensures, c.as_str.ensures.text, c.as_str-2.ensures.text, c.as_str-3.ensures.text, c.is_upload.ensures) at it) refl)) (first_that (is_used c.args.host.now c.args.slug.now c.args.op c.args.retry.now) (lists_of (state g.S.Store c.self.inside.conn).now).used))

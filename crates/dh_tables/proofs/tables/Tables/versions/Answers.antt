@@ -1,5 +1,5 @@
 use Rattle.sqlite.specs.Held.{state}
-use Rattle.dh_tables.proofs.CallLemmas.{read_ours, all_value}
+use Rattle.dh_tables.proofs.CallLemmas.{asked, read_ours, all_value}
 use Rattle.std.proofs.Common.{filter, refl}
 use Rattle.dh_tables.specs.Codings.{versions}
 use Rattle.dh_tables.specs.Tables.{lists_of}
@@ -18,10 +18,13 @@ pub all_records-requires-clause-listing : goal.all_records-requires-clause-listi
 all_records-requires-clause-listing g c honest = as_listing _ versions_text _ (versions_answers (state g.S.Store c.self.inside.conn) (c.self.invariant honest.0 honest.1).now c.args.host.now).listing refl
 
 pub invariant_of-self : goal.invariant_of-self
-invariant_of-self g c = read_ours g.S.Store c.self.inside.conn c.all_records.new.conn c.all_records.result c.self.invariant c.all_records.ensures.was c.all_records.ensures.same c.all_records.ensures.err
+invariant_of-self g c = read_ours g.S.Store c.self.inside.conn c.all_records.new.conn c.all_records.result c.self.invariant c.all_records.ensures.goes c.all_records.ensures.same c.all_records.ensures.err
+
+pub returns-clause-asks : goal.returns-clause-asks
+returns-clause-asks g c = rw (← c.self.view_is) (asked g.S.Store c.self.inside.conn c.all_records.new.conn c.all_records.result c.all_records.ensures.goes c.all_records.ensures.same c.all_records.ensures.err)
 
 pub returns-clause-value : goal.returns-clause-value
-returns-clause-value g c = rw (← c.self.view_is) (λ honest clean. all_value versions.encode (λ v. v.items) c.all_records.result (filter (is_version_of c.args.host.now) (lists_of (state g.S.Store c.self.inside.conn).now).versions) (c.all_records.ensures.value honest clean) (λ rows it. (versions_answers (state g.S.Store c.self.inside.conn) (c.self.invariant honest.0 honest.1).now c.args.host.now).reads rows (as_reads _ versions_text _ _ _ (rw (c.params-to_sql.ensures, c.as_str.ensures.text) at it) refl)))
+returns-clause-value g c = rw (← c.self.view_is) (λ now. let honest = c.all_records.ensures.goes.lasts.was now in all_value _ versions.encode (λ v. v.items) c.all_records.result (filter (is_version_of c.args.host.now) (lists_of (state g.S.Store c.self.inside.conn).now).versions) (c.all_records.ensures.value now.0) (λ rows it. (versions_answers (state g.S.Store c.self.inside.conn) (c.self.invariant honest.0 honest.1).now c.args.host.now).reads rows (as_reads _ versions_text _ _ _ (rw (c.params-to_sql.ensures, c.as_str.ensures.text) at it) refl)))
 
 pub returns-clause-order : goal.returns-clause-order
-returns-clause-order g c = rw (← c.self.view_is) (λ honest clean. kept_by RiseBySlug (λ v. v.items) c.all_records.result (filter (is_version_of c.args.host.now) (lists_of (state g.S.Store c.self.inside.conn).now).versions) (all_value versions.encode (λ v. v.items) c.all_records.result (filter (is_version_of c.args.host.now) (lists_of (state g.S.Store c.self.inside.conn).now).versions) (c.all_records.ensures.value honest clean) (λ rows it. (versions_answers (state g.S.Store c.self.inside.conn) (c.self.invariant honest.0 honest.1).now c.args.host.now).reads rows (as_reads _ versions_text _ _ _ (rw (c.params-to_sql.ensures, c.as_str.ensures.text) at it) refl))) (host_rises (state g.S.Store c.self.inside.conn).now (c.self.invariant honest.0 honest.1).now c.args.host.now))
+returns-clause-order g c = (λ now. let honest = c.all_records.ensures.goes.lasts.was now in kept_by RiseBySlug (λ v. v.items) c.all_records.result (filter (is_version_of c.args.host.now) (lists_of (state g.S.Store c.self.inside.conn).now).versions) (all_value _ versions.encode (λ v. v.items) c.all_records.result (filter (is_version_of c.args.host.now) (lists_of (state g.S.Store c.self.inside.conn).now).versions) (c.all_records.ensures.value now.0) (λ rows it. (versions_answers (state g.S.Store c.self.inside.conn) (c.self.invariant honest.0 honest.1).now c.args.host.now).reads rows (as_reads _ versions_text _ _ _ (rw (c.params-to_sql.ensures, c.as_str.ensures.text) at it) refl))) (host_rises (state g.S.Store c.self.inside.conn).now (c.self.invariant honest.0 honest.1).now c.args.host.now))
