@@ -1,2 +1,4 @@
 pub mod ReadingLemmas
+pub mod RunLemmas
 pub mod ScriptLemmas
+pub mod WordLemmas

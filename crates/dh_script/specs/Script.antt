@@ -1,5 +1,5 @@
 -- What a line of a script does and prints, and what a script leaves.
-use Rattle.std.specs.Prelude.{◌≡◌, Bool, true, false, codes, Option, Some, None, option_and_then}
+use Rattle.std.specs.Prelude.{◌≡◌, ◌⊎◌, Bool, true, false, codes, Option, Some, None, option_and_then}
 use Rattle.std.specs.Prelude.{Result, Ok, Err, IfOk}
 use Rattle.dh_paths.specs.Places.{split_of}
 use Rattle.dh_paths.specs.Targets.{target_of}
@@ -57,6 +57,14 @@ DoesOrder before order.Answer after text = (after ≡ before) × (text ≡ codes
 abbrev pub Does : World → Option Line → World → Text → Type 0
 Does before None after text = (after ≡ before) × (text ≡ codes "usage")
 Does before (Some line) after text = DoesOrder before line.order after text
+
+-- a line of this order was done, whatever it prints, or nothing was
+abbrev pub MayDoOrder : World → Order → World → Type 0
+MayDoOrder before order after = (after ≡ before) ⊎ ((text : Text) × DoesOrder before order after text)
+
+-- this line was done, whatever it prints, or nothing was
+abbrev pub MayDo : World → Option Line → World → Type 0
+MayDo before line after = (after ≡ before) ⊎ ((text : Text) × Does before line after text)
 
 -- whether the answer is that the script was not read
 abbrev pub is_unread : {A : Type 0} → Result A ScriptFault → Bool

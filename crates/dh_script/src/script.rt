@@ -1,7 +1,7 @@
 //! Scripts: lines of commands and reads, one after another.
 
 ghost use Rattle.std.specs.Prelude.{◌≡◌, true, false, map, string_bytes, option_map, IfOk, IfErr};
-ghost use Rattle.std.specs.Prelude.{IfSome, OnOk};
+ghost use Rattle.std.specs.Prelude.{IfSome, OnOk, OnErr, [], ◌∷◌, ◌++◌};
 ghost use Rattle.dh_paths.specs.Targets.{target_of};
 ghost use Rattle.dh_ports.specs.Ports.{CountsUpTo};
 ghost use Rattle.dh_rows.specs.Calls.{IsHonest};
@@ -12,7 +12,9 @@ ghost use Rattle.dh_lines.specs.Lines.{line_in};
 ghost use Rattle.dh_script.specs.Reading.{reader_failed, writer_failed, TookAtMost, IsCause};
 ghost use Rattle.dh_script.specs.Reading.{IsScript};
 ghost use Rattle.dh_script.specs.Script.{outcome_of, outcome_of_read, Acts, GetsAt, DoesOrder};
-ghost use Rattle.dh_script.specs.Script.{Does};
+ghost use Rattle.dh_lines.specs.declared.lines.Order.{Order};
+ghost use Rattle.dh_script.specs.Script.{Does, MayDo, MayDoOrder};
+ghost use Rattle.dh_script.specs.Running.{Ran, RanBut, seen, words_in, worded, lines_in};
 ghost use Rattle.dh_script.specs.Script.{is_unread};
 
 use crate::reading::{ScriptFault, read_script};
@@ -54,6 +56,8 @@ fn act_text<S: Alter>(
     ensures acts { IsHonest S.Store desk.new.tables
         → IfOk result (λ text. Acts (world S.Store desk.old) command.now
         (world S.Store desk.new) (string_bytes text)) }
+    ensures acted { IsHonest S.Store desk.new.tables
+        → MayDoOrder (world S.Store desk.old) (Order.Act command.now) (world S.Store desk.new) }
     ensures was { IsHonest S.Store desk.new.tables → IsHonest S.Store desk.old.tables }
 {
     let outcome = commanded(desk.apply(alloc, command));
@@ -122,6 +126,8 @@ fn order_text<S: Alter>(
     ensures does { IsHonest S.Store desk.new.tables
         → IfOk result (λ text. DoesOrder (world S.Store desk.old) order.now
         (world S.Store desk.new) (string_bytes text)) }
+    ensures may { IsHonest S.Store desk.new.tables
+        → OnErr result (MayDoOrder (world S.Store desk.old) order.now (world S.Store desk.new)) }
     ensures was { IsHonest S.Store desk.new.tables → IsHonest S.Store desk.old.tables }
 {
     match order {
@@ -144,6 +150,9 @@ fn line_text<'a, S: Alter>(
     ensures does { IsHonest S.Store desk.new.tables
         → IfOk result (λ text. Does (world S.Store desk.old)
         (line_in (map string_bytes words.now)) (world S.Store desk.new) (string_bytes text)) }
+    ensures may { IsHonest S.Store desk.new.tables
+        → OnErr result (MayDo (world S.Store desk.old)
+        (line_in (map string_bytes words.now)) (world S.Store desk.new)) }
     ensures was { IsHonest S.Store desk.new.tables → IsHonest S.Store desk.old.tables }
 {
     match line_by(alloc, program, words) {
@@ -166,6 +175,10 @@ fn run_words<'a, S: Alter, W: Sink>(
     ensures stays { StandsFor docs_app program.new }
     ensures broken { W.broken sink.new ≡ writer_failed result }
     ensures read { is_unread result ≡ false }
+    ensures ran { IsHonest S.Store desk.new.tables
+        → Ran (world S.Store desk.old) (map string_bytes words.now ∷ [])
+        (world S.Store desk.new) (W.held sink.old) (W.held sink.new) result }
+    ensures was { IsHonest S.Store desk.new.tables → IsHonest S.Store desk.old.tables }
 {
     let mut text = match line_text(alloc, desk, program, words) {
         Ok(text) => text,
@@ -190,6 +203,10 @@ fn run_batch<'a, S: Alter, W: Sink>(
     requires { W.broken sink.old ≡ false }
     ensures broken { W.broken sink.new ≡ writer_failed result }
     ensures read { is_unread result ≡ false }
+    ensures ran { IsHonest S.Store desk.new.tables
+        → Ran (world S.Store desk.old) (seen lines.now) (world S.Store desk.new)
+        (W.held sink.old) (W.held sink.new) result }
+    ensures was { IsHonest S.Store desk.new.tables → IsHonest S.Store desk.old.tables }
 {
     let mut program = match docs_command(alloc) {
         Ok(program) => program,
@@ -202,7 +219,9 @@ fn run_batch<'a, S: Alter, W: Sink>(
 }
 
 /// The words of a line, which stand between its spaces and tabs. A comment has none.
-fn words_of(alloc: Global, line: &str) -> Result<Vec<String>, AllocError> {
+fn words_of(alloc: Global, line: &str) -> Result<Vec<String>, AllocError>
+    ensures { IfOk result (λ words. map string_bytes words.items ≡ words_in line.now) }
+{
     let mut words = Vec::new(alloc);
     if line.starts_with('#') {
         return Ok(words);
@@ -216,7 +235,10 @@ fn words_of(alloc: Global, line: &str) -> Result<Vec<String>, AllocError> {
 }
 
 /// Adds the words of a line to a batch, unless it has none.
-fn add_line(alloc: Global, batch: &mut Vec<Vec<String>>, line: &str) -> Result<(), AllocError> {
+fn add_line(alloc: Global, batch: &mut Vec<Vec<String>>, line: &str) -> Result<(), AllocError>
+    ensures { OnOk result
+        (seen batch.new.items ≡ seen batch.old.items ++ worded (line.now ∷ [])) }
+{
     let words = words_of(alloc, line)?;
     if !words.is_empty() {
         batch.push(words)?;
@@ -224,6 +246,35 @@ fn add_line(alloc: Global, batch: &mut Vec<Vec<String>>, line: &str) -> Result<(
     Ok(())
 }
 
+/// Adds a line to a batch, which runs and is empty again once it is full.
+fn take_line<S: Alter, W: Sink>(
+    alloc: Global,
+    desk: &mut Desk<S>,
+    batch: &mut Vec<Vec<String>>,
+    line: &str,
+    sink: &mut W,
+) -> Result<(), ScriptFault>
+    requires { W.broken sink.old ≡ false }
+    ensures broken { W.broken sink.new ≡ writer_failed result }
+    ensures read { is_unread result ≡ false }
+    ensures ran { IsHonest S.Store desk.new.tables
+        → RanBut (world S.Store desk.old) (seen batch.old.items ++ worded (line.now ∷ []))
+        (world S.Store desk.new) (W.held sink.old) (W.held sink.new)
+        (seen batch.new.items) result }
+    ensures was { IsHonest S.Store desk.new.tables → IsHonest S.Store desk.old.tables }
+{
+    if add_line(alloc, batch, line).is_err() {
+        return Err(ScriptFault::Memory);
+    }
+    if batch.len() < BATCH {
+        return Ok(());
+    }
+    run_batch(alloc, desk, batch.as_slice(), sink)?;
+    batch.clear();
+    Ok(())
+}
+
+/// Runs the lines of a text one after another, in batches.
 fn run_lines<S: Alter, W: Sink>(
     alloc: Global,
     desk: &mut Desk<S>,
@@ -233,16 +284,14 @@ fn run_lines<S: Alter, W: Sink>(
     requires { W.broken sink.old ≡ false }
     ensures broken { W.broken sink.new ≡ writer_failed result }
     ensures read { is_unread result ≡ false }
+    ensures ran { IsHonest S.Store desk.new.tables
+        → Ran (world S.Store desk.old) (lines_in text.now) (world S.Store desk.new)
+        (W.held sink.old) (W.held sink.new) result }
+    ensures was { IsHonest S.Store desk.new.tables → IsHonest S.Store desk.old.tables }
 {
     let mut batch = Vec::new(alloc);
     for line in text.lines() {
-        if add_line(alloc, &mut batch, line).is_err() {
-            return Err(ScriptFault::Memory);
-        }
-        if batch.len() == BATCH {
-            run_batch(alloc, desk, batch.as_slice(), sink)?;
-            batch.clear();
-        }
+        take_line(alloc, desk, &mut batch, line, sink)?;
     }
     run_batch(alloc, desk, batch.as_slice(), sink)
 }
@@ -266,6 +315,11 @@ pub fn run_script<S: Alter, R: Source, W: Sink>(
         → (desk.new ≡ desk.old) × (W.held sink.new ≡ W.held sink.old) }
     ensures cause { IfErr result (λ fault. IfSome (R.left source.old) (IsCause fault)) }
     ensures script { OnOk result (IfSome (R.left source.old) IsScript) }
+    ensures ran { IsHonest S.Store desk.new.tables
+        → IfSome (R.left source.old) (λ script.
+        Ran (world S.Store desk.old) (lines_in script) (world S.Store desk.new)
+        (W.held sink.old) (W.held sink.new) result) }
+    ensures was { IsHonest S.Store desk.new.tables → IsHonest S.Store desk.old.tables }
     ensures taken { TookAtMost (R.left source.old) (R.left source.new) 1052672 }
     ensures reads { CountsUpTo (R.fills source.old) (R.fills source.new) 100000 }
 {

@@ -1,0 +1,260 @@
+-- Runs of lines, one after another.
+use Rattle.std.proofs.Common.{◌≡◌, ◌⊎◌, IfSome, Some, None, is_err, is_ok, Bool, true, false, if◌then◌else◌, length-append, ℕ, ◌+◌, ◌<◌, ◌≤◌, List, [], ◌∷◌, ◌++◌, map, length, take, drop, get_or, refl, sym, ap, subst, ◌∙◌, inl, inr, append_assoc, Option, Result, Ok, Err, OnErr, IfOk, string_bytes, arith, filter}
+use Rattle.std.proofs.lemmas.List.{append-nil, take-append-drop, take_more, map-append, take_all, length-map}
+use Rattle.std.proofs.lemmas.List.Elements.{filter-append}
+use Rattle.std.proofs.KnownBytes.{Appends-nil, Appends-trans}
+use Rattle.std.specs.Prelude.{String, Vec}
+use Rattle.std.specs.Io.KnownBytes.{Appends}
+use Rattle.dh_world.specs.World.{Text, World}
+use Rattle.dh_lines.specs.Lines.{line_in}
+use Rattle.dh_ports.specs.Ports.{PutsFirst}
+use Rattle.dh_script.specs.Script.{Does, MayDo}
+use Rattle.dh_script.specs.Running.{Runs, RunsInto, RunsSome, StopsAt, Ran, RunsBut, RanBut, seen, worded, words_in, is_filled, is_gap}
+
+-- two runs, one after the other, are a run
+pub runs_on : (before : World) (xs : List (List Text)) (between : World) (text : Text) (ys : List (List Text)) (after : World) (rest : Text)
+    → Runs before xs between text → Runs between ys after rest → Runs before (xs ++ ys) after (text ++ rest)
+runs_on before [] between text ys after rest first second =
+    let at : Runs before ys after rest = subst (λ (w : World). Runs w ys after rest) first.0 second in
+    subst (Runs before ys after) (ap (λ t. t ++ rest) (sym first.1)) at
+runs_on before (x ∷ xs) between text ys after rest first second =
+    let m = first.0 in
+    let line = first.1 in
+    let more = first.2 in
+    (m, line, more ++ rest, first.3, runs_on m xs between more ys after rest first.4 second, ap (λ t. t ++ rest) first.5 ∙ append_assoc line (10 ∷ more) rest)
+
+-- no line
+pub into_none : (w : World) (held : Option Text) → RunsInto w [] w held held
+into_none w held = record { text = []; ran = (refl, refl); written = Appends-nil held }
+
+-- one line, whose text and LF were written
+pub into_one : (before : World) (words : List Text) (after : World) (line : Text) (held now : Option Text) → Does before (line_in words) after line → Appends held now (line ++ 10 ∷ []) → RunsInto before (words ∷ []) after held now
+into_one before words after line held now does wrote = record { text = line ++ 10 ∷ []; ran = (after, line, [], does, (refl, refl), refl); written = wrote }
+
+pub into_on : (a : World) (xs : List (List Text)) (b : World) (ys : List (List Text)) (c : World) (h i j : Option Text) → RunsInto a xs b h i → RunsInto b ys c i j → RunsInto a (xs ++ ys) c h j
+into_on a xs b ys c h i j first second = record {
+  text = first.text ++ second.text;
+  ran = runs_on a xs b first.text ys c second.text first.ran second.ran;
+  written = Appends-trans h i j first.text second.text first.written second.written;
+}
+
+stops_none : (w : World) (lines : List (List Text)) → StopsAt w lines w []
+stops_none w [] = (refl, refl)
+stops_none w (x ∷ xs) = inl (refl, refl)
+
+longer : (line : Text) → 0 < length (line ++ 10 ∷ [])
+longer line = omega (arith, length-append line (10 ∷ []))
+
+-- nothing was done of these lines
+pub some_none : (w : World) (lines : List (List Text)) (held : Option Text) → RunsSome w lines w held held
+some_none w lines held = record {
+  done = [];
+  more = lines;
+  between = w;
+  text = [];
+  front = [];
+  parts = refl;
+  ran = (refl, refl);
+  stops = stops_none w lines;
+  written = Appends-nil held;
+}
+
+-- of one line nothing was written, done or not
+pub some_lost : (before : World) (words : List Text) (after : World) (held : Option Text) → MayDo before (line_in words) after → RunsSome before (words ∷ []) after held held
+some_lost before words after held (inl same) = record {
+  done = [];
+  more = words ∷ [];
+  between = before;
+  text = [];
+  front = [];
+  parts = refl;
+  ran = (refl, refl);
+  stops = inl (same, refl);
+  written = Appends-nil held;
+}
+some_lost before words after held (inr did) = record {
+  done = [];
+  more = words ∷ [];
+  between = before;
+  text = [];
+  front = [];
+  parts = refl;
+  ran = (refl, refl);
+  stops = inr (did.0, 0, did.1, longer did.0, refl);
+  written = Appends-nil held;
+}
+
+-- a front of what one line prints was written
+pub some_front : (before : World) (words : List Text) (after : World) (line : Text) (n : ℕ) (held now : Option Text) → Does before (line_in words) after line → PutsFirst held now (line ++ 10 ∷ []) n → RunsSome before (words ∷ []) after held now
+some_front before words after line n held now does put = record {
+  done = [];
+  more = words ∷ [];
+  between = before;
+  text = [];
+  front = take n (line ++ 10 ∷ []);
+  parts = refl;
+  ran = (refl, refl);
+  stops = inr (line, n, does, put.0, refl);
+  written = put.1;
+}
+
+-- what ran before it
+pub some_on : (a : World) (xs : List (List Text)) (b : World) (ys : List (List Text)) (c : World) (h i j : Option Text) → RunsInto a xs b h i → RunsSome b ys c i j → RunsSome a (xs ++ ys) c h j
+some_on a xs b ys c h i j first second = record {
+  done = xs ++ second.done;
+  more = second.more;
+  between = second.between;
+  text = first.text ++ second.text;
+  front = second.front;
+  parts = ap (λ zs. xs ++ zs) second.parts ∙ sym (append_assoc xs second.done second.more);
+  ran = runs_on a xs b first.text second.done second.between second.text first.ran second.ran;
+  stops = second.stops;
+  written = subst (Appends h j) (sym (append_assoc first.text second.text second.front)) (Appends-trans h i j first.text (second.text ++ second.front) first.written second.written);
+}
+
+stops_more : (before : World) (lines more : List (List Text)) (after : World) (text : Text) → StopsAt before lines after text → StopsAt before (lines ++ more) after text
+stops_more before [] [] after text stops = stops
+stops_more before [] (y ∷ ys) after text stops = inl stops
+stops_more before (x ∷ xs) more after text stops = stops
+
+-- and what was still to come
+pub some_more : (a : World) (xs ys : List (List Text)) (b : World) (h i : Option Text) → RunsSome a xs b h i → RunsSome a (xs ++ ys) b h i
+some_more a xs ys b h i some = record {
+  done = some.done;
+  more = some.more ++ ys;
+  between = some.between;
+  text = some.text;
+  front = some.front;
+  parts = ap (λ zs. zs ++ ys) some.parts ∙ append_assoc some.done some.more ys;
+  ran = some.ran;
+  stops = stops_more some.between some.more ys b some.front some.stops;
+  written = some.written;
+}
+
+pub ran_on : {T E : Type 0} (a : World) (xs : List (List Text)) (b : World) (ys : List (List Text)) (c : World) (h i j : Option Text) (r : Result T E) → RunsInto a xs b h i → Ran b ys c i j r → Ran a (xs ++ ys) c h j r
+ran_on a xs b ys c h i j (Ok value) first second = into_on a xs b ys c h i j first second
+ran_on a xs b ys c h i j (Err fault) first second = some_on a xs b ys c h i j first second
+
+-- a fault that is handed on
+pub ran_err : {T E : Type 0} (a : World) (xs : List (List Text)) (b : World) (h i : Option Text) (r : Result T E) → is_err r ≡ true → RunsSome a xs b h i → Ran a xs b h i r
+ran_err a xs b h i (Ok value) is some = let no : ⊥ = cc in absurd no
+ran_err a xs b h i (Err fault) is some = some
+
+pub on_err : {T E P : Type 0} (r : Result T E) → P → OnErr r P
+on_err (Ok value) p = tt
+on_err (Err fault) p = p
+
+pub if_some : {A : Type 0} (o : Option A) (P : A → Type 0) → ((x : A) → P x) → IfSome o P
+if_some None P all = tt
+if_some (Some x) P all = all x
+
+-- the bytes that are shown, once one more was pushed
+pub pushed : {T E : Type 0} (r : Result T E) (b : Bool) (old new shown last : Text) → b ≡ is_err r → b ≡ false → new ≡ (if is_ok r then old ++ last else old) → last ≡ 10 ∷ [] → shown ≡ new → shown ≡ old ++ 10 ∷ []
+pushed (Ok value) b old new shown last is not grown byte same = same ∙ grown ∙ ap (λ t. old ++ t) byte
+pushed (Err fault) b old new shown last is not grown byte same = cc
+
+-- one line more of a list
+pub seen_more : {Y Z : Type 0} (lines : List (Vec (String Y) Z)) (i : ℕ) (words : Vec (String Y) Z) → i < length lines → seen (take (i + 1) lines) ≡ seen (take i lines) ++ map string_bytes (get_or lines i words).items ∷ []
+seen_more lines i words below =
+    ap seen (take_more lines i words below) ∙ map-append (λ (w : Vec _ _). map string_bytes w.items) (take i lines) (get_or lines i words ∷ [])
+
+pub seen_parts : {Y Z : Type 0} (lines : List (Vec (String Y) Z)) (i : ℕ) → seen (take i lines) ++ seen (drop i lines) ≡ seen lines
+seen_parts lines i =
+    sym (map-append (λ (w : Vec _ _). map string_bytes w.items) (take i lines) (drop i lines)) ∙ ap seen (take-append-drop i lines)
+
+-- a batch's lines up to one, which ran
+pub batch_on : {Y Z : Type 0} (lines : List (Vec (String Y) Z)) (n : ℕ) (words : Vec (String Y) Z) (shown : List (String Y)) (a b c : World) (h i j : Option Text) → RunsInto a (seen (take n lines)) b h i → RunsInto b (map string_bytes shown ∷ []) c i j → shown ≡ words.items → words ≡ get_or lines n words → n < length lines → RunsInto a (seen (take (n + 1) lines)) c h j
+batch_on lines n words shown a b c h i j first second same here below =
+    let one : map string_bytes shown ≡ map string_bytes (get_or lines n words).items = ap (map string_bytes) same ∙ ap (λ (w : Vec _ _). map string_bytes w.items) here in
+    let both : RunsInto a (seen (take n lines) ++ map string_bytes (get_or lines n words).items ∷ []) c h j =
+    subst (λ ws. RunsInto a (seen (take n lines) ++ ws ∷ []) c h j) one (into_on a (seen (take n lines)) b (map string_bytes shown ∷ []) c h i j first second) in
+    subst (λ (zs : List (List Text)). RunsInto a zs c h j) (sym (seen_more lines n words below)) both
+
+-- up to one, at which the run ended
+pub batch_some : {Y Z : Type 0} (lines : List (Vec (String Y) Z)) (n : ℕ) (words : Vec (String Y) Z) (shown : List (String Y)) (a b c : World) (h i j : Option Text) → RunsInto a (seen (take n lines)) b h i → RunsSome b (map string_bytes shown ∷ []) c i j → shown ≡ words.items → words ≡ get_or lines n words → n < length lines → RunsSome a (seen lines) c h j
+batch_some lines n words shown a b c h i j first second same here below =
+    let one : map string_bytes shown ≡ map string_bytes (get_or lines n words).items = ap (map string_bytes) same ∙ ap (λ (w : Vec _ _). map string_bytes w.items) here in
+    let both : RunsSome a (seen (take n lines) ++ map string_bytes (get_or lines n words).items ∷ []) c h j =
+    subst (λ ws. RunsSome a (seen (take n lines) ++ ws ∷ []) c h j) one (some_on a (seen (take n lines)) b (map string_bytes shown ∷ []) c h i j first second) in
+    let at : RunsSome a (seen (take (n + 1) lines)) c h j = subst (λ (zs : List (List Text)). RunsSome a zs c h j) (sym (seen_more lines n words below)) both in
+    subst (λ (zs : List (List Text)). RunsSome a zs c h j) (seen_parts lines (n + 1)) (some_more a (seen (take (n + 1) lines)) (seen (drop (n + 1) lines)) c h j at)
+
+-- all of them
+pub batch_ends : {Y Z : Type 0} (lines : List (Vec (String Y) Z)) (n : ℕ) (a b : World) (h i : Option Text) → RunsInto a (seen (take n lines)) b h i → length lines ≤ n → RunsInto a (seen lines) b h i
+batch_ends lines n a b h i first over = subst (λ (xs : List (Vec _ _)). RunsInto a (seen xs) b h i) (take_all n lines over) first
+
+-- the lines with words of two parts
+pub worded_on : (xs ys : List Text) → worded (xs ++ ys) ≡ worded xs ++ worded ys
+unfolding worded
+worded_on xs ys = ap (filter is_filled) (map-append words_in xs ys) ∙ filter-append is_filled (map words_in xs) (map words_in ys)
+
+worded_none : worded [] ≡ []
+unfolding worded
+worded_none = refl
+
+one_filled : {A : Type 0} (xs : List A) → 0 < length xs → filter is_filled (xs ∷ []) ≡ xs ∷ []
+one_filled [] some = absurd (omega arith)
+one_filled (x ∷ xs) some = refl
+
+one_empty : {A : Type 0} (xs : List A) → length xs ≡ 0 → filter is_filled (xs ∷ []) ≡ []
+one_empty [] none = refl
+one_empty (x ∷ xs) none = absurd (omega arith)
+
+-- a line with words
+pub worded_one : (line : Text) (words : List Text) → words ≡ words_in line → 0 < length words → worded (line ∷ []) ≡ words ∷ []
+unfolding worded
+worded_one line words same some = ap (λ (ws : List Text). filter is_filled (ws ∷ [])) (sym same) ∙ one_filled words some
+
+-- a line without
+pub worded_empty : (line : Text) (words : List Text) → words ≡ words_in line → length words ≡ 0 → worded (line ∷ []) ≡ []
+unfolding worded
+worded_empty line words same none = ap (λ (ws : List Text). filter is_filled (ws ∷ [])) (sym same) ∙ one_empty words none
+
+-- a batch with one line more
+pub added : {Y Z : Type 0} (old new : List (Vec (String Y) Z)) (words : Vec (String Y) Z) (line : Text) → new ≡ old ++ words ∷ [] → map string_bytes words.items ≡ words_in line → 0 < length words.items → seen new ≡ seen old ++ worded (line ∷ [])
+added old new words line grown same some =
+    ap seen grown ∙ map-append (λ (w : Vec _ _). map string_bytes w.items) old (words ∷ [])
+    ∙ ap (λ zs. seen old ++ zs) (sym (worded_one line (map string_bytes words.items) same (omega (arith, length-map words.items string_bytes))))
+
+-- a batch that stays
+pub stayed : {Y Z : Type 0} (old : List (Vec (String Y) Z)) (words : Vec (String Y) Z) (line : Text) → map string_bytes words.items ≡ words_in line → length words.items ≡ 0 → seen old ≡ seen old ++ worded (line ∷ [])
+stayed old words line same none =
+    sym (append-nil (seen old))
+    ∙ ap (λ zs. seen old ++ zs) (sym (worded_empty line (map string_bytes words.items) same (omega (arith, length-map words.items string_bytes))))
+
+-- nothing ran, and nothing waits
+pub but_none : {Y Z : Type 0} (w : World) (held : Option Text) (batch : List (Vec (String Y) Z)) → batch ≡ [] → RunsBut w (worded []) w held held (seen batch)
+but_none w held batch none = record { done = []; parts = worded_none ∙ ap seen (sym none); into = into_none w held }
+
+-- one line more
+pub but_on : {A : Type 0} (v : A → Text) (a : World) (ys : List A) (b : World) (x : A) (c : World) (h i j : Option Text) (batch more : List (List Text)) → RunsBut a (worded (map v ys)) b h i batch → RunsBut b (batch ++ worded (v x ∷ [])) c i j more → RunsBut a (worded (map v (ys ++ x ∷ []))) c h j more
+but_on v a ys b x c h i j batch more first second = record {
+  done = first.done ++ second.done;
+  parts =
+      ap worded (map-append v ys (x ∷ [])) ∙ worded_on (map v ys) (v x ∷ [])
+      ∙ ap (λ zs. zs ++ worded (v x ∷ [])) first.parts ∙ append_assoc first.done batch (worded (v x ∷ []))
+      ∙ ap (λ zs. first.done ++ zs) second.parts ∙ sym (append_assoc first.done second.done more);
+  into = into_on a first.done b second.done c h i j first.into second.into;
+}
+
+-- the run ends within one line more, of all
+pub but_some : (a : World) (texts : List Text) (b : World) (line : Text) (c : World) (h i j : Option Text) (batch : List (List Text)) (all : List Text) (n : ℕ) → RunsBut a (worded texts) b h i batch → RunsSome b (batch ++ worded (line ∷ [])) c i j → texts ≡ take n all → n < length all → line ≡ get_or all n line → RunsSome a (worded all) c h j
+but_some a texts b line c h i j batch all n first second front below here =
+    let ended : RunsSome a (first.done ++ (batch ++ worded (line ∷ []))) c h j = some_on a first.done b (batch ++ worded (line ∷ [])) c h i j first.into second in
+    let more : RunsSome a ((first.done ++ (batch ++ worded (line ∷ []))) ++ worded (drop (n + 1) all)) c h j = some_more a (first.done ++ (batch ++ worded (line ∷ []))) (worded (drop (n + 1) all)) c h j ended in
+    let so_far : first.done ++ (batch ++ worded (line ∷ [])) ≡ worded (take (n + 1) all) =
+    sym (append_assoc first.done batch (worded (line ∷ [])))
+    ∙ ap (λ zs. zs ++ worded (line ∷ [])) (sym first.parts)
+    ∙ sym (worded_on texts (line ∷ []))
+    ∙ ap (λ ts. worded (ts ++ line ∷ [])) front
+    ∙ ap (λ t. worded (take n all ++ t ∷ [])) here
+    ∙ ap worded (sym (take_more all n line below)) in
+    let whole : (first.done ++ (batch ++ worded (line ∷ []))) ++ worded (drop (n + 1) all) ≡ worded all =
+    ap (λ zs. zs ++ worded (drop (n + 1) all)) so_far ∙ sym (worded_on (take (n + 1) all) (drop (n + 1) all)) ∙ ap worded (take-append-drop (n + 1) all) in
+    subst (λ (zs : List (List Text)). RunsSome a zs c h j) whole more
+
+-- what waits runs last
+pub but_ends : {T E : Type 0} (a : World) (texts : List Text) (b c : World) (h i j : Option Text) (batch : List (List Text)) (all : List Text) (r : Result T E) → RunsBut a (worded texts) b h i batch → Ran b batch c i j r → texts ≡ all → Ran a (worded all) c h j r
+but_ends a texts b c h i j batch all r first second same =
+    let ended : Ran a (first.done ++ batch) c h j r = ran_on a first.done b batch c h i j r first.into second in
+    subst (λ (zs : List (List Text)). Ran a zs c h j r) (sym first.parts ∙ ap worded same) ended

@@ -1,0 +1,88 @@
+-- How a script is cut into lines and words, and what its lines do one after another.
+use Rattle.std.specs.Prelude.{◌≡◌, ◌⊎◌, ℕ, ◌<◌, ◌==◌, Bool, true, false, ◌||◌, if◌then◌else◌}
+use Rattle.std.specs.Prelude.{List, [], ◌∷◌, ◌++◌, map, length, take, slice_index, string_bytes}
+use Rattle.std.specs.Prelude.{Option, Result, Ok, Err, String, Vec}
+use Rattle.std.specs.List.{filter, slice_split}
+use Rattle.std.specs.Str.Lines.{lines}
+use Rattle.std.specs.Io.KnownBytes.{Appends}
+use Rattle.dh_world.specs.World.{Text, World}
+use Rattle.dh_lines.specs.Lines.{line_in}
+use Rattle.dh_script.specs.Script.{Does}
+
+-- whether a byte is a space or a tab
+abbrev pub is_gap : ℕ → Bool
+is_gap b = 32 == b || 9 == b
+
+abbrev pub is_filled : {A : Type 0} → List A → Bool
+is_filled [] = false
+is_filled (x ∷ xs) = true
+
+-- the words of a line: what stands between its spaces and tabs and is not empty; a comment has none
+unfoldable pub words_in : Text → List Text
+words_in line = if slice_index line 0 == 35 then [] else filter is_filled (slice_split is_gap line)
+
+-- of these lines those that have words, each by its words
+unfoldable pub worded : List Text → List (List Text)
+worded texts = filter is_filled (map words_in texts)
+
+-- the lines of a script that have words, each by its words
+abbrev pub lines_in : Text → List (List Text)
+lines_in script = worded (lines script)
+
+-- lines by the bytes of their words
+abbrev pub seen : {Y Z : Type 0} → List (Vec (String Y) Z) → List (List Text)
+seen lines = map (λ words. map string_bytes words.items) lines
+
+-- these lines run one after another: what each does to the world, and what all print, each its
+-- text and LF
+abbrev pub Runs : World → List (List Text) → World → Text → Type 0
+Runs before [] after text = (after ≡ before) × (text ≡ [])
+Runs before (words ∷ more) after text =
+    (between : World) × (line : Text) × (rest : Text)
+    × Does before (line_in words) between line
+    × Runs between more after rest
+    × (text ≡ line ++ 10 ∷ rest)
+
+-- these lines ran, and what they print was written
+pub record RunsInto (before : World) (lines : List (List Text)) (after : World) (held now : Option Text) : Type 0 where
+  pub text : Text
+  pub ran : Runs before lines after text
+  pub written : Appends held now text
+
+-- where a run ended early: of these lines nothing was done and written, or the first one was done,
+-- and a front of what it prints was written, but not all
+abbrev pub StopsAt : World → List (List Text) → World → Text → Type 0
+StopsAt before [] after text = (after ≡ before) × (text ≡ [])
+StopsAt before (words ∷ more) after text =
+    ((after ≡ before) × (text ≡ []))
+    ⊎ ((line : Text) × (n : ℕ)
+    × Does before (line_in words) after line
+    × (n < length (line ++ 10 ∷ []))
+    × (text ≡ take n (line ++ 10 ∷ [])))
+
+-- some of these lines ran, from the first on, and what they print was written; there the run ended
+pub record RunsSome (before : World) (lines : List (List Text)) (after : World) (held now : Option Text) : Type 0 where
+  pub done : List (List Text)
+  pub more : List (List Text)
+  pub between : World
+  pub text : Text
+  pub front : Text
+  pub parts : lines ≡ done ++ more
+  pub ran : Runs before done between text
+  pub stops : StopsAt between more after front
+  pub written : Appends held now (text ++ front)
+
+-- all of these lines ran where the answer is Ok, and else some
+abbrev pub Ran : {T E : Type 0} → World → List (List Text) → World → Option Text → Option Text → Result T E → Type 0
+Ran before lines after held now (Ok value) = RunsInto before lines after held now
+Ran before lines after held now (Err fault) = RunsSome before lines after held now
+
+-- these lines ran but for those that wait; and where the answer is a fault, some of them
+pub record RunsBut (before : World) (lines : List (List Text)) (after : World) (held now : Option Text) (waiting : List (List Text)) : Type 0 where
+  pub done : List (List Text)
+  pub parts : lines ≡ done ++ waiting
+  pub into : RunsInto before done after held now
+
+abbrev pub RanBut : {T E : Type 0} → World → List (List Text) → World → Option Text → Option Text → List (List Text) → Result T E → Type 0
+RanBut before lines after held now waiting (Ok value) = RunsBut before lines after held now waiting
+RanBut before lines after held now waiting (Err fault) = RunsSome before lines after held now
