@@ -4,7 +4,7 @@ use Rattle.sqlite_trees.specs.declared.store.Store.{Ghosts}
 use Rattle.sqlite.specs.State.{HasCleanDisk}
 use Rattle.sqlite.specs.Held.{Held, state}
 use Rattle.dh_reply.specs.declared.fault.Fault.{Fault}
-use Rattle.dh_rows.specs.Calls.{IsHonest, IsSame, Sees, Shows, Becomes, Leaves, whole, seen, committed}
+use Rattle.dh_rows.specs.Calls.{IsHonest, IsSame, Sees, Becomes, Leaves, seen, committed}
 use Rattle.dh_tables.specs.Calling.{Asks, Writes, WritesWithin, Learns}
 use Rattle.dh_tables.specs.Lists.{Lists}
 use Rattle.dh_tables.specs.Making.{CommitsNothing}

@@ -54,6 +54,11 @@ module _ {S : Type 0} (g : Ghosts S) where
       pub goes : Goes g old new
       pub sees : OnOk result (Sees g lists_of old new (change (seen g lists_of old)))
 
+    -- The store failed in the call, or was shut before it, or P holds.
+    abbrev pub Blames : Type 0 → Type 0
+    Blames P = HasCleanDisk (state g new) → OnStore result (IsBlamed g old new ⊎ P)
+
+  module _ {T E : Type 0} (old new : Held S) (result : Result T E) where
     -- Where the store is honest, an answer and the records before stand so to each other.
     abbrev pub Learns : (Lists → T → Type 0) → Type 0
     Learns fact = IsHonest g new → IfOk result (fact (seen g lists_of old))
@@ -62,11 +67,7 @@ module _ {S : Type 0} (g : Ghosts S) where
     abbrev pub Reads : (Lists → T) → Type 0
     Reads value = Learns (λ l read. read ≡ value l)
 
-    -- The store failed in the call, or was shut before it, or P holds.
-    abbrev pub Blames : Type 0 → Type 0
-    Blames P = HasCleanDisk (state g new) → OnStore result (IsBlamed g old new ⊎ P)
-
   -- the same of a list
   abbrev pub ReadsAll
-      : {U Z : Type 0} → Held S → Held S → Result (Vec U Z) Fault → (Lists → List U) → Type 0
+      : {U Z E : Type 0} → Held S → Held S → Result (Vec U Z) E → (Lists → List U) → Type 0
   ReadsAll old new result value = Learns old new result (λ l read. read.items ≡ value l)

@@ -1,9 +1,9 @@
 -- How calls on the tables go, one after the other.
-use Rattle.std.specs.Prelude.{◌≡◌, ◌⊎◌, false, Result, Ok, Err, IfOk, OnOk}
+use Rattle.std.specs.Prelude.{◌≡◌, ◌⊎◌, false, Result, Ok, Err, OnOk}
 use Rattle.sqlite_trees.specs.declared.store.Store.{Ghosts}
 use Rattle.sqlite.specs.Held.{Held, state}
 use Rattle.sqlite.specs.State.{HasCleanDisk}
-use Rattle.dh_rows.specs.Calls.{IsHonest, LeavesNoMore, KeepsCommitted, seen, committed}
+use Rattle.dh_rows.specs.Calls.{IsHonest, seen, committed}
 use Rattle.dh_tables.specs.Lists.{Lists}
 use Rattle.dh_tables.specs.Tables.{lists_of}
 use Rattle.dh_world.specs.Checks.{IsSetAside}
@@ -19,17 +19,6 @@ module _ {S : Type 0} (g : Ghosts S) where
   last_records h = committed g lists_of h
 
   module _ (old new : Held S) where
-    -- Calls that commit nothing, whatever they answered.
-    pub record Goes : Type 0 where
-      -- what the disk returned before them was right, if what it returned after them was
-      pub clean : HasCleanDisk (state g new) → HasCleanDisk (state g old)
-      -- a store that is honest was honest
-      pub was : IsHonest g new → IsHonest g old
-      -- what is committed stays
-      pub kept : KeepsCommitted g old new
-      -- a crash leaves nothing more
-      pub quiet : IsHonest g old → LeavesNoMore g old new
-
     -- Calls that were answered.
     pub record Sees (next : Lists) : Type 0 where
       -- the store is as honest as it was
@@ -46,10 +35,6 @@ module _ {S : Type 0} (g : Ghosts S) where
     -- looks that were answered
     abbrev pub Looks : {T E : Type 0} → Result T E → Type 0
     Looks r = OnOk r (Sees (records old))
-
-    -- Where the store is honest, an answer and the records before stand so to each other.
-    abbrev pub Finds : {T E : Type 0} → Result T E → (Lists → T → Type 0) → Type 0
-    Finds r fact = IsHonest g new → IfOk r (fact (records old))
 
   -- A command that was answered, or refused for what it asks, has left no transaction open.
   abbrev pub IsOver : Held S → Result Answer Refusal → Type 0

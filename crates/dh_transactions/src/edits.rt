@@ -1,8 +1,8 @@
 //! Making the edits of a plan, within a transaction.
 ghost use Rattle.std.specs.Prelude.{◌≡◌, true, IfOk, IfErr, OnOk};
-ghost use Rattle.dh_rows.specs.Calls.{IsHonest};
+ghost use Rattle.dh_rows.specs.Calls.{IsHonest, Goes};
 ghost use Rattle.dh_world.specs.Checks.{IsSetAside};
-ghost use Rattle.dh_transactions.specs.Going.{Goes, Sees, records};
+ghost use Rattle.dh_transactions.specs.Going.{Sees, records};
 ghost use Rattle.dh_transactions.specs.RowEdits.{RowsMay, RowsMayAll, rows_edited, all_rows_edited, with_version, without_version, without_pages, without_grants_on, with_defaults};
 
 use dh_commands::{CheckedPage, Edit, FirstAnswer};

@@ -3,8 +3,10 @@ ghost use Rattle.std.specs.Prelude.{◌≡◌, false, [], map, option_map, if◌
 ghost use Rattle.std.specs.Option.{option_and_then, option_map_or};
 ghost use Rattle.std.specs.FinMap.{get, contains_key, len};
 ghost use Rattle.dh_world.specs.Checks.{IsSetAside};
+ghost use Rattle.dh_rows.specs.Calls.{Goes};
 ghost use Rattle.dh_transactions.specs.Finding.{OfProject, IsVersion, FindsSettings, FindsFacts, asked_key};
-ghost use Rattle.dh_transactions.specs.Going.{Goes, Looks, Finds};
+ghost use Rattle.dh_tables.specs.Calling.{Learns};
+ghost use Rattle.dh_transactions.specs.Going.{Looks};
 ghost use Rattle.dh_transactions.specs.Sound.{AreSound};
 
 use dh_commands::{CheckedChange, Facts, ProjectSettings, RetryKey, questions_of};
@@ -22,7 +24,7 @@ fn settings_of<S: Alter>(
 ) -> Result<Option<ProjectSettings>, Refusal>
     ensures goes { Goes S.Store tables.old tables.new }
     ensures looks { Looks S.Store tables.old tables.new result }
-    ensures value { Finds S.Store tables.old tables.new result (FindsSettings host.now) }
+    ensures value { Learns S.Store tables.old tables.new result (FindsSettings host.now) }
     ensures err { IfErr result IsSetAside }
 {
     let Some(row) = tables.project(alloc, host)? else {
@@ -49,7 +51,7 @@ fn version_for<S: Alter>(
 ) -> Result<Option<Version>, Refusal>
     ensures goes { Goes S.Store tables.old tables.new }
     ensures looks { Looks S.Store tables.old tables.new result }
-    ensures value { Finds S.Store tables.old tables.new result (λ l version. AreSound l
+    ensures value { Learns S.Store tables.old tables.new result (λ l version. AreSound l
         → OfProject host.now (IsVersion (option_map (λ s. s.now) slug.entry) version) l) }
     ensures err { IfErr result IsSetAside }
 {
@@ -70,7 +72,7 @@ fn first_answer_for<S: Alter>(
 ) -> Result<Option<Answer>, Refusal>
     ensures goes { Goes S.Store tables.old tables.new }
     ensures looks { Looks S.Store tables.old tables.new result }
-    ensures value { Finds S.Store tables.old tables.new result (λ l answer. OfProject host.now
+    ensures value { Learns S.Store tables.old tables.new result (λ l answer. OfProject host.now
         (λ p. option_and_then (get p.used) (asked_key retry_key.entry) ≡ answer) l) }
     ensures err { IfErr result IsSetAside }
 {
@@ -95,7 +97,7 @@ fn languages_for<S: Alter>(
 ) -> Result<Vec<Lang>, Refusal>
     ensures goes { Goes S.Store tables.old tables.new }
     ensures looks { Looks S.Store tables.old tables.new result }
-    ensures value { Finds S.Store tables.old tables.new result (λ l languages.
+    ensures value { Learns S.Store tables.old tables.new result (λ l languages.
         OfProject host.now (λ p. (if ask then p.languages else []) ≡ languages.items) l) }
     ensures err { IfErr result IsSetAside }
 {
@@ -121,7 +123,7 @@ fn defaults_for<S: Alter>(
 ) -> Result<Vec<Slug>, Refusal>
     ensures goes { Goes S.Store tables.old tables.new }
     ensures looks { Looks S.Store tables.old tables.new result }
-    ensures value { Finds S.Store tables.old tables.new result (λ l names.
+    ensures value { Learns S.Store tables.old tables.new result (λ l names.
         OfProject host.now (λ p. (if ask then p.defaults else []) ≡ names.items) l) }
     ensures err { IfErr result IsSetAside }
 {
@@ -141,7 +143,7 @@ fn has_pass<S: Alter>(
 ) -> Result<bool, Refusal>
     ensures goes { Goes S.Store tables.old tables.new }
     ensures looks { Looks S.Store tables.old tables.new result }
-    ensures value { Finds S.Store tables.old tables.new result (λ l has. OfProject host.now
+    ensures value { Learns S.Store tables.old tables.new result (λ l has. OfProject host.now
         (λ p. option_map_or (contains_key p.passes) (option_map (λ t. t.now) pass.entry) false ≡ has)
         l) }
     ensures err { IfErr result IsSetAside }
@@ -160,7 +162,7 @@ fn pass_count<S: Alter>(
 ) -> Result<usize, Refusal>
     ensures goes { Goes S.Store tables.old tables.new }
     ensures looks { Looks S.Store tables.old tables.new result }
-    ensures value { Finds S.Store tables.old tables.new result (λ l count. AreSound l
+    ensures value { Learns S.Store tables.old tables.new result (λ l count. AreSound l
         → OfProject host.now (λ p. (if ask then len p.passes else 0) ≡ count) l) }
     ensures err { IfErr result IsSetAside }
 {
@@ -180,7 +182,7 @@ pub fn look<S: Alter>(
 ) -> Result<Option<Facts>, Refusal>
     ensures goes { Goes S.Store tables.old tables.new }
     ensures looks { Looks S.Store tables.old tables.new result }
-    ensures value { Finds S.Store tables.old tables.new result
+    ensures value { Learns S.Store tables.old tables.new result
         (λ l facts. AreSound l → FindsFacts host.now change.now l facts) }
     ensures err { IfErr result IsSetAside }
 {

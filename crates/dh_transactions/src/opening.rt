@@ -2,12 +2,12 @@
 ghost use Rattle.std.specs.Prelude.{◌≡◌, true, None, IfOk, IfErr, OnOk};
 ghost use Rattle.std.specs.FinMap.{get};
 ghost use Rattle.dh_commands.specs.Commands.{command_of};
-ghost use Rattle.dh_rows.specs.Calls.{IsHonest};
+ghost use Rattle.dh_rows.specs.Calls.{IsHonest, Goes};
 ghost use Rattle.dh_rows.specs.Keyed.{IsFreeKey};
 ghost use Rattle.dh_tables.specs.Codings as coding;
 ghost use Rattle.dh_tables.specs.Lists.{world_of};
 ghost use Rattle.dh_world.specs.Checks.{IsSetAside};
-ghost use Rattle.dh_transactions.specs.Going.{Goes, Sees, Stays, records};
+ghost use Rattle.dh_transactions.specs.Going.{Sees, Stays, records};
 ghost use Rattle.dh_transactions.specs.Opening.{project_row, main_lang, with_row, with_lang, with_project};
 ghost use Rattle.dh_transactions.specs.Sound.{AreSound, Turns};
 

@@ -3,10 +3,10 @@ ghost use Rattle.std.specs.Prelude.{◌≡◌, ◌⊎◌, true, false, Ok, Err, 
 ghost use Rattle.sqlite.specs.Held.{state};
 ghost use Rattle.sqlite.specs.State.{HasCleanDisk};
 ghost use Rattle.dh_commands.specs.Commands.{command_of};
-ghost use Rattle.dh_rows.specs.Calls.{IsHonest, LeavesNoMore};
+ghost use Rattle.dh_rows.specs.Calls.{IsHonest, LeavesNoMore, Goes};
 ghost use Rattle.dh_world.specs.Checks.{IsSetAside};
 ghost use Rattle.dh_transactions.specs.Crashes.{LeavesEnd, LeavesStep};
-ghost use Rattle.dh_transactions.specs.Going.{Goes, Stays, IsOver, records, last_records};
+ghost use Rattle.dh_transactions.specs.Going.{Stays, IsOver, records, last_records};
 ghost use Rattle.dh_transactions.specs.Sound.{AreSound, Turns, Steps};
 
 use crate::edits::make_edits;

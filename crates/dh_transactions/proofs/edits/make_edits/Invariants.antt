@@ -1,8 +1,8 @@
 use Rattle.std.proofs.Common.{◌≡◌}
 use Rattle.std.specs.Vec.Iter.{into_iter_items}
-use Rattle.dh_rows.specs.Calls.{IsHonest}
+use Rattle.dh_rows.specs.Calls.{IsHonest, Goes}
 use Rattle.dh_transactions.proofs.edits.make_edits.Given as goal
-use Rattle.dh_transactions.specs.Going.{Goes, Sees, records}
+use Rattle.dh_transactions.specs.Going.{Sees, records}
 use Rattle.dh_transactions.specs.RowEdits.{RowsMayAll, all_rows_edited}
 
 abbrev pub invariant-loop-edit : goal.invariant-loop-edit

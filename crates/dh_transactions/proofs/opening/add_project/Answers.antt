@@ -18,7 +18,7 @@ add_row-requires-clause-free g c honest =
 
 pub add_main-requires-clause-free : goal.add_main-requires-clause-free
 add_main-requires-clause-free g c honest =
-    let h0 = c.add_row.ensures.goes.was honest in
+    let h0 = c.add_row.ensures.goes.lasts.was honest in
     let lists : Lists = records g.S.Store c.args.tables.now in
     let P : LangRow → Lists → Type 0 = λ r l. IsFreeKey coding.langs.key r l.langs in
     subst (λ r. P r (records g.S.Store c.add_row.new.tables)) (sym c.in_ok-row.ensures.1)

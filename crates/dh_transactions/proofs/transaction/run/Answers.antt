@@ -22,11 +22,11 @@ returns-clause-crash g c =
     (subst (λ l. P l (command_of c.in_ok-host.field-0.host c.in_ok-host.field-0.change)) before (c.work-worked.ensures.turns h2)) in
     ended_leaves g.S.Store old begun worked c.end.new.tables c.args.command.now result c.in_ok-host.ensures.0
     (λ clean. (c.in_ok-begin.ensures.begun clean).was_honest) c.begin.ensures.goes.kept c.begin.ensures.quiet (λ _. c.in_ok-begin.ensures.begun)
-    c.work-worked.ensures.goes.clean c.work-worked.ensures.goes.kept c.work-worked.ensures.goes.quiet
+    c.work-worked.ensures.goes.lasts.clean c.work-worked.ensures.goes.kept c.work-worked.ensures.goes.quiet
     (given_ok _ _ _ result c.work-worked.ensures.live) turned c.end.ensures.clean c.end.ensures.crash
 
 pub returns-clause-refused : goal.returns-clause-refused
 returns-clause-refused g c =
     refused_after g.S.Store c.args.tables.now c.work-worked.new.tables c.end.new.tables c.end.result
-    (worked_no_more g.S.Store c.args.tables.now c.begin.new.self c.work-worked.new.tables (λ clean. (c.in_ok-begin.ensures.begun clean).was_honest) c.begin.ensures.quiet (λ _. c.in_ok-begin.ensures.begun) c.work-worked.ensures.goes.clean c.work-worked.ensures.goes.quiet)
+    (worked_no_more g.S.Store c.args.tables.now c.begin.new.self c.work-worked.new.tables (λ clean. (c.in_ok-begin.ensures.begun clean).was_honest) c.begin.ensures.quiet (λ _. c.in_ok-begin.ensures.begun) c.work-worked.ensures.goes.lasts.clean c.work-worked.ensures.goes.quiet)
     c.end.ensures.clean c.end.ensures.refused
