@@ -9,7 +9,7 @@ use Rattle.dh_world.specs.World.{Text, World}
 use Rattle.dh_lines.specs.Lines.{line_in}
 use Rattle.dh_ports.specs.Ports.{PutsFirst}
 use Rattle.dh_script.specs.Script.{Does, MayDo}
-use Rattle.dh_script.specs.Running.{Runs, RunsInto, RunsSome, StopsAt, Ran, RunsBut, RanBut, seen, worded, words_in, is_filled, is_gap}
+use Rattle.dh_script.specs.Running.{Runs, RunsInto, RunsSome, StopsAt, Ran, RunsBut, RanBut, RunsScript, lines_in, seen, worded, words_in, is_filled, is_gap}
 
 -- two runs, one after the other, are a run
 pub runs_on : (before : World) (xs : List (List Text)) (between : World) (text : Text) (ys : List (List Text)) (after : World) (rest : Text)
@@ -144,10 +144,6 @@ pub on_err : {T E P : Type 0} (r : Result T E) → P → OnErr r P
 on_err (Ok value) p = tt
 on_err (Err fault) p = p
 
-pub if_some : {A : Type 0} (o : Option A) (P : A → Type 0) → ((x : A) → P x) → IfSome o P
-if_some None P all = tt
-if_some (Some x) P all = all x
-
 -- the bytes that are shown, once one more was pushed
 pub pushed : {T E : Type 0} (r : Result T E) (b : Bool) (old new shown last : Text) → b ≡ is_err r → b ≡ false → new ≡ (if is_ok r then old ++ last else old) → last ≡ 10 ∷ [] → shown ≡ new → shown ≡ old ++ 10 ∷ []
 pushed (Ok value) b old new shown last is not grown byte same = same ∙ grown ∙ ap (λ t. old ++ t) byte
@@ -258,3 +254,16 @@ pub but_ends : {T E : Type 0} (a : World) (texts : List Text) (b c : World) (h i
 but_ends a texts b c h i j batch all r first second same =
     let ended : Ran a (first.done ++ batch) c h j r = ran_on a first.done b batch c h i j r first.into second in
     subst (λ (zs : List (List Text)). Ran a zs c h j r) (sym first.parts ∙ ap worded same) ended
+
+-- where any lines ran, the script's did
+pub script_any : {T E : Type 0} (left : Option Text) (before after : World) (held now : Option Text) (r : Result T E) → ((lines : List (List Text)) → Ran before lines after held now r) → RunsScript left before after held now r
+script_any None before after held now r all = record { script = []; read = tt; ran = all (lines_in []) }
+script_any (Some input) before after held now r all = record { script = input; read = refl; ran = all (lines_in input) }
+
+-- the bytes that were read are the script
+pub script_read : {T E : Type 0} (left : Option Text) (bytes shown text : Text) (before after : World) (held now : Option Text) (r : Result T E) → IfSome left (λ input. bytes ≡ input) → text ≡ shown → shown ≡ bytes → Ran before (lines_in text) after held now r → RunsScript left before after held now r
+script_read left bytes shown text before after held now r whole same_text same all = record {
+  script = bytes;
+  read = whole;
+  ran = subst (λ (t : Text). Ran before (lines_in t) after held now r) (same_text ∙ same) all;
+}

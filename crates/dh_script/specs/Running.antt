@@ -1,7 +1,7 @@
 -- How a script is cut into lines and words, and what its lines do one after another.
 use Rattle.std.specs.Prelude.{◌≡◌, ◌⊎◌, ℕ, ◌<◌, ◌==◌, Bool, true, false, ◌||◌, if◌then◌else◌}
 use Rattle.std.specs.Prelude.{List, [], ◌∷◌, ◌++◌, map, length, take, slice_index, string_bytes}
-use Rattle.std.specs.Prelude.{Option, Result, Ok, Err, String, Vec}
+use Rattle.std.specs.Prelude.{Option, IfSome, Result, Ok, Err, String, Vec}
 use Rattle.std.specs.List.{filter, slice_split}
 use Rattle.std.specs.Str.Lines.{lines}
 use Rattle.std.specs.Io.KnownBytes.{Appends}
@@ -86,3 +86,9 @@ pub record RunsBut (before : World) (lines : List (List Text)) (after : World) (
 abbrev pub RanBut : {T E : Type 0} → World → List (List Text) → World → Option Text → Option Text → List (List Text) → Result T E → Type 0
 RanBut before lines after held now waiting (Ok value) = RunsBut before lines after held now waiting
 RanBut before lines after held now waiting (Err fault) = RunsSome before lines after held now
+
+-- a script ran, which is what the source had left, where it tells that
+pub record RunsScript {T E : Type 0} (left : Option Text) (before after : World) (held now : Option Text) (result : Result T E) : Type 0 where
+  pub script : Text
+  pub read : IfSome left (λ input. script ≡ input)
+  pub ran : Ran before (lines_in script) after held now result

@@ -14,7 +14,7 @@ ghost use Rattle.dh_script.specs.Reading.{IsScript};
 ghost use Rattle.dh_script.specs.Script.{outcome_of, outcome_of_read, Acts, GetsAt, DoesOrder};
 ghost use Rattle.dh_lines.specs.declared.lines.Order.{Order};
 ghost use Rattle.dh_script.specs.Script.{Does, MayDo, MayDoOrder};
-ghost use Rattle.dh_script.specs.Running.{Ran, RanBut, seen, words_in, worded, lines_in};
+ghost use Rattle.dh_script.specs.Running.{Ran, RanBut, RunsScript, seen, words_in, worded, lines_in};
 ghost use Rattle.dh_script.specs.Script.{is_unread};
 
 use crate::reading::{ScriptFault, read_script};
@@ -316,9 +316,8 @@ pub fn run_script<S: Alter, R: Source, W: Sink>(
     ensures cause { IfErr result (λ fault. IfSome (R.left source.old) (IsCause fault)) }
     ensures script { OnOk result (IfSome (R.left source.old) IsScript) }
     ensures ran { IsHonest S.Store desk.new.tables
-        → IfSome (R.left source.old) (λ script.
-        Ran (world S.Store desk.old) (lines_in script) (world S.Store desk.new)
-        (W.held sink.old) (W.held sink.new) result) }
+        → RunsScript (R.left source.old) (world S.Store desk.old) (world S.Store desk.new)
+        (W.held sink.old) (W.held sink.new) result }
     ensures was { IsHonest S.Store desk.new.tables → IsHonest S.Store desk.old.tables }
     ensures taken { TookAtMost (R.left source.old) (R.left source.new) 1052672 }
     ensures reads { CountsUpTo (R.fills source.old) (R.fills source.new) 100000 }
