@@ -9,7 +9,8 @@ use Rattle.dh_world.specs.declared.refusal.Refusal.{Refusal}
 use Rattle.dh_commands.specs.Edits.{edited, all_edited, MayEditAll, Plans, Makes}
 use Rattle.dh_commands.specs.Knowing.{Answers, Knows, Decides}
 use Rattle.dh_commands.specs.Planned.{Planned}
-use Rattle.dh_commands.specs.Questions.{Asked, nothing, has_right_key, asked_by}
+use Rattle.dh_commands.specs.Commands.{has_right_key, asked_by}
+use Rattle.dh_commands.specs.Questions.{Asked, nothing}
 use Rattle.dh_commands.specs.declared.checked.CheckedChange.{CheckedChange}
 use Rattle.dh_commands.specs.declared.edits.Edit.{Edit}
 use Rattle.dh_commands.specs.declared.facts.Facts.{Facts}
@@ -19,9 +20,10 @@ pub plans_by : (p : Project) (change : Change) (planned : Planned) (r : Result P
 plans_by p change planned (Ok plan) is it = let P : Planned → Type 0 = λ x. Plans p change (Ok x) in subst P (sym is) it
 plans_by p change planned (Err e) is it = inl is
 
--- what is decided of one change is decided of the same one
-pub decides_as : {c d : CheckedChange} → c ≡ d → (f : Facts) (r : Result Planned Refusal) → Decides d f r → Decides c f r
-decides_as same f r decided = let P : CheckedChange → Type 0 = λ x. Decides x f r in subst P (sym same) decided
+-- a plan that was made is what is decided
+pub decides_by : (c : CheckedChange) (f : Facts) (planned : Planned) (r : Result Planned Refusal) → Makes planned r → Decides c f (Ok planned) → Decides c f r
+decides_by c f planned (Ok plan) is it = λ p k. plans_by p _ planned (Ok plan) is (it p k)
+decides_by c f planned (Err e) is it = λ p k. inl is
 
 -- with the right write key all that the command asks was answered
 pub answered : (c : CheckedChange) (f : Facts) (p : Project) → Knows c f p → has_right_key c f.settings ≡ true → Answers (asked_by c) f p

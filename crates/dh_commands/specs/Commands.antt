@@ -1,54 +1,80 @@
--- The commands that checked ones are of.
-use Rattle.std.specs.Prelude.{◌≡◌, ◌≤◌, List, [], ◌∷◌, length, Option, is_some, Result}
-use Rattle.dh_paths.specs.Slugs.{slug_from}
+-- The change that a checked one is of, and what it asks of the project of its host.
+use Rattle.std.specs.Prelude.{◌≡◌, ◌≤◌, Bool, true, if◌then◌else◌, List, [], ◌∷◌, length, Option, Some, Result}
+use Rattle.std.specs.Str.{bytes_eq}
+use Rattle.dh_world.specs.Changes.{push_key, upload_key}
 use Rattle.dh_world.specs.Checks.{Checks}
-use Rattle.dh_world.specs.Refusals.{unless, first_of}
-use Rattle.dh_world.specs.Texts.{is_count, bad_pages, bad_text}
+use Rattle.dh_world.specs.Refusals.{first_of}
+use Rattle.dh_world.specs.Texts.{bad_count, bad_pages, bad_change, bad_text}
 use Rattle.dh_world.specs.World.{Text}
 use Rattle.dh_world.specs.declared.command.Command.{Command}
-use Rattle.dh_world.specs.declared.command.Command.TheVariants as command
+use Rattle.dh_world.specs.declared.command.CommandChange.{CommandChange}
+use Rattle.dh_world.specs.declared.command.CommandChange.TheVariants as change
 use Rattle.dh_world.specs.declared.property.Property.{Property}
 use Rattle.dh_world.specs.declared.property.Property.TheVariants as property
 use Rattle.dh_world.specs.declared.pages.UploadedPage.{UploadedPage}
 use Rattle.dh_world.specs.declared.refusal.Refusal.{Refusal}
-use Rattle.dh_world.specs.declared.refusal.Refusal.TheVariants.{BadRef, BadPage}
+use Rattle.dh_commands.specs.Questions.{Asked, nothing, version_named}
 use Rattle.dh_commands.specs.declared.checked.CheckedChange.{CheckedChange}
 use Rattle.dh_commands.specs.declared.checked.CheckedCommand.{CheckedCommand}
 use Rattle.dh_commands.specs.declared.checked.CheckedChange.TheVariants.{NewProject, AddLang, Push, Upload, SetProperty, Deactivate, Gone, SetDefault, AddPass, DropPass, Grant, Revoke}
+use Rattle.dh_commands.specs.declared.facts.ProjectSettings.{ProjectSettings}
 
--- the command that sets a property of a version
-abbrev pub setting : Property → Text → Text → Command
-setting property.Active host slug = command.Activate host slug
-setting property.Hidden host slug = command.Hide host slug
-setting property.Shown host slug = command.Unhide host slug
-setting property.Public host slug = command.Publish host slug
-setting property.Private host slug = command.MakePrivate host slug
+-- ---- the change
+
+-- the change that sets a property of a version
+abbrev pub setting : Property → Text → CommandChange
+setting property.Active slug = change.Activate slug
+setting property.Hidden slug = change.Hide slug
+setting property.Shown slug = change.Unhide slug
+setting property.Public slug = change.Publish slug
+setting property.Private slug = change.MakePrivate slug
+
+abbrev pub change_of : CheckedChange → CommandChange
+change_of (NewProject x) = change.NewProject x.lang x.settings.branch x.settings.new_private x.settings.wkey
+change_of (AddLang lang) = change.AddLang lang
+change_of (Push x) = change.Push x.wkey x.key x.kind x.name
+change_of (Upload x) = change.Upload x.wkey x.key x.slug x.lang x.replace x.pages.items
+change_of (SetProperty slug property) = setting property slug
+change_of (Deactivate slug) = change.Deactivate slug
+change_of (Gone slug) = change.Gone slug
+change_of (SetDefault name) = change.SetDefault name
+change_of (AddPass pass) = change.AddPass pass
+change_of (DropPass pass) = change.DropPass pass
+change_of (Grant pass slug) = change.Grant pass slug
+change_of (Revoke pass slug) = change.Revoke pass slug
 
 -- the command that asks for this change under a host
 abbrev pub command_of : Text → CheckedChange → Command
-command_of host (NewProject x) = command.NewProject host x.lang x.settings.branch x.settings.new_private x.settings.wkey
-command_of host (AddLang lang) = command.AddLang host lang
-command_of host (Push x) = command.Push host x.wkey x.key x.kind x.name
-command_of host (Upload x) = command.Upload host x.wkey x.key x.slug x.lang x.replace x.pages.items
-command_of host (SetProperty slug property) = setting property host slug
-command_of host (Deactivate slug) = command.Deactivate host slug
-command_of host (Gone slug) = command.Gone host slug
-command_of host (SetDefault name) = command.SetDefault host name
-command_of host (AddPass pass) = command.AddPass host pass
-command_of host (DropPass pass) = command.DropPass host pass
-command_of host (Grant pass slug) = command.Grant host pass slug
-command_of host (Revoke pass slug) = command.Revoke host pass slug
+command_of host c = record { host = host; change = change_of c }
 
--- parts that were read one after the other
-abbrev pub IsPair : Text → Text → Text × Text → Type 0
-IsPair first second x = (x.0 ≡ first) × (x.1 ≡ second)
+-- ---- what it asks
 
-abbrev pub IsTriple : Text → Text → Text → Text × Text × Text → Type 0
-IsTriple first second third x = (x.0 ≡ first) × (x.1 ≡ second) × (x.2 ≡ third)
+-- what it asks where its write key is right
+abbrev pub asked_by : CheckedChange → Asked
+asked_by (NewProject x) = nothing
+asked_by (AddLang lang) = record nothing { languages = true }
+asked_by (Push x) = record nothing { version = Some x.slug; retry_key = Some (push_key x.slug x.key) }
+asked_by (Upload x) = record nothing { version = Some x.slug; retry_key = Some (upload_key x.slug x.key); languages = true }
+asked_by (SetProperty slug property) = record nothing { version = Some slug }
+asked_by (Deactivate slug) = record nothing { version = Some slug }
+asked_by (Gone slug) = record nothing { version = Some slug; defaults = true }
+asked_by (SetDefault name) = record nothing { version = version_named name; defaults = true }
+asked_by (AddPass pass) = record nothing { pass = Some pass; pass_count = true }
+asked_by (DropPass pass) = record nothing { pass = Some pass }
+asked_by (Grant pass slug) = record nothing { version = Some slug; pass = Some pass }
+asked_by (Revoke pass slug) = record nothing { version = Some slug; pass = Some pass }
 
--- what is wrong with the name of a branch or tag: that it leaves no slug
-abbrev pub bad_name : Text → Option Refusal
-bad_name name = unless (is_some (slug_from name)) BadRef
+-- a command that carries a write key has the project's
+abbrev pub has_right_key : CheckedChange → ProjectSettings → Bool
+has_right_key (Push x) s = bytes_eq x.wkey s.wkey
+has_right_key (Upload x) s = bytes_eq x.wkey s.wkey
+has_right_key _ s = true
+
+-- what it asks of a project with these settings: with a wrong write key nothing
+abbrev pub asked : CheckedChange → ProjectSettings → Asked
+asked c s = if has_right_key c s then asked_by c else nothing
+
+-- ---- checks
 
 -- the pages of an upload, which are few
 abbrev pub AreFewPages : List UploadedPage → List UploadedPage → Type 0
@@ -56,7 +82,11 @@ AreFewPages pages checked = (checked ≡ pages) × (length checked ≤ 256)
 
 -- what is wrong with the pages of an upload: that there are too many, or the first bad one
 abbrev pub bad_upload : List UploadedPage → Option Refusal
-bad_upload pages = first_of (unless (is_count pages) BadPage ∷ bad_pages [] pages ∷ [])
+bad_upload pages = first_of (bad_count pages ∷ bad_pages [] pages ∷ [])
+
+-- the change itself where all its texts are right, or the refusal of the first one that is not
+abbrev pub ChecksChange : CommandChange → Result CheckedChange Refusal → Type 0
+ChecksChange change = Checks (bad_change change) (λ x. change_of x ≡ change)
 
 -- the command itself where all its texts are right, or the refusal of the first one that is not
 abbrev pub ChecksCommand : Command → Result CheckedCommand Refusal → Type 0

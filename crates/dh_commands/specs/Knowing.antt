@@ -1,15 +1,15 @@
 -- What was found of a project, and plans that follow from it.
-use Rattle.std.specs.Prelude.{◌≡◌, false, if◌then◌else◌, [], Some, Result, IfSome}
+use Rattle.std.specs.Prelude.{◌≡◌, false, if◌then◌else◌, [], Some, Result, Ok, Err, IfSome}
 use Rattle.std.specs.Option.{option_and_then, option_map_or}
 use Rattle.std.specs.FinMap.{get, contains_key, len}
 use Rattle.dh_paths.specs.Slugs.{slug_from}
 use Rattle.dh_world.specs.Changes.{change}
-use Rattle.dh_world.specs.World.{Text, Project}
+use Rattle.dh_world.specs.World.{Project}
 use Rattle.dh_world.specs.declared.refusal.Refusal.{Refusal}
-use Rattle.dh_commands.specs.Commands.{command_of}
+use Rattle.dh_commands.specs.Commands.{change_of, asked}
 use Rattle.dh_commands.specs.Edits.{Plans}
 use Rattle.dh_commands.specs.Planned.{Planned}
-use Rattle.dh_commands.specs.Questions.{Asked, asked}
+use Rattle.dh_commands.specs.Questions.{Asked}
 use Rattle.dh_commands.specs.declared.checked.CheckedChange.{CheckedChange}
 use Rattle.dh_commands.specs.declared.facts.Facts.{Facts}
 use Rattle.dh_commands.specs.declared.facts.ProjectSettings.{ProjectSettings}
@@ -36,6 +36,7 @@ pub record Knows (c : CheckedChange) (f : Facts) (p : Project) : Type 0 where
   pub settings : HasSettings p f.settings
   pub answers : Answers (asked c f.settings) f p
 
--- The result is the plan of the command's change of each project that has these facts, or the change's refusal.
+-- A plan is that of the change, for each project that has these facts; a refusal is the change's.
 abbrev pub Decides : CheckedChange → Facts → Result Planned Refusal → Type 0
-Decides c f r = (host : Text) (p : Project) → Knows c f p → Plans p (change (command_of host c) p) r
+Decides c f (Ok plan) = (p : Project) → Knows c f p → Plans p (change (change_of c) p) (Ok plan)
+Decides c f (Err e) = (p : Project) → Knows c f p → Plans p (change (change_of c) p) (Err e)

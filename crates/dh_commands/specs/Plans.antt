@@ -13,7 +13,7 @@ use Rattle.dh_world.specs.declared.operation.Operation.TheVariants as operation
 use Rattle.dh_world.specs.declared.pages.UploadedPage.{UploadedPage}
 use Rattle.dh_world.specs.declared.refusal.Refusal.{Refusal}
 use Rattle.dh_world.specs.declared.refusal.Refusal.TheVariants.{NoVersion, Inactive, NoPass}
-use Rattle.dh_commands.specs.Commands.{command_of}
+use Rattle.dh_commands.specs.Commands.{change_of}
 use Rattle.dh_commands.specs.Planned.{Planned}
 use Rattle.dh_commands.specs.declared.checked.CheckedChange.{CheckedChange}
 use Rattle.dh_commands.specs.declared.checked.CheckedPush.{CheckedPush}
@@ -27,8 +27,8 @@ use Rattle.dh_commands.specs.declared.facts.ProjectSettings.{ProjectSettings}
 
 -- the project that the command makes there, or its refusal
 abbrev pub Opens : CheckedChange → Result NewProject Refusal → Type 0
-Opens c (Ok x) = (host : Text) → opened (command_of host c) ≡ Ok (new_project x.lang x.settings.branch x.settings.new_private x.settings.wkey, Done)
-Opens c (Err e) = (host : Text) → opened (command_of host c) ≡ Err e
+Opens c (Ok x) = opened (change_of c) ≡ Ok (new_project x.lang x.settings.branch x.settings.new_private x.settings.wkey, Done)
+Opens c (Err e) = opened (change_of c) ≡ Err e
 
 -- ---- pushes
 

@@ -1,17 +1,107 @@
-//! What each command does with what was found of its project.
+//! What each command asks of its project, and what it does with what was found.
+ghost use Rattle.std.specs.Prelude.{◌≡◌};
+ghost use Rattle.dh_commands.specs.Commands as spec;
 ghost use Rattle.dh_commands.specs.Knowing.{Decides};
+ghost use Rattle.dh_commands.specs.Questions.{seen_questions};
 
 use crate::checked::CheckedChange;
 use crate::defaults::{remove_version, set_default};
-use crate::facts::Facts;
+use crate::facts::{Facts, ProjectSettings};
 use crate::passes::{add_pass, drop_pass, grant, revoke};
 use crate::plan::Plan;
 use crate::projects::add_lang;
 use crate::properties::{deactivate, set_property};
 use crate::pushes::push;
+use crate::questions::{Questions, RetryKey, is_write_key, nothing, version_named};
 use crate::uploads::upload;
-use dh_world::Refusal;
+use dh_world::{Operation, Refusal};
 use std::alloc::Global;
+
+/// What a command asks whose write key is right.
+fn asked_by<'q>(change: &'q CheckedChange<'_>) -> Questions<'q>
+    ensures { seen_questions result ≡ spec.asked_by change.now }
+{
+    match change {
+        CheckedChange::NewProject(_) => nothing(),
+        CheckedChange::AddLang { lang: _ } => Questions {
+            languages: true,
+            ..nothing()
+        },
+        CheckedChange::Push(push) => Questions {
+            version: Some(&push.slug),
+            retry_key: Some(RetryKey {
+                slug: &push.slug,
+                operation: Operation::Push,
+                key: &push.key,
+            }),
+            ..nothing()
+        },
+        CheckedChange::Upload(upload) => Questions {
+            version: Some(&upload.slug),
+            retry_key: Some(RetryKey {
+                slug: &upload.slug,
+                operation: Operation::Upload,
+                key: &upload.key,
+            }),
+            languages: true,
+            ..nothing()
+        },
+        CheckedChange::SetProperty { slug, property: _ } => Questions {
+            version: Some(slug),
+            ..nothing()
+        },
+        CheckedChange::Deactivate { slug } => Questions {
+            version: Some(slug),
+            ..nothing()
+        },
+        CheckedChange::Gone { slug } => Questions {
+            version: Some(slug),
+            defaults: true,
+            ..nothing()
+        },
+        CheckedChange::SetDefault { name } => Questions {
+            version: version_named(name),
+            defaults: true,
+            ..nothing()
+        },
+        CheckedChange::AddPass { pass } => Questions {
+            pass: Some(pass),
+            pass_count: true,
+            ..nothing()
+        },
+        CheckedChange::DropPass { pass } => Questions {
+            pass: Some(pass),
+            ..nothing()
+        },
+        CheckedChange::Grant { pass, slug } | CheckedChange::Revoke { pass, slug } => Questions {
+            version: Some(slug),
+            pass: Some(pass),
+            ..nothing()
+        },
+    }
+}
+
+/// Whether a command that carries a write key has the project's.
+fn has_right_key(change: &CheckedChange<'_>, settings: &ProjectSettings) -> bool
+    ensures { result ≡ spec.has_right_key change.now settings.now }
+{
+    match change {
+        CheckedChange::Push(push) => is_write_key(settings, &push.wkey),
+        CheckedChange::Upload(upload) => is_write_key(settings, &upload.wkey),
+        _ => true,
+    }
+}
+
+/// What a command asks of a project with these settings: with a wrong write key, nothing more.
+pub fn questions_of<'q>(change: &'q CheckedChange<'_>, settings: &ProjectSettings) -> Questions<'q>
+    ensures { seen_questions result ≡ spec.asked change.now settings.now }
+{
+    if has_right_key(change, settings) {
+        asked_by(change)
+    } else {
+        nothing()
+    }
+}
 
 /// The plan of a command whose host has a project, of which these are the facts.
 pub fn decide<'c>(
@@ -23,16 +113,16 @@ pub fn decide<'c>(
 {
     match change {
         CheckedChange::NewProject(_) => Err(Refusal::ProjectTaken),
-        CheckedChange::AddLang { lang } => add_lang(alloc, lang, facts),
+        CheckedChange::AddLang { lang } => add_lang(alloc, lang, &facts),
         CheckedChange::Push(parts) => push(alloc, parts, facts),
         CheckedChange::Upload(parts) => upload(alloc, parts, facts),
         CheckedChange::SetProperty { slug: _, property } => set_property(alloc, property, facts),
         CheckedChange::Deactivate { slug: _ } => deactivate(alloc, facts),
         CheckedChange::Gone { slug } => remove_version(alloc, slug, facts),
         CheckedChange::SetDefault { name } => set_default(alloc, name, facts),
-        CheckedChange::AddPass { pass } => add_pass(alloc, pass, facts),
-        CheckedChange::DropPass { pass } => drop_pass(alloc, pass, facts),
-        CheckedChange::Grant { pass, slug } => grant(alloc, pass, slug, facts),
-        CheckedChange::Revoke { pass, slug } => revoke(alloc, pass, slug, facts),
+        CheckedChange::AddPass { pass } => add_pass(alloc, pass, &facts),
+        CheckedChange::DropPass { pass } => drop_pass(alloc, pass, &facts),
+        CheckedChange::Grant { pass, slug } => grant(alloc, pass, slug, &facts),
+        CheckedChange::Revoke { pass, slug } => revoke(alloc, pass, slug, &facts),
     }
 }

@@ -25,9 +25,9 @@ pub use checked::{
     CheckedChange, CheckedCommand, CheckedPage, CheckedPush, CheckedUpload, NewProject,
 };
 pub use checking::check;
-pub use decision::decide;
+pub use decision::{decide, questions_of};
 pub use edits::{Edit, FirstAnswer};
 pub use facts::{Facts, ProjectSettings};
 pub use plan::Plan;
 pub use projects::open;
-pub use questions::{Questions, RetryKey, questions_of};
+pub use questions::{Questions, RetryKey};

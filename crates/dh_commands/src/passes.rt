@@ -15,8 +15,8 @@ use std::alloc::Global;
 const MOST_PASSES: usize = 1000;
 
 /// Adds a pass that is not there, where there is room.
-pub fn add_pass<'c>(alloc: Global, pass: Token, facts: Facts) -> Result<Plan<'c>, Refusal>
-    ensures { Decides (CheckedChange.AddPass pass) facts result }
+pub fn add_pass<'c>(alloc: Global, pass: Token, facts: &Facts) -> Result<Plan<'c>, Refusal>
+    ensures { Decides (CheckedChange.AddPass pass) facts.now result }
 {
     if facts.has_pass {
         return Err(Refusal::PassTaken);
@@ -28,8 +28,8 @@ pub fn add_pass<'c>(alloc: Global, pass: Token, facts: Facts) -> Result<Plan<'c>
 }
 
 /// Removes a pass that is there, with its grants.
-pub fn drop_pass<'c>(alloc: Global, pass: Token, facts: Facts) -> Result<Plan<'c>, Refusal>
-    ensures { Decides (CheckedChange.DropPass pass) facts result }
+pub fn drop_pass<'c>(alloc: Global, pass: Token, facts: &Facts) -> Result<Plan<'c>, Refusal>
+    ensures { Decides (CheckedChange.DropPass pass) facts.now result }
 {
     if !facts.has_pass {
         return Err(Refusal::NoPass);
@@ -51,20 +51,25 @@ fn missing(facts: &Facts) -> Option<Refusal>
 }
 
 /// Adds a grant, where its version and its pass are there.
-pub fn grant<'c>(alloc: Global, pass: Token, slug: Slug, facts: Facts) -> Result<Plan<'c>, Refusal>
-    ensures { Decides (CheckedChange.Grant pass slug) facts result }
+pub fn grant<'c>(alloc: Global, pass: Token, slug: Slug, facts: &Facts) -> Result<Plan<'c>, Refusal>
+    ensures { Decides (CheckedChange.Grant pass slug) facts.now result }
 {
-    if let Some(refusal) = missing(&facts) {
+    if let Some(refusal) = missing(facts) {
         return Err(refusal);
     }
     Ok(Plan::one(alloc, Edit::Grant { pass, slug }, Answer::Done)?)
 }
 
 /// Removes a grant, where its version and its pass are there.
-pub fn revoke<'c>(alloc: Global, pass: Token, slug: Slug, facts: Facts) -> Result<Plan<'c>, Refusal>
-    ensures { Decides (CheckedChange.Revoke pass slug) facts result }
+pub fn revoke<'c>(
+    alloc: Global,
+    pass: Token,
+    slug: Slug,
+    facts: &Facts,
+) -> Result<Plan<'c>, Refusal>
+    ensures { Decides (CheckedChange.Revoke pass slug) facts.now result }
 {
-    if let Some(refusal) = missing(&facts) {
+    if let Some(refusal) = missing(facts) {
         return Err(refusal);
     }
     Ok(Plan::one(alloc, Edit::Revoke { pass, slug }, Answer::Done)?)

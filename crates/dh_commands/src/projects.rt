@@ -34,8 +34,8 @@ pub fn is_among(languages: &[Lang], lang: &Lang) -> bool
 }
 
 /// Adds a language after the others, where it is not there and there is room.
-pub fn add_lang<'c>(alloc: Global, lang: Lang, facts: Facts) -> Result<Plan<'c>, Refusal>
-    ensures { Decides (CheckedChange.AddLang lang) facts result }
+pub fn add_lang<'c>(alloc: Global, lang: Lang, facts: &Facts) -> Result<Plan<'c>, Refusal>
+    ensures { Decides (CheckedChange.AddLang lang) facts.now result }
 {
     let languages = facts.languages.as_slice();
     if is_among(languages, &lang) {

@@ -3,7 +3,7 @@ ghost use Rattle.std.specs.Prelude.{◌≡◌, Some};
 ghost use Rattle.dh_paths.specs.Texts.{is_host_name, is_lang, is_ref_name, is_slug, is_token};
 ghost use Rattle.dh_paths.specs.Slugs.{slug_from};
 ghost use Rattle.dh_world.specs.Checks.{Reads, Checks};
-ghost use Rattle.dh_commands.specs.Commands.{bad_name};
+ghost use Rattle.dh_world.specs.Texts.{bad_name};
 
 use dh_paths::{HostName, Lang, RefName, Slug, Text, TextFault, Token, slug_of};
 use dh_world::Refusal;

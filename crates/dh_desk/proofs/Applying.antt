@@ -7,8 +7,8 @@ use Rattle.sqlite.specs.Held.{Held}
 use Rattle.dh_reply.specs.declared.fault.Fault.{Fault}
 use Rattle.dh_reply.specs.declared.fault.Fault.TheVariants as fault
 use Rattle.dh_rows.specs.Calls.{IsRefused}
-use Rattle.dh_tables.specs.Lists.{Lists}
-use Rattle.dh_tables.specs.Tables.{lists_of}
+use Rattle.dh_records.specs.Lists.{Lists}
+use Rattle.dh_schema.specs.Tables.{lists_of}
 use Rattle.dh_transactions.specs.Going.{IsOver, last_records}
 use Rattle.dh_transactions.specs.Sound.{Steps}
 use Rattle.dh_world.specs.Checks.{refusal_from, IsSetAside}

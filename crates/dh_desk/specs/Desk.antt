@@ -4,7 +4,7 @@ use Rattle.std.specs.Coded.{Coded, code_by, coded×, coded_bool}
 use Rattle.sqlite_trees.specs.declared.store.Store.{Ghosts}
 use Rattle.sqlite.specs.Held.{Held, held_code}
 use Rattle.dh_rows.specs.Calls.{IsHonest}
-use Rattle.dh_tables.specs.Lists.{world_of}
+use Rattle.dh_records.specs.Lists.{world_of}
 use Rattle.dh_transactions.specs.Going.{last_records}
 use Rattle.dh_transactions.specs.Sound.{AreSound}
 use Rattle.dh_world.specs.World.{World}

@@ -5,8 +5,9 @@ ghost use Rattle.sqlite.specs.Held.{state};
 ghost use Rattle.sqlite.specs.State.{HasCleanDisk};
 ghost use Rattle.dh_paths.specs.Places.{split_of};
 ghost use Rattle.dh_reply.specs.Replies.{is_system, reply_to};
-ghost use Rattle.dh_rows.specs.Calls.{IsHonest, LeavesNoMore, LeavesCommitted};
-ghost use Rattle.dh_tables.specs.Tables.{lists_of};
+ghost use Rattle.dh_rows.specs.Calls.{IsHonest, IsRefused, LeavesNoMore, LeavesCommitted};
+ghost use Rattle.dh_schema.specs.Calling.{Blames};
+ghost use Rattle.dh_schema.specs.Tables.{lists_of};
 ghost use Rattle.dh_transactions.specs.Crashes.{LeavesStep, LeavesEither};
 ghost use Rattle.dh_transactions.specs.Going.{IsOver, last_records};
 ghost use Rattle.dh_transactions.specs.Sound.{Steps};
@@ -164,6 +165,10 @@ impl<S: Alter> Desk<S> {
             asked.now.path asked.now.query) }
         ensures same { IsHonest S.Store self.new.tables
             → world S.Store self.new ≡ world S.Store self.old }
+        ensures rests { IsHonest S.Store self.new.tables
+            → IsRefused S.Store lists_of self.old.tables self.new.tables }
+        ensures told { Blames S.Store self.old.tables self.new.tables result
+            (self.old.closed ≡ true) }
         ensures outside { IsHonest S.Store self.new.tables
             → OnOk result (self.new.tables.in_transaction ≡ false) }
         ensures left { IsHonest S.Store self.new.tables

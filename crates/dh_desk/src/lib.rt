@@ -3,7 +3,9 @@
 #![tactic(auto)]
 
 pub mod desk;
+mod laws;
 mod reads;
 
 pub use desk::Desk;
-pub use dh_world::{Answer, Command, Outcome, Pages, Refusal, UploadedPage};
+pub use dh_world::{Answer, Command, CommandChange, Outcome, Pages, Refusal, UploadedPage};
+pub use laws::memory_answers;

@@ -4,10 +4,13 @@ ghost use Rattle.std.specs.Option.{option_map, option_and_then};
 ghost use Rattle.sqlite.specs.Held.{state};
 ghost use Rattle.sqlite.specs.State.{HasCleanDisk};
 ghost use Rattle.dh_paths.specs.Places.{split_of};
-ghost use Rattle.dh_rows.specs.Calls.{IsHonest};
+ghost use Rattle.dh_rows.specs.Calls.{IsHonest, IsRefused};
+ghost use Rattle.dh_reply.specs.Faults.{OnStore};
 ghost use Rattle.dh_reply.specs.Replies.{is_system, reply_to};
-ghost use Rattle.dh_tables.specs.Lists.{world_of};
-ghost use Rattle.dh_tables.specs.View.{Looks, shown};
+ghost use Rattle.dh_records.specs.Lists.{world_of};
+ghost use Rattle.dh_schema.specs.Calling.{Blames};
+ghost use Rattle.dh_schema.specs.Tables.{lists_of};
+ghost use Rattle.dh_view.specs.View.{Fails, Looks, shown};
 ghost use Rattle.dh_transactions.specs.Going.{last_records};
 ghost use Rattle.dh_world.specs.Reads.{host_named, pass_named};
 ghost use Rattle.dh_world.specs.Seen as caller;
@@ -20,7 +23,8 @@ use std::alloc::Global;
 
 /// The host of this name, if it is one.
 fn host_in(alloc: Global, name: &str) -> Result<Option<HostName>, Fault>
-    ensures { IfOk result (λ host. host ≡ host_named name.now) }
+    ensures value { IfOk result (λ host. host ≡ host_named name.now) }
+    ensures told { OnStore result ⊥ }
 {
     match HostName::parse(alloc, name) {
         Ok(host) => Ok(Some(host)),
@@ -31,7 +35,8 @@ fn host_in(alloc: Global, name: &str) -> Result<Option<HostName>, Fault>
 
 /// The pass of this text, if it is one.
 fn token_in(alloc: Global, text: &str) -> Result<Option<Token>, Fault>
-    ensures { IfOk result (λ pass. pass ≡ pass_named text.now) }
+    ensures value { IfOk result (λ pass. pass ≡ pass_named text.now) }
+    ensures told { OnStore result ⊥ }
 {
     match Token::parse(alloc, text) {
         Ok(pass) => Ok(Some(pass)),
@@ -42,8 +47,9 @@ fn token_in(alloc: Global, text: &str) -> Result<Option<Token>, Fault>
 
 /// The pass that a caller shows: a text that is none counts as none.
 fn pass_in(alloc: Global, pass: Option<&str>) -> Result<Option<Token>, Fault>
-    ensures { IfOk result (λ o. o
+    ensures value { IfOk result (λ o. o
         ≡ option_and_then pass_named (option_map (λ text. text.now) pass.entry)) }
+    ensures told { OnStore result ⊥ }
 {
     match pass {
         Some(text) => token_in(alloc, text),
@@ -60,6 +66,7 @@ fn look<S: Alter>(
     read: &Read,
 ) -> Result<Reply, Fault>
     ensures looks { Looks S.Store tables.old tables.new }
+    ensures told { OnStore result (Fails S.Store tables.old tables.new) }
     ensures value { IsHonest S.Store tables.new
         → is_system (split_of read.now.path) ≡ false
         → IfOk result (λ r. r
@@ -87,6 +94,9 @@ pub fn read<S: Alter>(
         asked.now.path asked.now.query) }
     ensures same { IsHonest S.Store tables.new
         → last_records S.Store tables.new ≡ last_records S.Store tables.old }
+    ensures rests { IsHonest S.Store tables.new
+        → IsRefused S.Store lists_of tables.old tables.new }
+    ensures told { Blames S.Store tables.old tables.new result ⊥ }
     ensures outside { IsHonest S.Store tables.new → OnOk result (tables.new.in_transaction ≡ false) }
     ensures clean { HasCleanDisk (state S.Store tables.new)
         → HasCleanDisk (state S.Store tables.old) }

@@ -6,13 +6,13 @@ use Rattle.clap.specs.Walk.{Text, answers_to}
 use Rattle.clap.specs.Simple.{App, Shape, built, built_leaf, inherited, label_of, subcommand_of}
 use Rattle.clap.specs.Faults.{defaults_fault}
 use Rattle.clap.specs.declared.error.kind.ErrorKind.TheVariants.{UnknownArgument, InvalidSubcommand}
-use Rattle.dh_world.specs.declared.command.Command.{Command}
+use Rattle.dh_world.specs.declared.command.CommandChange.{CommandChange}
 use Rattle.dh_words.specs.Words.{is_plain, has_command}
 use Rattle.dh_words.proofs.NameLemmas.{IsQuiet}
 use Rattle.dh_words.proofs.TokenLemmas.{Token, chosen, text_of, Fits, tokens_rows, tokens_level}
 use Rattle.dh_words.proofs.FormLemmas.{form_matches, form_fails, stray_fails}
 use Rattle.dh_lines.specs.App.{docs_app, bare_app, version_app, pass_app, grant_app}
-use Rattle.dh_lines.specs.Lines.{line_in, as_line, order_of, order_in, unless_faulty, Orders}
+use Rattle.dh_lines.specs.Lines.{line_in, as_line, asking, order_of, order_in, unless_faulty, Orders}
 use Rattle.dh_lines.specs.Lines.{OrdersOnVersion, OrdersOnPass, OrdersOnGrant}
 use Rattle.dh_lines.specs.declared.lines.Line.{Line}
 use Rattle.dh_lines.specs.declared.lines.Order.{Order}
@@ -47,33 +47,33 @@ form_line name ts a order found is fits passes reads =
     ∙ ap (λ o. option_map as_line (order_of o)) matches ∙ ap (option_map as_line) reads
 
 module _ (name : Text) where
-  module _ (command : Text → Text → Command) where
+  module _ (change : Text → CommandChange) where
     pub version_line : IsCommand name (version_app name)
         → ((host slug : Text) → Reads name (version_app name)
-        (chosen host ∷ chosen slug ∷ []) (Act (command host slug)))
-        → OrdersOnVersion name command
+        (chosen host ∷ chosen slug ∷ []) (Act (asking host (change slug))))
+        → OrdersOnVersion name change
     unfolding defaults_fault
     version_line found reads host slug plain =
-        form_line name (chosen host ∷ chosen slug ∷ []) (version_app name) (Act (command host slug))
-        found refl plain refl (reads host slug)
+        form_line name (chosen host ∷ chosen slug ∷ []) (version_app name)
+        (Act (asking host (change slug))) found refl plain refl (reads host slug)
 
     pub pass_line : IsCommand name (pass_app name)
         → ((host pass : Text) → Reads name (pass_app name)
-        (chosen host ∷ chosen pass ∷ []) (Act (command host pass)))
-        → OrdersOnPass name command
+        (chosen host ∷ chosen pass ∷ []) (Act (asking host (change pass))))
+        → OrdersOnPass name change
     unfolding defaults_fault
     pass_line found reads host pass plain =
-        form_line name (chosen host ∷ chosen pass ∷ []) (pass_app name) (Act (command host pass))
-        found refl plain refl (reads host pass)
+        form_line name (chosen host ∷ chosen pass ∷ []) (pass_app name)
+        (Act (asking host (change pass))) found refl plain refl (reads host pass)
 
-  pub grant_line : (command : Text → Text → Text → Command) → IsCommand name (grant_app name)
+  pub grant_line : (change : Text → Text → CommandChange) → IsCommand name (grant_app name)
       → ((host pass slug : Text) → Reads name (grant_app name)
-      (chosen host ∷ chosen pass ∷ chosen slug ∷ []) (Act (command host pass slug)))
-      → OrdersOnGrant name command
+      (chosen host ∷ chosen pass ∷ chosen slug ∷ []) (Act (asking host (change pass slug))))
+      → OrdersOnGrant name change
   unfolding defaults_fault
-  grant_line command found reads host pass slug plain =
+  grant_line change found reads host pass slug plain =
       form_line name (chosen host ∷ chosen pass ∷ chosen slug ∷ []) (grant_app name)
-      (Act (command host pass slug)) found refl plain refl (reads host pass slug)
+      (Act (asking host (change pass slug))) found refl plain refl (reads host pass slug)
 
 pub stray_line : (name : Text) (rest : List Text) → is_plain name ≡ true
     → has_command docs_app name ≡ false → line_in (name ∷ rest) ≡ None

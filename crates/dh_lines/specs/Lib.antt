@@ -1,3 +1,4 @@
 pub mod App
+pub mod Forms
 pub mod Lines
 pub mod Outcomes

@@ -11,12 +11,14 @@ use Rattle.clap.specs.declared.parser.matches.ArgMatches.{ArgMatches}
 use Rattle.dh_versions.specs.declared.version.Kind.{Kind}
 use Rattle.dh_versions.specs.declared.version.Kind.TheVariants.{Branch, Tag}
 use Rattle.dh_world.specs.declared.command.Command.{Command}
+use Rattle.dh_world.specs.declared.command.CommandChange.{CommandChange}
 use Rattle.dh_world.specs.declared.pages.UploadedPage.{UploadedPage}
-use Rattle.dh_world.specs.declared.command.Command.TheVariants.{NewProject, AddLang, Push, Upload}
-use Rattle.dh_world.specs.declared.command.Command.TheVariants.{Activate, Deactivate, Hide, Unhide}
-use Rattle.dh_world.specs.declared.command.Command.TheVariants.{Publish, MakePrivate, Gone}
-use Rattle.dh_world.specs.declared.command.Command.TheVariants.{SetDefault, AddPass, DropPass}
-use Rattle.dh_world.specs.declared.command.Command.TheVariants.{Grant, Revoke}
+use Rattle.dh_world.specs.declared.command.CommandChange.TheVariants.{NewProject, AddLang, Push}
+use Rattle.dh_world.specs.declared.command.CommandChange.TheVariants.{Upload, Activate, Deactivate}
+use Rattle.dh_world.specs.declared.command.CommandChange.TheVariants.{Hide, Unhide, Publish}
+use Rattle.dh_world.specs.declared.command.CommandChange.TheVariants.{MakePrivate, Gone, SetDefault}
+use Rattle.dh_world.specs.declared.command.CommandChange.TheVariants.{AddPass, DropPass, Grant}
+use Rattle.dh_world.specs.declared.command.CommandChange.TheVariants.{Revoke}
 use Rattle.dh_words.specs.Words.{ArePlain}
 use Rattle.dh_lines.specs.App.{docs_app}
 use Rattle.dh_lines.specs.declared.lines.Line.{Line}
@@ -46,41 +48,39 @@ kind_of text =
     else if bytes_eq text (codes "tag") then Some Tag
     else None
 
+-- ---- what each form asks of the project of its host
+
 -- `new-project HOST LANG BRANCH public|private WKEY`
-abbrev pub new_project_in : List Row → Option Command
+abbrev pub new_project_in : List Row → Option CommandChange
 new_project_in rows =
-    with_word (codes "host") rows (λ host.
     with_word (codes "lang") rows (λ lang.
     with_word (codes "branch") rows (λ branch.
     with_word (codes "privacy") rows (λ privacy.
     with_word (codes "wkey") rows (λ wkey.
-    option_map (λ private. NewProject host lang branch private wkey) (privacy_of privacy))))))
+    option_map (λ private. NewProject lang branch private wkey) (privacy_of privacy)))))
 
 -- `add-lang HOST LANG`
-abbrev pub add_lang_in : List Row → Option Command
+abbrev pub add_lang_in : List Row → Option CommandChange
 add_lang_in rows =
-    with_word (codes "host") rows (λ host.
     with_word (codes "lang") rows (λ lang.
-    Some (AddLang host lang)))
+    Some (AddLang lang))
 
 -- `push HOST WKEY KEY branch|tag REF`
-abbrev pub push_in : List Row → Option Command
+abbrev pub push_in : List Row → Option CommandChange
 push_in rows =
-    with_word (codes "host") rows (λ host.
     with_word (codes "wkey") rows (λ wkey.
     with_word (codes "key") rows (λ key.
     with_word (codes "kind") rows (λ kind.
     with_word (codes "ref") rows (λ name.
-    option_map (λ kind. Push host wkey key kind name) (kind_of kind))))))
+    option_map (λ kind. Push wkey key kind name) (kind_of kind)))))
 
 abbrev pub one_page : Text → Text → Text → List UploadedPage
 one_page path media body = record { path = path; media = media; body = body } ∷ []
 
 -- `upload HOST WKEY KEY SLUG LANG PATH TYPE TEXT [--replace]`: one page, whose body is the bytes of
 -- TEXT
-abbrev pub upload_in : List Row → Option Command
+abbrev pub upload_in : List Row → Option CommandChange
 upload_in rows =
-    with_word (codes "host") rows (λ host.
     with_word (codes "wkey") rows (λ wkey.
     with_word (codes "key") rows (λ key.
     with_word (codes "slug") rows (λ slug.
@@ -88,58 +88,51 @@ upload_in rows =
     with_word (codes "path") rows (λ path.
     with_word (codes "type") rows (λ media.
     with_word (codes "text") rows (λ body.
-    Some (Upload host wkey key slug lang (is_set (codes "replace") rows)
-    (one_page path media body))))))))))
+    Some (Upload wkey key slug lang (is_set (codes "replace") rows)
+    (one_page path media body)))))))))
 
--- the command of this name on one version
-abbrev pub command_on : Text → Text → Text → Option Command
-command_on name host slug =
-    if bytes_eq name (codes "activate") then Some (Activate host slug)
-    else if bytes_eq name (codes "deactivate") then Some (Deactivate host slug)
-    else if bytes_eq name (codes "hide") then Some (Hide host slug)
-    else if bytes_eq name (codes "unhide") then Some (Unhide host slug)
-    else if bytes_eq name (codes "publish") then Some (Publish host slug)
-    else if bytes_eq name (codes "make-private") then Some (MakePrivate host slug)
-    else if bytes_eq name (codes "gone") then Some (Gone host slug)
-    else if bytes_eq name (codes "set-default") then Some (SetDefault host slug)
+-- the change of this name of one version
+abbrev pub change_on : Text → Text → Option CommandChange
+change_on name slug =
+    if bytes_eq name (codes "activate") then Some (Activate slug)
+    else if bytes_eq name (codes "deactivate") then Some (Deactivate slug)
+    else if bytes_eq name (codes "hide") then Some (Hide slug)
+    else if bytes_eq name (codes "unhide") then Some (Unhide slug)
+    else if bytes_eq name (codes "publish") then Some (Publish slug)
+    else if bytes_eq name (codes "make-private") then Some (MakePrivate slug)
+    else if bytes_eq name (codes "gone") then Some (Gone slug)
+    else if bytes_eq name (codes "set-default") then Some (SetDefault slug)
     else None
 
 -- `NAME HOST SLUG`
-abbrev pub version_in : Text → List Row → Option Command
-version_in name rows =
-    with_word (codes "host") rows (λ host.
-    with_word (codes "slug") rows (λ slug.
-    command_on name host slug))
+abbrev pub version_in : Text → List Row → Option CommandChange
+version_in name rows = with_word (codes "slug") rows (λ slug. change_on name slug)
 
 -- `add-pass HOST PASS`
-abbrev pub add_pass_in : List Row → Option Command
+abbrev pub add_pass_in : List Row → Option CommandChange
 add_pass_in rows =
-    with_word (codes "host") rows (λ host.
     with_word (codes "pass") rows (λ pass.
-    Some (AddPass host pass)))
+    Some (AddPass pass))
 
 -- `drop-pass HOST PASS`
-abbrev pub drop_pass_in : List Row → Option Command
+abbrev pub drop_pass_in : List Row → Option CommandChange
 drop_pass_in rows =
-    with_word (codes "host") rows (λ host.
     with_word (codes "pass") rows (λ pass.
-    Some (DropPass host pass)))
+    Some (DropPass pass))
 
 -- `grant HOST PASS SLUG`
-abbrev pub grant_in : List Row → Option Command
+abbrev pub grant_in : List Row → Option CommandChange
 grant_in rows =
-    with_word (codes "host") rows (λ host.
     with_word (codes "pass") rows (λ pass.
     with_word (codes "slug") rows (λ slug.
-    Some (Grant host pass slug))))
+    Some (Grant pass slug)))
 
 -- `revoke HOST PASS SLUG`
-abbrev pub revoke_in : List Row → Option Command
+abbrev pub revoke_in : List Row → Option CommandChange
 revoke_in rows =
-    with_word (codes "host") rows (λ host.
     with_word (codes "pass") rows (λ pass.
     with_word (codes "slug") rows (λ slug.
-    Some (Revoke host pass slug))))
+    Some (Revoke pass slug)))
 
 -- `get HOST TARGET [--pass PASS]`
 abbrev pub get_in : List Row → Option Order
@@ -148,8 +141,8 @@ get_in rows =
     with_word (codes "target") rows (λ target.
     Some (Get host target (first_of (codes "pass") rows))))
 
--- the command of a line on a pass, or on one version
-unfoldable pub access_in : Text → List Row → Option Command
+-- the change of a line on a pass, or on one version
+unfoldable pub access_in : Text → List Row → Option CommandChange
 access_in name rows =
     if bytes_eq name (codes "add-pass") then add_pass_in rows
     else if bytes_eq name (codes "drop-pass") then drop_pass_in rows
@@ -157,14 +150,24 @@ access_in name rows =
     else if bytes_eq name (codes "revoke") then revoke_in rows
     else version_in name rows
 
--- the command of a line
-unfoldable pub command_in : Text → List Row → Option Command
-command_in name rows =
+-- the change of a line
+unfoldable pub change_in : Text → List Row → Option CommandChange
+change_in name rows =
     if bytes_eq name (codes "new-project") then new_project_in rows
     else if bytes_eq name (codes "add-lang") then add_lang_in rows
     else if bytes_eq name (codes "push") then push_in rows
     else if bytes_eq name (codes "upload") then upload_in rows
     else access_in name rows
+
+-- the command that asks for this change under a host
+abbrev pub asking : Text → CommandChange → Command
+asking host change = record { host = host; change = change }
+
+-- the command of a line: each names its host
+abbrev pub command_in : Text → List Row → Option Command
+command_in name rows =
+    with_word (codes "host") rows (λ host.
+    option_map (asking host) (change_in name rows))
 
 -- what a line of this name orders
 abbrev pub order_in : Text → List Row → Option Order
@@ -210,17 +213,17 @@ Matches words (Err Memory) = ⊤
 abbrev pub Orders : List Text → Order → Type 0
 Orders words order = line_in words ≡ Some (as_line order)
 
--- `NAME HOST SLUG` orders this command, where the words that the caller chooses are plain
-abbrev pub OrdersOnVersion : Text → (Text → Text → Command) → Type 0
-OrdersOnVersion name command = (host slug : Text) → ArePlain (host ∷ slug ∷ [])
-    → Orders (name ∷ host ∷ slug ∷ []) (Act (command host slug))
+-- `NAME HOST SLUG` orders this change, where the words that the caller chooses are plain
+abbrev pub OrdersOnVersion : Text → (Text → CommandChange) → Type 0
+OrdersOnVersion name change = (host slug : Text) → ArePlain (host ∷ slug ∷ [])
+    → Orders (name ∷ host ∷ slug ∷ []) (Act (asking host (change slug)))
 
 -- and so `NAME HOST PASS`
-abbrev pub OrdersOnPass : Text → (Text → Text → Command) → Type 0
-OrdersOnPass name command = (host pass : Text) → ArePlain (host ∷ pass ∷ [])
-    → Orders (name ∷ host ∷ pass ∷ []) (Act (command host pass))
+abbrev pub OrdersOnPass : Text → (Text → CommandChange) → Type 0
+OrdersOnPass name change = (host pass : Text) → ArePlain (host ∷ pass ∷ [])
+    → Orders (name ∷ host ∷ pass ∷ []) (Act (asking host (change pass)))
 
 -- and `NAME HOST PASS SLUG`
-abbrev pub OrdersOnGrant : Text → (Text → Text → Text → Command) → Type 0
-OrdersOnGrant name command = (host pass slug : Text) → ArePlain (host ∷ pass ∷ slug ∷ [])
-    → Orders (name ∷ host ∷ pass ∷ slug ∷ []) (Act (command host pass slug))
+abbrev pub OrdersOnGrant : Text → (Text → Text → CommandChange) → Type 0
+OrdersOnGrant name change = (host pass slug : Text) → ArePlain (host ∷ pass ∷ slug ∷ [])
+    → Orders (name ∷ host ∷ pass ∷ slug ∷ []) (Act (asking host (change pass slug)))

@@ -2,14 +2,35 @@
 
 ghost use Rattle.std.specs.Prelude.{IfOk, map, [], ◌∷◌};
 ghost use Rattle.clap.specs.Simple.{app_of};
-ghost use Rattle.dh_words.specs.Apps.{IsApp, HasNoGlobals, form, with_apps};
+ghost use Rattle.dh_words.specs.Apps.{IsApp, HasNoGlobals, with_apps};
 ghost use Rattle.dh_words.specs.Apps.{with_words as words_added};
-ghost use Rattle.dh_lines.specs.App.{upload_app, get_app, bare_app, project_apps, version_apps};
-ghost use Rattle.dh_lines.specs.App.{pass_apps, docs_app};
+ghost use Rattle.dh_lines.specs.App.{bare_app, docs_app};
+ghost use Rattle.dh_lines.specs.Forms.{app_of_form, with_more};
 
 use clap::Command;
 use dh_words::{named, with_command, with_flag, with_option, with_word};
 use std::alloc::{AllocError, Global};
+
+/// What a form may take beside its words.
+#[derive(Drop)]
+enum More<'a> {
+    Nothing,
+    /// `--id`
+    Flag { id: &'a str, help: &'a str },
+    /// `--id VALUE`
+    Value { id: &'a str, help: &'a str },
+}
+
+/// A command of the program, whose words have to be there. `about` is its line of help, and
+/// `example` ends its help.
+#[derive(Drop)]
+struct Form<'a> {
+    name: &'a str,
+    about: &'a str,
+    example: &'a str,
+    ids: &'a [&'a str],
+    more: More<'a>,
+}
 
 /// What `--help` says of a word.
 fn word_help(id: &str) -> &'static str {
@@ -47,222 +68,42 @@ fn with_words<'a>(
     Ok(command)
 }
 
-/// `NAME ID ID ..`
-fn form_command<'a>(
+fn with_more_words<'a>(
     alloc: Global,
-    name: &'a str,
-    about: &'a str,
-    example: &'a str,
-    ids: &[&'a str],
+    command: Command<'a>,
+    more: &More<'a>,
 ) -> Result<Command<'a>, AllocError>
-    ensures { IfOk result (IsApp (form name.entry.now (map (λ s. s.now) ids.now))) }
+    requires { HasNoGlobals command }
+    ensures { IfOk result (IsApp (with_more (app_of command.entry) more.now)) }
 {
-    with_words(alloc, named(alloc, name, about, example), ids)
+    match more {
+        More::Nothing => Ok(command),
+        More::Flag { id, help } => with_flag(alloc, command, *id, *help),
+        More::Value { id, help } => with_option(alloc, command, *id, *help),
+    }
 }
 
-/// A program that takes one more form.
-fn with_form<'a>(
+fn form_command<'a>(alloc: Global, form: &Form<'a>) -> Result<Command<'a>, AllocError>
+    ensures { IfOk result (IsApp (app_of_form form.now)) }
+{
+    let command = named(alloc, form.name, form.about, form.example);
+    with_more_words(alloc, with_words(alloc, command, form.ids)?, &form.more)
+}
+
+/// A program that takes more forms.
+fn with_forms<'a>(
     alloc: Global,
     program: Command<'a>,
-    name: &'a str,
-    about: &'a str,
-    example: &'a str,
-    ids: &[&'a str],
+    forms: &[Form<'a>],
 ) -> Result<Command<'a>, AllocError>
     requires { HasNoGlobals program }
-    ensures { IfOk result (IsApp
-        (with_apps (app_of program.entry) (form name.entry.now (map (λ s. s.now) ids.now) ∷ []))) }
+    ensures { IfOk result (IsApp (with_apps (app_of program.entry) (map app_of_form forms.now))) }
 {
-    with_command(program, form_command(alloc, name, about, example, ids)?)
-}
-
-/// `upload HOST WKEY KEY SLUG LANG PATH TYPE TEXT [--replace]`
-fn upload_command<'a>(alloc: Global) -> Result<Command<'a>, AllocError>
-    ensures { IfOk result (IsApp upload_app) }
-{
-    let command = form_command(
-        alloc,
-        "upload",
-        "Adds a page to an active version, in place of the one at its path",
-        "Example: upload docs.test wkey-1 u1 1.0 en guide/index.html text/html Welcome",
-        &[
-            "host", "wkey", "key", "slug", "lang", "path", "type", "text",
-        ],
-    )?;
-    with_flag(
-        alloc,
-        command,
-        "replace",
-        "Deletes the version's pages in the language first",
-    )
-}
-
-/// `get HOST TARGET [--pass PASS]`
-fn get_command<'a>(alloc: Global) -> Result<Command<'a>, AllocError>
-    ensures { IfOk result (IsApp get_app) }
-{
-    let command = form_command(
-        alloc,
-        "get",
-        "Reads an address, and prints the reply's status, its location or -, and its size",
-        "Example: get docs.test /en/latest/ --pass reader-7",
-        &["host", "target"],
-    )?;
-    with_option(alloc, command, "pass", "The reader's pass")
-}
-
-fn with_upload<'a>(alloc: Global, program: Command<'a>) -> Result<Command<'a>, AllocError>
-    requires { HasNoGlobals program }
-    ensures { IfOk result (IsApp (with_apps (app_of program.entry) (upload_app ∷ []))) }
-{
-    with_command(program, upload_command(alloc)?)
-}
-
-fn with_get<'a>(alloc: Global, program: Command<'a>) -> Result<Command<'a>, AllocError>
-    requires { HasNoGlobals program }
-    ensures { IfOk result (IsApp (with_apps (app_of program.entry) (get_app ∷ []))) }
-{
-    with_command(program, get_command(alloc)?)
-}
-
-fn with_project_commands<'a>(alloc: Global, program: Command<'a>) -> Result<Command<'a>, AllocError>
-    requires { HasNoGlobals program }
-    ensures { IfOk result (IsApp (with_apps (app_of program.entry) project_apps)) }
-{
-    let program = with_form(
-        alloc,
-        program,
-        "new-project",
-        "Makes a project with one language and no version",
-        "Example: new-project docs.test en main public wkey-1",
-        &["host", "lang", "branch", "privacy", "wkey"],
-    )?;
-    let program = with_form(
-        alloc,
-        program,
-        "add-lang",
-        "Adds a language to a project",
-        "Example: add-lang docs.test fr",
-        &["host", "lang"],
-    )?;
-    let program = with_form(
-        alloc,
-        program,
-        "push",
-        "Records a branch or tag: its version is made, or is known already",
-        "Example: push docs.test wkey-1 k1 tag 1.0",
-        &["host", "wkey", "key", "kind", "ref"],
-    )?;
-    with_upload(alloc, program)
-}
-
-fn with_version_commands<'a>(alloc: Global, program: Command<'a>) -> Result<Command<'a>, AllocError>
-    requires { HasNoGlobals program }
-    ensures { IfOk result (IsApp (with_apps (app_of program.entry) version_apps)) }
-{
-    let words = ["host", "slug"];
-    let program = with_form(
-        alloc,
-        program,
-        "activate",
-        "Activates a version: its pages can be uploaded and read",
-        "Example: activate docs.test 1.0",
-        &words,
-    )?;
-    let program = with_form(
-        alloc,
-        program,
-        "deactivate",
-        "Deactivates a version and deletes its pages",
-        "Example: deactivate docs.test 1.0",
-        &words,
-    )?;
-    let program = with_form(
-        alloc,
-        program,
-        "hide",
-        "Hides a version: it is served, and left out of lists",
-        "Example: hide docs.test 1.0",
-        &words,
-    )?;
-    let program = with_form(
-        alloc,
-        program,
-        "unhide",
-        "Shows a hidden version in lists again",
-        "Example: unhide docs.test 1.0",
-        &words,
-    )?;
-    let program = with_form(
-        alloc,
-        program,
-        "publish",
-        "Makes a version public",
-        "Example: publish docs.test 1.0",
-        &words,
-    )?;
-    let program = with_form(
-        alloc,
-        program,
-        "make-private",
-        "Makes a version private: read with a pass that it is granted to",
-        "Example: make-private docs.test 1.0",
-        &words,
-    )?;
-    let program = with_form(
-        alloc,
-        program,
-        "gone",
-        "Deletes a version with its pages and the grants on it",
-        "Example: gone docs.test 1.0",
-        &words,
-    )?;
-    with_form(
-        alloc,
-        program,
-        "set-default",
-        "Makes a version, or an alias such as latest, the project's first default",
-        "Example: set-default docs.test 1.0",
-        &words,
-    )
-}
-
-fn with_pass_commands<'a>(alloc: Global, program: Command<'a>) -> Result<Command<'a>, AllocError>
-    requires { HasNoGlobals program }
-    ensures { IfOk result (IsApp (with_apps (app_of program.entry) pass_apps)) }
-{
-    let program = with_form(
-        alloc,
-        program,
-        "add-pass",
-        "Adds a pass with no grants to a project",
-        "Example: add-pass docs.test reader-7",
-        &["host", "pass"],
-    )?;
-    let program = with_form(
-        alloc,
-        program,
-        "drop-pass",
-        "Deletes a pass and its grants",
-        "Example: drop-pass docs.test reader-7",
-        &["host", "pass"],
-    )?;
-    let program = with_form(
-        alloc,
-        program,
-        "grant",
-        "Grants a version to a pass",
-        "Example: grant docs.test reader-7 1.0",
-        &["host", "pass", "slug"],
-    )?;
-    with_form(
-        alloc,
-        program,
-        "revoke",
-        "Takes the grant of a version from a pass",
-        "Example: revoke docs.test reader-7 1.0",
-        &["host", "pass", "slug"],
-    )
+    let mut program = program;
+    for form in forms {
+        program = with_command(program, form_command(alloc, form)?)?;
+    }
+    Ok(program)
 }
 
 fn bare_command<'a>(alloc: Global) -> Command<'a>
@@ -280,28 +121,154 @@ fn bare_command<'a>(alloc: Global) -> Command<'a>
     .subcommand_required(true)
 }
 
+/// The commands of the program: the lines of scripts, and what it does with its input.
+const FORMS: [Form<'static>; 19] = [
+    Form {
+        name: "new-project",
+        about: "Makes a project with one language and no version",
+        example: "Example: new-project docs.test en main public wkey-1",
+        ids: &["host", "lang", "branch", "privacy", "wkey"],
+        more: More::Nothing,
+    },
+    Form {
+        name: "add-lang",
+        about: "Adds a language to a project",
+        example: "Example: add-lang docs.test fr",
+        ids: &["host", "lang"],
+        more: More::Nothing,
+    },
+    Form {
+        name: "push",
+        about: "Records a branch or tag: its version is made, or is known already",
+        example: "Example: push docs.test wkey-1 k1 tag 1.0",
+        ids: &["host", "wkey", "key", "kind", "ref"],
+        more: More::Nothing,
+    },
+    Form {
+        name: "upload",
+        about: "Adds a page to an active version, in place of the one at its path",
+        example: "Example: upload docs.test wkey-1 u1 1.0 en guide/index.html text/html Welcome",
+        ids: &[
+            "host", "wkey", "key", "slug", "lang", "path", "type", "text",
+        ],
+        more: More::Flag {
+            id: "replace",
+            help: "Deletes the version's pages in the language first",
+        },
+    },
+    Form {
+        name: "activate",
+        about: "Activates a version: its pages can be uploaded and read",
+        example: "Example: activate docs.test 1.0",
+        ids: &["host", "slug"],
+        more: More::Nothing,
+    },
+    Form {
+        name: "deactivate",
+        about: "Deactivates a version and deletes its pages",
+        example: "Example: deactivate docs.test 1.0",
+        ids: &["host", "slug"],
+        more: More::Nothing,
+    },
+    Form {
+        name: "hide",
+        about: "Hides a version: it is served, and left out of lists",
+        example: "Example: hide docs.test 1.0",
+        ids: &["host", "slug"],
+        more: More::Nothing,
+    },
+    Form {
+        name: "unhide",
+        about: "Shows a hidden version in lists again",
+        example: "Example: unhide docs.test 1.0",
+        ids: &["host", "slug"],
+        more: More::Nothing,
+    },
+    Form {
+        name: "publish",
+        about: "Makes a version public",
+        example: "Example: publish docs.test 1.0",
+        ids: &["host", "slug"],
+        more: More::Nothing,
+    },
+    Form {
+        name: "make-private",
+        about: "Makes a version private: read with a pass that it is granted to",
+        example: "Example: make-private docs.test 1.0",
+        ids: &["host", "slug"],
+        more: More::Nothing,
+    },
+    Form {
+        name: "gone",
+        about: "Deletes a version with its pages and the grants on it",
+        example: "Example: gone docs.test 1.0",
+        ids: &["host", "slug"],
+        more: More::Nothing,
+    },
+    Form {
+        name: "set-default",
+        about: "Makes a version, or an alias such as latest, the project's first default",
+        example: "Example: set-default docs.test 1.0",
+        ids: &["host", "slug"],
+        more: More::Nothing,
+    },
+    Form {
+        name: "add-pass",
+        about: "Adds a pass with no grants to a project",
+        example: "Example: add-pass docs.test reader-7",
+        ids: &["host", "pass"],
+        more: More::Nothing,
+    },
+    Form {
+        name: "drop-pass",
+        about: "Deletes a pass and its grants",
+        example: "Example: drop-pass docs.test reader-7",
+        ids: &["host", "pass"],
+        more: More::Nothing,
+    },
+    Form {
+        name: "grant",
+        about: "Grants a version to a pass",
+        example: "Example: grant docs.test reader-7 1.0",
+        ids: &["host", "pass", "slug"],
+        more: More::Nothing,
+    },
+    Form {
+        name: "revoke",
+        about: "Takes the grant of a version from a pass",
+        example: "Example: revoke docs.test reader-7 1.0",
+        ids: &["host", "pass", "slug"],
+        more: More::Nothing,
+    },
+    Form {
+        name: "get",
+        about: "Reads an address, and prints the reply's status, its location or -, and its size",
+        example: "Example: get docs.test /en/latest/ --pass reader-7",
+        ids: &["host", "target"],
+        more: More::Value {
+            id: "pass",
+            help: "The reader's pass",
+        },
+    },
+    Form {
+        name: "script",
+        about: "Runs the lines of standard input, over an empty store in memory",
+        example: "Example: docs_host script < lines.txt",
+        ids: &[],
+        more: More::Nothing,
+    },
+    Form {
+        name: "answer",
+        about: "Answers one HTTP request from standard input, over the sample project of docs.test",
+        example: "Example: docs_host answer < request.http",
+        ids: &[],
+        more: More::Nothing,
+    },
+];
+
 /// The program with all that its words may be.
 pub fn docs_command<'a>(alloc: Global) -> Result<Command<'a>, AllocError>
     ensures { IfOk result (IsApp docs_app) }
 {
-    let program = with_project_commands(alloc, bare_command(alloc))?;
-    let program = with_version_commands(alloc, program)?;
-    let program = with_pass_commands(alloc, program)?;
-    let program = with_get(alloc, program)?;
-    let program = with_form(
-        alloc,
-        program,
-        "script",
-        "Runs the lines of standard input, over an empty store in memory",
-        "Example: docs_host script < lines.txt",
-        &[],
-    )?;
-    with_form(
-        alloc,
-        program,
-        "answer",
-        "Answers one HTTP request from standard input, over the sample project of docs.test",
-        "Example: docs_host answer < request.http",
-        &[],
-    )
+    with_forms(alloc, bare_command(alloc), &FORMS)
 }

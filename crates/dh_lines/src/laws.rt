@@ -4,16 +4,17 @@
 ghost use Rattle.std.specs.Prelude.{◌≡◌, true, false, Some, None, codes, ◌∷◌, [], List};
 ghost use Rattle.clap.specs.Walk.{Text};
 ghost use Rattle.dh_versions.specs.declared.version.Kind.TheVariants.{Branch, Tag};
-ghost use Rattle.dh_world.specs.declared.command.Command.TheVariants.{NewProject, AddLang, Push};
-ghost use Rattle.dh_world.specs.declared.command.Command.TheVariants.{Upload, Activate, Deactivate};
-ghost use Rattle.dh_world.specs.declared.command.Command.TheVariants.{Hide, Unhide, Publish};
-ghost use Rattle.dh_world.specs.declared.command.Command.TheVariants.{MakePrivate, Gone};
-ghost use Rattle.dh_world.specs.declared.command.Command.TheVariants.{SetDefault};
-ghost use Rattle.dh_world.specs.declared.command.Command.TheVariants.{AddPass, DropPass, Grant};
-ghost use Rattle.dh_world.specs.declared.command.Command.TheVariants.{Revoke};
+ghost use Rattle.dh_world.specs.declared.command.CommandChange.TheVariants.{NewProject, AddLang};
+ghost use Rattle.dh_world.specs.declared.command.CommandChange.TheVariants.{Push, Upload, Activate};
+ghost use Rattle.dh_world.specs.declared.command.CommandChange.TheVariants.{Deactivate, Hide};
+ghost use Rattle.dh_world.specs.declared.command.CommandChange.TheVariants.{Unhide, Publish};
+ghost use Rattle.dh_world.specs.declared.command.CommandChange.TheVariants.{MakePrivate, Gone};
+ghost use Rattle.dh_world.specs.declared.command.CommandChange.TheVariants.{SetDefault, AddPass};
+ghost use Rattle.dh_world.specs.declared.command.CommandChange.TheVariants.{DropPass, Grant};
+ghost use Rattle.dh_world.specs.declared.command.CommandChange.TheVariants.{Revoke};
 ghost use Rattle.dh_words.specs.Words.{is_plain, ArePlain, has_command};
 ghost use Rattle.dh_lines.specs.App.{docs_app};
-ghost use Rattle.dh_lines.specs.Lines.{line_in, one_page, Orders, OrdersOnVersion, OrdersOnPass};
+ghost use Rattle.dh_lines.specs.Lines.{line_in, asking, Orders, OrdersOnVersion, OrdersOnPass};
 ghost use Rattle.dh_lines.specs.Lines.{OrdersOnGrant};
 ghost use Rattle.dh_lines.specs.declared.lines.Order.TheVariants.{Act, Get, Script, Answer};
 
@@ -22,19 +23,19 @@ pub fn project_lines()
     ensures new_public { (host lang branch wkey : Text)
         → ArePlain (host ∷ lang ∷ branch ∷ wkey ∷ [])
         → Orders (codes "new-project" ∷ host ∷ lang ∷ branch ∷ codes "public" ∷ wkey ∷ [])
-        (Act (NewProject host lang branch false wkey)) }
+        (Act (asking host (NewProject lang branch false wkey))) }
     ensures new_private { (host lang branch wkey : Text)
         → ArePlain (host ∷ lang ∷ branch ∷ wkey ∷ [])
         → Orders (codes "new-project" ∷ host ∷ lang ∷ branch ∷ codes "private" ∷ wkey ∷ [])
-        (Act (NewProject host lang branch true wkey)) }
+        (Act (asking host (NewProject lang branch true wkey))) }
     ensures add_lang { (host lang : Text) → ArePlain (host ∷ lang ∷ [])
-        → Orders (codes "add-lang" ∷ host ∷ lang ∷ []) (Act (AddLang host lang)) }
+        → Orders (codes "add-lang" ∷ host ∷ lang ∷ []) (Act (asking host (AddLang lang))) }
     ensures push_branch { (host wkey key name : Text) → ArePlain (host ∷ wkey ∷ key ∷ name ∷ [])
         → Orders (codes "push" ∷ host ∷ wkey ∷ key ∷ codes "branch" ∷ name ∷ [])
-        (Act (Push host wkey key Branch name)) }
+        (Act (asking host (Push wkey key Branch name))) }
     ensures push_tag { (host wkey key name : Text) → ArePlain (host ∷ wkey ∷ key ∷ name ∷ [])
         → Orders (codes "push" ∷ host ∷ wkey ∷ key ∷ codes "tag" ∷ name ∷ [])
-        (Act (Push host wkey key Tag name)) }
+        (Act (asking host (Push wkey key Tag name))) }
 {}
 
 /// The lines that upload a page, whose body is the last word before `--replace`.
@@ -42,20 +43,20 @@ pub fn upload_lines()
     ensures upload { (host wkey key slug lang path media body : Text)
         → ArePlain (host ∷ wkey ∷ key ∷ slug ∷ lang ∷ path ∷ media ∷ body ∷ [])
         → Orders (codes "upload" ∷ host ∷ wkey ∷ key ∷ slug ∷ lang ∷ path ∷ media ∷ body ∷ [])
-        (Act (Upload host wkey key slug lang false
-        (record { path = path; media = media; body = body } ∷ []))) }
+        (Act (asking host (Upload wkey key slug lang false
+        (record { path = path; media = media; body = body } ∷ [])))) }
     ensures replace { (host wkey key slug lang path media body : Text)
         → ArePlain (host ∷ wkey ∷ key ∷ slug ∷ lang ∷ path ∷ media ∷ body ∷ [])
         → Orders (codes "upload" ∷ host ∷ wkey ∷ key ∷ slug ∷ lang ∷ path ∷ media ∷ body
         ∷ codes "--replace" ∷ [])
-        (Act (Upload host wkey key slug lang true
-        (record { path = path; media = media; body = body } ∷ []))) }
+        (Act (asking host (Upload wkey key slug lang true
+        (record { path = path; media = media; body = body } ∷ [])))) }
     ensures replace_first { (host wkey key slug lang path media body : Text)
         → ArePlain (host ∷ wkey ∷ key ∷ slug ∷ lang ∷ path ∷ media ∷ body ∷ [])
         → Orders (codes "upload" ∷ codes "--replace" ∷ host ∷ wkey ∷ key ∷ slug ∷ lang ∷ path
         ∷ media ∷ body ∷ [])
-        (Act (Upload host wkey key slug lang true
-        (record { path = path; media = media; body = body } ∷ []))) }
+        (Act (asking host (Upload wkey key slug lang true
+        (record { path = path; media = media; body = body } ∷ [])))) }
 {}
 
 /// The lines on one version.

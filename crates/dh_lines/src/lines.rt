@@ -5,7 +5,7 @@ use clap::ArgMatches;
 use clap::error::ErrorKind;
 use dh_paths::{Bytes, Text};
 use dh_versions::Kind;
-use dh_world::{Command, Pages, UploadedPage};
+use dh_world::{Command, CommandChange, Pages, UploadedPage};
 use std::alloc::{AllocError, Global};
 use thiserror::Error;
 
@@ -63,9 +63,9 @@ ghost use Rattle.dh_words.specs.Apps.{StandsFor};
 ghost use Rattle.dh_lines.specs.App.{docs_app};
 ghost use Rattle.dh_lines.specs.Lines.{one_page as pages_of};
 ghost use Rattle.dh_lines.specs.Lines.{is_set, privacy_of, kind_of, new_project_in, add_lang_in};
-ghost use Rattle.dh_lines.specs.Lines.{push_in, upload_in, command_on, version_in, add_pass_in};
-ghost use Rattle.dh_lines.specs.Lines.{drop_pass_in, grant_in, revoke_in, access_in, command_in};
-ghost use Rattle.dh_lines.specs.Lines.{get_in, order_of, line_in, Says, Matches};
+ghost use Rattle.dh_lines.specs.Lines.{push_in, upload_in, change_on, version_in, add_pass_in};
+ghost use Rattle.dh_lines.specs.Lines.{drop_pass_in, grant_in, revoke_in, access_in, change_in};
+ghost use Rattle.dh_lines.specs.Lines.{command_in, get_in, order_of, line_in, Says, Matches};
 
 fn value<'a>(matches: &ArgMatches<'a>, id: &str) -> Option<&'a str>
     ensures { option_map (λ s. s.now) result ≡ first_of id.now (rows_of (found_of matches.now)) }
@@ -137,17 +137,15 @@ fn read_kind(text: &str) -> Option<Kind>
     }
 }
 
-fn new_project(alloc: Global, matches: &ArgMatches<'_>) -> Result<Command, LineFault>
+fn new_project(alloc: Global, matches: &ArgMatches<'_>) -> Result<CommandChange, LineFault>
     ensures { Says (new_project_in (rows_of (found_of matches.now))) result }
 {
-    let host = word(alloc, matches, "host")?;
     let lang = word(alloc, matches, "lang")?;
     let branch = word(alloc, matches, "branch")?;
     let privacy = word(alloc, matches, "privacy")?;
     let wkey = word(alloc, matches, "wkey")?;
     match read_privacy(privacy.as_str()) {
-        Some(private) => Ok(Command::NewProject {
-            host,
+        Some(private) => Ok(CommandChange::NewProject {
             lang,
             branch,
             private,
@@ -157,25 +155,22 @@ fn new_project(alloc: Global, matches: &ArgMatches<'_>) -> Result<Command, LineF
     }
 }
 
-fn add_lang(alloc: Global, matches: &ArgMatches<'_>) -> Result<Command, LineFault>
+fn add_lang(alloc: Global, matches: &ArgMatches<'_>) -> Result<CommandChange, LineFault>
     ensures { Says (add_lang_in (rows_of (found_of matches.now))) result }
 {
-    let host = word(alloc, matches, "host")?;
     let lang = word(alloc, matches, "lang")?;
-    Ok(Command::AddLang { host, lang })
+    Ok(CommandChange::AddLang { lang })
 }
 
-fn push(alloc: Global, matches: &ArgMatches<'_>) -> Result<Command, LineFault>
+fn push(alloc: Global, matches: &ArgMatches<'_>) -> Result<CommandChange, LineFault>
     ensures { Says (push_in (rows_of (found_of matches.now))) result }
 {
-    let host = word(alloc, matches, "host")?;
     let wkey = word(alloc, matches, "wkey")?;
     let key = word(alloc, matches, "key")?;
     let kind_word = word(alloc, matches, "kind")?;
     let name = word(alloc, matches, "ref")?;
     match read_kind(kind_word.as_str()) {
-        Some(kind) => Ok(Command::Push {
-            host,
+        Some(kind) => Ok(CommandChange::Push {
             wkey,
             key,
             kind,
@@ -193,10 +188,9 @@ fn one_page(alloc: Global, path: Text, media: Text, body: Bytes) -> Result<Pages
     Ok(Pages::wrap(pages))
 }
 
-fn upload(alloc: Global, matches: &ArgMatches<'_>) -> Result<Command, LineFault>
+fn upload(alloc: Global, matches: &ArgMatches<'_>) -> Result<CommandChange, LineFault>
     ensures { Says (upload_in (rows_of (found_of matches.now))) result }
 {
-    let host = word(alloc, matches, "host")?;
     let wkey = word(alloc, matches, "wkey")?;
     let key = word(alloc, matches, "key")?;
     let slug = word(alloc, matches, "slug")?;
@@ -204,8 +198,7 @@ fn upload(alloc: Global, matches: &ArgMatches<'_>) -> Result<Command, LineFault>
     let path = word(alloc, matches, "path")?;
     let media = word(alloc, matches, "type")?;
     let body = word_bytes(alloc, matches, "text")?;
-    Ok(Command::Upload {
-        host,
+    Ok(CommandChange::Upload {
         wkey,
         key,
         slug,
@@ -215,66 +208,61 @@ fn upload(alloc: Global, matches: &ArgMatches<'_>) -> Result<Command, LineFault>
     })
 }
 
-/// The command of this name on one version.
-fn named_on(name: &str, host: Text, slug: Text) -> Option<Command>
-    ensures { result ≡ command_on name.now host slug }
+/// The change of this name of one version.
+fn named_on(name: &str, slug: Text) -> Option<CommandChange>
+    ensures { result ≡ change_on name.now slug }
 {
     match name {
-        "activate" => Some(Command::Activate { host, slug }),
-        "deactivate" => Some(Command::Deactivate { host, slug }),
-        "hide" => Some(Command::Hide { host, slug }),
-        "unhide" => Some(Command::Unhide { host, slug }),
-        "publish" => Some(Command::Publish { host, slug }),
-        "make-private" => Some(Command::MakePrivate { host, slug }),
-        "gone" => Some(Command::Gone { host, slug }),
-        "set-default" => Some(Command::SetDefault { host, name: slug }),
+        "activate" => Some(CommandChange::Activate { slug }),
+        "deactivate" => Some(CommandChange::Deactivate { slug }),
+        "hide" => Some(CommandChange::Hide { slug }),
+        "unhide" => Some(CommandChange::Unhide { slug }),
+        "publish" => Some(CommandChange::Publish { slug }),
+        "make-private" => Some(CommandChange::MakePrivate { slug }),
+        "gone" => Some(CommandChange::Gone { slug }),
+        "set-default" => Some(CommandChange::SetDefault { name: slug }),
         _ => None,
     }
 }
 
-fn version(alloc: Global, name: &str, matches: &ArgMatches<'_>) -> Result<Command, LineFault>
+fn version(alloc: Global, name: &str, matches: &ArgMatches<'_>) -> Result<CommandChange, LineFault>
     ensures { Says (version_in name.now (rows_of (found_of matches.now))) result }
 {
-    let host = word(alloc, matches, "host")?;
     let slug = word(alloc, matches, "slug")?;
-    match named_on(name, host, slug) {
-        Some(command) => Ok(command),
+    match named_on(name, slug) {
+        Some(change) => Ok(change),
         None => Err(LineFault::Usage),
     }
 }
 
-fn add_pass(alloc: Global, matches: &ArgMatches<'_>) -> Result<Command, LineFault>
+fn add_pass(alloc: Global, matches: &ArgMatches<'_>) -> Result<CommandChange, LineFault>
     ensures { Says (add_pass_in (rows_of (found_of matches.now))) result }
 {
-    let host = word(alloc, matches, "host")?;
     let pass = word(alloc, matches, "pass")?;
-    Ok(Command::AddPass { host, pass })
+    Ok(CommandChange::AddPass { pass })
 }
 
-fn drop_pass(alloc: Global, matches: &ArgMatches<'_>) -> Result<Command, LineFault>
+fn drop_pass(alloc: Global, matches: &ArgMatches<'_>) -> Result<CommandChange, LineFault>
     ensures { Says (drop_pass_in (rows_of (found_of matches.now))) result }
 {
-    let host = word(alloc, matches, "host")?;
     let pass = word(alloc, matches, "pass")?;
-    Ok(Command::DropPass { host, pass })
+    Ok(CommandChange::DropPass { pass })
 }
 
-fn grant(alloc: Global, matches: &ArgMatches<'_>) -> Result<Command, LineFault>
+fn grant(alloc: Global, matches: &ArgMatches<'_>) -> Result<CommandChange, LineFault>
     ensures { Says (grant_in (rows_of (found_of matches.now))) result }
 {
-    let host = word(alloc, matches, "host")?;
     let pass = word(alloc, matches, "pass")?;
     let slug = word(alloc, matches, "slug")?;
-    Ok(Command::Grant { host, pass, slug })
+    Ok(CommandChange::Grant { pass, slug })
 }
 
-fn revoke(alloc: Global, matches: &ArgMatches<'_>) -> Result<Command, LineFault>
+fn revoke(alloc: Global, matches: &ArgMatches<'_>) -> Result<CommandChange, LineFault>
     ensures { Says (revoke_in (rows_of (found_of matches.now))) result }
 {
-    let host = word(alloc, matches, "host")?;
     let pass = word(alloc, matches, "pass")?;
     let slug = word(alloc, matches, "slug")?;
-    Ok(Command::Revoke { host, pass, slug })
+    Ok(CommandChange::Revoke { pass, slug })
 }
 
 fn get(alloc: Global, matches: &ArgMatches<'_>) -> Result<Order, LineFault>
@@ -288,7 +276,7 @@ fn get(alloc: Global, matches: &ArgMatches<'_>) -> Result<Order, LineFault>
 
 /// A line on a pass, or on one version.
 #[tactic(auto, unfolding(crate::specs::Lines::access_in))]
-fn access(alloc: Global, name: &str, matches: &ArgMatches<'_>) -> Result<Command, LineFault>
+fn access(alloc: Global, name: &str, matches: &ArgMatches<'_>) -> Result<CommandChange, LineFault>
     ensures { Says (access_in name.now (rows_of (found_of matches.now))) result }
 {
     match name {
@@ -300,10 +288,10 @@ fn access(alloc: Global, name: &str, matches: &ArgMatches<'_>) -> Result<Command
     }
 }
 
-/// A line that is a command.
-#[tactic(auto, unfolding(crate::specs::Lines::command_in))]
-fn command(alloc: Global, name: &str, matches: &ArgMatches<'_>) -> Result<Command, LineFault>
-    ensures { Says (command_in name.now (rows_of (found_of matches.now))) result }
+/// The change of a line that is a command.
+#[tactic(auto, unfolding(crate::specs::Lines::change_in))]
+fn change(alloc: Global, name: &str, matches: &ArgMatches<'_>) -> Result<CommandChange, LineFault>
+    ensures { Says (change_in name.now (rows_of (found_of matches.now))) result }
 {
     match name {
         "new-project" => new_project(alloc, matches),
@@ -312,6 +300,15 @@ fn command(alloc: Global, name: &str, matches: &ArgMatches<'_>) -> Result<Comman
         "upload" => upload(alloc, matches),
         _ => access(alloc, name, matches),
     }
+}
+
+/// A line that is a command: each names its host.
+fn command(alloc: Global, name: &str, matches: &ArgMatches<'_>) -> Result<Command, LineFault>
+    ensures { Says (command_in name.now (rows_of (found_of matches.now))) result }
+{
+    let host = word(alloc, matches, "host")?;
+    let change = change(alloc, name, matches)?;
+    Ok(Command { host, change })
 }
 
 fn read_order(alloc: Global, matches: &ArgMatches<'_>) -> Result<Order, LineFault>

@@ -1,5 +1,5 @@
 -- What a statement on a table of ours asks and does, from its text alone: one lemma for each shape.
-use Rattle.std.proofs.Common.{◌≡◌, ℕ, ℤ, List, [], ◌∷◌, length, map, filter, not, Bool, true, false, None, Some, Ok, ◌/◌, sym, subst}
+use Rattle.std.proofs.Common.{◌≡◌, inl, inr, ℕ, ℤ, List, [], ◌∷◌, ◌≤◌, length, map, filter, not, Bool, true, false, None, Some, IsSome, Ok, ◌/◌, sym, ap, subst, ◌∙◌, true≢false}
 use Rattle.sqlite_value.specs.declared.value.Value.TheVariants.{Null, Int}
 use Rattle.sqlite_value.specs.declared.keys.Key.{Key}
 use Rattle.sqlite_value.specs.Order.{Row}
@@ -7,21 +7,24 @@ use Rattle.sqlite_sql.specs.Term.{Term}
 use Rattle.sqlite_sql.specs.Query.{key_cmp}
 use Rattle.sqlite_schema.specs.declared.schema.Table.{Table}
 use Rattle.sqlite_schema.specs.declared.schema.Schema.{Schema}
-use Rattle.sqlite_typing.specs.Types.{row_classes, are_typed}
-use Rattle.sqlite.specs.Effect.{Database, Reads, value_rows}
+use Rattle.sqlite_typing.specs.Types.{row_classes, are_typed, accepts_program}
+use Rattle.sqlite_schema.specs.declared.command.Command.TheVariants.{Select}
+use Rattle.sqlite_syntax.specs.declared.statement.Parsed.{Parsed}
+use Rattle.sqlite.specs.Effect.{Database, Reads, RefusesToRead, value_rows}
 use Rattle.sqlite.specs.Given.{IsPlain}
 use Rattle.sqlite.specs.Listing.{understood, reads_listing}
 use Rattle.sqlite.specs.Does.{Does}
 use Rattle.sqlite.specs.State.{State, mode_of}
-use Rattle.dh_rows.specs.Calls.{command_of, statement_of, IsEdit, Edits}
+use Rattle.dh_rows.specs.Calls.{command_of, statement_of, IsEdit, IsUnfit, Edits}
+use Rattle.dh_rows.proofs.Calls.{tail_of, parameters_of}
 use Rattle.dh_rows.specs.Keyed.{Coding, by_key, IsFreeKey, added, put}
 use Rattle.dh_rows.specs.Places.{tree_of, table_in, Keeps, records_of}
-use Rattle.dh_rows.proofs.Terms.{wanted, rising, columns_at}
+use Rattle.dh_rows.proofs.Terms.{wanted, rising, from_table, columns_at}
 use Rattle.dh_rows.proofs.Shapes.{matching, outp}
 use Rattle.dh_rows.proofs.Effects.{IsSimple, AreOfKinds, Turns, delete_turns, insert_turns, select_reads}
-use Rattle.dh_rows.proofs.Texts.{ArePlain, name_at, delete_is, select_is, insert_is}
+use Rattle.dh_rows.proofs.Texts.{ArePlain, Chooses, all_suit, name_at, delete_is, select_is, select_accepts, insert_is}
 use Rattle.dh_rows.proofs.Upsert.{IsUpsert, IsKeyOf, Fits, upsert_is, put_turns}
-use Rattle.dh_rows.proofs.Read.{delete_of, is_delete, select_of, is_select, insert_of, is_insert}
+use Rattle.dh_rows.proofs.Read.{delete_of, is_delete, select_of, is_select, parameters_in, Counts, are_counted, insert_of, is_insert}
 
 -- what `change` asks of a text, and what it then does to one table
 pub record Writes (s : State) (text : List ℕ) (params : Row) (t : Table) {X : Type 0} (c : Coding X) (change : List X → List X) : Type 0 where
@@ -34,6 +37,38 @@ pub record Answers (s : State) (text : List ℕ) (params : Row) (answer : List R
   pub plain : IsPlain (understood s.now.schema text)
   pub listing : reads_listing s.now.schema text ≡ false
   pub reads : (rows : List Row) → Reads (command_of (understood s.now.schema text)) s.now params rows → rows ≡ answer
+  -- only a limit on steps refuses it
+  pub fits : IsUnfit s text params → IsSome s.step_limit
+
+-- A query of one table that takes its parameters is refused for a limit on steps alone.
+fitting : (s : State) (text : List ℕ) (params : Row) {tree : ℕ} {terms shown : List Term} {order : List (Term × Key)} {names : List (List ℕ)} → Chooses s.now.schema text (Select (record { lets = []; body = from_table tree terms shown order }) names)
+    → Counts text (length params) → accepts_program s.now.schema [] (from_table tree terms shown order) params ≡ true → IsUnfit s text params → IsSome s.step_limit
+fitting s text params {tree = tree} it counts accepts (e, inl wrong) = absurd (elim wrong [
+  | inl unread ↦ subst IsPlain unread.1 it.means.plain
+  | inr read ↦ elim read.2 [
+    | inl past ↦ past.0 (subst (λ r. length text ≤ tail_of r) read.1 (subst (λ n. length text ≤ n) (sym it.tail) whole))
+    | inr more ↦ elim more [
+      | inl given ↦ given.0 (sym count ∙ ap parameters_of read.1)
+      | inr timed ↦ timed.0 (subst IsPlain read.1 it.means.plain).1
+    ]
+  ]
+])
+  where
+    same : counts.parsed ≡ it.parsed
+    same = let both : Ok counts.parsed ≡ Ok it.parsed = sym counts.read ∙ it.read in cc
+
+    whole : length text ≤ it.parsed.tail
+    whole = subst (λ (p : Parsed). length text ≤ p.tail) same counts.whole
+
+    count : parameters_of (understood s.now.schema text) ≡ length params
+    count = it.given ∙ ap (λ (p : Parsed). length p.names) (sym same) ∙ counts.given
+fitting s text params {tree = tree} it counts accepts (e, inr refuses) = elim (subst (λ k. RefusesToRead s.step_limit k s.now params e) it.means.is refuses) [
+  | inl typed ↦ absurd (true≢false (sym accepts ∙ typed.1))
+  | inr more ↦ elim more [
+    | inl over ↦ absurd (elim over.1 [ inl none ↦ none | inr folds ↦ folds.4 ])
+    | inr limit ↦ limit.1
+  ]
+]
 
 module _ (t : Table) (simple : IsSimple t) (plain : ArePlain t.columns) {X : Type 0} (c : Coding X) (s : State) (keeps : Keeps t c s.now) where
   -- DELETE FROM t WHERE ..
@@ -72,15 +107,18 @@ module _ (t : Table) (simple : IsSimple t) (plain : ArePlain t.columns) {X : Typ
       }
 
   -- SELECT .. FROM t WHERE .. ORDER BY the whole key
-  pub select : (text : List ℕ) (ks : List ℕ) (ws : List (ℕ × ℕ)) (os : List ℕ) → select_of t text ≡ Some (ks, ws, os) → (params : Row) (test : X → Bool) (show : X → Row)
+  pub select : (text : List ℕ) (ks : List ℕ) (ws : List (ℕ × ℕ)) (os : List ℕ) → select_of t text ≡ Some (ks, ws, os) → (params : Row) → parameters_in text ≡ Some (length params) → all_suit t params ws ≡ true
+      → (test : X → Bool) (show : X → Row)
       → ((n : ℤ) (x : X) → matching (wanted ws) params (Int n ∷ c.encode x) ≡ test x)
       → ((n : ℤ) (x : X) → outp c (wanted ws) (columns_at ks) (map rising os) (tree_of s.now.schema t.name) params (Int n ∷ c.encode x) ≡ (c.key x, show x))
       → ((x y : X) → key_cmp 0 (map (λ (k : Term × Key). k.1) (map rising os)) (c.key x) (c.key y) ≡ by_key c.key x y)
       → Answers s text params (map show (filter test (records_of c t.name s.now)))
-  select text ks ws os read params test show sees shows sorts =
-      let both = select_is s.now.schema t keeps.stands simple plain text ks ws os (is_select t text ks ws os read) in
+  select text ks ws os read params count suits test show sees shows sorts =
+      let shape = is_select t text ks ws os read in
+      let it = select_is s.now.schema t keeps.stands simple plain text ks ws os shape in
       record {
-        plain = both.0.plain;
-        listing = both.1;
-        reads = λ rows it. select_reads s.now t c keeps params (wanted ws) (columns_at ks) (map rising os) (map (name_at t) ks) test show sees shows sorts rows (subst (λ k. Reads k s.now params rows) both.0.is it);
+        plain = it.means.plain;
+        listing = it.listing;
+        reads = λ rows found. select_reads s.now t c keeps params (wanted ws) (columns_at ks) (map rising os) (map (name_at t) ks) test show sees shows sorts rows (subst (λ k. Reads k s.now params rows) it.means.is found);
+        fits = fitting s text params it (are_counted text (length params) count) (select_accepts s.now.schema t keeps.stands simple plain text ks ws os shape params suits);
       }

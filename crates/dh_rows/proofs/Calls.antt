@@ -2,7 +2,6 @@
 use Rattle.std.proofs.Common.{◌≡◌, ◌⊎◌, inl, inr, ℕ, Option, List, [], codes, Bool, true, false, not, cond, ◌≤◌, ◌||◌, length, None, Some, IsSome, Ok, Err, Result, IsTrue, OnOk, OnErr, IfErr, IsErrAnd, refl, sym, ap, subst, ◌∙◌, arith, append-nil, true≢false}
 use Rattle.std.proofs.lemmas.Bool.{cases_Bool}
 use Rattle.sqlite_value.specs.Order.{Row}
-use Rattle.sqlite_disk.specs.Disk.{MoreFaults}
 use Rattle.sqlite_trees.specs.Tree.{Trees}
 use Rattle.sqlite_trees.specs.declared.error.StoreError.{StoreError}
 use Rattle.sqlite_trees.specs.declared.error.StoreError.TheVariants.{OutOfMemory, Io, Corrupt, Full, Broken, Unstorable}
@@ -15,10 +14,10 @@ use Rattle.sqlite_resolve.specs.declared.compiled.Compiled.{Compiled}
 use Rattle.sqlite_resolve.specs.declared.error.CompileError.{CompileError}
 use Rattle.sqlite_tied.specs.Compute.{everything}
 use Rattle.sqlite.specs.declared.error.Error.{Error}
-use Rattle.sqlite.specs.Effect.{Database, Reads, is_query}
+use Rattle.sqlite.specs.Effect.{Database, RefusesToRead, is_query}
 use Rattle.sqlite.specs.Calls.{IsWrite}
 use Rattle.sqlite.specs.Does.{Does}
-use Rattle.sqlite.specs.Listing.{understood, reads_listing}
+use Rattle.sqlite.specs.Listing.{understood, IsSourceOf}
 use Rattle.sqlite.specs.State as state
 use Rattle.sqlite.specs.State.{State, HasCleanDisk, Survives, Executes, ExecutesIn, IsNotRun, FailsToQuery, Shown, RunsCommand, FailsToShow, ShowsRows, Runs, Fails, IsUnchanged, IsRolledBack, shows_rows, CommitsBy, MayCommit, text_of}
 use Rattle.sqlite.specs.Clock.{timed}
@@ -28,7 +27,7 @@ use Rattle.sqlite.proofs.Callers.{IsPlain, runs_as, reads_as, never_commits}
 use Rattle.dh_rows.specs.declared.fault.Fault.{Fault}
 use Rattle.dh_rows.specs.declared.fault.Fault.TheVariants.{Store}
 use Rattle.dh_rows.specs.Faults.{fault_of}
-use Rattle.dh_rows.specs.Calls.{command_of, statement_of, IsEdit, Edits, EditsAs, whole, IsHonest, LeavesTrees, LeavesNoMore, KeepsCommitted, Lasts, Goes, GoesWithin, Sees, Runs as Ran, Makes, EditsAtMost, Begins, Commits, Undoes, Refuses, IsPlainText, IsEditText, SparesListing, AreRows, IsBlamed, Blames, IsRejected, IsUnanswered, Shows, IsSame, IsUndone, IsRefused, Becomes}
+use Rattle.dh_rows.specs.Calls.{command_of, statement_of, IsEdit, Edits, EditsAs, whole, IsHonest, LeavesTrees, LeavesNoMore, Lasts, Goes, GoesWithin, Sees, Runs as Ran, Makes, EditsAtMost, Begins, Commits, Undoes, Refuses, IsPlainText, IsEditText, SparesListing, AreRows, IsBlamed, Blames, IsRejected, IsUnanswered, IsUnfit, Shows, IsSame, IsUndone, IsRefused, Becomes}
 
 -- ---- refusals
 
@@ -154,11 +153,11 @@ blamed g old new too_big e small h is = go h.0 h.1 h.2
     go Broken same why = inr why
     go Unstorable same why = absurd (small why)
 
-abbrev tail_of : Result Compiled CompileError → ℕ
+abbrev pub tail_of : Result Compiled CompileError → ℕ
 tail_of (Ok c) = c.tail
 tail_of (Err e) = 0
 
-abbrev parameters_of : Result Compiled CompileError → ℕ
+abbrev pub parameters_of : Result Compiled CompileError → ℕ
 parameters_of (Ok c) = length c.names
 parameters_of (Err e) = 0
 
@@ -278,6 +277,31 @@ pub unanswered : {S T : Type 0} (g : Ghosts S) (old new : Held S) (sql : List �
     → (HasCleanDisk (state_of g new) → FailsToQuery sql params (state_of g old) (state_of g new) e) → IfErr r (IsUnanswered g old new sql params)
 unanswered g old new sql params e (Ok x) is fails = tt
 unanswered g old new sql params e (Err fault) is fails = λ clean. (e, is, fails clean)
+
+-- ---- why a query is refused
+
+module _ {S : Type 0} (g : Ghosts S) (old new : Held S) (sql : List ℕ) (params : Row) (clean : HasCleanDisk (state_of g new) → HasCleanDisk (state_of g old))
+    (plain : IsHonest g old → IsPlainText (state_of g old) sql) (listing : IsHonest g old → SparesListing (state_of g old) sql) where
+  unread : (e : Error) → IsHonest g old → FailsToQuery sql params (state_of g old) (state_of g new) e → fault_of e ≡ Store → IsBlamed g old new ⊎ IsUnfit (state_of g old) sql params
+  unfolding FailsToQuery IsNotRun
+  unread e honest (inl (inl h)) is = inr (e, inl h.0)
+  unread e honest (inl (inr h)) is = inl (blamed g old new _ e (λ none. none) h is)
+  unread e honest (inr h) is =
+      let bare = subst IsPlain h.1.is (plain honest) in
+      let it = rw (bare.0, bare.1, append-nil params) at h.2 in
+      let db : it.0 ≡ (state_of g old).now = subst (λ b. IsSourceOf b (state_of g old).now it.0) (listing honest) it.1 in
+      let refuses = subst (λ d. RefusesToRead (state_of g old).step_limit h.0.command d params e) db it.2 in
+      inr (e, inr (subst (λ r. RefusesToRead (state_of g old).step_limit (command_of r) (state_of g old).now params e) (sym h.1.is) refuses))
+
+  -- the store's own fault, or the query's
+  pub query_blames : {T : Type 0} (r : Result T Fault) → IfErr r (IsUnanswered g old new sql params) → Blames g old new r (IsUnfit (state_of g old) sql params)
+  query_blames (Ok x) told now = tt
+  query_blames (Err fault) told now = λ is.
+      let it = told now in
+      elim (cases_Bool (state_of g old).is_open) [
+        | inl live ↦ unread it.0 (clean now, live) it.2 (sym it.1 ∙ is)
+        | inr shut ↦ inl (inr shut)
+      ]
 
 -- ---- a statement that ran ran on an open connection
 

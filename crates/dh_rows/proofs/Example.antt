@@ -15,7 +15,7 @@ use Rattle.sqlite.specs.Does.{lacks_sequence}
 use Rattle.dh_rows.specs.Example.{Note, note_table, notes, is_of, is_note}
 use Rattle.dh_rows.proofs.Effects.{IsSimple}
 use Rattle.dh_rows.proofs.Texts.{ArePlain}
-use Rattle.dh_rows.proofs.Read.{delete_of, select_of, insert_of}
+use Rattle.dh_rows.proofs.Read.{parameters_in, delete_of, select_of, insert_of}
 use Rattle.dh_rows.proofs.Equal.{equal_text, equal_int, tied_is, alike_text, alike_int}
 use Rattle.dh_rows.proofs.Create.{IsCreate, makes, Creates, creates}
 use Rattle.dh_rows.proofs.Asks.{Writes, Answers, delete, insert, upsert, select}
@@ -59,6 +59,10 @@ add_read : (schema : Schema) (tree : ℕ) → insert_of schema (record note_tabl
 unfolding everything
 add_read schema tree = refl
 
+list_count : parameters_in list_text ≡ Some 1
+unfolding everything
+list_count = refl
+
 module _ (s : State) (keeps : Keeps note_table notes s.now) where
   pub drops : (name : List ℕ) (place : ℕ) → Writes s drop_text (Text name ∷ Int (pos place) ∷ []) note_table notes (filter (λ x. not (is_note name place x)))
   drops name place = delete note_table note_simple note_plain notes s keeps drop_text _ drop_read _ (is_note name place) (λ n x. rw (equal_text x.name name, equal_int (pos x.place) (pos place), and-true) refl)
@@ -67,7 +71,7 @@ module _ (s : State) (keeps : Keeps note_table notes s.now) where
   shown x = Text x.name ∷ Int (pos x.place) ∷ Text x.text ∷ []
 
   pub lists : (name : List ℕ) → Answers s list_text (Text name ∷ []) (map shown (filter (is_of name) (records_of notes note_table.name s.now)))
-  lists name = select note_table note_simple note_plain notes s keeps list_text _ _ _ list_read _ (is_of name) shown (λ n x. rw (equal_text x.name name, and-true) refl) (λ n x. refl) (λ x y. refl)
+  lists name = select note_table note_simple note_plain notes s keeps list_text _ _ _ list_read _ list_count refl (is_of name) shown (λ n x. rw (equal_text x.name name, and-true) refl) (λ n x. refl) (λ x y. refl)
 
   pub adds : (x : Note) → IsFreeKey notes.key x (records_of notes note_table.name s.now) → Writes s add_text (notes.encode x) note_table notes (added notes.key x)
   adds x free = insert note_table note_simple note_plain notes s keeps add_text _ _ (add_read _ _) x (note_back x) (tt, (tt, (tt, tt))) refl free

@@ -19,3 +19,4 @@ pub mod Asks
 pub mod Example
 pub mod Names
 pub mod Found
+pub mod Blameless

@@ -316,6 +316,33 @@ is_select t text ks ws os h = go (first text) refl h
     go (Ok p) read h = let formats = nil _ _ (ks, ws, os) h in by p read formats.0 p.statement refl formats.1
     go (Err e) read h = absurd (cc)
 
+-- ---- how many parameters a text has
+
+abbrev counted : List ℕ → Checked Parsed → Option ℕ
+counted text (Ok p) = if_true (nat_le (length text) p.tail) (Some (length p.names))
+counted text (Err e) = None
+
+-- where its one statement is all of the text
+abbrev pub parameters_in : List ℕ → Option ℕ
+parameters_in text = counted text (first text)
+
+pub record Counts (text : List ℕ) (n : ℕ) : Type 0 where
+  pub parsed : Parsed
+  pub read : first text ≡ Ok parsed
+  pub whole : length text ≤ parsed.tail
+  pub given : length parsed.names ≡ n
+
+pub are_counted : (text : List ℕ) (n : ℕ) → parameters_in text ≡ Some n → Counts text n
+are_counted text n h = go (first text) refl h
+  where
+    go : (r : Checked Parsed) → first text ≡ r → counted text r ≡ Some n → Counts text n
+    go (Ok p) read h =
+        let whole = so _ _ n h in
+        record { parsed = p; read = read; whole = leb-true (length text) p.tail whole.0; given = some_same whole.1 }
+    go (Err e) read h = absurd (cc)
+
+-- ---- INSERT
+
 abbrev terms_in : Checked Given → Option (List Term × ℕ)
 terms_in (Ok (Values terms width)) = Some (terms, width)
 terms_in (Ok (Query q)) = None

@@ -1,10 +1,12 @@
 -- The meaning of our texts, by their shape: any list of columns, of equalities joined by AND and of sort keys.
-use Rattle.std.proofs.Common.{◌≡◌, ℕ, zero, suc, ◌+◌, ◌-◌, ◌*◌, ◌^◌, ◌≤◌, ◌<◌, pos, negsuc, List, [], ◌∷◌, ◌++◌, ◌==◌, ◌&&◌, nat_lt, nat_le, map, length, Bool, true, false, cond, Option, None, Some, Ok, refl, sym, ap, ap₂, subst, ◌∙◌, slice_get, unwrap_or, option_map, is_some, arith, append_assoc, length-append, add-one, append-nil, lt-ltb, lit≤}
-use Rattle.std.specs.List.{AllByRecursion, position_from}
-use Rattle.std.proofs.lemmas.Bool.{lt-leb}
+use Rattle.std.proofs.Common.{◌≡◌, ℕ, zero, suc, ◌+◌, ◌-◌, ◌*◌, ◌^◌, ◌≤◌, ◌<◌, pos, negsuc, List, [], ◌∷◌, ◌++◌, ◌==◌, ◌&&◌, nat_lt, nat_le, map, length, Bool, true, false, cond, Option, None, Some, Ok, refl, sym, ap, ap₂, subst, ◌∙◌, slice_get, unwrap_or, option_map, option_and_then, is_some, arith, append_assoc, length-append, add-one, append-nil, lt-ltb, lit≤}
+use Rattle.std.specs.List.{AllByRecursion, list_all, position_from}
+use Rattle.std.proofs.lemmas.Bool.{and_parts, lt-leb}
 use Rattle.std.proofs.lemmas.List.{map-append}
 use Rattle.sqlite_keyed.proofs.ListLemmas.{all-slice_get, all-append}
-use Rattle.sqlite_value.specs.declared.value.Value.TheVariants.{Int}
+use Rattle.sqlite_value.specs.declared.value.Value.{Value}
+use Rattle.sqlite_value.specs.declared.value.Value.TheVariants.{Int, Text, Blob}
+use Rattle.sqlite_value.specs.Order.{Row, column}
 use Rattle.sqlite_value.specs.declared.keys.Key.{Key}
 use Rattle.sqlite_value.specs.declared.keys.Collation.TheVariants.{Binary}
 use Rattle.sqlite_ast.specs.declared.Expr.{Expr, out-Expr}
@@ -33,7 +35,7 @@ use Rattle.sqlite_schema.specs.declared.command.Source.TheVariants.{Values}
 use Rattle.sqlite_schema.specs.Names.{table_named, column_named}
 use Rattle.sqlite_draft.specs.declared.join.Step.TheVariants.{Inner}
 use Rattle.sqlite_draft.specs.declared.query.Draft.{Draft}
-use Rattle.sqlite_typing.specs.Types.{Slots, class_in, row_classes, term_class, are_tests, are_typed}
+use Rattle.sqlite_typing.specs.Types.{Slots, class_of, class_in, row_classes, term_class, are_tests, are_typed, accepts_program}
 use Rattle.sqlite_resolve.specs.declared.compare.Affinity.TheVariants as affinity
 use Rattle.sqlite_resolve.specs.declared.state.State.{State}
 use Rattle.sqlite_resolve.specs.declared.state.Passes.TheVariants as hands
@@ -52,6 +54,7 @@ use Rattle.sqlite_resolve.specs.Compile.{first, new_rows, small, read as resolve
 use Rattle.sqlite.specs.Listing.{understood, reads_listing}
 use Rattle.sqlite.specs.Given.{IsPlain}
 use Rattle.dh_rows.specs.Calls.{command_of}
+use Rattle.dh_rows.proofs.Calls.{tail_of, parameters_of}
 use Rattle.dh_rows.specs.Places.{tree_of, table_in, Stands}
 use Rattle.dh_rows.proofs.Terms.{equals, wanted, rising, from_table, columns_at}
 use Rattle.dh_rows.proofs.Effects.{IsSimple}
@@ -97,6 +100,39 @@ pub data AreSorts (t : Table) : List Sort → List ℕ → Type 0 where
 pub record Means (schema : Schema) (text : List ℕ) (k : Command) : Type 0 where
   pub is : command_of (understood schema text) ≡ k
   pub plain : IsPlain (understood schema text)
+
+-- The same of a query, and how its text ends and how many parameters it has, as they were read.
+pub record Chooses (schema : Schema) (text : List ℕ) (k : Command) : Type 0 where
+  pub means : Means schema text k
+  pub listing : reads_listing schema text ≡ false
+  pub parsed : Parsed
+  pub read : first text ≡ Ok parsed
+  pub tail : tail_of (understood schema text) ≡ parsed.tail
+  pub given : parameters_of (understood schema text) ≡ length parsed.names
+
+-- the value is of the column's kind, so that neither is converted where they are compared
+abbrev pub suits : Kind → Value → Bool
+suits kind.Integer (Int n) = true
+suits kind.Text (Text x) = true
+suits kind.Blob (Blob x) = true
+suits _ _ = false
+
+abbrev suits_column : Row → ℕ → Option Declared → Bool
+suits_column params n (Some c) = suits c.kind (column params n)
+suits_column params n None = false
+
+abbrev suits_at : List Declared → Row → ℕ × ℕ → Bool
+suits_at columns params w = suits_column params w.1 (slice_get columns w.0)
+
+-- each parameter of a WHERE is of its column's kind
+abbrev pub all_suit : Table → Row → List (ℕ × ℕ) → Bool
+all_suit t params = list_all (suits_at t.columns params)
+
+suited : (k : Kind) (v : Value) → suits k v ≡ true → is_some (option_and_then (Rattle.sqlite_typing.specs.Types.compared (Rattle.sqlite_typing.specs.Types.column_class k)) (class_of v)) ≡ true
+suited kind.Integer (Int n) e = refl
+suited kind.Text (Text x) e = refl
+suited kind.Blob (Blob x) e = refl
+suited _ _ e = absurd (cc)
 
 -- ---- expressions
 
@@ -311,8 +347,8 @@ module _ (schema : Schema) (t : Table) (stands : Stands schema t) (simple : IsSi
   strict_class : (c : Declared) → c.is_strict ≡ true → class_in c ≡ Rattle.sqlite_typing.specs.Types.column_class c.kind
   strict_class c e = rw e refl
 
-  column_typed : (k : ℕ) → Within k → is_some (term_class [] slots (col 1 (suc k))) ≡ true
-  column_typed k h = rw (class_at t.columns k h.0 h.1) refl
+  column_typed : (params : Row) (k : ℕ) → Within k → is_some (term_class params slots (col 1 (suc k))) ≡ true
+  column_typed params k h = rw (class_at t.columns k h.0 h.1) refl
 
   compares : (k : Kind) → is_some (Rattle.sqlite_typing.specs.Types.compared (Rattle.sqlite_typing.specs.Types.column_class k) Rattle.sqlite_typing.specs.Types.no_class) ≡ true
   compares kind.Integer = refl
@@ -330,13 +366,25 @@ module _ (schema : Schema) (t : Table) (stands : Stands schema t) (simple : IsSi
   all_tests [] h = refl
   all_tests (w ∷ ws) h = rw (test_typed w h.0) (all_tests ws h.1)
 
-  all_shown : (ks : List ℕ) → AllByRecursion Within ks → are_typed [] slots (columns_at ks) ≡ true
-  all_shown [] h = refl
-  all_shown (k ∷ ks) h = rw (column_typed k h.0) (all_shown ks h.1)
+  all_shown : (params : Row) (ks : List ℕ) → AllByRecursion Within ks → are_typed params slots (columns_at ks) ≡ true
+  all_shown params [] h = refl
+  all_shown params (k ∷ ks) h = rw (column_typed params k h.0) (all_shown params ks h.1)
 
-  all_sorts : (ks : List ℕ) → AllByRecursion Within ks → are_typed [] slots (map (λ (x : Term × Key). x.0) (map rising ks)) ≡ true
-  all_sorts [] h = refl
-  all_sorts (k ∷ ks) h = rw (column_typed k h.0) (all_sorts ks h.1)
+  all_sorts : (params : Row) (ks : List ℕ) → AllByRecursion Within ks → are_typed params slots (map (λ (x : Term × Key). x.0) (map rising ks)) ≡ true
+  all_sorts params [] h = refl
+  all_sorts params (k ∷ ks) h = rw (column_typed params k h.0) (all_sorts params ks h.1)
+
+  -- each parameter of a test is of its column's kind
+  bound_typed : (params : Row) (w : ℕ × ℕ) → Within w.0 → suits_at t.columns params w ≡ true → is_some (term_class params slots (equals w.0 w.1)) ≡ true
+  bound_typed params w h fits =
+      let strict = (all-slice_get _ t.columns w.0 h.0 h.1 plain).0 in
+      rw (class_at t.columns w.0 h.0 h.1, strict_class h.0 strict) (suited h.0.kind (column params w.1) (rw h.1 at fits))
+
+  all_bound : (params : Row) (ws : List (ℕ × ℕ)) → AllByRecursion (λ w. Within w.0) ws → all_suit t params ws ≡ true → are_tests params slots (wanted ws) ≡ true
+  all_bound params [] h fits = refl
+  all_bound params (w ∷ ws) h fits =
+      let both = and_parts _ _ fits in
+      rw (bound_typed params w h.0 both.0) (all_bound params ws h.1 both.1)
 
   tests_within : (e : Expr) (ws : List (ℕ × ℕ)) → IsTest t e ws → AllByRecursion (λ w. Within w.0) ws
   tests_within e ws (one (equal out (named names is has) right less)) = ((_, has), tt)
@@ -385,7 +433,7 @@ module _ (schema : Schema) (t : Table) (stands : Stands schema t) (simple : IsSi
   -- ---- SELECT .. FROM t WHERE .. ORDER BY ..
 
   pub select_is : (text : List ℕ) (ks : List ℕ) (ws : List (ℕ × ℕ)) (os : List ℕ) → IsSelect t text ks ws os
-      → Means schema text (command.Select (record { lets = []; body = from_table (tree_of schema t.name) (wanted ws) (columns_at ks) (map rising os) }) (map (name_at t) ks)) × (reads_listing schema text ≡ false)
+      → Chooses schema text (command.Select (record { lets = []; body = from_table (tree_of schema t.name) (wanted ws) (columns_at ks) (map rising os) }) (map (name_at t) ks))
   unfolding outputs sorts ungrouped
   select_is text ks ws os (selects {p = p} {q = q} parse is formats (chooses {core = core} {src = src} {ss = ss} {test = test} {by_order = by_order} bare others limit offset first_is from origin_is alias using on left shows_are shows few_shown filter_is filter few group having distinct order_is sort few_sorts)) =
       let s1 : State = record (fresh 1 max_budget) { next = 2 } in
@@ -403,11 +451,24 @@ module _ (schema : Schema) (t : Table) (stands : Stands schema t) (simple : IsSi
       let one : named_to schema core (out-Select q).order page ≡ Ok (draft, map (λ (o : Output). o.name) columns, map (λ (o : Output). o.carried.collation) columns) =
       rw order_is (named_as schema core by_order page _ y.after z.after (map rising os) whole group having distinct aggregates z.is) in
       let is_drafted : draft ≡ record (drafted (Inner (tree_of schema t.name) ∷ []) (wanted ws) (columns_at ks)) { order = map rising os } = rw (steps, columns_same ks) refl in
-      let typed = accepts draft ws (columns_at ks) (map rising os) is_drafted (all_tests ws (where_within test ws filter)) (all_shown ks (shown_within ss ks shows)) (all_sorts os (sorts_within by_order os sort)) in
+      let typed = accepts draft ws (columns_at ks) (map rising os) is_drafted (all_tests ws (where_within test ws filter)) (all_shown [] ks (shown_within ss ks shows)) (all_sorts [] os (sorts_within by_order os sort)) in
       let read : resolve_read schema q ≡ Ok (command.Select (record { lets = []; body = from_table (tree_of schema t.name) (wanted ws) (columns_at ks) (map rising os) }) (map (name_at t) ks)) =
       read_as schema q core src t.name draft _ _ _ bare others limit offset first_is from origin_is one typed ∙ ap (λ names. Ok (command.Select (record { lets = []; body = from_table (tree_of schema t.name) (wanted ws) (columns_at ks) (map rising os) }) names)) (names_same ks) in
       let both = select_means schema p q _ text parse is formats read in
-      (record { is = ap command_of both.0; plain = subst IsPlain (sym both.0) (refl, refl) }, both.1)
+      record {
+        means = record { is = ap command_of both.0; plain = subst IsPlain (sym both.0) (refl, refl) };
+        listing = both.1;
+        parsed = p;
+        read = parse;
+        tail = ap tail_of both.0;
+        given = ap parameters_of both.0;
+      }
+
+  -- parameters of the columns' kinds are accepted
+  pub select_accepts : (text : List ℕ) (ks : List ℕ) (ws : List (ℕ × ℕ)) (os : List ℕ) → IsSelect t text ks ws os → (params : Row) → all_suit t params ws ≡ true
+      → accepts_program schema [] (from_table (tree_of schema t.name) (wanted ws) (columns_at ks) (map rising os)) params ≡ true
+  select_accepts text ks ws os (selects {p = p} {q = q} parse is formats (chooses {core = core} {src = src} {ss = ss} {test = test} {by_order = by_order} bare others limit offset first_is from origin_is alias using on left shows_are shows few_shown filter_is filter few group having distinct order_is sort few_sorts)) params suits =
+      rw (small', stands.has.found, all_bound params ws (where_within test ws filter) suits, all_shown params ks (shown_within ss ks shows), all_sorts params os (sorts_within by_order os sort)) refl
 
   -- ---- INSERT INTO t VALUES (..)
 

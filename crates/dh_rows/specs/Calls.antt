@@ -8,12 +8,12 @@ use Rattle.sqlite_resolve.specs.declared.compiled.Compiled.{Compiled}
 use Rattle.sqlite_resolve.specs.declared.error.CompileError.{CompileError}
 use Rattle.sqlite_trees.specs.Tree.{Trees}
 use Rattle.sqlite_trees.specs.declared.store.Store.{Ghosts}
-use Rattle.sqlite.specs.Effect.{Database, IsDatabase, Reads}
+use Rattle.sqlite.specs.Effect.{Database, IsDatabase, Reads, RefusesToRead}
 use Rattle.sqlite.specs.declared.error.Error.{Error}
 use Rattle.sqlite.specs.Does.{Tally, Does}
 use Rattle.sqlite.specs.Given.{IsPlain}
 use Rattle.sqlite.specs.Listing.{understood, reads_listing}
-use Rattle.sqlite.specs.State.{State, HasCleanDisk, IsUnchanged, IsRolledBack, Executes, FailsToQuery, mode_of, text_of}
+use Rattle.sqlite.specs.State.{State, HasCleanDisk, IsUnchanged, IsRolledBack, Executes, FailsToQuery, IsNoStatement, mode_of, text_of}
 use Rattle.sqlite.specs.Held.{Held, state}
 use Rattle.dh_rows.specs.declared.fault.Fault.{Fault}
 use Rattle.dh_rows.specs.declared.fault.Fault.TheVariants.{Store}
@@ -60,12 +60,19 @@ SparesListing s sql = reads_listing s.now.schema sql ≡ false
 abbrev pub AreRows : State → List ℕ → Row → List Row → Type 0
 AreRows s sql params rows = Reads (command_of (understood s.now.schema sql)) s.now params rows
 
--- The databases that a connection sees and has committed keep their form, and outside a transaction they are one.
+-- The query itself is refused, at whatever store: its text, the count or the types of its parameters, a sum, or the limit on steps.
+abbrev pub IsUnfit : State → List ℕ → Row → Type 0
+IsUnfit s sql params =
+    (e : Error) × (IsNoStatement s sql params e ⊎ RefusesToRead s.step_limit (command_of (understood s.now.schema sql)) s.now params e)
+
+-- The databases that a connection sees and has committed keep their form, outside a transaction they are one, and the
+-- steps of a statement are not limited.
 pub record Keep (Holds : Database → Type 0) (s : State) : Type 0 where
   pub now : Holds s.now
   pub last : Holds s.committed
   pub steady : s.now.schema ≡ s.committed.schema
   pub settled : s.in_transaction ≡ false → s.now ≡ s.committed
+  pub unlimited : s.step_limit ≡ None
 
 -- as long as the store is honest and open
 abbrev pub AreOurs : (Database → Type 0) → State → Type 0

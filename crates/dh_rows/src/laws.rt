@@ -2,7 +2,7 @@
 ghost use Rattle.sqlite.specs.Held.{Held};
 ghost use Rattle.sqlite.specs.Steps.{over_memory};
 ghost use Rattle.sqlite_trees.specs.declared.memory.MemStore.{MemStore};
-ghost use Rattle.dh_rows.specs.Calls.{IsHonest, LeavesCommitted, whole};
+ghost use Rattle.dh_rows.specs.Calls.{IsBlamed, IsHonest, LeavesCommitted, whole};
 
 use sqlite::Alter;
 
@@ -14,4 +14,9 @@ pub fn crash_law<S: Alter>()
 /// A store in memory is honest at any time.
 pub fn memory_law()
     ensures { (h : Held MemStore) → IsHonest over_memory h }
+{}
+
+/// A store in memory is never to blame: it counts no fault, and nothing shuts it.
+pub fn blameless_law()
+    ensures { (old new : Held MemStore) → ¬ IsBlamed over_memory old new }
 {}

@@ -9,6 +9,6 @@ mod statements;
 mod tests;
 
 pub use fault::Fault;
-pub use laws::{crash_law, memory_law};
+pub use laws::{blameless_law, crash_law, memory_law};
 pub use places::{is_free, is_unmentioned, keeps_counts, place_of};
 pub use statements::{begin, change, commit, rollback, run, select};

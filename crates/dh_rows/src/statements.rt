@@ -2,7 +2,7 @@ ghost use Rattle.std.specs.Prelude.{◌≡◌, false, true, IfErr, OnOk};
 ghost use Rattle.sqlite.specs.Held.{state};
 ghost use Rattle.sqlite.specs.State.{Survives, CommitsBy};
 ghost use Rattle.sqlite.specs.Values.{bound};
-ghost use Rattle.dh_rows.specs.Calls.{AreRows, Begins, Blames, Commits, EditsAtMost, Finds, Goes, GoesWithin, IsEditText, IsHonest, IsPlainText, IsRejected, IsUnanswered, Lasts, LeavesNoMore, LeavesSeen, Makes, Refuses, Runs, Sees, SparesListing, Stays, Stops, Undoes, whole};
+ghost use Rattle.dh_rows.specs.Calls.{AreRows, Begins, Blames, Commits, EditsAtMost, Finds, Goes, GoesWithin, IsEditText, IsHonest, IsPlainText, IsRejected, IsUnanswered, IsUnfit, Lasts, LeavesNoMore, LeavesSeen, Makes, Refuses, Runs, Sees, SparesListing, Stays, Stops, Undoes, whole};
 
 use crate::fault::Fault;
 use sqlite::types::ValueRef;
@@ -93,6 +93,8 @@ pub fn select<S: Alter>(
     ensures same { Stays S.Store whole conn.old conn.new result }
     ensures err { Refuses S.Store whole conn.old conn.new result }
     ensures told { IfErr result (IsUnanswered S.Store conn.old conn.new sql.now (bound params.now)) }
+    ensures blamed { Blames S.Store conn.old conn.new result
+        (IsUnfit (state S.Store conn.old) sql.now (bound params.now)) }
 {
     Ok(conn.query_all(sql, params)?)
 }

@@ -6,8 +6,8 @@ use Rattle.sqlite.specs.State.{HasCleanDisk}
 use Rattle.sqlite.specs.Held.{Held, state}
 use Rattle.dh_rows.specs.Calls.{IsHonest, Shows, LeavesNoMore, KeepsCommitted, seen, committed}
 use Rattle.dh_world.specs.declared.answer.Answer.{Answer}
-use Rattle.dh_tables.specs.Lists.{Lists, world_of}
-use Rattle.dh_tables.specs.Tables.{lists_of}
+use Rattle.dh_records.specs.Lists.{Lists, world_of}
+use Rattle.dh_schema.specs.Tables.{lists_of}
 use Rattle.dh_world.specs.declared.command.Command.{Command}
 use Rattle.dh_world.specs.declared.refusal.Refusal.{Refusal}
 use Rattle.dh_world.specs.Texts.{bad_text}

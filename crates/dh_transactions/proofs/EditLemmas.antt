@@ -8,22 +8,22 @@ use Rattle.dh_commands.specs.Edits.{edited, all_edited, MayEdit, MayEditAll}
 use Rattle.dh_commands.specs.declared.edits.Edit.{Edit}
 use Rattle.dh_commands.specs.declared.edits.Edit.TheVariants.{AddLang, PutVersion, PutWithoutPages, RemoveVersion, PutPage, RemovePages, SetDefaults, AddPass, RemovePass, Grant, Revoke, PutAnswer}
 use Rattle.dh_rows.specs.Keyed.{IsFreeKey}
-use Rattle.dh_tables.proofs.AccessChanges.{world_gone, world_with_defaults, world_with_pass, world_pass_gone, world_with_grant, world_without_grant}
-use Rattle.dh_tables.proofs.AccessRules.{MayChoose, rules_gone, rules_with_front, rules_with_pass, rules_pass_gone, rules_with_grant, rules_without_grants, order_without_version, order_with_defaults, order_with_pass, order_without_pass, order_with_grant, order_without_grants}
-use Rattle.dh_tables.proofs.ChangeLemmas.{world_with_lang, world_with_version, world_with_page, world_without_pages, world_with_used}
-use Rattle.dh_tables.proofs.KeyLemmas.{used_is_free, pass_is_free}
-use Rattle.dh_tables.proofs.OrderLemmas.{order_with_lang, order_with_version, order_with_page, order_without, order_with_used}
-use Rattle.dh_tables.proofs.RuleLemmas.{lang_is_free, rules_with_lang, rules_with_version, rules_with_page, rules_without, rules_with_used, inactive_is_bare, dropped_is_bare}
-use Rattle.dh_tables.proofs.WorldLemmas.{owned_by, count_in, speaks_in, active_in, has_version_in, has_pass_in, used_in, changed_twice}
-use Rattle.dh_tables.specs.Codings as coding
-use Rattle.dh_tables.specs.Lists.{Lists, world_of, is_page_under, is_pass, is_held, is_held_by, is_held_on, is_version, is_used, kept_answer, keeping}
-use Rattle.dh_tables.specs.Rules.{has_project, has_version}
-use Rattle.dh_tables.specs.declared.records.HeldRow.{HeldRow}
-use Rattle.dh_tables.specs.declared.records.LangRow.{LangRow}
-use Rattle.dh_tables.specs.declared.records.PageRow.{PageRow}
-use Rattle.dh_tables.specs.declared.records.PassRow.{PassRow}
-use Rattle.dh_tables.specs.declared.records.UsedRow.{UsedRow}
-use Rattle.dh_tables.specs.declared.records.VersionRow.{VersionRow}
+use Rattle.dh_records.proofs.AccessChanges.{world_gone, world_with_defaults, world_with_pass, world_pass_gone, world_with_grant, world_without_grant}
+use Rattle.dh_records.proofs.AccessRules.{MayChoose, rules_gone, rules_with_front, rules_with_pass, rules_pass_gone, rules_with_grant, rules_without_grants, order_without_version, order_with_defaults, order_with_pass, order_without_pass, order_with_grant, order_without_grants}
+use Rattle.dh_records.proofs.ChangeLemmas.{world_with_lang, world_with_version, world_with_page, world_without_pages, world_with_used}
+use Rattle.dh_records.proofs.KeyLemmas.{used_is_free, pass_is_free}
+use Rattle.dh_records.proofs.OrderLemmas.{order_with_lang, order_with_version, order_with_page, order_without, order_with_used}
+use Rattle.dh_records.proofs.RuleLemmas.{lang_is_free, rules_with_lang, rules_with_version, rules_with_page, rules_without, rules_with_used, inactive_is_bare, dropped_is_bare}
+use Rattle.dh_records.proofs.WorldLemmas.{owned_by, count_in, speaks_in, active_in, has_version_in, has_pass_in, used_in, changed_twice}
+use Rattle.dh_records.specs.Codings as coding
+use Rattle.dh_records.specs.Lists.{Lists, world_of, is_page_under, is_pass, is_held, is_held_by, is_held_on, is_version, is_used, kept_answer, keeping}
+use Rattle.dh_records.specs.Rules.{has_project, has_version}
+use Rattle.dh_records.specs.declared.records.HeldRow.{HeldRow}
+use Rattle.dh_records.specs.declared.records.LangRow.{LangRow}
+use Rattle.dh_records.specs.declared.records.PageRow.{PageRow}
+use Rattle.dh_records.specs.declared.records.PassRow.{PassRow}
+use Rattle.dh_records.specs.declared.records.UsedRow.{UsedRow}
+use Rattle.dh_records.specs.declared.records.VersionRow.{VersionRow}
 use Rattle.dh_transactions.specs.RowEdits.{lang_row, version_row, page_row, pass_row, grant_row, answer_row, with_defaults, without_pages, rows_edited, all_rows_edited, RowsMay, RowsMayAll}
 use Rattle.dh_transactions.specs.RowEdits as rows
 use Rattle.dh_transactions.specs.Sound.{AreSound}

@@ -4,3 +4,4 @@ pub mod EditLemmas
 pub mod OpenLemmas
 pub mod Working
 pub mod Crashing
+pub mod Together

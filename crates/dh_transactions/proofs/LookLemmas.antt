@@ -5,19 +5,20 @@ use Rattle.std.specs.Option.{option_and_then, option_map_or}
 use Rattle.std.specs.FinMap.{get, contains_key, len}
 use Rattle.std.proofs.lemmas.Bool.{and_parts}
 use Rattle.std.proofs.lemmas.Slice.Eq.{bytes_eq-Decides}
+use Rattle.dh_commands.specs.Commands.{asked}
 use Rattle.dh_commands.specs.Knowing.{HasSettings, Answers}
-use Rattle.dh_commands.specs.Questions.{seen_questions, asked}
+use Rattle.dh_commands.specs.Questions.{seen_questions}
 use Rattle.dh_commands.specs.declared.checked.CheckedChange.{CheckedChange}
 use Rattle.dh_commands.specs.declared.facts.Facts.{Facts}
 use Rattle.dh_commands.specs.declared.questions.Questions.{Questions}
 use Rattle.dh_paths.specs.Slugs.{slug_from}
-use Rattle.dh_tables.proofs.RecordLemmas.{found_passes}
-use Rattle.dh_tables.proofs.RuleLemmas.{all_found}
-use Rattle.dh_tables.proofs.SeenLemmas.{get_project}
-use Rattle.dh_tables.proofs.WorldLemmas.{branch_of, new_private_of, wkey_of, version_in}
-use Rattle.dh_tables.specs.Lists.{Lists, world_of, project_of, is_project, is_version}
-use Rattle.dh_tables.specs.declared.records.ProjectRow.{ProjectRow}
-use Rattle.dh_tables.specs.declared.records.VersionRow.{VersionRow}
+use Rattle.dh_records.proofs.RecordLemmas.{found_passes}
+use Rattle.dh_records.proofs.RuleLemmas.{all_found}
+use Rattle.dh_records.proofs.SeenLemmas.{get_project}
+use Rattle.dh_records.proofs.WorldLemmas.{branch_of, new_private_of, wkey_of, version_in}
+use Rattle.dh_records.specs.Lists.{Lists, world_of, project_of, is_project, is_version}
+use Rattle.dh_records.specs.declared.records.ProjectRow.{ProjectRow}
+use Rattle.dh_records.specs.declared.records.VersionRow.{VersionRow}
 use Rattle.dh_transactions.specs.Finding.{OfProject, IsVersion, FindsSettings, FindsFacts, asked_key}
 use Rattle.dh_transactions.specs.Sound.{AreSound}
 use Rattle.dh_versions.specs.declared.version.Version.{Version}

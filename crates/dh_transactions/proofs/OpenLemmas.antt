@@ -6,15 +6,15 @@ use Rattle.dh_commands.specs.Plans.{Opens}
 use Rattle.dh_commands.specs.declared.checked.CheckedChange.{CheckedChange}
 use Rattle.dh_commands.specs.declared.checked.NewProject.{NewProject}
 use Rattle.dh_rows.specs.Keyed.{IsFreeKey}
-use Rattle.dh_tables.proofs.ChangeLemmas.{world_with_project}
-use Rattle.dh_tables.proofs.KeyLemmas.{project_is_free}
-use Rattle.dh_tables.proofs.OrderLemmas.{order_with_project, order_with_lang}
-use Rattle.dh_tables.proofs.RuleLemmas.{first_lang_is_free, rules_with_project}
-use Rattle.dh_tables.proofs.WorldLemmas.{no_row}
-use Rattle.dh_tables.specs.Codings as coding
-use Rattle.dh_tables.specs.Lists.{Lists, world_of, is_project}
-use Rattle.dh_tables.specs.declared.records.LangRow.{LangRow}
-use Rattle.dh_tables.specs.declared.records.ProjectRow.{ProjectRow}
+use Rattle.dh_records.proofs.ChangeLemmas.{world_with_project}
+use Rattle.dh_records.proofs.KeyLemmas.{project_is_free}
+use Rattle.dh_records.proofs.OrderLemmas.{order_with_project, order_with_lang}
+use Rattle.dh_records.proofs.RuleLemmas.{first_lang_is_free, rules_with_project}
+use Rattle.dh_records.proofs.WorldLemmas.{no_row}
+use Rattle.dh_records.specs.Codings as coding
+use Rattle.dh_records.specs.Lists.{Lists, world_of, is_project}
+use Rattle.dh_records.specs.declared.records.LangRow.{LangRow}
+use Rattle.dh_records.specs.declared.records.ProjectRow.{ProjectRow}
 use Rattle.dh_transactions.proofs.Turning.{turn_at}
 use Rattle.dh_transactions.specs.Opening.{project_row, main_lang, with_row, with_project}
 use Rattle.dh_transactions.specs.Sound.{AreSound, Turns}
@@ -48,7 +48,7 @@ module _ (host : Text) (lists : Lists) (none : get (world_of lists) host ≡ Non
       -- the command's turn, where this is the project that it makes
       pub opened_here : (change : CheckedChange) → Opens change (Ok x) → Turns lists (with_project host x lists) (command_of host change) (Ok Done)
       opened_here change opens = (
-        turn_at host change lists None none ∙ ap (settled (world_of lists) host) (opens host)
+        turn_at host change lists None none ∙ ap (settled (world_of lists) host) opens
             ∙ ap (λ w. Ok (w, Done)) (sym (world_with_project lists row lang sound.rules (no_row lists host none) refl refl)),
         made_sound,
       )

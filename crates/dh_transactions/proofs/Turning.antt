@@ -3,48 +3,25 @@ use Rattle.std.proofs.Common.{◌≡◌, ◌⊎◌, Some, None, Option, Result, 
 use Rattle.std.specs.FinMap.{get}
 use Rattle.std.specs.Result.{IsErrAnd}
 use Rattle.std.proofs.lemmas.Result.{err_from_is_err_and}
-use Rattle.dh_commands.specs.Commands.{command_of}
+use Rattle.dh_commands.specs.Commands.{change_of, command_of}
 use Rattle.dh_commands.specs.declared.checked.CheckedChange.{CheckedChange}
-use Rattle.dh_commands.specs.declared.checked.CheckedChange.TheVariants.{NewProject, AddLang, Push, Upload, SetProperty, Deactivate, Gone, SetDefault, AddPass, DropPass, Grant, Revoke}
-use Rattle.dh_tables.specs.Lists.{Lists, world_of}
+use Rattle.dh_records.specs.Lists.{Lists, world_of}
 use Rattle.dh_transactions.specs.Sound.{AreSound, Turns, Steps}
 use Rattle.dh_world.specs.Checks.{IsSetAside}
-use Rattle.dh_world.specs.Step.{host_of, change_at, settled, turn, step, after_texts}
+use Rattle.dh_world.specs.Step.{change_at, settled, turn, step, after_texts}
 use Rattle.dh_world.specs.Texts.{bad_text}
 use Rattle.dh_world.specs.World.{Text, Project}
 use Rattle.dh_world.specs.declared.answer.Answer.{Answer}
 use Rattle.dh_world.specs.declared.command.Command.{Command}
-use Rattle.dh_world.specs.declared.property.Property.TheVariants.{Active, Hidden, Shown, Public, Private}
 use Rattle.dh_world.specs.declared.refusal.Refusal.{Refusal}
 use Rattle.dh_world.specs.declared.refusal.Refusal.TheVariants.{OutOfMemory}
-
-host_is : (host : Text) (change : CheckedChange) → host_of (command_of host change) ≡ host
-host_is host (NewProject x) = refl
-host_is host (AddLang lang) = refl
-host_is host (Push x) = refl
-host_is host (Upload x) = refl
-host_is host (SetProperty slug Active) = refl
-host_is host (SetProperty slug Hidden) = refl
-host_is host (SetProperty slug Shown) = refl
-host_is host (SetProperty slug Public) = refl
-host_is host (SetProperty slug Private) = refl
-host_is host (Deactivate slug) = refl
-host_is host (Gone slug) = refl
-host_is host (SetDefault name) = refl
-host_is host (AddPass pass) = refl
-host_is host (DropPass pass) = refl
-host_is host (Grant pass slug) = refl
-host_is host (Revoke pass slug) = refl
 
 -- a turn by what is found under the host
 pub turn_at
     : (host : Text) (change : CheckedChange) (lists : Lists) (o : Option Project)
     → get (world_of lists) host ≡ o
-    → turn (world_of lists) (command_of host change) ≡ settled (world_of lists) host (change_at (command_of host change) o)
-turn_at host change lists o e =
-    let c : Command = command_of host change in
-    ap (λ h. settled (world_of lists) h (change_at c (get (world_of lists) h))) (host_is host change)
-    ∙ ap (λ x. settled (world_of lists) host (change_at c x)) e
+    → turn (world_of lists) (command_of host change) ≡ settled (world_of lists) host (change_at (change_of change) o)
+turn_at host change lists o e = ap (λ x. settled (world_of lists) host (change_at (change_of change) x)) e
 
 -- ---- texts
 

@@ -2,12 +2,12 @@
 use Rattle.std.proofs.Common.{◌≡◌, ◌⊎◌, Some, Result, Ok, Err, refl, sym, ap, ◌∙◌, subst, inl, inr}
 use Rattle.std.specs.Result.{IsErrAnd}
 use Rattle.std.proofs.lemmas.Result.{err_from_is_err_and}
-use Rattle.dh_commands.specs.Commands.{command_of}
+use Rattle.dh_commands.specs.Commands.{change_of, command_of}
 use Rattle.dh_commands.specs.Knowing.{Decides}
 use Rattle.dh_commands.specs.Planned.{Planned}
 use Rattle.dh_commands.specs.declared.checked.CheckedChange.{CheckedChange}
 use Rattle.dh_commands.specs.declared.facts.Facts.{Facts}
-use Rattle.dh_tables.specs.Lists.{Lists, world_of}
+use Rattle.dh_records.specs.Lists.{Lists, world_of}
 use Rattle.dh_transactions.proofs.EditLemmas.{all_may, all_spell}
 use Rattle.dh_transactions.proofs.Turning.{turn_at}
 use Rattle.dh_transactions.specs.Finding.{FindsFacts}
@@ -29,20 +29,20 @@ module _ (host : Text) (change : CheckedChange) (lists : Lists) (f : Facts) (fou
       → Turns lists after (command_of host change) r
   turn_refused after e r decided is =
       let at = err_from_is_err_and r is in
-      subst (Turns lists after (command_of host change)) (sym (at.1 ∙ ap Err at.2)) (go (decided host found.0 found.2))
+      subst (Turns lists after (command_of host change)) (sym (at.1 ∙ ap Err at.2)) (go (decided found.0 found.2))
     where
-      go : (e ≡ OutOfMemory) ⊎ (world.change (command_of host change) found.0 ≡ Err e) → IsSetAside e ⊎ (turn (world_of lists) (command_of host change) ≡ Err e)
+      go : (e ≡ OutOfMemory) ⊎ (world.change (change_of change) found.0 ≡ Err e) → IsSetAside e ⊎ (turn (world_of lists) (command_of host change) ≡ Err e)
       go (inl memory) = inl (inr memory)
       go (inr is) = inr (turn_at host change lists (Some found.0) found.1 ∙ ap (settled (world_of lists) host) is)
 
   module _ (sound : AreSound lists) (plan : Planned) (decided : Decides change f (Ok plan)) where
     pub edits_may : RowsMayAll host plan.edits lists
-    edits_may = all_may host plan.edits lists found.0 sound found.1 (decided host found.0 found.2).1
+    edits_may = all_may host plan.edits lists found.0 sound found.1 (decided found.0 found.2).1
 
     -- a plan that was carried out
     pub turn_done : Turns lists (all_rows_edited host plan.edits lists) (command_of host change) (Ok plan.answer)
     turn_done =
-        let it = decided host found.0 found.2 in
+        let it = decided found.0 found.2 in
         let after = all_spell host plan.edits lists found.0 sound found.1 it.1 in (
           turn_at host change lists (Some found.0) found.1 ∙ ap (settled (world_of lists) host) it.0
               ∙ ap (λ w. Ok (w, plan.answer)) (sym after.world_is),

@@ -9,7 +9,7 @@ use Rattle.dh_commands.specs.declared.checked.CheckedChange.{CheckedChange}
 use Rattle.dh_commands.specs.declared.facts.Facts.{Facts}
 use Rattle.dh_commands.specs.declared.facts.ProjectSettings.{ProjectSettings}
 use Rattle.dh_commands.specs.declared.questions.RetryKey.{RetryKey}
-use Rattle.dh_tables.specs.Lists.{Lists, world_of}
+use Rattle.dh_records.specs.Lists.{Lists, world_of}
 use Rattle.dh_world.specs.World.{Text, Project, UsedKey, op_code}
 
 -- the retry key that is asked for

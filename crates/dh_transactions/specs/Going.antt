@@ -1,11 +1,11 @@
 -- How calls on the tables go, one after the other.
-use Rattle.std.specs.Prelude.{◌≡◌, ◌⊎◌, false, Result, Ok, Err, OnOk}
+use Rattle.std.specs.Prelude.{◌≡◌, ◌⊎◌, false, Result, Ok, Err, OnOk, IfErr}
 use Rattle.sqlite_trees.specs.declared.store.Store.{Ghosts}
 use Rattle.sqlite.specs.Held.{Held, state}
 use Rattle.sqlite.specs.State.{HasCleanDisk}
-use Rattle.dh_rows.specs.Calls.{IsHonest, seen, committed}
-use Rattle.dh_tables.specs.Lists.{Lists}
-use Rattle.dh_tables.specs.Tables.{lists_of}
+use Rattle.dh_rows.specs.Calls.{IsHonest, Goes, seen, committed}
+use Rattle.dh_records.specs.Lists.{Lists}
+use Rattle.dh_schema.specs.Tables.{lists_of}
 use Rattle.dh_world.specs.Checks.{IsSetAside}
 use Rattle.dh_world.specs.declared.answer.Answer.{Answer}
 use Rattle.dh_world.specs.declared.refusal.Refusal.{Refusal}
@@ -32,9 +32,22 @@ module _ {S : Type 0} (g : Ghosts S) where
     abbrev pub Stays : Type 0
     Stays = IsHonest g old → HasCleanDisk (state g new) → IsHonest g new
 
-    -- looks that were answered
-    abbrev pub Looks : {T E : Type 0} → Result T E → Type 0
-    Looks r = OnOk r (Sees (records old))
+  module _ {T : Type 0} (old new : Held S) (result : Result T Refusal) where
+    -- What looks leave, whatever they answer.
+    pub record Asks : Type 0 where
+      -- nothing is committed, and a crash leaves nothing more
+      pub goes : Goes g old new
+      -- those that were answered left the records as they were
+      pub looks : OnOk result (Sees old new (records old))
+      -- a refusal is a fault of the store, or want of memory
+      pub err : IfErr result IsSetAside
+
+    -- What edits within a transaction leave, whatever they answer.
+    pub record Makes (change : Lists → Lists) : Type 0 where
+      pub goes : Goes g old new
+      -- those that were made changed the records so
+      pub sees : OnOk result (Sees old new (change (records old)))
+      pub err : IfErr result IsSetAside
 
   -- A command that was answered, or refused for what it asks, has left no transaction open.
   abbrev pub IsOver : Held S → Result Answer Refusal → Type 0

@@ -1,10 +1,10 @@
 -- The records of a project that a command makes.
 use Rattle.dh_commands.specs.declared.checked.NewProject.{NewProject}
 use Rattle.dh_rows.specs.Keyed.{added}
-use Rattle.dh_tables.specs.Codings as coding
-use Rattle.dh_tables.specs.Lists.{Lists}
-use Rattle.dh_tables.specs.declared.records.LangRow.{LangRow}
-use Rattle.dh_tables.specs.declared.records.ProjectRow.{ProjectRow}
+use Rattle.dh_records.specs.Codings as coding
+use Rattle.dh_records.specs.Lists.{Lists}
+use Rattle.dh_records.specs.declared.records.LangRow.{LangRow}
+use Rattle.dh_records.specs.declared.records.ProjectRow.{ProjectRow}
 use Rattle.dh_world.specs.World.{Text}
 
 abbrev pub project_row : Text → NewProject → ProjectRow

@@ -4,14 +4,14 @@ use Rattle.dh_commands.specs.declared.edits.Edit.{Edit}
 use Rattle.dh_commands.specs.declared.edits.Edit.TheVariants.{AddLang, PutVersion, PutWithoutPages, RemoveVersion, PutPage, RemovePages, SetDefaults, AddPass, RemovePass, Grant, Revoke, PutAnswer}
 use Rattle.dh_commands.specs.KeptAnswer.{KeptAnswer}
 use Rattle.dh_rows.specs.Keyed.{IsFreeKey, added, put}
-use Rattle.dh_tables.specs.Codings as coding
-use Rattle.dh_tables.specs.Lists.{Lists, is_version, is_page_under, is_pass, is_held, is_held_by, is_held_on, set_picks, granted, keeping}
-use Rattle.dh_tables.specs.declared.records.HeldRow.{HeldRow}
-use Rattle.dh_tables.specs.declared.records.LangRow.{LangRow}
-use Rattle.dh_tables.specs.declared.records.PageRow.{PageRow}
-use Rattle.dh_tables.specs.declared.records.PassRow.{PassRow}
-use Rattle.dh_tables.specs.declared.records.UsedRow.{UsedRow}
-use Rattle.dh_tables.specs.declared.records.VersionRow.{VersionRow}
+use Rattle.dh_records.specs.Codings as coding
+use Rattle.dh_records.specs.Lists.{Lists, is_version, is_page_under, is_pass, is_held, is_held_by, is_held_on, set_picks, granted, keeping}
+use Rattle.dh_records.specs.declared.records.HeldRow.{HeldRow}
+use Rattle.dh_records.specs.declared.records.LangRow.{LangRow}
+use Rattle.dh_records.specs.declared.records.PageRow.{PageRow}
+use Rattle.dh_records.specs.declared.records.PassRow.{PassRow}
+use Rattle.dh_records.specs.declared.records.UsedRow.{UsedRow}
+use Rattle.dh_records.specs.declared.records.VersionRow.{VersionRow}
 use Rattle.dh_versions.specs.declared.version.Version.{Version}
 use Rattle.dh_world.specs.World.{Text}
 use Rattle.dh_world.specs.declared.pages.UploadedPage.{UploadedPage}

@@ -1,7 +1,7 @@
 -- What a command makes of sound records.
 use Rattle.std.specs.Prelude.{◌≡◌, ◌⊎◌, Result, Ok, Err}
-use Rattle.dh_tables.specs.Lists.{Lists, world_of}
-use Rattle.dh_tables.specs.Rules.{AreInOrder, KeepsRules}
+use Rattle.dh_records.specs.Lists.{Lists, world_of}
+use Rattle.dh_records.specs.Rules.{AreInOrder, KeepsRules}
 use Rattle.dh_world.specs.Checks.{IsSetAside}
 use Rattle.dh_world.specs.Step.{turn, step}
 use Rattle.dh_world.specs.declared.answer.Answer.{Answer}

@@ -1,8 +1,7 @@
 //! Making the edits of a plan, within a transaction.
-ghost use Rattle.std.specs.Prelude.{◌≡◌, true, IfOk, IfErr, OnOk};
-ghost use Rattle.dh_rows.specs.Calls.{IsHonest, Goes};
-ghost use Rattle.dh_world.specs.Checks.{IsSetAside};
-ghost use Rattle.dh_transactions.specs.Going.{Sees, records};
+ghost use Rattle.std.specs.Prelude.{◌≡◌, true, IfOk};
+ghost use Rattle.dh_rows.specs.Calls.{IsHonest};
+ghost use Rattle.dh_transactions.specs.Going.{Makes, records};
 ghost use Rattle.dh_transactions.specs.RowEdits.{RowsMay, RowsMayAll, rows_edited, all_rows_edited, with_version, without_version, without_pages, without_grants_on, with_defaults};
 
 use dh_commands::{CheckedPage, Edit, FirstAnswer};
@@ -24,10 +23,8 @@ fn add_lang<S: Alter>(
     requires within { IsHonest S.Store tables.old → tables.old.in_transaction ≡ true }
     requires may { IsHonest S.Store tables.old
         → RowsMay host.now (Edit.AddLang lang place) (records S.Store tables.old) }
-    ensures goes { Goes S.Store tables.old tables.new }
-    ensures sees { OnOk result (Sees S.Store tables.old tables.new
-        (rows_edited host.now (Edit.AddLang lang place) (records S.Store tables.old))) }
-    ensures err { IfErr result IsSetAside }
+    ensures makes { Makes S.Store tables.old tables.new result
+        (rows_edited host.now (Edit.AddLang lang place)) }
 {
     let row = LangRow {
         host: host.try_copy(alloc)?,
@@ -44,10 +41,8 @@ fn put_version<S: Alter>(
     version: Version,
 ) -> Result<(), Refusal>
     requires within { IsHonest S.Store tables.old → tables.old.in_transaction ≡ true }
-    ensures goes { Goes S.Store tables.old tables.new }
-    ensures sees { OnOk result (Sees S.Store tables.old tables.new
-        (with_version host.now version (records S.Store tables.old))) }
-    ensures err { IfErr result IsSetAside }
+    ensures makes { Makes S.Store tables.old tables.new result
+        (with_version host.now version) }
 {
     let row = VersionRow {
         host: host.try_copy(alloc)?,
@@ -63,10 +58,8 @@ fn put_without_pages<S: Alter>(
     version: Version,
 ) -> Result<(), Refusal>
     requires within { IsHonest S.Store tables.old → tables.old.in_transaction ≡ true }
-    ensures goes { Goes S.Store tables.old tables.new }
-    ensures sees { OnOk result (Sees S.Store tables.old tables.new
-        (rows_edited host.now (Edit.PutWithoutPages version) (records S.Store tables.old))) }
-    ensures err { IfErr result IsSetAside }
+    ensures makes { Makes S.Store tables.old tables.new result
+        (rows_edited host.now (Edit.PutWithoutPages version)) }
 {
     tables.drop_pages(host, &version.slug, None)?;
     put_version(tables, alloc, host, version)
@@ -79,11 +72,8 @@ fn remove_granted<S: Alter>(
     slug: &Slug,
 ) -> Result<(), Refusal>
     requires within { IsHonest S.Store tables.old → tables.old.in_transaction ≡ true }
-    ensures goes { Goes S.Store tables.old tables.new }
-    ensures sees { OnOk result (Sees S.Store tables.old tables.new
-        (without_version host.now slug.now
-        (without_grants_on host.now slug.now (records S.Store tables.old)))) }
-    ensures err { IfErr result IsSetAside }
+    ensures makes { Makes S.Store tables.old tables.new result
+        (λ l. without_version host.now slug.now (without_grants_on host.now slug.now l)) }
 {
     tables.drop_grants_of(host, slug)?;
     Ok(tables.drop_version(host, slug)?)
@@ -96,11 +86,9 @@ fn remove_filled<S: Alter>(
     slug: &Slug,
 ) -> Result<(), Refusal>
     requires within { IsHonest S.Store tables.old → tables.old.in_transaction ≡ true }
-    ensures goes { Goes S.Store tables.old tables.new }
-    ensures sees { OnOk result (Sees S.Store tables.old tables.new
-        (without_version host.now slug.now (without_grants_on host.now slug.now
-        (without_pages host.now slug.now (records S.Store tables.old))))) }
-    ensures err { IfErr result IsSetAside }
+    ensures makes { Makes S.Store tables.old tables.new result
+        (λ l. without_version host.now slug.now (without_grants_on host.now slug.now
+        (without_pages host.now slug.now l))) }
 {
     tables.drop_pages(host, slug, None)?;
     remove_granted(tables, host, slug)
@@ -113,12 +101,9 @@ fn remove_version<S: Alter>(
     defaults: &[Slug],
 ) -> Result<(), Refusal>
     requires within { IsHonest S.Store tables.old → tables.old.in_transaction ≡ true }
-    ensures goes { Goes S.Store tables.old tables.new }
-    ensures sees { OnOk result (Sees S.Store tables.old tables.new
-        (without_version host.now slug.now (without_grants_on host.now slug.now
-        (without_pages host.now slug.now
-        (with_defaults host.now defaults.now (records S.Store tables.old)))))) }
-    ensures err { IfErr result IsSetAside }
+    ensures makes { Makes S.Store tables.old tables.new result
+        (λ l. without_version host.now slug.now (without_grants_on host.now slug.now
+        (without_pages host.now slug.now (with_defaults host.now defaults.now l)))) }
 {
     set_defaults(tables, host, defaults)?;
     remove_filled(tables, host, slug)
@@ -143,10 +128,8 @@ fn put_page<S: Alter>(
     page: CheckedPage<'_>,
 ) -> Result<(), Refusal>
     requires within { IsHonest S.Store tables.old → tables.old.in_transaction ≡ true }
-    ensures goes { Goes S.Store tables.old tables.new }
-    ensures sees { OnOk result (Sees S.Store tables.old tables.new
-        (rows_edited host.now (Edit.PutPage slug lang page.entry) (records S.Store tables.old))) }
-    ensures err { IfErr result IsSetAside }
+    ensures makes { Makes S.Store tables.old tables.new result
+        (rows_edited host.now (Edit.PutPage slug lang page.entry)) }
 {
     let stored = page_in(alloc, &page)?;
     let row = PageRow {
@@ -166,10 +149,8 @@ fn remove_pages<S: Alter>(
     lang: &Lang,
 ) -> Result<(), Refusal>
     requires within { IsHonest S.Store tables.old → tables.old.in_transaction ≡ true }
-    ensures goes { Goes S.Store tables.old tables.new }
-    ensures sees { OnOk result (Sees S.Store tables.old tables.new
-        (rows_edited host.now (Edit.RemovePages slug.now lang.now) (records S.Store tables.old))) }
-    ensures err { IfErr result IsSetAside }
+    ensures makes { Makes S.Store tables.old tables.new result
+        (rows_edited host.now (Edit.RemovePages slug.now lang.now)) }
 {
     Ok(tables.drop_pages(host, slug, Some(lang))?)
 }
@@ -180,10 +161,8 @@ fn set_defaults<S: Alter>(
     names: &[Slug],
 ) -> Result<(), Refusal>
     requires within { IsHonest S.Store tables.old → tables.old.in_transaction ≡ true }
-    ensures goes { Goes S.Store tables.old tables.new }
-    ensures sees { OnOk result (Sees S.Store tables.old tables.new
-        (with_defaults host.now names.now (records S.Store tables.old))) }
-    ensures err { IfErr result IsSetAside }
+    ensures makes { Makes S.Store tables.old tables.new result
+        (with_defaults host.now names.now) }
 {
     Ok(tables.set_picks(host, names)?)
 }
@@ -197,10 +176,8 @@ fn add_pass<S: Alter>(
     requires within { IsHonest S.Store tables.old → tables.old.in_transaction ≡ true }
     requires may { IsHonest S.Store tables.old
         → RowsMay host.now (Edit.AddPass pass) (records S.Store tables.old) }
-    ensures goes { Goes S.Store tables.old tables.new }
-    ensures sees { OnOk result (Sees S.Store tables.old tables.new
-        (rows_edited host.now (Edit.AddPass pass) (records S.Store tables.old))) }
-    ensures err { IfErr result IsSetAside }
+    ensures makes { Makes S.Store tables.old tables.new result
+        (rows_edited host.now (Edit.AddPass pass)) }
 {
     let row = PassRow {
         host: host.try_copy(alloc)?,
@@ -215,10 +192,8 @@ fn remove_pass<S: Alter>(
     pass: &Token,
 ) -> Result<(), Refusal>
     requires within { IsHonest S.Store tables.old → tables.old.in_transaction ≡ true }
-    ensures goes { Goes S.Store tables.old tables.new }
-    ensures sees { OnOk result (Sees S.Store tables.old tables.new
-        (rows_edited host.now (Edit.RemovePass pass.now) (records S.Store tables.old))) }
-    ensures err { IfErr result IsSetAside }
+    ensures makes { Makes S.Store tables.old tables.new result
+        (rows_edited host.now (Edit.RemovePass pass.now)) }
 {
     tables.drop_grants_by(host, pass)?;
     Ok(tables.drop_pass(host, pass)?)
@@ -232,10 +207,8 @@ fn grant<S: Alter>(
     slug: Slug,
 ) -> Result<(), Refusal>
     requires within { IsHonest S.Store tables.old → tables.old.in_transaction ≡ true }
-    ensures goes { Goes S.Store tables.old tables.new }
-    ensures sees { OnOk result (Sees S.Store tables.old tables.new
-        (rows_edited host.now (Edit.Grant pass slug) (records S.Store tables.old))) }
-    ensures err { IfErr result IsSetAside }
+    ensures makes { Makes S.Store tables.old tables.new result
+        (rows_edited host.now (Edit.Grant pass slug)) }
 {
     let row = HeldRow {
         host: host.try_copy(alloc)?,
@@ -252,10 +225,8 @@ fn revoke<S: Alter>(
     slug: &Slug,
 ) -> Result<(), Refusal>
     requires within { IsHonest S.Store tables.old → tables.old.in_transaction ≡ true }
-    ensures goes { Goes S.Store tables.old tables.new }
-    ensures sees { OnOk result (Sees S.Store tables.old tables.new
-        (rows_edited host.now (Edit.Revoke pass.now slug.now) (records S.Store tables.old))) }
-    ensures err { IfErr result IsSetAside }
+    ensures makes { Makes S.Store tables.old tables.new result
+        (rows_edited host.now (Edit.Revoke pass.now slug.now)) }
 {
     Ok(tables.revoke(host, pass, slug)?)
 }
@@ -269,10 +240,8 @@ fn put_answer<S: Alter>(
     requires within { IsHonest S.Store tables.old → tables.old.in_transaction ≡ true }
     requires may { IsHonest S.Store tables.old
         → RowsMay host.now (Edit.PutAnswer first) (records S.Store tables.old) }
-    ensures goes { Goes S.Store tables.old tables.new }
-    ensures sees { OnOk result (Sees S.Store tables.old tables.new
-        (rows_edited host.now (Edit.PutAnswer first) (records S.Store tables.old))) }
-    ensures err { IfErr result IsSetAside }
+    ensures makes { Makes S.Store tables.old tables.new result
+        (rows_edited host.now (Edit.PutAnswer first)) }
 {
     let FirstAnswer {
         slug,
@@ -292,10 +261,8 @@ fn make_edit<S: Alter>(
     requires within { IsHonest S.Store tables.old → tables.old.in_transaction ≡ true }
     requires may { IsHonest S.Store tables.old
         → RowsMay host.now edit (records S.Store tables.old) }
-    ensures goes { Goes S.Store tables.old tables.new }
-    ensures sees { OnOk result (Sees S.Store tables.old tables.new
-        (rows_edited host.now edit.entry (records S.Store tables.old))) }
-    ensures err { IfErr result IsSetAside }
+    ensures makes { Makes S.Store tables.old tables.new result
+        (rows_edited host.now edit.entry) }
 {
     match edit {
         Edit::AddLang { lang, place } => add_lang(tables, alloc, host, lang, place),
@@ -325,10 +292,8 @@ pub fn make_edits<S: Alter>(
     requires within { IsHonest S.Store tables.old → tables.old.in_transaction ≡ true }
     requires may { IsHonest S.Store tables.old
         → RowsMayAll host.now edits.items (records S.Store tables.old) }
-    ensures goes { Goes S.Store tables.old tables.new }
-    ensures sees { OnOk result (Sees S.Store tables.old tables.new
-        (all_rows_edited host.now edits.entry.items (records S.Store tables.old))) }
-    ensures err { IfErr result IsSetAside }
+    ensures makes { Makes S.Store tables.old tables.new result
+        (all_rows_edited host.now edits.entry.items) }
 {
     for edit in edits {
         make_edit(tables, alloc, host, edit)?;

@@ -1,12 +1,10 @@
 //! Looking up what a command has to know of the project of its host.
-ghost use Rattle.std.specs.Prelude.{◌≡◌, false, [], map, option_map, if◌then◌else◌, IfOk, IfErr};
+ghost use Rattle.std.specs.Prelude.{◌≡◌, false, [], map, option_map, if◌then◌else◌, IfOk};
 ghost use Rattle.std.specs.Option.{option_and_then, option_map_or};
 ghost use Rattle.std.specs.FinMap.{get, contains_key, len};
-ghost use Rattle.dh_world.specs.Checks.{IsSetAside};
-ghost use Rattle.dh_rows.specs.Calls.{Goes};
 ghost use Rattle.dh_transactions.specs.Finding.{OfProject, IsVersion, FindsSettings, FindsFacts, asked_key};
-ghost use Rattle.dh_tables.specs.Calling.{Learns};
-ghost use Rattle.dh_transactions.specs.Going.{Looks};
+ghost use Rattle.dh_schema.specs.Calling.{Learns};
+ghost use Rattle.dh_transactions.specs.Going.{Asks};
 ghost use Rattle.dh_transactions.specs.Sound.{AreSound};
 
 use dh_commands::{CheckedChange, Facts, ProjectSettings, RetryKey, questions_of};
@@ -22,10 +20,8 @@ fn settings_of<S: Alter>(
     alloc: Global,
     host: &HostName,
 ) -> Result<Option<ProjectSettings>, Refusal>
-    ensures goes { Goes S.Store tables.old tables.new }
-    ensures looks { Looks S.Store tables.old tables.new result }
+    ensures asks { Asks S.Store tables.old tables.new result }
     ensures value { Learns S.Store tables.old tables.new result (FindsSettings host.now) }
-    ensures err { IfErr result IsSetAside }
 {
     let Some(row) = tables.project(alloc, host)? else {
         return Ok(None);
@@ -49,11 +45,9 @@ fn version_for<S: Alter>(
     host: &HostName,
     slug: Option<&Slug>,
 ) -> Result<Option<Version>, Refusal>
-    ensures goes { Goes S.Store tables.old tables.new }
-    ensures looks { Looks S.Store tables.old tables.new result }
+    ensures asks { Asks S.Store tables.old tables.new result }
     ensures value { Learns S.Store tables.old tables.new result (λ l version. AreSound l
         → OfProject host.now (IsVersion (option_map (λ s. s.now) slug.entry) version) l) }
-    ensures err { IfErr result IsSetAside }
 {
     let Some(slug) = slug else {
         return Ok(None);
@@ -70,11 +64,9 @@ fn first_answer_for<S: Alter>(
     host: &HostName,
     retry_key: Option<RetryKey<'_>>,
 ) -> Result<Option<Answer>, Refusal>
-    ensures goes { Goes S.Store tables.old tables.new }
-    ensures looks { Looks S.Store tables.old tables.new result }
+    ensures asks { Asks S.Store tables.old tables.new result }
     ensures value { Learns S.Store tables.old tables.new result (λ l answer. OfProject host.now
         (λ p. option_and_then (get p.used) (asked_key retry_key.entry) ≡ answer) l) }
-    ensures err { IfErr result IsSetAside }
 {
     match retry_key {
         Some(asked) => Ok(tables.used(alloc, host, asked.slug, asked.operation, asked.key)?),
@@ -95,11 +87,9 @@ fn languages_for<S: Alter>(
     host: &HostName,
     ask: bool,
 ) -> Result<Vec<Lang>, Refusal>
-    ensures goes { Goes S.Store tables.old tables.new }
-    ensures looks { Looks S.Store tables.old tables.new result }
+    ensures asks { Asks S.Store tables.old tables.new result }
     ensures value { Learns S.Store tables.old tables.new result (λ l languages.
         OfProject host.now (λ p. (if ask then p.languages else []) ≡ languages.items) l) }
-    ensures err { IfErr result IsSetAside }
 {
     if !ask {
         return Ok(Vec::new(alloc));
@@ -121,11 +111,9 @@ fn defaults_for<S: Alter>(
     host: &HostName,
     ask: bool,
 ) -> Result<Vec<Slug>, Refusal>
-    ensures goes { Goes S.Store tables.old tables.new }
-    ensures looks { Looks S.Store tables.old tables.new result }
+    ensures asks { Asks S.Store tables.old tables.new result }
     ensures value { Learns S.Store tables.old tables.new result (λ l names.
         OfProject host.now (λ p. (if ask then p.defaults else []) ≡ names.items) l) }
-    ensures err { IfErr result IsSetAside }
 {
     if !ask {
         return Ok(Vec::new(alloc));
@@ -141,12 +129,10 @@ fn has_pass<S: Alter>(
     host: &HostName,
     pass: Option<&Token>,
 ) -> Result<bool, Refusal>
-    ensures goes { Goes S.Store tables.old tables.new }
-    ensures looks { Looks S.Store tables.old tables.new result }
+    ensures asks { Asks S.Store tables.old tables.new result }
     ensures value { Learns S.Store tables.old tables.new result (λ l has. OfProject host.now
         (λ p. option_map_or (contains_key p.passes) (option_map (λ t. t.now) pass.entry) false ≡ has)
         l) }
-    ensures err { IfErr result IsSetAside }
 {
     match pass {
         Some(pass) => Ok(tables.pass(alloc, host, pass)?.is_some()),
@@ -160,11 +146,9 @@ fn pass_count<S: Alter>(
     host: &HostName,
     ask: bool,
 ) -> Result<usize, Refusal>
-    ensures goes { Goes S.Store tables.old tables.new }
-    ensures looks { Looks S.Store tables.old tables.new result }
+    ensures asks { Asks S.Store tables.old tables.new result }
     ensures value { Learns S.Store tables.old tables.new result (λ l count. AreSound l
         → OfProject host.now (λ p. (if ask then len p.passes else 0) ≡ count) l) }
-    ensures err { IfErr result IsSetAside }
 {
     if ask {
         Ok(tables.pass_count(host)?)
@@ -180,11 +164,9 @@ pub fn look<S: Alter>(
     host: &HostName,
     change: &CheckedChange<'_>,
 ) -> Result<Option<Facts>, Refusal>
-    ensures goes { Goes S.Store tables.old tables.new }
-    ensures looks { Looks S.Store tables.old tables.new result }
+    ensures asks { Asks S.Store tables.old tables.new result }
     ensures value { Learns S.Store tables.old tables.new result
         (λ l facts. AreSound l → FindsFacts host.now change.now l facts) }
-    ensures err { IfErr result IsSetAside }
 {
     let Some(settings) = settings_of(tables, alloc, host)? else {
         return Ok(None);

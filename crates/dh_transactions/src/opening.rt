@@ -1,13 +1,12 @@
 //! Making a project where the host has none.
-ghost use Rattle.std.specs.Prelude.{◌≡◌, true, None, IfOk, IfErr, OnOk};
+ghost use Rattle.std.specs.Prelude.{◌≡◌, true, None, IfOk, OnOk};
 ghost use Rattle.std.specs.FinMap.{get};
 ghost use Rattle.dh_commands.specs.Commands.{command_of};
 ghost use Rattle.dh_rows.specs.Calls.{IsHonest, Goes};
 ghost use Rattle.dh_rows.specs.Keyed.{IsFreeKey};
-ghost use Rattle.dh_tables.specs.Codings as coding;
-ghost use Rattle.dh_tables.specs.Lists.{world_of};
-ghost use Rattle.dh_world.specs.Checks.{IsSetAside};
-ghost use Rattle.dh_transactions.specs.Going.{Sees, Stays, records};
+ghost use Rattle.dh_records.specs.Codings as coding;
+ghost use Rattle.dh_records.specs.Lists.{world_of};
+ghost use Rattle.dh_transactions.specs.Going.{Makes, Stays, records};
 ghost use Rattle.dh_transactions.specs.Opening.{project_row, main_lang, with_row, with_lang, with_project};
 ghost use Rattle.dh_transactions.specs.Sound.{AreSound, Turns};
 
@@ -52,10 +51,8 @@ fn add_row<S: Alter>(tables: &mut Tables<S>, row: &ProjectRow) -> Result<(), Ref
     requires within { IsHonest S.Store tables.old → tables.old.in_transaction ≡ true }
     requires free { IsHonest S.Store tables.old
         → IsFreeKey coding.projects.key row.now (records S.Store tables.old).projects }
-    ensures goes { Goes S.Store tables.old tables.new }
-    ensures sees { OnOk result (Sees S.Store tables.old tables.new
-        (with_row row.now (records S.Store tables.old))) }
-    ensures err { IfErr result IsSetAside }
+    ensures makes { Makes S.Store tables.old tables.new result
+        (with_row row.now) }
 {
     Ok(tables.add_project(row)?)
 }
@@ -64,10 +61,8 @@ fn add_main<S: Alter>(tables: &mut Tables<S>, lang: &LangRow) -> Result<(), Refu
     requires within { IsHonest S.Store tables.old → tables.old.in_transaction ≡ true }
     requires free { IsHonest S.Store tables.old
         → IsFreeKey coding.langs.key lang.now (records S.Store tables.old).langs }
-    ensures goes { Goes S.Store tables.old tables.new }
-    ensures sees { OnOk result (Sees S.Store tables.old tables.new
-        (with_lang lang.now (records S.Store tables.old))) }
-    ensures err { IfErr result IsSetAside }
+    ensures makes { Makes S.Store tables.old tables.new result
+        (with_lang lang.now) }
 {
     Ok(tables.add_lang(lang)?)
 }
@@ -83,10 +78,8 @@ fn add_project<S: Alter>(
     requires sound { IsHonest S.Store tables.old → AreSound (records S.Store tables.old) }
     requires none { IsHonest S.Store tables.old
         → get (world_of (records S.Store tables.old)) host.now ≡ None }
-    ensures goes { Goes S.Store tables.old tables.new }
-    ensures sees { OnOk result (Sees S.Store tables.old tables.new
-        (with_project host.now project (records S.Store tables.old))) }
-    ensures err { IfErr result IsSetAside }
+    ensures makes { Makes S.Store tables.old tables.new result
+        (with_project host.now project) }
 {
     let (row, main) = rows_of(alloc, host, project)?;
     add_row(tables, &row)?;

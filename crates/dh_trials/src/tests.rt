@@ -5,7 +5,7 @@ mod memory;
 mod tables;
 mod uploads;
 
-use dh_desk::{Answer, Command, Desk, Pages, Refusal, UploadedPage};
+use dh_desk::{Answer, Command, CommandChange, Desk, Pages, Refusal, UploadedPage};
 use dh_paths::{Bytes, Text};
 use dh_reply::{Fault, Read, Reply};
 use dh_tables::Tables;
@@ -27,38 +27,44 @@ fn empty_desk(alloc: Global) -> Result<Desk<MemStore>, Fail> {
     }
 }
 
+/// A command for the one project.
+fn command(alloc: Global, change: CommandChange) -> Result<Command, Fail> {
+    let host = text(alloc, "docs.test")?;
+    Ok(Command { host, change })
+}
+
 fn new_project(alloc: Global) -> Result<Command, Fail> {
-    Ok(Command::NewProject {
-        host: text(alloc, "docs.test")?,
+    let change = CommandChange::NewProject {
         lang: text(alloc, "en")?,
         branch: text(alloc, "main")?,
         private: false,
         wkey: text(alloc, "wkey-1")?,
-    })
+    };
+    command(alloc, change)
 }
 
 /// A push of the default branch.
 fn push_main(alloc: Global) -> Result<Command, Fail> {
-    Ok(Command::Push {
-        host: text(alloc, "docs.test")?,
+    let change = CommandChange::Push {
         wkey: text(alloc, "wkey-1")?,
         key: text(alloc, "k1")?,
         kind: Kind::Branch,
         name: text(alloc, "main")?,
-    })
+    };
+    command(alloc, change)
 }
 
 /// An upload to `main`, in place of the pages that are there.
 fn upload(alloc: Global, pages: Vec<UploadedPage>) -> Result<Command, Fail> {
-    Ok(Command::Upload {
-        host: text(alloc, "docs.test")?,
+    let change = CommandChange::Upload {
         wkey: text(alloc, "wkey-1")?,
         key: text(alloc, "u1")?,
         slug: text(alloc, "main")?,
         lang: text(alloc, "en")?,
         replace: true,
         pages: Pages::wrap(pages),
-    })
+    };
+    command(alloc, change)
 }
 
 /// A page whose body is so many times the letter `x`.

@@ -1,5 +1,5 @@
 -- What is kept under a retry key stays kept, and is answered again.
-use Rattle.std.proofs.Common.{◌≡◌, ◌&&◌, not, Bool, true, false, cond, length, List, [], ◌∷◌, Option, Some, None, is_some, Result, Ok, Err, refl, sym, ap, ◌∙◌, subst}
+use Rattle.std.proofs.Common.{◌≡◌, ◌&&◌, not, Bool, true, false, cond, length, List, [], ◌∷◌, Option, Some, None, is_some, Result, Ok, Err, ◌⊎◌, inl, inr, refl, sym, ap, ◌∙◌, subst}
 use Rattle.std.specs.Prelude.{nat_lt, option_map, option_and_then}
 use Rattle.std.specs.Str.{bytes_eq}
 use Rattle.std.specs.Ordering.{eq_by_cmp, is_eq}
@@ -12,14 +12,15 @@ use Rattle.dh_paths.specs.Slugs.{slug_text}
 use Rattle.dh_versions.specs.declared.version.Version.{Version}
 use Rattle.dh_world.specs.declared.answer.Answer.{Answer}
 use Rattle.dh_world.specs.declared.command.Command.{Command}
-use Rattle.dh_world.specs.declared.command.Command.TheVariants.{NewProject, AddLang, Push, Upload, Activate, Deactivate, Hide, Unhide, Publish, MakePrivate, Gone, SetDefault, AddPass, DropPass, Grant, Revoke}
+use Rattle.dh_world.specs.declared.command.CommandChange.{CommandChange}
+use Rattle.dh_world.specs.declared.command.CommandChange.TheVariants as change
 use Rattle.dh_world.specs.declared.refusal.Refusal.{Refusal}
-use Rattle.dh_world.specs.declared.refusal.Refusal.TheVariants.{WrongKey}
+use Rattle.dh_world.specs.declared.refusal.Refusal.TheVariants.{WrongKey, NoProject}
 use Rattle.dh_world.specs.World.{Text, text_cmp, UsedKey, used_cmp, Project, World}
 use Rattle.dh_world.specs.Texts.{bad_text}
 use Rattle.dh_world.specs.Seen.{is_alias}
 use Rattle.dh_world.specs.Changes.{Change, change, opened, has_lang, same_kind, new_version, with_version, stored, once, at_version, at_pass, pushed, push_key, uploaded, upload_key}
-use Rattle.dh_world.specs.Step.{host_of, change_at, settled, after_texts, step}
+use Rattle.dh_world.specs.Step.{change_at, settled, after_texts, step}
 use Rattle.dh_world.specs.Retries.{retry_key, write_key, write_key_at, kept, left_by, after}
 use Rattle.dh_world.proofs.MapLemmas.{text_total, used_total, used_exact, get_back, put_same}
 
@@ -104,69 +105,130 @@ done p q a w u = gives (Leaves p None) q a (untouched p q a w u)
 of_pass : (p : Project) (pass : Text) (q : Project) → q.wkey ≡ p.wkey → q.used ≡ p.used → Yields (Leaves p None) (at_pass p pass q)
 of_pass p pass q w u = by_test (Leaves p None) (contains_key p.passes pass) _ _ (done p q _ w u) (refuses (Leaves p None) _)
 
-change_leaves : (c : Command) (p : Project) → Yields (Leaves p (retry_key c)) (change c p)
-change_leaves (NewProject host lang branch private wkey) p = refuses _ _
-change_leaves (AddLang host lang) p =
-    by_test (Leaves p None) (has_lang p lang) _ _ (refuses (Leaves p None) _)
-    (by_test (Leaves p None) (nat_lt (length p.languages) 30) _ _ (done p _ _ refl refl) (refuses (Leaves p None) _))
-change_leaves (Push host wkey key kind name) p =
-    by_test P (bytes_eq wkey p.wkey) _ _ (at_once p place (get p.used place) _ refl (λ free. by_version free (get p.versions (slug_text name)))) (refuses P _)
+-- ---- which changes have a retry key
+
+-- a change without one
+abbrev IsPlain : CommandChange → Type 0
+IsPlain c = (retry_key c ≡ None) × ((p : Project) → Yields (Leaves p None) (change c p))
+
+-- a push or an upload, by what it does under a key that was not used
+record IsRetried (c : CommandChange) : Type 0 where
+  wkey : Text
+  key : UsedKey
+  next : Project → Change
+  its_write_key : write_key c ≡ Some wkey
+  its_key : retry_key c ≡ Some key
+  unopened : opened c ≡ Err NoProject
+  change_is : (p : Project) → change c p ≡ cond (bytes_eq wkey p.wkey) (once p (get p.used key) (next p)) (Err WrongKey)
+  leaves : (p : Project) → get p.used key ≡ None → Yields (Leaves p (Some key)) (next p)
+
+sort_of : (c : CommandChange) → IsPlain c ⊎ IsRetried c
+sort_of (change.NewProject lang branch private wkey) = inl (refl, λ p. refuses _ _)
+sort_of (change.AddLang lang) = inl (
+  refl,
+  λ p.
+      by_test (Leaves p None) (has_lang p lang) _ _ (refuses (Leaves p None) _)
+      (by_test (Leaves p None) (nat_lt (length p.languages) 30) _ _ (done p _ _ refl refl) (refuses (Leaves p None) _)),
+)
+sort_of (change.Push wkey key kind name) = inr (record {
+  wkey = wkey;
+  key = place;
+  next = λ p. pushed p key kind name (get p.versions (slug_text name));
+  its_write_key = refl;
+  its_key = refl;
+  unopened = refl;
+  change_is = λ p. refl;
+  leaves = λ p free. by_version p free (get p.versions (slug_text name));
+})
   where
     place : UsedKey
     place = push_key (slug_text name) key
 
-    P : Project → Answer → Type 0
-    P = Leaves p (Some place)
-
-    by_version : get p.used place ≡ None → (o : Option Version) → Yields P (pushed p key kind name o)
-    by_version free (Some v) = by_test P (same_kind v.kind kind && bytes_eq v.name name) _ _ (gives P _ _ (newly_kept p p place _ refl refl free)) (refuses P _)
-    by_version free None = gives P _ _ (newly_kept p (with_version p (slug_text name) (new_version p kind name)) place _ refl refl free)
-change_leaves (Upload host wkey key slug lang replace pages) p =
-    by_test P (bytes_eq wkey p.wkey) _ _ (at_once p place (get p.used place) _ refl (λ free. by_version free (get p.versions slug))) (refuses P _)
+    by_version : (p : Project) → get p.used place ≡ None → (o : Option Version) → Yields (Leaves p (Some place)) (pushed p key kind name o)
+    by_version p free (Some v) =
+        by_test (Leaves p (Some place)) (same_kind v.kind kind && bytes_eq v.name name) _ _
+        (gives (Leaves p (Some place)) _ _ (newly_kept p p place _ refl refl free)) (refuses (Leaves p (Some place)) _)
+    by_version p free None = gives (Leaves p (Some place)) _ _ (newly_kept p (with_version p (slug_text name) (new_version p kind name)) place _ refl refl free)
+sort_of (change.Upload wkey key slug lang replace pages) = inr (record {
+  wkey = wkey;
+  key = place;
+  next = λ p. uploaded p key slug lang replace pages (get p.versions slug);
+  its_write_key = refl;
+  its_key = refl;
+  unopened = refl;
+  change_is = λ p. refl;
+  leaves = λ p free. by_version p free (get p.versions slug);
+})
   where
     place : UsedKey
     place = upload_key slug key
 
-    P : Project → Answer → Type 0
-    P = Leaves p (Some place)
-
-    by_version : get p.used place ≡ None → (o : Option Version) → Yields P (uploaded p key slug lang replace pages o)
-    by_version free None = refuses P _
-    by_version free (Some v) =
+    by_version : (p : Project) → get p.used place ≡ None → (o : Option Version) → Yields (Leaves p (Some place)) (uploaded p key slug lang replace pages o)
+    by_version p free None = refuses (Leaves p (Some place)) _
+    by_version p free (Some v) =
+        let P : Project → Answer → Type 0 = Leaves p (Some place) in
         by_test P (not v.active) _ _ (refuses P _)
         (by_test P (not (has_lang p lang)) _ _ (refuses P _) (gives P _ _ (newly_kept p (stored slug lang replace pages p) place _ refl refl free)))
-change_leaves (Activate host slug) p = at_one (Leaves p None) (get p.versions slug) _ (λ v. done p _ _ refl refl)
-change_leaves (Deactivate host slug) p = at_one (Leaves p None) (get p.versions slug) _ (λ v. done p _ _ refl refl)
-change_leaves (Hide host slug) p = at_one (Leaves p None) (get p.versions slug) _ (λ v. done p _ _ refl refl)
-change_leaves (Unhide host slug) p = at_one (Leaves p None) (get p.versions slug) _ (λ v. done p _ _ refl refl)
-change_leaves (Publish host slug) p = at_one (Leaves p None) (get p.versions slug) _ (λ v. done p _ _ refl refl)
-change_leaves (MakePrivate host slug) p = at_one (Leaves p None) (get p.versions slug) _ (λ v. done p _ _ refl refl)
-change_leaves (Gone host slug) p = at_one (Leaves p None) (get p.versions slug) _ (λ v. done p _ _ refl refl)
-change_leaves (SetDefault host name) p =
-    by_test (Leaves p None) (is_alias name) _ _ (done p _ _ refl refl)
-    (at_one (Leaves p None) (get p.versions name) _ (λ v. by_test (Leaves p None) v.active _ _ (done p _ _ refl refl) (refuses (Leaves p None) _)))
-change_leaves (AddPass host pass) p =
-    by_test (Leaves p None) (contains_key p.passes pass) _ _ (refuses (Leaves p None) _)
-    (by_test (Leaves p None) (nat_lt (len p.passes) 1000) _ _ (done p _ _ refl refl) (refuses (Leaves p None) _))
-change_leaves (DropPass host pass) p = of_pass p pass _ refl refl
-change_leaves (Grant host pass slug) p = at_one (Leaves p None) (get p.versions slug) _ (λ v. of_pass p pass _ refl refl)
-change_leaves (Revoke host pass slug) p = at_one (Leaves p None) (get p.versions slug) _ (λ v. of_pass p pass _ refl refl)
+sort_of (change.Activate slug) = inl (refl, λ p. at_one (Leaves p None) (get p.versions slug) _ (λ v. done p _ _ refl refl))
+sort_of (change.Deactivate slug) = inl (refl, λ p. at_one (Leaves p None) (get p.versions slug) _ (λ v. done p _ _ refl refl))
+sort_of (change.Hide slug) = inl (refl, λ p. at_one (Leaves p None) (get p.versions slug) _ (λ v. done p _ _ refl refl))
+sort_of (change.Unhide slug) = inl (refl, λ p. at_one (Leaves p None) (get p.versions slug) _ (λ v. done p _ _ refl refl))
+sort_of (change.Publish slug) = inl (refl, λ p. at_one (Leaves p None) (get p.versions slug) _ (λ v. done p _ _ refl refl))
+sort_of (change.MakePrivate slug) = inl (refl, λ p. at_one (Leaves p None) (get p.versions slug) _ (λ v. done p _ _ refl refl))
+sort_of (change.Gone slug) = inl (refl, λ p. at_one (Leaves p None) (get p.versions slug) _ (λ v. done p _ _ refl refl))
+sort_of (change.SetDefault name) = inl (
+  refl,
+  λ p.
+      by_test (Leaves p None) (is_alias name) _ _ (done p _ _ refl refl)
+      (at_one (Leaves p None) (get p.versions name) _ (λ v. by_test (Leaves p None) v.active _ _ (done p _ _ refl refl) (refuses (Leaves p None) _))),
+)
+sort_of (change.AddPass pass) = inl (
+  refl,
+  λ p.
+      by_test (Leaves p None) (contains_key p.passes pass) _ _ (refuses (Leaves p None) _)
+      (by_test (Leaves p None) (nat_lt (len p.passes) 1000) _ _ (done p _ _ refl refl) (refuses (Leaves p None) _)),
+)
+sort_of (change.DropPass pass) = inl (refl, λ p. of_pass p pass _ refl refl)
+sort_of (change.Grant pass slug) = inl (refl, λ p. at_one (Leaves p None) (get p.versions slug) _ (λ v. of_pass p pass _ refl refl))
+sort_of (change.Revoke pass slug) = inl (refl, λ p. at_one (Leaves p None) (get p.versions slug) _ (λ v. of_pass p pass _ refl refl))
+
+change_leaves : (c : CommandChange) (p : Project) → Yields (Leaves p (retry_key c)) (change c p)
+change_leaves c p = go (sort_of c)
+  where
+    go : IsPlain c ⊎ IsRetried c → Yields (Leaves p (retry_key c)) (change c p)
+    go (inl plain) = subst (λ k. Yields (Leaves p k) (change c p)) (sym plain.0) (plain.1 p)
+    go (inr r) =
+        let P : Project → Answer → Type 0 = Leaves p (Some r.key) in
+        subst (λ k. Yields (Leaves p k) (change c p)) (sym r.its_key)
+        (subst (Yields P) (sym (r.change_is p))
+        (by_test P (bytes_eq r.wkey p.wkey) _ _ (at_once p r.key (get p.used r.key) _ refl (r.leaves p)) (refuses P _)))
+
+-- a change with a retry key is a push or an upload
+retried : (c : CommandChange) (key : UsedKey) → retry_key c ≡ Some key → (r : IsRetried c) × (r.key ≡ key)
+retried c key k = go (sort_of c)
+  where
+    the_same : (a b : UsedKey) → Some a ≡ Some b → a ≡ b
+    the_same a b e = cc
+
+    go : IsPlain c ⊎ IsRetried c → (r : IsRetried c) × (r.key ≡ key)
+    go (inl plain) = let none : None ≡ Some key = sym plain.0 ∙ k in absurd (cc)
+    go (inr r) = (r, the_same r.key key (sym r.its_key ∙ k))
 
 -- ---- steps
 
 -- an accepted command put one project back under its host
 record Accepted (w new : World) (c : Command) (answer : Answer) : Type 0 where
   project : Project
-  new_is : new ≡ insert w (host_of c) project
-  changed : change_at c (get w (host_of c)) ≡ Ok (project, answer)
+  new_is : new ≡ insert w c.host project
+  changed : change_at c.change (get w c.host) ≡ Ok (project, answer)
   texts : bad_text c ≡ None
 
 accepted_by : (w new : World) (c : Command) (answer : Answer) → step w c ≡ Ok (new, answer) → Accepted w new c answer
 accepted_by w new c answer = go (bad_text c) refl
   where
-    settles : (texts : bad_text c ≡ None) (r : Change) → change_at c (get w (host_of c)) ≡ r → settled w (host_of c) r ≡ Ok (new, answer) → Accepted w new c answer
+    settles : (texts : bad_text c ≡ None) (r : Change) → change_at c.change (get w c.host) ≡ r → settled w c.host r ≡ Ok (new, answer) → Accepted w new c answer
     settles texts (Ok (q, a)) is e =
-        let pair : ◌≡◌ {A = World × Answer} (insert w (host_of c) q, a) (new, answer) = ap (either_way (insert w (host_of c) q, a)) e in
+        let pair : ◌≡◌ {A = World × Answer} (insert w c.host q, a) (new, answer) = ap (either_way (insert w c.host q, a)) e in
         record { project = q; new_is = sym (ap (λ (x : World × Answer). x.0) pair); changed = is ∙ ap (λ x. Ok (q, x)) (ap (λ (x : World × Answer). x.1) pair); texts = texts }
       where
         either_way : World × Answer → Result (World × Answer) Refusal → World × Answer
@@ -176,58 +238,43 @@ accepted_by w new c answer = go (bad_text c) refl
 
     go : (t : Option Refusal) → bad_text c ≡ t → after_texts w c t ≡ Ok (new, answer) → Accepted w new c answer
     go (Some x) is e = absurd (cc)
-    go None is e = settles is (change_at c (get w (host_of c))) refl e
+    go None is e = settles is (change_at c.change (get w c.host)) refl e
 
 -- no command with a retry key is accepted where there is no project
-opened_never : (c : Command) (key : UsedKey) (q : Project) (a : Answer) → retry_key c ≡ Some key → opened c ≡ Ok (q, a) → ⊥
-opened_never (NewProject host lang branch private wkey) key q a k e = cc
-opened_never (AddLang host lang) key q a k e = cc
-opened_never (Push host wkey k0 kind name) key q a k e = cc
-opened_never (Upload host wkey k0 slug lang replace pages) key q a k e = cc
-opened_never (Activate host slug) key q a k e = cc
-opened_never (Deactivate host slug) key q a k e = cc
-opened_never (Hide host slug) key q a k e = cc
-opened_never (Unhide host slug) key q a k e = cc
-opened_never (Publish host slug) key q a k e = cc
-opened_never (MakePrivate host slug) key q a k e = cc
-opened_never (Gone host slug) key q a k e = cc
-opened_never (SetDefault host name) key q a k e = cc
-opened_never (AddPass host pass) key q a k e = cc
-opened_never (DropPass host pass) key q a k e = cc
-opened_never (Grant host pass slug) key q a k e = cc
-opened_never (Revoke host pass slug) key q a k e = cc
+opened_never : (c : CommandChange) (key : UsedKey) (q : Project) (a : Answer) → retry_key c ≡ Some key → opened c ≡ Ok (q, a) → ⊥
+opened_never c key q a k e = let none = sym (retried c key k).0.unopened ∙ e in cc
 
 -- what is kept under the host of an accepted command
 kept_back : (w : World) (host : Text) (q : Project) (key : UsedKey) → kept (insert w host q) host key ≡ get q.used key
 kept_back w host q key = ap (option_and_then (λ (p : Project). get p.used key)) (get_back w host q)
 
-pub first_is_kept : (w new : World) (c : Command) (answer : Answer) (key : UsedKey) → step w c ≡ Ok (new, answer) → retry_key c ≡ Some key → kept new (host_of c) key ≡ Some answer
+pub first_is_kept : (w new : World) (c : Command) (answer : Answer) (key : UsedKey) → step w c ≡ Ok (new, answer) → retry_key c.change ≡ Some key → kept new c.host key ≡ Some answer
 first_is_kept w new c answer key e k =
     let it = accepted_by w new c answer e in
-    ap (λ x. kept x (host_of c) key) it.new_is ∙ kept_back w (host_of c) it.project key ∙ by_project (get w (host_of c)) it.project it.changed
+    ap (λ x. kept x c.host key) it.new_is ∙ kept_back w c.host it.project key ∙ by_project (get w c.host) it.project it.changed
   where
-    by_project : (o : Option Project) (q : Project) → change_at c o ≡ Ok (q, answer) → get q.used key ≡ Some answer
-    by_project None q changed = absurd (opened_never c key q answer k changed)
-    by_project (Some p) q changed = (change_leaves c p q answer changed).first key k
+    by_project : (o : Option Project) (q : Project) → change_at c.change o ≡ Ok (q, answer) → get q.used key ≡ Some answer
+    by_project None q changed = absurd (opened_never c.change key q answer k changed)
+    by_project (Some p) q changed = (change_leaves c.change p q answer changed).first key k
 
 -- another project is as it was
 elsewhere : (w : World) (host other : Text) (q : Project) → eq_by_cmp text_cmp other host ≡ false → get (insert w host q) other ≡ get w other
 elsewhere w host other q e = get-insert text_total w host q other ∙ ap (λ b. cond b (Some q) (get w other)) e
 
 -- What is known of a project that is there, and stays over its own changes, stays over each step.
-stays : (P : Project → Type 0) (w new : World) (c : Command) (answer : Answer) → step w c ≡ Ok (new, answer) → ((p q : Project) → change c p ≡ Ok (q, answer) → P p → P q)
+stays : (P : Project → Type 0) (w new : World) (c : Command) (answer : Answer) → step w c ≡ Ok (new, answer) → ((p q : Project) → change c.change p ≡ Ok (q, answer) → P p → P q)
     → (host : Text) (p : Project) → get w host ≡ Some p → P p → (q : Project) × (get new host ≡ Some q) × P q
-stays P w new c answer e keeps host p was h = go (eq_by_cmp text_cmp host (host_of c)) refl
+stays P w new c answer e keeps host p was h = go (eq_by_cmp text_cmp host c.host) refl
   where
     it : Accepted w new c answer
     it = accepted_by w new c answer e
 
-    go : (b : Bool) → eq_by_cmp text_cmp host (host_of c) ≡ b → (q : Project) × (get new host ≡ Some q) × P q
+    go : (b : Bool) → eq_by_cmp text_cmp host c.host ≡ b → (q : Project) × (get new host ≡ Some q) × P q
     go true t =
-        let same : host ≡ host_of c = exact_bytes host (host_of c) ((Equal-is (text_cmp host (host_of c))).0 t) in
-        let there : get w (host_of c) ≡ Some p = ap (get w) (sym same) ∙ was in
-        (it.project, ap (get new) same ∙ ap (λ x. get x (host_of c)) it.new_is ∙ get_back w (host_of c) it.project, keeps p it.project (ap (change_at c) (sym there) ∙ it.changed) h)
-    go false t = (p, ap (λ x. get x host) it.new_is ∙ elsewhere w (host_of c) host it.project t ∙ was, h)
+        let same : host ≡ c.host = exact_bytes host c.host ((Equal-is (text_cmp host c.host)).0 t) in
+        let there : get w c.host ≡ Some p = ap (get w) (sym same) ∙ was in
+        (it.project, ap (get new) same ∙ ap (λ x. get x c.host) it.new_is ∙ get_back w c.host it.project, keeps p it.project (ap (change_at c.change) (sym there) ∙ it.changed) h)
+    go false t = (p, ap (λ x. get x host) it.new_is ∙ elsewhere w c.host host it.project t ∙ was, h)
 
 -- the project that keeps an answer
 keeper : (w : World) (host : Text) (key : UsedKey) (first : Answer) → kept w host key ≡ Some first → (p : Project) × (get w host ≡ Some p) × (get p.used key ≡ Some first)
@@ -240,7 +287,7 @@ keeper w host key first = go (get w host) refl
 pub kept_stays : (w new : World) (c : Command) (answer : Answer) → step w c ≡ Ok (new, answer) → (host : Text) (key : UsedKey) (first : Answer) → kept w host key ≡ Some first → kept new host key ≡ Some first
 kept_stays w new c answer e host key first k =
     let by = keeper w host key first k in
-    let now = stays (λ (p : Project). get p.used key ≡ Some first) w new c answer e (λ p q changed. (change_leaves c p q answer changed).keeps key first) host by.0 by.1 by.2 in
+    let now = stays (λ (p : Project). get p.used key ≡ Some first) w new c answer e (λ p q changed. (change_leaves c.change p q answer changed).keeps key first) host by.0 by.1 by.2 in
     ap (option_and_then (λ (p : Project). get p.used key)) now.1 ∙ now.2
 
 -- ---- a repeat
@@ -249,36 +296,19 @@ kept_stays w new c answer e host key first k =
 right_key : (p : Project) (wkey : Text) → ◌≡◌ {A = Option Text} (Some p.wkey) (Some wkey) → bytes_eq wkey p.wkey ≡ true
 right_key p wkey e = (bytes_eq-Decides wkey p.wkey).1 (cc)
 
-repeated : (c : Command) (p : Project) (key : UsedKey) (first : Answer) → retry_key c ≡ Some key → ◌≡◌ {A = Option Text} (Some p.wkey) (write_key c) → get p.used key ≡ Some first → change c p ≡ Ok (p, first)
-repeated (Push host wkey k0 kind name) p key first k w kept_is = rw (right_key p wkey w) (ap (λ o. once p o (pushed p k0 kind name (get p.versions (slug_text name)))) (ap (get p.used) (the_same key k) ∙ kept_is))
-  where
-    the_same : (key : UsedKey) → ◌≡◌ {A = Option UsedKey} (Some (push_key (slug_text name) k0)) (Some key) → push_key (slug_text name) k0 ≡ key
-    the_same key e = cc
-repeated (Upload host wkey k0 slug lang replace pages) p key first k w kept_is = rw (right_key p wkey w) (ap (λ o. once p o (uploaded p k0 slug lang replace pages (get p.versions slug))) (ap (get p.used) (the_same key k) ∙ kept_is))
-  where
-    the_same : (key : UsedKey) → ◌≡◌ {A = Option UsedKey} (Some (upload_key slug k0)) (Some key) → upload_key slug k0 ≡ key
-    the_same key e = cc
-repeated (NewProject host lang branch private wkey) p key first k w kept_is = absurd (cc)
-repeated (AddLang host lang) p key first k w kept_is = absurd (cc)
-repeated (Activate host slug) p key first k w kept_is = absurd (cc)
-repeated (Deactivate host slug) p key first k w kept_is = absurd (cc)
-repeated (Hide host slug) p key first k w kept_is = absurd (cc)
-repeated (Unhide host slug) p key first k w kept_is = absurd (cc)
-repeated (Publish host slug) p key first k w kept_is = absurd (cc)
-repeated (MakePrivate host slug) p key first k w kept_is = absurd (cc)
-repeated (Gone host slug) p key first k w kept_is = absurd (cc)
-repeated (SetDefault host name) p key first k w kept_is = absurd (cc)
-repeated (AddPass host pass) p key first k w kept_is = absurd (cc)
-repeated (DropPass host pass) p key first k w kept_is = absurd (cc)
-repeated (Grant host pass slug) p key first k w kept_is = absurd (cc)
-repeated (Revoke host pass slug) p key first k w kept_is = absurd (cc)
+repeated : (c : CommandChange) (p : Project) (key : UsedKey) (first : Answer) → retry_key c ≡ Some key → ◌≡◌ {A = Option Text} (Some p.wkey) (write_key c) → get p.used key ≡ Some first → change c p ≡ Ok (p, first)
+repeated c p key first k w kept_is =
+    let it = retried c key k in
+    let r : IsRetried c = it.0 in
+    r.change_is p ∙ ap (λ b. cond b (once p (get p.used r.key) (r.next p)) (Err WrongKey)) (right_key p r.wkey (w ∙ r.its_write_key))
+    ∙ ap (λ o. once p o (r.next p)) (ap (get p.used) it.1 ∙ kept_is)
 
-pub kept_is_answered : (w : World) (c : Command) (key : UsedKey) (first : Answer) → retry_key c ≡ Some key → bad_text c ≡ None → write_key_at w (host_of c) ≡ write_key c → kept w (host_of c) key ≡ Some first → step w c ≡ Ok (w, first)
+pub kept_is_answered : (w : World) (c : Command) (key : UsedKey) (first : Answer) → retry_key c.change ≡ Some key → bad_text c ≡ None → write_key_at w c.host ≡ write_key c.change → kept w c.host key ≡ Some first → step w c ≡ Ok (w, first)
 kept_is_answered w c key first k texts wkey kept_is =
-    let by = keeper w (host_of c) key first kept_is in
+    let by = keeper w c.host key first kept_is in
     let p : Project = by.0 in
-    let right : ◌≡◌ {A = Option Text} (Some p.wkey) (write_key c) = sym (ap (option_map (λ (p : Project). p.wkey)) by.1) ∙ wkey in
-    ap (after_texts w c) texts ∙ ap (settled w (host_of c)) (ap (change_at c) by.1 ∙ repeated c p key first k right by.2) ∙ ap (λ x. Ok (x, first)) (put_same w (host_of c) p by.1)
+    let right : ◌≡◌ {A = Option Text} (Some p.wkey) (write_key c.change) = sym (ap (option_map (λ (p : Project). p.wkey)) by.1) ∙ wkey in
+    ap (after_texts w c) texts ∙ ap (settled w c.host) (ap (change_at c.change) by.1 ∙ repeated c.change p key first k right by.2) ∙ ap (λ x. Ok (x, first)) (put_same w c.host p by.1)
 
 -- ---- for good
 
@@ -289,68 +319,52 @@ key_stays w new c answer e host wkey is = go (get w host) refl is
     go : (o : Option Project) → get w host ≡ o → option_map (λ (p : Project). p.wkey) o ≡ Some wkey → write_key_at new host ≡ Some wkey
     go None was f = absurd (cc)
     go (Some p) was f =
-        let now = stays (λ (p : Project). ◌≡◌ {A = Option Text} (Some p.wkey) (Some wkey)) w new c answer e (λ p q changed h. ap Some ((change_leaves c p q answer changed).same_key) ∙ h) host p was f in
+        let now = stays (λ (p : Project). ◌≡◌ {A = Option Text} (Some p.wkey) (Some wkey)) w new c answer e (λ p q changed h. ap Some ((change_leaves c.change p q answer changed).same_key) ∙ h) host p was f in
         ap (option_map (λ (p : Project). p.wkey)) now.1 ∙ now.2
 
 -- what an accepted push or upload leaves under its host
 record Answered (w : World) (c : Command) (key : UsedKey) (answer : Answer) : Type 0 where
-  right : write_key_at w (host_of c) ≡ write_key c
-  kept_is : kept w (host_of c) key ≡ Some answer
+  right : write_key_at w c.host ≡ write_key c.change
+  kept_is : kept w c.host key ≡ Some answer
 
-stays_answered : (w : World) (c : Command) (key : UsedKey) (answer : Answer) → (wkey : Text) → write_key c ≡ Some wkey → Answered w c key answer → (between : List Command) → Answered (after w between) c key answer
+stays_answered : (w : World) (c : Command) (key : UsedKey) (answer : Answer) → (wkey : Text) → write_key c.change ≡ Some wkey → Answered w c key answer → (between : List Command) → Answered (after w between) c key answer
 stays_answered w c key answer wkey is h [] = h
 stays_answered w c key answer wkey is h (x ∷ xs) = go (step w x) refl (λ v k. stays_answered v c key answer wkey is k xs)
   where
     go : (r : Result (World × Answer) Refusal) → step w x ≡ r → ((v : World) → Answered v c key answer → Answered (after v xs) c key answer) → Answered (after (left_by w r) xs) c key answer
     go (Err e) f more = more w h
     go (Ok (new, a)) f more = more new record {
-      right = key_stays w new x a f (host_of c) wkey (h.right ∙ is) ∙ sym is;
-      kept_is = kept_stays w new x a f (host_of c) key answer h.kept_is;
+      right = key_stays w new x a f c.host wkey (h.right ∙ is) ∙ sym is;
+      kept_is = kept_stays w new x a f c.host key answer h.kept_is;
     }
 
 -- a command with a retry key has a write key, which is the project's where the command is accepted
-accepted_key : (c : Command) (key : UsedKey) (p q : Project) (a : Answer) → retry_key c ≡ Some key → change c p ≡ Ok (q, a) → write_key c ≡ Some p.wkey
-accepted_key (Push host wkey k0 kind name) key p q a k e = ap Some (by_key (bytes_eq wkey p.wkey) refl e)
+accepted_key : (c : CommandChange) (key : UsedKey) (p q : Project) (a : Answer) → retry_key c ≡ Some key → change c p ≡ Ok (q, a) → write_key c ≡ Some p.wkey
+accepted_key c key p q a k e = r.its_write_key ∙ ap Some (by_key (bytes_eq r.wkey p.wkey) refl (sym (r.change_is p) ∙ e))
   where
-    by_key : (b : Bool) → bytes_eq wkey p.wkey ≡ b → cond b (once p (get p.used (push_key (slug_text name) k0)) (pushed p k0 kind name (get p.versions (slug_text name)))) (Err WrongKey) ≡ Ok (q, a) → wkey ≡ p.wkey
-    by_key true is f = (bytes_eq-Decides wkey p.wkey).0 is
+    r : IsRetried c
+    r = (retried c key k).0
+
+    by_key : (b : Bool) → bytes_eq r.wkey p.wkey ≡ b → cond b (once p (get p.used r.key) (r.next p)) (Err WrongKey) ≡ Ok (q, a) → r.wkey ≡ p.wkey
+    by_key true is f = (bytes_eq-Decides r.wkey p.wkey).0 is
     by_key false is f = absurd (cc)
-accepted_key (Upload host wkey k0 slug lang replace pages) key p q a k e = ap Some (by_key (bytes_eq wkey p.wkey) refl e)
-  where
-    by_key : (b : Bool) → bytes_eq wkey p.wkey ≡ b → cond b (once p (get p.used (upload_key slug k0)) (uploaded p k0 slug lang replace pages (get p.versions slug))) (Err WrongKey) ≡ Ok (q, a) → wkey ≡ p.wkey
-    by_key true is f = (bytes_eq-Decides wkey p.wkey).0 is
-    by_key false is f = absurd (cc)
-accepted_key (NewProject host lang branch private wkey) key p q a k e = absurd (cc)
-accepted_key (AddLang host lang) key p q a k e = absurd (cc)
-accepted_key (Activate host slug) key p q a k e = absurd (cc)
-accepted_key (Deactivate host slug) key p q a k e = absurd (cc)
-accepted_key (Hide host slug) key p q a k e = absurd (cc)
-accepted_key (Unhide host slug) key p q a k e = absurd (cc)
-accepted_key (Publish host slug) key p q a k e = absurd (cc)
-accepted_key (MakePrivate host slug) key p q a k e = absurd (cc)
-accepted_key (Gone host slug) key p q a k e = absurd (cc)
-accepted_key (SetDefault host name) key p q a k e = absurd (cc)
-accepted_key (AddPass host pass) key p q a k e = absurd (cc)
-accepted_key (DropPass host pass) key p q a k e = absurd (cc)
-accepted_key (Grant host pass slug) key p q a k e = absurd (cc)
-accepted_key (Revoke host pass slug) key p q a k e = absurd (cc)
 
 -- the world after an accepted push or upload has its write key and its answer
-first_answered : (w new : World) (c : Command) (answer : Answer) (key : UsedKey) → step w c ≡ Ok (new, answer) → retry_key c ≡ Some key → (wkey : Text) × (write_key c ≡ Some wkey) × Answered new c key answer
+first_answered : (w new : World) (c : Command) (answer : Answer) (key : UsedKey) → step w c ≡ Ok (new, answer) → retry_key c.change ≡ Some key → (wkey : Text) × (write_key c.change ≡ Some wkey) × Answered new c key answer
 first_answered w new c answer key e k =
     let it = accepted_by w new c answer e in
-    let named : write_key c ≡ Some it.project.wkey = by_project (get w (host_of c)) it.project it.changed in
-    let found : write_key_at new (host_of c) ≡ Some it.project.wkey = ap (λ x. write_key_at x (host_of c)) it.new_is ∙ ap (option_map (λ (p : Project). p.wkey)) (get_back w (host_of c) it.project) in
+    let named : write_key c.change ≡ Some it.project.wkey = by_project (get w c.host) it.project it.changed in
+    let found : write_key_at new c.host ≡ Some it.project.wkey = ap (λ x. write_key_at x c.host) it.new_is ∙ ap (option_map (λ (p : Project). p.wkey)) (get_back w c.host it.project) in
     (it.project.wkey, named, record { right = found ∙ sym named; kept_is = first_is_kept w new c answer key e k })
   where
-    by_project : (o : Option Project) (q : Project) → change_at c o ≡ Ok (q, answer) → write_key c ≡ Some q.wkey
-    by_project None q changed = absurd (opened_never c key q answer k changed)
-    by_project (Some p) q changed = accepted_key c key p q answer k changed ∙ ap Some (sym ((change_leaves c p q answer changed).same_key))
+    by_project : (o : Option Project) (q : Project) → change_at c.change o ≡ Ok (q, answer) → write_key c.change ≡ Some q.wkey
+    by_project None q changed = absurd (opened_never c.change key q answer k changed)
+    by_project (Some p) q changed = accepted_key c.change key p q answer k changed ∙ ap Some (sym ((change_leaves c.change p q answer changed).same_key))
 
-pub answers_for_good : (w new : World) (c : Command) (answer : Answer) → step w c ≡ Ok (new, answer) → is_some (retry_key c) ≡ true → (between : List Command) → step (after new between) c ≡ Ok (after new between, answer)
-answers_for_good w new c answer e has between = go (retry_key c) refl has
+pub answers_for_good : (w new : World) (c : Command) (answer : Answer) → step w c ≡ Ok (new, answer) → is_some (retry_key c.change) ≡ true → (between : List Command) → step (after new between) c ≡ Ok (after new between, answer)
+answers_for_good w new c answer e has between = go (retry_key c.change) refl has
   where
-    go : (o : Option UsedKey) → retry_key c ≡ o → is_some o ≡ true → step (after new between) c ≡ Ok (after new between, answer)
+    go : (o : Option UsedKey) → retry_key c.change ≡ o → is_some o ≡ true → step (after new between) c ≡ Ok (after new between, answer)
     go None is h = absurd (cc)
     go (Some key) is h =
         let first = first_answered w new c answer key e is in

@@ -13,8 +13,8 @@ use Rattle.dh_world.specs.declared.answer.Answer.TheVariants.{Done, Made, Known,
 use Rattle.dh_world.specs.declared.operation.Operation.TheVariants as operation
 use Rattle.dh_world.specs.World.{Text, Project, page_cmp, lies_under, UsedKey, op_code}
 use Rattle.dh_world.specs.Seen.{is_alias}
-use Rattle.dh_world.specs.declared.command.Command.{Command}
-use Rattle.dh_world.specs.declared.command.Command.TheVariants.{NewProject, AddLang, Push, Upload, Activate, Deactivate, Hide, Unhide, Publish, MakePrivate, Gone, SetDefault, AddPass, DropPass, Grant, Revoke}
+use Rattle.dh_world.specs.declared.command.CommandChange.{CommandChange}
+use Rattle.dh_world.specs.declared.command.CommandChange.TheVariants.{NewProject, AddLang, Push, Upload, Activate, Deactivate, Hide, Unhide, Publish, MakePrivate, Gone, SetDefault, AddPass, DropPass, Grant, Revoke}
 use Rattle.dh_world.specs.declared.pages.UploadedPage.{UploadedPage}
 use Rattle.dh_world.specs.declared.property.Property.{Property}
 use Rattle.dh_world.specs.declared.property.Property.TheVariants as property
@@ -223,25 +223,25 @@ revoke pass slug p = at_version (get p.versions slug) (λ v. at_pass p pass (rec
 -- ---- all commands
 
 -- where the host has no project
-abbrev pub opened : Command → Change
-opened (NewProject host lang branch private wkey) = Ok (new_project lang branch private wkey, Done)
+abbrev pub opened : CommandChange → Change
+opened (NewProject lang branch private wkey) = Ok (new_project lang branch private wkey, Done)
 opened _ = Err NoProject
 
 -- where the host has a project
-abbrev pub change : Command → Project → Change
-change (NewProject host lang branch private wkey) p = Err ProjectTaken
-change (AddLang host lang) p = add_lang lang p
-change (Push host wkey key kind name) p = push wkey key kind name p
-change (Upload host wkey key slug lang replace pages) p = upload wkey key slug lang replace pages p
-change (Activate host slug) p = set_property property.Active slug p
-change (Deactivate host slug) p = deactivate slug p
-change (Hide host slug) p = set_property property.Hidden slug p
-change (Unhide host slug) p = set_property property.Shown slug p
-change (Publish host slug) p = set_property property.Public slug p
-change (MakePrivate host slug) p = set_property property.Private slug p
-change (Gone host slug) p = gone slug p
-change (SetDefault host name) p = set_default name p
-change (AddPass host pass) p = add_pass pass p
-change (DropPass host pass) p = drop_pass pass p
-change (Grant host pass slug) p = grant pass slug p
-change (Revoke host pass slug) p = revoke pass slug p
+abbrev pub change : CommandChange → Project → Change
+change (NewProject lang branch private wkey) p = Err ProjectTaken
+change (AddLang lang) p = add_lang lang p
+change (Push wkey key kind name) p = push wkey key kind name p
+change (Upload wkey key slug lang replace pages) p = upload wkey key slug lang replace pages p
+change (Activate slug) p = set_property property.Active slug p
+change (Deactivate slug) p = deactivate slug p
+change (Hide slug) p = set_property property.Hidden slug p
+change (Unhide slug) p = set_property property.Shown slug p
+change (Publish slug) p = set_property property.Public slug p
+change (MakePrivate slug) p = set_property property.Private slug p
+change (Gone slug) p = gone slug p
+change (SetDefault name) p = set_default name p
+change (AddPass pass) p = add_pass pass p
+change (DropPass pass) p = drop_pass pass p
+change (Grant pass slug) p = grant pass slug p
+change (Revoke pass slug) p = revoke pass slug p

@@ -5,22 +5,23 @@ use Rattle.dh_paths.specs.Slugs.{slug_text}
 use Rattle.dh_world.specs.declared.answer.Answer.{Answer}
 use Rattle.dh_world.specs.World.{Text, World, UsedKey}
 use Rattle.dh_world.specs.declared.command.Command.{Command}
-use Rattle.dh_world.specs.declared.command.Command.TheVariants.{Push, Upload}
+use Rattle.dh_world.specs.declared.command.CommandChange.{CommandChange}
+use Rattle.dh_world.specs.declared.command.CommandChange.TheVariants.{Push, Upload}
 use Rattle.dh_world.specs.declared.refusal.Refusal.{Refusal}
 use Rattle.dh_world.specs.Changes.{push_key, upload_key}
 use Rattle.dh_world.specs.Texts.{bad_text}
-use Rattle.dh_world.specs.Step.{host_of, step}
+use Rattle.dh_world.specs.Step.{step}
 
 -- the retry key of a push or an upload, with its slug
-abbrev pub retry_key : Command → Option UsedKey
-retry_key (Push host wkey key kind name) = Some (push_key (slug_text name) key)
-retry_key (Upload host wkey key slug lang replace pages) = Some (upload_key slug key)
+abbrev pub retry_key : CommandChange → Option UsedKey
+retry_key (Push wkey key kind name) = Some (push_key (slug_text name) key)
+retry_key (Upload wkey key slug lang replace pages) = Some (upload_key slug key)
 retry_key _ = None
 
 -- the write key of a push or an upload
-abbrev pub write_key : Command → Option Text
-write_key (Push host wkey key kind name) = Some wkey
-write_key (Upload host wkey key slug lang replace pages) = Some wkey
+abbrev pub write_key : CommandChange → Option Text
+write_key (Push wkey key kind name) = Some wkey
+write_key (Upload wkey key slug lang replace pages) = Some wkey
 write_key _ = None
 
 -- the write key of the project under a host
@@ -43,7 +44,7 @@ after w (c ∷ cs) = after (left_by w (step w c)) cs
 
 -- an accepted push or upload leaves its answer kept under its retry key
 abbrev pub FirstIsKept : Type 0
-FirstIsKept = (w new : World) (c : Command) (answer : Answer) (key : UsedKey) → step w c ≡ Ok (new, answer) → retry_key c ≡ Some key → kept new (host_of c) key ≡ Some answer
+FirstIsKept = (w new : World) (c : Command) (answer : Answer) (key : UsedKey) → step w c ≡ Ok (new, answer) → retry_key c.change ≡ Some key → kept new c.host key ≡ Some answer
 
 -- what is kept stays so at each step, of any host
 abbrev pub KeptStays : Type 0
@@ -51,9 +52,9 @@ KeptStays = (w new : World) (c : Command) (answer : Answer) → step w c ≡ Ok 
 
 -- a push or an upload whose texts and write key are right, under a key that is kept, gives the answer that is kept, and the same world
 abbrev pub KeptIsAnswered : Type 0
-KeptIsAnswered = (w : World) (c : Command) (key : UsedKey) (first : Answer) → retry_key c ≡ Some key → bad_text c ≡ None → write_key_at w (host_of c) ≡ write_key c → kept w (host_of c) key ≡ Some first
+KeptIsAnswered = (w : World) (c : Command) (key : UsedKey) (first : Answer) → retry_key c.change ≡ Some key → bad_text c ≡ None → write_key_at w c.host ≡ write_key c.change → kept w c.host key ≡ Some first
     → step w c ≡ Ok (w, first)
 
 -- a push or an upload that was accepted gives its first answer again, and changes nothing, whatever came between
 abbrev pub AnswersForGood : Type 0
-AnswersForGood = (w new : World) (c : Command) (answer : Answer) → step w c ≡ Ok (new, answer) → is_some (retry_key c) ≡ true → (between : List Command) → step (after new between) c ≡ Ok (after new between, answer)
+AnswersForGood = (w new : World) (c : Command) (answer : Answer) → step w c ≡ Ok (new, answer) → is_some (retry_key c.change) ≡ true → (between : List Command) → step (after new between) c ≡ Ok (after new between, answer)

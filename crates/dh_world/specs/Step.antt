@@ -4,31 +4,13 @@ use Rattle.std.specs.FinMap.{get, insert}
 use Rattle.dh_world.specs.declared.answer.Answer.{Answer}
 use Rattle.dh_world.specs.World.{Text, Project, World}
 use Rattle.dh_world.specs.declared.command.Command.{Command}
-use Rattle.dh_world.specs.declared.command.Command.TheVariants.{NewProject, AddLang, Push, Upload, Activate, Deactivate, Hide, Unhide, Publish, MakePrivate, Gone, SetDefault, AddPass, DropPass, Grant, Revoke}
+use Rattle.dh_world.specs.declared.command.CommandChange.{CommandChange}
 use Rattle.dh_world.specs.declared.refusal.Refusal.{Refusal}
 use Rattle.dh_world.specs.Texts.{bad_text}
 use Rattle.dh_world.specs.Checks.{IsSetAside}
 use Rattle.dh_world.specs.Changes.{Change, change, opened}
 
-abbrev pub host_of : Command → Text
-host_of (NewProject host lang branch private wkey) = host
-host_of (AddLang host lang) = host
-host_of (Push host wkey key kind name) = host
-host_of (Upload host wkey key slug lang replace pages) = host
-host_of (Activate host slug) = host
-host_of (Deactivate host slug) = host
-host_of (Hide host slug) = host
-host_of (Unhide host slug) = host
-host_of (Publish host slug) = host
-host_of (MakePrivate host slug) = host
-host_of (Gone host slug) = host
-host_of (SetDefault host name) = host
-host_of (AddPass host pass) = host
-host_of (DropPass host pass) = host
-host_of (Grant host pass slug) = host
-host_of (Revoke host pass slug) = host
-
-abbrev pub change_at : Command → Option Project → Change
+abbrev pub change_at : CommandChange → Option Project → Change
 change_at c None = opened c
 change_at c (Some p) = change c p
 
@@ -39,7 +21,7 @@ settled w host (Err refusal) = Err refusal
 
 -- the one change of the project under the host, where the texts are right
 abbrev pub turn : World → Command → Result (World × Answer) Refusal
-turn w c = settled w (host_of c) (change_at c (get w (host_of c)))
+turn w c = settled w c.host (change_at c.change (get w c.host))
 
 abbrev pub after_texts : World → Command → Option Refusal → Result (World × Answer) Refusal
 after_texts w c (Some refusal) = Err refusal

@@ -6,7 +6,8 @@ use Rattle.dh_paths.specs.Texts.{is_within, first_byte, last_byte, is_host_name,
 use Rattle.dh_paths.specs.Slugs.{slug_from}
 use Rattle.dh_world.specs.World.{Text}
 use Rattle.dh_world.specs.declared.command.Command.{Command}
-use Rattle.dh_world.specs.declared.command.Command.TheVariants.{NewProject, AddLang, Push, Upload, Activate, Deactivate, Hide, Unhide, Publish, MakePrivate, Gone, SetDefault, AddPass, DropPass, Grant, Revoke}
+use Rattle.dh_world.specs.declared.command.CommandChange.{CommandChange}
+use Rattle.dh_world.specs.declared.command.CommandChange.TheVariants.{NewProject, AddLang, Push, Upload, Activate, Deactivate, Hide, Unhide, Publish, MakePrivate, Gone, SetDefault, AddPass, DropPass, Grant, Revoke}
 use Rattle.dh_world.specs.declared.pages.UploadedPage.{UploadedPage}
 use Rattle.dh_world.specs.declared.refusal.Refusal.{Refusal}
 use Rattle.dh_world.specs.declared.refusal.Refusal.TheVariants.{BadHost, BadLang, BadRef, BadPath, BadPage, BadToken, BadKey}
@@ -46,65 +47,58 @@ abbrev pub bad_pages : List UploadedPage → List UploadedPage → Option Refusa
 bad_pages before [] = None
 bad_pages before (x ∷ xs) = or_else (bad_page before x) (bad_pages (before ++ x ∷ []) xs)
 
--- what is wrong with the name of a version under its host
-abbrev pub bad_version : Text → Text → Option Refusal
-bad_version host slug = first_of
-    (unless (is_host_name host) BadHost
-    ∷ unless (is_slug slug) BadRef
-    ∷ [])
+-- what is wrong with a text of each type
+abbrev pub bad_host : Text → Option Refusal
+bad_host host = unless (is_host_name host) BadHost
 
--- what is wrong with a pass under its host
-abbrev pub bad_pass : Text → Text → Option Refusal
-bad_pass host pass = first_of
-    (unless (is_host_name host) BadHost
-    ∷ unless (is_token pass) BadToken
-    ∷ [])
+abbrev pub bad_lang : Text → Option Refusal
+bad_lang lang = unless (is_lang lang) BadLang
 
--- what is wrong with a grant: the pass comes before the version
-abbrev pub bad_grant : Text → Text → Text → Option Refusal
-bad_grant host pass slug = first_of
-    (unless (is_host_name host) BadHost
-    ∷ unless (is_token pass) BadToken
-    ∷ unless (is_slug slug) BadRef
-    ∷ [])
+abbrev pub bad_ref : Text → Option Refusal
+bad_ref name = unless (is_ref_name name) BadRef
 
--- the first text that is no value of its type
+abbrev pub bad_slug : Text → Option Refusal
+bad_slug slug = unless (is_slug slug) BadRef
+
+-- a write key or a pass
+abbrev pub bad_token : Text → Option Refusal
+bad_token token = unless (is_token token) BadToken
+
+abbrev pub bad_retry_key : Text → Option Refusal
+bad_retry_key key = unless (is_token key) BadKey
+
+-- of the name of a branch or tag, that it leaves no slug
+abbrev pub bad_name : Text → Option Refusal
+bad_name name = unless (is_some (slug_from name)) BadRef
+
+-- of the pages of an upload, that there are too many
+abbrev pub bad_count : List UploadedPage → Option Refusal
+bad_count pages = unless (is_count pages) BadPage
+
+-- what is wrong with the texts of a change, in their order
+abbrev pub wrong_texts : CommandChange → List (Option Refusal)
+wrong_texts (NewProject lang branch private wkey) = bad_lang lang ∷ bad_ref branch ∷ bad_token wkey ∷ []
+wrong_texts (AddLang lang) = bad_lang lang ∷ []
+wrong_texts (Push wkey key kind name) = bad_token wkey ∷ bad_retry_key key ∷ bad_ref name ∷ bad_name name ∷ []
+wrong_texts (Upload wkey key slug lang replace pages) =
+    bad_token wkey ∷ bad_retry_key key ∷ bad_slug slug ∷ bad_lang lang ∷ bad_count pages ∷ bad_pages [] pages ∷ []
+wrong_texts (Activate slug) = bad_slug slug ∷ []
+wrong_texts (Deactivate slug) = bad_slug slug ∷ []
+wrong_texts (Hide slug) = bad_slug slug ∷ []
+wrong_texts (Unhide slug) = bad_slug slug ∷ []
+wrong_texts (Publish slug) = bad_slug slug ∷ []
+wrong_texts (MakePrivate slug) = bad_slug slug ∷ []
+wrong_texts (Gone slug) = bad_slug slug ∷ []
+wrong_texts (SetDefault name) = bad_slug name ∷ []
+wrong_texts (AddPass pass) = bad_token pass ∷ []
+wrong_texts (DropPass pass) = bad_token pass ∷ []
+wrong_texts (Grant pass slug) = bad_token pass ∷ bad_slug slug ∷ []
+wrong_texts (Revoke pass slug) = bad_token pass ∷ bad_slug slug ∷ []
+
+-- the first text of a change that is no value of its type
+abbrev pub bad_change : CommandChange → Option Refusal
+bad_change change = first_of (wrong_texts change)
+
+-- the first text that is no value of its type; the host comes first
 abbrev pub bad_text : Command → Option Refusal
-bad_text (NewProject host lang branch private wkey) = first_of
-    (unless (is_host_name host) BadHost
-    ∷ unless (is_lang lang) BadLang
-    ∷ unless (is_ref_name branch) BadRef
-    ∷ unless (is_token wkey) BadToken
-    ∷ [])
-bad_text (AddLang host lang) = first_of
-    (unless (is_host_name host) BadHost
-    ∷ unless (is_lang lang) BadLang
-    ∷ [])
-bad_text (Push host wkey key kind name) = first_of
-    (unless (is_host_name host) BadHost
-    ∷ unless (is_token wkey) BadToken
-    ∷ unless (is_token key) BadKey
-    ∷ unless (is_ref_name name) BadRef
-    ∷ unless (is_some (slug_from name)) BadRef
-    ∷ [])
-bad_text (Upload host wkey key slug lang replace pages) = first_of
-    (unless (is_host_name host) BadHost
-    ∷ unless (is_token wkey) BadToken
-    ∷ unless (is_token key) BadKey
-    ∷ unless (is_slug slug) BadRef
-    ∷ unless (is_lang lang) BadLang
-    ∷ unless (is_count pages) BadPage
-    ∷ bad_pages [] pages
-    ∷ [])
-bad_text (Activate host slug) = bad_version host slug
-bad_text (Deactivate host slug) = bad_version host slug
-bad_text (Hide host slug) = bad_version host slug
-bad_text (Unhide host slug) = bad_version host slug
-bad_text (Publish host slug) = bad_version host slug
-bad_text (MakePrivate host slug) = bad_version host slug
-bad_text (Gone host slug) = bad_version host slug
-bad_text (SetDefault host name) = bad_version host name
-bad_text (AddPass host pass) = bad_pass host pass
-bad_text (DropPass host pass) = bad_pass host pass
-bad_text (Grant host pass slug) = bad_grant host pass slug
-bad_text (Revoke host pass slug) = bad_grant host pass slug
+bad_text c = first_of (bad_host c.host ∷ wrong_texts c.change)

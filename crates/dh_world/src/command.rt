@@ -5,10 +5,18 @@ use dh_versions::Kind;
 
 /// An administrative command. Its texts are as they came: that one is no value of its type is found when the command is applied.
 #[derive(Drop)]
-pub enum Command {
+pub struct Command {
+    /// The host of the project.
+    pub host: Text,
+    /// What is asked of the project.
+    pub change: CommandChange,
+}
+
+/// What a command asks of the project of its host.
+#[derive(Drop)]
+pub enum CommandChange {
     /// A project with one language and nothing else.
     NewProject {
-        host: Text,
         lang: Text,
         /// The name of the default branch.
         branch: Text,
@@ -19,12 +27,10 @@ pub enum Command {
     },
     /// One more language, the last.
     AddLang {
-        host: Text,
         lang: Text,
     },
     /// There is a branch or a tag of this name.
     Push {
-        host: Text,
         wkey: Text,
         /// The retry key.
         key: Text,
@@ -33,7 +39,6 @@ pub enum Command {
     },
     /// Pages of a version in a language.
     Upload {
-        host: Text,
         wkey: Text,
         /// The retry key.
         key: Text,
@@ -45,64 +50,52 @@ pub enum Command {
     },
     /// A version is active.
     Activate {
-        host: Text,
         slug: Text,
     },
     /// A version is inactive, and its pages are removed.
     Deactivate {
-        host: Text,
         slug: Text,
     },
     /// A version is hidden: served, and left out of lists.
     Hide {
-        host: Text,
         slug: Text,
     },
     /// A version is not hidden.
     Unhide {
-        host: Text,
         slug: Text,
     },
     /// A version is public.
     Publish {
-        host: Text,
         slug: Text,
     },
     /// A version is private.
     MakePrivate {
-        host: Text,
         slug: Text,
     },
     /// A version is gone, with its pages, the grants on it and its name among the defaults. Retry keys stay used.
     Gone {
-        host: Text,
         slug: Text,
     },
     /// A version, or an alias, is the first default.
     SetDefault {
-        host: Text,
         /// The slug of a version, or the name of an alias.
         name: Text,
     },
     /// There is a pass, which holds nothing.
     AddPass {
-        host: Text,
         pass: Text,
     },
     /// A pass is gone, with its grants.
     DropPass {
-        host: Text,
         pass: Text,
     },
     /// A pass holds a version.
     Grant {
-        host: Text,
         pass: Text,
         slug: Text,
     },
     /// A pass does not hold a version.
     Revoke {
-        host: Text,
         pass: Text,
         slug: Text,
     },

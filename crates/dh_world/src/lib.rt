@@ -11,7 +11,7 @@ pub mod property;
 pub mod refusal;
 
 pub use answer::Answer;
-pub use command::Command;
+pub use command::{Command, CommandChange};
 pub use laws::{
     answers_for_good, first_is_kept, kept_is_answered, kept_stays, veil_law, veiled_reply,
 };

@@ -5,7 +5,8 @@ use Rattle.std.specs.FinMap.{empty}
 use Rattle.dh_versions.specs.declared.version.Kind.TheVariants.{Branch}
 use Rattle.dh_world.specs.World.{Text, World}
 use Rattle.dh_world.specs.declared.command.Command.{Command}
-use Rattle.dh_world.specs.declared.command.Command.TheVariants.{NewProject, Push, Upload}
+use Rattle.dh_world.specs.declared.command.CommandChange.{CommandChange}
+use Rattle.dh_world.specs.declared.command.CommandChange.TheVariants.{NewProject, Push, Upload}
 use Rattle.dh_world.specs.declared.pages.UploadedPage.{UploadedPage}
 use Rattle.dh_world.specs.declared.refusal.Refusal.{Refusal}
 use Rattle.dh_world.specs.declared.answer.Answer.{Answer}
@@ -24,16 +25,20 @@ sample_uploads =
     ∷ uploaded_page (codes "guide/index.html") (codes "<h1>Guide</h1>")
     ∷ []
 
+-- the command that asks for this change of the sample's project
+abbrev pub of_sample : CommandChange → Command
+of_sample change = record { host = codes "docs.test"; change = change }
+
 abbrev pub make_sample : Command
-make_sample = NewProject (codes "docs.test") (codes "en") (codes "main") false (codes "sample-key")
+make_sample = of_sample (NewProject (codes "en") (codes "main") false (codes "sample-key"))
 
 abbrev pub push_sample : Command
-push_sample = Push (codes "docs.test") (codes "sample-key") (codes "s1") Branch (codes "main")
+push_sample = of_sample (Push (codes "sample-key") (codes "s1") Branch (codes "main"))
 
 abbrev pub upload_sample : Command
 upload_sample =
-    Upload (codes "docs.test") (codes "sample-key") (codes "s2") (codes "main") (codes "en") false
-    sample_uploads
+    of_sample (Upload (codes "sample-key") (codes "s2") (codes "main") (codes "en") false
+    sample_uploads)
 
 -- the world after a step, and what comes behind it; or the refusal
 abbrev pub on_step : Result (World × Answer) Refusal → (World → Result World Refusal) → Result World Refusal

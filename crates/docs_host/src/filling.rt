@@ -4,11 +4,11 @@ ghost use Rattle.std.specs.Prelude.{◌≡◌, ◌∷◌, ◌++◌, [], IfOk};
 ghost use Rattle.dh_rows.specs.Calls.{IsHonest};
 ghost use Rattle.dh_world.specs.Step.{IsStep};
 ghost use Rattle.dh_desk.specs.Desk.{world};
-ghost use Rattle.docs_host.specs.SampleWorld.{uploaded_page, sample_uploads, make_sample, push_sample, upload_sample, sample_world, Fills};
+ghost use Rattle.docs_host.specs.SampleWorld.{uploaded_page, sample_uploads, of_sample, make_sample, push_sample, upload_sample, sample_world, Fills};
 ghost use Rattle.std.specs.FinMap.{empty};
 ghost use Rattle.sqlite.specs.Steps.{over_memory};
 
-use dh_desk::{Answer, Command, Desk, Pages, Refusal, UploadedPage};
+use dh_desk::{Answer, Command, CommandChange, Desk, Pages, Refusal, UploadedPage};
 use dh_paths::{Bytes, Text};
 use dh_reply::Fault;
 use dh_tables::Tables;
@@ -23,28 +23,36 @@ const WRITE_KEY: &str = "sample-key";
 /// The media type of each page.
 const HTML: &str = "text/html; charset=utf-8";
 
+/// The command that asks for this change of the sample's project.
+fn command(alloc: Global, change: CommandChange) -> Result<Command, AllocError>
+    ensures { IfOk result (λ command. command ≡ of_sample change) }
+{
+    let host = Text::copy_of(alloc, HOST)?;
+    Ok(Command { host, change })
+}
+
 fn make_command(alloc: Global) -> Result<Command, AllocError>
     ensures { IfOk result (λ command. command ≡ make_sample) }
 {
-    Ok(Command::NewProject {
-        host: Text::copy_of(alloc, HOST)?,
+    let change = CommandChange::NewProject {
         lang: Text::copy_of(alloc, "en")?,
         branch: Text::copy_of(alloc, "main")?,
         private: false,
         wkey: Text::copy_of(alloc, WRITE_KEY)?,
-    })
+    };
+    command(alloc, change)
 }
 
 fn push_command(alloc: Global) -> Result<Command, AllocError>
     ensures { IfOk result (λ command. command ≡ push_sample) }
 {
-    Ok(Command::Push {
-        host: Text::copy_of(alloc, HOST)?,
+    let change = CommandChange::Push {
         wkey: Text::copy_of(alloc, WRITE_KEY)?,
         key: Text::copy_of(alloc, "s1")?,
         kind: Kind::Branch,
         name: Text::copy_of(alloc, "main")?,
-    })
+    };
+    command(alloc, change)
 }
 
 /// The text and LF.
@@ -79,15 +87,15 @@ fn pages(alloc: Global) -> Result<Pages, AllocError>
 fn upload_command(alloc: Global) -> Result<Command, AllocError>
     ensures { IfOk result (λ command. command ≡ upload_sample) }
 {
-    Ok(Command::Upload {
-        host: Text::copy_of(alloc, HOST)?,
+    let change = CommandChange::Upload {
         wkey: Text::copy_of(alloc, WRITE_KEY)?,
         key: Text::copy_of(alloc, "s2")?,
         slug: Text::copy_of(alloc, "main")?,
         lang: Text::copy_of(alloc, "en")?,
         replace: false,
         pages: pages(alloc)?,
-    })
+    };
+    command(alloc, change)
 }
 
 /// Makes the sample project.

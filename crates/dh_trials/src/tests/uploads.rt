@@ -1,18 +1,24 @@
 //! Uploads that no line can give: of none and of many pages, of large ones, with blanks in a media type.
 
 use super::{apply, get, page, pushed_desk, upload};
-use dh_desk::{Answer, Command, Refusal, UploadedPage};
+use dh_desk::{Answer, Command, Desk, Refusal, UploadedPage};
+use sqlite::MemStore;
 use std::alloc::Global;
 use std::test::Fail;
+
+/// What a project says to an upload.
+fn answer_to(alloc: Global, desk: &mut Desk<MemStore>, command: Command) -> Result<String, Fail> {
+    match apply(alloc, desk, &command) {
+        Ok(Answer::Stored { pages }) => Ok(format!(in alloc; "stored {pages}")?),
+        Ok(_) => Ok(String::from_str(alloc, "another answer")?),
+        Err(refusal) => Ok(String::from_str(alloc, refusal.name())?),
+    }
+}
 
 /// What a project says to an upload, and to a read of `/en/main/` afterwards.
 fn told(alloc: Global, command: Command) -> Result<String, Fail> {
     let mut desk = pushed_desk(alloc)?;
-    let answer = match apply(alloc, &mut desk, &command) {
-        Ok(Answer::Stored { pages }) => format!(in alloc; "stored {pages}")?,
-        Ok(_) => String::from_str(alloc, "another answer")?,
-        Err(refusal) => String::from_str(alloc, refusal.name())?,
-    };
+    let answer = answer_to(alloc, &mut desk, command)?;
     let answer = answer.as_str();
     let reply = get(alloc, &mut desk, "/en/main/")?;
     let (status, size) = (reply.status, reply.body.as_slice().len());

@@ -6,17 +6,17 @@ use Rattle.dh_commands.proofs.Planning.{plans_by}
 use Rattle.dh_commands.proofs.projects.add_lang.Goals as goal
 
 pub returns-then-is_among : goal.returns-then-is_among
-returns-then-is_among c host p k =
-    inr (taken c.args.lang c.args.facts p k (ap (list_any (λ l. bytes_eq l c.args.lang)) (sym c.as_slice-languages.ensures.value) ∙ sym c.is_among.ensures ∙ c.if-is_among.true))
+returns-then-is_among c p k =
+    inr (taken c.args.lang c.args.facts.now p k (ap (list_any (λ l. bytes_eq l c.args.lang)) (sym c.as_slice-languages.ensures.value) ∙ sym c.is_among.ensures ∙ c.if-is_among.true))
 
 pub returns-then-count-ge-MOST_LANGUAGES : goal.returns-then-count-ge-MOST_LANGUAGES
-returns-then-count-ge-MOST_LANGUAGES c host p k =
+returns-then-count-ge-MOST_LANGUAGES c p k =
     let new = ap (list_any (λ l. bytes_eq l c.args.lang)) (sym c.as_slice-languages.ensures.value) ∙ sym c.is_among.ensures ∙ c.if-is_among.false in
-    inr (full c.args.lang c.args.facts p k new (subst (λ ls. 30 ≤ length ls) c.as_slice-languages.ensures.value c.if-count-ge-MOST_LANGUAGES.true))
+    inr (full c.args.lang c.args.facts.now p k new (subst (λ ls. 30 ≤ length ls) c.as_slice-languages.ensures.value c.if-count-ge-MOST_LANGUAGES.true))
 
 pub returns : goal.returns
-returns c host p k =
+returns c p k =
     let new = ap (list_any (λ l. bytes_eq l c.args.lang)) (sym c.as_slice-languages.ensures.value) ∙ sym c.is_among.ensures ∙ c.if-is_among.false in
     let few = subst (λ ls. length ls < 30) c.as_slice-languages.ensures.value c.if-count-ge-MOST_LANGUAGES.false in
     plans_by p _ _ (Ok c.in_ok-one.field-0) c.in_ok-one.ensures
-    (adds c.args.lang c.args.facts p k new (length c.as_slice-languages.result.now + 1) few (ap (λ ls. length ls + 1) c.as_slice-languages.ensures.value))
+    (adds c.args.lang c.args.facts.now p k new (length c.as_slice-languages.result.now + 1) few (ap (λ ls. length ls + 1) c.as_slice-languages.ensures.value))

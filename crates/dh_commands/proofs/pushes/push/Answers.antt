@@ -1,17 +1,18 @@
 use Rattle.std.proofs.Common.{◌∙◌, sym, inr, Ok}
-use Rattle.dh_commands.proofs.Planning.{plans_by}
+use Rattle.dh_commands.proofs.Planning.{plans_by, decides_by}
 use Rattle.dh_commands.proofs.PushPlans.{again, taken, knows}
+use Rattle.dh_commands.specs.declared.checked.CheckedChange.TheVariants as CheckedChange
 use Rattle.dh_commands.proofs.pushes.push.Goals as goal
 
 pub returns-in-Some : goal.returns-in-Some
-returns-in-Some c host p k =
+returns-in-Some c p k =
     plans_by p _ _ (Ok c.none.result) c.none.ensures (again c.args.push c.args.facts p k (sym c.is_write_key.ensures ∙ c.if-not-is_write_key.false) c.in-Some.answer c.in-Some.is)
 
 pub returns-then-not-comes_from : goal.returns-then-not-comes_from
-returns-then-not-comes_from c host p k =
+returns-then-not-comes_from c p k =
     inr (taken c.args.push c.args.facts p k (sym c.is_write_key.ensures ∙ c.if-not-is_write_key.false) c.in_default.is c.in-Some-version.version c.in-Some-version.is (sym c.comes_from.ensures ∙ c.if-not-comes_from.true))
 
 pub returns : goal.returns
-returns c host p k =
-    plans_by p _ _ c.know.result c.know.ensures
-    (knows c.args.push c.args.facts p k (sym c.is_write_key.ensures ∙ c.if-not-is_write_key.false) c.in_default.is c.in-Some-version.version c.in-Some-version.is (sym c.comes_from.ensures ∙ c.if-not-comes_from.false))
+returns c =
+    decides_by (CheckedChange.Push c.args.push) c.args.facts _ c.know.result c.know.ensures
+    (λ p k. knows c.args.push c.args.facts p k (sym c.is_write_key.ensures ∙ c.if-not-is_write_key.false) c.in_default.is c.in-Some-version.version c.in-Some-version.is (sym c.comes_from.ensures ∙ c.if-not-comes_from.false))

@@ -6,12 +6,12 @@ use Rattle.dh_commands.proofs.UploadPlans.{unspoken, stores}
 use Rattle.dh_commands.proofs.uploads.upload.Goals as goal
 
 pub returns-then-not-is_among : goal.returns-then-not-is_among
-returns-then-not-is_among c host p k =
+returns-then-not-is_among c p k =
     inr (unspoken c.args.upload c.args.facts p k (sym c.is_write_key.ensures ∙ c.if-not-is_write_key.false) c.in_default.is c.in-Some-version.version c.in-Some-version.is c.if-not-version.false
     (ap (list_any (λ l. bytes_eq l c.args.upload.lang)) (sym c.deref.ensures.value) ∙ sym c.is_among.ensures ∙ c.if-not-is_among.true))
 
 pub returns : goal.returns
-returns c host p k =
+returns c p k =
     plans_by p _ _ (Ok c.in_ok-store.field-0) c.in_ok-store.ensures
     (stores c.args.upload c.args.facts p k (sym c.is_write_key.ensures ∙ c.if-not-is_write_key.false) c.in_default.is c.in-Some-version.version c.in-Some-version.is c.if-not-version.false
     (ap (list_any (λ l. bytes_eq l c.args.upload.lang)) (sym c.deref.ensures.value) ∙ sym c.is_among.ensures ∙ c.if-not-is_among.false))

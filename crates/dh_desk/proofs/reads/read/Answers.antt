@@ -1,11 +1,21 @@
-use Rattle.std.proofs.Common.{◌≡◌, List, ℕ, Option, IfOk, subst}
+use Rattle.std.proofs.Common.{◌≡◌, List, ℕ, Option, IfOk, inr, subst}
 use Rattle.dh_reply.specs.Replies.{reply_to}
-use Rattle.dh_tables.specs.Lists.{Lists, world_of}
+use Rattle.dh_records.specs.Lists.{Lists, world_of}
 use Rattle.dh_world.specs.Seen as caller
+use Rattle.dh_desk.proofs.Reading.{blamed_on, stays_undone}
 use Rattle.dh_desk.proofs.reads.read.Goals as goal
 
 pub returns-clause-value : goal.returns-clause-value
 returns-clause-value g c honest plain =
     let undone = c.in_ok-back.ensures.undone (c.look.ensures.looks.unmoved honest).same.was_honest in
     let by_lists : Lists → Type 0 = λ l. IfOk c.look.result (λ r. r ≡ reply_to (caller.seen (world_of l) c.in_ok-host.host c.in_ok-pass.pass) c.args.asked.now.path c.args.asked.now.query) in
-    rw (c.in_ok-host.ensures, c.in_ok-pass.ensures) at (subst by_lists undone.now_is (c.look.ensures.value honest plain))
+    rw (c.in_ok-host.ensures.value, c.in_ok-pass.ensures.value) at (subst by_lists undone.now_is (c.look.ensures.value honest plain))
+
+pub returns-clause-rests : goal.returns-clause-rests
+returns-clause-rests g c honest =
+    let same = (c.look.ensures.looks.unmoved honest).same in
+    inr (stays_undone g.S.Store c.args.tables.now c.back.new.self c.look.new.tables (c.in_ok-back.ensures.undone same.was_honest) same)
+
+pub returns-clause-told : goal.returns-clause-told
+returns-clause-told g c =
+    blamed_on g.S.Store c.args.tables.now c.back.new.self c.look.new.tables c.look.result c.back.ensures.goes.lasts (λ honest. (c.in_ok-back.ensures.undone honest).mode) c.look.ensures.told

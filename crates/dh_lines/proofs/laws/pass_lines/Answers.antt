@@ -1,11 +1,12 @@
 use Rattle.std.proofs.Common.{codes, refl}
-use Rattle.dh_lines.specs.Lines.{command_in, access_in}
-use Rattle.dh_world.specs.declared.command.Command.TheVariants.{AddPass, DropPass, Grant, Revoke}
+use Rattle.dh_lines.specs.Lines.{change_in, access_in}
+use Rattle.dh_world.specs.declared.command.CommandChange.TheVariants.{AddPass, DropPass, Grant}
+use Rattle.dh_world.specs.declared.command.CommandChange.TheVariants.{Revoke}
 use Rattle.dh_lines.proofs.FormLines.{pass_line, grant_line}
 use Rattle.dh_lines.proofs.laws.pass_lines.Goals as goal
 
 pub returns : goal.returns
-unfolding command_in access_in
+unfolding change_in access_in
 returns c = record {
   add_pass = pass_line (codes "add-pass") AddPass refl (λ host pass. refl);
   drop_pass = pass_line (codes "drop-pass") DropPass refl (λ host pass. refl);

@@ -1,13 +1,13 @@
 use Rattle.std.proofs.Common.{codes, refl}
-use Rattle.dh_lines.specs.Lines.{command_in, access_in}
-use Rattle.dh_world.specs.declared.command.Command.TheVariants.{Activate, Deactivate, Hide, Unhide}
-use Rattle.dh_world.specs.declared.command.Command.TheVariants.{Publish, MakePrivate, Gone}
-use Rattle.dh_world.specs.declared.command.Command.TheVariants.{SetDefault}
+use Rattle.dh_lines.specs.Lines.{change_in, access_in}
+use Rattle.dh_world.specs.declared.command.CommandChange.TheVariants.{Activate, Deactivate, Hide}
+use Rattle.dh_world.specs.declared.command.CommandChange.TheVariants.{Unhide, Publish, MakePrivate}
+use Rattle.dh_world.specs.declared.command.CommandChange.TheVariants.{Gone, SetDefault}
 use Rattle.dh_lines.proofs.FormLines.{version_line}
 use Rattle.dh_lines.proofs.laws.version_lines.Goals as goal
 
 pub returns : goal.returns
-unfolding command_in access_in
+unfolding change_in access_in
 returns c = record {
   activate = version_line (codes "activate") Activate refl (λ host slug. refl);
   deactivate = version_line (codes "deactivate") Deactivate refl (λ host slug. refl);

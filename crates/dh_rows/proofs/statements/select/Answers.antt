@@ -1,5 +1,5 @@
 use Rattle.sqlite.proofs.Callers.{never_commits}
-use Rattle.dh_rows.proofs.Calls.{read, stays, shown_was, stopped, stopped_was, lasts, leaves_no_more, refused_commits_nothing, refused_to_show, unanswered, if_failed}
+use Rattle.dh_rows.proofs.Calls.{read, stays, shown_was, stopped, stopped_was, lasts, leaves_no_more, refused_commits_nothing, refused_to_show, unanswered, query_blames, back_clean, if_failed}
 use Rattle.dh_rows.proofs.statements.select.Goals as goal
 
 pub returns-clause-rows : goal.returns-clause-rows
@@ -32,3 +32,8 @@ returns-in_err-query_all-clause-goes g c = record {
 
 pub returns-in_err-query_all-clause-told : goal.returns-in_err-query_all-clause-told
 returns-in_err-query_all-clause-told g c = unanswered g.S.Store c.args.conn.now c.query_all.new.self c.args.sql.now _ _ c.from_residual.result c.from_residual.ensures.1 c.in_err-query_all.ensures.err
+
+pub returns-in_err-query_all-clause-blamed : goal.returns-in_err-query_all-clause-blamed
+returns-in_err-query_all-clause-blamed g c = query_blames g.S.Store c.args.conn.now c.query_all.new.self c.args.sql.now _
+    (back_clean g.S.Store c.args.conn.now c.query_all.new.self _ c.query_all.ensures.survives) c.requires.plain c.requires.listing
+    c.from_residual.result (unanswered g.S.Store c.args.conn.now c.query_all.new.self c.args.sql.now _ _ c.from_residual.result c.from_residual.ensures.1 c.in_err-query_all.ensures.err)

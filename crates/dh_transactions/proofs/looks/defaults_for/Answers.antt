@@ -1,5 +1,5 @@
 use Rattle.std.proofs.Common.{◌∙◌, [], cond, map, sym, ap}
-use Rattle.dh_tables.proofs.WorldLemmas.{defaults_in}
+use Rattle.dh_records.proofs.WorldLemmas.{defaults_in}
 use Rattle.dh_transactions.proofs.looks.defaults_for.Goals as goal
 use Rattle.dh_transactions.specs.Going.{records}
 

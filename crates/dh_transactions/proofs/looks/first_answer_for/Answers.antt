@@ -1,7 +1,7 @@
 use Rattle.std.proofs.Common.{◌∙◌, sym, ap}
 use Rattle.std.specs.Option.{option_and_then}
 use Rattle.std.specs.FinMap.{get}
-use Rattle.dh_tables.proofs.WorldLemmas.{used_in}
+use Rattle.dh_records.proofs.WorldLemmas.{used_in}
 use Rattle.dh_transactions.proofs.looks.first_answer_for.Goals as goal
 use Rattle.dh_transactions.specs.Finding.{asked_key}
 use Rattle.dh_transactions.specs.Going.{records}

@@ -1,5 +1,5 @@
 use Rattle.std.proofs.Common.{◌∙◌, [], cond, map, sym, ap}
-use Rattle.dh_tables.proofs.WorldLemmas.{languages_in}
+use Rattle.dh_records.proofs.WorldLemmas.{languages_in}
 use Rattle.dh_transactions.proofs.looks.languages_for.Goals as goal
 use Rattle.dh_transactions.specs.Going.{records}
 

@@ -1,6 +1,6 @@
 use Rattle.std.proofs.Common.{◌∙◌, cond, sym, ap}
 use Rattle.std.specs.FinMap.{len}
-use Rattle.dh_tables.proofs.AccessChanges.{pass_count_in}
+use Rattle.dh_records.proofs.AccessChanges.{pass_count_in}
 use Rattle.dh_transactions.proofs.looks.pass_count.Goals as goal
 use Rattle.dh_transactions.specs.Going.{records}
 

@@ -1,7 +1,7 @@
 use Rattle.std.proofs.Common.{◌∙◌, subst}
 use Rattle.dh_commands.specs.Commands.{command_of}
 use Rattle.dh_rows.specs.Calls.{IsHonest}
-use Rattle.dh_tables.specs.Lists.{Lists}
+use Rattle.dh_records.specs.Lists.{Lists}
 use Rattle.dh_transactions.proofs.Crashing.{given_ok, ended_leaves, refused_after, worked_no_more}
 use Rattle.dh_transactions.proofs.transaction.run.Goals as goal
 use Rattle.dh_transactions.specs.Going.{records, last_records}

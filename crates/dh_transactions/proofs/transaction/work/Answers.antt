@@ -2,7 +2,7 @@ use Rattle.std.proofs.Common.{◌∙◌, Ok, sym, ap, subst}
 use Rattle.dh_commands.specs.Commands.{command_of}
 use Rattle.dh_commands.specs.Knowing.{Decides}
 use Rattle.dh_commands.specs.Planned.{Planned}
-use Rattle.dh_tables.specs.Lists.{Lists}
+use Rattle.dh_records.specs.Lists.{Lists}
 use Rattle.dh_transactions.proofs.Working.{turn_refused, edits_may, turn_done}
 use Rattle.dh_transactions.proofs.transaction.work.Goals as goal
 use Rattle.dh_transactions.specs.Finding.{FindsFacts}
@@ -14,7 +14,7 @@ pub returns-in_err-edits-clause-turns : goal.returns-in_err-edits-clause-turns
 returns-in_err-edits-clause-turns g c honest =
     let host = c.args.host.now in
     let lists : Lists = records g.S.Store c.args.tables.now in
-    let found = subst (FindsFacts host c.args.change lists) c.in-Some.is (c.in_ok-facts.ensures.value honest (c.requires.sound (c.look.ensures.goes.lasts.was honest))) in
+    let found = subst (FindsFacts host c.args.change lists) c.in-Some.is (c.in_ok-facts.ensures.value honest (c.requires.sound (c.look.ensures.asks.goes.lasts.was honest))) in
     turn_refused host c.args.change lists c.in-Some.facts found (records g.S.Store c.look.new.tables) c.in_err-edits.field-0.0
     c.from_residual-in_err-edits.result c.in_err-edits.ensures c.from_residual-in_err-edits.ensures.1
 
@@ -22,22 +22,22 @@ pub make_edits-requires-clause-may : goal.make_edits-requires-clause-may
 make_edits-requires-clause-may g c honest =
     let host = c.args.host.now in
     let lists : Lists = records g.S.Store c.args.tables.now in
-    let sound = c.requires.sound (c.look.ensures.goes.lasts.was honest) in
+    let sound = c.requires.sound (c.look.ensures.asks.goes.lasts.was honest) in
     let found = subst (FindsFacts host c.args.change lists) c.in-Some.is (c.in_ok-facts.ensures.value honest sound) in
     let plan : Planned = record { edits = c.edits.inside.edits.items; answer = c.edits.inside.answer } in
     let decided = subst (λ x. Decides c.args.change c.in-Some.facts (Ok x)) (sym c.edits.view_is) c.in_ok-edits.ensures in
-    subst (RowsMayAll host plan.edits) (sym (c.in_ok-facts.ensures.looks.now_is honest))
+    subst (RowsMayAll host plan.edits) (sym (c.in_ok-facts.ensures.asks.looks.now_is honest))
     (edits_may host c.args.change lists c.in-Some.facts found sound plan decided)
 
 pub returns-clause-turns : goal.returns-clause-turns
 returns-clause-turns g c honest =
-    let h0 = c.make_edits.ensures.goes.lasts.was honest in
+    let h0 = c.make_edits.ensures.makes.goes.lasts.was honest in
     let host = c.args.host.now in
     let lists : Lists = records g.S.Store c.args.tables.now in
-    let sound = c.requires.sound (c.look.ensures.goes.lasts.was h0) in
+    let sound = c.requires.sound (c.look.ensures.asks.goes.lasts.was h0) in
     let found = subst (FindsFacts host c.args.change lists) c.in-Some.is (c.in_ok-facts.ensures.value h0 sound) in
     let plan : Planned = record { edits = c.edits.inside.edits.items; answer = c.edits.inside.answer } in
     let decided = subst (λ x. Decides c.args.change c.in-Some.facts (Ok x)) (sym c.edits.view_is) c.in_ok-edits.ensures in
-    let now = c.in_ok-make_edits.ensures.sees.now_is honest ∙ ap (all_rows_edited host plan.edits) (c.in_ok-facts.ensures.looks.now_is h0) in
+    let now = c.in_ok-make_edits.ensures.makes.sees.now_is honest ∙ ap (all_rows_edited host plan.edits) (c.in_ok-facts.ensures.asks.looks.now_is h0) in
     subst (λ l. Turns lists l (command_of host c.args.change) (Ok plan.answer)) (sym now)
     (turn_done host c.args.change lists c.in-Some.facts found sound plan decided)

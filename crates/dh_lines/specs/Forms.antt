@@ -1,0 +1,16 @@
+-- The forms of the program's words, as `clap` sees them.
+use Rattle.std.specs.Prelude.{map}
+use Rattle.clap.specs.Simple.{App, with_rule}
+use Rattle.dh_words.specs.Apps.{option_rule, flag_rule, form}
+use Rattle.dh_lines.specs.declared.app.Form.{Form}
+use Rattle.dh_lines.specs.declared.app.More.{More}
+use Rattle.dh_lines.specs.declared.app.More.TheVariants as more
+
+-- an app that takes this too, behind its words
+abbrev pub with_more : App → More → App
+with_more app more.Nothing = app
+with_more app (more.Flag id help) = with_rule app (flag_rule id.now)
+with_more app (more.Value id help) = with_rule app (option_rule id.now)
+
+abbrev pub app_of_form : Form → App
+app_of_form f = with_more (form f.name.now (map (λ id. id.now) f.ids.now)) f.more

@@ -1,0 +1,15 @@
+pub mod ReadingLemmas
+pub mod SeenLemmas
+pub mod RecordLemmas
+pub mod Keys
+pub mod KeyLemmas
+pub mod PassKeys
+pub mod PickLists
+pub mod GrantLemmas
+pub mod OrderLemmas
+pub mod RuleLemmas
+pub mod WorldLemmas
+pub mod ChangeLemmas
+pub mod AccessChanges
+pub mod AccessRules
+pub mod SlugOrder

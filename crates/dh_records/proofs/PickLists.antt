@@ -1,0 +1,148 @@
+-- What setting the defaults of a project makes of the records.
+use Rattle.std.proofs.Common.{◌≡◌, ℕ, ◌+◌, ◌<◌, pos, Bool, true, false, not, ◌&&◌, cond, List, [], ◌∷◌, ◌++◌, map, filter, length, refl, sym, ap, ◌∙◌, arith, Equal, Greater, is_eq, true≢false}
+use Rattle.std.specs.List.{AllByRecursion, range_with_len}
+use Rattle.std.specs.Str.{bytes_eq}
+use Rattle.std.specs.Ordering.{ordering_then}
+use Rattle.std.proofs.lemmas.Bool.Decides.{nat_tests}
+use Rattle.std.proofs.lemmas.Cmp.{tied_itself}
+use Rattle.std.proofs.lemmas.List.{append_assoc}
+use Rattle.std.proofs.lemmas.Slice.Eq.{bytes_eq-Decides}
+use Rattle.sqlite_value.specs.declared.value.Value.TheVariants.{Text, Int}
+use Rattle.sqlite_value.specs.Order.{value_cmp}
+use Rattle.sqlite_value.proofs.OrderLemmas.{value_cmp-Int, value_cmp_total, then-Equal}
+use Rattle.sqlite_keyed.proofs.ListLemmas.{all_weaker, all-filter, filter_none}
+use Rattle.dh_rows.specs.Keyed.{same_key, IsFreeKey, added, by_key}
+use Rattle.dh_rows.proofs.Lists.{by_key_total}
+use Rattle.dh_records.specs.declared.records.PickRow.{PickRow}
+use Rattle.dh_records.specs.Codings as coding
+use Rattle.dh_records.specs.Lists.{is_pick_of, ranked, with_picks, set_picks}
+use Rattle.dh_records.specs.Rules.{InOrder}
+use Rattle.dh_records.proofs.Keys.{eq_then, same_text}
+use Rattle.dh_records.proofs.OrderLemmas.{added_in_order, filtered_in_order}
+use Rattle.dh_records.proofs.RecordLemmas.{all_added, added_last, added_elsewhere}
+
+-- of the defaults of the host, each stands before this rank
+abbrev pub AreBelow : List ℕ → ℕ → List PickRow → Type 0
+AreBelow host rank rows = AllByRecursion (λ y. bytes_eq y.host host ≡ true → y.rank < rank) rows
+
+append_none : {A : Type 0} (xs : List A) → xs ++ [] ≡ xs
+append_none [] = refl
+append_none (x ∷ xs) = ap (λ l. x ∷ l) (append_none xs)
+
+-- ---- keys
+
+pick_order : (x y : PickRow) → by_key coding.picks.key x y ≡ ordering_then (value_cmp (Text x.host) (Text y.host)) (value_cmp (Int (pos x.rank)) (Int (pos y.rank)))
+pick_order x y = ap (ordering_then (value_cmp (Text x.host) (Text y.host))) (then-Equal (value_cmp (Int (pos x.rank)) (Int (pos y.rank))))
+
+rank_above : (m n : ℕ) → m < n → value_cmp (Int (pos n)) (Int (pos m)) ≡ Greater
+rank_above m n h = value_cmp-Int (pos n) (pos m) ∙ grind (arith, nat_tests)
+
+-- of the defaults of a host, the later stands behind
+pub pick_above : (x y : PickRow) → bytes_eq y.host x.host ≡ true → y.rank < x.rank → by_key coding.picks.key x y ≡ Greater
+pick_above x y e h =
+    pick_order x y
+    ∙ ap (λ o. ordering_then o (value_cmp (Int (pos x.rank)) (Int (pos y.rank)))) (ap (λ t. value_cmp (Text x.host) (Text t)) ((bytes_eq-Decides y.host x.host).0 e) ∙ tied_itself value_cmp_total (Text x.host))
+    ∙ rank_above y.rank x.rank h
+
+pick_apart : (x y : PickRow) → (bytes_eq y.host x.host ≡ true → y.rank < x.rank) → same_key coding.picks.key x y ≡ false
+pick_apart x y below =
+    eq_then (value_cmp (Text x.host) (Text y.host)) _
+    ∙ ap (λ b. b && is_eq (ordering_then (value_cmp (Int (pos x.rank)) (Int (pos y.rank))) Equal)) (same_text x.host y.host)
+    ∙ go (bytes_eq y.host x.host) below
+  where
+    go : (b : Bool) → (b ≡ true → y.rank < x.rank) → (b && is_eq (ordering_then (value_cmp (Int (pos x.rank)) (Int (pos y.rank))) Equal)) ≡ false
+    go false h = refl
+    go true h = eq_then (value_cmp (Int (pos x.rank)) (Int (pos y.rank))) Equal ∙ ap (λ b. b && true) (ap is_eq (rank_above y.rank x.rank (h refl)))
+
+-- the next rank is free
+pub rank_is_free : (x : PickRow) (rows : List PickRow) → AreBelow x.host x.rank rows → IsFreeKey coding.picks.key x rows
+rank_is_free x rows below = all_weaker _ (λ y. same_key coding.picks.key x y ≡ false) (λ y h. pick_apart x y h) rows below
+
+pub below_next : (x : PickRow) (rows : List PickRow) → AreBelow x.host x.rank rows → AreBelow x.host (x.rank + 1) (added coding.picks.key x rows)
+below_next x rows below =
+    all_added (λ y. bytes_eq y.host x.host ≡ true → y.rank < x.rank + 1) (by_key coding.picks.key) x rows (λ _. omega arith)
+    (all_weaker _ (λ y. bytes_eq y.host x.host ≡ true → y.rank < x.rank + 1) (λ y h e. let l : y.rank < x.rank = h e in omega arith) rows below)
+
+-- of a host with no default
+pub none_below : (host : List ℕ) (rows : List PickRow) → AllByRecursion (λ r. is_pick_of host r ≡ false) rows → AreBelow host 1 rows
+none_below host rows bare = all_weaker _ (λ y. bytes_eq y.host host ≡ true → y.rank < 1) (λ y out e. absurd (true≢false (sym e ∙ out))) rows bare
+
+pub all_taken_out : (host : List ℕ) (rows : List PickRow) → AllByRecursion (λ r. is_pick_of host r ≡ false) (filter (λ r. not (is_pick_of host r)) rows)
+all_taken_out host [] = tt
+all_taken_out host (y ∷ rows) = go (is_pick_of host y) refl (all_taken_out host rows)
+  where
+    go : (b : Bool) → is_pick_of host y ≡ b → AllByRecursion (λ r. is_pick_of host r ≡ false) (filter (λ r. not (is_pick_of host r)) rows)
+        → AllByRecursion (λ r. is_pick_of host r ≡ false) (cond (not b) (y ∷ filter (λ r. not (is_pick_of host r)) rows) (filter (λ r. not (is_pick_of host r)) rows))
+    go true e more = more
+    go false e more = (e, more)
+
+-- ---- records
+
+module _ (host : List ℕ) where
+  -- the defaults of the host are those that it had, and behind them those that were added
+  pub of_host_with : (n : ℕ) (names : List (List ℕ)) (rows : List PickRow) → InOrder coding.picks.key rows → AreBelow host n rows → filter (is_pick_of host) (with_picks (ranked host n names) rows) ≡ filter (is_pick_of host) rows ++ ranked host n names
+  of_host_with n [] rows up below = sym (append_none (filter (is_pick_of host) rows))
+  of_host_with n (name ∷ names) rows up below =
+      let x : PickRow = record { host = host; name = name; rank = n } in
+      let free = rank_is_free x rows below in
+      of_host_with (n + 1) names (added coding.picks.key x rows) (added_in_order coding.picks.key x rows free up) (below_next x rows below)
+      ∙ ap (λ l. l ++ ranked host (n + 1) names) (added_last (by_key coding.picks.key) (by_key_total coding.picks.key) (is_pick_of host) x rows up ((bytes_eq-Decides host host).1 refl) (all_weaker _ (λ y. is_pick_of host y ≡ true → by_key coding.picks.key x y ≡ Greater) (λ y h e. pick_above x y e (h e)) rows below))
+      ∙ append_assoc (filter (is_pick_of host) rows) (x ∷ []) (ranked host (n + 1) names)
+
+  -- those of the others stay
+  pub elsewhere_with : (other : List ℕ) → bytes_eq host other ≡ false → (n : ℕ) (names : List (List ℕ)) (rows : List PickRow) → filter (is_pick_of other) (with_picks (ranked host n names) rows) ≡ filter (is_pick_of other) rows
+  elsewhere_with other apart n [] rows = refl
+  elsewhere_with other apart n (name ∷ names) rows =
+      elsewhere_with other apart (n + 1) names (added coding.picks.key (record { host = host; name = name; rank = n }) rows)
+      ∙ added_elsewhere (by_key coding.picks.key) (is_pick_of other) (record { host = host; name = name; rank = n }) rows apart
+
+  pub with_in_order : (n : ℕ) (names : List (List ℕ)) (rows : List PickRow) → InOrder coding.picks.key rows → AreBelow host n rows → InOrder coding.picks.key (with_picks (ranked host n names) rows)
+  with_in_order n [] rows up below = up
+  with_in_order n (name ∷ names) rows up below =
+      let x : PickRow = record { host = host; name = name; rank = n } in
+      with_in_order (n + 1) names (added coding.picks.key x rows) (added_in_order coding.picks.key x rows (rank_is_free x rows below) up) (below_next x rows below)
+
+  -- what holds of all records, and of those that are added
+  pub all_with : (P : PickRow → Type 0) (n : ℕ) (names : List (List ℕ)) (rows : List PickRow) → AllByRecursion P (ranked host n names) → AllByRecursion P rows → AllByRecursion P (with_picks (ranked host n names) rows)
+  all_with P n [] rows new old = old
+  all_with P n (name ∷ names) rows new old = all_with P (n + 1) names _ new.1 (all_added P (by_key coding.picks.key) _ rows new.0 old)
+
+  -- of a test that is of the names
+  pub all_ranked : (P : PickRow → Type 0) (n : ℕ) (names : List (List ℕ)) → AllByRecursion (λ name. (rank : ℕ) → P (record { host = host; name = name; rank = rank })) names → AllByRecursion P (ranked host n names)
+  all_ranked P n [] all = tt
+  all_ranked P n (name ∷ names) all = (all.0 n, all_ranked P (n + 1) names all.1)
+
+  pub names_ranked : (n : ℕ) (names : List (List ℕ)) → map (λ d. d.name) (ranked host n names) ≡ names
+  names_ranked n [] = refl
+  names_ranked n (name ∷ names) = ap (λ l. name ∷ l) (names_ranked (n + 1) names)
+
+  pub ranks_ranked : (n : ℕ) (names : List (List ℕ)) → map (λ d. d.rank) (ranked host n names) ≡ range_with_len n (length (ranked host n names))
+  ranks_ranked n [] = refl
+  ranks_ranked n (name ∷ names) = ap (λ l. n ∷ l) (ranks_ranked (n + 1) names)
+
+  others_stay : (other : List ℕ) → bytes_eq host other ≡ false → (rows : List PickRow) → filter (is_pick_of other) (filter (λ r. not (is_pick_of host r)) rows) ≡ filter (is_pick_of other) rows
+  others_stay other apart [] = refl
+  others_stay other apart (y ∷ rows) = go (is_pick_of host y) (is_pick_of other y) refl refl (others_stay other apart rows)
+    where
+      go : (a b : Bool) → is_pick_of host y ≡ a → is_pick_of other y ≡ b → filter (is_pick_of other) (filter (λ r. not (is_pick_of host r)) rows) ≡ filter (is_pick_of other) rows
+          → filter (is_pick_of other) (cond (not a) (y ∷ filter (λ r. not (is_pick_of host r)) rows) (filter (λ r. not (is_pick_of host r)) rows)) ≡ cond b (y ∷ filter (is_pick_of other) rows) (filter (is_pick_of other) rows)
+      go true true e f more = absurd (true≢false (sym ((bytes_eq-Decides host other).1 (sym ((bytes_eq-Decides y.host host).0 e) ∙ (bytes_eq-Decides y.host other).0 f)) ∙ apart))
+      go true false e f more = more
+      go false true e f more = ap (λ b. cond b (y ∷ filter (is_pick_of other) (filter (λ r. not (is_pick_of host r)) rows)) (filter (is_pick_of other) (filter (λ r. not (is_pick_of host r)) rows))) f ∙ ap (λ l. y ∷ l) more
+      go false false e f more = ap (λ b. cond b (y ∷ filter (is_pick_of other) (filter (λ r. not (is_pick_of host r)) rows)) (filter (is_pick_of other) (filter (λ r. not (is_pick_of host r)) rows))) f ∙ more
+
+  -- ---- setting the defaults of the host
+
+  pub set_of_host : (names : List (List ℕ)) (rows : List PickRow) → InOrder coding.picks.key rows → filter (is_pick_of host) (set_picks host names rows) ≡ ranked host 1 names
+  set_of_host names rows up =
+      of_host_with 1 names (filter (λ r. not (is_pick_of host r)) rows) (filtered_in_order coding.picks.key (λ r. not (is_pick_of host r)) rows up) (none_below host _ (all_taken_out host rows))
+      ∙ ap (λ l. l ++ ranked host 1 names) (filter_none (is_pick_of host) _ (all_taken_out host rows))
+
+  pub set_elsewhere : (other : List ℕ) → bytes_eq host other ≡ false → (names : List (List ℕ)) (rows : List PickRow) → filter (is_pick_of other) (set_picks host names rows) ≡ filter (is_pick_of other) rows
+  set_elsewhere other apart names rows = elsewhere_with other apart 1 names (filter (λ r. not (is_pick_of host r)) rows) ∙ others_stay other apart rows
+
+  pub set_in_order : (names : List (List ℕ)) (rows : List PickRow) → InOrder coding.picks.key rows → InOrder coding.picks.key (set_picks host names rows)
+  set_in_order names rows up = with_in_order 1 names _ (filtered_in_order coding.picks.key (λ r. not (is_pick_of host r)) rows up) (none_below host _ (all_taken_out host rows))
+
+  pub all_set : (P : PickRow → Type 0) (names : List (List ℕ)) (rows : List PickRow) → AllByRecursion P (ranked host 1 names) → AllByRecursion P rows → AllByRecursion P (set_picks host names rows)
+  all_set P names rows new old = all_with P 1 names _ new (all-filter P (λ r. not (is_pick_of host r)) rows old)

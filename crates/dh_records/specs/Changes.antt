@@ -1,0 +1,93 @@
+-- The lists with a record more, or with fewer.
+use Rattle.std.specs.Prelude.{not, filter, List, Option}
+use Rattle.dh_rows.specs.Keyed.{added, put}
+use Rattle.dh_world.specs.World.{Text}
+use Rattle.dh_records.specs.Codings as coding
+use Rattle.dh_records.specs.Lists as lists
+use Rattle.dh_records.specs.Lists.{Lists, granted, is_version, is_page_under, is_pick_of, is_pass, is_held, is_held_by, is_held_on}
+use Rattle.dh_records.specs.declared.records.ProjectRow.{ProjectRow}
+use Rattle.dh_records.specs.declared.records.LangRow.{LangRow}
+use Rattle.dh_records.specs.declared.records.VersionRow.{VersionRow}
+use Rattle.dh_records.specs.declared.records.PageRow.{PageRow}
+use Rattle.dh_records.specs.declared.records.UsedRow.{UsedRow}
+use Rattle.dh_records.specs.declared.records.PickRow.{PickRow}
+use Rattle.dh_records.specs.declared.records.PassRow.{PassRow}
+use Rattle.dh_records.specs.declared.records.HeldRow.{HeldRow}
+
+-- ---- a record more, whose key is free
+
+abbrev pub add_project : ProjectRow → Lists → Lists
+add_project row l = record l { projects = added coding.projects.key row l.projects }
+
+abbrev pub add_lang : LangRow → Lists → Lists
+add_lang row l = record l { langs = added coding.langs.key row l.langs }
+
+abbrev pub add_used : UsedRow → Lists → Lists
+add_used row l = record l { used = added coding.used.key row l.used }
+
+abbrev pub add_pick : PickRow → Lists → Lists
+add_pick row l = record l { picks = added coding.picks.key row l.picks }
+
+abbrev pub add_pass : PassRow → Lists → Lists
+add_pass row l = record l { passes = added coding.passes.key row l.passes }
+
+abbrev pub add_grant : HeldRow → Lists → Lists
+add_grant row l = record l { held = added coding.held.key row l.held }
+
+-- ---- a record, in place of the one with its key
+
+abbrev pub put_version : VersionRow → Lists → Lists
+put_version row l = record l { versions = put coding.versions.key row l.versions }
+
+abbrev pub put_page : PageRow → Lists → Lists
+put_page row l = record l { pages = put coding.pages.key row l.pages }
+
+-- a grant, unless it is there
+abbrev pub grant : HeldRow → Lists → Lists
+grant row l = record l { held = granted row l.held }
+
+-- defaults, added one after the other
+abbrev pub with_picks : List PickRow → Lists → Lists
+with_picks rows l = record l { picks = lists.with_picks rows l.picks }
+
+-- the defaults of a host, in place of those that it had
+abbrev pub set_picks : Text → List Text → Lists → Lists
+set_picks host names l = record l { picks = lists.set_picks host names l.picks }
+
+-- ---- fewer records
+
+abbrev pub drop_version : Text → Text → Lists → Lists
+drop_version host slug l = record l {
+  versions = filter (λ x. not (is_version host slug x)) l.versions;
+}
+
+-- the pages of a version, and of this language where one is given
+abbrev pub drop_pages : Text → Text → Option Text → Lists → Lists
+drop_pages host slug lang l = record l {
+  pages = filter (λ x. not (is_page_under host slug lang x)) l.pages;
+}
+
+abbrev pub drop_picks : Text → Lists → Lists
+drop_picks host l = record l { picks = filter (λ x. not (is_pick_of host x)) l.picks }
+
+abbrev pub drop_pass : Text → Text → Lists → Lists
+drop_pass host pass l = record l {
+  passes = filter (λ x. not (is_pass host pass x)) l.passes;
+}
+
+abbrev pub revoke : Text → Text → Text → Lists → Lists
+revoke host pass slug l = record l {
+  held = filter (λ x. not (is_held host pass slug x)) l.held;
+}
+
+-- all grants on a version
+abbrev pub drop_grants_of : Text → Text → Lists → Lists
+drop_grants_of host slug l = record l {
+  held = filter (λ x. not (is_held_on host slug x)) l.held;
+}
+
+-- all grants of a pass
+abbrev pub drop_grants_by : Text → Text → Lists → Lists
+drop_grants_by host pass l = record l {
+  held = filter (λ x. not (is_held_by host pass x)) l.held;
+}

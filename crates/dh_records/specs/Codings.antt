@@ -1,0 +1,103 @@
+-- How the records of each table are kept in its columns.
+use Rattle.std.specs.Prelude.{ℕ, pos, Bool, true, false, if◌then◌else◌, List, [], ◌∷◌}
+use Rattle.sqlite_value.specs.declared.value.Value.{Value}
+use Rattle.sqlite_value.specs.declared.value.Value.TheVariants.{Int, Text, Blob}
+use Rattle.sqlite_value.specs.Order.{Row, column, bytes}
+use Rattle.dh_rows.specs.Keyed.{Coding, flag, is_set}
+use Rattle.dh_versions.specs.declared.version.Kind.{Kind}
+use Rattle.dh_versions.specs.declared.version.Kind.TheVariants.{Branch, Tag}
+use Rattle.dh_records.specs.declared.records.ProjectRow.{ProjectRow}
+use Rattle.dh_records.specs.declared.records.LangRow.{LangRow}
+use Rattle.dh_records.specs.declared.records.VersionRow.{VersionRow}
+use Rattle.dh_records.specs.declared.records.PageRow.{PageRow}
+use Rattle.dh_records.specs.declared.records.UsedRow.{UsedRow}
+use Rattle.dh_records.specs.declared.records.PickRow.{PickRow}
+use Rattle.dh_records.specs.declared.records.PassRow.{PassRow}
+use Rattle.dh_records.specs.declared.records.HeldRow.{HeldRow}
+use Rattle.dh_world.specs.World.{is_upload}
+use Rattle.dh_world.specs.declared.operation.Operation.TheVariants.{Push, Upload}
+
+abbrev pub is_tag : Kind → Bool
+is_tag Branch = false
+is_tag Tag = true
+
+-- the number that a column reads as
+abbrev pub number_in : Value → ℕ
+number_in (Int (pos n)) = n
+number_in _ = 0
+
+abbrev pub text_in : Row → ℕ → List ℕ
+text_in r at = bytes (column r at)
+
+abbrev pub flag_in : Row → ℕ → Bool
+flag_in r at = is_set (column r at)
+
+abbrev pub projects : Coding ProjectRow
+projects = record {
+  encode = λ x. Text x.host ∷ Text x.main ∷ Text x.branch ∷ Text x.wkey ∷ flag x.new_private ∷ [];
+  decode = λ r. record { host = text_in r 1; main = text_in r 2; branch = text_in r 3; wkey = text_in r 4; new_private = flag_in r 5 };
+  key = λ x. Text x.host ∷ [];
+}
+
+-- a language's key is its place, so that the records of a host stand in the order of places
+abbrev pub langs : Coding LangRow
+langs = record {
+  encode = λ x. Text x.host ∷ Text x.lang ∷ Int (pos x.place) ∷ [];
+  decode = λ r. record { host = text_in r 1; lang = text_in r 2; place = number_in (column r 3) };
+  key = λ x. Text x.host ∷ Int (pos x.place) ∷ [];
+}
+
+abbrev pub versions : Coding VersionRow
+versions = record {
+  encode = λ x.
+      Text x.host ∷ Text x.version.slug ∷ Text x.version.name ∷ flag (is_tag x.version.kind) ∷ flag x.version.active ∷ flag x.version.hidden
+      ∷ flag x.version.private ∷ [];
+  decode = λ r. record {
+    host = text_in r 1;
+    version = record {
+      slug = text_in r 2;
+      kind = if flag_in r 4 then Tag else Branch;
+      name = text_in r 3;
+      active = flag_in r 5;
+      hidden = flag_in r 6;
+      private = flag_in r 7;
+    };
+  };
+  key = λ x. Text x.host ∷ Text x.version.slug ∷ [];
+}
+
+abbrev pub pages : Coding PageRow
+pages = record {
+  encode = λ x. Text x.host ∷ Text x.slug ∷ Text x.lang ∷ Text x.path ∷ Text x.page.media ∷ Blob x.page.body ∷ [];
+  decode = λ r. record { host = text_in r 1; slug = text_in r 2; lang = text_in r 3; path = text_in r 4; page = record { media = text_in r 5; body = text_in r 6 } };
+  key = λ x. Text x.host ∷ Text x.slug ∷ Text x.lang ∷ Text x.path ∷ [];
+}
+
+abbrev pub used : Coding UsedRow
+used = record {
+  encode = λ x. Text x.host ∷ Text x.slug ∷ flag (is_upload x.op) ∷ Text x.retry ∷ Text x.answer ∷ [];
+  decode = λ r. record { host = text_in r 1; slug = text_in r 2; op = if flag_in r 3 then Upload else Push; retry = text_in r 4; answer = text_in r 5 };
+  key = λ x. Text x.host ∷ Text x.slug ∷ flag (is_upload x.op) ∷ Text x.retry ∷ [];
+}
+
+-- a default's key is its rank, so that the records of a host stand in the order of ranks
+abbrev pub picks : Coding PickRow
+picks = record {
+  encode = λ x. Text x.host ∷ Text x.name ∷ Int (pos x.rank) ∷ [];
+  decode = λ r. record { host = text_in r 1; name = text_in r 2; rank = number_in (column r 3) };
+  key = λ x. Text x.host ∷ Int (pos x.rank) ∷ [];
+}
+
+abbrev pub passes : Coding PassRow
+passes = record {
+  encode = λ x. Text x.host ∷ Text x.pass ∷ [];
+  decode = λ r. record { host = text_in r 1; pass = text_in r 2 };
+  key = λ x. Text x.host ∷ Text x.pass ∷ [];
+}
+
+abbrev pub held : Coding HeldRow
+held = record {
+  encode = λ x. Text x.host ∷ Text x.pass ∷ Text x.slug ∷ [];
+  decode = λ r. record { host = text_in r 1; pass = text_in r 2; slug = text_in r 3 };
+  key = λ x. Text x.host ∷ Text x.pass ∷ Text x.slug ∷ [];
+}

@@ -1,0 +1,144 @@
+-- The records of each table, and the world that they spell.
+use Rattle.std.specs.Prelude.{ℕ, ◌+◌, Bool, true, false, not, ◌&&◌, if◌then◌else◌, List, [], ◌∷◌, map, filter, Option, Some, None, unwrap_or}
+use Rattle.std.specs.List.{list_any}
+use Rattle.std.specs.Str.{bytes_eq}
+use Rattle.std.specs.FinMap.{from_entries}
+use Rattle.dh_rows.specs.Keyed.{added}
+use Rattle.dh_records.specs.Codings as coding
+use Rattle.dh_world.specs.declared.answer.Answer.{Answer}
+use Rattle.dh_world.specs.declared.answer.Answer.TheVariants.{Done}
+use Rattle.dh_world.specs.Answers.{answer_of, json_of}
+use Rattle.dh_world.specs.World.{Text, Project, World, op_code}
+use Rattle.dh_records.specs.declared.records.ProjectRow.{ProjectRow}
+use Rattle.dh_records.specs.declared.records.LangRow.{LangRow}
+use Rattle.dh_records.specs.declared.records.VersionRow.{VersionRow}
+use Rattle.dh_records.specs.declared.records.PageRow.{PageRow}
+use Rattle.dh_records.specs.declared.records.UsedRow.{UsedRow}
+use Rattle.dh_records.specs.declared.records.PickRow.{PickRow}
+use Rattle.dh_records.specs.declared.records.PassRow.{PassRow}
+use Rattle.dh_records.specs.declared.records.HeldRow.{HeldRow}
+use Rattle.dh_world.specs.declared.operation.Operation.{Operation}
+use Rattle.dh_world.specs.declared.operation.Operation.TheVariants.{Push, Upload}
+
+-- a list for each table, in the order of its keys
+pub record Lists : Type 0 where
+  pub projects : List ProjectRow
+  pub langs : List LangRow
+  pub versions : List VersionRow
+  pub pages : List PageRow
+  pub used : List UsedRow
+  pub picks : List PickRow
+  pub passes : List PassRow
+  pub held : List HeldRow
+
+-- the records of one host
+abbrev pub of_host : {X : Type 0} → (X → Text) → Text → List X → List X
+of_host host_of host rows = filter (λ r. bytes_eq (host_of r) host) rows
+
+-- ---- records by their key, or by the first parts of it
+
+abbrev pub is_project : Text → ProjectRow → Bool
+is_project host r = bytes_eq r.host host
+
+abbrev pub is_lang_of : Text → LangRow → Bool
+is_lang_of host r = bytes_eq r.host host
+
+abbrev pub is_version_of : Text → VersionRow → Bool
+is_version_of host r = bytes_eq r.host host
+
+abbrev pub is_version : Text → Text → VersionRow → Bool
+is_version host slug r = bytes_eq r.host host && bytes_eq r.version.slug slug
+
+abbrev pub is_page_of : Text → Text → PageRow → Bool
+is_page_of host slug r = bytes_eq r.host host && bytes_eq r.slug slug
+
+abbrev pub is_page_in : Text → Text → Text → PageRow → Bool
+is_page_in host slug lang r = bytes_eq r.host host && bytes_eq r.slug slug && bytes_eq r.lang lang
+
+-- of the version, and of this language where one is given
+abbrev pub is_page_under : Text → Text → Option Text → PageRow → Bool
+is_page_under host slug None r = is_page_of host slug r
+is_page_under host slug (Some lang) r = is_page_in host slug lang r
+
+abbrev pub is_page : Text → Text → Text → Text → PageRow → Bool
+is_page host slug lang path r = bytes_eq r.host host && bytes_eq r.slug slug && bytes_eq r.lang lang && bytes_eq r.path path
+
+abbrev pub same_op : Operation → Operation → Bool
+same_op Push Push = true
+same_op Upload Upload = true
+same_op _ _ = false
+
+abbrev pub is_used : Text → Text → Operation → Text → UsedRow → Bool
+is_used host slug op retry r = bytes_eq r.host host && bytes_eq r.slug slug && same_op r.op op && bytes_eq r.retry retry
+
+abbrev pub is_pick_of : Text → PickRow → Bool
+is_pick_of host r = bytes_eq r.host host
+
+abbrev pub is_pass_of : Text → PassRow → Bool
+is_pass_of host r = bytes_eq r.host host
+
+abbrev pub is_pass : Text → Text → PassRow → Bool
+is_pass host pass r = bytes_eq r.host host && bytes_eq r.pass pass
+
+abbrev pub is_held : Text → Text → Text → HeldRow → Bool
+is_held host pass slug r = bytes_eq r.host host && bytes_eq r.pass pass && bytes_eq r.slug slug
+
+-- a grant of this pass
+abbrev pub is_held_by : Text → Text → HeldRow → Bool
+is_held_by host pass r = bytes_eq r.host host && bytes_eq r.pass pass
+
+-- a grant on this version
+abbrev pub is_held_on : Text → Text → HeldRow → Bool
+is_held_on host slug r = bytes_eq r.host host && bytes_eq r.slug slug
+
+abbrev pub pick_row : Text → Text → ℕ → PickRow
+pick_row host name rank = record { host = host; name = name; rank = rank }
+
+abbrev pub used_row : Text → Text → Operation → Text → List ℕ → UsedRow
+used_row host slug op retry answer =
+    record { host = host; slug = slug; op = op; retry = retry; answer = answer }
+
+-- the records of a list of defaults, ranked from a number on
+abbrev pub ranked : Text → ℕ → List Text → List PickRow
+ranked host n [] = []
+ranked host n (name ∷ names) = record { host = host; name = name; rank = n } ∷ ranked host (n + 1) names
+
+-- records added one after the other
+abbrev pub with_picks : List PickRow → List PickRow → List PickRow
+with_picks [] rows = rows
+with_picks (x ∷ xs) rows = with_picks xs (added coding.picks.key x rows)
+
+-- the defaults of a host, in place of those that it had
+abbrev pub set_picks : Text → List Text → List PickRow → List PickRow
+set_picks host names rows = with_picks (ranked host 1 names) (filter (λ r. not (is_pick_of host r)) rows)
+
+-- a grant is added, unless it is there
+abbrev pub granted : HeldRow → List HeldRow → List HeldRow
+granted row rows = if list_any (is_held row.host row.pass row.slug) rows then rows else added coding.held.key row rows
+
+-- the answer that a row keeps; of a text that is no answer's it is `Done`, which no call keeps
+abbrev pub kept_answer : UsedRow → Answer
+kept_answer r = unwrap_or (answer_of r.answer) Done
+
+-- the row that keeps an answer
+abbrev pub keeping : Text → Text → Operation → Text → Answer → UsedRow
+keeping host slug op retry answer = record { host = host; slug = slug; op = op; retry = retry; answer = unwrap_or (json_of answer) [] }
+
+-- the project of a row, from the records of its host
+unfoldable pub project_of : Lists → ProjectRow → Project
+project_of lists row = record {
+  languages = map (λ l. l.lang) (of_host (λ l. l.host) row.host lists.langs);
+  branch = row.branch;
+  new_private = row.new_private;
+  wkey = row.wkey;
+  versions = from_entries (map (λ v. (v.version.slug, v.version)) (of_host (λ v. v.host) row.host lists.versions));
+  pages = from_entries (map (λ x. ((x.slug, (x.lang, x.path)), x.page)) (of_host (λ x. x.host) row.host lists.pages));
+  defaults = map (λ d. d.name) (of_host (λ d. d.host) row.host lists.picks);
+  passes = from_entries (map (λ x. (x.pass, tt)) (of_host (λ x. x.host) row.host lists.passes));
+  held = from_entries (map (λ x. ((x.pass, x.slug), tt)) (of_host (λ x. x.host) row.host lists.held));
+  used = from_entries (map (λ u. ((u.slug, (op_code u.op, u.retry)), kept_answer u)) (of_host (λ u. u.host) row.host lists.used));
+}
+
+-- the world that the records spell
+unfoldable pub world_of : Lists → World
+world_of lists = from_entries (map (λ r. (r.host, project_of lists r)) lists.projects)

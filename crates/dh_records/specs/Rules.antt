@@ -1,0 +1,89 @@
+-- What the records keep besides being in the order of their keys.
+use Rattle.std.specs.Prelude.{◌≡◌, Bool, false, ◌&&◌, ◌||◌, IsTrue, List, map, filter, length, slice_get, find, Some, is_some}
+use Rattle.std.specs.declared.cmp.Ordering.TheVariants.{Less}
+use Rattle.std.specs.List.{AllByRecursion, IsDistinct, list_any, range_with_len}
+use Rattle.std.specs.Option.{option_map_or}
+use Rattle.std.specs.Str.{bytes_eq}
+use Rattle.std.specs.FinMap.{is_sorted}
+use Rattle.sqlite_value.specs.Order.{Row}
+use Rattle.sqlite_trees.specs.Tree.{IsAscending}
+use Rattle.dh_paths.specs.Slugs.{slug_from}
+use Rattle.dh_rows.specs.Keyed.{by_key}
+use Rattle.dh_world.specs.World.{Text, text_cmp}
+use Rattle.dh_world.specs.Seen.{is_alias}
+use Rattle.dh_records.specs.Codings as coding
+use Rattle.dh_records.specs.Lists.{Lists, is_project, is_lang_of, is_version, is_pick_of, is_pass}
+use Rattle.dh_records.specs.declared.records.LangRow.{LangRow}
+use Rattle.dh_records.specs.declared.records.PickRow.{PickRow}
+use Rattle.dh_records.specs.declared.records.VersionRow.{VersionRow}
+
+-- no two records have one key, and each stands before those with a greater key
+abbrev pub InOrder : {X : Type 0} → (X → Row) → List X → Type 0
+InOrder key = IsAscending (λ x y. by_key key x y ≡ Less)
+
+-- the slugs strictly rise, by their bytes
+abbrev pub RiseBySlug : List VersionRow → Type 0
+RiseBySlug rows = IsTrue (is_sorted text_cmp (map (λ r. (r.version.slug, r.version)) rows))
+
+-- each list is in the order of its keys
+pub record AreInOrder (lists : Lists) : Type 0 where
+  pub projects : InOrder coding.projects.key lists.projects
+  pub langs : InOrder coding.langs.key lists.langs
+  pub versions : InOrder coding.versions.key lists.versions
+  pub pages : InOrder coding.pages.key lists.pages
+  pub used : InOrder coding.used.key lists.used
+  pub picks : InOrder coding.picks.key lists.picks
+  pub passes : InOrder coding.passes.key lists.passes
+  pub held : InOrder coding.held.key lists.held
+
+abbrev pub has_project : Lists → Text → Bool
+has_project lists host = is_some (find (is_project host) lists.projects)
+
+-- the languages of a host, in the order of their places
+abbrev pub languages_of : Lists → Text → List Text
+languages_of lists host = map (λ l. l.lang) (filter (is_lang_of host) lists.langs)
+
+abbrev pub has_language : Lists → Text → Text → Bool
+has_language lists host lang = list_any (λ l. bytes_eq l lang) (languages_of lists host)
+
+-- the version is there, and active
+abbrev pub has_active : Lists → Text → Text → Bool
+has_active lists host slug = option_map_or (λ v. v.version.active) (find (is_version host slug) lists.versions) false
+
+abbrev pub has_version : Lists → Text → Text → Bool
+has_version lists host slug = is_some (find (is_version host slug) lists.versions)
+
+abbrev pub has_pass : Lists → Text → Text → Bool
+has_pass lists host pass = is_some (find (is_pass host pass) lists.passes)
+
+-- The defaults of one project: they have the ranks 1 to n without gaps, and no name stands twice.
+pub record AreDefaults (picks : List PickRow) : Type 0 where
+  pub ranks : map (λ d. d.rank) picks ≡ range_with_len 1 (length picks)
+  pub apart : IsDistinct bytes_eq (map (λ d. d.name) picks)
+
+-- The languages of one project: they have the places 1 to n without gaps, none stands twice, and the main one stands first.
+pub record AreLanguages (main : Text) (langs : List LangRow) : Type 0 where
+  pub places : map (λ l. l.place) langs ≡ range_with_len 1 (length langs)
+  pub apart : IsDistinct bytes_eq (map (λ l. l.lang) langs)
+  pub first : slice_get (map (λ l. l.lang) langs) 0 ≡ Some main
+
+-- The rules of the records, beyond what each says for itself.
+pub record KeepsRules (lists : Lists) : Type 0 where
+  -- every host has its project
+  pub langs : AllByRecursion (λ l. IsTrue (has_project lists l.host)) lists.langs
+  pub versions : AllByRecursion (λ v. IsTrue (has_project lists v.host)) lists.versions
+  pub pages : AllByRecursion (λ x. IsTrue (has_project lists x.host)) lists.pages
+  pub used : AllByRecursion (λ u. IsTrue (has_project lists u.host)) lists.used
+  pub picks : AllByRecursion (λ d. IsTrue (has_project lists d.host)) lists.picks
+  pub passes : AllByRecursion (λ x. IsTrue (has_project lists x.host)) lists.passes
+  pub languages : AllByRecursion (λ r. AreLanguages r.main (filter (is_lang_of r.host) lists.langs)) lists.projects
+  -- a version's slug comes from its name
+  pub slugs : AllByRecursion (λ v. slug_from v.version.name ≡ Some v.version.slug) lists.versions
+  -- a page's version is there and active, and its language is one of the project's
+  pub active : AllByRecursion (λ x. IsTrue (has_active lists x.host x.slug)) lists.pages
+  pub spoken : AllByRecursion (λ x. IsTrue (has_language lists x.host x.lang)) lists.pages
+  pub defaults : AllByRecursion (λ r. AreDefaults (filter (is_pick_of r.host) lists.picks)) lists.projects
+  -- a default is an alias or a version that is there
+  pub chosen : AllByRecursion (λ d. IsTrue (is_alias d.name || has_version lists d.host d.name)) lists.picks
+  -- a grant's pass and version are there
+  pub granted : AllByRecursion (λ x. IsTrue (has_pass lists x.host x.pass && has_version lists x.host x.slug)) lists.held

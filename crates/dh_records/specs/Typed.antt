@@ -1,0 +1,104 @@
+-- Which columns and which records can be read: each text is one of its type, and each number fits.
+use Rattle.std.specs.Prelude.{◌≡◌, ℕ, pos, ◌<◌, ◌^◌, Bool, List, IsTrue, IsUtf8, Some}
+use Rattle.std.specs.List.{AllByRecursion}
+use Rattle.sqlite_value.specs.declared.value.Value.TheVariants.{Int, Text, Blob}
+use Rattle.sqlite_value.specs.Order.{Row, column}
+use Rattle.sqlite.specs.Values.{IsInt}
+use Rattle.dh_paths.specs.Texts.{is_host_name, is_lang, is_page_path, is_ref_name, is_slug, is_token}
+use Rattle.dh_world.specs.declared.answer.Answer.{Answer}
+use Rattle.dh_world.specs.Answers.{IsAnswer, json_of}
+use Rattle.dh_records.specs.Lists.{Lists}
+use Rattle.dh_records.specs.declared.records.ProjectRow.{ProjectRow}
+use Rattle.dh_records.specs.declared.records.LangRow.{LangRow}
+use Rattle.dh_records.specs.declared.records.VersionRow.{VersionRow}
+use Rattle.dh_records.specs.declared.records.PageRow.{PageRow}
+use Rattle.dh_records.specs.declared.records.UsedRow.{UsedRow}
+use Rattle.dh_records.specs.declared.records.PickRow.{PickRow}
+use Rattle.dh_records.specs.declared.records.PassRow.{PassRow}
+use Rattle.dh_records.specs.declared.records.HeldRow.{HeldRow}
+
+-- ---- columns
+
+module _ (row : Row) (at : ℕ) where
+  abbrev pub IsText : Type 0
+  IsText = (t : List ℕ) × (column row at ≡ Text t) × IsUtf8 t
+
+  abbrev pub IsFlag : Type 0
+  IsFlag = IsInt (column row at)
+
+  abbrev pub IsNumber : Type 0
+  IsNumber = (n : ℕ) × (column row at ≡ Int (pos n)) × (n < 2 ^ 32)
+
+  abbrev pub IsRank : Type 0
+  IsRank = (n : ℕ) × (column row at ≡ Int (pos n))
+
+  abbrev pub IsBody : Type 0
+  IsBody = (b : List ℕ) × (column row at ≡ Blob b)
+
+-- a text that passes the test of its type
+abbrev pub IsOf : (List ℕ → Bool) → Row → ℕ → Type 0
+IsOf test row at = (t : List ℕ) × (column row at ≡ Text t) × IsUtf8 t × IsTrue (test t)
+
+-- ---- records
+
+-- a text in UTF-8 that passes the test of its type
+abbrev pub Passes : (List ℕ → Bool) → List ℕ → Type 0
+Passes test t = IsUtf8 t × IsTrue (test t)
+
+pub record IsProject (x : ProjectRow) : Type 0 where
+  pub host : Passes is_host_name x.host
+  pub main : Passes is_lang x.main
+  pub branch : Passes is_ref_name x.branch
+  pub wkey : Passes is_token x.wkey
+
+pub record IsLanguage (x : LangRow) : Type 0 where
+  pub host : Passes is_host_name x.host
+  pub lang : Passes is_lang x.lang
+  pub place : x.place < 2 ^ 32
+
+pub record IsVersion (x : VersionRow) : Type 0 where
+  pub host : Passes is_host_name x.host
+  pub slug : Passes is_slug x.version.slug
+  pub name : Passes is_ref_name x.version.name
+
+pub record IsPage (x : PageRow) : Type 0 where
+  pub host : Passes is_host_name x.host
+  pub slug : Passes is_slug x.slug
+  pub lang : Passes is_lang x.lang
+  pub path : Passes is_page_path x.path
+  pub media : IsUtf8 x.page.media
+
+-- the text is that of an answer
+abbrev pub Tells : List ℕ → Type 0
+Tells text = (a : Answer) × IsAnswer a × (json_of a ≡ Some text)
+
+pub record IsUsed (x : UsedRow) : Type 0 where
+  pub host : Passes is_host_name x.host
+  pub slug : Passes is_slug x.slug
+  pub retry : Passes is_token x.retry
+  pub answer : IsUtf8 x.answer
+  pub tells : Tells x.answer
+
+pub record IsPick (x : PickRow) : Type 0 where
+  pub host : Passes is_host_name x.host
+  pub name : Passes is_slug x.name
+
+pub record IsPass (x : PassRow) : Type 0 where
+  pub host : Passes is_host_name x.host
+  pub pass : Passes is_token x.pass
+
+pub record IsHeld (x : HeldRow) : Type 0 where
+  pub host : Passes is_host_name x.host
+  pub pass : Passes is_token x.pass
+  pub slug : Passes is_slug x.slug
+
+-- each record of the lists can be read again
+pub record AreTyped (l : Lists) : Type 0 where
+  pub projects : AllByRecursion IsProject l.projects
+  pub langs : AllByRecursion IsLanguage l.langs
+  pub versions : AllByRecursion IsVersion l.versions
+  pub pages : AllByRecursion IsPage l.pages
+  pub used : AllByRecursion IsUsed l.used
+  pub picks : AllByRecursion IsPick l.picks
+  pub passes : AllByRecursion IsPass l.passes
+  pub held : AllByRecursion IsHeld l.held

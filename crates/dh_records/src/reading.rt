@@ -1,0 +1,349 @@
+//! Records read from rows.
+
+ghost use Rattle.std.specs.Prelude.{◌≡◌, List, map, slice_get, string_bytes, IfOk, IsSome};
+ghost use Rattle.std.specs.List.{AllByRecursion};
+ghost use Rattle.dh_paths.specs.Texts.{is_host_name, is_lang, is_page_path, is_ref_name, is_slug, is_token};
+ghost use Rattle.dh_reply.specs.Faults.{OnStore};
+ghost use Rattle.sqlite_value.specs.declared.value.Value.TheVariants.{Int, Text as SqlText, Blob};
+ghost use Rattle.sqlite_value.specs.Order.{column};
+ghost use Rattle.dh_rows.specs.Keyed.{Coding, flag};
+ghost use Rattle.dh_world.specs.Answers.{answer_of};
+ghost use Rattle.dh_records.specs.Codings as spec;
+ghost use Rattle.dh_records.specs.Faults.{told_as};
+ghost use Rattle.dh_records.specs.Typed as typed;
+
+use crate::records::{
+    HeldRow, LangRow, PageRow, PassRow, PickRow, ProjectRow, UsedRow, VersionRow,
+};
+use dh_paths::{Bytes, HostName, Lang, PagePath, RefName, Slug, Text, TextFault, Token};
+use dh_reply::{Fault, Page};
+use dh_versions::{Kind, Version};
+use dh_world::{Answer, Operation};
+use sqlite::Row;
+use std::alloc::Global;
+
+/// The same refusal, as the layers above tell it.
+pub fn fault_of(fault: dh_rows::Fault) -> Fault
+    ensures { result ≡ told_as fault }
+{
+    match fault {
+        dh_rows::Fault::Store => Fault::Store,
+        dh_rows::Fault::Memory => Fault::Memory,
+    }
+}
+
+/// A text that is no value of its type breaks a rule of the rows, so it is a fault of the store.
+fn fault_of_text(fault: TextFault) -> Fault
+    ensures { fault ≡ TextFault.Memory → result ≡ Fault.Memory }
+{
+    match fault {
+        TextFault::Memory => Fault::Memory,
+        _ => Fault::Store,
+    }
+}
+
+/// The answer that a kept text tells.
+pub fn kept_answer(alloc: Global, text: &str) -> Result<Option<Answer>, Fault>
+    ensures told { IfOk result (λ o. o ≡ answer_of text.now) }
+    ensures some { IfOk result (λ o. IsSome o) }
+    ensures refused { OnStore result (¬ typed.Tells text.now) }
+{
+    match Answer::read(alloc, text) {
+        Ok(Some(answer)) => Ok(Some(answer)),
+        Ok(None) => Err(Fault::Store),
+        Err(_) => Err(Fault::Memory),
+    }
+}
+
+fn text_at(row: &Row, at: usize) -> Result<String, Fault>
+    ensures value { IfOk result (λ s. column row.now at ≡ SqlText (string_bytes s)) }
+    ensures told { OnStore result (¬ typed.IsText row.now at) }
+{
+    match row.get(at) {
+        Ok(text) => Ok(text),
+        Err(error) => Err(fault_of(error.into())),
+    }
+}
+
+fn flag_at(row: &Row, at: usize) -> Result<bool, Fault>
+    ensures value { IfOk result (λ b. spec.flag_in row.now at ≡ b) }
+    ensures told { OnStore result (¬ typed.IsFlag row.now at) }
+{
+    match row.get(at) {
+        Ok(flag) => Ok(flag),
+        Err(error) => Err(fault_of(error.into())),
+    }
+}
+
+fn number_at(row: &Row, at: usize) -> Result<u32, Fault>
+    ensures value { IfOk result (λ n. spec.number_in (column row.now at) ≡ n) }
+    ensures told { OnStore result (¬ typed.IsNumber row.now at) }
+{
+    match row.get(at) {
+        Ok(number) => Ok(number),
+        Err(error) => Err(fault_of(error.into())),
+    }
+}
+
+fn rank_at(row: &Row, at: usize) -> Result<u64, Fault>
+    ensures value { IfOk result (λ n. spec.number_in (column row.now at) ≡ n) }
+    ensures told { OnStore result (¬ typed.IsRank row.now at) }
+{
+    match row.get(at) {
+        Ok(rank) => Ok(rank),
+        Err(error) => Err(fault_of(error.into())),
+    }
+}
+
+fn body_at(row: &Row, at: usize) -> Result<Bytes, Fault>
+    ensures value { IfOk result (λ b. spec.text_in row.now at ≡ b) }
+    ensures told { OnStore result (¬ typed.IsBody row.now at) }
+{
+    match row.get(at) {
+        Ok(body) => Ok(Bytes::wrap(body)),
+        Err(error) => Err(fault_of(error.into())),
+    }
+}
+
+fn host_at(alloc: Global, row: &Row, at: usize) -> Result<HostName, Fault>
+    ensures value { IfOk result (λ t. spec.text_in row.now at ≡ t) }
+    ensures told { OnStore result (¬ typed.IsOf is_host_name row.now at) }
+{
+    match HostName::parse(alloc, text_at(row, at)?.as_str()) {
+        Ok(host) => Ok(host),
+        Err(fault) => Err(fault_of_text(fault)),
+    }
+}
+
+fn lang_at(alloc: Global, row: &Row, at: usize) -> Result<Lang, Fault>
+    ensures value { IfOk result (λ t. spec.text_in row.now at ≡ t) }
+    ensures told { OnStore result (¬ typed.IsOf is_lang row.now at) }
+{
+    match Lang::parse(alloc, text_at(row, at)?.as_str()) {
+        Ok(lang) => Ok(lang),
+        Err(fault) => Err(fault_of_text(fault)),
+    }
+}
+
+fn slug_at(alloc: Global, row: &Row, at: usize) -> Result<Slug, Fault>
+    ensures value { IfOk result (λ t. spec.text_in row.now at ≡ t) }
+    ensures told { OnStore result (¬ typed.IsOf is_slug row.now at) }
+{
+    match Slug::parse(alloc, text_at(row, at)?.as_str()) {
+        Ok(slug) => Ok(slug),
+        Err(fault) => Err(fault_of_text(fault)),
+    }
+}
+
+fn ref_at(alloc: Global, row: &Row, at: usize) -> Result<RefName, Fault>
+    ensures value { IfOk result (λ t. spec.text_in row.now at ≡ t) }
+    ensures told { OnStore result (¬ typed.IsOf is_ref_name row.now at) }
+{
+    match RefName::parse(alloc, text_at(row, at)?.as_str()) {
+        Ok(name) => Ok(name),
+        Err(fault) => Err(fault_of_text(fault)),
+    }
+}
+
+fn path_at(alloc: Global, row: &Row, at: usize) -> Result<PagePath, Fault>
+    ensures value { IfOk result (λ t. spec.text_in row.now at ≡ t) }
+    ensures told { OnStore result (¬ typed.IsOf is_page_path row.now at) }
+{
+    match PagePath::parse(alloc, text_at(row, at)?.as_str()) {
+        Ok(path) => Ok(path),
+        Err(fault) => Err(fault_of_text(fault)),
+    }
+}
+
+fn token_at(alloc: Global, row: &Row, at: usize) -> Result<Token, Fault>
+    ensures value { IfOk result (λ t. spec.text_in row.now at ≡ t) }
+    ensures told { OnStore result (¬ typed.IsOf is_token row.now at) }
+{
+    match Token::parse(alloc, text_at(row, at)?.as_str()) {
+        Ok(token) => Ok(token),
+        Err(fault) => Err(fault_of_text(fault)),
+    }
+}
+
+/// A record of a table.
+pub trait Record: Drop {
+    // How it is kept in its columns, and that it can be read from them.
+    ghost coding: { Coding Self };
+
+    ghost typed: { Self → Type 0 };
+
+    /// The record whose columns these are. `Store` where a column is not of its type.
+    fn read(alloc: Global, row: &Row) -> Result<Self, Fault>
+        ensures value { IfOk result (λ x. (y : Self) → row.now ≡ coding.encode y → x ≡ y) }
+        ensures told { (y : Self) → row.now ≡ coding.encode y → OnStore result (¬ typed y) };
+}
+
+impl Record for ProjectRow {
+    ghost coding = { spec.projects };
+
+    ghost typed = { typed.IsProject };
+
+    fn read(alloc: Global, row: &Row) -> Result<ProjectRow, Fault> {
+        Ok(ProjectRow {
+            host: host_at(alloc, row, 0)?,
+            main: lang_at(alloc, row, 1)?,
+            branch: ref_at(alloc, row, 2)?,
+            wkey: token_at(alloc, row, 3)?,
+            new_private: flag_at(row, 4)?,
+        })
+    }
+}
+
+impl Record for LangRow {
+    ghost coding = { spec.langs };
+
+    ghost typed = { typed.IsLanguage };
+
+    fn read(alloc: Global, row: &Row) -> Result<LangRow, Fault> {
+        Ok(LangRow {
+            host: host_at(alloc, row, 0)?,
+            lang: lang_at(alloc, row, 1)?,
+            place: number_at(row, 2)?,
+        })
+    }
+}
+
+fn version_in(alloc: Global, row: &Row) -> Result<Version, Fault>
+    ensures value { IfOk result (λ v. (y : VersionRow) → row.now ≡ spec.versions.encode y
+        → v ≡ y.version) }
+    ensures told { (y : VersionRow) → row.now ≡ spec.versions.encode y
+        → OnStore result (¬ typed.IsVersion y) }
+{
+    Ok(Version {
+        slug: slug_at(alloc, row, 1)?,
+        name: ref_at(alloc, row, 2)?,
+        kind: if flag_at(row, 3)? {
+            Kind::Tag
+        } else {
+            Kind::Branch
+        },
+        active: flag_at(row, 4)?,
+        hidden: flag_at(row, 5)?,
+        private: flag_at(row, 6)?,
+    })
+}
+
+impl Record for VersionRow {
+    ghost coding = { spec.versions };
+
+    ghost typed = { typed.IsVersion };
+
+    fn read(alloc: Global, row: &Row) -> Result<VersionRow, Fault> {
+        Ok(VersionRow {
+            host: host_at(alloc, row, 0)?,
+            version: version_in(alloc, row)?,
+        })
+    }
+}
+
+impl Record for PageRow {
+    ghost coding = { spec.pages };
+
+    ghost typed = { typed.IsPage };
+
+    fn read(alloc: Global, row: &Row) -> Result<PageRow, Fault> {
+        Ok(PageRow {
+            host: host_at(alloc, row, 0)?,
+            slug: slug_at(alloc, row, 1)?,
+            lang: lang_at(alloc, row, 2)?,
+            path: path_at(alloc, row, 3)?,
+            page: Page {
+                media: Text::wrap(text_at(row, 4)?),
+                body: body_at(row, 5)?,
+            },
+        })
+    }
+}
+
+impl Record for UsedRow {
+    ghost coding = { spec.used };
+
+    ghost typed = { typed.IsUsed };
+
+    fn read(alloc: Global, row: &Row) -> Result<UsedRow, Fault> {
+        Ok(UsedRow {
+            host: host_at(alloc, row, 0)?,
+            slug: slug_at(alloc, row, 1)?,
+            op: if flag_at(row, 2)? {
+                Operation::Upload
+            } else {
+                Operation::Push
+            },
+            retry: token_at(alloc, row, 3)?,
+            answer: Text::wrap(text_at(row, 4)?),
+        })
+    }
+}
+
+impl Record for PickRow {
+    ghost coding = { spec.picks };
+
+    ghost typed = { typed.IsPick };
+
+    fn read(alloc: Global, row: &Row) -> Result<PickRow, Fault> {
+        Ok(PickRow {
+            host: host_at(alloc, row, 0)?,
+            name: slug_at(alloc, row, 1)?,
+            rank: rank_at(row, 2)?,
+        })
+    }
+}
+
+impl Record for PassRow {
+    ghost coding = { spec.passes };
+
+    ghost typed = { typed.IsPass };
+
+    fn read(alloc: Global, row: &Row) -> Result<PassRow, Fault> {
+        Ok(PassRow {
+            host: host_at(alloc, row, 0)?,
+            pass: token_at(alloc, row, 1)?,
+        })
+    }
+}
+
+impl Record for HeldRow {
+    ghost coding = { spec.held };
+
+    ghost typed = { typed.IsHeld };
+
+    fn read(alloc: Global, row: &Row) -> Result<HeldRow, Fault> {
+        Ok(HeldRow {
+            host: host_at(alloc, row, 0)?,
+            pass: token_at(alloc, row, 1)?,
+            slug: slug_at(alloc, row, 2)?,
+        })
+    }
+}
+
+/// The record of the first row, where there is one.
+pub fn first<R: Record>(alloc: Global, rows: &[Row]) -> Result<Option<R>, Fault>
+    ensures value { IfOk result (λ o. (xs : List R) → rows.now ≡ map R.coding.encode xs
+        → o ≡ slice_get xs 0) }
+    ensures told { (xs : List R) → rows.now ≡ map R.coding.encode xs
+        → OnStore result (¬ AllByRecursion R.typed xs) }
+{
+    match rows.first() {
+        Some(row) => Ok(Some(R::read(alloc, row)?)),
+        None => Ok(None),
+    }
+}
+
+/// The records of all rows.
+pub fn all<R: Record>(alloc: Global, rows: &[Row]) -> Result<Vec<R>, Fault>
+    ensures value { IfOk result (λ v. (xs : List R) → rows.now ≡ map R.coding.encode xs
+        → v.items ≡ xs) }
+    ensures told { (xs : List R) → rows.now ≡ map R.coding.encode xs
+        → OnStore result (¬ AllByRecursion R.typed xs) }
+{
+    let mut found = Vec::new(alloc);
+    for row in rows {
+        found.push(R::read(alloc, row)?)?;
+    }
+    Ok(found)
+}

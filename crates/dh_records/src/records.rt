@@ -1,0 +1,92 @@
+//! The records, one type for each table.
+
+ghost use Rattle.std.specs.Prelude.{◌≡◌};
+ghost use Rattle.dh_records.specs.Codings as coding;
+
+use dh_paths::{HostName, Lang, PagePath, RefName, Slug, Text, Token};
+use dh_reply::Page;
+use dh_versions::{Kind, Version};
+use dh_world::Operation;
+
+/// A project, but for its lists.
+#[derive(Drop)]
+pub struct ProjectRow {
+    pub host: HostName,
+    /// The language that its own addresses lead to.
+    pub main: Lang,
+    /// The name of the default branch.
+    pub branch: RefName,
+    /// The key that pushes and uploads carry.
+    pub wkey: Token,
+    /// Whether a new version is private.
+    pub new_private: bool,
+}
+
+/// A language of a project.
+#[derive(Drop)]
+pub struct LangRow {
+    pub host: HostName,
+    pub lang: Lang,
+    /// From 1, which is the main one's.
+    pub place: u32,
+}
+
+/// A version under its host.
+#[derive(Drop)]
+pub struct VersionRow {
+    pub host: HostName,
+    pub version: Version,
+}
+
+/// A page under its host.
+#[derive(Drop)]
+pub struct PageRow {
+    pub host: HostName,
+    pub slug: Slug,
+    pub lang: Lang,
+    pub path: PagePath,
+    pub page: Page,
+}
+
+/// A name in a project's list of defaults.
+#[derive(Drop)]
+pub struct PickRow {
+    pub host: HostName,
+    /// The slug of a version, or the name of an alias.
+    pub name: Slug,
+    /// From 1, which is the newest's.
+    pub rank: u64,
+}
+
+/// A pass of a project.
+#[derive(Drop)]
+pub struct PassRow {
+    pub host: HostName,
+    pub pass: Token,
+}
+
+/// A grant: the pass opens the version.
+#[derive(Drop)]
+pub struct HeldRow {
+    pub host: HostName,
+    pub pass: Token,
+    pub slug: Slug,
+}
+
+/// Whether a version was made of a tag, as its column says it.
+pub fn is_tag(kind: Kind) -> bool
+    ensures { result ≡ coding.is_tag kind }
+{
+    kind == Kind::Tag
+}
+
+/// The first answer to a retry key.
+#[derive(Drop)]
+pub struct UsedRow {
+    pub host: HostName,
+    pub slug: Slug,
+    pub op: Operation,
+    pub retry: Token,
+    /// As JSON.
+    pub answer: Text,
+}

@@ -1,0 +1,80 @@
+-- What a call on the tables leaves, in the words of `dh_rows`, over the lists that the tables spell.
+use Rattle.std.specs.Prelude.{◌≡◌, ◌⊎◌, ℕ, List, false, map, Result, Vec, IfOk, OnOk}
+use Rattle.std.specs.List.{AllByRecursion}
+use Rattle.sqlite_value.specs.Order.{Row}
+use Rattle.sqlite_trees.specs.declared.store.Store.{Ghosts}
+use Rattle.sqlite.specs.State.{State, HasCleanDisk}
+use Rattle.sqlite.specs.Held.{Held, state}
+use Rattle.dh_reply.specs.Faults.{OnStore}
+use Rattle.dh_reply.specs.declared.fault.Fault.{Fault}
+use Rattle.dh_rows.specs.Calls.{AreRows, IsHonest, IsBlamed, IsUnfit, Goes, GoesWithin, Stays, Refuses, Sees, CommitsAtMost, seen, committed}
+use Rattle.dh_records.specs.Lists.{Lists}
+use Rattle.dh_schema.specs.Tables.{lists_of}
+
+-- each list of rows that answers the text is that of these records
+abbrev pub AreAsked : {R : Type 0} → (R → Row) → State → List ℕ → Row → List R → Type 0
+AreAsked encode s sql params xs = (rows : List Row) → AreRows s sql params rows → rows ≡ map encode xs
+
+-- The query does not fit, or a record that it asks for is not of its types.
+abbrev pub IsUnread
+    : {R : Type 0} → (R → Row) → (R → Type 0) → State → List ℕ → Row → Type 0
+IsUnread encode typed s sql params =
+    IsUnfit s sql params
+    ⊎ ((xs : List _) → AreAsked encode s sql params xs → ¬ AllByRecursion typed xs)
+
+module _ {S : Type 0} (g : Ghosts S) where
+  -- The committed tables stay those that they were, whatever stands in them.
+  abbrev pub KeepsSchema : Held S → Held S → Type 0
+  KeepsSchema old new =
+      IsHonest g new → (state g new).committed.schema ≡ (state g old).committed.schema
+
+  -- no transaction is open, and what is seen was committed
+  pub record IsSettled (h : Held S) : Type 0 where
+    pub outside : h.in_transaction ≡ false
+    pub same : seen g lists_of h ≡ committed g lists_of h
+
+  module _ {T : Type 0} (old new : Held S) (result : Result T Fault) where
+    -- The store failed in the call, or was shut before it, or P holds.
+    abbrev pub Blames : Type 0 → Type 0
+    Blames P = HasCleanDisk (state g new) → OnStore result (IsBlamed g old new ⊎ P)
+
+    -- What a look leaves, whatever it answers.
+    pub record Asks : Type 0 where
+      -- nothing is committed, and a crash leaves nothing more
+      pub goes : Goes g old new
+      -- one that was answered was at an honest store, and left all as it was
+      pub same : Stays g lists_of old new result
+      -- one that was refused did too, or within a transaction undid all since its begin
+      pub err : Refuses g lists_of old new result
+      -- `Store` is told for a fault of the store alone
+      pub told : Blames ⊥
+
+    -- What a change of the lists leaves, whatever it answers.
+    pub record Writes (change : Lists → Lists) : Type 0 where
+      -- within a transaction nothing is committed, and a crash leaves nothing more
+      pub goes : GoesWithin g old new
+      -- one that was answered changed what is seen, and outside a transaction committed it
+      pub sees : OnOk result (Sees g lists_of old new (change (seen g lists_of old)))
+      -- one that was refused left all as it was, or undid the transaction
+      pub err : Refuses g lists_of old new result
+      -- a crash leaves what it could leave before, or outside a transaction the changed lists
+      pub crash : CommitsAtMost g lists_of old new (change (seen g lists_of old))
+
+    -- The same of changes in turn, within a transaction. If it is refused, some may be made.
+    pub record WritesWithin (change : Lists → Lists) : Type 0 where
+      pub goes : Goes g old new
+      pub sees : OnOk result (Sees g lists_of old new (change (seen g lists_of old)))
+
+  module _ {T E : Type 0} (old new : Held S) (result : Result T E) where
+    -- Where the store is honest, an answer and the records before stand so to each other.
+    abbrev pub Learns : (Lists → T → Type 0) → Type 0
+    Learns fact = IsHonest g new → IfOk result (fact (seen g lists_of old))
+
+    -- Where the store is honest, an answer is this of the records before.
+    abbrev pub Reads : (Lists → T) → Type 0
+    Reads value = Learns (λ l read. read ≡ value l)
+
+  -- the same of a list
+  abbrev pub ReadsAll
+      : {U Z E : Type 0} → Held S → Held S → Result (Vec U Z) E → (Lists → List U) → Type 0
+  ReadsAll old new result value = Learns old new result (λ l read. read.items ≡ value l)

@@ -1,0 +1,4 @@
+pub mod Tables
+pub mod Calling
+pub mod InTurn
+pub mod Making

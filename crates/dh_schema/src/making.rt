@@ -1,0 +1,233 @@
+//! Making the tables, one after the other.
+
+ghost use Rattle.std.specs.Prelude.{◌≡◌, ◌↔◌, [], ◌∷◌, IsTrue, OnOk, OnErr};
+ghost use Rattle.sqlite.specs.Held.{state};
+ghost use Rattle.sqlite.specs.State.{HasCleanDisk};
+ghost use Rattle.dh_rows.specs.Calls.{IsHonest, Lasts, Begins, Commits, Refuses, whole};
+ghost use Rattle.dh_rows.specs.Places.{IsFree, IsUnmentioned, ArePlaced};
+ghost use Rattle.dh_schema.specs.Making.{CanMake, IsReady, IsMade, Builds, BuildsOne, AreCommitted, CommitsNothing, our_tables, from_meta, from_project, from_lang, from_version, from_page, from_used, from_pick, from_pass, from_holds, upto_meta, upto_project, upto_lang, upto_version, upto_page, upto_used, upto_pick, upto_pass, upto_holds};
+
+use crate::query::write;
+use dh_records::fault_of;
+use dh_reply::Fault;
+use dh_rows::{is_free, is_unmentioned, keeps_counts};
+use sqlite::{Alter, Connection, params};
+use sqlite_schema::schema::Schema;
+
+fn make_meta<S: Alter>(conn: &mut Connection<S>) -> Result<(), Fault>
+    requires { IsHonest S.Store conn.old
+        → IsReady [] from_meta (state S.Store conn.old).now }
+    ensures builds { BuildsOne S.Store conn.old conn.new result (IsReady upto_meta from_project) }
+{
+    write(
+        conn,
+        "CREATE TABLE meta (schema INTEGER NOT NULL) STRICT",
+        &[],
+    )
+}
+
+fn make_project<S: Alter>(conn: &mut Connection<S>) -> Result<(), Fault>
+    requires { IsHonest S.Store conn.old
+        → IsReady upto_meta from_project (state S.Store conn.old).now }
+    ensures builds { BuildsOne S.Store conn.old conn.new result (IsReady upto_project from_lang) }
+{
+    write(
+        conn,
+        "CREATE TABLE project (host TEXT NOT NULL, main TEXT NOT NULL, branch TEXT NOT NULL, wkey TEXT NOT NULL, private INTEGER NOT NULL, PRIMARY KEY (host)) STRICT",
+        &[],
+    )
+}
+
+fn make_lang<S: Alter>(conn: &mut Connection<S>) -> Result<(), Fault>
+    requires { IsHonest S.Store conn.old
+        → IsReady upto_project from_lang (state S.Store conn.old).now }
+    ensures builds { BuildsOne S.Store conn.old conn.new result (IsReady upto_lang from_version) }
+{
+    write(
+        conn,
+        "CREATE TABLE lang (host TEXT NOT NULL, lang TEXT NOT NULL, place INTEGER NOT NULL, PRIMARY KEY (host, lang)) STRICT",
+        &[],
+    )
+}
+
+fn make_version<S: Alter>(conn: &mut Connection<S>) -> Result<(), Fault>
+    requires { IsHonest S.Store conn.old
+        → IsReady upto_lang from_version (state S.Store conn.old).now }
+    ensures builds { BuildsOne S.Store conn.old conn.new result (IsReady upto_version from_page) }
+{
+    write(
+        conn,
+        "CREATE TABLE version (host TEXT NOT NULL, slug TEXT NOT NULL, name TEXT NOT NULL, kind INTEGER NOT NULL, active INTEGER NOT NULL, hidden INTEGER NOT NULL, private INTEGER NOT NULL, PRIMARY KEY (host, slug)) STRICT",
+        &[],
+    )
+}
+
+fn make_page<S: Alter>(conn: &mut Connection<S>) -> Result<(), Fault>
+    requires { IsHonest S.Store conn.old
+        → IsReady upto_version from_page (state S.Store conn.old).now }
+    ensures builds { BuildsOne S.Store conn.old conn.new result (IsReady upto_page from_used) }
+{
+    write(
+        conn,
+        "CREATE TABLE page (host TEXT NOT NULL, slug TEXT NOT NULL, lang TEXT NOT NULL, path TEXT NOT NULL, media TEXT NOT NULL, body BLOB NOT NULL, PRIMARY KEY (host, slug, lang, path)) STRICT",
+        &[],
+    )
+}
+
+fn make_used<S: Alter>(conn: &mut Connection<S>) -> Result<(), Fault>
+    requires { IsHonest S.Store conn.old
+        → IsReady upto_page from_used (state S.Store conn.old).now }
+    ensures builds { BuildsOne S.Store conn.old conn.new result (IsReady upto_used from_pick) }
+{
+    write(
+        conn,
+        "CREATE TABLE used (host TEXT NOT NULL, slug TEXT NOT NULL, op INTEGER NOT NULL, retry TEXT NOT NULL, answer TEXT NOT NULL, PRIMARY KEY (host, slug, op, retry)) STRICT",
+        &[],
+    )
+}
+
+fn make_pick<S: Alter>(conn: &mut Connection<S>) -> Result<(), Fault>
+    requires { IsHonest S.Store conn.old
+        → IsReady upto_used from_pick (state S.Store conn.old).now }
+    ensures builds { BuildsOne S.Store conn.old conn.new result (IsReady upto_pick from_pass) }
+{
+    write(
+        conn,
+        "CREATE TABLE pick (host TEXT NOT NULL, name TEXT NOT NULL, rank INTEGER NOT NULL, PRIMARY KEY (host, name)) STRICT",
+        &[],
+    )
+}
+
+fn make_pass<S: Alter>(conn: &mut Connection<S>) -> Result<(), Fault>
+    requires { IsHonest S.Store conn.old
+        → IsReady upto_pick from_pass (state S.Store conn.old).now }
+    ensures builds { BuildsOne S.Store conn.old conn.new result (IsReady upto_pass from_holds) }
+{
+    write(
+        conn,
+        "CREATE TABLE pass (host TEXT NOT NULL, pass TEXT NOT NULL, PRIMARY KEY (host, pass)) STRICT",
+        &[],
+    )
+}
+
+fn make_holds<S: Alter>(conn: &mut Connection<S>) -> Result<(), Fault>
+    requires { IsHonest S.Store conn.old
+        → IsReady upto_pass from_holds (state S.Store conn.old).now }
+    ensures builds { BuildsOne S.Store conn.old conn.new result (IsReady upto_holds []) }
+{
+    write(
+        conn,
+        "CREATE TABLE holds (host TEXT NOT NULL, pass TEXT NOT NULL, slug TEXT NOT NULL, PRIMARY KEY (host, pass, slug)) STRICT",
+        &[],
+    )
+}
+
+/// Writes the number of the schema.
+fn number<S: Alter>(conn: &mut Connection<S>) -> Result<(), Fault>
+    requires { IsHonest S.Store conn.old
+        → IsReady upto_holds [] (state S.Store conn.old).now }
+    ensures builds { BuildsOne S.Store conn.old conn.new result IsMade }
+{
+    write(conn, "INSERT INTO meta VALUES (?1)", params![1i64])
+}
+
+fn make_first<S: Alter>(conn: &mut Connection<S>) -> Result<(), Fault>
+    requires { IsHonest S.Store conn.old
+        → IsReady [] from_meta (state S.Store conn.old).now }
+    ensures builds { Builds S.Store conn.old conn.new result (IsReady upto_lang from_version) }
+{
+    make_meta(conn)?;
+    make_project(conn)?;
+    make_lang(conn)
+}
+
+fn make_second<S: Alter>(conn: &mut Connection<S>) -> Result<(), Fault>
+    requires { IsHonest S.Store conn.old
+        → IsReady upto_lang from_version (state S.Store conn.old).now }
+    ensures builds { Builds S.Store conn.old conn.new result (IsReady upto_used from_pick) }
+{
+    make_version(conn)?;
+    make_page(conn)?;
+    make_used(conn)
+}
+
+fn make_rest<S: Alter>(conn: &mut Connection<S>) -> Result<(), Fault>
+    requires { IsHonest S.Store conn.old
+        → IsReady upto_used from_pick (state S.Store conn.old).now }
+    ensures builds { Builds S.Store conn.old conn.new result IsMade }
+{
+    make_pick(conn)?;
+    make_pass(conn)?;
+    make_holds(conn)?;
+    number(conn)
+}
+
+/// Makes the tables, with no record in them.
+pub fn make_tables<S: Alter>(conn: &mut Connection<S>) -> Result<(), Fault>
+    requires { IsHonest S.Store conn.old
+        → IsReady [] our_tables (state S.Store conn.old).now }
+    ensures builds { Builds S.Store conn.old conn.new result IsMade }
+{
+    make_first(conn)?;
+    make_second(conn)?;
+    make_rest(conn)
+}
+
+fn can_have(schema: &Schema, name: &[u8]) -> bool
+    ensures { IsTrue result ↔ (IsFree schema.now name.now × IsUnmentioned schema.now name.now) }
+{
+    is_free(schema, name) && is_unmentioned(schema, name)
+}
+
+/// Whether the tables can be made among those that are there.
+pub fn can_make(schema: &Schema) -> bool
+    ensures { IsTrue result ↔ CanMake schema.now }
+{
+    can_have(schema, b"meta")
+        && can_have(schema, b"project")
+        && can_have(schema, b"lang")
+        && can_have(schema, b"version")
+        && can_have(schema, b"page")
+        && can_have(schema, b"used")
+        && can_have(schema, b"pick")
+        && can_have(schema, b"pass")
+        && can_have(schema, b"holds")
+        && keeps_counts(schema)
+}
+
+/// Makes the tables in a transaction of their own.
+pub fn make_at_once<S: Alter>(conn: &mut Connection<S>) -> Result<(), Fault>
+    requires can { CanMake (state S.Store conn.old).now.schema }
+    requires placed { IsHonest S.Store conn.old → ArePlaced (state S.Store conn.old).now.schema }
+    ensures lasts { Lasts S.Store conn.old conn.new }
+    ensures ok { IsHonest S.Store conn.old → HasCleanDisk (state S.Store conn.new)
+        → OnOk result (AreCommitted S.Store conn.new) }
+    ensures err { IsHonest S.Store conn.new
+        → OnErr result (CommitsNothing S.Store conn.old conn.new) }
+{
+    begin(conn)?;
+    make_tables(conn)?;
+    commit(conn)
+}
+
+fn begin<S: Alter>(conn: &mut Connection<S>) -> Result<(), Fault>
+    ensures lasts { Lasts S.Store conn.old conn.new }
+    ensures begun { Begins S.Store whole conn.old conn.new result }
+    ensures err { Refuses S.Store whole conn.old conn.new result }
+{
+    match dh_rows::begin(conn) {
+        Ok(()) => Ok(()),
+        Err(fault) => Err(fault_of(fault)),
+    }
+}
+
+fn commit<S: Alter>(conn: &mut Connection<S>) -> Result<(), Fault>
+    ensures lasts { Lasts S.Store conn.old conn.new }
+    ensures committed { Commits S.Store whole conn.old conn.new result }
+    ensures err { Refuses S.Store whole conn.old conn.new result }
+{
+    match dh_rows::commit(conn) {
+        Ok(()) => Ok(()),
+        Err(fault) => Err(fault_of(fault)),
+    }
+}

@@ -1,0 +1,48 @@
+-- What the WHERE of our statements tests.
+use Rattle.std.proofs.Common.{◌≡◌, ℕ, List, Bool, true, false, cond, Some, refl, ◌∙◌}
+use Rattle.std.proofs.lemmas.Map.Text.{is_eq-slice_cmp}
+use Rattle.std.specs.Str.{bytes_eq}
+use Rattle.sqlite_value.specs.declared.keys.Collation.TheVariants.{Binary}
+use Rattle.sqlite_value.specs.declared.value.Value.TheVariants.{Text}
+use Rattle.sqlite_value.specs.Order.{value_cmp}
+use Rattle.sqlite_value.proofs.OrderLemmas.{value_cmp-Text}
+use Rattle.sqlite_sql.specs.declared.ops.BinaryOp.TheVariants.{Compare}
+use Rattle.sqlite_sql.specs.declared.ops.CompareOp.TheVariants.{Eq}
+use Rattle.sqlite_sql.specs.Ops.{binary, is_true, from_truth}
+use Rattle.dh_rows.specs.Keyed.{flag, is_set}
+use Rattle.dh_versions.specs.declared.version.Kind.{Kind}
+use Rattle.dh_versions.specs.declared.version.Kind.TheVariants.{Branch, Tag}
+use Rattle.dh_records.specs.Codings.{is_tag}
+use Rattle.dh_world.specs.World.{is_upload}
+use Rattle.dh_records.specs.Lists.{same_op}
+use Rattle.dh_world.specs.declared.operation.Operation.{Operation}
+use Rattle.dh_world.specs.declared.operation.Operation.TheVariants.{Push, Upload}
+
+truth : (b : Bool) → is_true (from_truth (Some b)) ≡ b
+truth true = refl
+truth false = refl
+
+pub equal_text : (a b : List ℕ) → is_true (binary (Compare Eq Binary) (Text a) (Text b)) ≡ bytes_eq a b
+unfolding binary
+equal_text a b = rw (value_cmp-Text a b) (truth _ ∙ is_eq-slice_cmp a b)
+
+pub equal_op : (a b : Operation) → is_true (binary (Compare Eq Binary) (flag (is_upload a)) (flag (is_upload b))) ≡ same_op a b
+unfolding binary value_cmp lib.Ieee.is_nan lib.Ieee.lt
+equal_op Push Push = refl
+equal_op Push Upload = refl
+equal_op Upload Push = refl
+equal_op Upload Upload = refl
+
+-- ---- what is read is what was kept
+
+pub flag_back : (b : Bool) → is_set (flag b) ≡ b
+flag_back true = refl
+flag_back false = refl
+
+pub kind_back : (k : Kind) → cond (is_set (flag (is_tag k))) Tag Branch ≡ k
+kind_back Branch = refl
+kind_back Tag = refl
+
+pub op_back : (o : Operation) → cond (is_set (flag (is_upload o))) Upload Push ≡ o
+op_back Push = refl
+op_back Upload = refl

@@ -1,0 +1,757 @@
+-- What our statements ask and do.
+use Rattle.std.proofs.Common.{◌≡◌, ℕ, ℤ, pos, List, [], ◌∷◌, map, filter, not, codes, false, Some, refl, sym, subst, ◌∙◌}
+use Rattle.std.specs.List.{AllByRecursion}
+use Rattle.std.specs.Str.{bytes_eq}
+use Rattle.sqlite_schema.specs.declared.schema.Table.{Table}
+use Rattle.sqlite_schema.specs.Names.{same_name}
+use Rattle.sqlite_value.specs.declared.value.Value.TheVariants.{Null, Int, Text}
+use Rattle.sqlite_value.specs.Keys.{first_key}
+use Rattle.std.proofs.lemmas.Bool.{and_parts}
+use Rattle.sqlite_sql.specs.Term.{Term, lit, col}
+use Rattle.sqlite_schema.specs.declared.schema.Schema.{Schema}
+use Rattle.sqlite_tied.specs.Compute.{everything}
+use Rattle.sqlite.specs.Effect.{Database}
+use Rattle.sqlite.specs.State.{State}
+use Rattle.dh_rows.specs.Keyed.{IsFreeKey, added, put, flag}
+use Rattle.dh_rows.proofs.Effects.{IsSimple, Turns, other_keeps}
+use Rattle.dh_rows.proofs.Texts.{ArePlain}
+use Rattle.dh_rows.proofs.Read.{delete_of, select_of, parameters_in, insert_of}
+use Rattle.dh_rows.proofs.Asks.{Writes, Answers, delete, insert, upsert, select}
+use Rattle.dh_rows.proofs.Equal.{tied_is, alike_text, equal_text as same_text}
+use Rattle.dh_rows.proofs.Upsert.{IsUpsert, puts, IsKeyOf, Fits}
+use Rattle.dh_records.specs.declared.records.ProjectRow.{ProjectRow}
+use Rattle.dh_records.specs.declared.records.LangRow.{LangRow}
+use Rattle.dh_records.specs.declared.records.VersionRow.{VersionRow}
+use Rattle.dh_records.specs.declared.records.PageRow.{PageRow}
+use Rattle.dh_records.specs.declared.records.UsedRow.{UsedRow}
+use Rattle.dh_records.specs.declared.records.PickRow.{PickRow}
+use Rattle.dh_records.specs.declared.records.PassRow.{PassRow}
+use Rattle.dh_records.specs.declared.records.HeldRow.{HeldRow}
+use Rattle.dh_world.specs.declared.operation.Operation.{Operation}
+use Rattle.dh_world.specs.World.{is_upload}
+use Rattle.dh_records.specs.Typed.{AreTyped, IsProject, IsLanguage, IsVersion, IsPage, IsUsed, IsPick, IsPass, IsHeld}
+use Rattle.dh_records.specs.Codings.{projects, langs, versions, pages, used, picks, passes, held}
+use Rattle.dh_schema.specs.Tables.{Holds, lists_of, meta, meta_table, project_table, lang_table, version_table, page_table, used_table, pick_table, pass_table, holds_table}
+use Rattle.dh_records.specs.Lists.{is_project, is_lang_of, is_version_of, is_version, is_page_of, is_page_in, is_page, is_used, same_op, is_pick_of, is_pass_of, is_pass, is_held, is_held_by, is_held_on}
+use Rattle.dh_store.proofs.Kept.{all_kept, all_added, all_put}
+use Rattle.dh_store.proofs.Matching.{equal_text, equal_op, flag_back, kind_back, op_back}
+use Rattle.dh_records.proofs.Keys.{one, two, three, four}
+use Rattle.dh_schema.proofs.CallLemmas.{Changed}
+
+-- no other table has the name
+abbrev IsApart : Table → List Table → Type 0
+IsApart t others = AllByRecursion (λ u. same_name u.name t.name ≡ false) others
+
+-- ---- project
+
+project_simple : IsSimple project_table
+project_simple = refl
+
+project_plain : ArePlain project_table.columns
+project_plain = ((refl, refl), ((refl, refl), ((refl, refl), ((refl, refl), ((refl, refl), tt)))))
+
+project_back : (x : ProjectRow) (n : ℤ) → projects.decode (Int n ∷ projects.encode x) ≡ x
+project_back x n = rw (flag_back x.new_private) refl
+
+project_apart : IsApart project_table (meta_table ∷ lang_table ∷ version_table ∷ page_table ∷ used_table ∷ pick_table ∷ pass_table ∷ holds_table ∷ [])
+unfolding everything
+project_apart = (refl, (refl, (refl, (refl, (refl, (refl, (refl, (refl, tt))))))))
+
+-- the other tables keep their records
+project_changed : (db after : Database) (change : List ProjectRow → List ProjectRow) → ((xs : List ProjectRow) → AllByRecursion IsProject xs → AllByRecursion IsProject (change xs)) → Holds db → Turns project_table projects change db after → Changed db after (λ l. record l { projects = change l.projects })
+project_changed db after change typed had it =
+    let m = other_keeps it meta_table meta had.meta project_apart.0 in
+    let lang = other_keeps it lang_table langs had.langs project_apart.1.0 in
+    let version = other_keeps it version_table versions had.versions project_apart.1.1.0 in
+    let page = other_keeps it page_table pages had.pages project_apart.1.1.1.0 in
+    let used = other_keeps it used_table used had.used project_apart.1.1.1.1.0 in
+    let pick = other_keeps it pick_table picks had.picks project_apart.1.1.1.1.1.0 in
+    let pass = other_keeps it pass_table passes had.passes project_apart.1.1.1.1.1.1.0 in
+    let holds = other_keeps it holds_table held had.held project_apart.1.1.1.1.1.1.1.0 in
+    let lists : lists_of after ≡ record (lists_of db) { projects = change (lists_of db).projects } = λ i. record { projects = it.records i; langs = lang.1 i; versions = version.1 i; pages = page.1 i; used = used.1 i; picks = pick.1 i; passes = pass.1 i; held = holds.1 i } in
+    record {
+      holds = record { meta = m.0; number = m.1 ∙ had.number; projects = it.keeps; langs = lang.0; versions = version.0; pages = page.0; used = used.0; picks = pick.0; passes = pass.0; held = holds.0; typed = subst AreTyped (sym lists) (record { projects = typed _ had.typed.projects; langs = had.typed.langs; versions = had.typed.versions; pages = had.typed.pages; used = had.typed.used; picks = had.typed.picks; passes = had.typed.passes; held = had.typed.held }) };
+      schema = it.schema;
+      lists = lists;
+    }
+
+-- ---- lang
+
+lang_simple : IsSimple lang_table
+lang_simple = refl
+
+lang_plain : ArePlain lang_table.columns
+lang_plain = ((refl, refl), ((refl, refl), ((refl, refl), tt)))
+
+lang_back : (x : LangRow) (n : ℤ) → langs.decode (Int n ∷ langs.encode x) ≡ x
+lang_back x n = refl
+
+lang_apart : IsApart lang_table (meta_table ∷ project_table ∷ version_table ∷ page_table ∷ used_table ∷ pick_table ∷ pass_table ∷ holds_table ∷ [])
+unfolding everything
+lang_apart = (refl, (refl, (refl, (refl, (refl, (refl, (refl, (refl, tt))))))))
+
+-- the other tables keep their records
+lang_changed : (db after : Database) (change : List LangRow → List LangRow) → ((xs : List LangRow) → AllByRecursion IsLanguage xs → AllByRecursion IsLanguage (change xs)) → Holds db → Turns lang_table langs change db after → Changed db after (λ l. record l { langs = change l.langs })
+lang_changed db after change typed had it =
+    let m = other_keeps it meta_table meta had.meta lang_apart.0 in
+    let project = other_keeps it project_table projects had.projects lang_apart.1.0 in
+    let version = other_keeps it version_table versions had.versions lang_apart.1.1.0 in
+    let page = other_keeps it page_table pages had.pages lang_apart.1.1.1.0 in
+    let used = other_keeps it used_table used had.used lang_apart.1.1.1.1.0 in
+    let pick = other_keeps it pick_table picks had.picks lang_apart.1.1.1.1.1.0 in
+    let pass = other_keeps it pass_table passes had.passes lang_apart.1.1.1.1.1.1.0 in
+    let holds = other_keeps it holds_table held had.held lang_apart.1.1.1.1.1.1.1.0 in
+    let lists : lists_of after ≡ record (lists_of db) { langs = change (lists_of db).langs } = λ i. record { projects = project.1 i; langs = it.records i; versions = version.1 i; pages = page.1 i; used = used.1 i; picks = pick.1 i; passes = pass.1 i; held = holds.1 i } in
+    record {
+      holds = record { meta = m.0; number = m.1 ∙ had.number; projects = project.0; langs = it.keeps; versions = version.0; pages = page.0; used = used.0; picks = pick.0; passes = pass.0; held = holds.0; typed = subst AreTyped (sym lists) (record { projects = had.typed.projects; langs = typed _ had.typed.langs; versions = had.typed.versions; pages = had.typed.pages; used = had.typed.used; picks = had.typed.picks; passes = had.typed.passes; held = had.typed.held }) };
+      schema = it.schema;
+      lists = lists;
+    }
+
+-- ---- version
+
+version_simple : IsSimple version_table
+version_simple = refl
+
+version_plain : ArePlain version_table.columns
+version_plain = ((refl, refl), ((refl, refl), ((refl, refl), ((refl, refl), ((refl, refl), ((refl, refl), ((refl, refl), tt)))))))
+
+version_back : (x : VersionRow) (n : ℤ) → versions.decode (Int n ∷ versions.encode x) ≡ x
+version_back x n = rw (kind_back x.version.kind, flag_back x.version.active, flag_back x.version.hidden, flag_back x.version.private) refl
+
+version_apart : IsApart version_table (meta_table ∷ project_table ∷ lang_table ∷ page_table ∷ used_table ∷ pick_table ∷ pass_table ∷ holds_table ∷ [])
+unfolding everything
+version_apart = (refl, (refl, (refl, (refl, (refl, (refl, (refl, (refl, tt))))))))
+
+-- the other tables keep their records
+version_changed : (db after : Database) (change : List VersionRow → List VersionRow) → ((xs : List VersionRow) → AllByRecursion IsVersion xs → AllByRecursion IsVersion (change xs)) → Holds db → Turns version_table versions change db after → Changed db after (λ l. record l { versions = change l.versions })
+version_changed db after change typed had it =
+    let m = other_keeps it meta_table meta had.meta version_apart.0 in
+    let project = other_keeps it project_table projects had.projects version_apart.1.0 in
+    let lang = other_keeps it lang_table langs had.langs version_apart.1.1.0 in
+    let page = other_keeps it page_table pages had.pages version_apart.1.1.1.0 in
+    let used = other_keeps it used_table used had.used version_apart.1.1.1.1.0 in
+    let pick = other_keeps it pick_table picks had.picks version_apart.1.1.1.1.1.0 in
+    let pass = other_keeps it pass_table passes had.passes version_apart.1.1.1.1.1.1.0 in
+    let holds = other_keeps it holds_table held had.held version_apart.1.1.1.1.1.1.1.0 in
+    let lists : lists_of after ≡ record (lists_of db) { versions = change (lists_of db).versions } = λ i. record { projects = project.1 i; langs = lang.1 i; versions = it.records i; pages = page.1 i; used = used.1 i; picks = pick.1 i; passes = pass.1 i; held = holds.1 i } in
+    record {
+      holds = record { meta = m.0; number = m.1 ∙ had.number; projects = project.0; langs = lang.0; versions = it.keeps; pages = page.0; used = used.0; picks = pick.0; passes = pass.0; held = holds.0; typed = subst AreTyped (sym lists) (record { projects = had.typed.projects; langs = had.typed.langs; versions = typed _ had.typed.versions; pages = had.typed.pages; used = had.typed.used; picks = had.typed.picks; passes = had.typed.passes; held = had.typed.held }) };
+      schema = it.schema;
+      lists = lists;
+    }
+
+-- ---- page
+
+page_simple : IsSimple page_table
+page_simple = refl
+
+page_plain : ArePlain page_table.columns
+page_plain = ((refl, refl), ((refl, refl), ((refl, refl), ((refl, refl), ((refl, refl), ((refl, refl), tt))))))
+
+page_back : (x : PageRow) (n : ℤ) → pages.decode (Int n ∷ pages.encode x) ≡ x
+page_back x n = refl
+
+page_apart : IsApart page_table (meta_table ∷ project_table ∷ lang_table ∷ version_table ∷ used_table ∷ pick_table ∷ pass_table ∷ holds_table ∷ [])
+unfolding everything
+page_apart = (refl, (refl, (refl, (refl, (refl, (refl, (refl, (refl, tt))))))))
+
+-- the other tables keep their records
+page_changed : (db after : Database) (change : List PageRow → List PageRow) → ((xs : List PageRow) → AllByRecursion IsPage xs → AllByRecursion IsPage (change xs)) → Holds db → Turns page_table pages change db after → Changed db after (λ l. record l { pages = change l.pages })
+page_changed db after change typed had it =
+    let m = other_keeps it meta_table meta had.meta page_apart.0 in
+    let project = other_keeps it project_table projects had.projects page_apart.1.0 in
+    let lang = other_keeps it lang_table langs had.langs page_apart.1.1.0 in
+    let version = other_keeps it version_table versions had.versions page_apart.1.1.1.0 in
+    let used = other_keeps it used_table used had.used page_apart.1.1.1.1.0 in
+    let pick = other_keeps it pick_table picks had.picks page_apart.1.1.1.1.1.0 in
+    let pass = other_keeps it pass_table passes had.passes page_apart.1.1.1.1.1.1.0 in
+    let holds = other_keeps it holds_table held had.held page_apart.1.1.1.1.1.1.1.0 in
+    let lists : lists_of after ≡ record (lists_of db) { pages = change (lists_of db).pages } = λ i. record { projects = project.1 i; langs = lang.1 i; versions = version.1 i; pages = it.records i; used = used.1 i; picks = pick.1 i; passes = pass.1 i; held = holds.1 i } in
+    record {
+      holds = record { meta = m.0; number = m.1 ∙ had.number; projects = project.0; langs = lang.0; versions = version.0; pages = it.keeps; used = used.0; picks = pick.0; passes = pass.0; held = holds.0; typed = subst AreTyped (sym lists) (record { projects = had.typed.projects; langs = had.typed.langs; versions = had.typed.versions; pages = typed _ had.typed.pages; used = had.typed.used; picks = had.typed.picks; passes = had.typed.passes; held = had.typed.held }) };
+      schema = it.schema;
+      lists = lists;
+    }
+
+-- ---- used
+
+used_simple : IsSimple used_table
+used_simple = refl
+
+used_plain : ArePlain used_table.columns
+used_plain = ((refl, refl), ((refl, refl), ((refl, refl), ((refl, refl), ((refl, refl), tt)))))
+
+used_back : (x : UsedRow) (n : ℤ) → used.decode (Int n ∷ used.encode x) ≡ x
+used_back x n = rw (op_back x.op) refl
+
+used_apart : IsApart used_table (meta_table ∷ project_table ∷ lang_table ∷ version_table ∷ page_table ∷ pick_table ∷ pass_table ∷ holds_table ∷ [])
+unfolding everything
+used_apart = (refl, (refl, (refl, (refl, (refl, (refl, (refl, (refl, tt))))))))
+
+-- the other tables keep their records
+used_changed : (db after : Database) (change : List UsedRow → List UsedRow) → ((xs : List UsedRow) → AllByRecursion IsUsed xs → AllByRecursion IsUsed (change xs)) → Holds db → Turns used_table used change db after → Changed db after (λ l. record l { used = change l.used })
+used_changed db after change typed had it =
+    let m = other_keeps it meta_table meta had.meta used_apart.0 in
+    let project = other_keeps it project_table projects had.projects used_apart.1.0 in
+    let lang = other_keeps it lang_table langs had.langs used_apart.1.1.0 in
+    let version = other_keeps it version_table versions had.versions used_apart.1.1.1.0 in
+    let page = other_keeps it page_table pages had.pages used_apart.1.1.1.1.0 in
+    let pick = other_keeps it pick_table picks had.picks used_apart.1.1.1.1.1.0 in
+    let pass = other_keeps it pass_table passes had.passes used_apart.1.1.1.1.1.1.0 in
+    let holds = other_keeps it holds_table held had.held used_apart.1.1.1.1.1.1.1.0 in
+    let lists : lists_of after ≡ record (lists_of db) { used = change (lists_of db).used } = λ i. record { projects = project.1 i; langs = lang.1 i; versions = version.1 i; pages = page.1 i; used = it.records i; picks = pick.1 i; passes = pass.1 i; held = holds.1 i } in
+    record {
+      holds = record { meta = m.0; number = m.1 ∙ had.number; projects = project.0; langs = lang.0; versions = version.0; pages = page.0; used = it.keeps; picks = pick.0; passes = pass.0; held = holds.0; typed = subst AreTyped (sym lists) (record { projects = had.typed.projects; langs = had.typed.langs; versions = had.typed.versions; pages = had.typed.pages; used = typed _ had.typed.used; picks = had.typed.picks; passes = had.typed.passes; held = had.typed.held }) };
+      schema = it.schema;
+      lists = lists;
+    }
+
+-- ---- pick
+
+pick_simple : IsSimple pick_table
+pick_simple = refl
+
+pick_plain : ArePlain pick_table.columns
+pick_plain = ((refl, refl), ((refl, refl), ((refl, refl), tt)))
+
+pick_back : (x : PickRow) (n : ℤ) → picks.decode (Int n ∷ picks.encode x) ≡ x
+pick_back x n = refl
+
+pick_apart : IsApart pick_table (meta_table ∷ project_table ∷ lang_table ∷ version_table ∷ page_table ∷ used_table ∷ pass_table ∷ holds_table ∷ [])
+unfolding everything
+pick_apart = (refl, (refl, (refl, (refl, (refl, (refl, (refl, (refl, tt))))))))
+
+-- the other tables keep their records
+pick_changed : (db after : Database) (change : List PickRow → List PickRow) → ((xs : List PickRow) → AllByRecursion IsPick xs → AllByRecursion IsPick (change xs)) → Holds db → Turns pick_table picks change db after → Changed db after (λ l. record l { picks = change l.picks })
+pick_changed db after change typed had it =
+    let m = other_keeps it meta_table meta had.meta pick_apart.0 in
+    let project = other_keeps it project_table projects had.projects pick_apart.1.0 in
+    let lang = other_keeps it lang_table langs had.langs pick_apart.1.1.0 in
+    let version = other_keeps it version_table versions had.versions pick_apart.1.1.1.0 in
+    let page = other_keeps it page_table pages had.pages pick_apart.1.1.1.1.0 in
+    let used = other_keeps it used_table used had.used pick_apart.1.1.1.1.1.0 in
+    let pass = other_keeps it pass_table passes had.passes pick_apart.1.1.1.1.1.1.0 in
+    let holds = other_keeps it holds_table held had.held pick_apart.1.1.1.1.1.1.1.0 in
+    let lists : lists_of after ≡ record (lists_of db) { picks = change (lists_of db).picks } = λ i. record { projects = project.1 i; langs = lang.1 i; versions = version.1 i; pages = page.1 i; used = used.1 i; picks = it.records i; passes = pass.1 i; held = holds.1 i } in
+    record {
+      holds = record { meta = m.0; number = m.1 ∙ had.number; projects = project.0; langs = lang.0; versions = version.0; pages = page.0; used = used.0; picks = it.keeps; passes = pass.0; held = holds.0; typed = subst AreTyped (sym lists) (record { projects = had.typed.projects; langs = had.typed.langs; versions = had.typed.versions; pages = had.typed.pages; used = had.typed.used; picks = typed _ had.typed.picks; passes = had.typed.passes; held = had.typed.held }) };
+      schema = it.schema;
+      lists = lists;
+    }
+
+-- ---- pass
+
+pass_simple : IsSimple pass_table
+pass_simple = refl
+
+pass_plain : ArePlain pass_table.columns
+pass_plain = ((refl, refl), ((refl, refl), tt))
+
+pass_back : (x : PassRow) (n : ℤ) → passes.decode (Int n ∷ passes.encode x) ≡ x
+pass_back x n = refl
+
+pass_apart : IsApart pass_table (meta_table ∷ project_table ∷ lang_table ∷ version_table ∷ page_table ∷ used_table ∷ pick_table ∷ holds_table ∷ [])
+unfolding everything
+pass_apart = (refl, (refl, (refl, (refl, (refl, (refl, (refl, (refl, tt))))))))
+
+-- the other tables keep their records
+pass_changed : (db after : Database) (change : List PassRow → List PassRow) → ((xs : List PassRow) → AllByRecursion IsPass xs → AllByRecursion IsPass (change xs)) → Holds db → Turns pass_table passes change db after → Changed db after (λ l. record l { passes = change l.passes })
+pass_changed db after change typed had it =
+    let m = other_keeps it meta_table meta had.meta pass_apart.0 in
+    let project = other_keeps it project_table projects had.projects pass_apart.1.0 in
+    let lang = other_keeps it lang_table langs had.langs pass_apart.1.1.0 in
+    let version = other_keeps it version_table versions had.versions pass_apart.1.1.1.0 in
+    let page = other_keeps it page_table pages had.pages pass_apart.1.1.1.1.0 in
+    let used = other_keeps it used_table used had.used pass_apart.1.1.1.1.1.0 in
+    let pick = other_keeps it pick_table picks had.picks pass_apart.1.1.1.1.1.1.0 in
+    let holds = other_keeps it holds_table held had.held pass_apart.1.1.1.1.1.1.1.0 in
+    let lists : lists_of after ≡ record (lists_of db) { passes = change (lists_of db).passes } = λ i. record { projects = project.1 i; langs = lang.1 i; versions = version.1 i; pages = page.1 i; used = used.1 i; picks = pick.1 i; passes = it.records i; held = holds.1 i } in
+    record {
+      holds = record { meta = m.0; number = m.1 ∙ had.number; projects = project.0; langs = lang.0; versions = version.0; pages = page.0; used = used.0; picks = pick.0; passes = it.keeps; held = holds.0; typed = subst AreTyped (sym lists) (record { projects = had.typed.projects; langs = had.typed.langs; versions = had.typed.versions; pages = had.typed.pages; used = had.typed.used; picks = had.typed.picks; passes = typed _ had.typed.passes; held = had.typed.held }) };
+      schema = it.schema;
+      lists = lists;
+    }
+
+-- ---- holds
+
+holds_simple : IsSimple holds_table
+holds_simple = refl
+
+holds_plain : ArePlain holds_table.columns
+holds_plain = ((refl, refl), ((refl, refl), ((refl, refl), tt)))
+
+holds_back : (x : HeldRow) (n : ℤ) → held.decode (Int n ∷ held.encode x) ≡ x
+holds_back x n = refl
+
+holds_apart : IsApart holds_table (meta_table ∷ project_table ∷ lang_table ∷ version_table ∷ page_table ∷ used_table ∷ pick_table ∷ pass_table ∷ [])
+unfolding everything
+holds_apart = (refl, (refl, (refl, (refl, (refl, (refl, (refl, (refl, tt))))))))
+
+-- the other tables keep their records
+holds_changed : (db after : Database) (change : List HeldRow → List HeldRow) → ((xs : List HeldRow) → AllByRecursion IsHeld xs → AllByRecursion IsHeld (change xs)) → Holds db → Turns holds_table held change db after → Changed db after (λ l. record l { held = change l.held })
+holds_changed db after change typed had it =
+    let m = other_keeps it meta_table meta had.meta holds_apart.0 in
+    let project = other_keeps it project_table projects had.projects holds_apart.1.0 in
+    let lang = other_keeps it lang_table langs had.langs holds_apart.1.1.0 in
+    let version = other_keeps it version_table versions had.versions holds_apart.1.1.1.0 in
+    let page = other_keeps it page_table pages had.pages holds_apart.1.1.1.1.0 in
+    let used = other_keeps it used_table used had.used holds_apart.1.1.1.1.1.0 in
+    let pick = other_keeps it pick_table picks had.picks holds_apart.1.1.1.1.1.1.0 in
+    let pass = other_keeps it pass_table passes had.passes holds_apart.1.1.1.1.1.1.1.0 in
+    let lists : lists_of after ≡ record (lists_of db) { held = change (lists_of db).held } = λ i. record { projects = project.1 i; langs = lang.1 i; versions = version.1 i; pages = page.1 i; used = used.1 i; picks = pick.1 i; passes = pass.1 i; held = it.records i } in
+    record {
+      holds = record { meta = m.0; number = m.1 ∙ had.number; projects = project.0; langs = lang.0; versions = version.0; pages = page.0; used = used.0; picks = pick.0; passes = pass.0; held = it.keeps; typed = subst AreTyped (sym lists) (record { projects = had.typed.projects; langs = had.typed.langs; versions = had.typed.versions; pages = had.typed.pages; used = had.typed.used; picks = had.typed.picks; passes = had.typed.passes; held = typed _ had.typed.held }) };
+      schema = it.schema;
+      lists = lists;
+    }
+
+abbrev pub project_text : List ℕ
+project_text = codes "SELECT host, main, branch, wkey, private FROM project WHERE host = ?1 ORDER BY host"
+
+project_read : select_of project_table project_text ≡ Some (0 ∷ 1 ∷ 2 ∷ 3 ∷ 4 ∷ [], (0, 0) ∷ [], 0 ∷ [])
+unfolding everything
+project_read = refl
+
+project_count : parameters_in project_text ≡ Some 1
+unfolding everything
+project_count = refl
+
+pub project_answers : (s : State) → Holds s.now → (host : List ℕ) → Answers s project_text (Text host ∷ []) (map projects.encode (filter (is_project host) (lists_of s.now).projects))
+project_answers s had host =
+    select project_table project_simple project_plain projects s had.projects project_text _ _ _ project_read _ project_count refl (is_project host) projects.encode
+    (λ n x. rw (equal_text x.host host) (one (bytes_eq x.host host))) (λ n x. refl) (λ x y. refl)
+
+abbrev pub langs_text : List ℕ
+langs_text = codes "SELECT host, lang, place FROM lang WHERE host = ?1 ORDER BY host, place"
+
+langs_read : select_of lang_table langs_text ≡ Some (0 ∷ 1 ∷ 2 ∷ [], (0, 0) ∷ [], 0 ∷ 2 ∷ [])
+unfolding everything
+langs_read = refl
+
+langs_count : parameters_in langs_text ≡ Some 1
+unfolding everything
+langs_count = refl
+
+pub langs_answers : (s : State) → Holds s.now → (host : List ℕ) → Answers s langs_text (Text host ∷ []) (map langs.encode (filter (is_lang_of host) (lists_of s.now).langs))
+langs_answers s had host =
+    select lang_table lang_simple lang_plain langs s had.langs langs_text _ _ _ langs_read _ langs_count refl (is_lang_of host) langs.encode
+    (λ n x. rw (equal_text x.host host) (one (bytes_eq x.host host))) (λ n x. refl) (λ x y. refl)
+
+abbrev pub version_text : List ℕ
+version_text = codes "SELECT host, slug, name, kind, active, hidden, private FROM version WHERE host = ?1 AND slug = ?2 ORDER BY host, slug"
+
+version_read : select_of version_table version_text ≡ Some (0 ∷ 1 ∷ 2 ∷ 3 ∷ 4 ∷ 5 ∷ 6 ∷ [], (0, 0) ∷ (1, 1) ∷ [], 0 ∷ 1 ∷ [])
+unfolding everything
+version_read = refl
+
+version_count : parameters_in version_text ≡ Some 2
+unfolding everything
+version_count = refl
+
+pub version_answers : (s : State) → Holds s.now → (host slug : List ℕ) → Answers s version_text (Text host ∷ Text slug ∷ []) (map versions.encode (filter (is_version host slug) (lists_of s.now).versions))
+version_answers s had host slug =
+    select version_table version_simple version_plain versions s had.versions version_text _ _ _ version_read _ version_count refl (is_version host slug) versions.encode
+    (λ n x. rw (equal_text x.host host, equal_text x.version.slug slug) (two (bytes_eq x.host host) (bytes_eq x.version.slug slug))) (λ n x. refl) (λ x y. refl)
+
+abbrev pub versions_text : List ℕ
+versions_text = codes "SELECT host, slug, name, kind, active, hidden, private FROM version WHERE host = ?1 ORDER BY host, slug"
+
+versions_read : select_of version_table versions_text ≡ Some (0 ∷ 1 ∷ 2 ∷ 3 ∷ 4 ∷ 5 ∷ 6 ∷ [], (0, 0) ∷ [], 0 ∷ 1 ∷ [])
+unfolding everything
+versions_read = refl
+
+versions_count : parameters_in versions_text ≡ Some 1
+unfolding everything
+versions_count = refl
+
+pub versions_answers : (s : State) → Holds s.now → (host : List ℕ) → Answers s versions_text (Text host ∷ []) (map versions.encode (filter (is_version_of host) (lists_of s.now).versions))
+versions_answers s had host =
+    select version_table version_simple version_plain versions s had.versions versions_text _ _ _ versions_read _ versions_count refl (is_version_of host) versions.encode
+    (λ n x. rw (equal_text x.host host) (one (bytes_eq x.host host))) (λ n x. refl) (λ x y. refl)
+
+abbrev pub page_text : List ℕ
+page_text = codes "SELECT host, slug, lang, path, media, body FROM page WHERE host = ?1 AND slug = ?2 AND lang = ?3 AND path = ?4 ORDER BY host, slug, lang, path"
+
+page_read : select_of page_table page_text ≡ Some (0 ∷ 1 ∷ 2 ∷ 3 ∷ 4 ∷ 5 ∷ [], (0, 0) ∷ (1, 1) ∷ (2, 2) ∷ (3, 3) ∷ [], 0 ∷ 1 ∷ 2 ∷ 3 ∷ [])
+unfolding everything
+page_read = refl
+
+page_count : parameters_in page_text ≡ Some 4
+unfolding everything
+page_count = refl
+
+pub page_answers : (s : State) → Holds s.now → (host slug lang path : List ℕ) → Answers s page_text (Text host ∷ Text slug ∷ Text lang ∷ Text path ∷ []) (map pages.encode (filter (is_page host slug lang path) (lists_of s.now).pages))
+page_answers s had host slug lang path =
+    select page_table page_simple page_plain pages s had.pages page_text _ _ _ page_read _ page_count refl (is_page host slug lang path) pages.encode
+    (λ n x. rw (equal_text x.host host, equal_text x.slug slug, equal_text x.lang lang, equal_text x.path path) (four (bytes_eq x.host host) (bytes_eq x.slug slug) (bytes_eq x.lang lang) (bytes_eq x.path path))) (λ n x. refl) (λ x y. refl)
+
+abbrev pub used_text : List ℕ
+used_text = codes "SELECT host, slug, op, retry, answer FROM used WHERE host = ?1 AND slug = ?2 AND op = ?3 AND retry = ?4 ORDER BY host, slug, op, retry"
+
+used_read : select_of used_table used_text ≡ Some (0 ∷ 1 ∷ 2 ∷ 3 ∷ 4 ∷ [], (0, 0) ∷ (1, 1) ∷ (2, 2) ∷ (3, 3) ∷ [], 0 ∷ 1 ∷ 2 ∷ 3 ∷ [])
+unfolding everything
+used_read = refl
+
+used_count : parameters_in used_text ≡ Some 4
+unfolding everything
+used_count = refl
+
+pub used_answers : (s : State) → Holds s.now → (host slug : List ℕ) (op : Operation) (retry : List ℕ) → Answers s used_text (Text host ∷ Text slug ∷ flag (is_upload op) ∷ Text retry ∷ []) (map used.encode (filter (is_used host slug op retry) (lists_of s.now).used))
+used_answers s had host slug op retry =
+    select used_table used_simple used_plain used s had.used used_text _ _ _ used_read _ used_count refl (is_used host slug op retry) used.encode
+    (λ n x. rw (equal_text x.host host, equal_text x.slug slug, equal_op x.op op, equal_text x.retry retry) (four (bytes_eq x.host host) (bytes_eq x.slug slug) (same_op x.op op) (bytes_eq x.retry retry))) (λ n x. refl) (λ x y. refl)
+
+abbrev pub add_project_text : List ℕ
+add_project_text = codes "INSERT INTO project VALUES (?1, ?2, ?3, ?4, ?5)"
+
+add_project_read : (schema : Schema) (tree : ℕ) → insert_of schema (record project_table { tree = tree }) add_project_text ≡ Some (lit Null ∷ col 0 0 ∷ col 0 1 ∷ col 0 2 ∷ col 0 3 ∷ col 0 4 ∷ [], 6)
+unfolding everything
+add_project_read schema tree = refl
+
+pub add_project_writes : (s : State) → Holds s.now → (x : ProjectRow) → IsFreeKey projects.key x (lists_of s.now).projects → Writes s add_project_text (projects.encode x) project_table projects (added projects.key x)
+add_project_writes s had x free = insert project_table project_simple project_plain projects s had.projects add_project_text _ _ (add_project_read _ _) x (project_back x) (tt, (tt, (tt, (tt, (tt, tt))))) refl free
+
+pub add_project_changes : (s : State) → Holds s.now → (x : ProjectRow) → IsProject x → IsFreeKey projects.key x (lists_of s.now).projects → (after : Database) → Rattle.dh_rows.specs.Calls.Edits s add_project_text (projects.encode x) after
+    → Changed s.now after (λ l. record l { projects = added projects.key x l.projects })
+add_project_changes s had x typed free after it = project_changed s.now after (added projects.key x) (all_added IsProject projects.key x typed) had ((add_project_writes s had x free).turns after it)
+
+abbrev pub add_lang_text : List ℕ
+add_lang_text = codes "INSERT INTO lang VALUES (?1, ?2, ?3)"
+
+add_lang_read : (schema : Schema) (tree : ℕ) → insert_of schema (record lang_table { tree = tree }) add_lang_text ≡ Some (lit Null ∷ col 0 0 ∷ col 0 1 ∷ col 0 2 ∷ [], 4)
+unfolding everything
+add_lang_read schema tree = refl
+
+pub add_lang_writes : (s : State) → Holds s.now → (x : LangRow) → IsFreeKey langs.key x (lists_of s.now).langs → Writes s add_lang_text (langs.encode x) lang_table langs (added langs.key x)
+add_lang_writes s had x free = insert lang_table lang_simple lang_plain langs s had.langs add_lang_text _ _ (add_lang_read _ _) x (lang_back x) (tt, (tt, (tt, tt))) refl free
+
+pub add_lang_changes : (s : State) → Holds s.now → (x : LangRow) → IsLanguage x → IsFreeKey langs.key x (lists_of s.now).langs → (after : Database) → Rattle.dh_rows.specs.Calls.Edits s add_lang_text (langs.encode x) after
+    → Changed s.now after (λ l. record l { langs = added langs.key x l.langs })
+add_lang_changes s had x typed free after it = lang_changed s.now after (added langs.key x) (all_added IsLanguage langs.key x typed) had ((add_lang_writes s had x free).turns after it)
+
+abbrev pub keep_text : List ℕ
+keep_text = codes "INSERT INTO used VALUES (?1, ?2, ?3, ?4, ?5)"
+
+keep_read : (schema : Schema) (tree : ℕ) → insert_of schema (record used_table { tree = tree }) keep_text ≡ Some (lit Null ∷ col 0 0 ∷ col 0 1 ∷ col 0 2 ∷ col 0 3 ∷ col 0 4 ∷ [], 6)
+unfolding everything
+keep_read schema tree = refl
+
+pub keep_writes : (s : State) → Holds s.now → (x : UsedRow) → IsFreeKey used.key x (lists_of s.now).used → Writes s keep_text (used.encode x) used_table used (added used.key x)
+keep_writes s had x free = insert used_table used_simple used_plain used s had.used keep_text _ _ (keep_read _ _) x (used_back x) (tt, (tt, (tt, (tt, (tt, tt))))) refl free
+
+pub keep_changes : (s : State) → Holds s.now → (x : UsedRow) → IsUsed x → IsFreeKey used.key x (lists_of s.now).used → (after : Database) → Rattle.dh_rows.specs.Calls.Edits s keep_text (used.encode x) after
+    → Changed s.now after (λ l. record l { used = added used.key x l.used })
+keep_changes s had x typed free after it = used_changed s.now after (added used.key x) (all_added IsUsed used.key x typed) had ((keep_writes s had x free).turns after it)
+
+abbrev pub drop_pages_of_text : List ℕ
+drop_pages_of_text = codes "DELETE FROM page WHERE host = ?1 AND slug = ?2"
+
+drop_pages_of_read : delete_of page_table drop_pages_of_text ≡ Some ((0, 0) ∷ (1, 1) ∷ [])
+unfolding everything
+drop_pages_of_read = refl
+
+pub drop_pages_of_writes : (s : State) → Holds s.now → (host slug : List ℕ) → Writes s drop_pages_of_text (Text host ∷ Text slug ∷ []) page_table pages (filter (λ x. not (is_page_of host slug x)))
+drop_pages_of_writes s had host slug = delete page_table page_simple page_plain pages s had.pages drop_pages_of_text _ drop_pages_of_read _ (is_page_of host slug) (λ n x. rw (equal_text x.host host, equal_text x.slug slug) (two (bytes_eq x.host host) (bytes_eq x.slug slug)))
+
+pub drop_pages_of_changes : (s : State) → Holds s.now → (host slug : List ℕ) → (after : Database) → Rattle.dh_rows.specs.Calls.Edits s drop_pages_of_text (Text host ∷ Text slug ∷ []) after
+    → Changed s.now after (λ l. record l { pages = filter (λ x. not (is_page_of host slug x)) l.pages })
+drop_pages_of_changes s had host slug after it = page_changed s.now after (filter (λ x. not (is_page_of host slug x))) (all_kept IsPage _) had ((drop_pages_of_writes s had host slug).turns after it)
+
+abbrev pub drop_pages_in_text : List ℕ
+drop_pages_in_text = codes "DELETE FROM page WHERE host = ?1 AND slug = ?2 AND lang = ?3"
+
+drop_pages_in_read : delete_of page_table drop_pages_in_text ≡ Some ((0, 0) ∷ (1, 1) ∷ (2, 2) ∷ [])
+unfolding everything
+drop_pages_in_read = refl
+
+pub drop_pages_in_writes : (s : State) → Holds s.now → (host slug lang : List ℕ) → Writes s drop_pages_in_text (Text host ∷ Text slug ∷ Text lang ∷ []) page_table pages (filter (λ x. not (is_page_in host slug lang x)))
+drop_pages_in_writes s had host slug lang = delete page_table page_simple page_plain pages s had.pages drop_pages_in_text _ drop_pages_in_read _ (is_page_in host slug lang) (λ n x. rw (equal_text x.host host, equal_text x.slug slug, equal_text x.lang lang) (three (bytes_eq x.host host) (bytes_eq x.slug slug) (bytes_eq x.lang lang)))
+
+pub drop_pages_in_changes : (s : State) → Holds s.now → (host slug lang : List ℕ) → (after : Database) → Rattle.dh_rows.specs.Calls.Edits s drop_pages_in_text (Text host ∷ Text slug ∷ Text lang ∷ []) after
+    → Changed s.now after (λ l. record l { pages = filter (λ x. not (is_page_in host slug lang x)) l.pages })
+drop_pages_in_changes s had host slug lang after it = page_changed s.now after (filter (λ x. not (is_page_in host slug lang x))) (all_kept IsPage _) had ((drop_pages_in_writes s had host slug lang).turns after it)
+
+-- ---- records put in place of those with their keys
+
+version_key : IsKeyOf version_table (1 ∷ 2 ∷ [])
+version_key = record { primary = refl; uniques = refl; apart = refl; own = refl; among = refl }
+
+abbrev pub put_version_text : List ℕ
+put_version_text = codes "INSERT INTO version VALUES (?1, ?2, ?3, ?4, ?5, ?6, ?7) ON CONFLICT (host, slug) DO UPDATE SET name = ?3, kind = ?4, active = ?5, hidden = ?6, private = ?7"
+
+abbrev put_version_new : List Term
+put_version_new = col 1 0 ∷ col 1 0 ∷ col 1 1 ∷ col 1 2 ∷ col 0 2 ∷ col 0 3 ∷ col 0 4 ∷ col 0 5 ∷ col 0 6 ∷ []
+
+put_version_read : (schema : Schema) (tree : ℕ) → IsUpsert schema version_table tree put_version_text (lit Null ∷ col 0 0 ∷ col 0 1 ∷ col 0 2 ∷ col 0 3 ∷ col 0 4 ∷ col 0 5 ∷ col 0 6 ∷ []) 8 7 put_version_new
+unfolding everything
+put_version_read schema tree = puts refl refl refl refl refl refl refl refl (λ cx. refl)
+
+put_version_fits : (x : VersionRow) → Fits version_table versions x (1 ∷ 2 ∷ []) 7 put_version_new
+unfolding first_key
+put_version_fits x = record {
+  back = version_back x;
+  kinds = (tt, (tt, (tt, (tt, (tt, (tt, (tt, tt)))))));
+  agrees = λ n m y. rw (same_text y.host x.host, same_text y.version.slug x.version.slug) (tied_is (versions.key x) (versions.key y));
+  placed = λ id more. refl;
+  shows = λ n more y same.
+      let host = and_parts _ _ (tied_is (versions.key x) (versions.key y) ∙ same) in
+      let slug = and_parts _ _ host.1 in
+      rw (alike_text y.host x.host host.0, alike_text y.version.slug x.version.slug slug.0) refl;
+}
+
+pub put_version_writes : (s : State) → Holds s.now → (x : VersionRow) → Writes s put_version_text (versions.encode x) version_table versions (put versions.key x)
+put_version_writes s had x = upsert version_table version_simple version_plain versions s had.versions (1 ∷ 2 ∷ []) version_key put_version_text _ 8 7 put_version_new put_version_read refl x (put_version_fits x) refl
+
+pub put_version_changes : (s : State) → Holds s.now → (x : VersionRow) → IsVersion x → (after : Database) → Rattle.dh_rows.specs.Calls.Edits s put_version_text (versions.encode x) after
+    → Changed s.now after (λ l. record l { versions = put versions.key x l.versions })
+put_version_changes s had x typed after it = version_changed s.now after (put versions.key x) (all_put IsVersion versions.key x typed) had ((put_version_writes s had x).turns after it)
+
+page_key : IsKeyOf page_table (1 ∷ 2 ∷ 3 ∷ 4 ∷ [])
+page_key = record { primary = refl; uniques = refl; apart = refl; own = refl; among = refl }
+
+abbrev pub put_page_text : List ℕ
+put_page_text = codes "INSERT INTO page VALUES (?1, ?2, ?3, ?4, ?5, ?6) ON CONFLICT (host, slug, lang, path) DO UPDATE SET media = ?5, body = ?6"
+
+abbrev put_page_new : List Term
+put_page_new = col 1 0 ∷ col 1 0 ∷ col 1 1 ∷ col 1 2 ∷ col 1 3 ∷ col 1 4 ∷ col 0 4 ∷ col 0 5 ∷ []
+
+put_page_read : (schema : Schema) (tree : ℕ) → IsUpsert schema page_table tree put_page_text (lit Null ∷ col 0 0 ∷ col 0 1 ∷ col 0 2 ∷ col 0 3 ∷ col 0 4 ∷ col 0 5 ∷ []) 7 6 put_page_new
+unfolding everything
+put_page_read schema tree = puts refl refl refl refl refl refl refl refl (λ cx. refl)
+
+put_page_fits : (x : PageRow) → Fits page_table pages x (1 ∷ 2 ∷ 3 ∷ 4 ∷ []) 6 put_page_new
+unfolding first_key
+put_page_fits x = record {
+  back = page_back x;
+  kinds = (tt, (tt, (tt, (tt, (tt, (tt, tt))))));
+  agrees = λ n m y. rw (same_text y.host x.host, same_text y.slug x.slug, same_text y.lang x.lang, same_text y.path x.path) (tied_is (pages.key x) (pages.key y));
+  placed = λ id more. refl;
+  shows = λ n more y same.
+      let host = and_parts _ _ (tied_is (pages.key x) (pages.key y) ∙ same) in
+      let slug = and_parts _ _ host.1 in
+      let lang = and_parts _ _ slug.1 in
+      let path = and_parts _ _ lang.1 in
+      rw (alike_text y.host x.host host.0, alike_text y.slug x.slug slug.0, alike_text y.lang x.lang lang.0, alike_text y.path x.path path.0) refl;
+}
+
+pub put_page_writes : (s : State) → Holds s.now → (x : PageRow) → Writes s put_page_text (pages.encode x) page_table pages (put pages.key x)
+put_page_writes s had x = upsert page_table page_simple page_plain pages s had.pages (1 ∷ 2 ∷ 3 ∷ 4 ∷ []) page_key put_page_text _ 7 6 put_page_new put_page_read refl x (put_page_fits x) refl
+
+pub put_page_changes : (s : State) → Holds s.now → (x : PageRow) → IsPage x → (after : Database) → Rattle.dh_rows.specs.Calls.Edits s put_page_text (pages.encode x) after
+    → Changed s.now after (λ l. record l { pages = put pages.key x l.pages })
+put_page_changes s had x typed after it = page_changed s.now after (put pages.key x) (all_put IsPage pages.key x typed) had ((put_page_writes s had x).turns after it)
+
+-- ---- defaults, passes and grants
+
+abbrev pub picks_text : List ℕ
+picks_text = codes "SELECT host, name, rank FROM pick WHERE host = ?1 ORDER BY host, rank"
+
+picks_read : select_of pick_table picks_text ≡ Some (0 ∷ 1 ∷ 2 ∷ [], (0, 0) ∷ [], 0 ∷ 2 ∷ [])
+unfolding everything
+picks_read = refl
+
+picks_count : parameters_in picks_text ≡ Some 1
+unfolding everything
+picks_count = refl
+
+pub picks_answers : (s : State) → Holds s.now → (host : List ℕ) → Answers s picks_text (Text host ∷ []) (map picks.encode (filter (is_pick_of host) (lists_of s.now).picks))
+picks_answers s had host =
+    select pick_table pick_simple pick_plain picks s had.picks picks_text _ _ _ picks_read _ picks_count refl (is_pick_of host) picks.encode
+    (λ n x. rw (equal_text x.host host) (one (bytes_eq x.host host))) (λ n x. refl) (λ x y. refl)
+
+abbrev pub pass_text : List ℕ
+pass_text = codes "SELECT host, pass FROM pass WHERE host = ?1 AND pass = ?2 ORDER BY host, pass"
+
+pass_read : select_of pass_table pass_text ≡ Some (0 ∷ 1 ∷ [], (0, 0) ∷ (1, 1) ∷ [], 0 ∷ 1 ∷ [])
+unfolding everything
+pass_read = refl
+
+pass_count : parameters_in pass_text ≡ Some 2
+unfolding everything
+pass_count = refl
+
+pub pass_answers : (s : State) → Holds s.now → (host pass : List ℕ) → Answers s pass_text (Text host ∷ Text pass ∷ []) (map passes.encode (filter (is_pass host pass) (lists_of s.now).passes))
+pass_answers s had host pass =
+    select pass_table pass_simple pass_plain passes s had.passes pass_text _ _ _ pass_read _ pass_count refl (is_pass host pass) passes.encode
+    (λ n x. rw (equal_text x.host host, equal_text x.pass pass) (two (bytes_eq x.host host) (bytes_eq x.pass pass))) (λ n x. refl) (λ x y. refl)
+
+abbrev pub passes_text : List ℕ
+passes_text = codes "SELECT host, pass FROM pass WHERE host = ?1 ORDER BY host, pass"
+
+passes_read : select_of pass_table passes_text ≡ Some (0 ∷ 1 ∷ [], (0, 0) ∷ [], 0 ∷ 1 ∷ [])
+unfolding everything
+passes_read = refl
+
+passes_count : parameters_in passes_text ≡ Some 1
+unfolding everything
+passes_count = refl
+
+pub passes_answers : (s : State) → Holds s.now → (host : List ℕ) → Answers s passes_text (Text host ∷ []) (map passes.encode (filter (is_pass_of host) (lists_of s.now).passes))
+passes_answers s had host =
+    select pass_table pass_simple pass_plain passes s had.passes passes_text _ _ _ passes_read _ passes_count refl (is_pass_of host) passes.encode
+    (λ n x. rw (equal_text x.host host) (one (bytes_eq x.host host))) (λ n x. refl) (λ x y. refl)
+
+abbrev pub held_text : List ℕ
+held_text = codes "SELECT host, pass, slug FROM holds WHERE host = ?1 AND pass = ?2 AND slug = ?3 ORDER BY host, pass, slug"
+
+held_read : select_of holds_table held_text ≡ Some (0 ∷ 1 ∷ 2 ∷ [], (0, 0) ∷ (1, 1) ∷ (2, 2) ∷ [], 0 ∷ 1 ∷ 2 ∷ [])
+unfolding everything
+held_read = refl
+
+held_count : parameters_in held_text ≡ Some 3
+unfolding everything
+held_count = refl
+
+pub held_answers : (s : State) → Holds s.now → (host pass slug : List ℕ) → Answers s held_text (Text host ∷ Text pass ∷ Text slug ∷ []) (map held.encode (filter (is_held host pass slug) (lists_of s.now).held))
+held_answers s had host pass slug =
+    select holds_table holds_simple holds_plain held s had.held held_text _ _ _ held_read _ held_count refl (is_held host pass slug) held.encode
+    (λ n x. rw (equal_text x.host host, equal_text x.pass pass, equal_text x.slug slug) (three (bytes_eq x.host host) (bytes_eq x.pass pass) (bytes_eq x.slug slug))) (λ n x. refl) (λ x y. refl)
+
+abbrev pub add_pick_text : List ℕ
+add_pick_text = codes "INSERT INTO pick VALUES (?1, ?2, ?3)"
+
+add_pick_read : (schema : Schema) (tree : ℕ) → insert_of schema (record pick_table { tree = tree }) add_pick_text ≡ Some (lit Null ∷ col 0 0 ∷ col 0 1 ∷ col 0 2 ∷ [], 4)
+unfolding everything
+add_pick_read schema tree = refl
+
+pub add_pick_writes : (s : State) → Holds s.now → (x : PickRow) → IsFreeKey picks.key x (lists_of s.now).picks → Writes s add_pick_text (picks.encode x) pick_table picks (added picks.key x)
+add_pick_writes s had x free = insert pick_table pick_simple pick_plain picks s had.picks add_pick_text _ _ (add_pick_read _ _) x (pick_back x) (tt, (tt, (tt, tt))) refl free
+
+pub add_pick_changes : (s : State) → Holds s.now → (x : PickRow) → IsPick x → IsFreeKey picks.key x (lists_of s.now).picks → (after : Database) → Rattle.dh_rows.specs.Calls.Edits s add_pick_text (picks.encode x) after
+    → Changed s.now after (λ l. record l { picks = added picks.key x l.picks })
+add_pick_changes s had x typed free after it = pick_changed s.now after (added picks.key x) (all_added IsPick picks.key x typed) had ((add_pick_writes s had x free).turns after it)
+
+-- the same, where the rank is a number that SQL counts with
+pub add_pick_ranked : (s : State) → Holds s.now → (x : PickRow) → IsPick x → (rank : ℤ) → rank ≡ pos x.rank → IsFreeKey picks.key x (lists_of s.now).picks → (after : Database)
+    → Rattle.dh_rows.specs.Calls.Edits s add_pick_text (Text x.host ∷ Text x.name ∷ Int rank ∷ []) after → Changed s.now after (λ l. record l { picks = added picks.key x l.picks })
+add_pick_ranked s had x typed rank e free after it =
+    add_pick_changes s had x typed free after (subst (λ n. Rattle.dh_rows.specs.Calls.Edits s add_pick_text (Text x.host ∷ Text x.name ∷ Int n ∷ []) after) e it)
+
+abbrev pub add_pass_text : List ℕ
+add_pass_text = codes "INSERT INTO pass VALUES (?1, ?2)"
+
+add_pass_read : (schema : Schema) (tree : ℕ) → insert_of schema (record pass_table { tree = tree }) add_pass_text ≡ Some (lit Null ∷ col 0 0 ∷ col 0 1 ∷ [], 3)
+unfolding everything
+add_pass_read schema tree = refl
+
+pub add_pass_writes : (s : State) → Holds s.now → (x : PassRow) → IsFreeKey passes.key x (lists_of s.now).passes → Writes s add_pass_text (passes.encode x) pass_table passes (added passes.key x)
+add_pass_writes s had x free = insert pass_table pass_simple pass_plain passes s had.passes add_pass_text _ _ (add_pass_read _ _) x (pass_back x) (tt, (tt, tt)) refl free
+
+pub add_pass_changes : (s : State) → Holds s.now → (x : PassRow) → IsPass x → IsFreeKey passes.key x (lists_of s.now).passes → (after : Database) → Rattle.dh_rows.specs.Calls.Edits s add_pass_text (passes.encode x) after
+    → Changed s.now after (λ l. record l { passes = added passes.key x l.passes })
+add_pass_changes s had x typed free after it = pass_changed s.now after (added passes.key x) (all_added IsPass passes.key x typed) had ((add_pass_writes s had x free).turns after it)
+
+abbrev pub add_grant_text : List ℕ
+add_grant_text = codes "INSERT INTO holds VALUES (?1, ?2, ?3)"
+
+add_grant_read : (schema : Schema) (tree : ℕ) → insert_of schema (record holds_table { tree = tree }) add_grant_text ≡ Some (lit Null ∷ col 0 0 ∷ col 0 1 ∷ col 0 2 ∷ [], 4)
+unfolding everything
+add_grant_read schema tree = refl
+
+pub add_grant_writes : (s : State) → Holds s.now → (x : HeldRow) → IsFreeKey held.key x (lists_of s.now).held → Writes s add_grant_text (held.encode x) holds_table held (added held.key x)
+add_grant_writes s had x free = insert holds_table holds_simple holds_plain held s had.held add_grant_text _ _ (add_grant_read _ _) x (holds_back x) (tt, (tt, (tt, tt))) refl free
+
+pub add_grant_changes : (s : State) → Holds s.now → (x : HeldRow) → IsHeld x → IsFreeKey held.key x (lists_of s.now).held → (after : Database) → Rattle.dh_rows.specs.Calls.Edits s add_grant_text (held.encode x) after
+    → Changed s.now after (λ l. record l { held = added held.key x l.held })
+add_grant_changes s had x typed free after it = holds_changed s.now after (added held.key x) (all_added IsHeld held.key x typed) had ((add_grant_writes s had x free).turns after it)
+
+abbrev pub drop_picks_text : List ℕ
+drop_picks_text = codes "DELETE FROM pick WHERE host = ?1"
+
+drop_picks_read : delete_of pick_table drop_picks_text ≡ Some ((0, 0) ∷ [])
+unfolding everything
+drop_picks_read = refl
+
+pub drop_picks_writes : (s : State) → Holds s.now → (host : List ℕ) → Writes s drop_picks_text (Text host ∷ []) pick_table picks (filter (λ x. not (is_pick_of host x)))
+drop_picks_writes s had host = delete pick_table pick_simple pick_plain picks s had.picks drop_picks_text _ drop_picks_read _ (is_pick_of host) (λ n x. rw (equal_text x.host host) (one (bytes_eq x.host host)))
+
+pub drop_picks_changes : (s : State) → Holds s.now → (host : List ℕ) → (after : Database) → Rattle.dh_rows.specs.Calls.Edits s drop_picks_text (Text host ∷ []) after
+    → Changed s.now after (λ l. record l { picks = filter (λ x. not (is_pick_of host x)) l.picks })
+drop_picks_changes s had host after it = pick_changed s.now after (filter (λ x. not (is_pick_of host x))) (all_kept IsPick _) had ((drop_picks_writes s had host).turns after it)
+
+abbrev pub drop_pass_text : List ℕ
+drop_pass_text = codes "DELETE FROM pass WHERE host = ?1 AND pass = ?2"
+
+drop_pass_read : delete_of pass_table drop_pass_text ≡ Some ((0, 0) ∷ (1, 1) ∷ [])
+unfolding everything
+drop_pass_read = refl
+
+pub drop_pass_writes : (s : State) → Holds s.now → (host pass : List ℕ) → Writes s drop_pass_text (Text host ∷ Text pass ∷ []) pass_table passes (filter (λ x. not (is_pass host pass x)))
+drop_pass_writes s had host pass = delete pass_table pass_simple pass_plain passes s had.passes drop_pass_text _ drop_pass_read _ (is_pass host pass) (λ n x. rw (equal_text x.host host, equal_text x.pass pass) (two (bytes_eq x.host host) (bytes_eq x.pass pass)))
+
+pub drop_pass_changes : (s : State) → Holds s.now → (host pass : List ℕ) → (after : Database) → Rattle.dh_rows.specs.Calls.Edits s drop_pass_text (Text host ∷ Text pass ∷ []) after
+    → Changed s.now after (λ l. record l { passes = filter (λ x. not (is_pass host pass x)) l.passes })
+drop_pass_changes s had host pass after it = pass_changed s.now after (filter (λ x. not (is_pass host pass x))) (all_kept IsPass _) had ((drop_pass_writes s had host pass).turns after it)
+
+abbrev pub revoke_text : List ℕ
+revoke_text = codes "DELETE FROM holds WHERE host = ?1 AND pass = ?2 AND slug = ?3"
+
+revoke_read : delete_of holds_table revoke_text ≡ Some ((0, 0) ∷ (1, 1) ∷ (2, 2) ∷ [])
+unfolding everything
+revoke_read = refl
+
+pub revoke_writes : (s : State) → Holds s.now → (host pass slug : List ℕ) → Writes s revoke_text (Text host ∷ Text pass ∷ Text slug ∷ []) holds_table held (filter (λ x. not (is_held host pass slug x)))
+revoke_writes s had host pass slug = delete holds_table holds_simple holds_plain held s had.held revoke_text _ revoke_read _ (is_held host pass slug) (λ n x. rw (equal_text x.host host, equal_text x.pass pass, equal_text x.slug slug) (three (bytes_eq x.host host) (bytes_eq x.pass pass) (bytes_eq x.slug slug)))
+
+pub revoke_changes : (s : State) → Holds s.now → (host pass slug : List ℕ) → (after : Database) → Rattle.dh_rows.specs.Calls.Edits s revoke_text (Text host ∷ Text pass ∷ Text slug ∷ []) after
+    → Changed s.now after (λ l. record l { held = filter (λ x. not (is_held host pass slug x)) l.held })
+revoke_changes s had host pass slug after it = holds_changed s.now after (filter (λ x. not (is_held host pass slug x))) (all_kept IsHeld _) had ((revoke_writes s had host pass slug).turns after it)
+
+abbrev pub drop_grants_of_text : List ℕ
+drop_grants_of_text = codes "DELETE FROM holds WHERE host = ?1 AND slug = ?2"
+
+drop_grants_of_read : delete_of holds_table drop_grants_of_text ≡ Some ((0, 0) ∷ (2, 1) ∷ [])
+unfolding everything
+drop_grants_of_read = refl
+
+pub drop_grants_of_writes : (s : State) → Holds s.now → (host slug : List ℕ) → Writes s drop_grants_of_text (Text host ∷ Text slug ∷ []) holds_table held (filter (λ x. not (is_held_on host slug x)))
+drop_grants_of_writes s had host slug = delete holds_table holds_simple holds_plain held s had.held drop_grants_of_text _ drop_grants_of_read _ (is_held_on host slug) (λ n x. rw (equal_text x.host host, equal_text x.slug slug) (two (bytes_eq x.host host) (bytes_eq x.slug slug)))
+
+pub drop_grants_of_changes : (s : State) → Holds s.now → (host slug : List ℕ) → (after : Database) → Rattle.dh_rows.specs.Calls.Edits s drop_grants_of_text (Text host ∷ Text slug ∷ []) after
+    → Changed s.now after (λ l. record l { held = filter (λ x. not (is_held_on host slug x)) l.held })
+drop_grants_of_changes s had host slug after it = holds_changed s.now after (filter (λ x. not (is_held_on host slug x))) (all_kept IsHeld _) had ((drop_grants_of_writes s had host slug).turns after it)
+
+abbrev pub drop_grants_by_text : List ℕ
+drop_grants_by_text = codes "DELETE FROM holds WHERE host = ?1 AND pass = ?2"
+
+drop_grants_by_read : delete_of holds_table drop_grants_by_text ≡ Some ((0, 0) ∷ (1, 1) ∷ [])
+unfolding everything
+drop_grants_by_read = refl
+
+pub drop_grants_by_writes : (s : State) → Holds s.now → (host pass : List ℕ) → Writes s drop_grants_by_text (Text host ∷ Text pass ∷ []) holds_table held (filter (λ x. not (is_held_by host pass x)))
+drop_grants_by_writes s had host pass = delete holds_table holds_simple holds_plain held s had.held drop_grants_by_text _ drop_grants_by_read _ (is_held_by host pass) (λ n x. rw (equal_text x.host host, equal_text x.pass pass) (two (bytes_eq x.host host) (bytes_eq x.pass pass)))
+
+pub drop_grants_by_changes : (s : State) → Holds s.now → (host pass : List ℕ) → (after : Database) → Rattle.dh_rows.specs.Calls.Edits s drop_grants_by_text (Text host ∷ Text pass ∷ []) after
+    → Changed s.now after (λ l. record l { held = filter (λ x. not (is_held_by host pass x)) l.held })
+drop_grants_by_changes s had host pass after it = holds_changed s.now after (filter (λ x. not (is_held_by host pass x))) (all_kept IsHeld _) had ((drop_grants_by_writes s had host pass).turns after it)
+
+abbrev pub drop_version_text : List ℕ
+drop_version_text = codes "DELETE FROM version WHERE host = ?1 AND slug = ?2"
+
+drop_version_read : delete_of version_table drop_version_text ≡ Some ((0, 0) ∷ (1, 1) ∷ [])
+unfolding everything
+drop_version_read = refl
+
+pub drop_version_writes : (s : State) → Holds s.now → (host slug : List ℕ) → Writes s drop_version_text (Text host ∷ Text slug ∷ []) version_table versions (filter (λ x. not (is_version host slug x)))
+drop_version_writes s had host slug = delete version_table version_simple version_plain versions s had.versions drop_version_text _ drop_version_read _ (is_version host slug) (λ n x. rw (equal_text x.host host, equal_text x.version.slug slug) (two (bytes_eq x.host host) (bytes_eq x.version.slug slug)))
+
+pub drop_version_changes : (s : State) → Holds s.now → (host slug : List ℕ) → (after : Database) → Rattle.dh_rows.specs.Calls.Edits s drop_version_text (Text host ∷ Text slug ∷ []) after
+    → Changed s.now after (λ l. record l { versions = filter (λ x. not (is_version host slug x)) l.versions })
+drop_version_changes s had host slug after it = version_changed s.now after (filter (λ x. not (is_version host slug x))) (all_kept IsVersion _) had ((drop_version_writes s had host slug).turns after it)
+
+abbrev pub held_by_text : List ℕ
+held_by_text = codes "SELECT host, pass, slug FROM holds WHERE host = ?1 AND pass = ?2 ORDER BY host, pass, slug"
+
+held_by_read : select_of holds_table held_by_text ≡ Some (0 ∷ 1 ∷ 2 ∷ [], (0, 0) ∷ (1, 1) ∷ [], 0 ∷ 1 ∷ 2 ∷ [])
+unfolding everything
+held_by_read = refl
+
+held_by_count : parameters_in held_by_text ≡ Some 2
+unfolding everything
+held_by_count = refl
+
+pub held_by_answers : (s : State) → Holds s.now → (host pass : List ℕ) → Answers s held_by_text (Text host ∷ Text pass ∷ []) (map held.encode (filter (is_held_by host pass) (lists_of s.now).held))
+held_by_answers s had host pass =
+    select holds_table holds_simple holds_plain held s had.held held_by_text _ _ _ held_by_read _ held_by_count refl (is_held_by host pass) held.encode
+    (λ n x. rw (equal_text x.host host, equal_text x.pass pass) (two (bytes_eq x.host host) (bytes_eq x.pass pass))) (λ n x. refl) (λ x y. refl)

@@ -1,0 +1,6 @@
+//! The records of a documentation host, in SQL tables over any store.
+#![tactic(auto)]
+
+pub mod tables;
+
+pub use tables::{Tables, TablesFault};

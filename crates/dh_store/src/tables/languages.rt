@@ -1,0 +1,48 @@
+//! The calls on the languages of projects.
+
+ghost use Rattle.std.specs.Prelude.{filter};
+ghost use Rattle.dh_rows.specs.Calls.{IsHonest, seen};
+ghost use Rattle.dh_rows.specs.Keyed.{IsFreeKey};
+ghost use Rattle.dh_schema.specs.Calling.{Asks, ReadsAll, Writes};
+ghost use Rattle.dh_schema.specs.Tables.{lists_of};
+ghost use Rattle.dh_records.specs.Changes as change;
+ghost use Rattle.dh_records.specs.Codings as coding;
+ghost use Rattle.dh_records.specs.Lists as spec;
+
+use super::{Tables, show_number};
+use dh_paths::HostName;
+use dh_records::LangRow;
+use dh_reply::Fault;
+use dh_schema::{all_records, write};
+use sqlite::{Alter, params};
+use std::alloc::Global;
+
+impl<S: Alter> Tables<S> {
+    /// The languages of a project, in the order of their places.
+    pub fn langs(&mut self, alloc: Global, host: &HostName) -> Result<Vec<LangRow>, Fault>
+        ensures asks { Asks S.Store self.old self.new result }
+        ensures value { ReadsAll S.Store self.old self.new result
+            (λ l. filter (spec.is_lang_of host.now) l.langs) }
+    {
+        all_records(
+            &mut self.conn,
+            alloc,
+            "SELECT host, lang, place FROM lang WHERE host = ?1 ORDER BY host, place",
+            params![host.as_str()],
+        )
+    }
+
+    /// Adds a language, whose place is free, and which the project has not.
+    pub fn add_lang(&mut self, lang: &LangRow) -> Result<(), Fault>
+        requires free { IsHonest S.Store self.old
+            → IsFreeKey coding.langs.key lang.now (seen S.Store lists_of self.old).langs }
+        ensures writes { Writes S.Store self.old self.new result (change.add_lang lang.now) }
+    {
+        show_number(lang.place);
+        write(
+            &mut self.conn,
+            "INSERT INTO lang VALUES (?1, ?2, ?3)",
+            params![lang.host.as_str(), lang.lang.as_str(), lang.place],
+        )
+    }
+}

@@ -1,0 +1,95 @@
+//! The calls on pages.
+
+ghost use Rattle.std.specs.Prelude.{option_map, Some, None, find};
+ghost use Rattle.dh_schema.specs.Calling.{Asks, Reads, Writes};
+ghost use Rattle.dh_records.specs.Changes as change;
+ghost use Rattle.dh_records.specs.Lists as spec;
+
+use super::Tables;
+use dh_paths::{HostName, Lang, Slug};
+use dh_records::PageRow;
+use dh_reply::Fault;
+use dh_schema::{first_record, write};
+use sqlite::{Alter, params};
+use std::alloc::Global;
+
+impl<S: Alter> Tables<S> {
+    /// The page at a path of a version in a language.
+    pub fn page(
+        &mut self,
+        alloc: Global,
+        host: &HostName,
+        slug: &Slug,
+        lang: &Lang,
+        path: &str,
+    ) -> Result<Option<PageRow>, Fault>
+        ensures asks { Asks S.Store self.old self.new result }
+        ensures value { Reads S.Store self.old self.new result
+            (λ l. find (spec.is_page host.now slug.now lang.now path.now) l.pages) }
+    {
+        first_record(
+            &mut self.conn,
+            alloc,
+            "SELECT host, slug, lang, path, media, body FROM page WHERE host = ?1 AND slug = ?2 AND lang = ?3 AND path = ?4 ORDER BY host, slug, lang, path",
+            params![host.as_str(), slug.as_str(), lang.as_str(), path],
+        )
+    }
+
+    /// Adds a page, or puts it in place of the one with its path.
+    pub fn put_page(&mut self, row: &PageRow) -> Result<(), Fault>
+        ensures writes { Writes S.Store self.old self.new result (change.put_page row.now) }
+    {
+        write(
+            &mut self.conn,
+            "INSERT INTO page VALUES (?1, ?2, ?3, ?4, ?5, ?6) ON CONFLICT (host, slug, lang, path) DO UPDATE SET media = ?5, body = ?6",
+            params![
+                row.host.as_str(),
+                row.slug.as_str(),
+                row.lang.as_str(),
+                row.path.as_str(),
+                row.page.media.as_str(),
+                row.page.body.as_slice()
+            ],
+        )
+    }
+
+    /// Removes the pages of a version.
+    fn drop_pages_of(&mut self, host: &HostName, slug: &Slug) -> Result<(), Fault>
+        ensures writes { Writes S.Store self.old self.new result
+            (change.drop_pages host.now slug.now None) }
+    {
+        write(
+            &mut self.conn,
+            "DELETE FROM page WHERE host = ?1 AND slug = ?2",
+            params![host.as_str(), slug.as_str()],
+        )
+    }
+
+    /// Removes the pages of a version in a language.
+    fn drop_pages_in(&mut self, host: &HostName, slug: &Slug, lang: &Lang) -> Result<(), Fault>
+        ensures writes { Writes S.Store self.old self.new result
+            (change.drop_pages host.now slug.now (Some lang.now)) }
+    {
+        write(
+            &mut self.conn,
+            "DELETE FROM page WHERE host = ?1 AND slug = ?2 AND lang = ?3",
+            params![host.as_str(), slug.as_str(), lang.as_str()],
+        )
+    }
+
+    /// Removes the pages of a version, in one language or in all.
+    pub fn drop_pages(
+        &mut self,
+        host: &HostName,
+        slug: &Slug,
+        lang: Option<&Lang>,
+    ) -> Result<(), Fault>
+        ensures writes { Writes S.Store self.old self.new result
+            (change.drop_pages host.now slug.now (option_map (λ l. l.now) lang.entry)) }
+    {
+        match lang {
+            Some(lang) => self.drop_pages_in(host, slug, lang),
+            None => self.drop_pages_of(host, slug),
+        }
+    }
+}

@@ -1,0 +1,167 @@
+//! The calls on passes and grants.
+
+ghost use Rattle.std.specs.Prelude.{filter, find, is_some, length};
+ghost use Rattle.dh_rows.specs.Calls.{IsHonest, seen};
+ghost use Rattle.dh_rows.specs.Keyed.{IsFreeKey};
+ghost use Rattle.dh_schema.specs.Calling.{Asks, Reads, ReadsAll, Writes};
+ghost use Rattle.dh_schema.specs.Tables.{lists_of};
+ghost use Rattle.dh_records.specs.Changes as change;
+ghost use Rattle.dh_records.specs.Codings as coding;
+ghost use Rattle.dh_records.specs.Lists as spec;
+
+use super::Tables;
+use dh_paths::{HostName, Slug, Token};
+use dh_records::{HeldRow, PassRow};
+use dh_reply::Fault;
+use dh_schema::{all_records, count_records, first_record, has_record, write};
+use sqlite::{Alter, params};
+use std::alloc::Global;
+
+impl<S: Alter> Tables<S> {
+    /// The pass of a project with this text.
+    pub fn pass(
+        &mut self,
+        alloc: Global,
+        host: &HostName,
+        token: &Token,
+    ) -> Result<Option<PassRow>, Fault>
+        ensures asks { Asks S.Store self.old self.new result }
+        ensures value { Reads S.Store self.old self.new result
+            (λ l. find (spec.is_pass host.now token.now) l.passes) }
+    {
+        let sql = "SELECT host, pass FROM pass WHERE host = ?1 AND pass = ?2 ORDER BY host, pass";
+        first_record(
+            &mut self.conn,
+            alloc,
+            sql,
+            params![host.as_str(), token.as_str()],
+        )
+    }
+
+    /// How many passes a project has.
+    pub fn pass_count(&mut self, host: &HostName) -> Result<usize, Fault>
+        ensures asks { Asks S.Store self.old self.new result }
+        ensures value { Reads S.Store self.old self.new result
+            (λ l. length (filter (spec.is_pass_of host.now) l.passes)) }
+    {
+        let sql = "SELECT host, pass FROM pass WHERE host = ?1 ORDER BY host, pass";
+        count_records(&mut self.conn, sql, params![host.as_str()])
+    }
+
+    /// Adds a pass, which the project has not.
+    pub fn add_pass(&mut self, row: &PassRow) -> Result<(), Fault>
+        requires free { IsHonest S.Store self.old
+            → IsFreeKey coding.passes.key row.now (seen S.Store lists_of self.old).passes }
+        ensures writes { Writes S.Store self.old self.new result (change.add_pass row.now) }
+    {
+        write(
+            &mut self.conn,
+            "INSERT INTO pass VALUES (?1, ?2)",
+            params![row.host.as_str(), row.pass.as_str()],
+        )
+    }
+
+    /// Removes a pass. What it holds stays.
+    pub fn drop_pass(&mut self, host: &HostName, pass: &Token) -> Result<(), Fault>
+        ensures writes { Writes S.Store self.old self.new result
+            (change.drop_pass host.now pass.now) }
+    {
+        write(
+            &mut self.conn,
+            "DELETE FROM pass WHERE host = ?1 AND pass = ?2",
+            params![host.as_str(), pass.as_str()],
+        )
+    }
+
+    /// Whether a pass holds a version.
+    pub fn held(&mut self, host: &HostName, pass: &Token, slug: &Slug) -> Result<bool, Fault>
+        ensures asks { Asks S.Store self.old self.new result }
+        ensures value { Reads S.Store self.old self.new result
+            (λ l. is_some (find (spec.is_held host.now pass.now slug.now) l.held)) }
+    {
+        let sql =
+            "SELECT host, pass, slug FROM holds WHERE host = ?1 AND pass = ?2 AND slug = ?3 ORDER BY host, pass, slug";
+        has_record(
+            &mut self.conn,
+            sql,
+            params![host.as_str(), pass.as_str(), slug.as_str()],
+        )
+    }
+
+    /// Adds a grant, which is not there.
+    fn add_grant(&mut self, row: &HeldRow) -> Result<(), Fault>
+        requires free { IsHonest S.Store self.old
+            → IsFreeKey coding.held.key row.now (seen S.Store lists_of self.old).held }
+        ensures writes { Writes S.Store self.old self.new result (change.add_grant row.now) }
+    {
+        write(
+            &mut self.conn,
+            "INSERT INTO holds VALUES (?1, ?2, ?3)",
+            params![row.host.as_str(), row.pass.as_str(), row.slug.as_str()],
+        )
+    }
+
+    /// Adds a grant, unless it is there.
+    pub fn grant(&mut self, row: &HeldRow) -> Result<(), Fault>
+        ensures writes { Writes S.Store self.old self.new result (change.grant row.now) }
+    {
+        // The proof learns by it that what is seen outside a transaction is committed.
+        let _ = &self.conn;
+        match self.held(&row.host, &row.pass, &row.slug) {
+            Ok(true) => Ok(()),
+            Ok(false) => self.add_grant(row),
+            Err(fault) => Err(fault),
+        }
+    }
+
+    /// Removes a grant.
+    pub fn revoke(&mut self, host: &HostName, pass: &Token, slug: &Slug) -> Result<(), Fault>
+        ensures writes { Writes S.Store self.old self.new result
+            (change.revoke host.now pass.now slug.now) }
+    {
+        let key = params![host.as_str(), pass.as_str(), slug.as_str()];
+        write(
+            &mut self.conn,
+            "DELETE FROM holds WHERE host = ?1 AND pass = ?2 AND slug = ?3",
+            key,
+        )
+    }
+
+    /// Removes all grants on a version.
+    pub fn drop_grants_of(&mut self, host: &HostName, slug: &Slug) -> Result<(), Fault>
+        ensures writes { Writes S.Store self.old self.new result
+            (change.drop_grants_of host.now slug.now) }
+    {
+        write(
+            &mut self.conn,
+            "DELETE FROM holds WHERE host = ?1 AND slug = ?2",
+            params![host.as_str(), slug.as_str()],
+        )
+    }
+
+    /// Removes all grants of a pass.
+    pub fn drop_grants_by(&mut self, host: &HostName, pass: &Token) -> Result<(), Fault>
+        ensures writes { Writes S.Store self.old self.new result
+            (change.drop_grants_by host.now pass.now) }
+    {
+        let sql = "DELETE FROM holds WHERE host = ?1 AND pass = ?2";
+        write(&mut self.conn, sql, params![host.as_str(), pass.as_str()])
+    }
+
+    /// What a pass holds, in the order of slugs.
+    pub fn held_by(
+        &mut self,
+        alloc: Global,
+        host: &HostName,
+        pass: &Token,
+    ) -> Result<Vec<HeldRow>, Fault>
+        ensures asks { Asks S.Store self.old self.new result }
+        ensures value { ReadsAll S.Store self.old self.new result
+            (λ l. filter (spec.is_held_by host.now pass.now) l.held) }
+    {
+        let sql =
+            "SELECT host, pass, slug FROM holds WHERE host = ?1 AND pass = ?2 ORDER BY host, pass, slug";
+        let key = params![host.as_str(), pass.as_str()];
+        all_records(&mut self.conn, alloc, sql, key)
+    }
+}

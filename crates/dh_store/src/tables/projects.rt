@@ -1,0 +1,64 @@
+//! The calls on projects.
+
+ghost use Rattle.std.specs.Prelude.{find, is_some};
+ghost use Rattle.dh_rows.specs.Calls.{IsHonest, seen};
+ghost use Rattle.dh_rows.specs.Keyed.{IsFreeKey};
+ghost use Rattle.dh_schema.specs.Calling.{Asks, Reads, Writes};
+ghost use Rattle.dh_schema.specs.Tables.{lists_of};
+ghost use Rattle.dh_records.specs.Changes as change;
+ghost use Rattle.dh_records.specs.Codings as coding;
+ghost use Rattle.dh_records.specs.Lists as spec;
+
+use super::Tables;
+use dh_paths::HostName;
+use dh_records::ProjectRow;
+use dh_reply::Fault;
+use dh_schema::{first_record, has_record, write};
+use sqlite::{Alter, params};
+use std::alloc::Global;
+
+impl<S: Alter> Tables<S> {
+    /// Whether there is a project under a host.
+    pub fn has_project(&mut self, host: &HostName) -> Result<bool, Fault>
+        ensures asks { Asks S.Store self.old self.new result }
+        ensures value { Reads S.Store self.old self.new result
+            (λ l. is_some (find (spec.is_project host.now) l.projects)) }
+    {
+        let sql =
+            "SELECT host, main, branch, wkey, private FROM project WHERE host = ?1 ORDER BY host";
+        has_record(&mut self.conn, sql, params![host.as_str()])
+    }
+
+    /// The project under a host.
+    pub fn project(&mut self, alloc: Global, host: &HostName) -> Result<Option<ProjectRow>, Fault>
+        ensures asks { Asks S.Store self.old self.new result }
+        ensures value { Reads S.Store self.old self.new result
+            (λ l. find (spec.is_project host.now) l.projects) }
+    {
+        first_record(
+            &mut self.conn,
+            alloc,
+            "SELECT host, main, branch, wkey, private FROM project WHERE host = ?1 ORDER BY host",
+            params![host.as_str()],
+        )
+    }
+
+    /// Adds a project, whose host is free.
+    pub fn add_project(&mut self, project: &ProjectRow) -> Result<(), Fault>
+        requires free { IsHonest S.Store self.old
+            → IsFreeKey coding.projects.key project.now (seen S.Store lists_of self.old).projects }
+        ensures writes { Writes S.Store self.old self.new result (change.add_project project.now) }
+    {
+        write(
+            &mut self.conn,
+            "INSERT INTO project VALUES (?1, ?2, ?3, ?4, ?5)",
+            params![
+                project.host.as_str(),
+                project.main.as_str(),
+                project.branch.as_str(),
+                project.wkey.as_str(),
+                project.new_private
+            ],
+        )
+    }
+}

@@ -1,0 +1,136 @@
+//! The calls on retry keys.
+
+ghost use Rattle.std.specs.Prelude.{option_map, find, IfSome, IsSome};
+ghost use Rattle.dh_rows.specs.Calls.{IsHonest, seen};
+ghost use Rattle.dh_rows.specs.Keyed.{IsFreeKey};
+ghost use Rattle.dh_world.specs.Answers.{IsAnswer, json_of};
+ghost use Rattle.dh_schema.specs.Calling.{Asks, Learns, Reads, Writes};
+ghost use Rattle.dh_schema.specs.Tables.{lists_of};
+ghost use Rattle.dh_records.specs.Changes as change;
+ghost use Rattle.dh_records.specs.Codings as coding;
+ghost use Rattle.dh_records.specs.Lists as spec;
+ghost use Rattle.dh_records.specs.Typed.{Tells};
+
+use super::{Tables, show_number};
+use dh_paths::{HostName, Slug, Token};
+use dh_records::{UsedRow, kept_answer};
+use dh_reply::Fault;
+use dh_schema::{first_record, write};
+use dh_world::{Answer, Operation};
+use sqlite::{Alter, params};
+use std::alloc::Global;
+
+/// That the slug of an answer is one, and its count fits, as their types say. It does nothing.
+fn show_parts(answer: &Answer)
+    ensures { IsAnswer answer.now }
+{
+    match answer {
+        Answer::Done => {}
+        Answer::Made { slug, .. } => {
+            let _ = slug.as_str();
+        }
+        Answer::Known { slug } => {
+            let _ = slug.as_str();
+        }
+        Answer::Stored { pages } => show_number(*pages),
+    }
+}
+
+impl<S: Alter> Tables<S> {
+    /// The row of a retry key.
+    fn used_row(
+        &mut self,
+        alloc: Global,
+        host: &HostName,
+        slug: &Slug,
+        op: Operation,
+        retry: &Token,
+    ) -> Result<Option<UsedRow>, Fault>
+        ensures asks { Asks S.Store self.old self.new result }
+        ensures value { Reads S.Store self.old self.new result
+            (λ l. find (spec.is_used host.now slug.now op retry.now) l.used) }
+        ensures tells { Learns S.Store self.old self.new result
+            (λ l o. IfSome o (λ row. Tells row.answer)) }
+    {
+        first_record(
+            &mut self.conn,
+            alloc,
+            "SELECT host, slug, op, retry, answer FROM used WHERE host = ?1 AND slug = ?2 AND op = ?3 AND retry = ?4 ORDER BY host, slug, op, retry",
+            params![host.as_str(), slug.as_str(), op.is_upload(), retry.as_str()],
+        )
+    }
+
+    /// The first answer to a retry key. A kept text that is no answer's is a fault of the store.
+    pub fn used(
+        &mut self,
+        alloc: Global,
+        host: &HostName,
+        slug: &Slug,
+        op: Operation,
+        retry: &Token,
+    ) -> Result<Option<Answer>, Fault>
+        ensures asks { Asks S.Store self.old self.new result }
+        ensures value { Reads S.Store self.old self.new result
+            (λ l. option_map spec.kept_answer
+            (find (spec.is_used host.now slug.now op retry.now) l.used)) }
+    {
+        match self.used_row(alloc, host, slug, op, retry) {
+            Ok(Some(row)) => kept_answer(alloc, row.answer.as_str()),
+            Ok(None) => Ok(None),
+            Err(fault) => Err(fault),
+        }
+    }
+
+    /// Adds the row of a retry key, which is free.
+    fn add_used(
+        &mut self,
+        host: &HostName,
+        slug: &Slug,
+        op: Operation,
+        retry: &Token,
+        answer: &str,
+    ) -> Result<(), Fault>
+        requires tells { Tells answer.now }
+        requires free { IsHonest S.Store self.old
+            → IsFreeKey coding.used.key (spec.used_row host.now slug.now op retry.now answer.now)
+            (seen S.Store lists_of self.old).used }
+        ensures writes { Writes S.Store self.old self.new result
+            (change.add_used (spec.used_row host.now slug.now op retry.now answer.now)) }
+    {
+        write(
+            &mut self.conn,
+            "INSERT INTO used VALUES (?1, ?2, ?3, ?4, ?5)",
+            params![
+                host.as_str(),
+                slug.as_str(),
+                op.is_upload(),
+                retry.as_str(),
+                answer
+            ],
+        )
+    }
+
+    /// Keeps the first answer to a retry key, which is free. The answer is one that has a JSON text.
+    pub fn keep(
+        &mut self,
+        alloc: Global,
+        host: &HostName,
+        slug: &Slug,
+        op: Operation,
+        retry: &Token,
+        answer: &Answer,
+    ) -> Result<(), Fault>
+        requires told { IsSome (json_of answer.now) }
+        requires free { IsHonest S.Store self.old
+            → IsFreeKey coding.used.key (spec.keeping host.now slug.now op retry.now answer.now)
+            (seen S.Store lists_of self.old).used }
+        ensures writes { Writes S.Store self.old self.new result
+            (change.add_used (spec.keeping host.now slug.now op retry.now answer.now)) }
+    {
+        show_parts(answer);
+        match answer.json(alloc) {
+            Ok(text) => self.add_used(host, slug, op, retry, text.as_str()),
+            Err(_) => Err(Fault::Memory),
+        }
+    }
+}

@@ -1,0 +1,93 @@
+//! The calls on versions.
+
+ghost use Rattle.std.specs.Prelude.{filter, find};
+ghost use Rattle.dh_schema.specs.Calling.{Asks, Learns, Reads, ReadsAll, Writes};
+ghost use Rattle.dh_records.specs.Rules.{RiseBySlug};
+ghost use Rattle.dh_records.specs.Changes as change;
+ghost use Rattle.dh_records.specs.Lists as spec;
+
+use super::Tables;
+use dh_paths::{HostName, Slug};
+use dh_records::{VersionRow, is_tag};
+use dh_reply::Fault;
+use dh_schema::{all_records, first_record, write};
+use sqlite::{Alter, params};
+use std::alloc::Global;
+
+impl<S: Alter> Tables<S> {
+    /// The version with this slug.
+    pub fn version(
+        &mut self,
+        alloc: Global,
+        host: &HostName,
+        slug: &Slug,
+    ) -> Result<Option<VersionRow>, Fault>
+        ensures asks { Asks S.Store self.old self.new result }
+        ensures value { Reads S.Store self.old self.new result
+            (λ l. find (spec.is_version host.now slug.now) l.versions) }
+    {
+        self.version_named(alloc, host, slug.as_str())
+    }
+
+    /// The version whose slug is this text.
+    pub fn version_named(
+        &mut self,
+        alloc: Global,
+        host: &HostName,
+        name: &str,
+    ) -> Result<Option<VersionRow>, Fault>
+        ensures asks { Asks S.Store self.old self.new result }
+        ensures value { Reads S.Store self.old self.new result
+            (λ l. find (spec.is_version host.now name.now) l.versions) }
+    {
+        first_record(
+            &mut self.conn,
+            alloc,
+            "SELECT host, slug, name, kind, active, hidden, private FROM version WHERE host = ?1 AND slug = ?2 ORDER BY host, slug",
+            params![host.as_str(), name],
+        )
+    }
+
+    /// The versions of a project, in the order of their slugs.
+    pub fn versions(&mut self, alloc: Global, host: &HostName) -> Result<Vec<VersionRow>, Fault>
+        ensures asks { Asks S.Store self.old self.new result }
+        ensures value { ReadsAll S.Store self.old self.new result
+            (λ l. filter (spec.is_version_of host.now) l.versions) }
+        ensures order { Learns S.Store self.old self.new result (λ l o. RiseBySlug o.items) }
+    {
+        all_records(
+            &mut self.conn,
+            alloc,
+            "SELECT host, slug, name, kind, active, hidden, private FROM version WHERE host = ?1 ORDER BY host, slug",
+            params![host.as_str()],
+        )
+    }
+
+    /// Adds a version, or puts it in place of the one with its slug.
+    pub fn put_version(&mut self, row: &VersionRow) -> Result<(), Fault>
+        ensures writes { Writes S.Store self.old self.new result (change.put_version row.now) }
+    {
+        write(
+            &mut self.conn,
+            "INSERT INTO version VALUES (?1, ?2, ?3, ?4, ?5, ?6, ?7) ON CONFLICT (host, slug) DO UPDATE SET name = ?3, kind = ?4, active = ?5, hidden = ?6, private = ?7",
+            params![
+                row.host.as_str(),
+                row.version.slug.as_str(),
+                row.version.name.as_str(),
+                is_tag(row.version.kind),
+                row.version.active,
+                row.version.hidden,
+                row.version.private
+            ],
+        )
+    }
+
+    /// Removes a version. Its pages and grants stay, and its name among the defaults.
+    pub fn drop_version(&mut self, host: &HostName, slug: &Slug) -> Result<(), Fault>
+        ensures writes { Writes S.Store self.old self.new result
+            (change.drop_version host.now slug.now) }
+    {
+        let sql = "DELETE FROM version WHERE host = ?1 AND slug = ?2";
+        write(&mut self.conn, sql, params![host.as_str(), slug.as_str()])
+    }
+}

@@ -1,0 +1,349 @@
+-- What a view shows, by what was found in the lists.
+use Rattle.std.proofs.Common.{◌≡◌, ℕ, ◌<◌, ◌≤◌, ◌+◌, Bool, true, false, ◌&&◌, cond, List, [], ◌∷◌, map, filter, Option, Some, None, refl, sym, ap, subst, ◌∙◌, slice_get, slice_index_or, drop, length, true≢false, Equal}
+use Rattle.std.specs.Prelude.{option_map, option_and_then, is_some, codes}
+use Rattle.std.specs.Option.{option_map_or, option_or}
+use Rattle.std.specs.List.{find, AllByRecursion}
+use Rattle.std.specs.Str.{bytes_eq}
+use Rattle.std.specs.Ordering.{eq_by_cmp}
+use Rattle.std.specs.FinMap.{FinMap, get, entries, entries_sorted, keys, values, get-entries, get-retain_keys}
+use Rattle.std.specs.FinMap as finite
+use Rattle.std.proofs.lemmas.List.{at_drop_more, at_drop_all}
+use Rattle.std.proofs.lemmas.Map.Lookups.{exact_bytes}
+use Rattle.std.proofs.lemmas.Slice.Eq.{bytes_eq-Decides}
+use Rattle.dh_versions.specs.declared.version.Version.{Version}
+use Rattle.dh_versions.specs.Aliases.{latest_of, stable_of}
+use Rattle.dh_reply.specs.declared.answer.Named.{Named}
+use Rattle.dh_reply.specs.declared.seen_project.SeenProject.{SeenProject}
+use Rattle.dh_reply.specs.SeenProject.{resolved, alias_of, page_at}
+use Rattle.dh_records.specs.declared.records.ProjectRow.{ProjectRow}
+use Rattle.dh_records.specs.declared.records.VersionRow.{VersionRow}
+use Rattle.dh_records.specs.declared.records.PickRow.{PickRow}
+use Rattle.dh_records.specs.declared.records.HeldRow.{HeldRow}
+use Rattle.dh_world.specs.World.{Text, text_cmp, Project, holds, is_visible, may_see}
+use Rattle.dh_records.specs.Lists.{Lists, project_of, world_of, is_project, is_version, is_version_of, is_page, is_lang_of, is_pick_of}
+use Rattle.dh_world.specs.Seen.{seen_project, without_default, default_of, visible_versions}
+use Rattle.dh_records.specs.Rules.{RiseBySlug}
+use Rattle.dh_view.specs.View.{opens}
+use Rattle.dh_world.proofs.MapLemmas.{tied_text}
+use Rattle.dh_records.proofs.SeenLemmas.{get_project, get_version, get_page}
+use Rattle.dh_world.proofs.SeenLemmas.{seen_page}
+use Rattle.dh_records.proofs.SlugOrder.{by_slug, visible_entries, each_found, each, same_filter}
+
+-- ---- the version with a slug
+
+-- the version, if the caller may see it
+abbrev pub if_seen : Bool → Option VersionRow → Option Version
+if_seen held None = None
+if_seen held (Some r) = cond (may_see r.version held) (Some r.version) None
+
+alike : (p : Text → Bool) (q x : Text) → text_cmp q x ≡ Equal → p x ≡ p q
+alike p q x e = ap p (sym (exact_bytes q x e))
+
+pub visible_is : (lists : Lists) (row : ProjectRow) (pass : Option Text) (slug : Text)
+    → get (visible_versions (project_of lists row) pass) slug ≡ if_seen (holds (project_of lists row) pass slug) (find (is_version row.host slug) lists.versions)
+visible_is lists row pass slug =
+    let held = holds (project_of lists row) pass slug in
+    get-retain_keys (project_of lists row).versions (is_visible (project_of lists row) pass) slug (alike _ slug)
+    ∙ ap (λ o. cond (option_map_or (λ v. may_see v held) o false) o None) (get_version lists row slug) ∙ go held (find (is_version row.host slug) lists.versions)
+  where
+    go : (held : Bool) (o : Option VersionRow) → cond (option_map_or (λ v. may_see v held) (option_map (λ r. r.version) o) false) (option_map (λ r. r.version) o) None ≡ if_seen held o
+    go held None = refl
+    go held (Some r) = refl
+
+found_passes : {A : Type 0} (p : A → Bool) (xs : List A) (x : A) → find p xs ≡ Some x → p x ≡ true
+found_passes p [] x e = absurd (not_some x e)
+  where
+    not_some : {A : Type 0} (x : A) → None ≡ Some x → ⊥
+    not_some x e = cc
+found_passes p (y ∷ ys) x e = go (p y) refl e (found_passes p ys x)
+  where
+    go : (b : Bool) → p y ≡ b → cond b (Some y) (find p ys) ≡ Some x → (find p ys ≡ Some x → p x ≡ true) → p x ≡ true
+    go true own e more = let same : y ≡ x = cc in ap p (sym same) ∙ own
+    go false own e more = more e
+
+last_true : (a b : Bool) → (a && b) ≡ true → b ≡ true
+last_true true b e = e
+last_true false b e = cc
+
+-- a version that is found by its slug has it
+own_slug_of : (host slug : Text) (rows : List VersionRow) (r : VersionRow) → find (is_version host slug) rows ≡ Some r → r.version.slug ≡ slug
+own_slug_of host slug rows r is = (bytes_eq-Decides r.version.slug slug).0 (last_true (bytes_eq r.host host) (bytes_eq r.version.slug slug) (found_passes (is_version host slug) rows r is))
+
+slug_of : (held : Bool) (host slug : Text) (rows : List VersionRow) (v : Version) → if_seen held (find (is_version host slug) rows) ≡ Some v → v.slug ≡ slug
+slug_of held host slug rows v e = go (find (is_version host slug) rows) refl e
+  where
+    go : (o : Option VersionRow) → find (is_version host slug) rows ≡ o → if_seen held o ≡ Some v → v.slug ≡ slug
+    go None is e = absurd (no e)
+      where
+        no : None ≡ Some v → ⊥
+        no e = cc
+    go (Some r) is e = more (may_see r.version held) e
+      where
+        more : (b : Bool) → cond b (Some r.version) None ≡ Some v → v.slug ≡ slug
+        more true e = let same : r.version ≡ v = cc in ap (λ (x : Version). x.slug) (sym same) ∙ own_slug_of host slug rows r is
+        more false e = absurd (no e)
+          where
+            no : None ≡ Some v → ⊥
+            no e = cc
+
+-- ---- the version that a name stands for
+
+-- each version has the slug at which it stands
+abbrev IsOwnKey : Text × Version → Type 0
+IsOwnKey e = e.1.slug ≡ e.0
+
+found_version : (name : Text) (es : List (Text × Version)) → AllByRecursion IsOwnKey es → find (λ (v : Version). bytes_eq v.slug name) (map (λ e. e.1) es) ≡ finite.find text_cmp name es
+found_version name [] own = refl
+found_version name (e ∷ es) own =
+    let rest = find (λ (v : Version). bytes_eq v.slug name) (map (λ e. e.1) es) in
+    ap (λ s. cond (bytes_eq s name) (Some e.1) rest) own.0 ∙ ap (λ b. cond b (Some e.1) rest) (sym (tied_text name e.0)) ∙ ap (cond (eq_by_cmp text_cmp name e.0) (Some e.1)) (found_version name es own.1)
+
+own_keys : (lists : Lists) (row : ProjectRow) (pass : Option Text) → AllByRecursion IsOwnKey (entries (visible_versions (project_of lists row) pass))
+own_keys lists row pass =
+    let m = visible_versions (project_of lists row) pass in
+    each (λ e found. slug_of (holds (project_of lists row) pass e.0) row.host e.0 lists.versions e.1 (sym (visible_is lists row pass e.0) ∙ get-entries m e.0 ∙ found)) (entries m) (each_found (entries m) (entries_sorted m))
+
+abbrev pub own_name : Version → Named
+own_name v = record { slug = v.slug; alias = false }
+
+abbrev pub alias_name : Text → Named
+alias_name s = record { slug = s; alias = true }
+
+pub resolved_is : (lists : Lists) (row : ProjectRow) (pass : Option Text) (name : Text) → let p = project_of lists row in
+    resolved (seen_project p pass) name ≡ option_or (option_map own_name (get (visible_versions p pass) name)) (alias_of (seen_project p pass) name)
+unfolding resolved seen_project without_default
+resolved_is lists row pass name =
+    let m = visible_versions (project_of lists row) pass in
+    ap (λ o. option_or (option_map own_name o) (alias_of (seen_project (project_of lists row) pass) name)) (found_version name (entries m) (own_keys lists row pass) ∙ sym (get-entries m name))
+
+pub alias_is : (p : Project) (pass : Option Text) (name : Text) → alias_of (seen_project p pass) name ≡
+    cond (bytes_eq name (codes "latest")) (option_map alias_name (option_and_then (slice_get (keys (visible_versions p pass))) (latest_of (values (visible_versions p pass)) p.branch)))
+    (cond (bytes_eq name (codes "stable")) (option_map alias_name (option_and_then (slice_get (keys (visible_versions p pass))) (stable_of (values (visible_versions p pass))))) None)
+unfolding seen_project without_default
+alias_is p pass name = refl
+
+pub default_is : (p : Project) (pass : Option Text) → (seen_project p pass).default ≡ default_of (λ name. is_some (resolved (seen_project p pass) name)) p.defaults
+unfolding seen_project without_default resolved
+default_is p pass = refl
+
+-- the first name that resolves is the default, and without one it is an alias
+default_first : (resolves : Text → Bool) (names : List Text) → default_of resolves names ≡ option_or (find resolves names) (default_of resolves [])
+default_first resolves [] = refl
+default_first resolves (n ∷ names) = go (resolves n) (default_first resolves names)
+  where
+    go : (b : Bool) → default_of resolves names ≡ option_or (find resolves names) (default_of resolves []) → cond b (Some n) (default_of resolves names) ≡ option_or (cond b (Some n) (find resolves names)) (default_of resolves [])
+    go true more = refl
+    go false more = more
+
+settles : {A : Type 0} (o rest : Option A) → is_some o ≡ true → option_or o rest ≡ o
+settles None rest e = absurd (true≢false (sym e))
+settles (Some x) rest e = refl
+
+passes_on : {A : Type 0} (o rest : Option A) → is_some o ≡ false → option_or o rest ≡ rest
+passes_on None rest e = refl
+passes_on (Some x) rest e = absurd (true≢false e)
+
+-- with no default left to ask for, none was found
+pub none_left : (resolves : Text → Bool) (picks : List PickRow) (i : ℕ) → length picks ≤ i → find resolves (map (λ d. d.name) (drop i picks)) ≡ find resolves (map (λ d. d.name) picks) → None ≡ find resolves (map (λ d. d.name) picks)
+none_left resolves picks i past e = sym (at_drop_all (λ l. find resolves (map (λ d. d.name) l)) picks i past) ∙ e
+
+-- ---- lists
+
+pub slugs_of : (rows : List VersionRow) → map (λ e. e.0) (map by_slug rows) ≡ map (λ v. v.slug) (map (λ r. r.version) rows)
+slugs_of [] = refl
+slugs_of (r ∷ rows) = ap (λ l. r.version.slug ∷ l) (slugs_of rows)
+
+pub versions_of : (rows : List VersionRow) → map (λ e. e.1) (map by_slug rows) ≡ map (λ r. r.version) rows
+versions_of [] = refl
+versions_of (r ∷ rows) = ap (λ l. r.version ∷ l) (versions_of rows)
+
+-- ---- what the functions answer
+
+names_are : (lists : Lists) (row : ProjectRow) → (project_of lists row).defaults ≡ map (λ d. d.name) (filter (is_pick_of row.host) lists.picks)
+unfolding project_of
+names_are lists row = refl
+
+module _ (lists : Lists) (row : ProjectRow) (pass : Option Text) where
+  abbrev visible : FinMap text_cmp Version
+  visible = visible_versions (project_of lists row) pass
+
+  abbrev whole : SeenProject
+  whole = seen_project (project_of lists row) pass
+
+  abbrev held : Text → Bool
+  held = holds (project_of lists row) pass
+
+  found_as : (name : Text) (o : Option VersionRow) (r : VersionRow) → o ≡ find (is_version row.host name) lists.versions → o ≡ Some r → cond (may_see r.version (held r.version.slug)) (Some r.version) None ≡ get visible name
+  found_as name o r e is =
+      ap (λ slug. cond (may_see r.version (held slug)) (Some r.version) None) (own_slug_of row.host name lists.versions r (sym e ∙ is))
+      ∙ ap (if_seen (held name)) (sym is ∙ e) ∙ sym (visible_is lists row pass name)
+
+  pub when_seen : (name : Text) (o : Option VersionRow) (r : VersionRow) → o ≡ find (is_version row.host name) lists.versions → o ≡ Some r → may_see r.version (held r.version.slug) ≡ true → Some r.version ≡ get visible name
+  when_seen name o r e is t = sym (ap (λ b. cond b (Some r.version) None) t) ∙ found_as name o r e is
+
+  pub when_unseen : (name : Text) (o : Option VersionRow) (r : VersionRow) → o ≡ find (is_version row.host name) lists.versions → o ≡ Some r → may_see r.version (held r.version.slug) ≡ false → None ≡ get visible name
+  when_unseen name o r e is t = sym (ap (λ b. cond b (Some r.version) None) t) ∙ found_as name o r e is
+
+  pub when_absent : (name : Text) (o : Option VersionRow) → o ≡ find (is_version row.host name) lists.versions → o ≡ None → None ≡ get visible name
+  when_absent name o e is = ap (if_seen (held name)) (sym is ∙ e) ∙ sym (visible_is lists row pass name)
+
+  abbrev is_shown : VersionRow → Bool
+  is_shown r = may_see r.version (held r.version.slug)
+
+  -- what decides over the versions as the pass does leaves those that are shown
+  pub kept_are : (at : Lists) (grants opened : List HeldRow) (rows asked kept : List VersionRow) → at ≡ lists → rows ≡ filter (is_version_of row.host) lists.versions → asked ≡ rows → opened ≡ grants
+      → kept ≡ filter (λ r. may_see r.version (opens opened r.version.slug)) rows
+      → AllByRecursion (λ r. may_see r.version (opens grants r.version.slug) ≡ may_see r.version (holds (project_of at row) pass r.version.slug)) asked
+      → kept ≡ filter is_shown (filter (is_version_of row.host) lists.versions)
+  kept_are at grants opened rows asked kept same e a o k all =
+      let told = subst (λ l. AllByRecursion (λ r. may_see r.version (opens grants r.version.slug) ≡ may_see r.version (holds (project_of l row) pass r.version.slug)) asked) same all in
+      k ∙ ap (λ gs. filter (λ r. may_see r.version (opens gs r.version.slug)) rows) o
+      ∙ same_filter (λ r. may_see r.version (opens grants r.version.slug)) is_shown rows (subst (AllByRecursion (λ r. may_see r.version (opens grants r.version.slug) ≡ is_shown r)) a told) ∙ ap (filter is_shown) e
+
+  pub values_are : (kept : List VersionRow) → RiseBySlug (filter (is_version_of row.host) lists.versions) → kept ≡ filter is_shown (filter (is_version_of row.host) lists.versions) → map (λ r. r.version) kept ≡ values visible
+  values_are kept up k = ap (map (λ r. r.version)) k ∙ sym (versions_of _) ∙ ap (map (λ e. e.1)) (sym (visible_entries lists row pass up))
+
+  pub keys_are : (kept : List VersionRow) → RiseBySlug (filter (is_version_of row.host) lists.versions) → kept ≡ filter is_shown (filter (is_version_of row.host) lists.versions) → map (λ v. v.slug) (map (λ r. r.version) kept) ≡ keys visible
+  keys_are kept up k = ap (λ l. map (λ v. v.slug) (map (λ r. r.version) l)) k ∙ sym (slugs_of _) ∙ ap (map (λ e. e.0)) (sym (visible_entries lists row pass up))
+
+  pub latest_is : (vs : List Version) → vs ≡ values visible → map (λ v. v.slug) vs ≡ keys visible
+      → option_map alias_name (option_and_then (slice_get (map (λ v. v.slug) vs)) (latest_of vs row.branch)) ≡ option_map alias_name whole.latest
+  unfolding seen_project without_default project_of
+  latest_is vs e k = λ i. option_map alias_name (option_and_then (slice_get (k i)) (latest_of (e i) row.branch))
+
+  pub stable_is : (vs : List Version) → vs ≡ values visible → map (λ v. v.slug) vs ≡ keys visible
+      → option_map alias_name (option_and_then (slice_get (map (λ v. v.slug) vs)) (stable_of vs)) ≡ option_map alias_name whole.stable
+  unfolding seen_project without_default
+  stable_is vs e k = λ i. option_map alias_name (option_and_then (slice_get (k i)) (stable_of (e i)))
+
+  pub own_slug : (name : Text) (o : Option Version) (v : Version) → o ≡ get visible name → o ≡ Some v → Some (own_name v) ≡ resolved whole name
+  own_slug name o v e is = sym (resolved_is lists row pass name ∙ ap (λ o. option_or (option_map own_name o) (alias_of whole name)) (sym e ∙ is))
+
+  pub no_slug : (name : Text) (o : Option Version) → o ≡ get visible name → o ≡ None → alias_of whole name ≡ resolved whole name
+  no_slug name o e is = sym (resolved_is lists row pass name ∙ ap (λ o. option_or (option_map own_name o) (alias_of whole name)) (sym e ∙ is))
+
+  -- the name stands for a version that the caller sees
+  abbrev pub resolves : Text → Bool
+  resolves name = is_some (resolved whole name)
+
+  -- `latest`, where it stands for a version
+  pub alias_first : (o : Option Text) (t : Text) → o ≡ option_map (λ n. codes "latest") (resolved whole (codes "latest")) → o ≡ Some t → Some t ≡ default_of resolves []
+  alias_first o t e is = go (resolved whole (codes "latest")) (sym is ∙ e)
+    where
+      go : (r : Option Named) → Some t ≡ option_map (λ n. codes "latest") r → Some t ≡ cond (is_some r) (Some (codes "latest")) (cond (is_some (resolved whole (codes "stable"))) (Some (codes "stable")) None)
+      go None e = absurd (no e)
+        where
+          no : Some t ≡ None → ⊥
+          no e = cc
+      go (Some n) e = e
+
+  -- and else `stable`
+  pub alias_second : (o : Option Text) → o ≡ option_map (λ n. codes "latest") (resolved whole (codes "latest")) → o ≡ None → option_map (λ n. codes "stable") (resolved whole (codes "stable")) ≡ default_of resolves []
+  alias_second o e is = go (resolved whole (codes "latest")) (sym is ∙ e)
+    where
+      last : (r : Option Named) → option_map (λ n. codes "stable") r ≡ cond (is_some r) (Some (codes "stable")) None
+      last None = refl
+      last (Some n) = refl
+
+      go : (r : Option Named) → None ≡ option_map (λ n. codes "latest") r → option_map (λ n. codes "stable") (resolved whole (codes "stable")) ≡ cond (is_some r) (Some (codes "latest")) (cond (is_some (resolved whole (codes "stable"))) (Some (codes "stable")) None)
+      go None e = last (resolved whole (codes "stable"))
+      go (Some n) e = absurd (no e)
+        where
+          no : None ≡ Some (codes "latest") → ⊥
+          no e = cc
+
+  -- one default on, in tables that show the same
+  found_next : (at : Lists) (picks : List PickRow) (i : ℕ) (x : PickRow) (text : Text) (found : Option Text) → at ≡ lists → i < length picks → x ≡ slice_index_or picks i x → text ≡ x.name
+      → found ≡ option_map (λ n. text) (resolved (seen_project (project_of at row) pass) text)
+      → find resolves (map (λ d. d.name) (drop i picks)) ≡ option_or found (find resolves (map (λ d. d.name) (drop (i + 1) picks)))
+  found_next at picks i x text found same low is e f =
+      at_drop_more (λ l. find resolves (map (λ d. d.name) l)) picks i x low
+      ∙ ap (λ y. cond (resolves y.name) (Some y.name) (find resolves (map (λ d. d.name) (drop (i + 1) picks)))) (sym is)
+      ∙ go (resolved whole x.name) (find resolves (map (λ d. d.name) (drop (i + 1) picks)))
+      ∙ ap (λ o. option_or o (find resolves (map (λ d. d.name) (drop (i + 1) picks))))
+      (sym (f ∙ ap (λ l. option_map (λ n. text) (resolved (seen_project (project_of l row) pass) text)) same ∙ ap (λ t. option_map (λ n. t) (resolved whole t)) e))
+    where
+      go : (o : Option Named) (rest : Option Text) → cond (is_some o) (Some x.name) rest ≡ option_or (option_map (λ n. x.name) o) rest
+      go None rest = refl
+      go (Some n) rest = refl
+
+  -- it is found now, or it is among those that are left
+  module _ (at : Lists) (picks : List PickRow) (i : ℕ) (x : PickRow) (text : Text) (found : Option Text) (same : at ≡ lists) (low : i < length picks) (is : x ≡ slice_index_or picks i x) (e : text ≡ x.name)
+      (f : found ≡ option_map (λ n. text) (resolved (seen_project (project_of at row) pass) text)) (left : find resolves (map (λ d. d.name) (drop i picks)) ≡ find resolves (map (λ d. d.name) picks)) where
+    pub found_now : is_some found ≡ true → found ≡ find resolves (map (λ d. d.name) picks)
+    found_now some = sym (settles found (find resolves (map (λ d. d.name) (drop (i + 1) picks))) some) ∙ sym (found_next at picks i x text found same low is e f) ∙ left
+
+    pub found_later : is_some found ≡ false → find resolves (map (λ d. d.name) (drop (i + 1) picks)) ≡ find resolves (map (λ d. d.name) picks)
+    found_later none = sym (passes_on found (find resolves (map (λ d. d.name) (drop (i + 1) picks))) none) ∙ sym (found_next at picks i x text found same low is e f) ∙ left
+
+  default_by : (picks : List PickRow) → picks ≡ filter (is_pick_of row.host) lists.picks → option_or (find resolves (map (λ d. d.name) picks)) (default_of resolves []) ≡ whole.default
+  default_by picks e =
+      ap (λ l. option_or (find resolves (map (λ d. d.name) l)) (default_of resolves [])) e
+      ∙ sym (default_is (project_of lists row) pass ∙ ap (default_of resolves) (names_are lists row) ∙ default_first resolves (map (λ d. d.name) (filter (is_pick_of row.host) lists.picks)))
+
+  module _ (at : Lists) (same : at ≡ lists) (picks asked : List PickRow) (e : picks ≡ filter (is_pick_of row.host) lists.picks) (a : asked ≡ picks) (o : Option Text)
+      (f : o ≡ find (λ name. is_some (resolved (seen_project (project_of at row) pass) name)) (map (λ d. d.name) asked)) where
+    found_as_default : option_or o (default_of resolves []) ≡ whole.default
+    found_as_default =
+        ap (λ o. option_or o (default_of resolves []))
+        (f ∙ ap (λ l. find (λ name. is_some (resolved (seen_project (project_of l row) pass) name)) (map (λ d. d.name) asked)) same ∙ ap (λ ps. find resolves (map (λ d. d.name) ps)) a)
+        ∙ default_by picks e
+
+    pub default_chosen : (t : Text) → o ≡ Some t → Some t ≡ whole.default
+    default_chosen t is = ap (λ o. option_or o (default_of resolves [])) (sym is) ∙ found_as_default
+
+    pub default_alias : (now : Lists) → now ≡ at → o ≡ None → default_of (λ name. is_some (resolved (seen_project (project_of now row) pass) name)) [] ≡ whole.default
+    default_alias now still is =
+        ap (λ l. default_of (λ name. is_some (resolved (seen_project (project_of l row) pass) name)) []) (still ∙ same)
+        ∙ ap (λ o. option_or o (default_of resolves [])) (sym is) ∙ found_as_default
+
+  seen_when : (slug : Text) → is_visible (project_of lists row) pass slug ≡ is_some (get visible slug)
+  seen_when slug =
+      ap (λ o. option_map_or (λ v. may_see v (held slug)) o false) (get_version lists row slug)
+      ∙ go (held slug) (find (is_version row.host slug) lists.versions) ∙ ap is_some (sym (visible_is lists row pass slug))
+    where
+      go : (held : Bool) (o : Option VersionRow) → option_map_or (λ v. may_see v held) (option_map (λ r. r.version) o) false ≡ is_some (if_seen held o)
+      go held None = refl
+      go held (Some r) = more (may_see r.version held)
+        where
+          more : (b : Bool) → b ≡ is_some (cond b (Some r.version) None)
+          more true = refl
+          more false = refl
+
+  pub page_is : (lang slug path : Text) → page_at whole lang slug path ≡ cond (is_some (get visible slug)) (option_map (λ x. x.page) (find (is_page row.host slug lang path) lists.pages)) None
+  page_is lang slug path = seen_page (project_of lists row) pass lang slug path ∙ rw (seen_when slug, get_page lists row slug lang path) refl
+
+module _ (lists : Lists) (row : ProjectRow) (pass : Option Text) (lang slug path : Text) (o : Option Version) (e : o ≡ get (visible_versions (project_of lists row) pass) slug) where
+  pub page_when : (v : Version) → o ≡ Some v → option_map (λ x. x.page) (find (is_page row.host slug lang path) lists.pages) ≡ page_at (seen_project (project_of lists row) pass) lang slug path
+  page_when v is = sym (page_is lists row pass lang slug path ∙ ap (λ o. cond (is_some o) (option_map (λ x. x.page) (find (is_page row.host slug lang path) lists.pages)) None) (sym e ∙ is))
+
+  pub no_page : o ≡ None → None ≡ page_at (seen_project (project_of lists row) pass) lang slug path
+  no_page is = sym (page_is lists row pass lang slug path ∙ ap (λ o. cond (is_some o) (option_map (λ x. x.page) (find (is_page row.host slug lang path) lists.pages)) None) (sym e ∙ is))
+
+pub known_is : (lists : Lists) (o : Option Text) (host : Text) → o ≡ Some host → is_some (find (is_project host) lists.projects) ≡ is_some (option_and_then (get (world_of lists)) o)
+known_is lists o host e = rw e (sym (ap is_some (get_project lists host) ∙ mapped (find (is_project host) lists.projects)))
+  where
+    mapped : (o : Option ProjectRow) → is_some (option_map (project_of lists) o) ≡ is_some o
+    mapped None = refl
+    mapped (Some r) = refl
+
+pub found_is : (lists : Lists) (o : Option Text) (host : Text) → o ≡ Some host → option_map (project_of lists) (find (is_project host) lists.projects) ≡ option_and_then (get (world_of lists)) o
+found_is lists o host e = rw e (sym (get_project lists host))
+
+pub languages_are : (lists : Lists) (row : ProjectRow) → map (λ l. l.lang) (filter (is_lang_of row.host) lists.langs) ≡ (project_of lists row).languages
+unfolding project_of
+languages_are lists row = refl
+
+pub some_shown : (pass : Option Text) (o : Option Project) → is_some o ≡ is_some (option_map (λ p. seen_project p pass) o)
+some_shown pass None = refl
+some_shown pass (Some p) = refl
+
+pub langs_shown : (pass : Option Text) (o : Option Project) → option_map_or (λ p. p.languages) o [] ≡ option_map_or (λ p. p.langs) (option_map (λ p. seen_project p pass) o) []
+unfolding seen_project without_default
+langs_shown pass None = refl
+langs_shown pass (Some p) = refl
+
+pub versions_shown : (pass : Option Text) (o : Option Project) → option_map_or (λ (p : Project). values (visible_versions p pass)) o [] ≡ option_map_or (λ (p : SeenProject). p.versions) (option_map (λ p. seen_project p pass) o) []
+unfolding seen_project without_default
+versions_shown pass None = refl
+versions_shown pass (Some p) = refl

@@ -1,0 +1,147 @@
+-- What a view of the tables shows, and what looks at them leave.
+use Rattle.std.specs.Prelude.{◌≡◌, ◌⊎◌, ℕ, Bool, ◌&&◌, List, Option, Result, is_some, option_and_then, true}
+use Rattle.std.proofs.Common.{inl, inr, ◌∙◌, sym}
+use Rattle.std.proofs.lemmas.Bool.{cases_Bool}
+use Rattle.std.specs.List.{list_any, AllByRecursion}
+use Rattle.std.specs.Str.{bytes_eq}
+use Rattle.std.specs.FinMap.{FinMap, get}
+use Rattle.sqlite_trees.specs.View.{doubt}
+use Rattle.sqlite_trees.specs.declared.store.Store.{Ghosts}
+use Rattle.sqlite.specs.State.{HasCleanDisk}
+use Rattle.sqlite.specs.Held.{Held, state}
+use Rattle.dh_rows.specs.Calls.{IsBlamed, IsHonest, IsSame, Lasts, Leaves, seen}
+use Rattle.dh_versions.specs.declared.version.Version.{Version}
+use Rattle.dh_reply.specs.Faults.{OnStore}
+use Rattle.dh_reply.specs.SeenProject.{resolved}
+use Rattle.dh_reply.specs.declared.fault.Fault.{Fault}
+use Rattle.dh_reply.specs.declared.seen_project.SeenProject.{SeenProject}
+use Rattle.dh_records.specs.declared.records.VersionRow.{VersionRow}
+use Rattle.dh_records.specs.declared.records.HeldRow.{HeldRow}
+use Rattle.dh_records.specs.declared.records.ProjectRow.{ProjectRow}
+use Rattle.dh_world.specs.World.{Text, text_cmp, Project, holds, may_see}
+use Rattle.dh_world.specs.Seen as caller
+use Rattle.dh_schema.specs.InTurn.{blamed_before, lasts_none, lasts_on, same_none, same_on, shut_before}
+use Rattle.dh_records.specs.Lists.{Lists, project_of, world_of}
+use Rattle.dh_schema.specs.Tables.{lists_of}
+
+-- ---- what a caller sees of the records
+
+-- one of the grants is on the version
+abbrev pub opens : List HeldRow → Text → Bool
+opens grants slug = list_any (λ x. bytes_eq x.slug slug) grants
+
+-- the caller who holds these grants may see the version
+abbrev pub is_shown : List HeldRow → VersionRow → Bool
+is_shown grants row = may_see row.version (opens grants row.version.slug)
+
+-- the grants open those versions that are held
+abbrev pub OpensAs : List HeldRow → (Text → Bool) → Type 0
+OpensAs grants held = (slug : Text) → opens grants slug ≡ held slug
+
+-- of these versions they show those that a caller who holds that may see
+abbrev pub ShowsAs : List VersionRow → List HeldRow → (Text → Bool) → Type 0
+ShowsAs rows grants held =
+    AllByRecursion (λ r. is_shown grants r ≡ may_see r.version (held r.version.slug)) rows
+
+-- the project under a host
+abbrev pub project_in : Lists → Option Text → Option Project
+project_in l host = option_and_then (get (world_of l)) host
+
+-- the same as the caller sees it
+abbrev pub shown_under : Lists → Option Text → Option Text → Option SeenProject
+shown_under l host pass = caller.seen (world_of l) host pass
+
+module _ (l : Lists) (row : ProjectRow) (pass : Option Text) where
+  -- the pass is one of the project's, and holds the version
+  abbrev pub held_in : Text → Bool
+  held_in slug = holds (project_of l row) pass slug
+
+  abbrev pub visible_in : FinMap text_cmp Version
+  visible_in = caller.visible_versions (project_of l row) pass
+
+  -- the project as the caller sees it
+  abbrev pub shown_in : SeenProject
+  shown_in = caller.seen_project (project_of l row) pass
+
+  -- the name stands for a version that the caller sees
+  abbrev pub resolves : Text → Bool
+  resolves name = is_some (resolved shown_in name)
+
+-- ---- what looks leave
+
+module _ {S : Type 0} (g : Ghosts S) where
+  -- 0 while the disk has returned what was written and no fault has shut the store, else 1
+  unfoldable pub doubt_of : Held S → ℕ
+  doubt_of h = doubt ((state g h).is_clean && (state g h).is_open)
+
+  -- what the tables show under a host to the holder of this pass, or to a caller with none
+  abbrev pub shown : Held S → Option Text → Option Text → Option SeenProject
+  shown h host pass = shown_under (seen g lists_of h) host pass
+
+  -- The lists are those of before, and a crash leaves nothing that it could not leave before.
+  pub record IsUnmoved (old new : Held S) : Type 0 where
+    pub same : IsSame g lists_of old new
+    pub left : Leaves g lists_of old new (λ w. ⊥)
+
+  -- what a look leaves, whatever it answers
+  pub record Looks (old new : Held S) : Type 0 where
+    pub lasts : Lasts g old new
+    pub unmoved : IsHonest g new → IsUnmoved old new
+
+  -- Why a look may answer `Store`.
+  pub record Fails (old new : Held S) : Type 0 where
+    pub lasts : Lasts g old new
+    -- the store counted a fault in the look or was shut before it, or a transaction was open
+    pub cause : HasCleanDisk (state g new) → IsBlamed g old new ⊎ (old.in_transaction ≡ true)
+
+  module _ {T : Type 0} (old new : Held S) (result : Result T Fault) where
+    -- One look, or several in turn.
+    pub record Queries : Type 0 where
+      -- whatever was answered
+      pub looks : Looks old new
+      -- `Store` is answered with a cause alone
+      pub told : OnStore result (Fails old new)
+
+  pub unmoved_none : (h : Held S) → IsHonest g h → IsUnmoved h h
+  unmoved_none h it = record {
+    same = same_none h it;
+    left = λ _ _ db may. inl may;
+  }
+
+  pub looks_none : (h : Held S) → Looks h h
+  looks_none h = record { lasts = lasts_none h; unmoved = unmoved_none h }
+
+-- what holds over two looks in turn
+pub unmoved_on
+    : {S : Type 0} {g : Ghosts S} {a b c : Held S}
+    → IsUnmoved g a b → IsUnmoved g b c → IsUnmoved g a c
+unmoved_on p q = record {
+  same = same_on p.same q.same;
+  left = λ it ok db may.
+      elim (q.left q.same.was_honest ok db may)
+      [ inl before ↦ p.left it q.same.was_honest.0 db before | inr none ↦ absurd none ];
+}
+
+pub looks_on
+    : {S : Type 0} {g : Ghosts S} {a b c : Held S} → Looks g a b → Looks g b c → Looks g a c
+looks_on p q = record {
+  lasts = lasts_on p.lasts q.lasts;
+  unmoved = λ it. unmoved_on (p.unmoved (q.unmoved it).same.was_honest) (q.unmoved it);
+}
+
+-- ---- why looks in turn answer `Store`
+
+-- A cause of the last look is one of all.
+pub fails_on
+    : {S : Type 0} {g : Ghosts S} {a b c : Held S} → Looks g a b → Fails g b c → Fails g a c
+fails_on {g = g} {b = b} p q = record {
+  lasts = lasts_on p.lasts q.lasts;
+  cause = λ clean.
+      elim (q.cause clean) [
+        | inl blamed ↦ inl (blamed_before p.lasts q.lasts clean blamed)
+        | inr within ↦ elim (cases_Bool (state g b).is_open) [
+          | inl live ↦ inr (sym (p.unmoved (q.lasts.clean clean, live)).same.mode ∙ within)
+          | inr shut ↦ inl (shut_before p.lasts q.lasts clean shut)
+        ]
+      ];
+}

@@ -1,0 +1,6 @@
+//! What a caller sees of the tables.
+#![tactic(auto)]
+
+pub mod view;
+
+pub use view::{View, doubt_is_of_the_store};

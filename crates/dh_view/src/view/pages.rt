@@ -1,0 +1,81 @@
+//! Languages and pages.
+
+ghost use Rattle.std.specs.Prelude.{◌≡◌, map, find, IfOk};
+ghost use Rattle.std.specs.Option.{option_map};
+ghost use Rattle.dh_rows.specs.Calls.{IsHonest};
+ghost use Rattle.dh_records.specs.Lists as spec;
+ghost use Rattle.dh_reply.specs.SeenProject.{page_at};
+ghost use Rattle.dh_records.specs.Lists.{project_of};
+ghost use Rattle.dh_schema.specs.Calling.{IsSettled, Reads, ReadsAll};
+ghost use Rattle.dh_view.specs.View.{Queries, shown_in};
+
+use crate::view::looks::{look_langs, look_page};
+use crate::view::versions::visible_version;
+use dh_paths::{Lang, Slug, Token};
+use dh_records::{LangRow, ProjectRow};
+use dh_reply::{Fault, Page};
+use dh_store::Tables;
+use sqlite::Alter;
+use std::alloc::{AllocError, Global};
+
+fn names_of(alloc: Global, rows: Vec<LangRow>) -> Result<Vec<Lang>, AllocError>
+    ensures { IfOk result (λ v. v.items ≡ map (λ r. r.lang) rows.items) }
+{
+    rows.into_iter().map(|row| row.lang).collect(alloc)
+}
+
+pub fn all_langs<S: Alter>(
+    tables: &mut Tables<S>,
+    alloc: Global,
+    project: &ProjectRow,
+) -> Result<Vec<Lang>, Fault>
+    requires settled { IsHonest S.Store tables.old → IsSettled S.Store tables.old }
+    ensures asks { Queries S.Store tables.old tables.new result }
+    ensures value { ReadsAll S.Store tables.old tables.new result
+        (λ l. (project_of l project.now).languages) }
+{
+    let rows = look_langs(tables, alloc, &project.host)?;
+    Ok(names_of(alloc, rows)?)
+}
+
+/// The page of a version, whoever may see it.
+fn any_page<S: Alter>(
+    tables: &mut Tables<S>,
+    alloc: Global,
+    project: &ProjectRow,
+    lang: &Lang,
+    slug: &Slug,
+    path: &str,
+) -> Result<Option<Page>, Fault>
+    requires settled { IsHonest S.Store tables.old → IsSettled S.Store tables.old }
+    ensures asks { Queries S.Store tables.old tables.new result }
+    ensures value { Reads S.Store tables.old tables.new result
+        (λ l. option_map (λ row. row.page)
+        (find (spec.is_page project.now.host slug.now lang.now path.now) l.pages)) }
+{
+    match look_page(tables, alloc, &project.host, slug, lang, path)? {
+        Some(row) => Ok(Some(row.page)),
+        None => Ok(None),
+    }
+}
+
+/// The page of a visible version.
+pub fn visible_page<S: Alter>(
+    tables: &mut Tables<S>,
+    alloc: Global,
+    project: &ProjectRow,
+    pass: &Option<Token>,
+    lang: &Lang,
+    slug: &Slug,
+    path: &str,
+) -> Result<Option<Page>, Fault>
+    requires settled { IsHonest S.Store tables.old → IsSettled S.Store tables.old }
+    ensures asks { Queries S.Store tables.old tables.new result }
+    ensures value { Reads S.Store tables.old tables.new result
+        (λ l. page_at (shown_in l project.now pass.now) lang.now slug.now path.now) }
+{
+    match visible_version(tables, alloc, project, pass, slug.as_str())? {
+        Some(_version) => any_page(tables, alloc, project, lang, slug, path),
+        None => Ok(None),
+    }
+}

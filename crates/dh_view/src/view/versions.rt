@@ -1,0 +1,194 @@
+//! The versions that a caller sees, and the grants that open the private ones.
+
+ghost use Rattle.std.specs.Prelude.{◌≡◌, map, filter, [], IfOk};
+ghost use Rattle.std.specs.List.{list_any};
+ghost use Rattle.std.specs.FinMap.{get, keys, values};
+ghost use Rattle.dh_rows.specs.Calls.{IsHonest};
+ghost use Rattle.dh_view.specs.View as view;
+ghost use Rattle.dh_schema.specs.Calling.{IsSettled, Learns, Reads, ReadsAll};
+ghost use Rattle.dh_view.specs.View.{OpensAs, Queries, ShowsAs, held_in, is_shown, visible_in};
+ghost use Rattle.dh_world.specs.World as world;
+
+use crate::view::looks::{look_grants, look_held, look_pass, look_version, look_versions};
+use dh_paths::{Slug, Token};
+use dh_records::{HeldRow, ProjectRow, VersionRow};
+use dh_reply::Fault;
+use dh_store::Tables;
+use dh_versions::Version;
+use sqlite::Alter;
+use std::alloc::{AllocError, Global};
+
+fn may_see(version: &Version, held: bool) -> bool
+    ensures { result ≡ world.may_see version.now held }
+{
+    version.active && (!version.private || held)
+}
+
+fn opens(grants: &[HeldRow], slug: &Slug) -> bool
+    ensures { result ≡ view.opens grants.now slug.now }
+{
+    grants
+        .iter()
+        .any(|grant| grant.slug.as_str() == slug.as_str())
+}
+
+fn no_grants(alloc: Global) -> Vec<HeldRow>
+    ensures { result.items ≡ [] }
+{
+    Vec::new(alloc)
+}
+
+fn any_private(rows: &[VersionRow]) -> bool
+    ensures { result ≡ list_any (λ r. r.version.private) rows.now }
+{
+    rows.iter().any(|row| row.version.private)
+}
+
+fn is_visible(row: &VersionRow, grants: &[HeldRow]) -> bool
+    ensures { result ≡ is_shown grants.now row.now }
+{
+    may_see(&row.version, opens(grants, &row.version.slug))
+}
+
+fn only_visible(rows: Vec<VersionRow>, grants: &[HeldRow]) -> Vec<VersionRow>
+    ensures { result.items ≡ filter (is_shown grants.now) rows.items }
+{
+    let mut rows = rows;
+    rows.retain(|row| is_visible(row, grants));
+    rows
+}
+
+fn versions_of(alloc: Global, rows: Vec<VersionRow>) -> Result<Vec<Version>, AllocError>
+    ensures { IfOk result (λ v. v.items ≡ map (λ r. r.version) rows.items) }
+{
+    rows.into_iter().map(|row| row.version).collect(alloc)
+}
+
+/// Whether the caller's pass is one of the project's, and holds the version.
+fn is_held<S: Alter>(
+    tables: &mut Tables<S>,
+    alloc: Global,
+    project: &ProjectRow,
+    pass: &Option<Token>,
+    slug: &Slug,
+) -> Result<bool, Fault>
+    requires settled { IsHonest S.Store tables.old → IsSettled S.Store tables.old }
+    ensures asks { Queries S.Store tables.old tables.new result }
+    ensures value { Reads S.Store tables.old tables.new result
+        (λ l. held_in l project.now pass.now slug.now) }
+{
+    match pass {
+        Some(pass) => match look_pass(tables, alloc, &project.host, pass)? {
+            Some(_row) => look_held(tables, &project.host, pass, slug),
+            None => Ok(false),
+        },
+        None => Ok(false),
+    }
+}
+
+/// Whether the caller may see a version of the project. Only of a private one is the pass asked.
+fn is_seen<S: Alter>(
+    tables: &mut Tables<S>,
+    alloc: Global,
+    project: &ProjectRow,
+    pass: &Option<Token>,
+    version: &Version,
+) -> Result<bool, Fault>
+    requires settled { IsHonest S.Store tables.old → IsSettled S.Store tables.old }
+    ensures asks { Queries S.Store tables.old tables.new result }
+    ensures value { Reads S.Store tables.old tables.new result
+        (λ l. world.may_see version.now (held_in l project.now pass.now version.now.slug)) }
+{
+    if !version.private {
+        return Ok(version.active);
+    }
+    let held = is_held(tables, alloc, project, pass, &version.slug)?;
+    Ok(may_see(version, held))
+}
+
+/// The visible version with this slug.
+pub fn visible_version<S: Alter>(
+    tables: &mut Tables<S>,
+    alloc: Global,
+    project: &ProjectRow,
+    pass: &Option<Token>,
+    name: &str,
+) -> Result<Option<Version>, Fault>
+    requires settled { IsHonest S.Store tables.old → IsSettled S.Store tables.old }
+    ensures asks { Queries S.Store tables.old tables.new result }
+    ensures value { Reads S.Store tables.old tables.new result
+        (λ l. get (visible_in l project.now pass.now) name.now) }
+{
+    match look_version(tables, alloc, &project.host, name)? {
+        Some(row) => {
+            let seen = is_seen(tables, alloc, project, pass, &row.version)?;
+            if seen {
+                Ok(Some(row.version))
+            } else {
+                Ok(None)
+            }
+        }
+        None => Ok(None),
+    }
+}
+
+/// What the caller's pass holds, if it is one of the project's.
+fn grants_of<S: Alter>(
+    tables: &mut Tables<S>,
+    alloc: Global,
+    project: &ProjectRow,
+    pass: &Option<Token>,
+) -> Result<Vec<HeldRow>, Fault>
+    requires settled { IsHonest S.Store tables.old → IsSettled S.Store tables.old }
+    ensures asks { Queries S.Store tables.old tables.new result }
+    ensures value { Learns S.Store tables.old tables.new result
+        (λ l grants. OpensAs grants.items (held_in l project.now pass.now)) }
+{
+    match pass {
+        Some(pass) => match look_pass(tables, alloc, &project.host, pass)? {
+            Some(_row) => look_grants(tables, alloc, &project.host, pass),
+            None => Ok(no_grants(alloc)),
+        },
+        None => Ok(no_grants(alloc)),
+    }
+}
+
+/// The grants that decide which of these versions the caller may see. Where none is private no
+/// grant does, and none is looked for.
+fn grants_for<S: Alter>(
+    tables: &mut Tables<S>,
+    alloc: Global,
+    project: &ProjectRow,
+    pass: &Option<Token>,
+    rows: &[VersionRow],
+) -> Result<Vec<HeldRow>, Fault>
+    requires settled { IsHonest S.Store tables.old → IsSettled S.Store tables.old }
+    ensures asks { Queries S.Store tables.old tables.new result }
+    ensures value { Learns S.Store tables.old tables.new result
+        (λ l grants. ShowsAs rows.now grants.items (held_in l project.now pass.now)) }
+{
+    if any_private(rows) {
+        grants_of(tables, alloc, project, pass)
+    } else {
+        Ok(no_grants(alloc))
+    }
+}
+
+/// The visible versions in the order of their slugs.
+pub fn all_visible<S: Alter>(
+    tables: &mut Tables<S>,
+    alloc: Global,
+    project: &ProjectRow,
+    pass: &Option<Token>,
+) -> Result<Vec<Version>, Fault>
+    requires settled { IsHonest S.Store tables.old → IsSettled S.Store tables.old }
+    ensures asks { Queries S.Store tables.old tables.new result }
+    ensures versions { ReadsAll S.Store tables.old tables.new result
+        (λ l. values (visible_in l project.now pass.now)) }
+    ensures slugs { Learns S.Store tables.old tables.new result
+        (λ l v. map (λ x. x.slug) v.items ≡ keys (visible_in l project.now pass.now)) }
+{
+    let rows = look_versions(tables, alloc, &project.host)?;
+    let grants = grants_for(tables, alloc, project, pass, rows.as_slice())?;
+    Ok(versions_of(alloc, only_visible(rows, grants.as_slice()))?)
+}
