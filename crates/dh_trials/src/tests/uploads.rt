@@ -6,30 +6,42 @@ use sqlite::MemStore;
 use std::alloc::Global;
 use std::test::Fail;
 
-/// What a project says to an upload.
-fn answer_to(alloc: Global, desk: &mut Desk<MemStore>, command: Command) -> Result<String, Fail> {
-    match apply(alloc, desk, &command) {
+/// What a project says to a command.
+fn answer_to(alloc: Global, desk: &mut Desk<MemStore>, command: &Command) -> Result<String, Fail> {
+    match apply(alloc, desk, command) {
         Ok(Answer::Stored { pages }) => Ok(format!(in alloc; "stored {pages}")?),
         Ok(_) => Ok(String::from_str(alloc, "another answer")?),
         Err(refusal) => Ok(String::from_str(alloc, refusal.name())?),
     }
 }
 
-/// What a project says to an upload, and to a read of `/en/main/` afterwards.
-fn told(alloc: Global, command: Command) -> Result<String, Fail> {
-    let mut desk = pushed_desk(alloc)?;
-    let answer = answer_to(alloc, &mut desk, command)?;
-    let answer = answer.as_str();
-    let reply = get(alloc, &mut desk, "/en/main/")?;
+/// The status of `/en/main/`, and how many bytes its body has.
+fn read_main(alloc: Global, desk: &mut Desk<MemStore>) -> Result<String, Fail> {
+    let reply = get(alloc, desk, "/en/main/")?;
     let (status, size) = (reply.status, reply.body.as_slice().len());
-    Ok(format!(in alloc; "{answer}, {status} {size}")?)
+    Ok(format!(in alloc; "{status} {size}")?)
 }
 
-/// An upload of `index.html` alone.
-fn one(alloc: Global, media: &str, size: usize) -> Result<Command, Fail> {
+/// What a project says to a command, and to a read afterwards.
+fn replies_to(alloc: Global, command: &Command) -> Result<String, Fail> {
+    let mut desk = pushed_desk(alloc)?;
+    let mut text = answer_to(alloc, &mut desk, command)?;
+    text.push_str(", ")?;
+    text.push_str(read_main(alloc, &mut desk)?.as_str())?;
+    Ok(text)
+}
+
+/// What a project says to an upload of these pages, and to a read afterwards.
+fn told(alloc: Global, pages: Vec<UploadedPage>) -> Result<String, Fail> {
+    let command = upload(alloc, pages)?;
+    replies_to(alloc, &command)
+}
+
+/// `index.html` alone.
+fn one(alloc: Global, media: &str, size: usize) -> Result<Vec<UploadedPage>, Fail> {
     let mut pages = Vec::new(alloc);
     pages.push(page(alloc, "index.html", media, size)?)?;
-    upload(alloc, pages)
+    Ok(pages)
 }
 
 fn numbered(alloc: Global, count: u32) -> Result<Vec<UploadedPage>, Fail> {
@@ -41,13 +53,13 @@ fn numbered(alloc: Global, count: u32) -> Result<Vec<UploadedPage>, Fail> {
     Ok(pages)
 }
 
-/// An upload of so many pages, and behind them `index.html` so many times.
-fn many(alloc: Global, count: u32, times: u32) -> Result<Command, Fail> {
+/// So many pages, and behind them `index.html` so many times.
+fn many(alloc: Global, count: u32, times: u32) -> Result<Vec<UploadedPage>, Fail> {
     let mut pages = numbered(alloc, count)?;
     for _ in 0..times {
         pages.push(page(alloc, "index.html", "text/html", 2)?)?;
     }
-    upload(alloc, pages)
+    Ok(pages)
 }
 
 #[test]
@@ -57,8 +69,8 @@ fn a_page_has_at_most_1048576_bytes(rt: HostRuntime) -> Result<(), Fail> {
         (1_048_576, "stored 1, 200 1048576"),
         (1_048_577, "BadPage, 404 14"),
     ] {
-        let command = one(rt.alloc(), "text/html", size)?;
-        assert_eq!(rt; told(rt.alloc(), command)?.as_str(), wanted);
+        let pages = one(rt.alloc(), "text/html", size)?;
+        assert_eq!(rt; told(rt.alloc(), pages)?.as_str(), wanted);
     }
     Ok(())
 }
@@ -72,8 +84,8 @@ fn a_media_type_has_blanks_within(rt: HostRuntime) -> Result<(), Fail> {
         ("text/html;\tcharset=utf-8", "BadPage, 404 14"),
         ("", "BadPage, 404 14"),
     ] {
-        let command = one(rt.alloc(), media, 1)?;
-        assert_eq!(rt; told(rt.alloc(), command)?.as_str(), wanted, "{media}");
+        let pages = one(rt.alloc(), media, 1)?;
+        assert_eq!(rt; told(rt.alloc(), pages)?.as_str(), wanted, "{media}");
     }
     Ok(())
 }
@@ -86,8 +98,8 @@ fn an_upload_has_at_most_256_pages(rt: HostRuntime) -> Result<(), Fail> {
         (256, 1, "BadPage, 404 14"),
         (1, 2, "BadPage, 404 14"),
     ] {
-        let command = many(rt.alloc(), count, times)?;
-        assert_eq!(rt; told(rt.alloc(), command)?.as_str(), wanted);
+        let pages = many(rt.alloc(), count, times)?;
+        assert_eq!(rt; told(rt.alloc(), pages)?.as_str(), wanted);
     }
     Ok(())
 }
