@@ -183,7 +183,7 @@ world_with_lang lists row p rules up last was =
 
 -- a project of which nothing is kept yet but its own record
 abbrev fresh : ProjectRow → Project
-fresh row = record { languages = row.main ∷ []; branch = row.branch; new_private = row.new_private; wkey = row.wkey; versions = empty; pages = empty; defaults = []; passes = empty; held = empty; used = empty }
+fresh row = record { languages = row.main ∷ []; branch = row.branch; new_private = row.new_private; wkey = row.wkey; versions = empty; pages = empty; defaults = []; passes = empty; held = empty; used = empty; redirects = [] }
 
 abbrev begun : Lists → ProjectRow → LangRow → Lists
 begun lists row lang = record lists { projects = added coding.projects.key row lists.projects; langs = added coding.langs.key lang lists.langs }
@@ -207,6 +207,7 @@ module _ (lists : Lists) (row : ProjectRow) (lang : LangRow) (rules : KeepsRules
     passes = kept_none text_total exact_bytes (λ x. x.host) (λ x. x.pass) (λ x. tt) row.host lists.passes (none_of_new (λ x. x.host) lists.passes lists row.host new rules.passes) i;
     held = kept_none held_total held_exact (λ x. x.host) held_place (λ x. tt) row.host lists.held (none_of_new (λ x. x.host) lists.held lists row.host new (grants_owned lists rules)) i;
     used = kept_none used_total used_exact (λ u. u.host) used_place kept_answer row.host lists.used (none_of_new (λ u. u.host) lists.used lists row.host new rules.used) i;
+    redirects = [];
   }
 
   here : option_map (project_of (begun lists row lang)) (find (is_project row.host) (added coding.projects.key row lists.projects)) ≡ Some (fresh row)
@@ -230,5 +231,5 @@ module _ (lists : Lists) (row : ProjectRow) (lang : LangRow) (rules : KeepsRules
 -- a project is added, with its main language
 pub world_with_project : (lists : Lists) (row : ProjectRow) (lang : LangRow) → KeepsRules lists → find (is_project row.host) lists.projects ≡ None → lang.host ≡ row.host → lang.lang ≡ row.main
     → world_of (record lists { projects = added coding.projects.key row lists.projects; langs = added coding.langs.key lang lists.langs })
-    ≡ insert (world_of lists) row.host (record { languages = row.main ∷ []; branch = row.branch; new_private = row.new_private; wkey = row.wkey; versions = empty; pages = empty; defaults = []; passes = empty; held = empty; used = empty })
+    ≡ insert (world_of lists) row.host (fresh row)
 world_with_project lists row lang rules new home main = world_changed lists (begun lists row lang) row.host (fresh row) (here lists row lang rules new home main) (there lists row lang rules new home main)

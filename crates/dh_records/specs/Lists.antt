@@ -137,6 +137,8 @@ project_of lists row = record {
   passes = from_entries (map (λ x. (x.pass, tt)) (of_host (λ x. x.host) row.host lists.passes));
   held = from_entries (map (λ x. ((x.pass, x.slug), tt)) (of_host (λ x. x.host) row.host lists.held));
   used = from_entries (map (λ u. ((u.slug, (op_code u.op, u.retry)), kept_answer u)) (of_host (λ u. u.host) row.host lists.used));
+  -- no table has any yet
+  redirects = [];
 }
 
 -- the world that the records spell

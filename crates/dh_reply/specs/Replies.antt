@@ -6,12 +6,15 @@ use Rattle.std.specs.Str.{bytes_eq}
 use Rattle.dh_paths.specs.Escapes.{escaped}
 use Rattle.dh_paths.specs.Places.{Place, split_of, Root, Robots, System, Page, Bare, File}
 use Rattle.dh_paths.specs.Texts.{is_slug}
+use Rattle.dh_redirects.specs.declared.redirect.Asked.{Asked}
+use Rattle.dh_redirects.specs.declared.redirect.Location.{Location}
+use Rattle.dh_redirects.specs.declared.redirect.Parts.{Parts}
 use Rattle.dh_reply.specs.declared.address.GoodAddress.{GoodAddress}
 use Rattle.dh_reply.specs.declared.answer.Named.{Named}
 use Rattle.dh_reply.specs.declared.answer.Page.{Page as FoundPage}
 use Rattle.dh_reply.specs.declared.answer.Reply.{Reply}
 use Rattle.dh_reply.specs.declared.seen_project.SeenProject.{SeenProject}
-use Rattle.dh_reply.specs.SeenProject.{resolved, page_at}
+use Rattle.dh_reply.specs.SeenProject.{resolved, page_at, forced_result, not_found_result}
 use Rattle.dh_reply.specs.Statuses.{fault_reply_of}
 
 -- `/robots.txt` and `/_/..`, of which the cases below say nothing
@@ -128,6 +131,34 @@ served p (Bare lang name) (Some at) path query = Some (slash_added path query)
 served p (File lang name file) (Some at) path query = file_served p at file path query
 served p _ _ path query = None
 
+-- ---- a redirect leads elsewhere
+
+-- what redirects are asked: a file's parts are there where its address is good
+abbrev pub parts_at : Place → Option GoodAddress → Option Parts
+parts_at (File lang name file) (Some at) =
+    Some (record { lang = at.lang; name = at.name; file = file })
+parts_at _ _ = None
+
+abbrev pub asked_at : Place → Option GoodAddress → List ℕ → Option (List ℕ) → Asked
+asked_at place own path query = record { path = path; query = query; parts = parts_at place own }
+
+unfoldable pub leads_to : Location → Reply
+leads_to location = record {
+  status = location.status;
+  location = Some location.text;
+  allow = None;
+  media = None;
+  body = [];
+}
+
+-- by a redirect with force, whether or not something is served
+abbrev pub forced_away : SeenProject → Asked → Option Reply
+forced_away p asked = option_map leads_to (forced_result p asked)
+
+-- by any redirect, where nothing is served
+abbrev pub led_away : SeenProject → Asked → Option Reply
+led_away p asked = option_map leads_to (not_found_result p asked)
+
 -- ---- nothing is served
 
 -- 404 with `404.html` of a version in a language
@@ -156,11 +187,20 @@ nothing_served p own =
 
 -- ---- the reply
 
-abbrev pub project_reply : SeenProject → Place → List ℕ → Option (List ℕ) → Reply
-project_reply p place path query =
-    unwrap_or (served p place (good_at p place) path query) (nothing_served p (good_at p place))
+-- a redirect with force, else what is served, else any redirect
+abbrev pub found
+    : SeenProject → Place → Option GoodAddress → Asked → List ℕ → Option (List ℕ) → Option Reply
+found p place own asked path query =
+    first_of (forced_away p asked ∷ served p place own path query ∷ led_away p asked ∷ [])
 
--- the reply to a read (Read the Docs, Versions); of `/robots.txt` and `/_/..` it says nothing
+abbrev pub reply_at : SeenProject → Place → Option GoodAddress → List ℕ → Option (List ℕ) → Reply
+reply_at p place own path query =
+    unwrap_or (found p place own (asked_at place own path query) path query) (nothing_served p own)
+
+abbrev pub project_reply : SeenProject → Place → List ℕ → Option (List ℕ) → Reply
+project_reply p place path query = reply_at p place (good_at p place) path query
+
+-- the reply to a read (Read the Docs, Versions and Redirects); of `/robots.txt` and `/_/..` it says nothing
 abbrev pub reply_to : Option SeenProject → List ℕ → Option (List ℕ) → Reply
 reply_to None path query = host_not_found
 reply_to (Some p) path query = project_reply p (split_of path) path query

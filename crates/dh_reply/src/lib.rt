@@ -9,6 +9,7 @@ pub mod items;
 pub mod lookup;
 mod make;
 pub mod ports;
+mod redirects;
 mod respond;
 pub mod seen;
 pub mod seen_project;

@@ -2,11 +2,12 @@
 
 ghost use Rattle.std.specs.Prelude.{is_some};
 ghost use Rattle.dh_reply.specs.Lookup.{Asks, Meaning, Tells, TellsAll, TellsMaybe};
-ghost use Rattle.dh_reply.specs.SeenProject.{resolved, page_at};
+ghost use Rattle.dh_reply.specs.SeenProject.{resolved, page_at, forced_result, not_found_result};
 
 use crate::answer::{Named, Page};
 use crate::fault::Fault;
 use dh_paths::{Lang, Slug, Text};
+use dh_redirects::{Asked, Location};
 use dh_versions::Version;
 use std::alloc::Global;
 
@@ -46,6 +47,22 @@ pub trait Lookup {
         ensures asks { Asks meaning self.old self.new result }
         ensures value { TellsMaybe meaning self.old self.new result
             (λ p. page_at p lang.now slug.now path.now) };
+
+    /// Where the first redirect with force leads that has a result.
+    fn forced_redirect(&mut self, alloc: Global, asked: &Asked) -> Result<Option<Location>, Fault>
+        ensures asks { Asks meaning self.old self.new result }
+        ensures value { TellsMaybe meaning self.old self.new result
+            (λ p. forced_result p asked.now) };
+
+    /// Where the first redirect leads that has a result, with force or without.
+    fn not_found_redirect(
+        &mut self,
+        alloc: Global,
+        asked: &Asked,
+    ) -> Result<Option<Location>, Fault>
+        ensures asks { Asks meaning self.old self.new result }
+        ensures value { TellsMaybe meaning self.old self.new result
+            (λ p. not_found_result p asked.now) };
 
     /// The visible versions, hidden ones too, by slug; none where there is no project.
     fn listing(&mut self, alloc: Global) -> Result<Vec<Version>, Fault>

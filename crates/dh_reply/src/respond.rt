@@ -10,8 +10,10 @@ use crate::answer::{Named, Page, Read, Reply};
 use crate::fault::Fault;
 use crate::lookup::Lookup;
 use crate::make::{joined, make_home, make_indexed, make_page_reply, make_slashed};
+use crate::redirects::{asked_of, make_led};
 use crate::statuses::fault_reply;
 use dh_paths::{Lang, Slug, Split, Text, split};
+use dh_redirects::Asked;
 use std::alloc::Global;
 
 /// To the file in the default version, where there is a default.
@@ -228,6 +230,71 @@ fn nothing_served<L: Lookup>(
     }
 }
 
+/// Where a redirect with force leads.
+fn forced_away<L: Lookup>(
+    alloc: Global,
+    lookup: &mut L,
+    asked: &Asked,
+) -> Result<Option<Reply>, Fault>
+    ensures asks { Asks L.meaning lookup.old lookup.new result }
+    ensures value { TellsMaybe L.meaning lookup.old lookup.new result
+        (λ p. spec.forced_away p asked.now) }
+{
+    let location = lookup.forced_redirect(alloc, asked)?;
+    Ok(location.map(|location| make_led(alloc, location)))
+}
+
+/// Where any redirect leads.
+fn led_away<L: Lookup>(alloc: Global, lookup: &mut L, asked: &Asked) -> Result<Option<Reply>, Fault>
+    ensures asks { Asks L.meaning lookup.old lookup.new result }
+    ensures value { TellsMaybe L.meaning lookup.old lookup.new result
+        (λ p. spec.led_away p asked.now) }
+{
+    let location = lookup.not_found_redirect(alloc, asked)?;
+    Ok(location.map(|location| make_led(alloc, location)))
+}
+
+/// A redirect with force, else what is served, else any redirect.
+fn found<L: Lookup>(
+    alloc: Global,
+    lookup: &mut L,
+    asked: &Split,
+    own: &Option<GoodAddress>,
+    away: &Asked,
+    read: &Read,
+) -> Result<Option<Reply>, Fault>
+    ensures asks { Asks L.meaning lookup.old lookup.new result }
+    ensures value { TellsOf L.meaning lookup.old lookup.new result
+        (λ p. spec.found p (place asked.now) own.now away.now read.now.path read.now.query) }
+{
+    if let Some(reply) = forced_away(alloc, lookup, away)? {
+        return Ok(Some(reply));
+    }
+    if let Some(reply) = served(alloc, lookup, asked, own, read)? {
+        return Ok(Some(reply));
+    }
+    led_away(alloc, lookup, away)
+}
+
+/// The reply at a place, whose address is good or not.
+fn reply_at<L: Lookup>(
+    alloc: Global,
+    lookup: &mut L,
+    asked: &Split,
+    own: &Option<GoodAddress>,
+    read: &Read,
+) -> Result<Reply, Fault>
+    ensures asks { Asks L.meaning lookup.old lookup.new result }
+    ensures value { TellsOf L.meaning lookup.old lookup.new result
+        (λ p. spec.reply_at p (place asked.now) own.now read.now.path read.now.query) }
+{
+    let away = asked_of(alloc, asked, own, read)?;
+    match found(alloc, lookup, asked, own, &away, read)? {
+        Some(reply) => Ok(reply),
+        None => nothing_served(alloc, lookup, own),
+    }
+}
+
 /// The first case that holds at a place.
 fn project_reply<L: Lookup>(
     alloc: Global,
@@ -240,10 +307,7 @@ fn project_reply<L: Lookup>(
         (λ p. spec.project_reply p (place asked.now) read.now.path read.now.query) }
 {
     let own = good_at(alloc, lookup, asked)?;
-    match served(alloc, lookup, asked, &own, read)? {
-        Some(reply) => Ok(reply),
-        None => nothing_served(alloc, lookup, &own),
-    }
+    reply_at(alloc, lookup, asked, &own, read)
 }
 
 /// The reply to a read of what the lookup contains.

@@ -1,8 +1,9 @@
-ghost use Rattle.std.specs.Prelude.{◌≡◌, ◌<◌, length, IfOk, OnErr, true};
-ghost use Rattle.std.specs.Option.{option_copied};
-ghost use Rattle.std.specs.List.{find};
+ghost use Rattle.std.specs.Prelude.{◌≡◌, ◌<◌, length, IfOk, OnErr, IsTrue, true};
+ghost use Rattle.std.specs.Option.{option_copied, option_and_then};
+ghost use Rattle.std.specs.List.{find, list_any};
 ghost use Rattle.std.specs.Str.{bytes_eq};
 ghost use Rattle.std.proofs.Common.{◌∙◌, refl};
+ghost use Rattle.dh_redirects.specs.Locations.{asks_memory};
 ghost use Rattle.dh_reply.specs.Faults.{Gives};
 ghost use Rattle.dh_reply.specs.SeenProject as spec;
 ghost use Rattle.dh_reply.specs.SeenProject.{alias_of, resolved, stands_at, page_at};
@@ -12,6 +13,7 @@ use crate::fault::Fault;
 use crate::lookup::Lookup;
 use crate::seen_project::{SeenProject, StoredPage};
 use dh_paths::{Bytes, Lang, Slug, Text};
+use dh_redirects::{Asked, Location, Redirect};
 use dh_versions::Version;
 use std::alloc::{AllocError, Global};
 
@@ -139,6 +141,61 @@ fn page_of(
     }
 }
 
+/// Where the redirect leads, if it counts.
+#[tactic(auto, unfolding(crate::specs::SeenProject::first_result))]
+fn result_in(
+    alloc: Global,
+    forced: bool,
+    redirect: &Redirect,
+    asked: &Asked,
+) -> Result<Option<Location>, AllocError>
+    ensures value { IfOk result (λ r. r ≡ spec.result_in forced redirect.now asked.now) }
+    ensures short { OnErr result (IsTrue (asks_memory redirect.now asked.now)) }
+{
+    if forced && !redirect.force {
+        return Ok(None);
+    }
+    redirect.result(alloc, asked)
+}
+
+/// Where the first of the redirects leads that has a result.
+#[tactic(auto, unfolding(crate::specs::SeenProject::first_result))]
+fn first_result(
+    alloc: Global,
+    forced: bool,
+    redirects: &[Redirect],
+    asked: &Asked,
+) -> Result<Option<Location>, AllocError>
+    ensures value { IfOk result (λ r. r ≡ spec.first_result forced redirects.now asked.now) }
+    ensures short { OnErr result
+        (IsTrue (list_any (λ r. asks_memory r asked.now) redirects.now)) }
+{
+    for redirect in redirects {
+        if let Some(location) = result_in(alloc, forced, redirect, asked)? {
+            return Ok(Some(location));
+        }
+    }
+    Ok(None)
+}
+
+impl Seen {
+    /// Where the first of the project's redirects leads that has a result.
+    fn led(
+        &self,
+        alloc: Global,
+        forced: bool,
+        asked: &Asked,
+    ) -> Result<Option<Location>, AllocError>
+        ensures { IfOk result (λ r. r ≡ option_and_then
+            (λ p. spec.first_result forced p.redirects asked.now) self.now.project) }
+    {
+        match &self.project {
+            Some(project) => first_result(alloc, forced, project.redirects.as_slice(), asked),
+            None => Ok(None),
+        }
+    }
+}
+
 impl Lookup for Seen {
     ghost meaning = { record {
       content = λ seen. seen.project;
@@ -194,6 +251,18 @@ impl Lookup for Seen {
             Some(project) => Ok(page_of(alloc, project, lang, slug, path)?),
             None => Ok(None),
         }
+    }
+
+    fn forced_redirect(&mut self, alloc: Global, asked: &Asked) -> Result<Option<Location>, Fault> {
+        Ok(self.led(alloc, true, asked)?)
+    }
+
+    fn not_found_redirect(
+        &mut self,
+        alloc: Global,
+        asked: &Asked,
+    ) -> Result<Option<Location>, Fault> {
+        Ok(self.led(alloc, false, asked)?)
     }
 
     fn listing(&mut self, alloc: Global) -> Result<Vec<Version>, Fault> {

@@ -1,6 +1,7 @@
 use crate::answer::Page;
 use crate::items::Items;
 use dh_paths::{Lang, PagePath, Slug, Text};
+use dh_redirects::Redirect;
 use dh_versions::Version;
 
 /// A page and where it stands in its project.
@@ -27,4 +28,6 @@ pub struct SeenProject {
     pub stable: Option<Slug>,
     /// The name that `/` leads to.
     pub default: Option<Text>,
+    /// In the order in which they are tried.
+    pub redirects: Items<Redirect>,
 }

@@ -1,5 +1,6 @@
 use super::*;
 use dh_paths::{Bytes, Lang, PagePath, RefName, Slug, Text, TextFault};
+use dh_redirects::{Redirect, RedirectKind};
 use dh_versions::{Kind, Version};
 use std::alloc::Global;
 use std::test::Fail;
@@ -32,6 +33,11 @@ fn branch(alloc: Global, name: &str, hidden: bool) -> Result<Version, TextFault>
 
 /// A project of the branches `main` and `next` in `en`, the second hidden, with three pages of the first.
 fn sample(alloc: Global) -> Result<Seen, TextFault> {
+    sample_with(alloc, Vec::new(alloc))
+}
+
+/// The same with redirects.
+fn sample_with(alloc: Global, redirects: Vec<Redirect>) -> Result<Seen, TextFault> {
     let mut langs = Vec::new(alloc);
     langs.push(Lang::parse(alloc, "en")?)?;
     let mut versions = Vec::new(alloc);
@@ -49,6 +55,7 @@ fn sample(alloc: Global) -> Result<Seen, TextFault> {
             latest: Some(Slug::parse(alloc, "main")?),
             stable: None,
             default: Some(Text::copy_of(alloc, "latest")?),
+            redirects: Items::wrap(redirects),
         }),
     })
 }
@@ -119,6 +126,83 @@ fn redirects(rt: HostRuntime) -> Result<(), Fail> {
     assert!(rt; leads_to(alloc, "/en/latest/guide", None, "/en/latest/guide/")?);
     assert!(rt; leads_to(alloc, "/", Some("a=1"), "/en/latest/?a=1")?);
     assert!(rt; leads_to(alloc, "/page/a b.html", None, "/en/latest/a%20b.html")?);
+    Ok(())
+}
+
+/// A redirect with 301 and force, or with 302 and without.
+fn redirect(
+    alloc: Global,
+    kind: RedirectKind,
+    source: &str,
+    target: &str,
+    force: bool,
+) -> Result<Redirect, TextFault> {
+    Ok(Redirect {
+        kind,
+        source: Text::copy_of(alloc, source)?,
+        target: Text::copy_of(alloc, target)?,
+        status: if force { 301 } else { 302 },
+        force,
+    })
+}
+
+fn some_redirects(alloc: Global) -> Result<Vec<Redirect>, TextFault> {
+    let mut redirects = Vec::new(alloc);
+    for (kind, source, target, force) in [
+        (RedirectKind::Page, "/guide/", "/late.html", false),
+        (
+            RedirectKind::Exact,
+            "/en/latest/install.html",
+            "/en/latest/guide/",
+            true,
+        ),
+        (RedirectKind::Page, "/old/*", "/:splat", false),
+        (RedirectKind::Page, "/old/*", "/second/:splat", false),
+        (
+            RedirectKind::Exact,
+            "/gone",
+            "https://example.org/new",
+            false,
+        ),
+    ] {
+        redirects.push(redirect(alloc, kind, source, target, force)?)?;
+    }
+    Ok(redirects)
+}
+
+/// The status of a read with the query `q`, and where it leads.
+fn led(alloc: Global, path: &str) -> Result<String, Fail> {
+    let mut seen = sample_with(alloc, some_redirects(alloc)?)?;
+    let reply = answered(alloc, &mut seen, path, Some("q"))?;
+    status_and_location(alloc, &reply)
+}
+
+fn status_and_location(alloc: Global, reply: &Reply) -> Result<String, Fail> {
+    let status = reply.status;
+    match &reply.location {
+        Some(to) => {
+            let to = to.as_str();
+            Ok(format!(in alloc; "{status} {to}")?)
+        }
+        None => Ok(format!(in alloc; "{status}")?),
+    }
+}
+
+#[test]
+fn redirects_of_a_project(rt: HostRuntime) -> Result<(), Fail> {
+    for (path, wanted) in [
+        ("/en/latest/install.html", "301 /en/latest/guide/?q"),
+        ("/en/main/install.html", "200"),
+        ("/en/latest/guide/", "200"),
+        ("/en/next/guide/", "302 /en/next/late.html?q"),
+        ("/en/latest/old/a.html", "302 /en/latest/a.html?q"),
+        ("/de/latest/old/a.html", "404"),
+        ("/en/latest/absent.html", "404"),
+        ("/gone", "302 https://example.org/new?q"),
+        ("/", "302 /en/latest/?q"),
+    ] {
+        assert_eq!(rt; led(rt.alloc(), path)?.as_str(), wanted, "{path}");
+    }
     Ok(())
 }
 

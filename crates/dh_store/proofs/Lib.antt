@@ -1,5 +1,6 @@
 pub mod Matching
 pub mod SameText
+pub mod Others
 pub mod Statements
 pub mod Kept
 pub mod Unrefused

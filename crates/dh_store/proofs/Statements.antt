@@ -1,9 +1,7 @@
 -- What our statements ask and do.
-use Rattle.std.proofs.Common.{◌≡◌, ℕ, ℤ, pos, List, [], ◌∷◌, map, filter, not, codes, false, Some, refl, sym, subst, ◌∙◌}
+use Rattle.std.proofs.Common.{◌≡◌, ℕ, ℤ, pos, List, [], ◌∷◌, map, filter, not, codes, Some, refl, subst, ◌∙◌}
 use Rattle.std.specs.List.{AllByRecursion}
 use Rattle.std.specs.Str.{bytes_eq}
-use Rattle.sqlite_schema.specs.declared.schema.Table.{Table}
-use Rattle.sqlite_schema.specs.Names.{same_name}
 use Rattle.sqlite_value.specs.declared.value.Value.TheVariants.{Null, Int, Text}
 use Rattle.sqlite_value.specs.Keys.{first_key}
 use Rattle.std.proofs.lemmas.Bool.{and_parts}
@@ -13,7 +11,7 @@ use Rattle.sqlite_tied.specs.Compute.{everything}
 use Rattle.sqlite.specs.Effect.{Database}
 use Rattle.sqlite.specs.State.{State}
 use Rattle.dh_rows.specs.Keyed.{IsFreeKey, added, put, flag}
-use Rattle.dh_rows.proofs.Effects.{IsSimple, Turns, other_keeps}
+use Rattle.dh_rows.proofs.Effects.{IsSimple, Turns}
 use Rattle.dh_rows.proofs.Texts.{ArePlain}
 use Rattle.dh_rows.proofs.Read.{delete_of, select_of, parameters_in, insert_of}
 use Rattle.dh_rows.proofs.Asks.{Writes, Answers, delete, insert, upsert, select}
@@ -29,18 +27,15 @@ use Rattle.dh_records.specs.declared.records.PassRow.{PassRow}
 use Rattle.dh_records.specs.declared.records.HeldRow.{HeldRow}
 use Rattle.dh_world.specs.declared.operation.Operation.{Operation}
 use Rattle.dh_world.specs.World.{is_upload}
-use Rattle.dh_records.specs.Typed.{AreTyped, IsProject, IsLanguage, IsVersion, IsPage, IsUsed, IsPick, IsPass, IsHeld}
+use Rattle.dh_records.specs.Typed.{IsProject, IsLanguage, IsVersion, IsPage, IsUsed, IsPick, IsPass, IsHeld}
 use Rattle.dh_records.specs.Codings.{projects, langs, versions, pages, used, picks, passes, held}
-use Rattle.dh_schema.specs.Tables.{Holds, lists_of, meta, meta_table, project_table, lang_table, version_table, page_table, used_table, pick_table, pass_table, holds_table}
+use Rattle.dh_schema.specs.Tables.{Holds, lists_of, project_table, lang_table, version_table, page_table, used_table, pick_table, pass_table, holds_table}
 use Rattle.dh_records.specs.Lists.{is_project, is_lang_of, is_version_of, is_version, is_page_of, is_page_in, is_page, is_used, same_op, is_pick_of, is_pass_of, is_pass, is_held, is_held_by, is_held_on}
 use Rattle.dh_store.proofs.Kept.{all_kept, all_added, all_put}
 use Rattle.dh_store.proofs.Matching.{equal_text, equal_op, flag_back, kind_back, op_back}
 use Rattle.dh_records.proofs.Keys.{one, two, three, four}
 use Rattle.dh_schema.proofs.CallLemmas.{Changed}
-
--- no other table has the name
-abbrev IsApart : Table → List Table → Type 0
-IsApart t others = AllByRecursion (λ u. same_name u.name t.name ≡ false) others
+use Rattle.dh_store.proofs.Others.{changed}
 
 -- ---- project
 
@@ -53,27 +48,10 @@ project_plain = ((refl, refl), ((refl, refl), ((refl, refl), ((refl, refl), ((re
 project_back : (x : ProjectRow) (n : ℤ) → projects.decode (Int n ∷ projects.encode x) ≡ x
 project_back x n = rw (flag_back x.new_private) refl
 
-project_apart : IsApart project_table (meta_table ∷ lang_table ∷ version_table ∷ page_table ∷ used_table ∷ pick_table ∷ pass_table ∷ holds_table ∷ [])
-unfolding everything
-project_apart = (refl, (refl, (refl, (refl, (refl, (refl, (refl, (refl, tt))))))))
-
 -- the other tables keep their records
 project_changed : (db after : Database) (change : List ProjectRow → List ProjectRow) → ((xs : List ProjectRow) → AllByRecursion IsProject xs → AllByRecursion IsProject (change xs)) → Holds db → Turns project_table projects change db after → Changed db after (λ l. record l { projects = change l.projects })
-project_changed db after change typed had it =
-    let m = other_keeps it meta_table meta had.meta project_apart.0 in
-    let lang = other_keeps it lang_table langs had.langs project_apart.1.0 in
-    let version = other_keeps it version_table versions had.versions project_apart.1.1.0 in
-    let page = other_keeps it page_table pages had.pages project_apart.1.1.1.0 in
-    let used = other_keeps it used_table used had.used project_apart.1.1.1.1.0 in
-    let pick = other_keeps it pick_table picks had.picks project_apart.1.1.1.1.1.0 in
-    let pass = other_keeps it pass_table passes had.passes project_apart.1.1.1.1.1.1.0 in
-    let holds = other_keeps it holds_table held had.held project_apart.1.1.1.1.1.1.1.0 in
-    let lists : lists_of after ≡ record (lists_of db) { projects = change (lists_of db).projects } = λ i. record { projects = it.records i; langs = lang.1 i; versions = version.1 i; pages = page.1 i; used = used.1 i; picks = pick.1 i; passes = pass.1 i; held = holds.1 i } in
-    record {
-      holds = record { meta = m.0; number = m.1 ∙ had.number; projects = it.keeps; langs = lang.0; versions = version.0; pages = page.0; used = used.0; picks = pick.0; passes = pass.0; held = holds.0; typed = subst AreTyped (sym lists) (record { projects = typed _ had.typed.projects; langs = had.typed.langs; versions = had.typed.versions; pages = had.typed.pages; used = had.typed.used; picks = had.typed.picks; passes = had.typed.passes; held = had.typed.held }) };
-      schema = it.schema;
-      lists = lists;
-    }
+unfolding everything
+project_changed db after change typed had it = changed project_table db after it (λ l. record l { projects = change l.projects }) had refl (record { projects = record { keeps = it.keeps; records = it.records; typed = typed _ had.typed.projects }; langs = refl; versions = refl; pages = refl; used = refl; picks = refl; passes = refl; held = refl })
 
 -- ---- lang
 
@@ -86,27 +64,10 @@ lang_plain = ((refl, refl), ((refl, refl), ((refl, refl), tt)))
 lang_back : (x : LangRow) (n : ℤ) → langs.decode (Int n ∷ langs.encode x) ≡ x
 lang_back x n = refl
 
-lang_apart : IsApart lang_table (meta_table ∷ project_table ∷ version_table ∷ page_table ∷ used_table ∷ pick_table ∷ pass_table ∷ holds_table ∷ [])
-unfolding everything
-lang_apart = (refl, (refl, (refl, (refl, (refl, (refl, (refl, (refl, tt))))))))
-
 -- the other tables keep their records
 lang_changed : (db after : Database) (change : List LangRow → List LangRow) → ((xs : List LangRow) → AllByRecursion IsLanguage xs → AllByRecursion IsLanguage (change xs)) → Holds db → Turns lang_table langs change db after → Changed db after (λ l. record l { langs = change l.langs })
-lang_changed db after change typed had it =
-    let m = other_keeps it meta_table meta had.meta lang_apart.0 in
-    let project = other_keeps it project_table projects had.projects lang_apart.1.0 in
-    let version = other_keeps it version_table versions had.versions lang_apart.1.1.0 in
-    let page = other_keeps it page_table pages had.pages lang_apart.1.1.1.0 in
-    let used = other_keeps it used_table used had.used lang_apart.1.1.1.1.0 in
-    let pick = other_keeps it pick_table picks had.picks lang_apart.1.1.1.1.1.0 in
-    let pass = other_keeps it pass_table passes had.passes lang_apart.1.1.1.1.1.1.0 in
-    let holds = other_keeps it holds_table held had.held lang_apart.1.1.1.1.1.1.1.0 in
-    let lists : lists_of after ≡ record (lists_of db) { langs = change (lists_of db).langs } = λ i. record { projects = project.1 i; langs = it.records i; versions = version.1 i; pages = page.1 i; used = used.1 i; picks = pick.1 i; passes = pass.1 i; held = holds.1 i } in
-    record {
-      holds = record { meta = m.0; number = m.1 ∙ had.number; projects = project.0; langs = it.keeps; versions = version.0; pages = page.0; used = used.0; picks = pick.0; passes = pass.0; held = holds.0; typed = subst AreTyped (sym lists) (record { projects = had.typed.projects; langs = typed _ had.typed.langs; versions = had.typed.versions; pages = had.typed.pages; used = had.typed.used; picks = had.typed.picks; passes = had.typed.passes; held = had.typed.held }) };
-      schema = it.schema;
-      lists = lists;
-    }
+unfolding everything
+lang_changed db after change typed had it = changed lang_table db after it (λ l. record l { langs = change l.langs }) had refl (record { projects = refl; langs = record { keeps = it.keeps; records = it.records; typed = typed _ had.typed.langs }; versions = refl; pages = refl; used = refl; picks = refl; passes = refl; held = refl })
 
 -- ---- version
 
@@ -119,27 +80,10 @@ version_plain = ((refl, refl), ((refl, refl), ((refl, refl), ((refl, refl), ((re
 version_back : (x : VersionRow) (n : ℤ) → versions.decode (Int n ∷ versions.encode x) ≡ x
 version_back x n = rw (kind_back x.version.kind, flag_back x.version.active, flag_back x.version.hidden, flag_back x.version.private) refl
 
-version_apart : IsApart version_table (meta_table ∷ project_table ∷ lang_table ∷ page_table ∷ used_table ∷ pick_table ∷ pass_table ∷ holds_table ∷ [])
-unfolding everything
-version_apart = (refl, (refl, (refl, (refl, (refl, (refl, (refl, (refl, tt))))))))
-
 -- the other tables keep their records
 version_changed : (db after : Database) (change : List VersionRow → List VersionRow) → ((xs : List VersionRow) → AllByRecursion IsVersion xs → AllByRecursion IsVersion (change xs)) → Holds db → Turns version_table versions change db after → Changed db after (λ l. record l { versions = change l.versions })
-version_changed db after change typed had it =
-    let m = other_keeps it meta_table meta had.meta version_apart.0 in
-    let project = other_keeps it project_table projects had.projects version_apart.1.0 in
-    let lang = other_keeps it lang_table langs had.langs version_apart.1.1.0 in
-    let page = other_keeps it page_table pages had.pages version_apart.1.1.1.0 in
-    let used = other_keeps it used_table used had.used version_apart.1.1.1.1.0 in
-    let pick = other_keeps it pick_table picks had.picks version_apart.1.1.1.1.1.0 in
-    let pass = other_keeps it pass_table passes had.passes version_apart.1.1.1.1.1.1.0 in
-    let holds = other_keeps it holds_table held had.held version_apart.1.1.1.1.1.1.1.0 in
-    let lists : lists_of after ≡ record (lists_of db) { versions = change (lists_of db).versions } = λ i. record { projects = project.1 i; langs = lang.1 i; versions = it.records i; pages = page.1 i; used = used.1 i; picks = pick.1 i; passes = pass.1 i; held = holds.1 i } in
-    record {
-      holds = record { meta = m.0; number = m.1 ∙ had.number; projects = project.0; langs = lang.0; versions = it.keeps; pages = page.0; used = used.0; picks = pick.0; passes = pass.0; held = holds.0; typed = subst AreTyped (sym lists) (record { projects = had.typed.projects; langs = had.typed.langs; versions = typed _ had.typed.versions; pages = had.typed.pages; used = had.typed.used; picks = had.typed.picks; passes = had.typed.passes; held = had.typed.held }) };
-      schema = it.schema;
-      lists = lists;
-    }
+unfolding everything
+version_changed db after change typed had it = changed version_table db after it (λ l. record l { versions = change l.versions }) had refl (record { projects = refl; langs = refl; versions = record { keeps = it.keeps; records = it.records; typed = typed _ had.typed.versions }; pages = refl; used = refl; picks = refl; passes = refl; held = refl })
 
 -- ---- page
 
@@ -152,27 +96,10 @@ page_plain = ((refl, refl), ((refl, refl), ((refl, refl), ((refl, refl), ((refl,
 page_back : (x : PageRow) (n : ℤ) → pages.decode (Int n ∷ pages.encode x) ≡ x
 page_back x n = refl
 
-page_apart : IsApart page_table (meta_table ∷ project_table ∷ lang_table ∷ version_table ∷ used_table ∷ pick_table ∷ pass_table ∷ holds_table ∷ [])
-unfolding everything
-page_apart = (refl, (refl, (refl, (refl, (refl, (refl, (refl, (refl, tt))))))))
-
 -- the other tables keep their records
 page_changed : (db after : Database) (change : List PageRow → List PageRow) → ((xs : List PageRow) → AllByRecursion IsPage xs → AllByRecursion IsPage (change xs)) → Holds db → Turns page_table pages change db after → Changed db after (λ l. record l { pages = change l.pages })
-page_changed db after change typed had it =
-    let m = other_keeps it meta_table meta had.meta page_apart.0 in
-    let project = other_keeps it project_table projects had.projects page_apart.1.0 in
-    let lang = other_keeps it lang_table langs had.langs page_apart.1.1.0 in
-    let version = other_keeps it version_table versions had.versions page_apart.1.1.1.0 in
-    let used = other_keeps it used_table used had.used page_apart.1.1.1.1.0 in
-    let pick = other_keeps it pick_table picks had.picks page_apart.1.1.1.1.1.0 in
-    let pass = other_keeps it pass_table passes had.passes page_apart.1.1.1.1.1.1.0 in
-    let holds = other_keeps it holds_table held had.held page_apart.1.1.1.1.1.1.1.0 in
-    let lists : lists_of after ≡ record (lists_of db) { pages = change (lists_of db).pages } = λ i. record { projects = project.1 i; langs = lang.1 i; versions = version.1 i; pages = it.records i; used = used.1 i; picks = pick.1 i; passes = pass.1 i; held = holds.1 i } in
-    record {
-      holds = record { meta = m.0; number = m.1 ∙ had.number; projects = project.0; langs = lang.0; versions = version.0; pages = it.keeps; used = used.0; picks = pick.0; passes = pass.0; held = holds.0; typed = subst AreTyped (sym lists) (record { projects = had.typed.projects; langs = had.typed.langs; versions = had.typed.versions; pages = typed _ had.typed.pages; used = had.typed.used; picks = had.typed.picks; passes = had.typed.passes; held = had.typed.held }) };
-      schema = it.schema;
-      lists = lists;
-    }
+unfolding everything
+page_changed db after change typed had it = changed page_table db after it (λ l. record l { pages = change l.pages }) had refl (record { projects = refl; langs = refl; versions = refl; pages = record { keeps = it.keeps; records = it.records; typed = typed _ had.typed.pages }; used = refl; picks = refl; passes = refl; held = refl })
 
 -- ---- used
 
@@ -185,27 +112,10 @@ used_plain = ((refl, refl), ((refl, refl), ((refl, refl), ((refl, refl), ((refl,
 used_back : (x : UsedRow) (n : ℤ) → used.decode (Int n ∷ used.encode x) ≡ x
 used_back x n = rw (op_back x.op) refl
 
-used_apart : IsApart used_table (meta_table ∷ project_table ∷ lang_table ∷ version_table ∷ page_table ∷ pick_table ∷ pass_table ∷ holds_table ∷ [])
-unfolding everything
-used_apart = (refl, (refl, (refl, (refl, (refl, (refl, (refl, (refl, tt))))))))
-
 -- the other tables keep their records
 used_changed : (db after : Database) (change : List UsedRow → List UsedRow) → ((xs : List UsedRow) → AllByRecursion IsUsed xs → AllByRecursion IsUsed (change xs)) → Holds db → Turns used_table used change db after → Changed db after (λ l. record l { used = change l.used })
-used_changed db after change typed had it =
-    let m = other_keeps it meta_table meta had.meta used_apart.0 in
-    let project = other_keeps it project_table projects had.projects used_apart.1.0 in
-    let lang = other_keeps it lang_table langs had.langs used_apart.1.1.0 in
-    let version = other_keeps it version_table versions had.versions used_apart.1.1.1.0 in
-    let page = other_keeps it page_table pages had.pages used_apart.1.1.1.1.0 in
-    let pick = other_keeps it pick_table picks had.picks used_apart.1.1.1.1.1.0 in
-    let pass = other_keeps it pass_table passes had.passes used_apart.1.1.1.1.1.1.0 in
-    let holds = other_keeps it holds_table held had.held used_apart.1.1.1.1.1.1.1.0 in
-    let lists : lists_of after ≡ record (lists_of db) { used = change (lists_of db).used } = λ i. record { projects = project.1 i; langs = lang.1 i; versions = version.1 i; pages = page.1 i; used = it.records i; picks = pick.1 i; passes = pass.1 i; held = holds.1 i } in
-    record {
-      holds = record { meta = m.0; number = m.1 ∙ had.number; projects = project.0; langs = lang.0; versions = version.0; pages = page.0; used = it.keeps; picks = pick.0; passes = pass.0; held = holds.0; typed = subst AreTyped (sym lists) (record { projects = had.typed.projects; langs = had.typed.langs; versions = had.typed.versions; pages = had.typed.pages; used = typed _ had.typed.used; picks = had.typed.picks; passes = had.typed.passes; held = had.typed.held }) };
-      schema = it.schema;
-      lists = lists;
-    }
+unfolding everything
+used_changed db after change typed had it = changed used_table db after it (λ l. record l { used = change l.used }) had refl (record { projects = refl; langs = refl; versions = refl; pages = refl; used = record { keeps = it.keeps; records = it.records; typed = typed _ had.typed.used }; picks = refl; passes = refl; held = refl })
 
 -- ---- pick
 
@@ -218,27 +128,10 @@ pick_plain = ((refl, refl), ((refl, refl), ((refl, refl), tt)))
 pick_back : (x : PickRow) (n : ℤ) → picks.decode (Int n ∷ picks.encode x) ≡ x
 pick_back x n = refl
 
-pick_apart : IsApart pick_table (meta_table ∷ project_table ∷ lang_table ∷ version_table ∷ page_table ∷ used_table ∷ pass_table ∷ holds_table ∷ [])
-unfolding everything
-pick_apart = (refl, (refl, (refl, (refl, (refl, (refl, (refl, (refl, tt))))))))
-
 -- the other tables keep their records
 pick_changed : (db after : Database) (change : List PickRow → List PickRow) → ((xs : List PickRow) → AllByRecursion IsPick xs → AllByRecursion IsPick (change xs)) → Holds db → Turns pick_table picks change db after → Changed db after (λ l. record l { picks = change l.picks })
-pick_changed db after change typed had it =
-    let m = other_keeps it meta_table meta had.meta pick_apart.0 in
-    let project = other_keeps it project_table projects had.projects pick_apart.1.0 in
-    let lang = other_keeps it lang_table langs had.langs pick_apart.1.1.0 in
-    let version = other_keeps it version_table versions had.versions pick_apart.1.1.1.0 in
-    let page = other_keeps it page_table pages had.pages pick_apart.1.1.1.1.0 in
-    let used = other_keeps it used_table used had.used pick_apart.1.1.1.1.1.0 in
-    let pass = other_keeps it pass_table passes had.passes pick_apart.1.1.1.1.1.1.0 in
-    let holds = other_keeps it holds_table held had.held pick_apart.1.1.1.1.1.1.1.0 in
-    let lists : lists_of after ≡ record (lists_of db) { picks = change (lists_of db).picks } = λ i. record { projects = project.1 i; langs = lang.1 i; versions = version.1 i; pages = page.1 i; used = used.1 i; picks = it.records i; passes = pass.1 i; held = holds.1 i } in
-    record {
-      holds = record { meta = m.0; number = m.1 ∙ had.number; projects = project.0; langs = lang.0; versions = version.0; pages = page.0; used = used.0; picks = it.keeps; passes = pass.0; held = holds.0; typed = subst AreTyped (sym lists) (record { projects = had.typed.projects; langs = had.typed.langs; versions = had.typed.versions; pages = had.typed.pages; used = had.typed.used; picks = typed _ had.typed.picks; passes = had.typed.passes; held = had.typed.held }) };
-      schema = it.schema;
-      lists = lists;
-    }
+unfolding everything
+pick_changed db after change typed had it = changed pick_table db after it (λ l. record l { picks = change l.picks }) had refl (record { projects = refl; langs = refl; versions = refl; pages = refl; used = refl; picks = record { keeps = it.keeps; records = it.records; typed = typed _ had.typed.picks }; passes = refl; held = refl })
 
 -- ---- pass
 
@@ -251,27 +144,10 @@ pass_plain = ((refl, refl), ((refl, refl), tt))
 pass_back : (x : PassRow) (n : ℤ) → passes.decode (Int n ∷ passes.encode x) ≡ x
 pass_back x n = refl
 
-pass_apart : IsApart pass_table (meta_table ∷ project_table ∷ lang_table ∷ version_table ∷ page_table ∷ used_table ∷ pick_table ∷ holds_table ∷ [])
-unfolding everything
-pass_apart = (refl, (refl, (refl, (refl, (refl, (refl, (refl, (refl, tt))))))))
-
 -- the other tables keep their records
 pass_changed : (db after : Database) (change : List PassRow → List PassRow) → ((xs : List PassRow) → AllByRecursion IsPass xs → AllByRecursion IsPass (change xs)) → Holds db → Turns pass_table passes change db after → Changed db after (λ l. record l { passes = change l.passes })
-pass_changed db after change typed had it =
-    let m = other_keeps it meta_table meta had.meta pass_apart.0 in
-    let project = other_keeps it project_table projects had.projects pass_apart.1.0 in
-    let lang = other_keeps it lang_table langs had.langs pass_apart.1.1.0 in
-    let version = other_keeps it version_table versions had.versions pass_apart.1.1.1.0 in
-    let page = other_keeps it page_table pages had.pages pass_apart.1.1.1.1.0 in
-    let used = other_keeps it used_table used had.used pass_apart.1.1.1.1.1.0 in
-    let pick = other_keeps it pick_table picks had.picks pass_apart.1.1.1.1.1.1.0 in
-    let holds = other_keeps it holds_table held had.held pass_apart.1.1.1.1.1.1.1.0 in
-    let lists : lists_of after ≡ record (lists_of db) { passes = change (lists_of db).passes } = λ i. record { projects = project.1 i; langs = lang.1 i; versions = version.1 i; pages = page.1 i; used = used.1 i; picks = pick.1 i; passes = it.records i; held = holds.1 i } in
-    record {
-      holds = record { meta = m.0; number = m.1 ∙ had.number; projects = project.0; langs = lang.0; versions = version.0; pages = page.0; used = used.0; picks = pick.0; passes = it.keeps; held = holds.0; typed = subst AreTyped (sym lists) (record { projects = had.typed.projects; langs = had.typed.langs; versions = had.typed.versions; pages = had.typed.pages; used = had.typed.used; picks = had.typed.picks; passes = typed _ had.typed.passes; held = had.typed.held }) };
-      schema = it.schema;
-      lists = lists;
-    }
+unfolding everything
+pass_changed db after change typed had it = changed pass_table db after it (λ l. record l { passes = change l.passes }) had refl (record { projects = refl; langs = refl; versions = refl; pages = refl; used = refl; picks = refl; passes = record { keeps = it.keeps; records = it.records; typed = typed _ had.typed.passes }; held = refl })
 
 -- ---- holds
 
@@ -284,27 +160,10 @@ holds_plain = ((refl, refl), ((refl, refl), ((refl, refl), tt)))
 holds_back : (x : HeldRow) (n : ℤ) → held.decode (Int n ∷ held.encode x) ≡ x
 holds_back x n = refl
 
-holds_apart : IsApart holds_table (meta_table ∷ project_table ∷ lang_table ∷ version_table ∷ page_table ∷ used_table ∷ pick_table ∷ pass_table ∷ [])
-unfolding everything
-holds_apart = (refl, (refl, (refl, (refl, (refl, (refl, (refl, (refl, tt))))))))
-
 -- the other tables keep their records
 holds_changed : (db after : Database) (change : List HeldRow → List HeldRow) → ((xs : List HeldRow) → AllByRecursion IsHeld xs → AllByRecursion IsHeld (change xs)) → Holds db → Turns holds_table held change db after → Changed db after (λ l. record l { held = change l.held })
-holds_changed db after change typed had it =
-    let m = other_keeps it meta_table meta had.meta holds_apart.0 in
-    let project = other_keeps it project_table projects had.projects holds_apart.1.0 in
-    let lang = other_keeps it lang_table langs had.langs holds_apart.1.1.0 in
-    let version = other_keeps it version_table versions had.versions holds_apart.1.1.1.0 in
-    let page = other_keeps it page_table pages had.pages holds_apart.1.1.1.1.0 in
-    let used = other_keeps it used_table used had.used holds_apart.1.1.1.1.1.0 in
-    let pick = other_keeps it pick_table picks had.picks holds_apart.1.1.1.1.1.1.0 in
-    let pass = other_keeps it pass_table passes had.passes holds_apart.1.1.1.1.1.1.1.0 in
-    let lists : lists_of after ≡ record (lists_of db) { held = change (lists_of db).held } = λ i. record { projects = project.1 i; langs = lang.1 i; versions = version.1 i; pages = page.1 i; used = used.1 i; picks = pick.1 i; passes = pass.1 i; held = it.records i } in
-    record {
-      holds = record { meta = m.0; number = m.1 ∙ had.number; projects = project.0; langs = lang.0; versions = version.0; pages = page.0; used = used.0; picks = pick.0; passes = pass.0; held = it.keeps; typed = subst AreTyped (sym lists) (record { projects = had.typed.projects; langs = had.typed.langs; versions = had.typed.versions; pages = had.typed.pages; used = had.typed.used; picks = had.typed.picks; passes = had.typed.passes; held = typed _ had.typed.held }) };
-      schema = it.schema;
-      lists = lists;
-    }
+unfolding everything
+holds_changed db after change typed had it = changed holds_table db after it (λ l. record l { held = change l.held }) had refl (record { projects = refl; langs = refl; versions = refl; pages = refl; used = refl; picks = refl; passes = refl; held = record { keeps = it.keeps; records = it.records; typed = typed _ had.typed.held } })
 
 abbrev pub project_text : List ℕ
 project_text = codes "SELECT host, main, branch, wkey, private FROM project WHERE host = ?1 ORDER BY host"

@@ -1,5 +1,5 @@
 -- Our queries are refused for a fault of the store alone.
-use Rattle.std.proofs.Common.{◌≡◌, inl, inr, ℕ, true, None, List, map, Result, Ok, Err, OnOk, OnErr, sym, subst, true≢false}
+use Rattle.std.proofs.Common.{◌≡◌, inl, inr, ℕ, true, List, map, Result, Ok, Err, OnOk, OnErr, sym, subst, true≢false}
 use Rattle.std.specs.Prelude.{IsSome}
 use Rattle.std.specs.List.{AllByRecursion}
 use Rattle.std.specs.Str.{bytes_eq}

@@ -2,6 +2,7 @@
 use Rattle.std.proofs.Common.{◌≡◌, ◌+◌, ℕ, Bool, true, false, not, ◌||◌, filter, List, [], ◌∷◌, Option, Some, None, find, is_some, refl, sym, ap, ◌∙◌, subst}
 use Rattle.std.specs.Prelude.{option_map, unwrap_or, IsSome, IsTrue}
 use Rattle.std.specs.FinMap.{get, insert}
+use Rattle.std.specs.List.{IsDistinct}
 use Rattle.std.specs.Str.{bytes_eq}
 use Rattle.std.proofs.lemmas.Bool.{and_parts}
 use Rattle.dh_commands.specs.Edits.{edited, all_edited, MayEdit, MayEditAll}
@@ -9,7 +10,7 @@ use Rattle.dh_commands.specs.declared.edits.Edit.{Edit}
 use Rattle.dh_commands.specs.declared.edits.Edit.TheVariants.{AddLang, PutVersion, PutWithoutPages, RemoveVersion, PutPage, RemovePages, SetDefaults, AddPass, RemovePass, Grant, Revoke, PutAnswer}
 use Rattle.dh_rows.specs.Keyed.{IsFreeKey}
 use Rattle.dh_records.proofs.AccessChanges.{world_gone, world_with_defaults, world_with_pass, world_pass_gone, world_with_grant, world_without_grant}
-use Rattle.dh_records.proofs.AccessRules.{MayChoose, rules_gone, rules_with_front, rules_with_pass, rules_pass_gone, rules_with_grant, rules_without_grants, order_without_version, order_with_defaults, order_with_pass, order_without_pass, order_with_grant, order_without_grants}
+use Rattle.dh_records.proofs.AccessRules.{MayChoose, defaults_distinct, filter_distinct, front_distinct, rules_gone, rules_with_front, rules_with_pass, rules_pass_gone, rules_with_grant, rules_without_grants, order_without_version, order_with_defaults, order_with_pass, order_without_pass, order_with_grant, order_without_grants}
 use Rattle.dh_records.proofs.ChangeLemmas.{world_with_lang, world_with_version, world_with_page, world_without_pages, world_with_used}
 use Rattle.dh_records.proofs.KeyLemmas.{used_is_free, pass_is_free}
 use Rattle.dh_records.proofs.OrderLemmas.{order_with_lang, order_with_version, order_with_page, order_without, order_with_used}
@@ -65,14 +66,18 @@ module _ (host : Text) (lists : Lists) (p : Project) (sound : AreSound lists) (w
   owned = owned_by lists host p was
 
   rows_may : (e : Edit) → MayEdit e p → RowsMay host e lists
-  rows_may (AddLang lang place) may =
-      lang_is_free lists (lang_row host lang place) sound.rules owned (may.1 ∙ ap (λ n. n + 1) (count_in lists host p was))
+  rows_may (AddLang lang place) may = (
+    lang_is_free lists (lang_row host lang place) sound.rules owned (may.1 ∙ ap (λ n. n + 1) (count_in lists host p was)),
+    sym (speaks_in lists host p was lang) ∙ may.0,
+  )
   rows_may (PutVersion v) may = tt
   rows_may (PutWithoutPages v) may = tt
-  rows_may (RemoveVersion slug defaults) may = tt
+  rows_may (RemoveVersion slug defaults) may =
+      subst (IsDistinct bytes_eq) (sym may) (filter_distinct (λ n. not (bytes_eq n slug)) p.defaults (defaults_distinct lists host p sound.rules was))
   rows_may (PutPage slug lang x) may = tt
   rows_may (RemovePages slug lang) may = tt
-  rows_may (SetDefaults names) may = tt
+  rows_may (SetDefaults names) may =
+      subst (IsDistinct bytes_eq) (sym may.names_are) (front_distinct may.name p.defaults (defaults_distinct lists host p sound.rules was))
   rows_may (AddPass pass) may =
       pass_is_free (pass_row host pass) lists.passes (missing _ (sym (has_pass_in lists host p was pass) ∙ may))
   rows_may (RemovePass pass) may = tt
@@ -108,7 +113,7 @@ module _ (host : Text) (lists : Lists) (p : Project) (sound : AreSound lists) (w
       let next = may.1 ∙ ap (λ n. n + 1) (count_in lists host p was) in record {
         world_is = world_with_lang lists row p sound.rules sound.order.langs next was;
         sound = record {
-          order = order_with_lang lists sound.order row (rows_may (AddLang lang place) may);
+          order = order_with_lang lists sound.order row (rows_may (AddLang lang place) may).0;
           rules = rules_with_lang lists row sound.rules sound.order.langs owned next (sym (speaks_in lists host p was lang) ∙ may.0);
         };
       }

@@ -1,18 +1,22 @@
 -- A project made where the host has none.
-use Rattle.std.proofs.Common.{◌≡◌, find, Option, Some, None, Ok, Err, refl, sym, ap, ◌∙◌, subst}
+use Rattle.std.proofs.Common.{◌≡◌, false, map, find, Option, Some, None, Ok, Err, refl, sym, ap, ◌∙◌, subst}
+use Rattle.std.specs.List.{list_any}
+use Rattle.std.specs.Str.{bytes_eq}
 use Rattle.std.specs.FinMap.{get}
 use Rattle.dh_commands.specs.Commands.{command_of}
 use Rattle.dh_commands.specs.Plans.{Opens}
 use Rattle.dh_commands.specs.declared.checked.CheckedChange.{CheckedChange}
 use Rattle.dh_commands.specs.declared.checked.NewProject.{NewProject}
+use Rattle.sqlite_keyed.proofs.ListLemmas.{filter_none}
 use Rattle.dh_rows.specs.Keyed.{IsFreeKey}
 use Rattle.dh_records.proofs.ChangeLemmas.{world_with_project}
 use Rattle.dh_records.proofs.KeyLemmas.{project_is_free}
 use Rattle.dh_records.proofs.OrderLemmas.{order_with_project, order_with_lang}
-use Rattle.dh_records.proofs.RuleLemmas.{first_lang_is_free, rules_with_project}
+use Rattle.dh_records.proofs.RuleLemmas.{first_lang_is_free, none_of_new, rules_with_project}
 use Rattle.dh_records.proofs.WorldLemmas.{no_row}
 use Rattle.dh_records.specs.Codings as coding
-use Rattle.dh_records.specs.Lists.{Lists, world_of, is_project}
+use Rattle.dh_records.specs.Lists.{Lists, world_of, is_lang_of, is_project}
+use Rattle.dh_records.specs.Rules.{has_language}
 use Rattle.dh_records.specs.declared.records.LangRow.{LangRow}
 use Rattle.dh_records.specs.declared.records.ProjectRow.{ProjectRow}
 use Rattle.dh_transactions.proofs.Turning.{turn_at}
@@ -31,6 +35,13 @@ module _ (host : Text) (lists : Lists) (none : get (world_of lists) host ≡ Non
     pub main_is_free : (lang : LangRow) → lang.host ≡ host → IsFreeKey coding.langs.key lang lists.langs
     main_is_free lang home =
         first_lang_is_free lists lang sound.rules (subst (λ h. find (is_project h) lists.projects ≡ None) (sym home) (no_row lists host none))
+
+    -- nor has it a language
+    pub none_speaks : (lang : LangRow) → lang.host ≡ host → has_language lists lang.host lang.lang ≡ false
+    none_speaks lang home =
+        let new = subst (λ h. find (is_project h) lists.projects ≡ None) (sym home) (no_row lists host none) in
+        ap (λ rows. list_any (λ l. bytes_eq l lang.lang) (map (λ r. r.lang) rows))
+        (filter_none (is_lang_of lang.host) lists.langs (none_of_new (λ l. l.host) lists.langs lists lang.host new sound.rules.langs))
 
     module _ (x : NewProject) where
       abbrev row : ProjectRow

@@ -18,6 +18,22 @@ pub set_aside_on
 set_aside_on (Ok x) e is it = tt
 set_aside_on (Err f) e is it = subst IsSetAside (sym is) it
 
+-- where a refusal is handed on, nothing was answered
+pub none_answered
+    : {T : Type 0} (P : Type 0) (r : Result T Refusal) (e : Refusal) → IsErrAnd r (λ f. f ≡ e) → OnOk r P
+none_answered P (Ok x) e is = absurd is
+none_answered P (Err f) e is = tt
+
+-- a look after answered looks
+pub looks_on
+    : {S : Type 0} {g : Ghosts S} {a b c : Held S}
+    → Sees g a b (records g a) → Goes g b c → Sees g b c (records g b) → Sees g a c (records g a)
+looks_on p goes q = record {
+  live = λ honest clean. q.live (p.live honest (goes.lasts.clean clean)) clean;
+  now_is = λ honest. q.now_is honest ∙ p.now_is (goes.lasts.was honest);
+  mode = λ honest. q.mode honest ∙ p.mode (goes.lasts.was honest);
+}
+
 module _ {S : Type 0} (g : Ghosts S) (a b c : Held S) (change next : Lists → Lists) where
   -- edits after a change that was made
   pub makes_on

@@ -1,11 +1,14 @@
 -- What edits make of the records, and when they may be made of them.
-use Rattle.std.specs.Prelude.{not, filter, List, [], ◌∷◌, Some, None}
+use Rattle.std.specs.Prelude.{◌≡◌, false, not, filter, List, [], ◌∷◌, Some, None}
+use Rattle.std.specs.List.{IsDistinct}
+use Rattle.std.specs.Str.{bytes_eq}
 use Rattle.dh_commands.specs.declared.edits.Edit.{Edit}
 use Rattle.dh_commands.specs.declared.edits.Edit.TheVariants.{AddLang, PutVersion, PutWithoutPages, RemoveVersion, PutPage, RemovePages, SetDefaults, AddPass, RemovePass, Grant, Revoke, PutAnswer}
 use Rattle.dh_commands.specs.KeptAnswer.{KeptAnswer}
 use Rattle.dh_rows.specs.Keyed.{IsFreeKey, added, put}
 use Rattle.dh_records.specs.Codings as coding
 use Rattle.dh_records.specs.Lists.{Lists, is_version, is_page_under, is_pass, is_held, is_held_by, is_held_on, set_picks, granted, keeping}
+use Rattle.dh_records.specs.Rules.{has_language}
 use Rattle.dh_records.specs.declared.records.HeldRow.{HeldRow}
 use Rattle.dh_records.specs.declared.records.LangRow.{LangRow}
 use Rattle.dh_records.specs.declared.records.PageRow.{PageRow}
@@ -126,6 +129,9 @@ all_rows_edited host (e ∷ es) l = all_rows_edited host es (rows_edited host e 
 abbrev pub RowsMay : Text → Edit → Lists → Type 0
 RowsMay host (AddLang lang place) l =
     IsFreeKey coding.langs.key (lang_row host lang place) l.langs
+    × (has_language l host lang ≡ false)
+RowsMay host (RemoveVersion slug defaults) l = IsDistinct bytes_eq defaults.items
+RowsMay host (SetDefaults names) l = IsDistinct bytes_eq names.items
 RowsMay host (AddPass pass) l = IsFreeKey coding.passes.key (pass_row host pass) l.passes
 RowsMay host (PutAnswer a) l = IsFreeKey coding.used.key (answer_row host a) l.used
 RowsMay host _ l = Unit {0}

@@ -1,5 +1,7 @@
 //! Making the edits of a plan, within a transaction.
 ghost use Rattle.std.specs.Prelude.{◌≡◌, true, IfOk};
+ghost use Rattle.std.specs.List.{IsDistinct};
+ghost use Rattle.std.specs.Str.{bytes_eq};
 ghost use Rattle.dh_rows.specs.Calls.{IsHonest};
 ghost use Rattle.dh_transactions.specs.Going.{Makes, records};
 ghost use Rattle.dh_transactions.specs.RowEdits.{RowsMay, RowsMayAll, rows_edited, all_rows_edited, with_version, without_version, without_pages, without_grants_on, with_defaults};
@@ -101,6 +103,7 @@ fn remove_version<S: Alter>(
     defaults: &[Slug],
 ) -> Result<(), Refusal>
     requires within { IsHonest S.Store tables.old → tables.old.in_transaction ≡ true }
+    requires apart { IsHonest S.Store tables.old → IsDistinct bytes_eq defaults.now }
     ensures makes { Makes S.Store tables.old tables.new result
         (λ l. without_version host.now slug.now (without_grants_on host.now slug.now
         (without_pages host.now slug.now (with_defaults host.now defaults.now l)))) }
@@ -161,6 +164,7 @@ fn set_defaults<S: Alter>(
     names: &[Slug],
 ) -> Result<(), Refusal>
     requires within { IsHonest S.Store tables.old → tables.old.in_transaction ≡ true }
+    requires apart { IsHonest S.Store tables.old → IsDistinct bytes_eq names.now }
     ensures makes { Makes S.Store tables.old tables.new result
         (with_defaults host.now names.now) }
 {

@@ -1,11 +1,12 @@
 //! Making a project where the host has none.
-ghost use Rattle.std.specs.Prelude.{◌≡◌, true, None, IfOk, OnOk};
+ghost use Rattle.std.specs.Prelude.{◌≡◌, true, false, None, IfOk, OnOk};
 ghost use Rattle.std.specs.FinMap.{get};
 ghost use Rattle.dh_commands.specs.Commands.{command_of};
 ghost use Rattle.dh_rows.specs.Calls.{IsHonest, Goes};
 ghost use Rattle.dh_rows.specs.Keyed.{IsFreeKey};
 ghost use Rattle.dh_records.specs.Codings as coding;
 ghost use Rattle.dh_records.specs.Lists.{world_of};
+ghost use Rattle.dh_records.specs.Rules.{has_language};
 ghost use Rattle.dh_transactions.specs.Going.{Makes, Stays, records};
 ghost use Rattle.dh_transactions.specs.Opening.{project_row, main_lang, with_row, with_lang, with_project};
 ghost use Rattle.dh_transactions.specs.Sound.{AreSound, Turns};
@@ -61,6 +62,8 @@ fn add_main<S: Alter>(tables: &mut Tables<S>, lang: &LangRow) -> Result<(), Refu
     requires within { IsHonest S.Store tables.old → tables.old.in_transaction ≡ true }
     requires free { IsHonest S.Store tables.old
         → IsFreeKey coding.langs.key lang.now (records S.Store tables.old).langs }
+    requires new { IsHonest S.Store tables.old
+        → has_language (records S.Store tables.old) lang.now.host lang.now.lang ≡ false }
     ensures makes { Makes S.Store tables.old tables.new result
         (with_lang lang.now) }
 {

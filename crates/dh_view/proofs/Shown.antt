@@ -14,7 +14,8 @@ use Rattle.dh_versions.specs.declared.version.Version.{Version}
 use Rattle.dh_versions.specs.Aliases.{latest_of, stable_of}
 use Rattle.dh_reply.specs.declared.answer.Named.{Named}
 use Rattle.dh_reply.specs.declared.seen_project.SeenProject.{SeenProject}
-use Rattle.dh_reply.specs.SeenProject.{resolved, alias_of, page_at}
+use Rattle.dh_redirects.specs.declared.redirect.Asked.{Asked}
+use Rattle.dh_reply.specs.SeenProject.{resolved, alias_of, first_result, page_at}
 use Rattle.dh_records.specs.declared.records.ProjectRow.{ProjectRow}
 use Rattle.dh_records.specs.declared.records.VersionRow.{VersionRow}
 use Rattle.dh_records.specs.declared.records.PickRow.{PickRow}
@@ -23,7 +24,7 @@ use Rattle.dh_world.specs.World.{Text, text_cmp, Project, holds, is_visible, may
 use Rattle.dh_records.specs.Lists.{Lists, project_of, world_of, is_project, is_version, is_version_of, is_page, is_lang_of, is_pick_of}
 use Rattle.dh_world.specs.Seen.{seen_project, without_default, default_of, visible_versions}
 use Rattle.dh_records.specs.Rules.{RiseBySlug}
-use Rattle.dh_view.specs.View.{opens}
+use Rattle.dh_view.specs.View.{opens, shown_under}
 use Rattle.dh_world.proofs.MapLemmas.{tied_text}
 use Rattle.dh_records.proofs.SeenLemmas.{get_project, get_version, get_page}
 use Rattle.dh_world.proofs.SeenLemmas.{seen_page}
@@ -347,3 +348,13 @@ pub versions_shown : (pass : Option Text) (o : Option Project) → option_map_or
 unfolding seen_project without_default
 versions_shown pass None = refl
 versions_shown pass (Some p) = refl
+
+-- no table has redirects, so none leads anywhere
+pub none_led : (lists : Lists) (host pass : Option Text) (forced : Bool) (asked : Asked) → None ≡ option_and_then (λ (p : SeenProject). first_result forced p.redirects asked) (shown_under lists host pass)
+unfolding seen_project without_default project_of first_result
+none_led lists None pass forced asked = refl
+none_led lists (Some host) pass forced asked = go (find (is_project host) lists.projects) ∙ ap (λ o. option_and_then (λ (p : SeenProject). first_result forced p.redirects asked) (option_map (λ p. seen_project p pass) o)) (sym (get_project lists host))
+  where
+    go : (o : Option ProjectRow) → None ≡ option_and_then (λ (p : SeenProject). first_result forced p.redirects asked) (option_map (λ p. seen_project p pass) (option_map (project_of lists) o))
+    go None = refl
+    go (Some row) = refl

@@ -7,6 +7,7 @@ use Rattle.sqlite.specs.Held.{Held, state}
 use Rattle.dh_reply.specs.declared.fault.Fault.{Fault}
 use Rattle.dh_reply.specs.declared.fault.Fault.TheVariants.{Store, Memory}
 use Rattle.dh_reply.specs.Faults.{OnStore, UnlessStore}
+use Rattle.dh_reply.specs.Lookup as lookup
 use Rattle.dh_rows.specs.Calls.{IsHonest, IsSame, Lasts, seen}
 use Rattle.dh_schema.specs.Tables.{lists_of}
 use Rattle.dh_world.specs.World.{Text}
@@ -14,7 +15,8 @@ use Rattle.dh_records.specs.Lists.{world_of}
 use Rattle.dh_world.specs.Seen as caller
 use Rattle.dh_records.proofs.ReadingLemmas.{handed_on}
 use Rattle.dh_schema.specs.Calling.{Asks, Blames, IsSettled}
-use Rattle.dh_view.specs.View.{doubt_of, shown, fails_on, looks_on, Fails, Looks, Queries}
+use Rattle.dh_view.specs.View.{doubt_of, meaning_of, shown, fails_on, looks_on, Fails, Looks, Queries}
+use Rattle.dh_view.specs.declared.view.View.{View}
 
 -- ---- doubt
 
@@ -38,6 +40,11 @@ at_most_one : (a : Bool) → doubt a ≤ 1
 unfolding doubt
 at_most_one true = omega arith
 at_most_one false = omega arith
+
+unless_store : {T P : Type 0} (r : Result T Fault) → P → UnlessStore r P
+unless_store (Ok x) it = it
+unless_store (Err Memory) it = it
+unless_store (Err Store) it = tt
 
 module _ {S : Type 0} (g : Ghosts S) where
   pub honest : (h : Held S) → doubt_of g h ≡ 0 → IsHonest g h
@@ -73,10 +80,15 @@ module _ {S : Type 0} (g : Ghosts S) where
   pub shown_same : (a b : Held S) (host pass : Option Text) → Looks g a b → IsHonest g b → shown g b host pass ≡ shown g a host pass
   shown_same a b host pass it h = ap (λ l. caller.seen (world_of l) host pass) (it.unmoved h).same.now_is
 
-  pub kept_shown : {T : Type 0} (a b : Held S) (host pass : Option Text) (r : Result T Fault) → Looks g a b → doubt_of g b ≡ 0 → UnlessStore r (shown g b host pass ≡ shown g a host pass)
-  kept_shown a b host pass (Ok x) it d = shown_same a b host pass it (honest b d)
-  kept_shown a b host pass (Err Memory) it d = shown_same a b host pass it (honest b d)
-  kept_shown a b host pass (Err Store) it d = tt
+  -- what a call on the tables of a view leaves of the view
+  pub view_asks : {T : Type 0} (old new : View S) (r : Result T Fault) → (new.tables.ghost_name ≡ old.tables.ghost_name) × (new.host ≡ old.host) × (new.pass ≡ old.pass) → Queries g old.tables.now new.tables.now r → lookup.Asks (meaning_of g) old new r
+  view_asks old new r stay it = record {
+    leads = (stay.0, stay.1, stay.2, it.looks);
+    doubt = looks_grow old.tables.now new.tables.now it.looks;
+    told = it.told;
+    keeps = unless_store r it.looks.unmoved;
+    kept = λ d. unless_store r (ap (λ h. shown g new.tables.now h new.pass) stay.1 ∙ ap (shown g new.tables.now old.host) stay.2 ∙ shown_same old.tables.now new.tables.now old.host old.pass it.looks (honest new.tables.now d));
+  }
 
   pub lists_same : (a b : Held S) → Looks g a b → IsHonest g b → seen g lists_of b ≡ seen g lists_of a
   lists_same a b it h = (it.unmoved h).same.now_is

@@ -12,6 +12,7 @@ use Rattle.sqlite.specs.Held.{Held, state}
 use Rattle.dh_rows.specs.Calls.{IsBlamed, IsHonest, IsSame, Lasts, Leaves, seen}
 use Rattle.dh_versions.specs.declared.version.Version.{Version}
 use Rattle.dh_reply.specs.Faults.{OnStore}
+use Rattle.dh_reply.specs.Lookup.{Meaning}
 use Rattle.dh_reply.specs.SeenProject.{resolved}
 use Rattle.dh_reply.specs.declared.fault.Fault.{Fault}
 use Rattle.dh_reply.specs.declared.seen_project.SeenProject.{SeenProject}
@@ -23,6 +24,7 @@ use Rattle.dh_world.specs.Seen as caller
 use Rattle.dh_schema.specs.InTurn.{blamed_before, lasts_none, lasts_on, same_none, same_on, shut_before}
 use Rattle.dh_records.specs.Lists.{Lists, project_of, world_of}
 use Rattle.dh_schema.specs.Tables.{lists_of}
+use Rattle.dh_view.specs.declared.view.View.{View}
 
 -- ---- what a caller sees of the records
 
@@ -101,6 +103,17 @@ module _ {S : Type 0} (g : Ghosts S) where
       pub looks : Looks old new
       -- `Store` is answered with a cause alone
       pub told : OnStore result (Fails old new)
+
+  -- How a view is read: by what its tables show under its host and pass, which stay.
+  abbrev pub meaning_of : Meaning (View S)
+  meaning_of = record {
+    content = λ v. shown v.tables.now v.host v.pass;
+    doubt = λ v. doubt_of v.tables.now;
+    leads = λ a b. (b.tables.ghost_name ≡ a.tables.ghost_name) × (b.host ≡ a.host)
+        × (b.pass ≡ a.pass) × Looks a.tables.now b.tables.now;
+    keeps = λ a b. IsHonest g b.tables.now → IsUnmoved a.tables.now b.tables.now;
+    fails = λ a b. Fails a.tables.now b.tables.now;
+  }
 
   pub unmoved_none : (h : Held S) → IsHonest g h → IsUnmoved h h
   unmoved_none h it = record {

@@ -3,15 +3,14 @@
 ghost use Rattle.std.specs.Prelude.{◌≡◌, ◌↔◌, is_some, [], OnOk};
 ghost use Rattle.std.specs.Option.{option_map, option_and_then, option_map_or};
 ghost use Rattle.std.specs.FinMap.{values};
-ghost use Rattle.std.proofs.Common.{◌∙◌, refl, inl};
+ghost use Rattle.std.proofs.Common.{◌∙◌, refl};
 ghost use Rattle.sqlite.specs.Held.{Held};
 ghost use Rattle.dh_rows.specs.Calls.{IsHonest};
 ghost use Rattle.dh_reply.specs.SeenProject.{resolved, page_at};
 ghost use Rattle.dh_records.specs.Lists.{project_of};
 ghost use Rattle.dh_world.specs.Seen.{visible_versions};
 ghost use Rattle.dh_schema.specs.Calling.{IsSettled, Learns, Reads, ReadsAll};
-ghost use Rattle.dh_schema.specs.InTurn.{lasts_none};
-ghost use Rattle.dh_view.specs.View.{IsUnmoved, Fails, Looks, Queries, doubt_of, fails_on, looks_on, project_in, shown, shown_under, unmoved_on};
+ghost use Rattle.dh_view.specs.View.{Queries, doubt_of, fails_on, looks_none, looks_on, meaning_of, project_in, shown_under, unmoved_none, unmoved_on};
 
 mod aliases;
 mod defaults;
@@ -23,6 +22,7 @@ use aliases::version_for;
 use defaults::default_name;
 use dh_paths::{HostName, Lang, Slug, Text, Token};
 use dh_records::ProjectRow;
+use dh_redirects::{Asked, Location};
 use dh_reply::{Fault, Lookup, Named, Page};
 use dh_store::Tables;
 use dh_versions::Version;
@@ -195,32 +195,11 @@ pub fn doubt_is_of_the_store<S: Alter>()
 {}
 
 impl<'a, S: Alter> Lookup for View<'a, S> {
-    ghost meaning = { record {
-      content = λ v. shown S.Store v.tables.now v.host v.pass;
-      doubt = λ v. doubt_of S.Store v.tables.now;
-      leads = λ a b. (b.tables.ghost_name ≡ a.tables.ghost_name) × (b.host ≡ a.host)
-          × (b.pass ≡ a.pass) × Looks S.Store a.tables.now b.tables.now;
-      keeps = λ a b. IsHonest S.Store b.tables.now → IsUnmoved S.Store a.tables.now b.tables.now;
-      fails = λ a b. Fails S.Store a.tables.now b.tables.now;
-    } };
+    ghost meaning = { meaning_of S.Store };
 
-    ghost leads_at = { λ a. (
-      refl,
-      refl,
-      refl,
-      record {
-        lasts = lasts_none a.tables.now;
-        unmoved = λ it. record {
-          same = record { was_honest = it; is_open = it.1; now_is = refl; last_is = refl; mode = refl };
-          left = λ _ _ db may. inl may;
-        };
-      },
-    ) };
+    ghost leads_at = { λ a. (refl, refl, refl, looks_none _ a.tables.now) };
 
-    ghost keeps_at = { λ a it. record {
-      same = record { was_honest = it; is_open = it.1; now_is = refl; last_is = refl; mode = refl };
-      left = λ _ _ db may. inl may;
-    } };
+    ghost keeps_at = { λ a it. unmoved_none _ a.tables.now it };
 
     ghost leads_on = { λ a b c p q.
         (q.0 ∙ p.0, q.1 ∙ p.1, q.2 ∙ p.2, looks_on p.3 q.3) };
@@ -253,6 +232,23 @@ impl<'a, S: Alter> Lookup for View<'a, S> {
         path: &str,
     ) -> Result<Option<Page>, Fault> {
         page_under(self.tables, alloc, &self.host, &self.pass, lang, slug, path)
+    }
+
+    // No table has redirects yet.
+    fn forced_redirect(
+        &mut self,
+        _alloc: Global,
+        _asked: &Asked,
+    ) -> Result<Option<Location>, Fault> {
+        Ok(None)
+    }
+
+    fn not_found_redirect(
+        &mut self,
+        _alloc: Global,
+        _asked: &Asked,
+    ) -> Result<Option<Location>, Fault> {
+        Ok(None)
     }
 
     fn listing(&mut self, alloc: Global) -> Result<Vec<Version>, Fault> {

@@ -73,7 +73,7 @@ default_filter resolves keep h (n ∷ names) = go (keep n) refl (default_filter 
 
 module _ (p : Project) (pass : Option Text) where
   abbrev undecided : SeenProject
-  undecided = without_default p.languages p.branch (visible_versions p pass) (visible_pages p pass)
+  undecided = without_default p.languages p.branch (visible_versions p pass) (visible_pages p pass) p.redirects
 
   -- what a name stands for does not go by the default
   same_name : (name : Text) → resolved (seen_project p pass) name ≡ resolved undecided name
@@ -100,7 +100,7 @@ module _ (p : Project) (pass : Option Text) where
   seen_veiled : seen_project (veiled p pass) pass ≡ seen_project p pass
   unfolding seen_project
   seen_veiled =
-      (λ i. with_default (without_default p.languages p.branch (same_versions i) (same_pages i)) (filter (is_seen_name p pass) p.defaults))
+      (λ i. with_default (without_default p.languages p.branch (same_versions i) (same_pages i) p.redirects) (filter (is_seen_name p pass) p.defaults))
       ∙ ap (λ d. record undecided { «default» = d }) (default_filter (λ name. is_some (resolved undecided name)) (is_seen_name p pass) passed_over p.defaults)
 
 -- ---- worlds

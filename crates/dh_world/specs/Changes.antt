@@ -43,6 +43,7 @@ new_project lang branch private wkey = record {
   passes = empty;
   held = empty;
   used = empty;
+  redirects = [];
 }
 
 -- the language is not there, there are fewer than 30: it is added last

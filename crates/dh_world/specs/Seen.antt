@@ -4,6 +4,7 @@ use Rattle.std.specs.Str.{bytes_eq}
 use Rattle.std.specs.FinMap.{FinMap, empty, get, insert, retain_keys, entries, keys, values}
 use Rattle.dh_versions.specs.Aliases.{latest_of, stable_of}
 use Rattle.dh_versions.specs.declared.version.Version.{Version}
+use Rattle.dh_redirects.specs.declared.redirect.Redirect.{Redirect}
 use Rattle.dh_reply.specs.declared.answer.Page.{Page}
 use Rattle.dh_reply.specs.declared.seen_project.SeenProject.{SeenProject}
 use Rattle.dh_reply.specs.declared.seen_project.StoredPage.{StoredPage}
@@ -31,15 +32,16 @@ visible_pages p pass = retain_keys p.pages (λ key. is_visible p pass key.0)
 abbrev pub stored_page : PageKey × Page → StoredPage
 stored_page e = record { lang = e.0.1.0; slug = e.0.0; path = e.0.1.1; page = e.1 }
 
--- languages, versions in the order of their slugs, pages, and the two aliases of those versions; the default is left open
-unfoldable pub without_default : List Text → Text → FinMap text_cmp Version → FinMap page_cmp Page → SeenProject
-without_default languages branch versions pages = record {
+-- languages, versions in the order of their slugs, pages, the two aliases of those versions, and redirects; the default is left open
+unfoldable pub without_default : List Text → Text → FinMap text_cmp Version → FinMap page_cmp Page → List Redirect → SeenProject
+without_default languages branch versions pages redirects = record {
   langs = languages;
   versions = values versions;
   pages = map stored_page (entries pages);
   latest = option_and_then (slice_get (keys versions)) (latest_of (values versions) branch);
   stable = option_and_then (slice_get (keys versions)) (stable_of (values versions));
   «default» = None;
+  redirects = redirects;
 }
 
 abbrev pub with_default : SeenProject → List Text → SeenProject
@@ -47,7 +49,7 @@ with_default p names = record p { «default» = default_of (λ name. is_some (re
 
 -- the project as the holder of this pass sees it, or a caller with none: no private version that the pass does not hold, no rank, pass or key
 unfoldable pub seen_project : Project → Option Text → SeenProject
-seen_project p pass = with_default (without_default p.languages p.branch (visible_versions p pass) (visible_pages p pass)) p.defaults
+seen_project p pass = with_default (without_default p.languages p.branch (visible_versions p pass) (visible_pages p pass) p.redirects) p.defaults
 
 -- what that caller sees under a host
 abbrev pub seen : World → Option Text → Option Text → Option SeenProject
@@ -62,7 +64,7 @@ is_own (Some pass) x = bytes_eq x pass
 abbrev pub is_seen_name : Project → Option Text → Text → Bool
 is_seen_name p pass name = is_alias name || is_some (resolved (seen_project p pass) name)
 
--- What is left of a project that holds nothing but what this caller sees: the visible versions, their pages, the defaults that he may see, and of the passes his own with the visible slugs that it holds.
+-- What is left of a project that holds nothing but what this caller sees: the visible versions, their pages, the redirects, the defaults that he may see, and of the passes his own with the visible slugs that it holds.
 abbrev pub veiled : Project → Option Text → Project
 veiled p pass = record {
   languages = p.languages;
@@ -75,6 +77,7 @@ veiled p pass = record {
   passes = retain_keys p.passes (is_own pass);
   held = retain_keys p.held (λ key. is_own pass key.0 && is_visible p pass key.1);
   used = empty;
+  redirects = p.redirects;
 }
 
 -- a world of this project alone, or of none

@@ -1,7 +1,8 @@
 //! The calls on defaults.
 
 ghost use Rattle.std.specs.Prelude.{◌≡◌, pos, true, false, filter, IfOk};
-ghost use Rattle.std.specs.List.{AllByRecursion};
+ghost use Rattle.std.specs.List.{AllByRecursion, IsDistinct};
+ghost use Rattle.std.specs.Str.{bytes_eq};
 ghost use Rattle.dh_rows.specs.Calls.{IsHonest, seen};
 ghost use Rattle.dh_rows.specs.Keyed.{IsFreeKey};
 ghost use Rattle.dh_schema.specs.Calling.{Asks, ReadsAll, Writes, WritesWithin};
@@ -81,9 +82,10 @@ impl<S: Alter> Tables<S> {
         Ok(())
     }
 
-    /// Sets the defaults of a project, the newest first, within a transaction. A call that is refused may leave some of them until the transaction ends.
+    /// Sets the defaults of a project, the newest first, each once, within a transaction. A call that is refused may leave some of them until the transaction ends.
     pub fn set_picks(&mut self, host: &HostName, names: &[Slug]) -> Result<(), Fault>
         requires within { IsHonest S.Store self.old → self.old.in_transaction ≡ true }
+        requires apart { IsHonest S.Store self.old → IsDistinct bytes_eq names.now }
         ensures writes { WritesWithin S.Store self.old self.new result
             (change.set_picks host.now names.now) }
     {

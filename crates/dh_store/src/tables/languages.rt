@@ -1,6 +1,6 @@
 //! The calls on the languages of projects.
 
-ghost use Rattle.std.specs.Prelude.{filter};
+ghost use Rattle.std.specs.Prelude.{◌≡◌, false, filter};
 ghost use Rattle.dh_rows.specs.Calls.{IsHonest, seen};
 ghost use Rattle.dh_rows.specs.Keyed.{IsFreeKey};
 ghost use Rattle.dh_schema.specs.Calling.{Asks, ReadsAll, Writes};
@@ -8,6 +8,7 @@ ghost use Rattle.dh_schema.specs.Tables.{lists_of};
 ghost use Rattle.dh_records.specs.Changes as change;
 ghost use Rattle.dh_records.specs.Codings as coding;
 ghost use Rattle.dh_records.specs.Lists as spec;
+ghost use Rattle.dh_records.specs.Rules.{has_language};
 
 use super::{Tables, show_number};
 use dh_paths::HostName;
@@ -36,6 +37,8 @@ impl<S: Alter> Tables<S> {
     pub fn add_lang(&mut self, lang: &LangRow) -> Result<(), Fault>
         requires free { IsHonest S.Store self.old
             → IsFreeKey coding.langs.key lang.now (seen S.Store lists_of self.old).langs }
+        requires new { IsHonest S.Store self.old
+            → has_language (seen S.Store lists_of self.old) lang.now.host lang.now.lang ≡ false }
         ensures writes { Writes S.Store self.old self.new result (change.add_lang lang.now) }
     {
         show_number(lang.place);

@@ -1,7 +1,7 @@
 use Rattle.std.proofs.Common.{rules, subst}
 use Rattle.dh_schema.specs.InTurn.{goes_on}
 use Rattle.dh_transactions.proofs.LookLemmas.{facts_here}
-use Rattle.dh_transactions.proofs.Together.{set_aside_on}
+use Rattle.dh_transactions.proofs.Together.{looks_on, none_answered, set_aside_on}
 use Rattle.dh_transactions.proofs.looks.look.Goals as goal
 use Rattle.dh_transactions.specs.Finding.{FindsSettings}
 use Rattle.dh_transactions.specs.Going.{records}
@@ -36,7 +36,7 @@ returns-in_err-has_pass-clause-asks g c = record {
       (goes_on c.languages_for.ensures.asks.goes c.in_ok-languages.ensures.asks.looks.live
       (goes_on c.defaults_for.ensures.asks.goes c.in_ok-defaults.ensures.asks.looks.live
       c.has_pass.ensures.asks.goes))));
-  looks = search rules;
+  looks = none_answered _ c.from_residual-in_err-has_pass.result c.in_err-has_pass.field-0.0 c.from_residual-in_err-has_pass.ensures.1;
   err = set_aside_on c.from_residual-in_err-has_pass.result c.in_err-has_pass.field-0.0 c.from_residual-in_err-has_pass.ensures.1 c.in_err-has_pass.ensures.asks.err;
 }
 
@@ -50,7 +50,7 @@ returns-in_err-pass_count-clause-asks g c = record {
       (goes_on c.defaults_for.ensures.asks.goes c.in_ok-defaults.ensures.asks.looks.live
       (goes_on c.has_pass.ensures.asks.goes c.in_ok-has_pass.ensures.asks.looks.live
       c.pass_count.ensures.asks.goes)))));
-  looks = search rules;
+  looks = none_answered _ c.from_residual-in_err-pass_count.result c.in_err-pass_count.field-0.0 c.from_residual-in_err-pass_count.ensures.1;
   err = set_aside_on c.from_residual-in_err-pass_count.result c.in_err-pass_count.field-0.0 c.from_residual-in_err-pass_count.ensures.1 c.in_err-pass_count.ensures.asks.err;
 }
 
@@ -64,7 +64,13 @@ returns-clause-asks g c = record {
       (goes_on c.defaults_for.ensures.asks.goes c.in_ok-defaults.ensures.asks.looks.live
       (goes_on c.has_pass.ensures.asks.goes c.in_ok-has_pass.ensures.asks.looks.live
       c.pass_count.ensures.asks.goes)))));
-  looks = search rules;
+  looks =
+      looks_on (looks_on (looks_on (looks_on (looks_on (looks_on c.in_ok-settings.ensures.asks.looks c.version_for.ensures.asks.goes c.in_ok-version.ensures.asks.looks)
+      c.first_answer_for.ensures.asks.goes c.in_ok-first_answer.ensures.asks.looks)
+      c.languages_for.ensures.asks.goes c.in_ok-languages.ensures.asks.looks)
+      c.defaults_for.ensures.asks.goes c.in_ok-defaults.ensures.asks.looks)
+      c.has_pass.ensures.asks.goes c.in_ok-has_pass.ensures.asks.looks)
+      c.pass_count.ensures.asks.goes c.in_ok-pass_count.ensures.asks.looks;
   err = search rules;
 }
 
@@ -76,6 +82,17 @@ returns-in_err-defaults-clause-asks g c = record {
       (goes_on c.first_answer_for.ensures.asks.goes c.in_ok-first_answer.ensures.asks.looks.live
       (goes_on c.languages_for.ensures.asks.goes c.in_ok-languages.ensures.asks.looks.live
       c.defaults_for.ensures.asks.goes)));
-  looks = search rules;
+  looks = none_answered _ c.from_residual-in_err-defaults.result c.in_err-defaults.field-0.0 c.from_residual-in_err-defaults.ensures.1;
   err = set_aside_on c.from_residual-in_err-defaults.result c.in_err-defaults.field-0.0 c.from_residual-in_err-defaults.ensures.1 c.in_err-defaults.ensures.asks.err;
+}
+
+pub returns-in_err-languages-clause-asks : goal.returns-in_err-languages-clause-asks
+returns-in_err-languages-clause-asks g c = record {
+  goes =
+      goes_on c.settings_of.ensures.asks.goes c.in_ok-settings.ensures.asks.looks.live
+      (goes_on c.version_for.ensures.asks.goes c.in_ok-version.ensures.asks.looks.live
+      (goes_on c.first_answer_for.ensures.asks.goes c.in_ok-first_answer.ensures.asks.looks.live
+      c.languages_for.ensures.asks.goes));
+  looks = none_answered _ c.from_residual-in_err-languages.result c.in_err-languages.field-0.0 c.from_residual-in_err-languages.ensures.1;
+  err = set_aside_on c.from_residual-in_err-languages.result c.in_err-languages.field-0.0 c.from_residual-in_err-languages.ensures.1 c.in_err-languages.ensures.asks.err;
 }

@@ -1,10 +1,11 @@
-use Rattle.std.proofs.Common.{refl, sym, subst}
+use Rattle.std.proofs.Common.{◌≡◌, false, refl, sym, subst}
 use Rattle.dh_rows.specs.Keyed.{IsFreeKey}
 use Rattle.dh_records.specs.Codings as coding
 use Rattle.dh_records.specs.Lists.{Lists}
+use Rattle.dh_records.specs.Rules.{has_language}
 use Rattle.dh_records.specs.declared.records.LangRow.{LangRow}
 use Rattle.dh_records.specs.declared.records.ProjectRow.{ProjectRow}
-use Rattle.dh_transactions.proofs.OpenLemmas.{row_is_free, main_is_free}
+use Rattle.dh_transactions.proofs.OpenLemmas.{row_is_free, main_is_free, none_speaks}
 use Rattle.dh_transactions.proofs.opening.add_project.Goals as goal
 use Rattle.dh_transactions.proofs.Together.{makes_on}
 use Rattle.dh_transactions.specs.Going.{Makes, records}
@@ -25,6 +26,15 @@ add_main-requires-clause-free g c honest =
     subst (λ r. P r (records g.S.Store c.add_row.new.tables)) (sym c.in_ok-row.ensures.1)
     (subst (P (main_lang c.args.host.now c.args.project.lang)) (sym (c.in_ok-add_row.ensures.makes.sees.now_is honest))
     (main_is_free c.args.host.now lists (c.requires.none h0) (c.requires.sound h0) (main_lang c.args.host.now c.args.project.lang) refl))
+
+pub add_main-requires-clause-new : goal.add_main-requires-clause-new
+add_main-requires-clause-new g c honest =
+    let h0 = c.add_row.ensures.makes.goes.lasts.was honest in
+    let lists : Lists = records g.S.Store c.args.tables.now in
+    let P : LangRow → Lists → Type 0 = λ r l. has_language l r.host r.lang ≡ false in
+    subst (λ r. P r (records g.S.Store c.add_row.new.tables)) (sym c.in_ok-row.ensures.1)
+    (subst (P (main_lang c.args.host.now c.args.project.lang)) (sym (c.in_ok-add_row.ensures.makes.sees.now_is honest))
+    (none_speaks c.args.host.now lists (c.requires.none h0) (c.requires.sound h0) (main_lang c.args.host.now c.args.project.lang) refl))
 
 pub returns : goal.returns
 returns g c = record {

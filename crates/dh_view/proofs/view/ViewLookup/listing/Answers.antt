@@ -1,21 +1,15 @@
-use Rattle.std.proofs.Common.{rules}
+use Rattle.std.proofs.Common.{refl}
 use Rattle.std.specs.Option.{option_and_then}
 use Rattle.std.specs.FinMap.{get}
 use Rattle.dh_rows.specs.Calls.{seen}
 use Rattle.dh_records.specs.Lists.{world_of}
 use Rattle.dh_schema.specs.Tables.{lists_of}
 use Rattle.dh_view.proofs.Shown.{versions_shown}
-use Rattle.dh_view.proofs.ViewLemmas.{looks_grow, kept_shown, honest, same_answer}
+use Rattle.dh_view.proofs.ViewLemmas.{view_asks, honest, same_answer}
 use Rattle.dh_view.proofs.view.ViewLookup.listing.Goals as goal
 
 pub returns-clause-asks : goal.returns-clause-asks
-returns-clause-asks g c = record {
-  leads = search rules;
-  doubt = looks_grow g.S.Store _ _ c.listing_under.ensures.asks.looks;
-  told = c.listing_under.ensures.asks.told;
-  keeps = search rules;
-  kept = kept_shown g.S.Store _ _ c.args.self.now.host c.args.self.now.pass c.listing_under.result c.listing_under.ensures.asks.looks;
-}
+returns-clause-asks g c = view_asks g.S.Store _ _ c.listing_under.result (refl, refl, refl) c.listing_under.ensures.asks
 
 pub returns-clause-value : goal.returns-clause-value
 returns-clause-value g c d = same_answer (λ v. v.items) c.listing_under.result _ _ (versions_shown c.args.self.now.pass (option_and_then (get (world_of (seen g.S.Store lists_of c.args.self.now.tables.now))) c.args.self.now.host)) (c.listing_under.ensures.value (honest g.S.Store _ d))
