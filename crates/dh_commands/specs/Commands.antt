@@ -16,7 +16,7 @@ use Rattle.dh_world.specs.declared.refusal.Refusal.{Refusal}
 use Rattle.dh_commands.specs.Questions.{Asked, nothing, version_named}
 use Rattle.dh_commands.specs.declared.checked.CheckedChange.{CheckedChange}
 use Rattle.dh_commands.specs.declared.checked.CheckedCommand.{CheckedCommand}
-use Rattle.dh_commands.specs.declared.checked.CheckedChange.TheVariants.{NewProject, AddLang, Push, Upload, SetProperty, Deactivate, Gone, SetDefault, AddPass, DropPass, Grant, Revoke}
+use Rattle.dh_commands.specs.declared.checked.CheckedChange.TheVariants.{NewProject, AddLang, Push, Upload, SetProperty, Deactivate, Gone, SetDefault, AddRedirect, DropRedirect, AddPass, DropPass, Grant, Revoke}
 use Rattle.dh_commands.specs.declared.facts.ProjectSettings.{ProjectSettings}
 
 -- ---- the change
@@ -38,6 +38,8 @@ change_of (SetProperty slug property) = setting property slug
 change_of (Deactivate slug) = change.Deactivate slug
 change_of (Gone slug) = change.Gone slug
 change_of (SetDefault name) = change.SetDefault name
+change_of (AddRedirect x) = change.AddRedirect x.place x.redirect
+change_of (DropRedirect place) = change.DropRedirect place
 change_of (AddPass pass) = change.AddPass pass
 change_of (DropPass pass) = change.DropPass pass
 change_of (Grant pass slug) = change.Grant pass slug
@@ -59,6 +61,8 @@ asked_by (SetProperty slug property) = record nothing { version = Some slug }
 asked_by (Deactivate slug) = record nothing { version = Some slug }
 asked_by (Gone slug) = record nothing { version = Some slug; defaults = true }
 asked_by (SetDefault name) = record nothing { version = version_named name; defaults = true }
+asked_by (AddRedirect x) = record nothing { redirects = true }
+asked_by (DropRedirect place) = record nothing { redirects = true }
 asked_by (AddPass pass) = record nothing { pass = Some pass; pass_count = true }
 asked_by (DropPass pass) = record nothing { pass = Some pass }
 asked_by (Grant pass slug) = record nothing { version = Some slug; pass = Some pass }

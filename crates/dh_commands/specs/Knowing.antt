@@ -1,8 +1,10 @@
 -- What was found of a project, and plans that follow from it.
-use Rattle.std.specs.Prelude.{◌≡◌, false, if◌then◌else◌, [], Some, Result, Ok, Err, IfSome}
+use Rattle.std.specs.Prelude.{◌≡◌, ◌≤◌, false, if◌then◌else◌, [], length, Some, None, Result, Ok, Err, IfSome}
+use Rattle.std.specs.List.{AllByRecursion}
 use Rattle.std.specs.Option.{option_and_then, option_map_or}
 use Rattle.std.specs.FinMap.{get, contains_key, len}
 use Rattle.dh_paths.specs.Slugs.{slug_from}
+use Rattle.dh_redirects.specs.Redirects.{first_fault}
 use Rattle.dh_world.specs.Changes.{change}
 use Rattle.dh_world.specs.World.{Project}
 use Rattle.dh_world.specs.declared.refusal.Refusal.{Refusal}
@@ -28,6 +30,10 @@ pub record Answers (q : Asked) (f : Facts) (p : Project) : Type 0 where
   pub first_answer : option_and_then (get p.used) q.retry_key ≡ f.first_answer
   pub languages : (if q.languages then p.languages else []) ≡ f.languages.items
   pub defaults : (if q.defaults then p.defaults else []) ≡ f.defaults.items
+  pub redirects : (if q.redirects then p.redirects else []) ≡ f.redirects.items
+  -- they are at most 100, and each passes its check
+  pub few : length f.redirects.items ≤ 100
+  pub good : AllByRecursion (λ r. first_fault r ≡ None) f.redirects.items
   pub has_pass : option_map_or (contains_key p.passes) q.pass false ≡ f.has_pass
   pub pass_count : (if q.pass_count then len p.passes else 0) ≡ f.pass_count
 

@@ -1,8 +1,9 @@
 -- The parts of plans, and why there is none.
-use Rattle.std.specs.Prelude.{◌≡◌, Bool, true, false, ◌&&◌, if◌then◌else◌, List, [], ◌∷◌, ◌++◌, map, length, Option, Some, None, Result, Ok, Err}
+use Rattle.std.specs.Prelude.{◌≡◌, ℕ, ◌+◌, ◌-◌, Bool, true, false, ◌&&◌, if◌then◌else◌, List, [], ◌∷◌, ◌++◌, map, length, drop, Option, Some, None, Result, Ok, Err}
 use Rattle.std.specs.Str.{bytes_eq}
 use Rattle.dh_versions.specs.declared.version.Kind.TheVariants.{Branch}
 use Rattle.dh_versions.specs.declared.version.Version.{Version}
+use Rattle.dh_redirects.specs.declared.redirect.Redirect.{Redirect}
 use Rattle.dh_world.specs.Changes.{same_kind, made, new_project, opened}
 use Rattle.dh_world.specs.Refusals.{unless}
 use Rattle.dh_world.specs.Seen.{is_alias}
@@ -20,7 +21,7 @@ use Rattle.dh_commands.specs.declared.checked.CheckedPush.{CheckedPush}
 use Rattle.dh_commands.specs.declared.checked.CheckedUpload.{CheckedUpload}
 use Rattle.dh_commands.specs.declared.checked.NewProject.{NewProject}
 use Rattle.dh_commands.specs.declared.edits.Edit.{Edit}
-use Rattle.dh_commands.specs.declared.edits.Edit.TheVariants.{PutVersion, PutWithoutPages, PutPage, RemovePages, PutAnswer}
+use Rattle.dh_commands.specs.declared.edits.Edit.TheVariants.{PutVersion, PutWithoutPages, PutPage, RemovePages, PutRedirect, DropLastRedirect, PutAnswer}
 use Rattle.dh_commands.specs.declared.facts.ProjectSettings.{ProjectSettings}
 
 -- ---- where the host has no project
@@ -89,6 +90,19 @@ wrong_default_version (Some v) = unless v.active Inactive
 -- why a name may be no default, by the version that was found
 abbrev pub wrong_default : Text → Option Version → Option Refusal
 wrong_default name version = if is_alias name then None else wrong_default_version version
+
+-- ---- redirects
+
+-- an edit for each redirect, at the places from this one on
+abbrev pub redirects_put : ℕ → List Redirect → List Edit
+redirects_put place [] = []
+redirects_put place (r ∷ rs) = PutRedirect place r ∷ redirects_put (place + 1) rs
+
+abbrev pub plan_added : ℕ → Redirect → List Redirect → Planned
+plan_added place redirect rs = record { edits = redirects_put place (redirect ∷ drop (place - 1) rs); answer = Done }
+
+abbrev pub plan_dropped : ℕ → List Redirect → Planned
+plan_dropped place rs = record { edits = redirects_put place (drop place rs) ++ DropLastRedirect (length rs) ∷ []; answer = Done }
 
 -- ---- grants
 

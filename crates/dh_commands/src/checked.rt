@@ -1,10 +1,12 @@
 //! Commands whose texts are values of their types.
-ghost use Rattle.std.specs.Prelude.{◌≡◌, ◌≤◌, Some, length};
+ghost use Rattle.std.specs.Prelude.{◌≡◌, ◌≤◌, Some, None, length};
 ghost use Rattle.std.proofs.Props.{props};
 ghost use Rattle.dh_paths.specs.Slugs.{slug_from};
+ghost use Rattle.dh_redirects.specs.Redirects.{first_fault};
 
 use crate::facts::ProjectSettings;
 use dh_paths::{HostName, Lang, PagePath, RefName, Slug, Token};
+use dh_redirects::Redirect;
 use dh_versions::Kind;
 use dh_world::{Property, UploadedPage};
 use std::marker::Model;
@@ -62,6 +64,15 @@ pub struct CheckedUpload<'c> {
     ghost few: { length pages.items ≤ 256 },
 }
 
+/// A redirect that passes its check, and the place that it is to have.
+#[derive(Drop)]
+pub struct CheckedRedirect {
+    /// From 1, if it is a place at all.
+    pub place: u32,
+    pub redirect: Redirect,
+    ghost good: { first_fault redirect ≡ None } by { Prim.hlevel props },
+}
+
 /// What a command asks of the project of its host.
 #[derive(Drop)]
 pub enum CheckedChange<'c> {
@@ -74,6 +85,8 @@ pub enum CheckedChange<'c> {
     Deactivate { slug: Slug },
     Gone { slug: Slug },
     SetDefault { name: Slug },
+    AddRedirect(CheckedRedirect),
+    DropRedirect { place: u32 },
     AddPass { pass: Token },
     DropPass { pass: Token },
     Grant { pass: Token, slug: Slug },

@@ -1,10 +1,14 @@
 //! The checks of a command that look at its texts alone.
 ghost use Rattle.dh_commands.specs.Commands.{ChecksChange, ChecksCommand, setting};
 
-use crate::checked::{CheckedChange, CheckedCommand, CheckedPush, CheckedUpload, NewProject};
+use crate::checked::{
+    CheckedChange, CheckedCommand, CheckedPush, CheckedRedirect, CheckedUpload, NewProject,
+};
 use crate::facts::ProjectSettings;
 use crate::pages::check_pages;
-use crate::texts::{host_in, lang_in, ref_in, retry_key_in, slug_in, slug_in_name, token_in};
+use crate::texts::{
+    host_in, lang_in, redirect_in, ref_in, retry_key_in, slug_in, slug_in_name, token_in,
+};
 use dh_paths::Text;
 use dh_versions::Kind;
 use dh_world::{Command, CommandChange, Pages, Property, Refusal};
@@ -139,6 +143,12 @@ fn check_change<'c>(alloc: Global, change: &'c CommandChange) -> Result<CheckedC
             let name = slug_in(alloc, name)?;
             Ok(CheckedChange::SetDefault { name })
         }
+        CommandChange::AddRedirect { place, redirect } => {
+            let redirect = redirect_in(alloc, redirect)?;
+            let place = *place;
+            Ok(CheckedChange::AddRedirect(CheckedRedirect { place, redirect }))
+        }
+        CommandChange::DropRedirect { place } => Ok(CheckedChange::DropRedirect { place: *place }),
         CommandChange::AddPass { pass } => {
             let pass = token_in(alloc, pass)?;
             Ok(CheckedChange::AddPass { pass })

@@ -13,6 +13,7 @@ use crate::projects::add_lang;
 use crate::properties::{deactivate, set_property};
 use crate::pushes::push;
 use crate::questions::{Questions, RetryKey, is_write_key, nothing, version_named};
+use crate::redirects::{add_redirect, drop_redirect};
 use crate::uploads::upload;
 use dh_world::{Operation, Refusal};
 use std::alloc::Global;
@@ -62,6 +63,10 @@ fn asked_by<'q>(change: &'q CheckedChange<'_>) -> Questions<'q>
         CheckedChange::SetDefault { name } => Questions {
             version: version_named(name),
             defaults: true,
+            ..nothing()
+        },
+        CheckedChange::AddRedirect(_) | CheckedChange::DropRedirect { place: _ } => Questions {
+            redirects: true,
             ..nothing()
         },
         CheckedChange::AddPass { pass } => Questions {
@@ -120,6 +125,8 @@ pub fn decide<'c>(
         CheckedChange::Deactivate { slug: _ } => deactivate(alloc, facts),
         CheckedChange::Gone { slug } => remove_version(alloc, slug, facts),
         CheckedChange::SetDefault { name } => set_default(alloc, name, facts),
+        CheckedChange::AddRedirect(added) => add_redirect(alloc, added, facts),
+        CheckedChange::DropRedirect { place } => drop_redirect(alloc, place, facts),
         CheckedChange::AddPass { pass } => add_pass(alloc, pass, &facts),
         CheckedChange::DropPass { pass } => drop_pass(alloc, pass, &facts),
         CheckedChange::Grant { pass, slug } => grant(alloc, pass, slug, &facts),

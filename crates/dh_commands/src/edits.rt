@@ -1,6 +1,7 @@
 //! The changes of a project that plans are made of.
 use crate::checked::CheckedPage;
 use dh_paths::{Lang, Slug, Token};
+use dh_redirects::Redirect;
 use dh_versions::Version;
 use dh_world::{Answer, Operation};
 use std::marker::Model;
@@ -59,6 +60,17 @@ pub enum Edit<'c> {
     },
     /// These are the defaults, the newest first.
     SetDefaults(Vec<Slug>),
+    /// The redirect stands at its place, in place of the one that did, or behind the last one.
+    PutRedirect {
+        /// From 1.
+        place: u32,
+        redirect: Redirect,
+    },
+    /// The last redirect is gone.
+    DropLastRedirect {
+        /// From 1: how many there were.
+        place: u32,
+    },
     /// There is a pass, which holds nothing.
     AddPass(Token),
     /// The pass is gone, with its grants.

@@ -1,5 +1,6 @@
 //! What is known of a project.
 use dh_paths::{Lang, RefName, Slug, Token};
+use dh_redirects::Redirect;
 use dh_versions::Version;
 use dh_world::Answer;
 
@@ -27,6 +28,8 @@ pub struct Facts {
     pub languages: Vec<Lang>,
     /// Slugs and names of aliases, the newest first.
     pub defaults: Vec<Slug>,
+    /// In the order in which they are tried.
+    pub redirects: Vec<Redirect>,
     /// Whether the project has the pass.
     pub has_pass: bool,
     /// How many passes the project has.

@@ -18,11 +18,13 @@ mod projects;
 mod properties;
 mod pushes;
 pub mod questions;
+mod redirects;
 mod texts;
 mod uploads;
 
 pub use checked::{
-    CheckedChange, CheckedCommand, CheckedPage, CheckedPush, CheckedUpload, NewProject,
+    CheckedChange, CheckedCommand, CheckedPage, CheckedPush, CheckedRedirect, CheckedUpload,
+    NewProject,
 };
 pub use checking::check;
 pub use decision::{decide, questions_of};

@@ -28,6 +28,8 @@ pub struct Questions<'q> {
     pub languages: bool,
     /// The defaults.
     pub defaults: bool,
+    /// The redirects.
+    pub redirects: bool,
     /// Whether this pass is there.
     pub pass: Option<&'q Token>,
     /// How many passes there are.
@@ -50,6 +52,7 @@ pub(crate) fn nothing<'q>() -> Questions<'q>
         retry_key: None,
         languages: false,
         defaults: false,
+        redirects: false,
         pass: None,
         pass_count: false,
     }

@@ -1,11 +1,13 @@
 //! The texts of commands, read one by one.
-ghost use Rattle.std.specs.Prelude.{◌≡◌, Some};
+ghost use Rattle.std.specs.Prelude.{◌≡◌, Some, None};
 ghost use Rattle.dh_paths.specs.Texts.{is_host_name, is_lang, is_ref_name, is_slug, is_token};
 ghost use Rattle.dh_paths.specs.Slugs.{slug_from};
 ghost use Rattle.dh_world.specs.Checks.{Reads, Checks};
-ghost use Rattle.dh_world.specs.Texts.{bad_name};
+ghost use Rattle.dh_redirects.specs.Redirects.{first_fault};
+ghost use Rattle.dh_world.specs.Texts.{bad_name, bad_redirect};
 
 use dh_paths::{HostName, Lang, RefName, Slug, Text, TextFault, Token, slug_of};
+use dh_redirects::Redirect;
 use dh_world::Refusal;
 use std::alloc::Global;
 
@@ -55,4 +57,15 @@ pub fn slug_in_name(alloc: Global, name: &RefName) -> Result<Slug, Refusal>
     ensures { Checks (bad_name name.now) (λ slug. slug_from name.now ≡ Some slug) result }
 {
     Ok(slug_of(alloc, name)?)
+}
+
+/// A redirect that passes its check.
+pub fn redirect_in(alloc: Global, redirect: &Redirect) -> Result<Redirect, Refusal>
+    ensures { Checks (bad_redirect redirect.now)
+        (λ r. (r ≡ redirect.now) × (first_fault r ≡ None)) result }
+{
+    if let Err(fault) = redirect.check() {
+        return Err(Refusal::BadRedirect(fault.number()));
+    }
+    Ok(redirect.try_copy(alloc)?)
 }

@@ -21,7 +21,7 @@ pub use fault::Fault;
 pub use items::Items;
 pub use lookup::Lookup;
 pub use respond::reply;
-pub use seen::Seen;
+pub use seen::{Seen, first_result};
 pub use seen_project::{SeenProject, StoredPage};
 pub use statuses::fault_reply;
 pub use wire::{reply_bytes, unavailable_bytes};

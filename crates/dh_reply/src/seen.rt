@@ -1,5 +1,5 @@
-ghost use Rattle.std.specs.Prelude.{◌≡◌, ◌<◌, length, IfOk, OnErr, IsTrue, true};
-ghost use Rattle.std.specs.Option.{option_copied, option_and_then};
+ghost use Rattle.std.specs.Prelude.{◌≡◌, ◌<◌, length, [], IfOk, OnErr, IsTrue, true};
+ghost use Rattle.std.specs.Option.{option_copied, option_and_then, option_map_or};
 ghost use Rattle.std.specs.List.{find, list_any};
 ghost use Rattle.std.specs.Str.{bytes_eq};
 ghost use Rattle.std.proofs.Common.{◌∙◌, refl};
@@ -142,7 +142,6 @@ fn page_of(
 }
 
 /// Where the redirect leads, if it counts.
-#[tactic(auto, unfolding(crate::specs::SeenProject::first_result))]
 fn result_in(
     alloc: Global,
     forced: bool,
@@ -158,9 +157,9 @@ fn result_in(
     redirect.result(alloc, asked)
 }
 
-/// Where the first of the redirects leads that has a result.
+/// Where the first of the redirects leads that has a result: of all, or of those with force alone.
 #[tactic(auto, unfolding(crate::specs::SeenProject::first_result))]
-fn first_result(
+pub fn first_result(
     alloc: Global,
     forced: bool,
     redirects: &[Redirect],
@@ -180,14 +179,16 @@ fn first_result(
 
 impl Seen {
     /// Where the first of the project's redirects leads that has a result.
-    fn led(
+    fn redirected(
         &self,
         alloc: Global,
         forced: bool,
         asked: &Asked,
     ) -> Result<Option<Location>, AllocError>
-        ensures { IfOk result (λ r. r ≡ option_and_then
+        ensures value { IfOk result (λ r. r ≡ option_and_then
             (λ p. spec.first_result forced p.redirects asked.now) self.now.project) }
+        ensures short { OnErr result (IsTrue (list_any (λ r. asks_memory r asked.now)
+            (option_map_or (λ p. p.redirects) self.now.project []))) }
     {
         match &self.project {
             Some(project) => first_result(alloc, forced, project.redirects.as_slice(), asked),
@@ -254,7 +255,7 @@ impl Lookup for Seen {
     }
 
     fn forced_redirect(&mut self, alloc: Global, asked: &Asked) -> Result<Option<Location>, Fault> {
-        Ok(self.led(alloc, true, asked)?)
+        Ok(self.redirected(alloc, true, asked)?)
     }
 
     fn not_found_redirect(
@@ -262,7 +263,7 @@ impl Lookup for Seen {
         alloc: Global,
         asked: &Asked,
     ) -> Result<Option<Location>, Fault> {
-        Ok(self.led(alloc, false, asked)?)
+        Ok(self.redirected(alloc, false, asked)?)
     }
 
     fn listing(&mut self, alloc: Global) -> Result<Vec<Version>, Fault> {

@@ -1,6 +1,6 @@
 -- What is kept under a retry key stays kept, and is answered again.
 use Rattle.std.proofs.Common.{◌≡◌, ◌&&◌, not, Bool, true, false, cond, length, List, [], ◌∷◌, Option, Some, None, is_some, Result, Ok, Err, ◌⊎◌, inl, inr, refl, sym, ap, ◌∙◌, subst}
-use Rattle.std.specs.Prelude.{nat_lt, option_map, option_and_then}
+use Rattle.std.specs.Prelude.{◌+◌, nat_lt, option_map, option_and_then}
 use Rattle.std.specs.Str.{bytes_eq}
 use Rattle.std.specs.Ordering.{eq_by_cmp, is_eq}
 use Rattle.std.specs.Cmp.{Equal-is}
@@ -19,7 +19,7 @@ use Rattle.dh_world.specs.declared.refusal.Refusal.TheVariants.{WrongKey, NoProj
 use Rattle.dh_world.specs.World.{Text, text_cmp, UsedKey, used_cmp, Project, World}
 use Rattle.dh_world.specs.Texts.{bad_text}
 use Rattle.dh_world.specs.Seen.{is_alias}
-use Rattle.dh_world.specs.Changes.{Change, change, opened, has_lang, same_kind, new_version, with_version, stored, once, at_version, at_pass, pushed, push_key, uploaded, upload_key}
+use Rattle.dh_world.specs.Changes.{Change, change, opened, has_lang, is_place, same_kind, new_version, with_version, stored, once, at_version, at_pass, pushed, push_key, uploaded, upload_key}
 use Rattle.dh_world.specs.Step.{change_at, settled, after_texts, step}
 use Rattle.dh_world.specs.Retries.{retry_key, write_key, write_key_at, kept, left_by, after}
 use Rattle.dh_world.proofs.MapLemmas.{text_total, used_total, used_exact, get_back, put_same}
@@ -181,6 +181,16 @@ sort_of (change.SetDefault name) = inl (
   λ p.
       by_test (Leaves p None) (is_alias name) _ _ (done p _ _ refl refl)
       (at_one (Leaves p None) (get p.versions name) _ (λ v. by_test (Leaves p None) v.active _ _ (done p _ _ refl refl) (refuses (Leaves p None) _))),
+)
+sort_of (change.AddRedirect place redirect) = inl (
+  refl,
+  λ p.
+      by_test (Leaves p None) (not (is_place place (length p.redirects + 1))) _ _ (refuses (Leaves p None) _)
+      (by_test (Leaves p None) (nat_lt (length p.redirects) 100) _ _ (done p _ _ refl refl) (refuses (Leaves p None) _)),
+)
+sort_of (change.DropRedirect place) = inl (
+  refl,
+  λ p. by_test (Leaves p None) (is_place place (length p.redirects)) _ _ (done p _ _ refl refl) (refuses (Leaves p None) _),
 )
 sort_of (change.AddPass pass) = inl (
   refl,

@@ -1,5 +1,5 @@
 -- What each command makes of the project of its host, once its texts are found to be values of their types.
-use Rattle.std.specs.Prelude.{Bool, true, false, not, ◌&&◌, nat_lt, if◌then◌else◌, List, [], ◌∷◌, ◌++◌, filter, length, Option, Some, None, Result, Ok, Err}
+use Rattle.std.specs.Prelude.{ℕ, ◌+◌, ◌-◌, Bool, true, false, not, ◌&&◌, nat_lt, nat_le, if◌then◌else◌, List, [], ◌∷◌, ◌++◌, filter, length, take, drop, Option, Some, None, Result, Ok, Err}
 use Rattle.std.specs.List.{list_any}
 use Rattle.std.specs.Str.{bytes_eq}
 use Rattle.std.specs.FinMap.{FinMap, empty, get, insert, remove, retain_keys, contains_key, len}
@@ -7,6 +7,7 @@ use Rattle.dh_paths.specs.Slugs.{slug_text}
 use Rattle.dh_versions.specs.declared.version.Kind.{Kind}
 use Rattle.dh_versions.specs.declared.version.Kind.TheVariants.{Branch, Tag}
 use Rattle.dh_versions.specs.declared.version.Version.{Version}
+use Rattle.dh_redirects.specs.declared.redirect.Redirect.{Redirect}
 use Rattle.dh_reply.specs.declared.answer.Page.{Page}
 use Rattle.dh_world.specs.declared.answer.Answer.{Answer}
 use Rattle.dh_world.specs.declared.answer.Answer.TheVariants.{Done, Made, Known, Stored}
@@ -14,12 +15,12 @@ use Rattle.dh_world.specs.declared.operation.Operation.TheVariants as operation
 use Rattle.dh_world.specs.World.{Text, Project, page_cmp, lies_under, UsedKey, op_code}
 use Rattle.dh_world.specs.Seen.{is_alias}
 use Rattle.dh_world.specs.declared.command.CommandChange.{CommandChange}
-use Rattle.dh_world.specs.declared.command.CommandChange.TheVariants.{NewProject, AddLang, Push, Upload, Activate, Deactivate, Hide, Unhide, Publish, MakePrivate, Gone, SetDefault, AddPass, DropPass, Grant, Revoke}
+use Rattle.dh_world.specs.declared.command.CommandChange.TheVariants.{NewProject, AddLang, Push, Upload, Activate, Deactivate, Hide, Unhide, Publish, MakePrivate, Gone, SetDefault, AddRedirect, DropRedirect, AddPass, DropPass, Grant, Revoke}
 use Rattle.dh_world.specs.declared.pages.UploadedPage.{UploadedPage}
 use Rattle.dh_world.specs.declared.property.Property.{Property}
 use Rattle.dh_world.specs.declared.property.Property.TheVariants as property
 use Rattle.dh_world.specs.declared.refusal.Refusal.{Refusal}
-use Rattle.dh_world.specs.declared.refusal.Refusal.TheVariants.{NoProject, ProjectTaken, WrongKey, LangTaken, NoLang, NoVersion, SlugTaken, Inactive, TooMany, PassTaken, NoPass}
+use Rattle.dh_world.specs.declared.refusal.Refusal.TheVariants.{NoProject, ProjectTaken, WrongKey, LangTaken, NoLang, NoVersion, SlugTaken, Inactive, BadPlace, TooMany, PassTaken, NoPass}
 
 -- the project as it then is, and the answer; or the refusal
 abbrev pub Change : Type 0
@@ -196,6 +197,34 @@ set_default name p =
     if is_alias name then Ok (with_default name p, Done)
     else at_version (get p.versions name) (λ v. if v.active then Ok (with_default name p, Done) else Err Inactive)
 
+-- ---- lists in order, whose places count from 1
+
+abbrev pub is_place : ℕ → ℕ → Bool
+is_place place last = nat_le 1 place && nat_le place last
+
+-- one more at a place; those from there on move by one
+abbrev pub with_one_at : {X : Type 0} → ℕ → X → List X → List X
+with_one_at place x xs = take (place - 1) xs ++ x ∷ drop (place - 1) xs
+
+-- the one at a place is gone; those behind it move by one
+abbrev pub without_place : {X : Type 0} → ℕ → List X → List X
+without_place place xs = take (place - 1) xs ++ drop place xs
+
+-- ---- redirects
+
+-- a place of the list or the next one, and there are fewer than 100
+abbrev pub add_redirect : ℕ → Redirect → Project → Change
+add_redirect place redirect p =
+    if not (is_place place (length p.redirects + 1)) then Err BadPlace
+    else if nat_lt (length p.redirects) 100 then Ok (record p { redirects = with_one_at place redirect p.redirects }, Done)
+    else Err TooMany
+
+-- a place of the list
+abbrev pub drop_redirect : ℕ → Project → Change
+drop_redirect place p =
+    if is_place place (length p.redirects) then Ok (record p { redirects = without_place place p.redirects }, Done)
+    else Err BadPlace
+
 -- ---- passes
 
 -- the pass is not there, there are fewer than 1,000: it is added, and holds nothing
@@ -242,6 +271,8 @@ change (Publish slug) p = set_property property.Public slug p
 change (MakePrivate slug) p = set_property property.Private slug p
 change (Gone slug) p = gone slug p
 change (SetDefault name) p = set_default name p
+change (AddRedirect place redirect) p = add_redirect place redirect p
+change (DropRedirect place) p = drop_redirect place p
 change (AddPass pass) p = add_pass pass p
 change (DropPass pass) p = drop_pass pass p
 change (Grant pass slug) p = grant pass slug p

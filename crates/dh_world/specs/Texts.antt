@@ -1,16 +1,18 @@
 -- The checks of a command that look at its texts alone, in the order of its arguments.
-use Rattle.std.specs.Prelude.{◌==◌, ℕ, Bool, not, ◌&&◌, nat_le, List, [], ◌∷◌, ◌++◌, length, Option, None, is_some}
+use Rattle.std.specs.Prelude.{◌==◌, ℕ, Bool, not, ◌&&◌, nat_le, List, [], ◌∷◌, ◌++◌, length, Option, None, is_some, option_map}
 use Rattle.std.specs.List.{list_any}
 use Rattle.std.specs.Str.{bytes_eq}
 use Rattle.dh_paths.specs.Texts.{is_within, first_byte, last_byte, is_host_name, is_lang, is_ref_name, is_slug, is_page_path, is_token}
 use Rattle.dh_paths.specs.Slugs.{slug_from}
+use Rattle.dh_redirects.specs.Redirects.{first_fault, fault_number}
+use Rattle.dh_redirects.specs.declared.redirect.Redirect.{Redirect}
 use Rattle.dh_world.specs.World.{Text}
 use Rattle.dh_world.specs.declared.command.Command.{Command}
 use Rattle.dh_world.specs.declared.command.CommandChange.{CommandChange}
-use Rattle.dh_world.specs.declared.command.CommandChange.TheVariants.{NewProject, AddLang, Push, Upload, Activate, Deactivate, Hide, Unhide, Publish, MakePrivate, Gone, SetDefault, AddPass, DropPass, Grant, Revoke}
+use Rattle.dh_world.specs.declared.command.CommandChange.TheVariants.{NewProject, AddLang, Push, Upload, Activate, Deactivate, Hide, Unhide, Publish, MakePrivate, Gone, SetDefault, AddRedirect, DropRedirect, AddPass, DropPass, Grant, Revoke}
 use Rattle.dh_world.specs.declared.pages.UploadedPage.{UploadedPage}
 use Rattle.dh_world.specs.declared.refusal.Refusal.{Refusal}
-use Rattle.dh_world.specs.declared.refusal.Refusal.TheVariants.{BadHost, BadLang, BadRef, BadPath, BadPage, BadToken, BadKey}
+use Rattle.dh_world.specs.declared.refusal.Refusal.TheVariants.{BadHost, BadLang, BadRef, BadPath, BadPage, BadRedirect, BadToken, BadKey}
 use Rattle.dh_world.specs.Refusals.{unless, or_else, first_of}
 
 -- 0x20 to 0x7E
@@ -75,6 +77,10 @@ bad_name name = unless (is_some (slug_from name)) BadRef
 abbrev pub bad_count : List UploadedPage → Option Refusal
 bad_count pages = unless (is_count pages) BadPage
 
+-- the number of a redirect's first fault
+abbrev pub bad_redirect : Redirect → Option Refusal
+bad_redirect redirect = option_map (λ fault. BadRedirect (fault_number fault)) (first_fault redirect)
+
 -- what is wrong with the texts of a change, in their order
 abbrev pub wrong_texts : CommandChange → List (Option Refusal)
 wrong_texts (NewProject lang branch private wkey) = bad_lang lang ∷ bad_ref branch ∷ bad_token wkey ∷ []
@@ -90,6 +96,8 @@ wrong_texts (Publish slug) = bad_slug slug ∷ []
 wrong_texts (MakePrivate slug) = bad_slug slug ∷ []
 wrong_texts (Gone slug) = bad_slug slug ∷ []
 wrong_texts (SetDefault name) = bad_slug name ∷ []
+wrong_texts (AddRedirect place redirect) = bad_redirect redirect ∷ []
+wrong_texts (DropRedirect place) = []
 wrong_texts (AddPass pass) = bad_token pass ∷ []
 wrong_texts (DropPass pass) = bad_token pass ∷ []
 wrong_texts (Grant pass slug) = bad_token pass ∷ bad_slug slug ∷ []

@@ -1,6 +1,7 @@
 //! Administrative commands.
 use crate::pages::Pages;
 use dh_paths::Text;
+use dh_redirects::Redirect;
 use dh_versions::Kind;
 
 /// An administrative command. Its texts are as they came: that one is no value of its type is found when the command is applied.
@@ -80,6 +81,17 @@ pub enum CommandChange {
     SetDefault {
         /// The slug of a version, or the name of an alias.
         name: Text,
+    },
+    /// There is a redirect more; those from its place on move by one.
+    AddRedirect {
+        /// From 1.
+        place: u32,
+        redirect: Redirect,
+    },
+    /// The redirect at a place is gone; those behind it move by one.
+    DropRedirect {
+        /// From 1.
+        place: u32,
     },
     /// There is a pass, which holds nothing.
     AddPass {
