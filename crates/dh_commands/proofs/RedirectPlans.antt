@@ -1,9 +1,9 @@
 -- The plans of redirects.
-use Rattle.std.proofs.Common.{◌≡◌, ℕ, ◌+◌, ◌-◌, ◌<◌, ◌≤◌, Bool, true, false, not, cond, List, [], ◌∷◌, ◌++◌, length, take, drop, None, Ok, Err, refl, sym, ap, ◌∙◌, subst, arith}
-use Rattle.std.specs.Prelude.{nat_le, nat_lt, ◌&&◌}
+use Rattle.std.proofs.Common.{◌≡◌, ℕ, ◌+◌, ◌-◌, ◌<◌, ◌≤◌, Bool, true, not, cond, zero, suc, List, [], ◌∷◌, ◌++◌, length, take, drop, None, Ok, Err, refl, sym, ap, ◌∙◌, subst, arith}
+use Rattle.std.specs.Prelude.{nat_lt}
 use Rattle.std.specs.List.{AllByRecursion}
 use Rattle.std.proofs.Math.Seq.{take-append_seam, drop-append-add}
-use Rattle.std.proofs.lemmas.Bool.{lt-ltb, le-ltb}
+use Rattle.std.proofs.lemmas.Bool.{lt-ltb}
 use Rattle.std.proofs.lemmas.List.{append-nil, append_assoc, drop_all, length-append, length-drop, length-take-le, take-append-drop}
 use Rattle.dh_redirects.specs.Redirects.{first_fault}
 use Rattle.dh_redirects.specs.declared.redirect.Redirect.{Redirect}
@@ -16,8 +16,7 @@ use Rattle.dh_commands.specs.Knowing.{Knows}
 use Rattle.dh_commands.specs.Plans.{redirects_put, plan_added, plan_dropped}
 use Rattle.dh_commands.specs.declared.checked.CheckedChange.TheVariants as change
 use Rattle.dh_commands.specs.declared.checked.CheckedRedirect.{CheckedRedirect}
-use Rattle.dh_commands.specs.declared.edits.Edit.{Edit}
-use Rattle.dh_commands.specs.declared.edits.Edit.TheVariants.{PutRedirect, DropLastRedirect}
+use Rattle.dh_commands.specs.declared.edits.Edit.TheVariants.{DropLastRedirect}
 use Rattle.dh_commands.specs.declared.facts.Facts.{Facts}
 use Rattle.dh_commands.proofs.Planning.{edited_twice, may_twice}
 
@@ -26,12 +25,12 @@ AreGood rs = AllByRecursion (λ (r : Redirect). first_fault r ≡ None) rs
 
 -- ---- lists
 
-drop_next : {X : Type 0} (n : ℕ) (xs : List X) → drop n (drop 1 xs) ≡ drop (n + 1) xs
-drop_next n [] = drop_all n [] (omega arith) ∙ sym (drop_all (n + 1) [] (omega arith))
+drop_next : {X : Type 0} (n : ℕ) (xs : List X) → drop n (drop 1 xs) ≡ drop (suc n) xs
+drop_next n [] = drop_all n [] (omega arith) ∙ sym (drop_all (suc n) [] (omega arith))
 drop_next n (x ∷ xs) = refl
 
 good_behind : (n : ℕ) (rs : List Redirect) → AreGood rs → AreGood (drop n rs)
-good_behind 0 rs good = good
+good_behind zero rs good = good
 good_behind (suc n) [] good = tt
 good_behind (suc n) (r ∷ rs) good = good_behind n rs good.1
 
@@ -79,8 +78,10 @@ module _ (p : Project) where
   -- ---- one more
 
   module _ (rs : List Redirect) (place : ℕ) where
-    abbrev before behind : List Redirect
+    abbrev before : List Redirect
     before = take (place - 1) rs
+
+    abbrev behind : List Redirect
     behind = drop (place - 1) rs
 
     whole : before ++ behind ≡ rs
@@ -101,18 +102,12 @@ module _ (p : Project) where
     abbrev added_by : Redirect → Bool → Bool → Change
     added_by r place_is room = cond (not place_is) (Err BadPlace) (cond room (Ok (with (with_one_at place r rs), Done)) (Err TooMany))
 
-    misplaced : (r : Redirect) → is_place place (length rs + 1) ≡ false → add_redirect place r (with rs) ≡ Err BadPlace
-    misplaced r no = ap (λ b. added_by r b (nat_lt (length rs) 100)) no
-
-    full : (r : Redirect) → is_place place (length rs + 1) ≡ true → 100 ≤ length rs → add_redirect place r (with rs) ≡ Err TooMany
-    full r yes many = ap (λ b. added_by r b (nat_lt (length rs) 100)) yes ∙ ap (added_by r true) (le-ltb _ _ many)
-
     adds : (r : Redirect) → is_place place (length rs + 1) ≡ true → 1 ≤ place → place ≤ length rs + 1 → length rs < 100 → first_fault r ≡ None → AreGood rs
         → Plans (with rs) (add_redirect place r (with rs)) (Ok (plan_added place r rs))
-    adds r yes first last few good all =
+    adds r ok first last few good all =
         let rest = length-drop (place - 1) rs in
-        let past : drop (length (r ∷ behind)) behind ≡ [] = drop_all _ behind (omega arith) in (
-          ap (λ b. added_by r b (nat_lt (length rs) 100)) yes ∙ ap (added_by r true) (lt-ltb _ _ few)
+        let past : drop (length (r ∷ behind)) behind ≡ [] = drop_all (length (r ∷ behind)) behind (omega arith) in (
+          ap (λ b. added_by r b (nat_lt (length rs) 100)) ok ∙ ap (added_by r true) (lt-ltb _ _ few)
           ∙ ap (λ x. Ok (with x, Done)) (sym (append-nil (before ++ r ∷ behind)) ∙ ap (λ x. before ++ (r ∷ behind) ++ x) (sym past))
           ∙ ap (λ q. Ok (q, Done)) (sym (puts_are (r ∷ behind) first last)),
           puts_may (r ∷ behind) first last (omega (arith, first, last, few, rest)) (good, good_behind (place - 1) rs all),
@@ -123,16 +118,13 @@ module _ (p : Project) where
     abbrev dropped_by : Bool → Change
     dropped_by place_is = cond place_is (Ok (with (without_place place rs), Done)) (Err BadPlace)
 
-    no_place : is_place place (length rs) ≡ false → drop_redirect place (with rs) ≡ Err BadPlace
-    no_place no = ap dropped_by no
-
     -- what is left when those behind the place were moved, and what stands there twice
-    left_over : List Redirect
+    abbrev left_over : List Redirect
     left_over = drop (length (drop place rs)) behind
 
     drops : is_place place (length rs) ≡ true → 1 ≤ place → place ≤ length rs → length rs ≤ 100 → AreGood rs
         → Plans (with rs) (drop_redirect place (with rs)) (Ok (plan_dropped place rs))
-    drops yes first last few all =
+    drops ok first last few all =
         let moved : List Redirect = drop place rs in
         let front = length-take-le (place - 1) rs (omega (arith, last)) in
         let rest = length-drop place rs in
@@ -146,7 +138,7 @@ module _ (p : Project) where
         let all_is : all_edited (plan_dropped place rs).edits (with rs) ≡ with (before ++ moved) =
             edited_twice (redirects_put place moved) (DropLastRedirect (length rs) ∷ []) (with rs)
             ∙ ap (all_edited (DropLastRedirect (length rs) ∷ [])) puts ∙ ap with cut in (
-          ap dropped_by yes ∙ ap (λ q. Ok (q, Done)) (sym all_is),
+          ap dropped_by ok ∙ ap (λ q. Ok (q, Done)) (sym all_is),
           may_twice (redirects_put place moved) (DropLastRedirect (length rs) ∷ []) (with rs)
               (puts_may moved first (omega (arith, last)) (omega (arith, first, last, few, rest)) (good_behind place rs all))
               (subst (MayEditAll (DropLastRedirect (length rs) ∷ [])) (sym puts) ((omega (arith, first, last), omega (arith, first, last, front, rest, back, both, over, one)), tt)),
@@ -161,23 +153,14 @@ module _ (x : CheckedRedirect) (f : Facts) (p : Project) (k : Knows (change.AddR
   facts_are : with p f.redirects.items ≡ p
   facts_are = ap (with p) (sym k.answers.redirects)
 
-  pub no_such_place : is_place x.place (length f.redirects.items + 1) ≡ false → adding p ≡ Err BadPlace
-  no_such_place no = subst (λ q. adding q ≡ Err BadPlace) facts_are (misplaced p f.redirects.items x.place x.redirect no)
-
-  pub no_room : is_place x.place (length f.redirects.items + 1) ≡ true → 100 ≤ length f.redirects.items → adding p ≡ Err TooMany
-  no_room yes many = subst (λ q. adding q ≡ Err TooMany) facts_are (full p f.redirects.items x.place x.redirect yes many)
-
   pub added : is_place x.place (length f.redirects.items + 1) ≡ true → 1 ≤ x.place → x.place ≤ length f.redirects.items + 1 → length f.redirects.items < 100
       → Plans p (adding p) (Ok (plan_added x.place x.redirect f.redirects.items))
-  added yes first last few = subst (λ q. Plans q (adding q) (Ok (plan_added x.place x.redirect f.redirects.items))) facts_are (adds p f.redirects.items x.place x.redirect yes first last few x.good k.answers.good)
+  added ok first last few = subst (λ q. Plans q (adding q) (Ok (plan_added x.place x.redirect f.redirects.items))) facts_are (adds p f.redirects.items x.place x.redirect ok first last few x.good k.answers.good)
 
 module _ (place : ℕ) (f : Facts) (p : Project) (k : Knows (change.DropRedirect place) f p) where
   facts_were : with p f.redirects.items ≡ p
   facts_were = ap (with p) (sym k.answers.redirects)
 
-  pub none_there : is_place place (length f.redirects.items) ≡ false → drop_redirect place p ≡ Err BadPlace
-  none_there no = subst (λ q. drop_redirect place q ≡ Err BadPlace) facts_were (no_place p f.redirects.items place no)
-
   pub dropped : is_place place (length f.redirects.items) ≡ true → 1 ≤ place → place ≤ length f.redirects.items
       → Plans p (drop_redirect place p) (Ok (plan_dropped place f.redirects.items))
-  dropped yes first last = subst (λ q. Plans q (drop_redirect place q) (Ok (plan_dropped place f.redirects.items))) facts_were (drops p f.redirects.items place yes first last k.answers.few k.answers.good)
+  dropped ok first last = subst (λ q. Plans q (drop_redirect place q) (Ok (plan_dropped place f.redirects.items))) facts_were (drops p f.redirects.items place ok first last k.answers.few k.answers.good)

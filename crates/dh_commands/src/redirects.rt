@@ -31,7 +31,7 @@ fn put_redirects<'c>(
 ) -> Result<(), AllocError>
     requires { first + length redirects.items < 2 ^ 32 }
     ensures { OnOk result (edits.new.items
-        ≡ edits.old.items ++ redirects_put first redirects.entry.items) }
+        ≡ edits.old.items ++ redirects_put first redirects.items) }
 {
     let mut place = first;
     for redirect in redirects {
@@ -51,7 +51,7 @@ fn add_at<'c>(
     requires first { 1 ≤ place }
     requires last { place ≤ length redirects.items + 1 }
     requires few { length redirects.items < 100 }
-    ensures { IfOk result (λ plan. plan ≡ plan_added place redirect redirects.entry.items) }
+    ensures { IfOk result (λ plan. plan ≡ plan_added place redirect redirects.items) }
 {
     let mut redirects = redirects;
     let moved = redirects.split_off(place as usize - 1)?;
@@ -74,10 +74,11 @@ pub fn add_redirect<'c>(
 {
     let Facts { redirects, .. } = facts;
     let CheckedRedirect { place, redirect } = added;
-    if !is_place(place, redirects.len() + 1) {
+    let count = redirects.as_slice().len();
+    if !is_place(place, count + 1) {
         return Err(Refusal::BadPlace);
     }
-    if redirects.len() >= MOST_REDIRECTS {
+    if count >= MOST_REDIRECTS {
         return Err(Refusal::TooMany);
     }
     Ok(add_at(alloc, place, redirect, redirects)?)
@@ -100,7 +101,7 @@ fn drop_at<'c>(
     redirects: Vec<Redirect>,
 ) -> Result<Plan<'c>, AllocError>
     requires { place ≤ length redirects.items }
-    ensures { IfOk result (λ plan. plan ≡ plan_dropped place redirects.entry.items) }
+    ensures { IfOk result (λ plan. plan ≡ plan_dropped place redirects.items) }
 {
     let mut redirects = redirects;
     let last = last_place(redirects.as_slice())?;
@@ -119,7 +120,7 @@ pub fn drop_redirect<'c>(alloc: Global, place: u32, facts: Facts) -> Result<Plan
     ensures { Decides (CheckedChange.DropRedirect place) facts result }
 {
     let Facts { redirects, .. } = facts;
-    if !is_place(place, redirects.len()) {
+    if !is_place(place, redirects.as_slice().len()) {
         return Err(Refusal::BadPlace);
     }
     Ok(drop_at(alloc, place, redirects)?)

@@ -1,5 +1,5 @@
 -- Edits of the records are edits of the world: once for each kind of edit.
-use Rattle.std.proofs.Common.{◌≡◌, ◌+◌, ℕ, Bool, true, false, not, ◌||◌, filter, List, [], ◌∷◌, Option, Some, None, find, is_some, refl, sym, ap, ◌∙◌, subst}
+use Rattle.std.proofs.Common.{◌≡◌, ◌+◌, ◌≤◌, ℕ, Bool, true, false, not, ◌||◌, filter, List, [], ◌∷◌, Option, Some, None, find, length, is_some, refl, sym, ap, ◌∙◌, subst}
 use Rattle.std.specs.Prelude.{option_map, unwrap_or, IsSome, IsTrue}
 use Rattle.std.specs.FinMap.{get, insert}
 use Rattle.std.specs.List.{IsDistinct}
@@ -7,7 +7,7 @@ use Rattle.std.specs.Str.{bytes_eq}
 use Rattle.std.proofs.lemmas.Bool.{and_parts}
 use Rattle.dh_commands.specs.Edits.{edited, all_edited, MayEdit, MayEditAll}
 use Rattle.dh_commands.specs.declared.edits.Edit.{Edit}
-use Rattle.dh_commands.specs.declared.edits.Edit.TheVariants.{AddLang, PutVersion, PutWithoutPages, RemoveVersion, PutPage, RemovePages, SetDefaults, AddPass, RemovePass, Grant, Revoke, PutAnswer}
+use Rattle.dh_commands.specs.declared.edits.Edit.TheVariants.{AddLang, PutVersion, PutWithoutPages, RemoveVersion, PutPage, RemovePages, SetDefaults, PutRedirect, DropLastRedirect, AddPass, RemovePass, Grant, Revoke, PutAnswer}
 use Rattle.dh_rows.specs.Keyed.{IsFreeKey}
 use Rattle.dh_records.proofs.AccessChanges.{world_gone, world_with_defaults, world_with_pass, world_pass_gone, world_with_grant, world_without_grant}
 use Rattle.dh_records.proofs.AccessRules.{MayChoose, defaults_distinct, filter_distinct, front_distinct, rules_gone, rules_with_front, rules_with_pass, rules_pass_gone, rules_with_grant, rules_without_grants, order_without_version, order_with_defaults, order_with_pass, order_without_pass, order_with_grant, order_without_grants}
@@ -15,14 +15,16 @@ use Rattle.dh_records.proofs.ChangeLemmas.{world_with_lang, world_with_version, 
 use Rattle.dh_records.proofs.KeyLemmas.{used_is_free, pass_is_free}
 use Rattle.dh_records.proofs.OrderLemmas.{order_with_lang, order_with_version, order_with_page, order_without, order_with_used}
 use Rattle.dh_records.proofs.RuleLemmas.{lang_is_free, rules_with_lang, rules_with_version, rules_with_page, rules_without, rules_with_used, inactive_is_bare, dropped_is_bare}
+use Rattle.dh_records.proofs.RedirectLemmas.{order_with_redirect, order_without_redirect, rules_with_redirect, rules_without_redirect, redirect_count_in, world_with_redirect, world_without_redirect}
 use Rattle.dh_records.proofs.WorldLemmas.{owned_by, count_in, speaks_in, active_in, has_version_in, has_pass_in, used_in, changed_twice}
 use Rattle.dh_records.specs.Codings as coding
-use Rattle.dh_records.specs.Lists.{Lists, world_of, is_page_under, is_pass, is_held, is_held_by, is_held_on, is_version, is_used, kept_answer, keeping}
+use Rattle.dh_records.specs.Lists.{Lists, world_of, is_page_under, is_pass, is_held, is_held_by, is_held_on, is_redirect_of, redirect_row, is_version, is_used, kept_answer, keeping}
 use Rattle.dh_records.specs.Rules.{has_project, has_version}
 use Rattle.dh_records.specs.declared.records.HeldRow.{HeldRow}
 use Rattle.dh_records.specs.declared.records.LangRow.{LangRow}
 use Rattle.dh_records.specs.declared.records.PageRow.{PageRow}
 use Rattle.dh_records.specs.declared.records.PassRow.{PassRow}
+use Rattle.dh_records.specs.declared.records.RedirectRow.{RedirectRow}
 use Rattle.dh_records.specs.declared.records.UsedRow.{UsedRow}
 use Rattle.dh_records.specs.declared.records.VersionRow.{VersionRow}
 use Rattle.dh_transactions.specs.RowEdits.{lang_row, version_row, page_row, pass_row, grant_row, answer_row, with_defaults, without_pages, rows_edited, all_rows_edited, RowsMay, RowsMayAll}
@@ -78,6 +80,8 @@ module _ (host : Text) (lists : Lists) (p : Project) (sound : AreSound lists) (w
   rows_may (RemovePages slug lang) may = tt
   rows_may (SetDefaults names) may =
       subst (IsDistinct bytes_eq) (sym may.names_are) (front_distinct may.name p.defaults (defaults_distinct lists host p sound.rules was))
+  rows_may (PutRedirect place r) may = tt
+  rows_may (DropLastRedirect place) may = tt
   rows_may (AddPass pass) may =
       pass_is_free (pass_row host pass) lists.passes (missing _ (sym (has_pass_in lists host p was pass) ∙ may))
   rows_may (RemovePass pass) may = tt
@@ -157,6 +161,24 @@ module _ (host : Text) (lists : Lists) (p : Project) (sound : AreSound lists) (w
   edit_spells (SetDefaults names) may =
       let P : List Text → Type 0 = λ ns. Spells host lists (with_defaults host ns lists) (record p { defaults = ns }) in
       subst P (sym may.names_are) (new_front may.name (sym (ap (λ b. is_alias may.name || b) (has_version_in lists host p was may.name)) ∙ may.may))
+  edit_spells (PutRedirect place r) may =
+      let row : RedirectRow = redirect_row host place r in
+      let last : place ≤ length (filter (is_redirect_of host) lists.redirects) + 1 =
+          subst (λ n. place ≤ n + 1) (redirect_count_in lists host p was) may.1 in record {
+        world_is = world_with_redirect lists row p sound.rules sound.order.redirects may.0 last was;
+        sound = record {
+          order = order_with_redirect lists sound.order row;
+          rules = rules_with_redirect lists row sound.rules sound.order.redirects owned may.0 last may.2 may.3;
+        };
+      }
+  edit_spells (DropLastRedirect place) may =
+      let all = may.1 ∙ redirect_count_in lists host p was in record {
+        world_is = world_without_redirect lists host place p sound.rules may.0 all was;
+        sound = record {
+          order = order_without_redirect lists sound.order host place;
+          rules = rules_without_redirect lists host place sound.rules owned may.0 all;
+        };
+      }
   edit_spells (AddPass pass) may =
       let row : PassRow = pass_row host pass in
       let free : IsFreeKey coding.passes.key row lists.passes = rows_may (AddPass pass) may in record {

@@ -1,8 +1,11 @@
 -- What looks find of the project of a host.
-use Rattle.std.specs.Prelude.{◌≡◌, Option, Some, None, IfSome, option_map}
+use Rattle.std.specs.Prelude.{◌≡◌, ◌≤◌, Bool, if◌then◌else◌, List, [], length, Option, Some, None, IfSome, option_map}
+use Rattle.std.specs.List.{AllByRecursion}
 use Rattle.std.specs.Option.{option_and_then}
 use Rattle.std.specs.FinMap.{get}
 use Rattle.dh_paths.specs.Slugs.{slug_from}
+use Rattle.dh_redirects.specs.Redirects.{first_fault}
+use Rattle.dh_redirects.specs.declared.redirect.Redirect.{Redirect}
 use Rattle.dh_versions.specs.declared.version.Version.{Version}
 use Rattle.dh_commands.specs.Knowing.{HasSettings, Knows}
 use Rattle.dh_commands.specs.declared.checked.CheckedChange.{CheckedChange}
@@ -24,6 +27,12 @@ OfProject host P l = (p : Project) → get (world_of l) host ≡ Some p → P p
 pub record IsVersion (slug : Option Text) (version : Option Version) (p : Project) : Type 0 where
   pub is : option_and_then (get p.versions) slug ≡ version
   pub named : IfSome version (λ v. (Some v.slug ≡ slug) × (slug_from v.name ≡ Some v.slug))
+
+-- the redirects, where they are asked for: at most 100, each of which passes its check
+pub record AreRedirects (ask : Bool) (redirects : List Redirect) (p : Project) : Type 0 where
+  pub are : (if ask then p.redirects else []) ≡ redirects
+  pub few : length redirects ≤ 100
+  pub good : AllByRecursion (λ r. first_fault r ≡ None) redirects
 
 -- the settings of the project, or that there is none
 abbrev pub FindsSettings : Text → Lists → Option ProjectSettings → Type 0

@@ -3,11 +3,11 @@ use Rattle.std.specs.Prelude.{◌≡◌, false, not, filter, List, [], ◌∷◌
 use Rattle.std.specs.List.{IsDistinct}
 use Rattle.std.specs.Str.{bytes_eq}
 use Rattle.dh_commands.specs.declared.edits.Edit.{Edit}
-use Rattle.dh_commands.specs.declared.edits.Edit.TheVariants.{AddLang, PutVersion, PutWithoutPages, RemoveVersion, PutPage, RemovePages, SetDefaults, AddPass, RemovePass, Grant, Revoke, PutAnswer}
+use Rattle.dh_commands.specs.declared.edits.Edit.TheVariants.{AddLang, PutVersion, PutWithoutPages, RemoveVersion, PutPage, RemovePages, SetDefaults, PutRedirect, DropLastRedirect, AddPass, RemovePass, Grant, Revoke, PutAnswer}
 use Rattle.dh_commands.specs.KeptAnswer.{KeptAnswer}
 use Rattle.dh_rows.specs.Keyed.{IsFreeKey, added, put}
 use Rattle.dh_records.specs.Codings as coding
-use Rattle.dh_records.specs.Lists.{Lists, is_version, is_page_under, is_pass, is_held, is_held_by, is_held_on, set_picks, granted, keeping}
+use Rattle.dh_records.specs.Lists.{Lists, is_version, is_page_under, is_pass, is_held, is_held_by, is_held_on, is_redirect, redirect_row, set_picks, granted, keeping}
 use Rattle.dh_records.specs.Rules.{has_language}
 use Rattle.dh_records.specs.declared.records.HeldRow.{HeldRow}
 use Rattle.dh_records.specs.declared.records.LangRow.{LangRow}
@@ -108,6 +108,12 @@ rows_edited host (PutPage slug lang x) l = record l {
 }
 rows_edited host (RemovePages slug lang) l = without_pages_in host slug lang l
 rows_edited host (SetDefaults names) l = with_defaults host names.items l
+rows_edited host (PutRedirect place r) l = record l {
+  redirects = put coding.redirects.key (redirect_row host place r) l.redirects;
+}
+rows_edited host (DropLastRedirect place) l = record l {
+  redirects = filter (λ x. not (is_redirect host place x)) l.redirects;
+}
 rows_edited host (AddPass pass) l = record l {
   passes = added coding.passes.key (pass_row host pass) l.passes;
 }

@@ -8,8 +8,9 @@ ghost use Rattle.dh_transactions.specs.RowEdits.{RowsMay, RowsMayAll, rows_edite
 
 use dh_commands::{CheckedPage, Edit, FirstAnswer};
 use dh_paths::{Bytes, HostName, Lang, Slug, Text, Token};
+use dh_redirects::Redirect;
 use dh_reply::Page;
-use dh_tables::{HeldRow, LangRow, PageRow, PassRow, Tables, VersionRow};
+use dh_tables::{HeldRow, LangRow, PageRow, PassRow, RedirectRow, Tables, VersionRow};
 use dh_versions::Version;
 use dh_world::Refusal;
 use sqlite::Alter;
@@ -171,6 +172,37 @@ fn set_defaults<S: Alter>(
     Ok(tables.set_picks(host, names)?)
 }
 
+fn put_redirect<S: Alter>(
+    tables: &mut Tables<S>,
+    alloc: Global,
+    host: &HostName,
+    place: u32,
+    redirect: Redirect,
+) -> Result<(), Refusal>
+    requires within { IsHonest S.Store tables.old → tables.old.in_transaction ≡ true }
+    ensures makes { Makes S.Store tables.old tables.new result
+        (rows_edited host.now (Edit.PutRedirect place redirect)) }
+{
+    let row = RedirectRow {
+        host: host.try_copy(alloc)?,
+        place,
+        redirect,
+    };
+    Ok(tables.put_redirect(&row)?)
+}
+
+fn drop_redirect<S: Alter>(
+    tables: &mut Tables<S>,
+    host: &HostName,
+    place: u32,
+) -> Result<(), Refusal>
+    requires within { IsHonest S.Store tables.old → tables.old.in_transaction ≡ true }
+    ensures makes { Makes S.Store tables.old tables.new result
+        (rows_edited host.now (Edit.DropLastRedirect place)) }
+{
+    Ok(tables.drop_redirect(host, place)?)
+}
+
 fn add_pass<S: Alter>(
     tables: &mut Tables<S>,
     alloc: Global,
@@ -278,6 +310,8 @@ fn make_edit<S: Alter>(
         Edit::PutPage { slug, lang, page } => put_page(tables, alloc, host, slug, lang, page),
         Edit::RemovePages { slug, lang } => remove_pages(tables, host, &slug, &lang),
         Edit::SetDefaults(names) => set_defaults(tables, host, names.as_slice()),
+        Edit::PutRedirect { place, redirect } => put_redirect(tables, alloc, host, place, redirect),
+        Edit::DropLastRedirect { place } => drop_redirect(tables, host, place),
         Edit::AddPass(pass) => add_pass(tables, alloc, host, pass),
         Edit::RemovePass(pass) => remove_pass(tables, host, &pass),
         Edit::Grant { pass, slug } => grant(tables, alloc, host, pass, slug),

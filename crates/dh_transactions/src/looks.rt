@@ -2,14 +2,15 @@
 ghost use Rattle.std.specs.Prelude.{◌≡◌, false, [], map, option_map, if◌then◌else◌, IfOk};
 ghost use Rattle.std.specs.Option.{option_and_then, option_map_or};
 ghost use Rattle.std.specs.FinMap.{get, contains_key, len};
-ghost use Rattle.dh_transactions.specs.Finding.{OfProject, IsVersion, FindsSettings, FindsFacts, asked_key};
+ghost use Rattle.dh_transactions.specs.Finding.{OfProject, IsVersion, AreRedirects, FindsSettings, FindsFacts, asked_key};
 ghost use Rattle.dh_schema.specs.Calling.{Learns};
 ghost use Rattle.dh_transactions.specs.Going.{Asks};
 ghost use Rattle.dh_transactions.specs.Sound.{AreSound};
 
 use dh_commands::{CheckedChange, Facts, ProjectSettings, RetryKey, questions_of};
 use dh_paths::{HostName, Lang, Slug, Token};
-use dh_tables::{LangRow, PickRow, ProjectRow, Tables};
+use dh_redirects::Redirect;
+use dh_tables::{LangRow, PickRow, ProjectRow, RedirectRow, Tables};
 use dh_versions::Version;
 use dh_world::{Answer, Refusal};
 use sqlite::Alter;
@@ -157,6 +158,31 @@ fn pass_count<S: Alter>(
     }
 }
 
+fn redirects_in(alloc: Global, rows: Vec<RedirectRow>) -> Result<Vec<Redirect>, AllocError>
+    ensures { IfOk result
+        (λ redirects. redirects.items ≡ map (λ row. row.redirect) rows.items) }
+{
+    rows.into_iter().map(|row| row.redirect).collect(alloc)
+}
+
+/// The redirects, where they are asked for.
+fn redirects_for<S: Alter>(
+    tables: &mut Tables<S>,
+    alloc: Global,
+    host: &HostName,
+    ask: bool,
+) -> Result<Vec<Redirect>, Refusal>
+    ensures asks { Asks S.Store tables.old tables.new result }
+    ensures value { Learns S.Store tables.old tables.new result (λ l redirects. AreSound l
+        → OfProject host.now (AreRedirects ask redirects.items) l) }
+{
+    if !ask {
+        return Ok(Vec::new(alloc));
+    }
+    let rows = tables.redirects(alloc, host)?;
+    Ok(redirects_in(alloc, rows)?)
+}
+
 /// What the command has to know of the project of its host, or `None` where there is none.
 pub fn look<S: Alter>(
     tables: &mut Tables<S>,
@@ -178,12 +204,14 @@ pub fn look<S: Alter>(
     let defaults = defaults_for(tables, alloc, host, questions.defaults)?;
     let has_pass = has_pass(tables, alloc, host, questions.pass)?;
     let pass_count = pass_count(tables, host, questions.pass_count)?;
+    let redirects = redirects_for(tables, alloc, host, questions.redirects)?;
     Ok(Some(Facts {
         settings,
         version,
         first_answer,
         languages,
         defaults,
+        redirects,
         has_pass,
         pass_count,
     }))

@@ -14,14 +14,14 @@ use Rattle.dh_versions.specs.declared.version.Version.{Version}
 use Rattle.dh_versions.specs.Aliases.{latest_of, stable_of}
 use Rattle.dh_reply.specs.declared.answer.Named.{Named}
 use Rattle.dh_reply.specs.declared.seen_project.SeenProject.{SeenProject}
-use Rattle.dh_redirects.specs.declared.redirect.Asked.{Asked}
-use Rattle.dh_reply.specs.SeenProject.{resolved, alias_of, first_result, page_at}
+use Rattle.dh_redirects.specs.declared.redirect.Redirect.{Redirect}
+use Rattle.dh_reply.specs.SeenProject.{resolved, alias_of, page_at}
 use Rattle.dh_records.specs.declared.records.ProjectRow.{ProjectRow}
 use Rattle.dh_records.specs.declared.records.VersionRow.{VersionRow}
 use Rattle.dh_records.specs.declared.records.PickRow.{PickRow}
 use Rattle.dh_records.specs.declared.records.HeldRow.{HeldRow}
 use Rattle.dh_world.specs.World.{Text, text_cmp, Project, holds, is_visible, may_see}
-use Rattle.dh_records.specs.Lists.{Lists, project_of, world_of, is_project, is_version, is_version_of, is_page, is_lang_of, is_pick_of}
+use Rattle.dh_records.specs.Lists.{Lists, project_of, world_of, is_project, is_version, is_version_of, is_page, is_lang_of, is_pick_of, is_redirect_of}
 use Rattle.dh_world.specs.Seen.{seen_project, without_default, default_of, visible_versions}
 use Rattle.dh_records.specs.Rules.{RiseBySlug}
 use Rattle.dh_view.specs.View.{opens, shown_under}
@@ -349,12 +349,12 @@ unfolding seen_project without_default
 versions_shown pass None = refl
 versions_shown pass (Some p) = refl
 
--- no table has redirects, so none leads anywhere
-pub none_led : (lists : Lists) (host pass : Option Text) (forced : Bool) (asked : Asked) → None ≡ option_and_then (λ (p : SeenProject). first_result forced p.redirects asked) (shown_under lists host pass)
-unfolding seen_project without_default project_of first_result
-none_led lists None pass forced asked = refl
-none_led lists (Some host) pass forced asked = go (find (is_project host) lists.projects) ∙ ap (λ o. option_and_then (λ (p : SeenProject). first_result forced p.redirects asked) (option_map (λ p. seen_project p pass) o)) (sym (get_project lists host))
-  where
-    go : (o : Option ProjectRow) → None ≡ option_and_then (λ (p : SeenProject). first_result forced p.redirects asked) (option_map (λ p. seen_project p pass) (option_map (project_of lists) o))
-    go None = refl
-    go (Some row) = refl
+pub redirects_are : (lists : Lists) (row : ProjectRow) → map (λ r. r.redirect) (filter (is_redirect_of row.host) lists.redirects) ≡ (project_of lists row).redirects
+unfolding project_of
+redirects_are lists row = refl
+
+-- every caller sees all redirects
+pub redirects_shown : {A : Type 0} (lead : List Redirect → Option A) (pass : Option Text) (o : Option Project) → option_and_then (λ p. lead p.redirects) o ≡ option_and_then (λ p. lead p.redirects) (option_map (λ p. seen_project p pass) o)
+unfolding seen_project without_default
+redirects_shown lead pass None = refl
+redirects_shown lead pass (Some p) = refl

@@ -6,7 +6,7 @@ ghost use Rattle.std.specs.FinMap.{values};
 ghost use Rattle.std.proofs.Common.{◌∙◌, refl};
 ghost use Rattle.sqlite.specs.Held.{Held};
 ghost use Rattle.dh_rows.specs.Calls.{IsHonest};
-ghost use Rattle.dh_reply.specs.SeenProject.{resolved, page_at};
+ghost use Rattle.dh_reply.specs.SeenProject.{first_result, resolved, page_at};
 ghost use Rattle.dh_records.specs.Lists.{project_of};
 ghost use Rattle.dh_world.specs.Seen.{visible_versions};
 ghost use Rattle.dh_schema.specs.Calling.{IsSettled, Learns, Reads, ReadsAll};
@@ -16,6 +16,7 @@ mod aliases;
 mod defaults;
 mod looks;
 mod pages;
+mod redirects;
 mod versions;
 
 use aliases::version_for;
@@ -28,6 +29,7 @@ use dh_store::Tables;
 use dh_versions::Version;
 use looks::{look_known, look_project};
 use pages::{all_langs, visible_page};
+use redirects::redirected;
 use sqlite::Alter;
 use std::alloc::Global;
 use versions::all_visible;
@@ -150,6 +152,24 @@ fn page_under<S: Alter>(
     }
 }
 
+fn redirected_under<S: Alter>(
+    tables: &mut Tables<S>,
+    alloc: Global,
+    host: &Option<HostName>,
+    forced: bool,
+    asked: &Asked,
+) -> Result<Option<Location>, Fault>
+    ensures asks { Queries S.Store tables.old tables.new result }
+    ensures value { Reads S.Store tables.old tables.new result
+        (λ l. option_and_then (λ p. first_result forced p.redirects asked.now)
+        (project_in l host.now)) }
+{
+    match project_under(tables, alloc, host)? {
+        Some(project) => redirected(tables, alloc, &project, forced, asked),
+        None => Ok(None),
+    }
+}
+
 /// The project under a host, as the holder of a pass sees it, or a caller with none. Within a
 /// transaction each look answers `Store`. Outside one a look does so only where the store counted a
 /// fault in it or was shut before it.
@@ -234,21 +254,16 @@ impl<'a, S: Alter> Lookup for View<'a, S> {
         page_under(self.tables, alloc, &self.host, &self.pass, lang, slug, path)
     }
 
-    // No table has redirects yet.
-    fn forced_redirect(
-        &mut self,
-        _alloc: Global,
-        _asked: &Asked,
-    ) -> Result<Option<Location>, Fault> {
-        Ok(None)
+    fn forced_redirect(&mut self, alloc: Global, asked: &Asked) -> Result<Option<Location>, Fault> {
+        redirected_under(self.tables, alloc, &self.host, true, asked)
     }
 
     fn not_found_redirect(
         &mut self,
-        _alloc: Global,
-        _asked: &Asked,
+        alloc: Global,
+        asked: &Asked,
     ) -> Result<Option<Location>, Fault> {
-        Ok(None)
+        redirected_under(self.tables, alloc, &self.host, false, asked)
     }
 
     fn listing(&mut self, alloc: Global) -> Result<Vec<Version>, Fault> {

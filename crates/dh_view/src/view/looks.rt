@@ -8,7 +8,9 @@ ghost use Rattle.dh_records.specs.Rules.{RiseBySlug};
 ghost use Rattle.dh_view.specs.View.{Queries};
 
 use dh_paths::{HostName, Lang, Slug, Token};
-use dh_records::{HeldRow, LangRow, PageRow, PassRow, PickRow, ProjectRow, VersionRow};
+use dh_records::{
+    HeldRow, LangRow, PageRow, PassRow, PickRow, ProjectRow, RedirectRow, VersionRow,
+};
 use dh_reply::Fault;
 use dh_store::Tables;
 use sqlite::Alter;
@@ -104,6 +106,19 @@ pub fn look_picks<S: Alter>(
         (λ l. filter (spec.is_pick_of host.now) l.picks) }
 {
     tables.picks(alloc, host)
+}
+
+pub fn look_redirects<S: Alter>(
+    tables: &mut Tables<S>,
+    alloc: Global,
+    host: &HostName,
+) -> Result<Vec<RedirectRow>, Fault>
+    requires settled { IsHonest S.Store tables.old → IsSettled S.Store tables.old }
+    ensures asks { Queries S.Store tables.old tables.new result }
+    ensures value { ReadsAll S.Store tables.old tables.new result
+        (λ l. filter (spec.is_redirect_of host.now) l.redirects) }
+{
+    tables.redirects(alloc, host)
 }
 
 pub fn look_pass<S: Alter>(

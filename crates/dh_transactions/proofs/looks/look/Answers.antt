@@ -8,7 +8,8 @@ use Rattle.dh_transactions.specs.Going.{records}
 
 pub returns-clause-value : goal.returns-clause-value
 returns-clause-value g c honest sound =
-    let h5 = c.pass_count.ensures.asks.goes.lasts.was honest in
+    let h6 = c.redirects_for.ensures.asks.goes.lasts.was honest in
+    let h5 = c.pass_count.ensures.asks.goes.lasts.was h6 in
     let h4 = c.has_pass.ensures.asks.goes.lasts.was h5 in
     let h3 = c.defaults_for.ensures.asks.goes.lasts.was h4 in
     let h2 = c.languages_for.ensures.asks.goes.lasts.was h3 in
@@ -19,13 +20,16 @@ returns-clause-value g c honest sound =
     (records g.S.Store c.settings_of.new.tables) (records g.S.Store c.version_for.new.tables)
     (records g.S.Store c.first_answer_for.new.tables) (records g.S.Store c.languages_for.new.tables)
     (records g.S.Store c.defaults_for.new.tables) (records g.S.Store c.has_pass.new.tables)
+    (records g.S.Store c.pass_count.new.tables)
     c.questions_of-questions.result _
     (c.in_ok-settings.ensures.asks.looks.now_is h0) (c.in_ok-version.ensures.asks.looks.now_is h1)
     (c.in_ok-first_answer.ensures.asks.looks.now_is h2) (c.in_ok-languages.ensures.asks.looks.now_is h3)
     (c.in_ok-defaults.ensures.asks.looks.now_is h4) (c.in_ok-has_pass.ensures.asks.looks.now_is h5)
+    (c.in_ok-pass_count.ensures.asks.looks.now_is h6)
     sound (subst (FindsSettings c.args.host.now lists) c.in-Some.is (c.in_ok-settings.ensures.value h0)) c.questions_of-questions.ensures
     (c.in_ok-version.ensures.value h1) (c.in_ok-first_answer.ensures.value h2) (c.in_ok-languages.ensures.value h3)
-    (c.in_ok-defaults.ensures.value h4) (c.in_ok-has_pass.ensures.value h5) (c.in_ok-pass_count.ensures.value honest)
+    (c.in_ok-defaults.ensures.value h4) (c.in_ok-has_pass.ensures.value h5) (c.in_ok-pass_count.ensures.value h6)
+    (c.in_ok-redirects.ensures.value honest)
 
 pub returns-in_err-has_pass-clause-asks : goal.returns-in_err-has_pass-clause-asks
 returns-in_err-has_pass-clause-asks g c = record {
@@ -54,6 +58,21 @@ returns-in_err-pass_count-clause-asks g c = record {
   err = set_aside_on c.from_residual-in_err-pass_count.result c.in_err-pass_count.field-0.0 c.from_residual-in_err-pass_count.ensures.1 c.in_err-pass_count.ensures.asks.err;
 }
 
+pub returns-in_err-redirects-clause-asks : goal.returns-in_err-redirects-clause-asks
+returns-in_err-redirects-clause-asks g c = record {
+  goes =
+      goes_on c.settings_of.ensures.asks.goes c.in_ok-settings.ensures.asks.looks.live
+      (goes_on c.version_for.ensures.asks.goes c.in_ok-version.ensures.asks.looks.live
+      (goes_on c.first_answer_for.ensures.asks.goes c.in_ok-first_answer.ensures.asks.looks.live
+      (goes_on c.languages_for.ensures.asks.goes c.in_ok-languages.ensures.asks.looks.live
+      (goes_on c.defaults_for.ensures.asks.goes c.in_ok-defaults.ensures.asks.looks.live
+      (goes_on c.has_pass.ensures.asks.goes c.in_ok-has_pass.ensures.asks.looks.live
+      (goes_on c.pass_count.ensures.asks.goes c.in_ok-pass_count.ensures.asks.looks.live
+      c.redirects_for.ensures.asks.goes))))));
+  looks = none_answered _ c.from_residual-in_err-redirects.result c.in_err-redirects.field-0.0 c.from_residual-in_err-redirects.ensures.1;
+  err = set_aside_on c.from_residual-in_err-redirects.result c.in_err-redirects.field-0.0 c.from_residual-in_err-redirects.ensures.1 c.in_err-redirects.ensures.asks.err;
+}
+
 pub returns-clause-asks : goal.returns-clause-asks
 returns-clause-asks g c = record {
   goes =
@@ -63,14 +82,16 @@ returns-clause-asks g c = record {
       (goes_on c.languages_for.ensures.asks.goes c.in_ok-languages.ensures.asks.looks.live
       (goes_on c.defaults_for.ensures.asks.goes c.in_ok-defaults.ensures.asks.looks.live
       (goes_on c.has_pass.ensures.asks.goes c.in_ok-has_pass.ensures.asks.looks.live
-      c.pass_count.ensures.asks.goes)))));
+      (goes_on c.pass_count.ensures.asks.goes c.in_ok-pass_count.ensures.asks.looks.live
+      c.redirects_for.ensures.asks.goes))))));
   looks =
-      looks_on (looks_on (looks_on (looks_on (looks_on (looks_on c.in_ok-settings.ensures.asks.looks c.version_for.ensures.asks.goes c.in_ok-version.ensures.asks.looks)
+      looks_on (looks_on (looks_on (looks_on (looks_on (looks_on (looks_on c.in_ok-settings.ensures.asks.looks c.version_for.ensures.asks.goes c.in_ok-version.ensures.asks.looks)
       c.first_answer_for.ensures.asks.goes c.in_ok-first_answer.ensures.asks.looks)
       c.languages_for.ensures.asks.goes c.in_ok-languages.ensures.asks.looks)
       c.defaults_for.ensures.asks.goes c.in_ok-defaults.ensures.asks.looks)
       c.has_pass.ensures.asks.goes c.in_ok-has_pass.ensures.asks.looks)
-      c.pass_count.ensures.asks.goes c.in_ok-pass_count.ensures.asks.looks;
+      c.pass_count.ensures.asks.goes c.in_ok-pass_count.ensures.asks.looks)
+      c.redirects_for.ensures.asks.goes c.in_ok-redirects.ensures.asks.looks;
   err = search rules;
 }
 

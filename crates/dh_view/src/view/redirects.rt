@@ -1,0 +1,40 @@
+//! Where the redirects of a project lead.
+
+ghost use Rattle.std.specs.Prelude.{◌≡◌, map, IfOk};
+ghost use Rattle.dh_rows.specs.Calls.{IsHonest};
+ghost use Rattle.dh_records.specs.Lists.{project_of};
+ghost use Rattle.dh_reply.specs.SeenProject as spec;
+ghost use Rattle.dh_schema.specs.Calling.{IsSettled, Reads};
+ghost use Rattle.dh_view.specs.View.{Queries};
+
+use crate::view::looks::look_redirects;
+use dh_records::{ProjectRow, RedirectRow};
+use dh_redirects::{Asked, Location, Redirect};
+use dh_reply::{Fault, first_result};
+use dh_store::Tables;
+use sqlite::Alter;
+use std::alloc::{AllocError, Global};
+
+fn redirects_of(alloc: Global, rows: Vec<RedirectRow>) -> Result<Vec<Redirect>, AllocError>
+    ensures { IfOk result (λ v. v.items ≡ map (λ r. r.redirect) rows.items) }
+{
+    rows.into_iter().map(|row| row.redirect).collect(alloc)
+}
+
+/// Where the first of the redirects leads that has a result: of all, or of those with force alone.
+pub fn redirected<S: Alter>(
+    tables: &mut Tables<S>,
+    alloc: Global,
+    project: &ProjectRow,
+    forced: bool,
+    asked: &Asked,
+) -> Result<Option<Location>, Fault>
+    requires settled { IsHonest S.Store tables.old → IsSettled S.Store tables.old }
+    ensures asks { Queries S.Store tables.old tables.new result }
+    ensures value { Reads S.Store tables.old tables.new result
+        (λ l. spec.first_result forced (project_of l project.now).redirects asked.now) }
+{
+    let rows = look_redirects(tables, alloc, &project.host)?;
+    let redirects = redirects_of(alloc, rows)?;
+    Ok(first_result(alloc, forced, redirects.as_slice(), asked)?)
+}
