@@ -86,6 +86,9 @@ rules_without_grants lists keep rules = record {
   defaults = rules.defaults;
   chosen = rules.chosen;
   granted = all-filter _ keep lists.held rules.granted;
+  redirects = rules.redirects;
+  places = rules.places;
+  good = rules.good;
 }
 
 all_granted : (P : HeldRow → Type 0) (row : HeldRow) (rows : List HeldRow) → P row → AllByRecursion P rows → AllByRecursion P (granted row rows)
@@ -111,6 +114,9 @@ rules_with_grant lists row rules pass version = record {
   defaults = rules.defaults;
   chosen = rules.chosen;
   granted = all_granted (λ x. IsTrue (has_pass lists x.host x.pass && has_version lists x.host x.slug)) row lists.held (and_from _ _ pass version) rules.granted;
+  redirects = rules.redirects;
+  places = rules.places;
+  good = rules.good;
 }
 
 -- no grant is left on the version, or of the pass
@@ -138,6 +144,9 @@ rules_with_pass lists row rules host = record {
   chosen = rules.chosen;
   granted = all_weaker _ (λ x. IsTrue (has_pass next x.host x.pass && has_version lists x.host x.slug))
       (λ x. and_first _ _ _ (found_still (by_key coding.passes.key) (is_pass x.host x.pass) row lists.passes)) lists.held rules.granted;
+  redirects = rules.redirects;
+  places = rules.places;
+  good = rules.good;
 }
   where
     next : Lists
@@ -159,6 +168,9 @@ rules_without_pass lists host pass rules none = record {
   defaults = rules.defaults;
   chosen = rules.chosen;
   granted = all_both _ _ (λ x. IsTrue (has_pass next x.host x.pass && has_version lists x.host x.slug)) (λ x was out. and_first _ _ _ (kept x out) was) lists.held rules.granted none;
+  redirects = rules.redirects;
+  places = rules.places;
+  good = rules.good;
 }
   where
     next : Lists
@@ -198,6 +210,9 @@ rules_with_defaults lists host names rules up has apart may = record {
   chosen = all_set host (λ d. MayChoose lists d.host d.name) names lists.picks
       (all_ranked host (λ d. MayChoose lists d.host d.name) 1 names (all_weaker _ (λ name. (rank : ℕ) → MayChoose lists host name) (λ name h rank. h) names may)) rules.chosen;
   granted = rules.granted;
+  redirects = rules.redirects;
+  places = rules.places;
+  good = rules.good;
 }
   where
     are : AreDefaults (ranked host 1 names)
@@ -274,6 +289,9 @@ rules_without_version lists host slug rules bare unheld unnamed = record {
   defaults = rules.defaults;
   chosen = all_both _ _ (λ d. MayChoose next d.host d.name) (λ d was out. or_last _ _ _ (λ h. ap is_some (stays d.host d.name out) ∙ h) was) lists.picks rules.chosen unnamed;
   granted = all_both _ _ (λ x. IsTrue (has_pass lists x.host x.pass && has_version next x.host x.slug)) (λ x was out. and_last _ _ _ (λ h. ap is_some (stays x.host x.slug out) ∙ h) was) lists.held rules.granted unheld;
+  redirects = rules.redirects;
+  places = rules.places;
+  good = rules.good;
 }
   where
     next : Lists
@@ -327,22 +345,22 @@ rules_with_front lists host name p rules up was may =
 
 module _ (lists : Lists) (up : AreInOrder lists) where
   pub order_without_version : (keep : VersionRow → Bool) → AreInOrder (record lists { versions = filter keep lists.versions })
-  order_without_version keep = record { projects = up.projects; langs = up.langs; versions = filtered_in_order coding.versions.key keep lists.versions up.versions; pages = up.pages; used = up.used; picks = up.picks; passes = up.passes; held = up.held }
+  order_without_version keep = record { projects = up.projects; langs = up.langs; versions = filtered_in_order coding.versions.key keep lists.versions up.versions; pages = up.pages; used = up.used; picks = up.picks; passes = up.passes; held = up.held; redirects = up.redirects }
 
   pub order_with_defaults : (host : Text) (names : List Text) → AreInOrder (record lists { picks = set_picks host names lists.picks })
-  order_with_defaults host names = record { projects = up.projects; langs = up.langs; versions = up.versions; pages = up.pages; used = up.used; picks = set_in_order host names lists.picks up.picks; passes = up.passes; held = up.held }
+  order_with_defaults host names = record { projects = up.projects; langs = up.langs; versions = up.versions; pages = up.pages; used = up.used; picks = set_in_order host names lists.picks up.picks; passes = up.passes; held = up.held; redirects = up.redirects }
 
   pub order_with_pass : (row : PassRow) → IsFreeKey coding.passes.key row lists.passes → AreInOrder (record lists { passes = added coding.passes.key row lists.passes })
-  order_with_pass row free = record { projects = up.projects; langs = up.langs; versions = up.versions; pages = up.pages; used = up.used; picks = up.picks; passes = added_in_order coding.passes.key row lists.passes free up.passes; held = up.held }
+  order_with_pass row free = record { projects = up.projects; langs = up.langs; versions = up.versions; pages = up.pages; used = up.used; picks = up.picks; passes = added_in_order coding.passes.key row lists.passes free up.passes; held = up.held; redirects = up.redirects }
 
   pub order_without_pass : (keep : PassRow → Bool) → AreInOrder (record lists { passes = filter keep lists.passes })
-  order_without_pass keep = record { projects = up.projects; langs = up.langs; versions = up.versions; pages = up.pages; used = up.used; picks = up.picks; passes = filtered_in_order coding.passes.key keep lists.passes up.passes; held = up.held }
+  order_without_pass keep = record { projects = up.projects; langs = up.langs; versions = up.versions; pages = up.pages; used = up.used; picks = up.picks; passes = filtered_in_order coding.passes.key keep lists.passes up.passes; held = up.held; redirects = up.redirects }
 
   pub order_without_grants : (keep : HeldRow → Bool) → AreInOrder (record lists { held = filter keep lists.held })
-  order_without_grants keep = record { projects = up.projects; langs = up.langs; versions = up.versions; pages = up.pages; used = up.used; picks = up.picks; passes = up.passes; held = filtered_in_order coding.held.key keep lists.held up.held }
+  order_without_grants keep = record { projects = up.projects; langs = up.langs; versions = up.versions; pages = up.pages; used = up.used; picks = up.picks; passes = up.passes; held = filtered_in_order coding.held.key keep lists.held up.held; redirects = up.redirects }
 
   pub order_with_grant : (row : HeldRow) → AreInOrder (record lists { held = granted row lists.held })
-  order_with_grant row = record { projects = up.projects; langs = up.langs; versions = up.versions; pages = up.pages; used = up.used; picks = up.picks; passes = up.passes; held = go (find (is_held row.host row.pass row.slug) lists.held) refl }
+  order_with_grant row = record { projects = up.projects; langs = up.langs; versions = up.versions; pages = up.pages; used = up.used; picks = up.picks; passes = up.passes; held = go (find (is_held row.host row.pass row.slug) lists.held) refl; redirects = up.redirects }
     where
       go : (o : Option HeldRow) → find (is_held row.host row.pass row.slug) lists.held ≡ o → InOrder coding.held.key (granted row lists.held)
       go None e = subst (InOrder coding.held.key) (sym (granted_new row lists.held (ap is_some e))) (added_in_order coding.held.key row lists.held (grant_is_free row lists.held (ap is_some e)) up.held)

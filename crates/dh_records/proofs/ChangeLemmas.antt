@@ -18,7 +18,7 @@ use Rattle.dh_records.specs.declared.records.PageRow.{PageRow}
 use Rattle.dh_records.specs.declared.records.UsedRow.{UsedRow}
 use Rattle.dh_records.specs.Codings as coding
 use Rattle.dh_world.specs.World.{Text, text_cmp, PageKey, page_cmp, used_cmp, op_code, Project, lies_under}
-use Rattle.dh_records.specs.Lists.{Lists, project_of, world_of, kept_answer, is_project, is_lang_of, is_page_under, is_pick_of}
+use Rattle.dh_records.specs.Lists.{Lists, project_of, world_of, kept_answer, is_project, is_lang_of, is_page_under, is_pick_of, is_redirect_of}
 use Rattle.dh_records.specs.Rules.{InOrder, languages_of, KeepsRules}
 use Rattle.dh_records.proofs.KeyLemmas.{turned, same_version, page_place, same_page, used_place, same_used}
 use Rattle.dh_world.proofs.MapLemmas.{used_total, used_exact, tied_text, text_total, page_total, page_exact, held_total, held_exact}
@@ -207,7 +207,7 @@ module _ (lists : Lists) (row : ProjectRow) (lang : LangRow) (rules : KeepsRules
     passes = kept_none text_total exact_bytes (λ x. x.host) (λ x. x.pass) (λ x. tt) row.host lists.passes (none_of_new (λ x. x.host) lists.passes lists row.host new rules.passes) i;
     held = kept_none held_total held_exact (λ x. x.host) held_place (λ x. tt) row.host lists.held (none_of_new (λ x. x.host) lists.held lists row.host new (grants_owned lists rules)) i;
     used = kept_none used_total used_exact (λ u. u.host) used_place kept_answer row.host lists.used (none_of_new (λ u. u.host) lists.used lists row.host new rules.used) i;
-    redirects = [];
+    redirects = ap (map (λ r. r.redirect)) (filter_none (is_redirect_of row.host) lists.redirects (none_of_new (λ r. r.host) lists.redirects lists row.host new rules.redirects)) i;
   }
 
   here : option_map (project_of (begun lists row lang)) (find (is_project row.host) (added coding.projects.key row lists.projects)) ≡ Some (fresh row)

@@ -51,7 +51,7 @@ project_is_free x rows e = all_weaker _ (λ y. same_key coding.projects.key x y 
 lang_order : (x y : LangRow) → by_key coding.langs.key x y ≡ ordering_then (value_cmp (Text x.host) (Text y.host)) (value_cmp (Int (pos x.place)) (Int (pos y.place)))
 lang_order x y = ap (ordering_then (value_cmp (Text x.host) (Text y.host))) (then-Equal (value_cmp (Int (pos x.place)) (Int (pos y.place))))
 
-place_above : (m n : ℕ) → m < n → value_cmp (Int (pos n)) (Int (pos m)) ≡ Greater
+pub place_above : (m n : ℕ) → m < n → value_cmp (Int (pos n)) (Int (pos m)) ≡ Greater
 place_above m n h = value_cmp-Int (pos n) (pos m) ∙ grind (arith, nat_tests)
 
 -- of the languages of a host, the later stands behind

@@ -13,3 +13,4 @@ pub mod ChangeLemmas
 pub mod AccessChanges
 pub mod AccessRules
 pub mod SlugOrder
+pub mod RedirectLemmas

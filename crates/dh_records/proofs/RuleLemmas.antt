@@ -24,8 +24,8 @@ use Rattle.dh_records.specs.declared.records.HeldRow.{HeldRow}
 use Rattle.dh_records.specs.Codings as coding
 use Rattle.dh_world.specs.World.{Text}
 use Rattle.dh_world.specs.Seen.{is_alias}
-use Rattle.dh_records.specs.Lists.{Lists, is_project, is_lang_of, is_version, is_page_of, is_pick_of, is_pass}
-use Rattle.dh_records.specs.Rules.{InOrder, has_project, has_language, has_active, has_version, has_pass, AreLanguages, AreDefaults, KeepsRules}
+use Rattle.dh_records.specs.Lists.{Lists, is_project, is_lang_of, is_version, is_page_of, is_pick_of, is_pass, is_redirect_of}
+use Rattle.dh_records.specs.Rules.{InOrder, has_project, has_language, has_active, has_version, has_pass, AreLanguages, AreDefaults, AreRedirects, KeepsRules}
 use Rattle.dh_records.proofs.Keys.{version_key}
 use Rattle.dh_records.proofs.KeyLemmas.{turned, lang_above, lang_elsewhere}
 use Rattle.dh_records.proofs.RecordLemmas.{none_found, found_passes, all_that, all_added, all_put, find_added, find_put, none_but_added, added_elsewhere, added_last}
@@ -89,6 +89,9 @@ rules_with_version lists row rules host named bare = record {
   defaults = rules.defaults;
   chosen = all_weaker _ (λ d. IsTrue (is_alias d.name || has_version next d.host d.name)) (λ d. or_later _ _ _ (kept d.host d.name)) lists.picks rules.chosen;
   granted = all_weaker _ (λ x. IsTrue (has_pass lists x.host x.pass && has_version next x.host x.slug)) (λ x. and_later _ _ _ (kept x.host x.slug)) lists.held rules.granted;
+  redirects = rules.redirects;
+  places = rules.places;
+  good = rules.good;
 }
   where
     next : Lists
@@ -135,6 +138,9 @@ rules_with_page lists row rules host shown spoken = record {
   defaults = rules.defaults;
   chosen = rules.chosen;
   granted = rules.granted;
+  redirects = rules.redirects;
+  places = rules.places;
+  good = rules.good;
 }
 
 -- some pages less
@@ -153,6 +159,9 @@ rules_without lists p rules = record {
   defaults = rules.defaults;
   chosen = rules.chosen;
   granted = rules.granted;
+  redirects = rules.redirects;
+  places = rules.places;
+  good = rules.good;
 }
 
 -- ---- used keys
@@ -172,6 +181,9 @@ rules_with_used lists row rules host = record {
   defaults = rules.defaults;
   chosen = rules.chosen;
   granted = rules.granted;
+  redirects = rules.redirects;
+  places = rules.places;
+  good = rules.good;
 }
 
 -- ---- languages
@@ -270,6 +282,9 @@ rules_with_lang lists row rules up host next new = record {
   defaults = rules.defaults;
   chosen = rules.chosen;
   granted = rules.granted;
+  redirects = rules.redirects;
+  places = rules.places;
+  good = rules.good;
 }
   where
     after : List LangRow
@@ -329,6 +344,9 @@ none_are_chosen : AreDefaults []
 unfolding IsDistinct
 none_are_chosen = record { ranks = refl; apart = tt }
 
+no_redirects : AreRedirects []
+no_redirects = record { places = refl; few = omega arith }
+
 pub rules_with_project : (lists : Lists) (row : ProjectRow) (lang : LangRow) → KeepsRules lists → find (is_project row.host) lists.projects ≡ None → lang.host ≡ row.host → lang.lang ≡ row.main → lang.place ≡ 1
     → KeepsRules (record lists { projects = added coding.projects.key row lists.projects; langs = added coding.langs.key lang lists.langs })
 rules_with_project lists row lang rules new home main place = record {
@@ -346,6 +364,9 @@ rules_with_project lists row lang rules new home main place = record {
   defaults = all_added (λ r. AreDefaults (filter (is_pick_of r.host) lists.picks)) (by_key coding.projects.key) row lists.projects none_chosen rules.defaults;
   chosen = rules.chosen;
   granted = rules.granted;
+  redirects = all_weaker _ (λ r. IsTrue (has_project next r.host)) (λ r. owned r.host) lists.redirects rules.redirects;
+  places = all_added (λ r. AreRedirects (filter (is_redirect_of r.host) lists.redirects)) (by_key coding.projects.key) row lists.projects none_lead rules.places;
+  good = rules.good;
 }
   where
     after : List LangRow
@@ -363,6 +384,9 @@ rules_with_project lists row lang rules new home main place = record {
 
     owner : IsTrue (has_project next lang.host)
     owner = ap is_some (find_project row lists.projects lang.host new ∙ ap (λ b. cond b (Some row) (find (is_project lang.host) lists.projects)) ((bytes_eq-Decides row.host lang.host).1 (sym home)))
+
+    none_lead : AreRedirects (filter (is_redirect_of row.host) lists.redirects)
+    none_lead = subst AreRedirects (sym (filter_none (is_redirect_of row.host) lists.redirects (none_of_new (λ r. r.host) lists.redirects lists row.host new rules.redirects))) no_redirects
 
     none_chosen : AreDefaults (filter (is_pick_of row.host) lists.picks)
     none_chosen = subst AreDefaults (sym (filter_none (is_pick_of row.host) lists.picks (none_of_new (λ d. d.host) lists.picks lists row.host new rules.picks))) none_are_chosen

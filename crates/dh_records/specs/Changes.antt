@@ -1,10 +1,10 @@
 -- The lists with a record more, or with fewer.
-use Rattle.std.specs.Prelude.{not, filter, List, Option}
+use Rattle.std.specs.Prelude.{ℕ, not, filter, List, Option}
 use Rattle.dh_rows.specs.Keyed.{added, put}
 use Rattle.dh_world.specs.World.{Text}
 use Rattle.dh_records.specs.Codings as coding
 use Rattle.dh_records.specs.Lists as lists
-use Rattle.dh_records.specs.Lists.{Lists, granted, is_version, is_page_under, is_pick_of, is_pass, is_held, is_held_by, is_held_on}
+use Rattle.dh_records.specs.Lists.{Lists, granted, is_version, is_page_under, is_pick_of, is_pass, is_held, is_held_by, is_held_on, is_redirect}
 use Rattle.dh_records.specs.declared.records.ProjectRow.{ProjectRow}
 use Rattle.dh_records.specs.declared.records.LangRow.{LangRow}
 use Rattle.dh_records.specs.declared.records.VersionRow.{VersionRow}
@@ -13,6 +13,7 @@ use Rattle.dh_records.specs.declared.records.UsedRow.{UsedRow}
 use Rattle.dh_records.specs.declared.records.PickRow.{PickRow}
 use Rattle.dh_records.specs.declared.records.PassRow.{PassRow}
 use Rattle.dh_records.specs.declared.records.HeldRow.{HeldRow}
+use Rattle.dh_records.specs.declared.records.RedirectRow.{RedirectRow}
 
 -- ---- a record more, whose key is free
 
@@ -41,6 +42,9 @@ put_version row l = record l { versions = put coding.versions.key row l.versions
 
 abbrev pub put_page : PageRow → Lists → Lists
 put_page row l = record l { pages = put coding.pages.key row l.pages }
+
+abbrev pub put_redirect : RedirectRow → Lists → Lists
+put_redirect row l = record l { redirects = put coding.redirects.key row l.redirects }
 
 -- a grant, unless it is there
 abbrev pub grant : HeldRow → Lists → Lists
@@ -90,4 +94,9 @@ drop_grants_of host slug l = record l {
 abbrev pub drop_grants_by : Text → Text → Lists → Lists
 drop_grants_by host pass l = record l {
   held = filter (λ x. not (is_held_by host pass x)) l.held;
+}
+
+abbrev pub drop_redirect : Text → ℕ → Lists → Lists
+drop_redirect host place l = record l {
+  redirects = filter (λ x. not (is_redirect host place x)) l.redirects;
 }

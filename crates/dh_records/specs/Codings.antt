@@ -1,11 +1,13 @@
 -- How the records of each table are kept in its columns.
-use Rattle.std.specs.Prelude.{ℕ, pos, Bool, true, false, if◌then◌else◌, List, [], ◌∷◌}
+use Rattle.std.specs.Prelude.{ℕ, pos, ◌==◌, Bool, true, false, if◌then◌else◌, List, [], ◌∷◌}
 use Rattle.sqlite_value.specs.declared.value.Value.{Value}
 use Rattle.sqlite_value.specs.declared.value.Value.TheVariants.{Int, Text, Blob}
 use Rattle.sqlite_value.specs.Order.{Row, column, bytes}
 use Rattle.dh_rows.specs.Keyed.{Coding, flag, is_set}
 use Rattle.dh_versions.specs.declared.version.Kind.{Kind}
 use Rattle.dh_versions.specs.declared.version.Kind.TheVariants.{Branch, Tag}
+use Rattle.dh_redirects.specs.declared.redirect.RedirectKind.{RedirectKind}
+use Rattle.dh_redirects.specs.declared.redirect.RedirectKind.TheVariants.{Page, Exact, CleanToHtml, HtmlToClean}
 use Rattle.dh_records.specs.declared.records.ProjectRow.{ProjectRow}
 use Rattle.dh_records.specs.declared.records.LangRow.{LangRow}
 use Rattle.dh_records.specs.declared.records.VersionRow.{VersionRow}
@@ -14,12 +16,23 @@ use Rattle.dh_records.specs.declared.records.UsedRow.{UsedRow}
 use Rattle.dh_records.specs.declared.records.PickRow.{PickRow}
 use Rattle.dh_records.specs.declared.records.PassRow.{PassRow}
 use Rattle.dh_records.specs.declared.records.HeldRow.{HeldRow}
+use Rattle.dh_records.specs.declared.records.RedirectRow.{RedirectRow}
 use Rattle.dh_world.specs.World.{is_upload}
 use Rattle.dh_world.specs.declared.operation.Operation.TheVariants.{Push, Upload}
 
 abbrev pub is_tag : Kind → Bool
 is_tag Branch = false
 is_tag Tag = true
+
+abbrev pub kind_number : RedirectKind → ℕ
+kind_number Page = 0
+kind_number Exact = 1
+kind_number CleanToHtml = 2
+kind_number HtmlToClean = 3
+
+-- any other number reads as the last
+abbrev pub kind_of : ℕ → RedirectKind
+kind_of n = if n == 0 then Page else if n == 1 then Exact else if n == 2 then CleanToHtml else HtmlToClean
 
 -- the number that a column reads as
 abbrev pub number_in : Value → ℕ
@@ -100,4 +113,24 @@ held = record {
   encode = λ x. Text x.host ∷ Text x.pass ∷ Text x.slug ∷ [];
   decode = λ r. record { host = text_in r 1; pass = text_in r 2; slug = text_in r 3 };
   key = λ x. Text x.host ∷ Text x.pass ∷ Text x.slug ∷ [];
+}
+
+-- a redirect's key is its place, so that the records of a host stand in the order of places
+abbrev pub redirects : Coding RedirectRow
+redirects = record {
+  encode = λ x.
+      Text x.host ∷ Int (pos x.place) ∷ Int (pos (kind_number x.redirect.kind)) ∷ Int (pos x.redirect.status) ∷ flag x.redirect.force
+      ∷ Text x.redirect.source ∷ Text x.redirect.target ∷ [];
+  decode = λ r. record {
+    host = text_in r 1;
+    place = number_in (column r 2);
+    redirect = record {
+      kind = kind_of (number_in (column r 3));
+      source = text_in r 6;
+      target = text_in r 7;
+      status = number_in (column r 4);
+      force = flag_in r 5;
+    };
+  };
+  key = λ x. Text x.host ∷ Int (pos x.place) ∷ [];
 }

@@ -1,10 +1,11 @@
 -- The records of each table, and the world that they spell.
-use Rattle.std.specs.Prelude.{ℕ, ◌+◌, Bool, true, false, not, ◌&&◌, if◌then◌else◌, List, [], ◌∷◌, map, filter, Option, Some, None, unwrap_or}
+use Rattle.std.specs.Prelude.{ℕ, ◌+◌, Bool, true, false, not, ◌&&◌, nat_eq, if◌then◌else◌, List, [], ◌∷◌, map, filter, Option, Some, None, unwrap_or}
 use Rattle.std.specs.List.{list_any}
 use Rattle.std.specs.Str.{bytes_eq}
 use Rattle.std.specs.FinMap.{from_entries}
 use Rattle.dh_rows.specs.Keyed.{added}
 use Rattle.dh_records.specs.Codings as coding
+use Rattle.dh_redirects.specs.declared.redirect.Redirect.{Redirect}
 use Rattle.dh_world.specs.declared.answer.Answer.{Answer}
 use Rattle.dh_world.specs.declared.answer.Answer.TheVariants.{Done}
 use Rattle.dh_world.specs.Answers.{answer_of, json_of}
@@ -17,6 +18,7 @@ use Rattle.dh_records.specs.declared.records.UsedRow.{UsedRow}
 use Rattle.dh_records.specs.declared.records.PickRow.{PickRow}
 use Rattle.dh_records.specs.declared.records.PassRow.{PassRow}
 use Rattle.dh_records.specs.declared.records.HeldRow.{HeldRow}
+use Rattle.dh_records.specs.declared.records.RedirectRow.{RedirectRow}
 use Rattle.dh_world.specs.declared.operation.Operation.{Operation}
 use Rattle.dh_world.specs.declared.operation.Operation.TheVariants.{Push, Upload}
 
@@ -30,6 +32,7 @@ pub record Lists : Type 0 where
   pub picks : List PickRow
   pub passes : List PassRow
   pub held : List HeldRow
+  pub redirects : List RedirectRow
 
 -- the records of one host
 abbrev pub of_host : {X : Type 0} → (X → Text) → Text → List X → List X
@@ -91,6 +94,15 @@ is_held_by host pass r = bytes_eq r.host host && bytes_eq r.pass pass
 abbrev pub is_held_on : Text → Text → HeldRow → Bool
 is_held_on host slug r = bytes_eq r.host host && bytes_eq r.slug slug
 
+abbrev pub is_redirect_of : Text → RedirectRow → Bool
+is_redirect_of host r = bytes_eq r.host host
+
+abbrev pub is_redirect : Text → ℕ → RedirectRow → Bool
+is_redirect host place r = bytes_eq r.host host && nat_eq r.place place
+
+abbrev pub redirect_row : Text → ℕ → Redirect → RedirectRow
+redirect_row host place redirect = record { host = host; place = place; redirect = redirect }
+
 abbrev pub pick_row : Text → Text → ℕ → PickRow
 pick_row host name rank = record { host = host; name = name; rank = rank }
 
@@ -137,8 +149,7 @@ project_of lists row = record {
   passes = from_entries (map (λ x. (x.pass, tt)) (of_host (λ x. x.host) row.host lists.passes));
   held = from_entries (map (λ x. ((x.pass, x.slug), tt)) (of_host (λ x. x.host) row.host lists.held));
   used = from_entries (map (λ u. ((u.slug, (op_code u.op, u.retry)), kept_answer u)) (of_host (λ u. u.host) row.host lists.used));
-  -- no table has any yet
-  redirects = [];
+  redirects = map (λ r. r.redirect) (of_host (λ r. r.host) row.host lists.redirects);
 }
 
 -- the world that the records spell

@@ -1,5 +1,5 @@
 -- What the records keep besides being in the order of their keys.
-use Rattle.std.specs.Prelude.{◌≡◌, Bool, false, ◌&&◌, ◌||◌, IsTrue, List, map, filter, length, slice_get, find, Some, is_some}
+use Rattle.std.specs.Prelude.{◌≡◌, ◌≤◌, Bool, false, ◌&&◌, ◌||◌, IsTrue, List, map, filter, length, slice_get, find, Some, None, is_some}
 use Rattle.std.specs.declared.cmp.Ordering.TheVariants.{Less}
 use Rattle.std.specs.List.{AllByRecursion, IsDistinct, list_any, range_with_len}
 use Rattle.std.specs.Option.{option_map_or}
@@ -8,13 +8,15 @@ use Rattle.std.specs.FinMap.{is_sorted}
 use Rattle.sqlite_value.specs.Order.{Row}
 use Rattle.sqlite_trees.specs.Tree.{IsAscending}
 use Rattle.dh_paths.specs.Slugs.{slug_from}
+use Rattle.dh_redirects.specs.Redirects.{first_fault}
 use Rattle.dh_rows.specs.Keyed.{by_key}
 use Rattle.dh_world.specs.World.{Text, text_cmp}
 use Rattle.dh_world.specs.Seen.{is_alias}
 use Rattle.dh_records.specs.Codings as coding
-use Rattle.dh_records.specs.Lists.{Lists, is_project, is_lang_of, is_version, is_pick_of, is_pass}
+use Rattle.dh_records.specs.Lists.{Lists, is_project, is_lang_of, is_version, is_pick_of, is_pass, is_redirect_of}
 use Rattle.dh_records.specs.declared.records.LangRow.{LangRow}
 use Rattle.dh_records.specs.declared.records.PickRow.{PickRow}
+use Rattle.dh_records.specs.declared.records.RedirectRow.{RedirectRow}
 use Rattle.dh_records.specs.declared.records.VersionRow.{VersionRow}
 
 -- no two records have one key, and each stands before those with a greater key
@@ -35,6 +37,7 @@ pub record AreInOrder (lists : Lists) : Type 0 where
   pub picks : InOrder coding.picks.key lists.picks
   pub passes : InOrder coding.passes.key lists.passes
   pub held : InOrder coding.held.key lists.held
+  pub redirects : InOrder coding.redirects.key lists.redirects
 
 abbrev pub has_project : Lists → Text → Bool
 has_project lists host = is_some (find (is_project host) lists.projects)
@@ -67,6 +70,11 @@ pub record AreLanguages (main : Text) (langs : List LangRow) : Type 0 where
   pub apart : IsDistinct bytes_eq (map (λ l. l.lang) langs)
   pub first : slice_get (map (λ l. l.lang) langs) 0 ≡ Some main
 
+-- The redirects of one project: they have the places 1 to n without gaps, and there are at most 100.
+pub record AreRedirects (rows : List RedirectRow) : Type 0 where
+  pub places : map (λ r. r.place) rows ≡ range_with_len 1 (length rows)
+  pub few : length rows ≤ 100
+
 -- The rules of the records, beyond what each says for itself.
 pub record KeepsRules (lists : Lists) : Type 0 where
   -- every host has its project
@@ -87,3 +95,7 @@ pub record KeepsRules (lists : Lists) : Type 0 where
   pub chosen : AllByRecursion (λ d. IsTrue (is_alias d.name || has_version lists d.host d.name)) lists.picks
   -- a grant's pass and version are there
   pub granted : AllByRecursion (λ x. IsTrue (has_pass lists x.host x.pass && has_version lists x.host x.slug)) lists.held
+  pub redirects : AllByRecursion (λ r. IsTrue (has_project lists r.host)) lists.redirects
+  pub places : AllByRecursion (λ r. AreRedirects (filter (is_redirect_of r.host) lists.redirects)) lists.projects
+  -- no redirect has a fault
+  pub good : AllByRecursion (λ r. first_fault r.redirect ≡ None) lists.redirects

@@ -16,6 +16,7 @@ use Rattle.dh_records.specs.declared.records.UsedRow.{UsedRow}
 use Rattle.dh_records.specs.declared.records.PickRow.{PickRow}
 use Rattle.dh_records.specs.declared.records.PassRow.{PassRow}
 use Rattle.dh_records.specs.declared.records.HeldRow.{HeldRow}
+use Rattle.dh_records.specs.declared.records.RedirectRow.{RedirectRow}
 
 -- ---- columns
 
@@ -28,6 +29,9 @@ module _ (row : Row) (at : ℕ) where
 
   abbrev pub IsNumber : Type 0
   IsNumber = (n : ℕ) × (column row at ≡ Int (pos n)) × (n < 2 ^ 32)
+
+  abbrev pub IsStatus : Type 0
+  IsStatus = (n : ℕ) × (column row at ≡ Int (pos n)) × (n < 2 ^ 16)
 
   abbrev pub IsRank : Type 0
   IsRank = (n : ℕ) × (column row at ≡ Int (pos n))
@@ -92,6 +96,13 @@ pub record IsHeld (x : HeldRow) : Type 0 where
   pub pass : Passes is_token x.pass
   pub slug : Passes is_slug x.slug
 
+pub record IsRedirect (x : RedirectRow) : Type 0 where
+  pub host : Passes is_host_name x.host
+  pub place : x.place < 2 ^ 32
+  pub status : x.redirect.status < 2 ^ 16
+  pub source : IsUtf8 x.redirect.source
+  pub target : IsUtf8 x.redirect.target
+
 -- each record of the lists can be read again
 pub record AreTyped (l : Lists) : Type 0 where
   pub projects : AllByRecursion IsProject l.projects
@@ -102,3 +113,4 @@ pub record AreTyped (l : Lists) : Type 0 where
   pub picks : AllByRecursion IsPick l.picks
   pub passes : AllByRecursion IsPass l.passes
   pub held : AllByRecursion IsHeld l.held
+  pub redirects : AllByRecursion IsRedirect l.redirects

@@ -13,9 +13,10 @@ ghost use Rattle.dh_records.specs.Faults.{told_as};
 ghost use Rattle.dh_records.specs.Typed as typed;
 
 use crate::records::{
-    HeldRow, LangRow, PageRow, PassRow, PickRow, ProjectRow, UsedRow, VersionRow,
+    HeldRow, LangRow, PageRow, PassRow, PickRow, ProjectRow, RedirectRow, UsedRow, VersionRow,
 };
 use dh_paths::{Bytes, HostName, Lang, PagePath, RefName, Slug, Text, TextFault, Token};
+use dh_redirects::{Redirect, RedirectKind};
 use dh_reply::{Fault, Page};
 use dh_versions::{Kind, Version};
 use dh_world::{Answer, Operation};
@@ -82,6 +83,28 @@ fn number_at(row: &Row, at: usize) -> Result<u32, Fault>
     match row.get(at) {
         Ok(number) => Ok(number),
         Err(error) => Err(fault_of(error.into())),
+    }
+}
+
+fn status_at(row: &Row, at: usize) -> Result<u16, Fault>
+    ensures value { IfOk result (λ n. spec.number_in (column row.now at) ≡ n) }
+    ensures told { OnStore result (¬ typed.IsStatus row.now at) }
+{
+    match u16::try_from(number_at(row, at)?) {
+        Ok(status) => Ok(status),
+        Err(_) => Err(Fault::Store),
+    }
+}
+
+/// The kind whose number this is.
+fn kind_of(number: u32) -> RedirectKind
+    ensures { result ≡ spec.kind_of number }
+{
+    match number {
+        0 => RedirectKind::Page,
+        1 => RedirectKind::Exact,
+        2 => RedirectKind::CleanToHtml,
+        _ => RedirectKind::HtmlToClean,
     }
 }
 
@@ -317,6 +340,35 @@ impl Record for HeldRow {
             host: host_at(alloc, row, 0)?,
             pass: token_at(alloc, row, 1)?,
             slug: slug_at(alloc, row, 2)?,
+        })
+    }
+}
+
+fn redirect_in(row: &Row) -> Result<Redirect, Fault>
+    ensures value { IfOk result (λ v. (y : RedirectRow) → row.now ≡ spec.redirects.encode y
+        → v ≡ y.redirect) }
+    ensures told { (y : RedirectRow) → row.now ≡ spec.redirects.encode y
+        → OnStore result (¬ typed.IsRedirect y) }
+{
+    Ok(Redirect {
+        kind: kind_of(number_at(row, 2)?),
+        status: status_at(row, 3)?,
+        force: flag_at(row, 4)?,
+        source: Text::wrap(text_at(row, 5)?),
+        target: Text::wrap(text_at(row, 6)?),
+    })
+}
+
+impl Record for RedirectRow {
+    ghost coding = { spec.redirects };
+
+    ghost typed = { typed.IsRedirect };
+
+    fn read(alloc: Global, row: &Row) -> Result<RedirectRow, Fault> {
+        Ok(RedirectRow {
+            host: host_at(alloc, row, 0)?,
+            place: number_at(row, 1)?,
+            redirect: redirect_in(row)?,
         })
     }
 }

@@ -4,6 +4,7 @@ ghost use Rattle.std.specs.Prelude.{◌≡◌};
 ghost use Rattle.dh_records.specs.Codings as coding;
 
 use dh_paths::{HostName, Lang, PagePath, RefName, Slug, Text, Token};
+use dh_redirects::{Redirect, RedirectKind};
 use dh_reply::Page;
 use dh_versions::{Kind, Version};
 use dh_world::Operation;
@@ -89,4 +90,25 @@ pub struct UsedRow {
     pub retry: Token,
     /// As JSON.
     pub answer: Text,
+}
+
+/// A redirect under its host.
+#[derive(Drop)]
+pub struct RedirectRow {
+    pub host: HostName,
+    /// From 1; a project's redirects are tried in this order.
+    pub place: u32,
+    pub redirect: Redirect,
+}
+
+/// The kind of a redirect, as its column says it.
+pub fn kind_number(kind: RedirectKind) -> u32
+    ensures { result ≡ coding.kind_number kind }
+{
+    match kind {
+        RedirectKind::Page => 0,
+        RedirectKind::Exact => 1,
+        RedirectKind::CleanToHtml => 2,
+        RedirectKind::HtmlToClean => 3,
+    }
 }
