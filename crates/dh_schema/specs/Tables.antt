@@ -22,6 +22,10 @@ integer = needed Integer
 abbrev pub meta_table : Table
 meta_table = keyed_table (codes "meta") [] (integer (codes "schema") ∷ [])
 
+abbrev pub redirect_table : Table
+redirect_table = keyed_table (codes "redirect") (1 ∷ 2 ∷ [])
+    (text (codes "host") ∷ integer (codes "place") ∷ integer (codes "kind") ∷ integer (codes "status") ∷ integer (codes "force") ∷ text (codes "source") ∷ text (codes "target") ∷ [])
+
 abbrev pub project_table : Table
 project_table = keyed_table (codes "project") (1 ∷ [])
     (text (codes "host") ∷ text (codes "main") ∷ text (codes "branch") ∷ text (codes "wkey") ∷ integer (codes "private") ∷ [])
@@ -65,6 +69,7 @@ lists_of db = record {
   picks = records_of coding.picks (codes "pick") db;
   passes = records_of coding.passes (codes "pass") db;
   held = records_of coding.held (codes "holds") db;
+  redirects = records_of coding.redirects (codes "redirect") db;
 }
 
 -- The database has our tables, among those of others, and each of their rows stands for a record
@@ -80,4 +85,5 @@ pub record Holds (db : Database) : Type 0 where
   pub picks : Keeps pick_table coding.picks db
   pub passes : Keeps pass_table coding.passes db
   pub held : Keeps holds_table coding.held db
+  pub redirects : Keeps redirect_table coding.redirects db
   pub typed : AreTyped (lists_of db)
