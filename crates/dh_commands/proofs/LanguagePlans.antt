@@ -10,7 +10,7 @@ use Rattle.dh_world.specs.declared.answer.Answer.TheVariants.{Done}
 use Rattle.dh_world.specs.declared.refusal.Refusal.TheVariants.{LangTaken, TooMany}
 use Rattle.dh_commands.specs.Edits.{Plans}
 use Rattle.dh_commands.specs.Knowing.{Knows}
-use Rattle.dh_commands.specs.declared.checked.CheckedChange.TheVariants as change
+use Rattle.dh_checks.specs.declared.checked.CheckedChange.TheVariants as change
 use Rattle.dh_commands.specs.declared.edits.Edit.TheVariants.{AddLang}
 use Rattle.dh_commands.specs.declared.facts.Facts.{Facts}
 

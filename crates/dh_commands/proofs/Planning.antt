@@ -9,9 +9,9 @@ use Rattle.dh_world.specs.declared.refusal.Refusal.{Refusal}
 use Rattle.dh_commands.specs.Edits.{edited, all_edited, MayEditAll, Plans, Makes}
 use Rattle.dh_commands.specs.Knowing.{Answers, Knows, Decides}
 use Rattle.dh_commands.specs.Planned.{Planned}
-use Rattle.dh_commands.specs.Commands.{has_right_key, asked_by}
+use Rattle.dh_commands.specs.Asking.{has_right_key, asked_by}
 use Rattle.dh_commands.specs.Questions.{Asked, nothing}
-use Rattle.dh_commands.specs.declared.checked.CheckedChange.{CheckedChange}
+use Rattle.dh_checks.specs.declared.checked.CheckedChange.{CheckedChange}
 use Rattle.dh_commands.specs.declared.edits.Edit.{Edit}
 use Rattle.dh_commands.specs.declared.facts.Facts.{Facts}
 

@@ -16,9 +16,9 @@ use Rattle.dh_world.specs.declared.refusal.Refusal.TheVariants.{WrongKey, SlugTa
 use Rattle.dh_commands.specs.Edits.{Plans}
 use Rattle.dh_commands.specs.Knowing.{Answers, Knows}
 use Rattle.dh_commands.specs.Plans.{pushed_version, plan_made, plan_known}
-use Rattle.dh_commands.specs.Commands.{asked_by}
-use Rattle.dh_commands.specs.declared.checked.CheckedChange.TheVariants as change
-use Rattle.dh_commands.specs.declared.checked.CheckedPush.{CheckedPush}
+use Rattle.dh_commands.specs.Asking.{asked_by}
+use Rattle.dh_checks.specs.declared.checked.CheckedChange.TheVariants as change
+use Rattle.dh_checks.specs.declared.checked.CheckedPush.{CheckedPush}
 use Rattle.dh_commands.specs.declared.facts.Facts.{Facts}
 use Rattle.dh_commands.proofs.Planning.{answered, is_asked, same_slug}
 

@@ -14,8 +14,8 @@ use Rattle.dh_world.specs.declared.refusal.Refusal.TheVariants.{BadPlace, TooMan
 use Rattle.dh_commands.specs.Edits.{all_edited, MayEditAll, Plans}
 use Rattle.dh_commands.specs.Knowing.{Knows}
 use Rattle.dh_commands.specs.Plans.{redirects_put, plan_added, plan_dropped}
-use Rattle.dh_commands.specs.declared.checked.CheckedChange.TheVariants as change
-use Rattle.dh_commands.specs.declared.checked.CheckedRedirect.{CheckedRedirect}
+use Rattle.dh_checks.specs.declared.checked.CheckedChange.TheVariants as change
+use Rattle.dh_checks.specs.declared.checked.CheckedRedirect.{CheckedRedirect}
 use Rattle.dh_commands.specs.declared.edits.Edit.TheVariants.{DropLastRedirect}
 use Rattle.dh_commands.specs.declared.facts.Facts.{Facts}
 use Rattle.dh_commands.proofs.Planning.{edited_twice, may_twice}

@@ -15,9 +15,9 @@ use Rattle.dh_world.specs.declared.refusal.Refusal.TheVariants.{WrongKey, NoVers
 use Rattle.dh_commands.specs.Edits.{edited, all_edited, is_active, MayEditAll, Plans}
 use Rattle.dh_commands.specs.Knowing.{Answers, Knows}
 use Rattle.dh_commands.specs.Plans.{pages_put, pages_cleared, upload_answered, plan_stored}
-use Rattle.dh_commands.specs.Commands.{asked_by}
-use Rattle.dh_commands.specs.declared.checked.CheckedChange.TheVariants as change
-use Rattle.dh_commands.specs.declared.checked.CheckedUpload.{CheckedUpload}
+use Rattle.dh_commands.specs.Asking.{asked_by}
+use Rattle.dh_checks.specs.declared.checked.CheckedChange.TheVariants as change
+use Rattle.dh_checks.specs.declared.checked.CheckedUpload.{CheckedUpload}
 use Rattle.dh_commands.specs.declared.edits.Edit.{Edit}
 use Rattle.dh_commands.specs.declared.edits.Edit.TheVariants.{PutPage}
 use Rattle.dh_commands.specs.declared.facts.Facts.{Facts}

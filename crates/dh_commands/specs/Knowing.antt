@@ -8,13 +8,14 @@ use Rattle.dh_redirects.specs.Redirects.{first_fault}
 use Rattle.dh_world.specs.Changes.{change}
 use Rattle.dh_world.specs.World.{Project}
 use Rattle.dh_world.specs.declared.refusal.Refusal.{Refusal}
-use Rattle.dh_commands.specs.Commands.{change_of, asked}
+use Rattle.dh_checks.specs.Commands.{change_of}
+use Rattle.dh_commands.specs.Asking.{asked}
 use Rattle.dh_commands.specs.Edits.{Plans}
 use Rattle.dh_commands.specs.Planned.{Planned}
 use Rattle.dh_commands.specs.Questions.{Asked}
-use Rattle.dh_commands.specs.declared.checked.CheckedChange.{CheckedChange}
+use Rattle.dh_checks.specs.declared.checked.CheckedChange.{CheckedChange}
 use Rattle.dh_commands.specs.declared.facts.Facts.{Facts}
-use Rattle.dh_commands.specs.declared.facts.ProjectSettings.{ProjectSettings}
+use Rattle.dh_checks.specs.declared.checked.ProjectSettings.{ProjectSettings}
 
 -- the settings are this project's
 pub record HasSettings (p : Project) (s : ProjectSettings) : Type 0 where

@@ -1,7 +1,7 @@
 pub mod KeptAnswer
 pub mod Planned
 pub mod Questions
-pub mod Commands
+pub mod Asking
 pub mod Edits
 pub mod Knowing
 pub mod Plans

@@ -14,15 +14,15 @@ use Rattle.dh_world.specs.declared.operation.Operation.TheVariants as operation
 use Rattle.dh_world.specs.declared.pages.UploadedPage.{UploadedPage}
 use Rattle.dh_world.specs.declared.refusal.Refusal.{Refusal}
 use Rattle.dh_world.specs.declared.refusal.Refusal.TheVariants.{NoVersion, Inactive, NoPass}
-use Rattle.dh_commands.specs.Commands.{change_of}
+use Rattle.dh_checks.specs.Commands.{change_of}
 use Rattle.dh_commands.specs.Planned.{Planned}
-use Rattle.dh_commands.specs.declared.checked.CheckedChange.{CheckedChange}
-use Rattle.dh_commands.specs.declared.checked.CheckedPush.{CheckedPush}
-use Rattle.dh_commands.specs.declared.checked.CheckedUpload.{CheckedUpload}
-use Rattle.dh_commands.specs.declared.checked.NewProject.{NewProject}
+use Rattle.dh_checks.specs.declared.checked.CheckedChange.{CheckedChange}
+use Rattle.dh_checks.specs.declared.checked.CheckedPush.{CheckedPush}
+use Rattle.dh_checks.specs.declared.checked.CheckedUpload.{CheckedUpload}
+use Rattle.dh_checks.specs.declared.checked.NewProject.{NewProject}
 use Rattle.dh_commands.specs.declared.edits.Edit.{Edit}
 use Rattle.dh_commands.specs.declared.edits.Edit.TheVariants.{PutVersion, PutWithoutPages, PutPage, RemovePages, PutRedirect, DropLastRedirect, PutAnswer}
-use Rattle.dh_commands.specs.declared.facts.ProjectSettings.{ProjectSettings}
+use Rattle.dh_checks.specs.declared.checked.ProjectSettings.{ProjectSettings}
 
 -- ---- where the host has no project
 

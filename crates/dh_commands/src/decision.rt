@@ -1,12 +1,13 @@
 //! What each command asks of its project, and what it does with what was found.
 ghost use Rattle.std.specs.Prelude.{◌≡◌};
-ghost use Rattle.dh_commands.specs.Commands as spec;
+ghost use Rattle.dh_commands.specs.Asking as spec;
 ghost use Rattle.dh_commands.specs.Knowing.{Decides};
 ghost use Rattle.dh_commands.specs.Questions.{seen_questions};
 
-use crate::checked::CheckedChange;
+use dh_checks::CheckedChange;
 use crate::defaults::{remove_version, set_default};
-use crate::facts::{Facts, ProjectSettings};
+use crate::facts::Facts;
+use dh_checks::ProjectSettings;
 use crate::passes::{add_pass, drop_pass, grant, revoke};
 use crate::plan::Plan;
 use crate::projects::add_lang;

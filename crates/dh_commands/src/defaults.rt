@@ -5,7 +5,7 @@ ghost use Rattle.dh_world.specs.Seen as names;
 ghost use Rattle.dh_commands.specs.Knowing.{Decides};
 ghost use Rattle.dh_commands.specs.Plans.{wrong_default};
 
-use crate::checked::CheckedChange;
+use dh_checks::CheckedChange;
 use crate::edits::Edit;
 use crate::facts::Facts;
 use crate::plan::Plan;

@@ -1,5 +1,5 @@
 //! The changes of a project that plans are made of.
-use crate::checked::CheckedPage;
+use dh_checks::CheckedPage;
 use dh_paths::{Lang, Slug, Token};
 use dh_redirects::Redirect;
 use dh_versions::Version;

@@ -1,19 +1,9 @@
 //! What is known of a project.
-use dh_paths::{Lang, RefName, Slug, Token};
+use dh_checks::ProjectSettings;
+use dh_paths::{Lang, Slug};
 use dh_redirects::Redirect;
 use dh_versions::Version;
 use dh_world::Answer;
-
-/// A project's own parts, without its lists.
-#[derive(Drop)]
-pub struct ProjectSettings {
-    /// The name of the default branch.
-    pub branch: RefName,
-    /// Whether a new version is private.
-    pub new_private: bool,
-    /// The key that pushes and uploads carry.
-    pub wkey: Token,
-}
 
 /// What was found of the project of a command: the answers to its questions. Where it does not ask,
 /// there is none: `None`, an empty list, false or 0.

@@ -3,7 +3,7 @@ ghost use Rattle.std.specs.Prelude.{◌≡◌};
 ghost use Rattle.dh_commands.specs.Knowing.{Decides};
 ghost use Rattle.dh_commands.specs.Plans.{missing_for_grant};
 
-use crate::checked::CheckedChange;
+use dh_checks::CheckedChange;
 use crate::edits::Edit;
 use crate::facts::Facts;
 use crate::plan::Plan;

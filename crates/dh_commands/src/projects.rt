@@ -5,7 +5,7 @@ ghost use Rattle.std.specs.Str.{bytes_eq};
 ghost use Rattle.dh_commands.specs.Knowing.{Decides};
 ghost use Rattle.dh_commands.specs.Plans.{Opens};
 
-use crate::checked::{CheckedChange, NewProject};
+use dh_checks::{CheckedChange, NewProject};
 use crate::edits::Edit;
 use crate::facts::Facts;
 use crate::plan::Plan;

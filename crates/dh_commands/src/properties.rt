@@ -6,7 +6,7 @@ ghost use Rattle.dh_commands.specs.Edits.{Makes};
 ghost use Rattle.dh_commands.specs.Knowing.{Decides};
 ghost use Rattle.dh_commands.specs.Plans.{plan_deactivated};
 
-use crate::checked::CheckedChange;
+use dh_checks::CheckedChange;
 use crate::edits::Edit;
 use crate::facts::Facts;
 use crate::plan::Plan;

@@ -7,9 +7,10 @@ ghost use Rattle.dh_commands.specs.Edits.{Makes};
 ghost use Rattle.dh_commands.specs.Knowing.{Decides};
 ghost use Rattle.dh_commands.specs.Plans.{pushed_version, push_answered, plan_made, plan_known};
 
-use crate::checked::{CheckedChange, CheckedPush};
+use dh_checks::{CheckedChange, CheckedPush};
 use crate::edits::{Edit, FirstAnswer};
-use crate::facts::{Facts, ProjectSettings};
+use crate::facts::Facts;
+use dh_checks::ProjectSettings;
 use crate::plan::Plan;
 use crate::questions::is_write_key;
 use dh_paths::RefName;

@@ -4,7 +4,7 @@ ghost use Rattle.std.specs.Str.{bytes_eq};
 ghost use Rattle.dh_commands.specs.Questions as spec;
 
 use crate::defaults::is_alias;
-use crate::facts::ProjectSettings;
+use dh_checks::ProjectSettings;
 use dh_paths::{Slug, Token};
 use dh_world::Operation;
 

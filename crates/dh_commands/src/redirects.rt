@@ -4,7 +4,7 @@ ghost use Rattle.dh_world.specs.Changes as spec;
 ghost use Rattle.dh_commands.specs.Knowing.{Decides};
 ghost use Rattle.dh_commands.specs.Plans.{redirects_put, plan_added, plan_dropped};
 
-use crate::checked::{CheckedChange, CheckedRedirect};
+use dh_checks::{CheckedChange, CheckedRedirect};
 use crate::edits::Edit;
 use crate::facts::Facts;
 use crate::plan::Plan;

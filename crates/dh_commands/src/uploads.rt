@@ -3,7 +3,7 @@ ghost use Rattle.std.specs.Prelude.{◌≡◌, ◌++◌, IfOk, OnOk};
 ghost use Rattle.dh_commands.specs.Knowing.{Decides};
 ghost use Rattle.dh_commands.specs.Plans.{pages_put, plan_stored};
 
-use crate::checked::{CheckedChange, CheckedPage, CheckedUpload};
+use dh_checks::{CheckedChange, CheckedPage, CheckedUpload};
 use crate::edits::{Edit, FirstAnswer};
 use crate::facts::Facts;
 use crate::plan::Plan;

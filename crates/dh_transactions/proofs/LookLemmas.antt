@@ -8,10 +8,10 @@ use Rattle.std.proofs.lemmas.Bool.{and_parts}
 use Rattle.std.proofs.lemmas.List.{length-map}
 use Rattle.std.proofs.lemmas.Slice.Eq.{bytes_eq-Decides}
 use Rattle.sqlite_keyed.proofs.ListLemmas.{all-filter, all_map}
-use Rattle.dh_commands.specs.Commands.{asked}
+use Rattle.dh_commands.specs.Asking.{asked}
 use Rattle.dh_commands.specs.Knowing.{HasSettings, Answers}
 use Rattle.dh_commands.specs.Questions.{seen_questions}
-use Rattle.dh_commands.specs.declared.checked.CheckedChange.{CheckedChange}
+use Rattle.dh_checks.specs.declared.checked.CheckedChange.{CheckedChange}
 use Rattle.dh_commands.specs.declared.facts.Facts.{Facts}
 use Rattle.dh_commands.specs.declared.questions.Questions.{Questions}
 use Rattle.dh_paths.specs.Slugs.{slug_from}

@@ -3,10 +3,10 @@ use Rattle.std.proofs.Common.{◌≡◌, false, map, find, Option, Some, None, O
 use Rattle.std.specs.List.{list_any}
 use Rattle.std.specs.Str.{bytes_eq}
 use Rattle.std.specs.FinMap.{get}
-use Rattle.dh_commands.specs.Commands.{command_of}
+use Rattle.dh_checks.specs.Commands.{command_of}
 use Rattle.dh_commands.specs.Plans.{Opens}
-use Rattle.dh_commands.specs.declared.checked.CheckedChange.{CheckedChange}
-use Rattle.dh_commands.specs.declared.checked.NewProject.{NewProject}
+use Rattle.dh_checks.specs.declared.checked.CheckedChange.{CheckedChange}
+use Rattle.dh_checks.specs.declared.checked.NewProject.{NewProject}
 use Rattle.sqlite_keyed.proofs.ListLemmas.{filter_none}
 use Rattle.dh_rows.specs.Keyed.{IsFreeKey}
 use Rattle.dh_records.proofs.ChangeLemmas.{world_with_project}

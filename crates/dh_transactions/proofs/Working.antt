@@ -2,10 +2,10 @@
 use Rattle.std.proofs.Common.{◌≡◌, ◌⊎◌, Some, Result, Ok, Err, refl, sym, ap, ◌∙◌, subst, inl, inr}
 use Rattle.std.specs.Result.{IsErrAnd}
 use Rattle.std.proofs.lemmas.Result.{err_from_is_err_and}
-use Rattle.dh_commands.specs.Commands.{change_of, command_of}
+use Rattle.dh_checks.specs.Commands.{change_of, command_of}
 use Rattle.dh_commands.specs.Knowing.{Decides}
 use Rattle.dh_commands.specs.Planned.{Planned}
-use Rattle.dh_commands.specs.declared.checked.CheckedChange.{CheckedChange}
+use Rattle.dh_checks.specs.declared.checked.CheckedChange.{CheckedChange}
 use Rattle.dh_commands.specs.declared.facts.Facts.{Facts}
 use Rattle.dh_records.specs.Lists.{Lists, world_of}
 use Rattle.dh_transactions.proofs.EditLemmas.{all_may, all_spell}

@@ -8,9 +8,9 @@ use Rattle.dh_redirects.specs.Redirects.{first_fault}
 use Rattle.dh_redirects.specs.declared.redirect.Redirect.{Redirect}
 use Rattle.dh_versions.specs.declared.version.Version.{Version}
 use Rattle.dh_commands.specs.Knowing.{HasSettings, Knows}
-use Rattle.dh_commands.specs.declared.checked.CheckedChange.{CheckedChange}
+use Rattle.dh_checks.specs.declared.checked.CheckedChange.{CheckedChange}
 use Rattle.dh_commands.specs.declared.facts.Facts.{Facts}
-use Rattle.dh_commands.specs.declared.facts.ProjectSettings.{ProjectSettings}
+use Rattle.dh_checks.specs.declared.checked.ProjectSettings.{ProjectSettings}
 use Rattle.dh_commands.specs.declared.questions.RetryKey.{RetryKey}
 use Rattle.dh_records.specs.Lists.{Lists, world_of}
 use Rattle.dh_world.specs.World.{Text, Project, UsedKey, op_code}

@@ -6,7 +6,8 @@ ghost use Rattle.dh_rows.specs.Calls.{IsHonest};
 ghost use Rattle.dh_transactions.specs.Going.{Makes, records};
 ghost use Rattle.dh_transactions.specs.RowEdits.{RowsMay, RowsMayAll, rows_edited, all_rows_edited, with_version, without_version, without_pages, without_grants_on, with_defaults};
 
-use dh_commands::{CheckedPage, Edit, FirstAnswer};
+use dh_checks::CheckedPage;
+use dh_commands::{Edit, FirstAnswer};
 use dh_paths::{Bytes, HostName, Lang, Slug, Text, Token};
 use dh_redirects::Redirect;
 use dh_reply::Page;

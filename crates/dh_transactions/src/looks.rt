@@ -7,7 +7,8 @@ ghost use Rattle.dh_schema.specs.Calling.{Learns};
 ghost use Rattle.dh_transactions.specs.Going.{Asks};
 ghost use Rattle.dh_transactions.specs.Sound.{AreSound};
 
-use dh_commands::{CheckedChange, Facts, ProjectSettings, RetryKey, questions_of};
+use dh_checks::{CheckedChange, ProjectSettings};
+use dh_commands::{Facts, RetryKey, questions_of};
 use dh_paths::{HostName, Lang, Slug, Token};
 use dh_redirects::Redirect;
 use dh_tables::{LangRow, PickRow, ProjectRow, RedirectRow, Tables};

@@ -1,7 +1,7 @@
 //! Making a project where the host has none.
 ghost use Rattle.std.specs.Prelude.{◌≡◌, true, false, None, IfOk, OnOk};
 ghost use Rattle.std.specs.FinMap.{get};
-ghost use Rattle.dh_commands.specs.Commands.{command_of};
+ghost use Rattle.dh_checks.specs.Commands.{command_of};
 ghost use Rattle.dh_rows.specs.Calls.{IsHonest, Goes};
 ghost use Rattle.dh_rows.specs.Keyed.{IsFreeKey};
 ghost use Rattle.dh_records.specs.Codings as coding;
@@ -11,7 +11,8 @@ ghost use Rattle.dh_transactions.specs.Going.{Makes, Stays, records};
 ghost use Rattle.dh_transactions.specs.Opening.{project_row, main_lang, with_row, with_lang, with_project};
 ghost use Rattle.dh_transactions.specs.Sound.{AreSound, Turns};
 
-use dh_commands::{CheckedChange, NewProject, ProjectSettings, open};
+use dh_checks::{CheckedChange, NewProject, ProjectSettings};
+use dh_commands::open;
 use dh_paths::{HostName, Lang};
 use dh_tables::{LangRow, ProjectRow, Tables};
 use dh_world::{Answer, Refusal};

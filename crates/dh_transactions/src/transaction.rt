@@ -2,7 +2,7 @@
 ghost use Rattle.std.specs.Prelude.{◌≡◌, ◌⊎◌, true, false, Ok, Err, IfOk, IfErr, OnOk};
 ghost use Rattle.sqlite.specs.Held.{state};
 ghost use Rattle.sqlite.specs.State.{HasCleanDisk};
-ghost use Rattle.dh_commands.specs.Commands.{command_of};
+ghost use Rattle.dh_checks.specs.Commands.{command_of};
 ghost use Rattle.dh_rows.specs.Calls.{IsHonest, LeavesNoMore, Goes};
 ghost use Rattle.dh_world.specs.Checks.{IsSetAside};
 ghost use Rattle.dh_transactions.specs.Crashes.{LeavesEnd, LeavesStep};
@@ -12,7 +12,8 @@ ghost use Rattle.dh_transactions.specs.Sound.{AreSound, Turns, Steps};
 use crate::edits::make_edits;
 use crate::looks::look;
 use crate::opening::open_project;
-use dh_commands::{CheckedChange, CheckedCommand, Plan, check, decide};
+use dh_checks::{CheckedChange, CheckedCommand, check};
+use dh_commands::{Plan, decide};
 use dh_paths::HostName;
 use dh_tables::Tables;
 use dh_world::{Answer, Command, Refusal};

@@ -3,7 +3,7 @@ use Rattle.std.proofs.Common.{◌≡◌, Result, sym, subst}
 use Rattle.dh_world.specs.declared.refusal.Refusal.{Refusal}
 use Rattle.dh_commands.specs.Knowing.{Decides}
 use Rattle.dh_commands.specs.Planned.{Planned}
-use Rattle.dh_commands.specs.declared.checked.CheckedChange.{CheckedChange}
+use Rattle.dh_checks.specs.declared.checked.CheckedChange.{CheckedChange}
 use Rattle.dh_commands.specs.declared.facts.Facts.{Facts}
 use Rattle.dh_commands.proofs.decision.decide.Goals as goal
 

@@ -1,7 +1,7 @@
 use Rattle.std.proofs.Common.{◌∙◌, sym, inr, Ok}
 use Rattle.dh_commands.proofs.Planning.{plans_by, decides_by}
 use Rattle.dh_commands.proofs.PushPlans.{again, taken, knows}
-use Rattle.dh_commands.specs.declared.checked.CheckedChange.TheVariants as CheckedChange
+use Rattle.dh_checks.specs.declared.checked.CheckedChange.TheVariants as CheckedChange
 use Rattle.dh_commands.proofs.pushes.push.Goals as goal
 
 pub returns-in-Some : goal.returns-in-Some

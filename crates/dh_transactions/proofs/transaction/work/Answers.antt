@@ -1,5 +1,5 @@
 use Rattle.std.proofs.Common.{◌∙◌, Ok, sym, ap, subst}
-use Rattle.dh_commands.specs.Commands.{command_of}
+use Rattle.dh_checks.specs.Commands.{command_of}
 use Rattle.dh_commands.specs.Knowing.{Decides}
 use Rattle.dh_commands.specs.Planned.{Planned}
 use Rattle.dh_records.specs.Lists.{Lists}

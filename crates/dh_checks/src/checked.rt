@@ -4,12 +4,22 @@ ghost use Rattle.std.proofs.Props.{props};
 ghost use Rattle.dh_paths.specs.Slugs.{slug_from};
 ghost use Rattle.dh_redirects.specs.Redirects.{first_fault};
 
-use crate::facts::ProjectSettings;
 use dh_paths::{HostName, Lang, PagePath, RefName, Slug, Token};
 use dh_redirects::Redirect;
 use dh_versions::Kind;
 use dh_world::{Property, UploadedPage};
 use std::marker::Model;
+
+/// A project's own parts, without its lists.
+#[derive(Drop)]
+pub struct ProjectSettings {
+    /// The name of the default branch.
+    pub branch: RefName,
+    /// Whether a new version is private.
+    pub new_private: bool,
+    /// The key that pushes and uploads carry.
+    pub wkey: Token,
+}
 
 /// A project to be made.
 #[derive(Drop)]

@@ -1,7 +1,5 @@
--- The change that a checked one is of, and what it asks of the project of its host.
-use Rattle.std.specs.Prelude.{◌≡◌, ◌≤◌, Bool, true, if◌then◌else◌, List, [], ◌∷◌, length, Option, Some, Result}
-use Rattle.std.specs.Str.{bytes_eq}
-use Rattle.dh_world.specs.Changes.{push_key, upload_key}
+-- The change that a checked one is of, and which command is one whose texts are right.
+use Rattle.std.specs.Prelude.{◌≡◌, ◌≤◌, List, [], ◌∷◌, length, Option, Result}
 use Rattle.dh_world.specs.Checks.{Checks}
 use Rattle.dh_world.specs.Refusals.{first_of}
 use Rattle.dh_world.specs.Texts.{bad_count, bad_pages, bad_change, bad_text}
@@ -13,11 +11,9 @@ use Rattle.dh_world.specs.declared.property.Property.{Property}
 use Rattle.dh_world.specs.declared.property.Property.TheVariants as property
 use Rattle.dh_world.specs.declared.pages.UploadedPage.{UploadedPage}
 use Rattle.dh_world.specs.declared.refusal.Refusal.{Refusal}
-use Rattle.dh_commands.specs.Questions.{Asked, nothing, version_named}
-use Rattle.dh_commands.specs.declared.checked.CheckedChange.{CheckedChange}
-use Rattle.dh_commands.specs.declared.checked.CheckedCommand.{CheckedCommand}
-use Rattle.dh_commands.specs.declared.checked.CheckedChange.TheVariants.{NewProject, AddLang, Push, Upload, SetProperty, Deactivate, Gone, SetDefault, AddRedirect, DropRedirect, AddPass, DropPass, Grant, Revoke}
-use Rattle.dh_commands.specs.declared.facts.ProjectSettings.{ProjectSettings}
+use Rattle.dh_checks.specs.declared.checked.CheckedChange.{CheckedChange}
+use Rattle.dh_checks.specs.declared.checked.CheckedCommand.{CheckedCommand}
+use Rattle.dh_checks.specs.declared.checked.CheckedChange.TheVariants.{NewProject, AddLang, Push, Upload, SetProperty, Deactivate, Gone, SetDefault, AddRedirect, DropRedirect, AddPass, DropPass, Grant, Revoke}
 
 -- ---- the change
 
@@ -48,35 +44,6 @@ change_of (Revoke pass slug) = change.Revoke pass slug
 -- the command that asks for this change under a host
 abbrev pub command_of : Text → CheckedChange → Command
 command_of host c = record { host = host; change = change_of c }
-
--- ---- what it asks
-
--- what it asks where its write key is right
-abbrev pub asked_by : CheckedChange → Asked
-asked_by (NewProject x) = nothing
-asked_by (AddLang lang) = record nothing { languages = true }
-asked_by (Push x) = record nothing { version = Some x.slug; retry_key = Some (push_key x.slug x.key) }
-asked_by (Upload x) = record nothing { version = Some x.slug; retry_key = Some (upload_key x.slug x.key); languages = true }
-asked_by (SetProperty slug property) = record nothing { version = Some slug }
-asked_by (Deactivate slug) = record nothing { version = Some slug }
-asked_by (Gone slug) = record nothing { version = Some slug; defaults = true }
-asked_by (SetDefault name) = record nothing { version = version_named name; defaults = true }
-asked_by (AddRedirect x) = record nothing { redirects = true }
-asked_by (DropRedirect place) = record nothing { redirects = true }
-asked_by (AddPass pass) = record nothing { pass = Some pass; pass_count = true }
-asked_by (DropPass pass) = record nothing { pass = Some pass }
-asked_by (Grant pass slug) = record nothing { version = Some slug; pass = Some pass }
-asked_by (Revoke pass slug) = record nothing { version = Some slug; pass = Some pass }
-
--- a command that carries a write key has the project's
-abbrev pub has_right_key : CheckedChange → ProjectSettings → Bool
-has_right_key (Push x) s = bytes_eq x.wkey s.wkey
-has_right_key (Upload x) s = bytes_eq x.wkey s.wkey
-has_right_key _ s = true
-
--- what it asks of a project with these settings: with a wrong write key nothing
-abbrev pub asked : CheckedChange → ProjectSettings → Asked
-asked c s = if has_right_key c s then asked_by c else nothing
 
 -- ---- checks
 

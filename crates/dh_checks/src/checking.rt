@@ -1,10 +1,10 @@
 //! The checks of a command that look at its texts alone.
-ghost use Rattle.dh_commands.specs.Commands.{ChecksChange, ChecksCommand, setting};
+ghost use Rattle.dh_checks.specs.Commands.{ChecksChange, ChecksCommand, setting};
 
 use crate::checked::{
     CheckedChange, CheckedCommand, CheckedPush, CheckedRedirect, CheckedUpload, NewProject,
+    ProjectSettings,
 };
-use crate::facts::ProjectSettings;
 use crate::pages::check_pages;
 use crate::texts::{
     host_in, lang_in, redirect_in, ref_in, retry_key_in, slug_in, slug_in_name, token_in,

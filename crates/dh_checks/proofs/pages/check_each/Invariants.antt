@@ -1,6 +1,6 @@
 use Rattle.std.proofs.Common.{◌≡◌, [], take, drop}
 use Rattle.dh_world.specs.Texts.{bad_pages}
-use Rattle.dh_commands.proofs.pages.check_each.Given as goal
+use Rattle.dh_checks.proofs.pages.check_each.Given as goal
 
 abbrev pub invariant-loop-i : goal.invariant-loop-i
 invariant-loop-i l = record {

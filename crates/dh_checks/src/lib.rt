@@ -1,0 +1,15 @@
+//! Commands whose texts are values of their types, or the refusal of the first that is none.
+//!
+//! Nothing here knows a project or a store: what a command asks for is decided in the layers above.
+#![tactic(auto)]
+
+pub mod checked;
+mod checking;
+mod pages;
+mod texts;
+
+pub use checked::{
+    CheckedChange, CheckedCommand, CheckedPage, CheckedPush, CheckedRedirect, CheckedUpload,
+    NewProject, ProjectSettings,
+};
+pub use checking::check;
