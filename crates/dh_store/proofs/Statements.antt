@@ -1,5 +1,5 @@
 -- What our statements ask and do.
-use Rattle.std.proofs.Common.{◌≡◌, ℕ, ℤ, pos, List, [], ◌∷◌, map, filter, not, codes, Some, refl, subst, ◌∙◌}
+use Rattle.std.proofs.Common.{◌≡◌, ℕ, ℤ, pos, List, [], ◌∷◌, map, filter, nat_eq, not, codes, Some, refl, subst, ◌∙◌}
 use Rattle.std.specs.List.{AllByRecursion}
 use Rattle.std.specs.Str.{bytes_eq}
 use Rattle.sqlite_value.specs.declared.value.Value.TheVariants.{Null, Int, Text}
@@ -15,7 +15,7 @@ use Rattle.dh_rows.proofs.Effects.{IsSimple, Turns}
 use Rattle.dh_rows.proofs.Texts.{ArePlain}
 use Rattle.dh_rows.proofs.Read.{delete_of, select_of, parameters_in, insert_of}
 use Rattle.dh_rows.proofs.Asks.{Writes, Answers, delete, insert, upsert, select}
-use Rattle.dh_rows.proofs.Equal.{tied_is, alike_text, equal_text as same_text}
+use Rattle.dh_rows.proofs.Equal.{tied_is, alike_text, alike_int, equal_text as same_text, equal_int as same_int}
 use Rattle.dh_rows.proofs.Upsert.{IsUpsert, puts, IsKeyOf, Fits}
 use Rattle.dh_records.specs.declared.records.ProjectRow.{ProjectRow}
 use Rattle.dh_records.specs.declared.records.LangRow.{LangRow}
@@ -25,14 +25,15 @@ use Rattle.dh_records.specs.declared.records.UsedRow.{UsedRow}
 use Rattle.dh_records.specs.declared.records.PickRow.{PickRow}
 use Rattle.dh_records.specs.declared.records.PassRow.{PassRow}
 use Rattle.dh_records.specs.declared.records.HeldRow.{HeldRow}
+use Rattle.dh_records.specs.declared.records.RedirectRow.{RedirectRow}
 use Rattle.dh_world.specs.declared.operation.Operation.{Operation}
 use Rattle.dh_world.specs.World.{is_upload}
-use Rattle.dh_records.specs.Typed.{IsProject, IsLanguage, IsVersion, IsPage, IsUsed, IsPick, IsPass, IsHeld}
-use Rattle.dh_records.specs.Codings.{projects, langs, versions, pages, used, picks, passes, held}
-use Rattle.dh_schema.specs.Tables.{Holds, lists_of, project_table, lang_table, version_table, page_table, used_table, pick_table, pass_table, holds_table}
-use Rattle.dh_records.specs.Lists.{is_project, is_lang_of, is_version_of, is_version, is_page_of, is_page_in, is_page, is_used, same_op, is_pick_of, is_pass_of, is_pass, is_held, is_held_by, is_held_on}
+use Rattle.dh_records.specs.Typed.{IsProject, IsLanguage, IsVersion, IsPage, IsUsed, IsPick, IsPass, IsHeld, IsRedirect}
+use Rattle.dh_records.specs.Codings.{projects, langs, versions, pages, used, picks, passes, held, redirects}
+use Rattle.dh_schema.specs.Tables.{Holds, lists_of, project_table, lang_table, version_table, page_table, used_table, pick_table, pass_table, holds_table, redirect_table}
+use Rattle.dh_records.specs.Lists.{is_project, is_lang_of, is_version_of, is_version, is_page_of, is_page_in, is_page, is_used, same_op, is_pick_of, is_pass_of, is_pass, is_held, is_held_by, is_held_on, is_redirect_of, is_redirect}
 use Rattle.dh_store.proofs.Kept.{all_kept, all_added, all_put}
-use Rattle.dh_store.proofs.Matching.{equal_text, equal_op, flag_back, kind_back, op_back}
+use Rattle.dh_store.proofs.Matching.{equal_text, equal_place, equal_op, flag_back, kind_back, op_back, redirect_kind_back}
 use Rattle.dh_records.proofs.Keys.{one, two, three, four}
 use Rattle.dh_schema.proofs.CallLemmas.{Changed}
 use Rattle.dh_store.proofs.Others.{changed}
@@ -51,7 +52,7 @@ project_back x n = rw (flag_back x.new_private) refl
 -- the other tables keep their records
 project_changed : (db after : Database) (change : List ProjectRow → List ProjectRow) → ((xs : List ProjectRow) → AllByRecursion IsProject xs → AllByRecursion IsProject (change xs)) → Holds db → Turns project_table projects change db after → Changed db after (λ l. record l { projects = change l.projects })
 unfolding everything
-project_changed db after change typed had it = changed project_table db after it (λ l. record l { projects = change l.projects }) had refl (record { projects = record { keeps = it.keeps; records = it.records; typed = typed _ had.typed.projects }; langs = refl; versions = refl; pages = refl; used = refl; picks = refl; passes = refl; held = refl })
+project_changed db after change typed had it = changed project_table db after it (λ l. record l { projects = change l.projects }) had refl (record { projects = record { keeps = it.keeps; records = it.records; typed = typed _ had.typed.projects }; langs = refl; versions = refl; pages = refl; used = refl; picks = refl; passes = refl; held = refl; redirects = refl })
 
 -- ---- lang
 
@@ -67,7 +68,7 @@ lang_back x n = refl
 -- the other tables keep their records
 lang_changed : (db after : Database) (change : List LangRow → List LangRow) → ((xs : List LangRow) → AllByRecursion IsLanguage xs → AllByRecursion IsLanguage (change xs)) → Holds db → Turns lang_table langs change db after → Changed db after (λ l. record l { langs = change l.langs })
 unfolding everything
-lang_changed db after change typed had it = changed lang_table db after it (λ l. record l { langs = change l.langs }) had refl (record { projects = refl; langs = record { keeps = it.keeps; records = it.records; typed = typed _ had.typed.langs }; versions = refl; pages = refl; used = refl; picks = refl; passes = refl; held = refl })
+lang_changed db after change typed had it = changed lang_table db after it (λ l. record l { langs = change l.langs }) had refl (record { projects = refl; langs = record { keeps = it.keeps; records = it.records; typed = typed _ had.typed.langs }; versions = refl; pages = refl; used = refl; picks = refl; passes = refl; held = refl; redirects = refl })
 
 -- ---- version
 
@@ -83,7 +84,7 @@ version_back x n = rw (kind_back x.version.kind, flag_back x.version.active, fla
 -- the other tables keep their records
 version_changed : (db after : Database) (change : List VersionRow → List VersionRow) → ((xs : List VersionRow) → AllByRecursion IsVersion xs → AllByRecursion IsVersion (change xs)) → Holds db → Turns version_table versions change db after → Changed db after (λ l. record l { versions = change l.versions })
 unfolding everything
-version_changed db after change typed had it = changed version_table db after it (λ l. record l { versions = change l.versions }) had refl (record { projects = refl; langs = refl; versions = record { keeps = it.keeps; records = it.records; typed = typed _ had.typed.versions }; pages = refl; used = refl; picks = refl; passes = refl; held = refl })
+version_changed db after change typed had it = changed version_table db after it (λ l. record l { versions = change l.versions }) had refl (record { projects = refl; langs = refl; versions = record { keeps = it.keeps; records = it.records; typed = typed _ had.typed.versions }; pages = refl; used = refl; picks = refl; passes = refl; held = refl; redirects = refl })
 
 -- ---- page
 
@@ -99,7 +100,7 @@ page_back x n = refl
 -- the other tables keep their records
 page_changed : (db after : Database) (change : List PageRow → List PageRow) → ((xs : List PageRow) → AllByRecursion IsPage xs → AllByRecursion IsPage (change xs)) → Holds db → Turns page_table pages change db after → Changed db after (λ l. record l { pages = change l.pages })
 unfolding everything
-page_changed db after change typed had it = changed page_table db after it (λ l. record l { pages = change l.pages }) had refl (record { projects = refl; langs = refl; versions = refl; pages = record { keeps = it.keeps; records = it.records; typed = typed _ had.typed.pages }; used = refl; picks = refl; passes = refl; held = refl })
+page_changed db after change typed had it = changed page_table db after it (λ l. record l { pages = change l.pages }) had refl (record { projects = refl; langs = refl; versions = refl; pages = record { keeps = it.keeps; records = it.records; typed = typed _ had.typed.pages }; used = refl; picks = refl; passes = refl; held = refl; redirects = refl })
 
 -- ---- used
 
@@ -115,7 +116,7 @@ used_back x n = rw (op_back x.op) refl
 -- the other tables keep their records
 used_changed : (db after : Database) (change : List UsedRow → List UsedRow) → ((xs : List UsedRow) → AllByRecursion IsUsed xs → AllByRecursion IsUsed (change xs)) → Holds db → Turns used_table used change db after → Changed db after (λ l. record l { used = change l.used })
 unfolding everything
-used_changed db after change typed had it = changed used_table db after it (λ l. record l { used = change l.used }) had refl (record { projects = refl; langs = refl; versions = refl; pages = refl; used = record { keeps = it.keeps; records = it.records; typed = typed _ had.typed.used }; picks = refl; passes = refl; held = refl })
+used_changed db after change typed had it = changed used_table db after it (λ l. record l { used = change l.used }) had refl (record { projects = refl; langs = refl; versions = refl; pages = refl; used = record { keeps = it.keeps; records = it.records; typed = typed _ had.typed.used }; picks = refl; passes = refl; held = refl; redirects = refl })
 
 -- ---- pick
 
@@ -131,7 +132,7 @@ pick_back x n = refl
 -- the other tables keep their records
 pick_changed : (db after : Database) (change : List PickRow → List PickRow) → ((xs : List PickRow) → AllByRecursion IsPick xs → AllByRecursion IsPick (change xs)) → Holds db → Turns pick_table picks change db after → Changed db after (λ l. record l { picks = change l.picks })
 unfolding everything
-pick_changed db after change typed had it = changed pick_table db after it (λ l. record l { picks = change l.picks }) had refl (record { projects = refl; langs = refl; versions = refl; pages = refl; used = refl; picks = record { keeps = it.keeps; records = it.records; typed = typed _ had.typed.picks }; passes = refl; held = refl })
+pick_changed db after change typed had it = changed pick_table db after it (λ l. record l { picks = change l.picks }) had refl (record { projects = refl; langs = refl; versions = refl; pages = refl; used = refl; picks = record { keeps = it.keeps; records = it.records; typed = typed _ had.typed.picks }; passes = refl; held = refl; redirects = refl })
 
 -- ---- pass
 
@@ -147,7 +148,7 @@ pass_back x n = refl
 -- the other tables keep their records
 pass_changed : (db after : Database) (change : List PassRow → List PassRow) → ((xs : List PassRow) → AllByRecursion IsPass xs → AllByRecursion IsPass (change xs)) → Holds db → Turns pass_table passes change db after → Changed db after (λ l. record l { passes = change l.passes })
 unfolding everything
-pass_changed db after change typed had it = changed pass_table db after it (λ l. record l { passes = change l.passes }) had refl (record { projects = refl; langs = refl; versions = refl; pages = refl; used = refl; picks = refl; passes = record { keeps = it.keeps; records = it.records; typed = typed _ had.typed.passes }; held = refl })
+pass_changed db after change typed had it = changed pass_table db after it (λ l. record l { passes = change l.passes }) had refl (record { projects = refl; langs = refl; versions = refl; pages = refl; used = refl; picks = refl; passes = record { keeps = it.keeps; records = it.records; typed = typed _ had.typed.passes }; held = refl; redirects = refl })
 
 -- ---- holds
 
@@ -163,7 +164,23 @@ holds_back x n = refl
 -- the other tables keep their records
 holds_changed : (db after : Database) (change : List HeldRow → List HeldRow) → ((xs : List HeldRow) → AllByRecursion IsHeld xs → AllByRecursion IsHeld (change xs)) → Holds db → Turns holds_table held change db after → Changed db after (λ l. record l { held = change l.held })
 unfolding everything
-holds_changed db after change typed had it = changed holds_table db after it (λ l. record l { held = change l.held }) had refl (record { projects = refl; langs = refl; versions = refl; pages = refl; used = refl; picks = refl; passes = refl; held = record { keeps = it.keeps; records = it.records; typed = typed _ had.typed.held } })
+holds_changed db after change typed had it = changed holds_table db after it (λ l. record l { held = change l.held }) had refl (record { projects = refl; langs = refl; versions = refl; pages = refl; used = refl; picks = refl; passes = refl; held = record { keeps = it.keeps; records = it.records; typed = typed _ had.typed.held }; redirects = refl })
+
+-- ---- redirect
+
+redirect_simple : IsSimple redirect_table
+redirect_simple = refl
+
+redirect_plain : ArePlain redirect_table.columns
+redirect_plain = ((refl, refl), ((refl, refl), ((refl, refl), ((refl, refl), ((refl, refl), ((refl, refl), ((refl, refl), tt)))))))
+
+redirect_back : (x : RedirectRow) (n : ℤ) → redirects.decode (Int n ∷ redirects.encode x) ≡ x
+redirect_back x n = rw (redirect_kind_back x.redirect.kind, flag_back x.redirect.force) refl
+
+-- the other tables keep their records
+redirect_changed : (db after : Database) (change : List RedirectRow → List RedirectRow) → ((xs : List RedirectRow) → AllByRecursion IsRedirect xs → AllByRecursion IsRedirect (change xs)) → Holds db → Turns redirect_table redirects change db after → Changed db after (λ l. record l { redirects = change l.redirects })
+unfolding everything
+redirect_changed db after change typed had it = changed redirect_table db after it (λ l. record l { redirects = change l.redirects }) had refl (record { projects = refl; langs = refl; versions = refl; pages = refl; used = refl; picks = refl; passes = refl; held = refl; redirects = record { keeps = it.keeps; records = it.records; typed = typed _ had.typed.redirects } })
 
 abbrev pub project_text : List ℕ
 project_text = codes "SELECT host, main, branch, wkey, private FROM project WHERE host = ?1 ORDER BY host"
@@ -614,3 +631,68 @@ pub held_by_answers : (s : State) → Holds s.now → (host pass : List ℕ) →
 held_by_answers s had host pass =
     select holds_table holds_simple holds_plain held s had.held held_by_text _ _ _ held_by_read _ held_by_count refl (is_held_by host pass) held.encode
     (λ n x. rw (equal_text x.host host, equal_text x.pass pass) (two (bytes_eq x.host host) (bytes_eq x.pass pass))) (λ n x. refl) (λ x y. refl)
+
+-- ---- redirects
+
+abbrev pub redirects_text : List ℕ
+redirects_text = codes "SELECT host, place, kind, status, force, source, target FROM redirect WHERE host = ?1 ORDER BY host, place"
+
+redirects_read : select_of redirect_table redirects_text ≡ Some (0 ∷ 1 ∷ 2 ∷ 3 ∷ 4 ∷ 5 ∷ 6 ∷ [], (0, 0) ∷ [], 0 ∷ 1 ∷ [])
+unfolding everything
+redirects_read = refl
+
+redirects_count : parameters_in redirects_text ≡ Some 1
+unfolding everything
+redirects_count = refl
+
+pub redirects_answers : (s : State) → Holds s.now → (host : List ℕ) → Answers s redirects_text (Text host ∷ []) (map redirects.encode (filter (is_redirect_of host) (lists_of s.now).redirects))
+redirects_answers s had host =
+    select redirect_table redirect_simple redirect_plain redirects s had.redirects redirects_text _ _ _ redirects_read _ redirects_count refl (is_redirect_of host) redirects.encode
+    (λ n x. rw (equal_text x.host host) (one (bytes_eq x.host host))) (λ n x. refl) (λ x y. refl)
+
+redirect_key : IsKeyOf redirect_table (1 ∷ 2 ∷ [])
+redirect_key = record { primary = refl; uniques = refl; apart = refl; own = refl; among = refl }
+
+abbrev pub put_redirect_text : List ℕ
+put_redirect_text = codes "INSERT INTO redirect VALUES (?1, ?2, ?3, ?4, ?5, ?6, ?7) ON CONFLICT (host, place) DO UPDATE SET kind = ?3, status = ?4, force = ?5, source = ?6, target = ?7"
+
+abbrev put_redirect_new : List Term
+put_redirect_new = col 1 0 ∷ col 1 0 ∷ col 1 1 ∷ col 1 2 ∷ col 0 2 ∷ col 0 3 ∷ col 0 4 ∷ col 0 5 ∷ col 0 6 ∷ []
+
+put_redirect_read : (schema : Schema) (tree : ℕ) → IsUpsert schema redirect_table tree put_redirect_text (lit Null ∷ col 0 0 ∷ col 0 1 ∷ col 0 2 ∷ col 0 3 ∷ col 0 4 ∷ col 0 5 ∷ col 0 6 ∷ []) 8 7 put_redirect_new
+unfolding everything
+put_redirect_read schema tree = puts refl refl refl refl refl refl refl refl (λ cx. refl)
+
+put_redirect_fits : (x : RedirectRow) → Fits redirect_table redirects x (1 ∷ 2 ∷ []) 7 put_redirect_new
+unfolding first_key
+put_redirect_fits x = record {
+  back = redirect_back x;
+  kinds = (tt, (tt, (tt, (tt, (tt, (tt, (tt, tt)))))));
+  agrees = λ n m y. rw (same_text y.host x.host, same_int (pos y.place) (pos x.place)) (tied_is (redirects.key x) (redirects.key y));
+  placed = λ id more. refl;
+  shows = λ n more y same.
+      let host = and_parts _ _ (tied_is (redirects.key x) (redirects.key y) ∙ same) in
+      let place = and_parts _ _ host.1 in
+      rw (alike_text y.host x.host host.0, alike_int (pos y.place) (pos x.place) place.0) refl;
+}
+
+pub put_redirect_writes : (s : State) → Holds s.now → (x : RedirectRow) → Writes s put_redirect_text (redirects.encode x) redirect_table redirects (put redirects.key x)
+put_redirect_writes s had x = upsert redirect_table redirect_simple redirect_plain redirects s had.redirects (1 ∷ 2 ∷ []) redirect_key put_redirect_text _ 8 7 put_redirect_new put_redirect_read refl x (put_redirect_fits x) refl
+
+pub put_redirect_changes : (s : State) → Holds s.now → (x : RedirectRow) → IsRedirect x → (after : Database) → Rattle.dh_rows.specs.Calls.Edits s put_redirect_text (redirects.encode x) after
+    → Changed s.now after (λ l. record l { redirects = put redirects.key x l.redirects })
+put_redirect_changes s had x typed after it = redirect_changed s.now after (put redirects.key x) (all_put IsRedirect redirects.key x typed) had ((put_redirect_writes s had x).turns after it)
+
+abbrev pub drop_redirect_text : List ℕ
+drop_redirect_text = codes "DELETE FROM redirect WHERE host = ?1 AND place = ?2"
+
+drop_redirect_read : delete_of redirect_table drop_redirect_text ≡ Some ((0, 0) ∷ (1, 1) ∷ [])
+unfolding everything
+drop_redirect_read = refl
+
+pub drop_redirect_writes : (s : State) → Holds s.now → (host : List ℕ) (place : ℕ) → Writes s drop_redirect_text (Text host ∷ Int (pos place) ∷ []) redirect_table redirects (filter (λ x. not (is_redirect host place x)))
+drop_redirect_writes s had host place = delete redirect_table redirect_simple redirect_plain redirects s had.redirects drop_redirect_text _ drop_redirect_read _ (is_redirect host place) (λ n x. rw (equal_text x.host host, equal_place x.place place) (two (bytes_eq x.host host) (nat_eq x.place place)))
+
+pub drop_redirect_changes : (s : State) → Holds s.now → (host : List ℕ) (place : ℕ) → (after : Database) → Rattle.dh_rows.specs.Calls.Edits s drop_redirect_text (Text host ∷ Int (pos place) ∷ []) after
+    → Changed s.now after (λ l. record l { redirects = filter (λ x. not (is_redirect host place x)) l.redirects })
+drop_redirect_changes s had host place after it = redirect_changed s.now after (filter (λ x. not (is_redirect host place x))) (all_kept IsRedirect _) had ((drop_redirect_writes s had host place).turns after it)

@@ -16,6 +16,7 @@ mod languages;
 mod pages;
 mod passes;
 mod projects;
+mod redirects;
 mod retry_keys;
 mod versions;
 
