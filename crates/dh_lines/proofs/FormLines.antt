@@ -1,20 +1,24 @@
 -- The words of a form are its line.
 use Rattle.std.proofs.Common.{◌≡◌, ◌∙◌, codes, false, true, refl, ap, List, [], ◌∷◌, map, Option}
-use Rattle.std.proofs.Common.{Some, None}
-use Rattle.std.specs.Prelude.{find, option_map}
+use Rattle.std.proofs.Common.{Some, None, ℕ, Bool, ap₂}
+use Rattle.std.specs.Prelude.{find, option_map, option_and_then}
 use Rattle.clap.specs.Walk.{Text, answers_to}
 use Rattle.clap.specs.Simple.{App, Shape, built, built_leaf, inherited, label_of, subcommand_of}
 use Rattle.clap.specs.Faults.{defaults_fault}
 use Rattle.clap.specs.declared.error.kind.ErrorKind.TheVariants.{UnknownArgument, InvalidSubcommand}
+use Rattle.dh_redirects.specs.declared.redirect.RedirectKind.{RedirectKind}
 use Rattle.dh_world.specs.declared.command.CommandChange.{CommandChange}
-use Rattle.dh_words.specs.Words.{is_plain, has_command}
+use Rattle.dh_world.specs.declared.command.CommandChange.TheVariants.{AddRedirect}
+use Rattle.dh_words.specs.Words.{is_plain, ArePlain, has_command}
 use Rattle.dh_words.proofs.NameLemmas.{IsQuiet}
-use Rattle.dh_words.proofs.TokenLemmas.{Token, chosen, text_of, Fits, tokens_rows, tokens_level}
+use Rattle.dh_words.proofs.TokenLemmas.{Token, chosen, written, text_of, Fits, tokens_rows}
+use Rattle.dh_words.proofs.TokenLemmas.{tokens_level}
 use Rattle.dh_words.proofs.FormLemmas.{form_matches, form_fails, stray_fails}
 use Rattle.dh_lines.specs.App.{docs_app, bare_app, version_app, pass_app, grant_app}
+use Rattle.dh_lines.specs.App.{add_redirect_app}
 use Rattle.dh_lines.specs.Lines.{line_in, as_line, asking, order_of, order_in, unless_faulty, Orders}
 use Rattle.dh_lines.specs.Lines.{OrdersOnVersion, OrdersOnPass, OrdersOnGrant}
-use Rattle.dh_lines.specs.declared.lines.Line.{Line}
+use Rattle.dh_lines.specs.Lines.{OrdersRedirectBy, redirect_of, place_of, status_of}
 use Rattle.dh_lines.specs.declared.lines.Order.{Order}
 use Rattle.dh_lines.specs.declared.lines.Order.TheVariants.{Act}
 
@@ -74,6 +78,35 @@ module _ (name : Text) where
   grant_line change found reads host pass slug plain =
       form_line name (chosen host ∷ chosen pass ∷ chosen slug ∷ []) (grant_app name)
       (Act (asking host (change pass slug))) found refl plain refl (reads host pass slug)
+
+module _ (more : List Token) (force : Bool) (word : Text) (kind : RedirectKind) where
+  -- the words behind `add-redirect`
+  abbrev pub words_of : (host place status source target : Text) → List Token
+  words_of host place status source target =
+      chosen host ∷ chosen place ∷ written word ∷ chosen status ∷ chosen source ∷ chosen target
+      ∷ more
+
+  -- what they order, by the numbers that they read as
+  abbrev pub redirect_by : (host source target : Text) → Option ℕ → Option ℕ → Option Order
+  redirect_by host source target place status =
+      option_map Act (option_map (asking host) (option_and_then (λ place.
+      option_map (AddRedirect place)
+      (option_map (λ status. redirect_of kind status source target force) status)) place))
+
+  pub redirect_line : ((host place status source target : Text)
+      → ArePlain (host ∷ place ∷ status ∷ source ∷ target ∷ [])
+      → Fits (words_of host place status source target))
+      → ((host place status source target : Text)
+      → tokens_level (below add_redirect_app) (words_of host place status source target) ≡ [])
+      → ((host place status source target : Text) → order_in (codes "add-redirect")
+      (tokens_rows (below add_redirect_app) (words_of host place status source target))
+      ≡ redirect_by host source target (place_of place) (status_of status))
+      → OrdersRedirectBy (map text_of more) force word kind
+  redirect_line fits passes reads host p s source target place status plain is_place is_status =
+      form_line (codes "add-redirect") (words_of host p s source target) add_redirect_app
+      (Act (asking host (AddRedirect place (redirect_of kind status source target force))))
+      refl refl (fits host p s source target plain) (passes host p s source target)
+      (reads host p s source target ∙ ap₂ (redirect_by host source target) is_place is_status)
 
 pub stray_line : (name : Text) (rest : List Text) → is_plain name ≡ true
     → has_command docs_app name ≡ false → line_in (name ∷ rest) ≡ None

@@ -1,5 +1,5 @@
 -- The words of the program and of a script's line, as `clap` sees them.
-use Rattle.std.specs.Prelude.{true, map, List, [], ◌∷◌, ◌++◌, codes}
+use Rattle.std.specs.Prelude.{true, List, [], ◌∷◌, ◌++◌, codes}
 use Rattle.clap.specs.Walk.{Text}
 use Rattle.clap.specs.Simple.{App, new_app, with_rule}
 use Rattle.dh_words.specs.Apps.{option_rule, flag_rule, form, with_apps}
@@ -56,6 +56,18 @@ pass_apps =
     ∷ grant_app (codes "revoke")
     ∷ []
 
+abbrev pub add_redirect_app : App
+add_redirect_app = with_rule (form (codes "add-redirect")
+    (codes "host" ∷ codes "place" ∷ codes "redirect-kind" ∷ codes "status" ∷ codes "from"
+    ∷ codes "to" ∷ []))
+    (flag_rule (codes "force"))
+
+abbrev pub drop_redirect_app : App
+drop_redirect_app = form (codes "drop-redirect") (codes "host" ∷ codes "place" ∷ [])
+
+abbrev pub redirect_apps : List App
+redirect_apps = add_redirect_app ∷ drop_redirect_app ∷ []
+
 abbrev pub get_app : App
 get_app = with_rule (form (codes "get") (codes "host" ∷ codes "target" ∷ []))
     (option_rule (codes "pass"))
@@ -81,4 +93,5 @@ bare_app = record (new_app (codes "docs_host")) {
 -- the program: the lines of scripts, and what it does with its input
 abbrev pub docs_app : App
 docs_app = with_apps bare_app
-    (project_apps ++ version_apps ++ pass_apps ++ (get_app ∷ script_app ∷ answer_app ∷ []))
+    (project_apps ++ version_apps ++ pass_apps ++ redirect_apps
+    ++ (get_app ∷ script_app ∷ answer_app ∷ []))

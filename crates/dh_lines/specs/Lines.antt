@@ -1,8 +1,12 @@
 -- The line that words are.
 use Rattle.std.specs.Prelude.{◌≡◌, ◌≢◌, Bool, true, false, if◌then◌else◌, List, [], ◌∷◌, Option}
 use Rattle.std.specs.Prelude.{Some, None, option_map, option_and_then, codes, Result, Ok, Err, ⊤}
+use Rattle.std.specs.Prelude.{ℕ, ◌&&◌, ◌^◌, nat_lt, length}
+use Rattle.std.specs.Char.{is_ascii_digit}
+use Rattle.std.specs.List.{list_all}
 use Rattle.std.specs.Option.{option_map_or}
 use Rattle.std.specs.Str.{bytes_eq}
+use Rattle.std.specs.Str.Parse.{digits_value}
 use Rattle.clap.specs.Walk.{Text, Row, first_of}
 use Rattle.clap.specs.Simple.{subcommand_of, subcommand_rows_of}
 use Rattle.clap.specs.Kinds.{Kinds}
@@ -10,6 +14,10 @@ use Rattle.clap.specs.Faults.{fault_of}
 use Rattle.clap.specs.declared.parser.matches.ArgMatches.{ArgMatches}
 use Rattle.dh_versions.specs.declared.version.Kind.{Kind}
 use Rattle.dh_versions.specs.declared.version.Kind.TheVariants.{Branch, Tag}
+use Rattle.dh_redirects.specs.declared.redirect.Redirect.{Redirect}
+use Rattle.dh_redirects.specs.declared.redirect.RedirectKind.{RedirectKind}
+use Rattle.dh_redirects.specs.declared.redirect.RedirectKind.TheVariants.{Page, Exact, CleanToHtml}
+use Rattle.dh_redirects.specs.declared.redirect.RedirectKind.TheVariants.{HtmlToClean}
 use Rattle.dh_world.specs.declared.command.Command.{Command}
 use Rattle.dh_world.specs.declared.command.CommandChange.{CommandChange}
 use Rattle.dh_world.specs.declared.pages.UploadedPage.{UploadedPage}
@@ -18,7 +26,8 @@ use Rattle.dh_world.specs.declared.command.CommandChange.TheVariants.{Upload, Ac
 use Rattle.dh_world.specs.declared.command.CommandChange.TheVariants.{Hide, Unhide, Publish}
 use Rattle.dh_world.specs.declared.command.CommandChange.TheVariants.{MakePrivate, Gone, SetDefault}
 use Rattle.dh_world.specs.declared.command.CommandChange.TheVariants.{AddPass, DropPass, Grant}
-use Rattle.dh_world.specs.declared.command.CommandChange.TheVariants.{Revoke}
+use Rattle.dh_world.specs.declared.command.CommandChange.TheVariants.{Revoke, AddRedirect}
+use Rattle.dh_world.specs.declared.command.CommandChange.TheVariants.{DropRedirect}
 use Rattle.dh_words.specs.Words.{ArePlain}
 use Rattle.dh_lines.specs.App.{docs_app}
 use Rattle.dh_lines.specs.declared.lines.Line.{Line}
@@ -47,6 +56,32 @@ kind_of text =
     if bytes_eq text (codes "branch") then Some Branch
     else if bytes_eq text (codes "tag") then Some Tag
     else None
+
+abbrev pub redirect_kind_of : Text → Option RedirectKind
+redirect_kind_of text =
+    if bytes_eq text (codes "page") then Some Page
+    else if bytes_eq text (codes "exact") then Some Exact
+    else if bytes_eq text (codes "clean-to-html") then Some CleanToHtml
+    else if bytes_eq text (codes "html-to-clean") then Some HtmlToClean
+    else None
+
+-- the number that the text writes, where it is decimal digits alone, at least one, and the number
+-- is below the bound
+abbrev pub number_in : ℕ → Text → Option ℕ
+number_in bound text =
+    if list_all is_ascii_digit text && nat_lt 0 (length text) && nat_lt (digits_value 10 text) bound
+    then Some (digits_value 10 text)
+    else None
+
+abbrev pub place_of : Text → Option ℕ
+place_of text = number_in (2 ^ 32) text
+
+abbrev pub status_of : Text → Option ℕ
+status_of text = number_in (2 ^ 16) text
+
+-- the text that a word stands for: `none` for the empty one, any other for itself
+abbrev pub text_meant : Text → Text
+text_meant word = if bytes_eq word (codes "none") then [] else word
 
 -- ---- what each form asks of the project of its host
 
@@ -134,6 +169,39 @@ revoke_in rows =
     with_word (codes "slug") rows (λ slug.
     Some (Revoke pass slug)))
 
+-- the place of a line
+abbrev pub place_in : List Row → Option ℕ
+place_in rows = with_word (codes "place") rows place_of
+
+abbrev pub redirect_of : RedirectKind → ℕ → Text → Text → Bool → Redirect
+redirect_of kind status source target force = record {
+  kind = kind;
+  source = text_meant source;
+  target = text_meant target;
+  status = status;
+  force = force;
+}
+
+-- the redirect of a line: `KIND STATUS FROM TO [--force]`
+abbrev pub redirect_in : List Row → Option Redirect
+redirect_in rows =
+    with_word (codes "redirect-kind") rows (λ kind.
+    with_word (codes "status") rows (λ status.
+    with_word (codes "from") rows (λ source.
+    with_word (codes "to") rows (λ target.
+    option_and_then (λ kind.
+    option_map (λ status. redirect_of kind status source target (is_set (codes "force") rows))
+    (status_of status)) (redirect_kind_of kind)))))
+
+-- `add-redirect HOST PLACE KIND STATUS FROM TO [--force]`
+abbrev pub add_redirect_in : List Row → Option CommandChange
+add_redirect_in rows =
+    option_and_then (λ place. option_map (AddRedirect place) (redirect_in rows)) (place_in rows)
+
+-- `drop-redirect HOST PLACE`
+abbrev pub drop_redirect_in : List Row → Option CommandChange
+drop_redirect_in rows = option_map DropRedirect (place_in rows)
+
 -- `get HOST TARGET [--pass PASS]`
 abbrev pub get_in : List Row → Option Order
 get_in rows =
@@ -141,14 +209,21 @@ get_in rows =
     with_word (codes "target") rows (λ target.
     Some (Get host target (first_of (codes "pass") rows))))
 
--- the change of a line on a pass, or on one version
+-- the change of a line on redirects, or on one version
+unfoldable pub redirect_change_in : Text → List Row → Option CommandChange
+redirect_change_in name rows =
+    if bytes_eq name (codes "add-redirect") then add_redirect_in rows
+    else if bytes_eq name (codes "drop-redirect") then drop_redirect_in rows
+    else version_in name rows
+
+-- the change of a line on a pass, on redirects, or on one version
 unfoldable pub access_in : Text → List Row → Option CommandChange
 access_in name rows =
     if bytes_eq name (codes "add-pass") then add_pass_in rows
     else if bytes_eq name (codes "drop-pass") then drop_pass_in rows
     else if bytes_eq name (codes "grant") then grant_in rows
     else if bytes_eq name (codes "revoke") then revoke_in rows
-    else version_in name rows
+    else redirect_change_in name rows
 
 -- the change of a line
 unfoldable pub change_in : Text → List Row → Option CommandChange
@@ -227,3 +302,22 @@ OrdersOnPass name change = (host pass : Text) → ArePlain (host ∷ pass ∷ []
 abbrev pub OrdersOnGrant : Text → (Text → Text → CommandChange) → Type 0
 OrdersOnGrant name change = (host pass slug : Text) → ArePlain (host ∷ pass ∷ slug ∷ [])
     → Orders (name ∷ host ∷ pass ∷ slug ∷ []) (Act (asking host (change pass slug)))
+
+-- `add-redirect HOST PLACE KIND STATUS FROM TO ..` orders a redirect of this kind, where the words
+-- that the caller chooses are plain, and PLACE and STATUS are digits of these numbers
+abbrev pub OrdersRedirectBy : List Text → Bool → Text → RedirectKind → Type 0
+OrdersRedirectBy more force word kind =
+    (host place_word status_word source target : Text) (place status : ℕ)
+    → ArePlain (host ∷ place_word ∷ status_word ∷ source ∷ target ∷ [])
+    → place_of place_word ≡ Some place → status_of status_word ≡ Some status
+    → Orders (codes "add-redirect" ∷ host ∷ place_word ∷ word ∷ status_word ∷ source ∷ target
+    ∷ more)
+    (Act (asking host (AddRedirect place (redirect_of kind status source target force))))
+
+-- a redirect without force, of the words alone
+abbrev pub OrdersRedirect : Text → RedirectKind → Type 0
+OrdersRedirect word kind = OrdersRedirectBy [] false word kind
+
+-- a redirect with force, where `--force` stands behind them
+abbrev pub OrdersForced : Text → RedirectKind → Type 0
+OrdersForced word kind = OrdersRedirectBy (codes "--force" ∷ []) true word kind

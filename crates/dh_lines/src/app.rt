@@ -48,6 +48,11 @@ fn word_help(id: &str) -> &'static str {
         "type" => "The media type of the page, as text/html",
         "text" => "The page, as one word",
         "pass" => "A pass: a word that shows its reader the private versions it is granted",
+        "place" => "The redirect's place in the project's list, from 1",
+        "redirect-kind" => "page, exact, clean-to-html or html-to-clean",
+        "status" => "301 or 302",
+        "from" => "The path that is led away, as /old/*, or none",
+        "to" => "Where it is led, as /en/latest/:splat, or none",
         "target" => "The path that is read, and its query, as /en/latest/?q=1",
         _ => "",
     }
@@ -122,7 +127,7 @@ fn bare_command<'a>(alloc: Global) -> Command<'a>
 }
 
 /// The commands of the program: the lines of scripts, and what it does with its input.
-const FORMS: [Form<'static>; 19] = [
+const FORMS: [Form<'static>; 21] = [
     Form {
         name: "new-project",
         about: "Makes a project with one language and no version",
@@ -238,6 +243,23 @@ const FORMS: [Form<'static>; 19] = [
         about: "Takes the grant of a version from a pass",
         example: "Example: revoke docs.test reader-7 1.0",
         ids: &["host", "pass", "slug"],
+        more: More::Nothing,
+    },
+    Form {
+        name: "add-redirect",
+        about: "Adds a redirect at a place of the project's list; those from there on move by one",
+        example: "Example: add-redirect docs.test 1 exact 302 /old/* /en/latest/:splat",
+        ids: &["host", "place", "redirect-kind", "status", "from", "to"],
+        more: More::Flag {
+            id: "force",
+            help: "Leads away from pages that exist, too",
+        },
+    },
+    Form {
+        name: "drop-redirect",
+        about: "Takes the redirect at a place out of the project's list",
+        example: "Example: drop-redirect docs.test 1",
+        ids: &["host", "place"],
         more: More::Nothing,
     },
     Form {

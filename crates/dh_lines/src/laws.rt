@@ -1,9 +1,12 @@
 //! Laws of lines: the words of each form are its line. A word that the caller chooses is plain: it
 //! does not begin with `-`.
 
-ghost use Rattle.std.specs.Prelude.{◌≡◌, true, false, Some, None, codes, ◌∷◌, [], List};
+ghost use Rattle.std.specs.Prelude.{◌≡◌, ℕ, true, false, Some, None, codes, ◌∷◌, [], List};
 ghost use Rattle.clap.specs.Walk.{Text};
 ghost use Rattle.dh_versions.specs.declared.version.Kind.TheVariants.{Branch, Tag};
+ghost use Rattle.dh_redirects.specs.declared.redirect.RedirectKind.TheVariants.{Page, Exact};
+ghost use Rattle.dh_redirects.specs.declared.redirect.RedirectKind.TheVariants.{CleanToHtml};
+ghost use Rattle.dh_redirects.specs.declared.redirect.RedirectKind.TheVariants.{HtmlToClean};
 ghost use Rattle.dh_world.specs.declared.command.CommandChange.TheVariants.{NewProject, AddLang};
 ghost use Rattle.dh_world.specs.declared.command.CommandChange.TheVariants.{Push, Upload, Activate};
 ghost use Rattle.dh_world.specs.declared.command.CommandChange.TheVariants.{Deactivate, Hide};
@@ -11,11 +14,11 @@ ghost use Rattle.dh_world.specs.declared.command.CommandChange.TheVariants.{Unhi
 ghost use Rattle.dh_world.specs.declared.command.CommandChange.TheVariants.{MakePrivate, Gone};
 ghost use Rattle.dh_world.specs.declared.command.CommandChange.TheVariants.{SetDefault, AddPass};
 ghost use Rattle.dh_world.specs.declared.command.CommandChange.TheVariants.{DropPass, Grant};
-ghost use Rattle.dh_world.specs.declared.command.CommandChange.TheVariants.{Revoke};
+ghost use Rattle.dh_world.specs.declared.command.CommandChange.TheVariants.{Revoke, DropRedirect};
 ghost use Rattle.dh_words.specs.Words.{is_plain, ArePlain, has_command};
 ghost use Rattle.dh_lines.specs.App.{docs_app};
 ghost use Rattle.dh_lines.specs.Lines.{line_in, asking, Orders, OrdersOnVersion, OrdersOnPass};
-ghost use Rattle.dh_lines.specs.Lines.{OrdersOnGrant};
+ghost use Rattle.dh_lines.specs.Lines.{OrdersOnGrant, OrdersRedirect, OrdersForced, place_of};
 ghost use Rattle.dh_lines.specs.declared.lines.Order.TheVariants.{Act, Get, Script, Answer};
 
 /// The lines on projects and pushes.
@@ -77,6 +80,22 @@ pub fn pass_lines()
     ensures drop_pass { OrdersOnPass (codes "drop-pass") DropPass }
     ensures grant { OrdersOnGrant (codes "grant") Grant }
     ensures revoke { OrdersOnGrant (codes "revoke") Revoke }
+{}
+
+/// The lines on redirects. The word `none` for From or To is the empty text.
+pub fn redirect_lines()
+    ensures page { OrdersRedirect (codes "page") Page }
+    ensures exact { OrdersRedirect (codes "exact") Exact }
+    ensures clean_to_html { OrdersRedirect (codes "clean-to-html") CleanToHtml }
+    ensures html_to_clean { OrdersRedirect (codes "html-to-clean") HtmlToClean }
+    ensures forced_page { OrdersForced (codes "page") Page }
+    ensures forced_exact { OrdersForced (codes "exact") Exact }
+    ensures forced_clean_to_html { OrdersForced (codes "clean-to-html") CleanToHtml }
+    ensures forced_html_to_clean { OrdersForced (codes "html-to-clean") HtmlToClean }
+    ensures drop_redirect { (host place_word : Text) (place : ℕ) → ArePlain (host ∷ place_word ∷ [])
+        → place_of place_word ≡ Some place
+        → Orders (codes "drop-redirect" ∷ host ∷ place_word ∷ [])
+        (Act (asking host (DropRedirect place))) }
 {}
 
 /// The lines that read, without a pass, and with it behind or before the other words.

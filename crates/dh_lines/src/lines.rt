@@ -4,6 +4,7 @@ use crate::app::docs_command;
 use clap::ArgMatches;
 use clap::error::ErrorKind;
 use dh_paths::{Bytes, Text};
+use dh_redirects::{Redirect, RedirectKind};
 use dh_versions::Kind;
 use dh_world::{Command, CommandChange, Pages, UploadedPage};
 use std::alloc::{AllocError, Global};
@@ -56,6 +57,8 @@ impl From<AllocError> for LineFault {
 }
 
 ghost use Rattle.std.specs.Prelude.{◌≡◌, ◌∷◌, [], IfOk, option_map, map, string_bytes};
+ghost use Rattle.std.specs.Char.{is_ascii_digit};
+ghost use Rattle.std.specs.List.{list_all};
 ghost use Rattle.clap.specs.Walk.{first_of, rows_of};
 ghost use Rattle.clap.specs.Matches.{found_of};
 ghost use Rattle.clap.specs.Simple.{subcommand_rows_of};
@@ -65,6 +68,9 @@ ghost use Rattle.dh_lines.specs.Lines.{one_page as pages_of};
 ghost use Rattle.dh_lines.specs.Lines.{is_set, privacy_of, kind_of, new_project_in, add_lang_in};
 ghost use Rattle.dh_lines.specs.Lines.{push_in, upload_in, change_on, version_in, add_pass_in};
 ghost use Rattle.dh_lines.specs.Lines.{drop_pass_in, grant_in, revoke_in, access_in, change_in};
+ghost use Rattle.dh_lines.specs.Lines.{redirect_kind_of, place_of, status_of, place_in};
+ghost use Rattle.dh_lines.specs.Lines.{text_meant as meant_by, redirect_in, add_redirect_in};
+ghost use Rattle.dh_lines.specs.Lines.{drop_redirect_in, redirect_change_in};
 ghost use Rattle.dh_lines.specs.Lines.{command_in, get_in, order_of, line_in, Says, Matches};
 
 fn value<'a>(matches: &ArgMatches<'a>, id: &str) -> Option<&'a str>
@@ -134,6 +140,67 @@ fn read_kind(text: &str) -> Option<Kind>
         "branch" => Some(Kind::Branch),
         "tag" => Some(Kind::Tag),
         _ => None,
+    }
+}
+
+fn read_redirect_kind(text: &str) -> Option<RedirectKind>
+    ensures { result ≡ redirect_kind_of text.now }
+{
+    match text {
+        "page" => Some(RedirectKind::Page),
+        "exact" => Some(RedirectKind::Exact),
+        "clean-to-html" => Some(RedirectKind::CleanToHtml),
+        "html-to-clean" => Some(RedirectKind::HtmlToClean),
+        _ => None,
+    }
+}
+
+fn all_digits(text: &str) -> bool
+    ensures { result ≡ list_all is_ascii_digit text.now }
+{
+    text.as_bytes().iter().all(|b| b.is_ascii_digit())
+}
+
+/// Digits alone: `parse` takes a plus as well.
+fn read_place(text: &str) -> Option<u32>
+    ensures { result ≡ place_of text.now }
+{
+    if !all_digits(text) {
+        return None;
+    }
+    match text.parse::<u32>() {
+        Ok(place) => Some(place),
+        Err(_) => None,
+    }
+}
+
+/// Digits alone, as of a place.
+fn read_status(text: &str) -> Option<u16>
+    ensures { result ≡ status_of text.now }
+{
+    if !all_digits(text) {
+        return None;
+    }
+    match text.parse::<u16>() {
+        Ok(status) => Some(status),
+        Err(_) => None,
+    }
+}
+
+/// The text that a word stands for.
+fn text_meant(word: &str) -> &str
+    ensures { result.now ≡ meant_by word.now }
+{
+    if word == "none" { "" } else { word }
+}
+
+/// The text that a word stands for which has to be there.
+fn meant(alloc: Global, matches: &ArgMatches<'_>, id: &str) -> Result<Text, LineFault>
+    ensures { Says (option_map meant_by (first_of id.now (rows_of (found_of matches.now)))) result }
+{
+    match value(matches, id) {
+        Some(text) => Ok(Text::copy_of(alloc, text_meant(text))?),
+        None => Err(LineFault::Usage),
     }
 }
 
@@ -265,6 +332,53 @@ fn revoke(alloc: Global, matches: &ArgMatches<'_>) -> Result<CommandChange, Line
     Ok(CommandChange::Revoke { pass, slug })
 }
 
+fn place(alloc: Global, matches: &ArgMatches<'_>) -> Result<u32, LineFault>
+    ensures { Says (place_in (rows_of (found_of matches.now))) result }
+{
+    let place_word = word(alloc, matches, "place")?;
+    match read_place(place_word.as_str()) {
+        Some(place) => Ok(place),
+        None => Err(LineFault::Usage),
+    }
+}
+
+fn redirect(alloc: Global, matches: &ArgMatches<'_>) -> Result<Redirect, LineFault>
+    ensures { Says (redirect_in (rows_of (found_of matches.now))) result }
+{
+    let kind_word = word(alloc, matches, "redirect-kind")?;
+    let status_word = word(alloc, matches, "status")?;
+    let source = meant(alloc, matches, "from")?;
+    let target = meant(alloc, matches, "to")?;
+    let Some(kind) = read_redirect_kind(kind_word.as_str()) else {
+        return Err(LineFault::Usage);
+    };
+    let Some(status) = read_status(status_word.as_str()) else {
+        return Err(LineFault::Usage);
+    };
+    Ok(Redirect {
+        kind,
+        source,
+        target,
+        status,
+        force: has_flag(matches, "force"),
+    })
+}
+
+fn add_redirect(alloc: Global, matches: &ArgMatches<'_>) -> Result<CommandChange, LineFault>
+    ensures { Says (add_redirect_in (rows_of (found_of matches.now))) result }
+{
+    let place = place(alloc, matches)?;
+    let redirect = redirect(alloc, matches)?;
+    Ok(CommandChange::AddRedirect { place, redirect })
+}
+
+fn drop_redirect(alloc: Global, matches: &ArgMatches<'_>) -> Result<CommandChange, LineFault>
+    ensures { Says (drop_redirect_in (rows_of (found_of matches.now))) result }
+{
+    let place = place(alloc, matches)?;
+    Ok(CommandChange::DropRedirect { place })
+}
+
 fn get(alloc: Global, matches: &ArgMatches<'_>) -> Result<Order, LineFault>
     ensures { Says (get_in (rows_of (found_of matches.now))) result }
 {
@@ -274,7 +388,23 @@ fn get(alloc: Global, matches: &ArgMatches<'_>) -> Result<Order, LineFault>
     Ok(Order::Get { host, target, pass })
 }
 
-/// A line on a pass, or on one version.
+/// A line on redirects, or on one version.
+#[tactic(auto, unfolding(crate::specs::Lines::redirect_change_in))]
+fn redirect_line(
+    alloc: Global,
+    name: &str,
+    matches: &ArgMatches<'_>,
+) -> Result<CommandChange, LineFault>
+    ensures { Says (redirect_change_in name.now (rows_of (found_of matches.now))) result }
+{
+    match name {
+        "add-redirect" => add_redirect(alloc, matches),
+        "drop-redirect" => drop_redirect(alloc, matches),
+        _ => version(alloc, name, matches),
+    }
+}
+
+/// A line on a pass, on redirects, or on one version.
 #[tactic(auto, unfolding(crate::specs::Lines::access_in))]
 fn access(alloc: Global, name: &str, matches: &ArgMatches<'_>) -> Result<CommandChange, LineFault>
     ensures { Says (access_in name.now (rows_of (found_of matches.now))) result }
@@ -284,7 +414,7 @@ fn access(alloc: Global, name: &str, matches: &ArgMatches<'_>) -> Result<Command
         "drop-pass" => drop_pass(alloc, matches),
         "grant" => grant(alloc, matches),
         "revoke" => revoke(alloc, matches),
-        _ => version(alloc, name, matches),
+        _ => redirect_line(alloc, name, matches),
     }
 }
 
