@@ -257,9 +257,6 @@ rules_with_redirect lists row rules up has from upto few good = record {
   good = all_put coding.redirects.key (λ r. first_fault r.redirect ≡ None) row lists.redirects good rules.good;
 }
   where
-    mine : List RedirectRow
-    mine = filter (is_redirect_of row.host) lists.redirects
-
     were : AreRedirects (filter (is_redirect_of row.host) lists.redirects)
     were = redirects_at lists row.host rules has
 
@@ -277,9 +274,9 @@ rules_with_redirect lists row rules up has from upto few good = record {
         go false e = subst AreRedirects (sym (put_elsewhere row lists.redirects r.host e)) old
 
 -- the last redirect of a project is removed
-pub rules_without_redirect : (lists : Lists) (host : List ℕ) (place : ℕ) → KeepsRules lists → IsTrue (has_project lists host) → 1 ≤ place → place ≡ length (filter (is_redirect_of host) lists.redirects)
+pub rules_without_redirect : (lists : Lists) (host : List ℕ) (place : ℕ) → KeepsRules lists → 1 ≤ place → place ≡ length (filter (is_redirect_of host) lists.redirects)
     → KeepsRules (drop_redirect host place lists)
-rules_without_redirect lists host place rules has from last = record {
+rules_without_redirect lists host place rules from last = record {
   langs = rules.langs;
   versions = rules.versions;
   pages = rules.pages;
@@ -301,11 +298,8 @@ rules_without_redirect lists host place rules has from last = record {
     after : List RedirectRow
     after = filter (λ x. not (is_redirect host place x)) lists.redirects
 
-    were : AreRedirects (filter (is_redirect_of host) lists.redirects)
-    were = redirects_at lists host rules has
-
-    here : AreRedirects (filter (is_redirect_of host) after)
-    here = subst AreRedirects (sym (cut_here host place lists.redirects were from last)) (record {
+    here : AreRedirects (filter (is_redirect_of host) lists.redirects) → AreRedirects (filter (is_redirect_of host) after)
+    here were = subst AreRedirects (sym (cut_here host place lists.redirects were from last)) (record {
       places = places_taken 1 (place - 1) (filter (is_redirect_of host) lists.redirects) were.places;
       few = omega (arith, were.few, few_taken (place - 1) (filter (is_redirect_of host) lists.redirects));
     })
@@ -314,7 +308,9 @@ rules_without_redirect lists host place rules has from last = record {
     still r old = go (bytes_eq host r.host) refl
       where
         go : (b : Bool) → bytes_eq host r.host ≡ b → AreRedirects (filter (is_redirect_of r.host) after)
-        go true e = subst (λ h. AreRedirects (filter (is_redirect_of h) after)) ((bytes_eq-Decides host r.host).0 e) here
+        go true e =
+            let same = (bytes_eq-Decides host r.host).0 e in
+            subst (λ h. AreRedirects (filter (is_redirect_of h) after)) same (here (subst (λ h. AreRedirects (filter (is_redirect_of h) lists.redirects)) (sym same) old))
         go false e = subst AreRedirects (sym (cut_elsewhere host place lists.redirects r.host e)) old
 
 -- ---- the world
