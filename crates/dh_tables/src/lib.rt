@@ -3,7 +3,6 @@
 
 pub use dh_records::{
     HeldRow, LangRow, PageRow, PassRow, PickRow, ProjectRow, RedirectRow, UsedRow, VersionRow,
-    kind_number,
 };
 pub use dh_store::{Tables, TablesFault};
 pub use dh_view::{View, doubt_is_of_the_store};

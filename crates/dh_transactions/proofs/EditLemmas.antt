@@ -176,7 +176,7 @@ module _ (host : Text) (lists : Lists) (p : Project) (sound : AreSound lists) (w
         world_is = world_without_redirect lists host place p sound.rules may.0 all was;
         sound = record {
           order = order_without_redirect lists sound.order host place;
-          rules = rules_without_redirect lists host place sound.rules owned may.0 all;
+          rules = rules_without_redirect lists host place sound.rules may.0 all;
         };
       }
   edit_spells (AddPass pass) may =
