@@ -7,6 +7,7 @@ mod uploads;
 
 use dh_desk::{Answer, Command, CommandChange, Desk, Pages, Refusal, UploadedPage};
 use dh_paths::{Bytes, Text};
+use dh_redirects::{Redirect, RedirectKind};
 use dh_reply::{Fault, Read, Reply};
 use dh_tables::Tables;
 use dh_versions::Kind;
@@ -65,6 +66,18 @@ fn upload(alloc: Global, pages: Vec<UploadedPage>) -> Result<Command, Fail> {
         pages: Pages::wrap(pages),
     };
     command(alloc, change)
+}
+
+/// A redirect from a path to `/`, in front of the others.
+fn add_redirect(alloc: Global, source: &str) -> Result<Command, Fail> {
+    let redirect = Redirect {
+        kind: RedirectKind::Exact,
+        source: text(alloc, source)?,
+        target: text(alloc, "/")?,
+        status: 301,
+        force: false,
+    };
+    command(alloc, CommandChange::AddRedirect { place: 1, redirect })
 }
 
 /// A page whose body is so many times the letter `x`.

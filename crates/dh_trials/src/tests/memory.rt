@@ -1,6 +1,6 @@
 //! A command that finds no memory has changed nothing, and can be done again. `tools/failing_alloc` refuses each allocation in turn.
 
-use super::{apply, empty_desk, get, new_project, page, push_main, upload};
+use super::{add_redirect, apply, empty_desk, get, new_project, page, push_main, upload};
 use dh_desk::{Answer, Command, Desk, Refusal};
 use sqlite::MemStore;
 use std::alloc::Global;
@@ -43,6 +43,16 @@ fn are_pages_stored(alloc: Global, desk: &mut Desk<MemStore>) -> Result<bool, Fa
     Ok(matches!(answer, Ok(Answer::Stored { pages: 2 })))
 }
 
+/// Adds a redirect in front of the others.
+fn is_redirect_added(
+    alloc: Global,
+    desk: &mut Desk<MemStore>,
+    source: &str,
+) -> Result<bool, Fail> {
+    let answer = done_again(alloc, desk, &add_redirect(alloc, source)?, source, 404)?;
+    Ok(matches!(answer, Ok(Answer::Done)))
+}
+
 #[test]
 fn refused_memory_changes_nothing(rt: HostRuntime) -> Result<(), Fail> {
     let alloc = rt.alloc();
@@ -51,5 +61,8 @@ fn refused_memory_changes_nothing(rt: HostRuntime) -> Result<(), Fail> {
     assert!(rt; is_main_pushed(alloc, &mut desk)?);
     assert!(rt; are_pages_stored(alloc, &mut desk)?);
     assert_eq!(rt; get(alloc, &mut desk, "/en/latest/")?.status, 200);
+    assert!(rt; is_redirect_added(alloc, &mut desk, "/old")?);
+    assert!(rt; is_redirect_added(alloc, &mut desk, "/older")?);
+    assert_eq!(rt; get(alloc, &mut desk, "/old")?.status, 301);
     Ok(())
 }
