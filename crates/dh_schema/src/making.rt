@@ -29,7 +29,8 @@ fn make_meta<S: Alter>(conn: &mut Connection<S>) -> Result<(), Fault>
 fn make_redirect<S: Alter>(conn: &mut Connection<S>) -> Result<(), Fault>
     requires { IsHonest S.Store conn.old
         → IsReady upto_meta from_redirect (state S.Store conn.old).now }
-    ensures builds { BuildsOne S.Store conn.old conn.new result (IsReady upto_redirect from_project) }
+    ensures builds { BuildsOne S.Store conn.old conn.new result
+        (IsReady upto_redirect from_project) }
 {
     write(
         conn,

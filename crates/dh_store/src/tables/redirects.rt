@@ -27,7 +27,8 @@ impl<S: Alter> Tables<S> {
         ensures value { ReadsAll S.Store self.old self.new result
             (λ l. filter (spec.is_redirect_of host.now) l.redirects) }
     {
-        let sql = "SELECT host, place, kind, status, force, source, target FROM redirect WHERE host = ?1 ORDER BY host, place";
+        let sql =
+            "SELECT host, place, kind, status, force, source, target FROM redirect WHERE host = ?1 ORDER BY host, place";
         all_records(&mut self.conn, alloc, sql, params![host.as_str()])
     }
 
