@@ -1,16 +1,15 @@
 -- Edits of the records are edits of the world: once for each kind of edit.
-use Rattle.std.proofs.Common.{◌≡◌, ◌+◌, ◌≤◌, ℕ, Bool, true, false, not, ◌||◌, filter, List, [], ◌∷◌, Option, Some, None, find, length, is_some, refl, sym, ap, ◌∙◌, subst}
+use Rattle.std.proofs.Common.{◌≡◌, ◌+◌, ◌≤◌, ℕ, Bool, false, not, ◌||◌, filter, List, [], ◌∷◌, Option, Some, None, length, is_some, refl, sym, ap, ◌∙◌, subst}
 use Rattle.std.specs.Prelude.{option_map, unwrap_or, IsSome, IsTrue}
 use Rattle.std.specs.FinMap.{get, insert}
 use Rattle.std.specs.List.{IsDistinct}
 use Rattle.std.specs.Str.{bytes_eq}
-use Rattle.std.proofs.lemmas.Bool.{and_parts}
 use Rattle.dh_commands.specs.Edits.{edited, all_edited, MayEdit, MayEditAll}
 use Rattle.dh_commands.specs.declared.edits.Edit.{Edit}
 use Rattle.dh_commands.specs.declared.edits.Edit.TheVariants.{AddLang, PutVersion, PutWithoutPages, RemoveVersion, PutPage, RemovePages, SetDefaults, PutRedirect, DropLastRedirect, AddPass, RemovePass, Grant, Revoke, PutAnswer}
 use Rattle.dh_rows.specs.Keyed.{IsFreeKey}
 use Rattle.dh_records.proofs.AccessChanges.{world_gone, world_with_defaults, world_with_pass, world_pass_gone, world_with_grant, world_without_grant}
-use Rattle.dh_records.proofs.AccessRules.{MayChoose, defaults_distinct, filter_distinct, front_distinct, rules_gone, rules_with_front, rules_with_pass, rules_pass_gone, rules_with_grant, rules_without_grants, order_without_version, order_with_defaults, order_with_pass, order_without_pass, order_with_grant, order_without_grants}
+use Rattle.dh_records.proofs.AccessRules.{defaults_distinct, filter_distinct, front_distinct, rules_gone, rules_with_front, rules_with_pass, rules_pass_gone, rules_with_grant, rules_without_grants, order_without_version, order_with_defaults, order_with_pass, order_without_pass, order_with_grant, order_without_grants}
 use Rattle.dh_records.proofs.ChangeLemmas.{world_with_lang, world_with_version, world_with_page, world_without_pages, world_with_used}
 use Rattle.dh_records.proofs.KeyLemmas.{used_is_free, pass_is_free}
 use Rattle.dh_records.proofs.OrderLemmas.{order_with_lang, order_with_version, order_with_page, order_without, order_with_used}
@@ -18,7 +17,7 @@ use Rattle.dh_records.proofs.RuleLemmas.{lang_is_free, rules_with_lang, rules_wi
 use Rattle.dh_records.proofs.RedirectLemmas.{order_with_redirect, order_without_redirect, rules_with_redirect, rules_without_redirect, redirect_count_in, world_with_redirect, world_without_redirect}
 use Rattle.dh_records.proofs.WorldLemmas.{owned_by, count_in, speaks_in, active_in, has_version_in, has_pass_in, used_in, changed_twice}
 use Rattle.dh_records.specs.Codings as coding
-use Rattle.dh_records.specs.Lists.{Lists, world_of, is_page_under, is_pass, is_held, is_held_by, is_held_on, is_redirect_of, redirect_row, is_version, is_used, kept_answer, keeping}
+use Rattle.dh_records.specs.Lists.{Lists, world_of, is_page_under, is_pass, is_held, is_held_by, is_held_on, is_redirect_of, redirect_row, is_version, kept_answer, keeping}
 use Rattle.dh_records.specs.Rules.{has_project, has_version}
 use Rattle.dh_records.specs.declared.records.HeldRow.{HeldRow}
 use Rattle.dh_records.specs.declared.records.LangRow.{LangRow}

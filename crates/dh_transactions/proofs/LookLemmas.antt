@@ -9,7 +9,7 @@ use Rattle.std.proofs.lemmas.List.{length-map}
 use Rattle.std.proofs.lemmas.Slice.Eq.{bytes_eq-Decides}
 use Rattle.sqlite_keyed.proofs.ListLemmas.{all-filter, all_map}
 use Rattle.dh_commands.specs.Asking.{asked}
-use Rattle.dh_commands.specs.Knowing.{HasSettings, Answers}
+use Rattle.dh_commands.specs.Knowing.{Answers}
 use Rattle.dh_commands.specs.Questions.{seen_questions}
 use Rattle.dh_checks.specs.declared.checked.CheckedChange.{CheckedChange}
 use Rattle.dh_commands.specs.declared.facts.Facts.{Facts}
@@ -29,7 +29,6 @@ use Rattle.dh_records.specs.declared.records.RedirectRow.{RedirectRow}
 use Rattle.dh_records.specs.declared.records.VersionRow.{VersionRow}
 use Rattle.dh_transactions.specs.Finding.{OfProject, IsVersion, AreRedirects, FindsSettings, FindsFacts, asked_key}
 use Rattle.dh_transactions.specs.Sound.{AreSound}
-use Rattle.dh_versions.specs.declared.version.Version.{Version}
 use Rattle.dh_world.specs.World.{Text, Project}
 
 module _ (host : Text) (lists : Lists) where

@@ -1,5 +1,5 @@
 -- A project made where the host has none.
-use Rattle.std.proofs.Common.{◌≡◌, false, map, find, Option, Some, None, Ok, Err, refl, sym, ap, ◌∙◌, subst}
+use Rattle.std.proofs.Common.{◌≡◌, false, map, find, None, Ok, refl, sym, ap, ◌∙◌, subst}
 use Rattle.std.specs.List.{list_any}
 use Rattle.std.specs.Str.{bytes_eq}
 use Rattle.std.specs.FinMap.{get}

@@ -1,5 +1,5 @@
 -- A command that looked, decided and made its edits.
-use Rattle.std.proofs.Common.{◌≡◌, ◌⊎◌, Some, Result, Ok, Err, refl, sym, ap, ◌∙◌, subst, inl, inr}
+use Rattle.std.proofs.Common.{◌≡◌, ◌⊎◌, Some, Result, Ok, Err, sym, ap, ◌∙◌, subst, inl, inr}
 use Rattle.std.specs.Result.{IsErrAnd}
 use Rattle.std.proofs.lemmas.Result.{err_from_is_err_and}
 use Rattle.dh_checks.specs.Commands.{change_of, command_of}
