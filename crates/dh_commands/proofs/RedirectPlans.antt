@@ -72,7 +72,7 @@ module _ (p : Project) where
       let more = length-append front (x ∷ []) in (
         (omega (arith, at), omega (arith, at, all), omega (arith, at, few), good.0),
         subst (λ rs. MayEditAll (redirects_put (place + 1) xs) (with rs)) (sym (put_next front back x place at))
-        (may_put (front ++ x ∷ []) xs (drop 1 back) (place + 1) (next_place front x place at) (omega (arith, few, more)) good.1),
+            (may_put (front ++ x ∷ []) xs (drop 1 back) (place + 1) (next_place front x place at) (omega (arith, few, more)) good.1),
       )
 
   -- ---- one more
@@ -108,8 +108,8 @@ module _ (p : Project) where
         let rest = length-drop (place - 1) rs in
         let past : drop (length (r ∷ behind)) behind ≡ [] = drop_all (length (r ∷ behind)) behind (omega arith) in (
           ap (λ b. added_by r b (nat_lt (length rs) 100)) ok ∙ ap (added_by r true) (lt-ltb _ _ few)
-          ∙ ap (λ x. Ok (with x, Done)) (sym (append-nil (before ++ r ∷ behind)) ∙ ap (λ x. before ++ (r ∷ behind) ++ x) (sym past))
-          ∙ ap (λ q. Ok (q, Done)) (sym (puts_are (r ∷ behind) first last)),
+              ∙ ap (λ x. Ok (with x, Done)) (sym (append-nil (before ++ r ∷ behind)) ∙ ap (λ x. before ++ (r ∷ behind) ++ x) (sym past))
+              ∙ ap (λ q. Ok (q, Done)) (sym (puts_are (r ∷ behind) first last)),
           puts_may (r ∷ behind) first last (omega (arith, first, last, few, rest)) (good, good_behind (place - 1) rs all),
         )
 
@@ -134,10 +134,10 @@ module _ (p : Project) where
         let one = length-drop (length moved) behind in
         let puts = puts_are moved first (omega (arith, last)) in
         let cut : take (length rs - 1) (before ++ moved ++ left_over) ≡ before ++ moved =
-            ap (λ n. take n (before ++ moved ++ left_over)) (omega (arith, first, last, front, rest, both)) ∙ take-append_seam (before ++ moved) left_over in
+        ap (λ n. take n (before ++ moved ++ left_over)) (omega (arith, first, last, front, rest, both)) ∙ take-append_seam (before ++ moved) left_over in
         let all_is : all_edited (plan_dropped place rs).edits (with rs) ≡ with (before ++ moved) =
-            edited_twice (redirects_put place moved) (DropLastRedirect (length rs) ∷ []) (with rs)
-            ∙ ap (all_edited (DropLastRedirect (length rs) ∷ [])) puts ∙ ap with cut in (
+        edited_twice (redirects_put place moved) (DropLastRedirect (length rs) ∷ []) (with rs)
+        ∙ ap (all_edited (DropLastRedirect (length rs) ∷ [])) puts ∙ ap with cut in (
           ap dropped_by ok ∙ ap (λ q. Ok (q, Done)) (sym all_is),
           may_twice (redirects_put place moved) (DropLastRedirect (length rs) ∷ []) (with rs)
               (puts_may moved first (omega (arith, last)) (omega (arith, first, last, few, rest)) (good_behind place rs all))

@@ -4,10 +4,8 @@ ghost use Rattle.dh_commands.specs.Asking as spec;
 ghost use Rattle.dh_commands.specs.Knowing.{Decides};
 ghost use Rattle.dh_commands.specs.Questions.{seen_questions};
 
-use dh_checks::CheckedChange;
 use crate::defaults::{remove_version, set_default};
 use crate::facts::Facts;
-use dh_checks::ProjectSettings;
 use crate::passes::{add_pass, drop_pass, grant, revoke};
 use crate::plan::Plan;
 use crate::projects::add_lang;
@@ -16,6 +14,7 @@ use crate::pushes::push;
 use crate::questions::{Questions, RetryKey, is_write_key, nothing, version_named};
 use crate::redirects::{add_redirect, drop_redirect};
 use crate::uploads::upload;
+use dh_checks::{CheckedChange, ProjectSettings};
 use dh_world::{Operation, Refusal};
 use std::alloc::Global;
 

@@ -5,10 +5,10 @@ ghost use Rattle.dh_world.specs.Seen as names;
 ghost use Rattle.dh_commands.specs.Knowing.{Decides};
 ghost use Rattle.dh_commands.specs.Plans.{wrong_default};
 
-use dh_checks::CheckedChange;
 use crate::edits::Edit;
 use crate::facts::Facts;
 use crate::plan::Plan;
+use dh_checks::CheckedChange;
 use dh_paths::Slug;
 use dh_versions::Version;
 use dh_world::{Answer, Refusal};

@@ -3,10 +3,10 @@ ghost use Rattle.std.specs.Prelude.{◌≡◌};
 ghost use Rattle.dh_commands.specs.Knowing.{Decides};
 ghost use Rattle.dh_commands.specs.Plans.{missing_for_grant};
 
-use dh_checks::CheckedChange;
 use crate::edits::Edit;
 use crate::facts::Facts;
 use crate::plan::Plan;
+use dh_checks::CheckedChange;
 use dh_paths::{Slug, Token};
 use dh_world::{Answer, Refusal};
 use std::alloc::Global;

@@ -5,10 +5,10 @@ ghost use Rattle.std.specs.Str.{bytes_eq};
 ghost use Rattle.dh_commands.specs.Knowing.{Decides};
 ghost use Rattle.dh_commands.specs.Plans.{Opens};
 
-use dh_checks::{CheckedChange, NewProject};
 use crate::edits::Edit;
 use crate::facts::Facts;
 use crate::plan::Plan;
+use dh_checks::{CheckedChange, NewProject};
 use dh_paths::Lang;
 use dh_world::{Answer, Refusal};
 use std::alloc::Global;

@@ -6,10 +6,10 @@ ghost use Rattle.dh_commands.specs.Edits.{Makes};
 ghost use Rattle.dh_commands.specs.Knowing.{Decides};
 ghost use Rattle.dh_commands.specs.Plans.{plan_deactivated};
 
-use dh_checks::CheckedChange;
 use crate::edits::Edit;
 use crate::facts::Facts;
 use crate::plan::Plan;
+use dh_checks::CheckedChange;
 use dh_versions::Version;
 use dh_world::{Answer, Property, Refusal};
 use std::alloc::Global;

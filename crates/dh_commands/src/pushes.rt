@@ -7,12 +7,11 @@ ghost use Rattle.dh_commands.specs.Edits.{Makes};
 ghost use Rattle.dh_commands.specs.Knowing.{Decides};
 ghost use Rattle.dh_commands.specs.Plans.{pushed_version, push_answered, plan_made, plan_known};
 
-use dh_checks::{CheckedChange, CheckedPush};
 use crate::edits::{Edit, FirstAnswer};
 use crate::facts::Facts;
-use dh_checks::ProjectSettings;
 use crate::plan::Plan;
 use crate::questions::is_write_key;
+use dh_checks::{CheckedChange, CheckedPush, ProjectSettings};
 use dh_paths::RefName;
 use dh_versions::{Kind, Version};
 use dh_world::{Answer, Operation, Refusal};

@@ -4,10 +4,10 @@ ghost use Rattle.dh_world.specs.Changes as spec;
 ghost use Rattle.dh_commands.specs.Knowing.{Decides};
 ghost use Rattle.dh_commands.specs.Plans.{redirects_put, plan_added, plan_dropped};
 
-use dh_checks::{CheckedChange, CheckedRedirect};
 use crate::edits::Edit;
 use crate::facts::Facts;
 use crate::plan::Plan;
+use dh_checks::{CheckedChange, CheckedRedirect};
 use dh_redirects::Redirect;
 use dh_world::{Answer, Refusal};
 use std::alloc::{AllocError, Global};
@@ -95,11 +95,7 @@ fn last_place(redirects: &[Redirect]) -> Result<u32, AllocError>
 }
 
 /// Those behind a place move by one, and the last place is free.
-fn drop_at<'c>(
-    alloc: Global,
-    place: u32,
-    redirects: Vec<Redirect>,
-) -> Result<Plan<'c>, AllocError>
+fn drop_at<'c>(alloc: Global, place: u32, redirects: Vec<Redirect>) -> Result<Plan<'c>, AllocError>
     requires { place ≤ length redirects.items }
     ensures { IfOk result (λ plan. plan ≡ plan_dropped place redirects.items) }
 {

@@ -3,12 +3,12 @@ ghost use Rattle.std.specs.Prelude.{◌≡◌, ◌++◌, IfOk, OnOk};
 ghost use Rattle.dh_commands.specs.Knowing.{Decides};
 ghost use Rattle.dh_commands.specs.Plans.{pages_put, plan_stored};
 
-use dh_checks::{CheckedChange, CheckedPage, CheckedUpload};
 use crate::edits::{Edit, FirstAnswer};
 use crate::facts::Facts;
 use crate::plan::Plan;
 use crate::projects::is_among;
 use crate::questions::is_write_key;
+use dh_checks::{CheckedChange, CheckedPage, CheckedUpload};
 use dh_paths::{Lang, Slug};
 use dh_world::{Answer, Operation, Refusal};
 use std::alloc::{AllocError, Global};

@@ -163,7 +163,7 @@ module _ (host : Text) (lists : Lists) (p : Project) (sound : AreSound lists) (w
   edit_spells (PutRedirect place r) may =
       let row : RedirectRow = redirect_row host place r in
       let last : place ≤ length (filter (is_redirect_of host) lists.redirects) + 1 =
-          subst (λ n. place ≤ n + 1) (redirect_count_in lists host p was) may.1 in record {
+      subst (λ n. place ≤ n + 1) (redirect_count_in lists host p was) may.1 in record {
         world_is = world_with_redirect lists row p sound.rules sound.order.redirects may.0 last was;
         sound = record {
           order = order_with_redirect lists sound.order row;

@@ -44,11 +44,7 @@ fn are_pages_stored(alloc: Global, desk: &mut Desk<MemStore>) -> Result<bool, Fa
 }
 
 /// Adds a redirect in front of the others.
-fn is_redirect_added(
-    alloc: Global,
-    desk: &mut Desk<MemStore>,
-    source: &str,
-) -> Result<bool, Fail> {
+fn is_redirect_added(alloc: Global, desk: &mut Desk<MemStore>, source: &str) -> Result<bool, Fail> {
     let answer = done_again(alloc, desk, &add_redirect(alloc, source)?, source, 404)?;
     Ok(matches!(answer, Ok(Answer::Done)))
 }
