@@ -1,7 +1,8 @@
 -- The change that a checked one is of, and which command is one whose texts are right.
 use Rattle.std.specs.Prelude.{◌≡◌, ◌≤◌, List, [], ◌∷◌, length, Option, Result}
-use Rattle.dh_world.specs.Checks.{Checks}
+use Rattle.dh_world.specs.Checks.{ChecksOr}
 use Rattle.dh_world.specs.Refusals.{first_of}
+use Rattle.dh_world.specs.Step.{IsUntaken}
 use Rattle.dh_world.specs.Texts.{bad_count, bad_pages, bad_change, bad_text}
 use Rattle.dh_world.specs.World.{Text}
 use Rattle.dh_world.specs.declared.command.Command.{Command}
@@ -13,7 +14,7 @@ use Rattle.dh_world.specs.declared.pages.UploadedPage.{UploadedPage}
 use Rattle.dh_world.specs.declared.refusal.Refusal.{Refusal}
 use Rattle.dh_checks.specs.declared.checked.CheckedChange.{CheckedChange}
 use Rattle.dh_checks.specs.declared.checked.CheckedCommand.{CheckedCommand}
-use Rattle.dh_checks.specs.declared.checked.CheckedChange.TheVariants.{NewProject, AddLang, Push, Upload, SetProperty, Deactivate, Gone, SetDefault, AddRedirect, DropRedirect, AddPass, DropPass, Grant, Revoke}
+use Rattle.dh_checks.specs.declared.checked.CheckedChange.TheVariants.{NewProject, AddLang, Push, Upload, SetProperty, Deactivate, Gone, SetDefault, AddRule, DropRule, AddRedirect, DropRedirect, AddPass, DropPass, Grant, Revoke}
 
 -- ---- the change
 
@@ -34,6 +35,8 @@ change_of (SetProperty slug property) = setting property slug
 change_of (Deactivate slug) = change.Deactivate slug
 change_of (Gone slug) = change.Gone slug
 change_of (SetDefault name) = change.SetDefault name
+change_of (AddRule x) = change.AddRule x.place x.rule
+change_of (DropRule place) = change.DropRule place
 change_of (AddRedirect x) = change.AddRedirect x.place x.redirect
 change_of (DropRedirect place) = change.DropRedirect place
 change_of (AddPass pass) = change.AddPass pass
@@ -55,10 +58,10 @@ AreFewPages pages checked = (checked ≡ pages) × (length checked ≤ 256)
 abbrev pub bad_upload : List UploadedPage → Option Refusal
 bad_upload pages = first_of (bad_count pages ∷ bad_pages [] pages ∷ [])
 
--- the change itself where all its texts are right, or the refusal of the first one that is not
+-- the change itself where all its texts are right, or the refusal of the first one that is not; or of a pattern that `regex` does not take
 abbrev pub ChecksChange : CommandChange → Result CheckedChange Refusal → Type 0
-ChecksChange change = Checks (bad_change change) (λ x. change_of x ≡ change)
+ChecksChange change = ChecksOr (bad_change change) (λ x. change_of x ≡ change) (IsUntaken change)
 
--- the command itself where all its texts are right, or the refusal of the first one that is not
+-- the command itself, by the same; its host comes first
 abbrev pub ChecksCommand : Command → Result CheckedCommand Refusal → Type 0
-ChecksCommand command = Checks (bad_text command) (λ x. command_of x.host x.change ≡ command)
+ChecksCommand command = ChecksOr (bad_text command) (λ x. command_of x.host x.change ≡ command) (IsUntaken command.change)

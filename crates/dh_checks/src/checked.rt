@@ -1,11 +1,13 @@
 //! Commands whose texts are values of their types.
-ghost use Rattle.std.specs.Prelude.{◌≡◌, ◌≤◌, Some, None, length};
+ghost use Rattle.std.specs.Prelude.{◌≡◌, ◌≤◌, Some, None, IsTrue, length};
 ghost use Rattle.std.proofs.Props.{props};
-ghost use Rattle.dh_paths.specs.Slugs.{slug_from};
+ghost use Rattle.dh_texts.specs.Slugs.{slug_from};
+ghost use Rattle.dh_rules.specs.Rules.{is_allowed};
 ghost use Rattle.dh_redirects.specs.Redirects.{first_fault};
 
 use dh_paths::{HostName, Lang, PagePath, RefName, Slug, Token};
 use dh_redirects::Redirect;
+use dh_rules::Rule;
 use dh_versions::Kind;
 use dh_world::{Property, UploadedPage};
 use std::marker::Model;
@@ -74,6 +76,15 @@ pub struct CheckedUpload<'c> {
     ghost few: { length pages.items ≤ 256 },
 }
 
+/// A rule that passes its check, and the place that it is to have.
+#[derive(Drop)]
+pub struct CheckedRule {
+    /// From 1, if it is a place at all.
+    pub place: u32,
+    pub rule: Rule,
+    ghost good: { IsTrue (is_allowed rule.pattern) } by { Prim.hlevel props },
+}
+
 /// A redirect that passes its check, and the place that it is to have.
 #[derive(Drop)]
 pub struct CheckedRedirect {
@@ -95,6 +106,8 @@ pub enum CheckedChange<'c> {
     Deactivate { slug: Slug },
     Gone { slug: Slug },
     SetDefault { name: Slug },
+    AddRule(CheckedRule),
+    DropRule { place: u32 },
     AddRedirect(CheckedRedirect),
     DropRedirect { place: u32 },
     AddPass { pass: Token },

@@ -2,12 +2,13 @@
 ghost use Rattle.dh_checks.specs.Commands.{ChecksChange, ChecksCommand, setting};
 
 use crate::checked::{
-    CheckedChange, CheckedCommand, CheckedPush, CheckedRedirect, CheckedUpload, NewProject,
-    ProjectSettings,
+    CheckedChange, CheckedCommand, CheckedPush, CheckedRedirect, CheckedRule, CheckedUpload,
+    NewProject, ProjectSettings,
 };
 use crate::pages::check_pages;
 use crate::texts::{
-    host_in, lang_in, redirect_in, ref_in, retry_key_in, slug_in, slug_in_name, token_in,
+    host_in, lang_in, redirect_in, ref_in, retry_key_in, rule_in, slug_in, slug_in_name,
+    token_in,
 };
 use dh_paths::Text;
 use dh_versions::Kind;
@@ -143,6 +144,12 @@ fn check_change<'c>(alloc: Global, change: &'c CommandChange) -> Result<CheckedC
             let name = slug_in(alloc, name)?;
             Ok(CheckedChange::SetDefault { name })
         }
+        CommandChange::AddRule { place, rule } => {
+            let rule = rule_in(alloc, rule)?;
+            let place = *place;
+            Ok(CheckedChange::AddRule(CheckedRule { place, rule }))
+        }
+        CommandChange::DropRule { place } => Ok(CheckedChange::DropRule { place: *place }),
         CommandChange::AddRedirect { place, redirect } => {
             let redirect = redirect_in(alloc, redirect)?;
             let place = *place;

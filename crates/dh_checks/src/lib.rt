@@ -9,7 +9,7 @@ mod pages;
 mod texts;
 
 pub use checked::{
-    CheckedChange, CheckedCommand, CheckedPage, CheckedPush, CheckedRedirect, CheckedUpload,
-    NewProject, ProjectSettings,
+    CheckedChange, CheckedCommand, CheckedPage, CheckedPush, CheckedRedirect, CheckedRule,
+    CheckedUpload, NewProject, ProjectSettings,
 };
 pub use checking::check;

@@ -1,13 +1,16 @@
 //! The texts of commands, read one by one.
-ghost use Rattle.std.specs.Prelude.{◌≡◌, Some, None};
-ghost use Rattle.dh_paths.specs.Texts.{is_host_name, is_lang, is_ref_name, is_slug, is_token};
-ghost use Rattle.dh_paths.specs.Slugs.{slug_from};
-ghost use Rattle.dh_world.specs.Checks.{Reads, Checks};
+ghost use Rattle.std.specs.Prelude.{◌≡◌, Some, None, IsTrue};
+ghost use Rattle.dh_texts.specs.Texts.{is_host_name, is_lang, is_ref_name, is_slug, is_token};
+ghost use Rattle.dh_texts.specs.Slugs.{slug_from};
+ghost use Rattle.dh_rules.specs.Patterns.{IsCustom};
+ghost use Rattle.dh_rules.specs.Rules.{is_allowed};
+ghost use Rattle.dh_world.specs.Checks.{Reads, Checks, ChecksOr};
 ghost use Rattle.dh_redirects.specs.Redirects.{first_fault};
-ghost use Rattle.dh_world.specs.Texts.{bad_name, bad_redirect};
+ghost use Rattle.dh_world.specs.Texts.{bad_name, bad_rule, bad_redirect};
 
 use dh_paths::{HostName, Lang, RefName, Slug, Text, TextFault, Token, slug_of};
 use dh_redirects::Redirect;
+use dh_rules::{CheckFault, Rule};
 use dh_world::Refusal;
 use std::alloc::Global;
 
@@ -57,6 +60,19 @@ pub fn slug_in_name(alloc: Global, name: &RefName) -> Result<Slug, Refusal>
     ensures { Checks (bad_name name.now) (λ slug. slug_from name.now ≡ Some slug) result }
 {
     Ok(slug_of(alloc, name)?)
+}
+
+/// A rule that passes its check. `regex` may refuse any custom pattern as too big.
+pub fn rule_in(alloc: Global, rule: &Rule) -> Result<Rule, Refusal>
+    ensures { ChecksOr (bad_rule rule.now)
+        (λ r. (r ≡ rule.now) × IsTrue (is_allowed r.pattern))
+        (λ e. IsCustom rule.now.pattern × (e ≡ Refusal.BadPattern)) result }
+{
+    match rule.check(alloc) {
+        Ok(()) => Ok(rule.try_copy(alloc)?),
+        Err(CheckFault::BadPattern) => Err(Refusal::BadPattern),
+        Err(CheckFault::Memory) => Err(Refusal::OutOfMemory),
+    }
 }
 
 /// A redirect that passes its check.

@@ -4,8 +4,8 @@ use Rattle.std.specs.Prelude.{IsTrue}
 use Rattle.std.specs.Option.{option_map_or}
 use Rattle.std.specs.FinMap.{get}
 use Rattle.std.specs.Str.{bytes_eq}
-use Rattle.dh_paths.specs.Texts.{is_slug}
-use Rattle.dh_paths.specs.Slugs.{slug_text, slug_from}
+use Rattle.dh_texts.specs.Texts.{is_slug}
+use Rattle.dh_texts.specs.Slugs.{slug_text, slug_from}
 use Rattle.dh_versions.specs.declared.version.Kind.TheVariants.{Branch}
 use Rattle.dh_versions.specs.declared.version.Version.{Version}
 use Rattle.dh_world.specs.Changes.{Change, push, pushed, once, push_key, same_kind, new_version, made, keep, with_version}

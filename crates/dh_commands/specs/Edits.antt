@@ -3,7 +3,7 @@ use Rattle.std.specs.Prelude.{◌≡◌, ◌≤◌, ◌⊎◌, ◌+◌, ◌-◌,
 use Rattle.std.specs.Option.{option_map_or}
 use Rattle.std.specs.FinMap.{get, insert, remove, retain_keys, contains_key}
 use Rattle.std.specs.Str.{bytes_eq}
-use Rattle.dh_paths.specs.Slugs.{slug_from}
+use Rattle.dh_texts.specs.Slugs.{slug_from}
 use Rattle.dh_redirects.specs.Redirects.{first_fault}
 use Rattle.dh_world.specs.Answers.{IsAnswer, json_of}
 use Rattle.dh_world.specs.Changes.{Change, has_lang, with_version, without_pages, without_name, without_version}

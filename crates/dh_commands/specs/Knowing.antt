@@ -3,7 +3,7 @@ use Rattle.std.specs.Prelude.{◌≡◌, ◌≤◌, false, if◌then◌else◌, 
 use Rattle.std.specs.List.{AllByRecursion}
 use Rattle.std.specs.Option.{option_and_then, option_map_or}
 use Rattle.std.specs.FinMap.{get, contains_key, len}
-use Rattle.dh_paths.specs.Slugs.{slug_from}
+use Rattle.dh_texts.specs.Slugs.{slug_from}
 use Rattle.dh_redirects.specs.Redirects.{first_fault}
 use Rattle.dh_world.specs.Changes.{change}
 use Rattle.dh_world.specs.World.{Project}

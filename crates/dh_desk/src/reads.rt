@@ -5,7 +5,7 @@ ghost use Rattle.sqlite.specs.Held.{state};
 ghost use Rattle.sqlite.specs.State.{HasCleanDisk};
 ghost use Rattle.dh_paths.specs.Places.{split_of};
 ghost use Rattle.dh_rows.specs.Calls.{IsHonest, IsRefused};
-ghost use Rattle.dh_reply.specs.Faults.{OnStore};
+ghost use Rattle.dh_lookup.specs.Faults.{OnStore};
 ghost use Rattle.dh_reply.specs.Replies.{is_system, reply_to};
 ghost use Rattle.dh_records.specs.Lists.{world_of};
 ghost use Rattle.dh_schema.specs.Calling.{Blames};

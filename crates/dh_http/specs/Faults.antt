@@ -1,7 +1,7 @@
 -- What is answered of a head, or of a part of it.
 use Rattle.std.specs.Prelude.{◌≡◌, Option, Some, None, Result, Ok, Err, ⊤}
-use Rattle.dh_paths.specs.declared.fault.TextFault.{TextFault}
-use Rattle.dh_paths.specs.declared.fault.TextFault.TheVariants as text
+use Rattle.dh_texts.specs.declared.fault.TextFault.{TextFault}
+use Rattle.dh_texts.specs.declared.fault.TextFault.TheVariants as text
 use Rattle.dh_http.specs.declared.fault.HeadFault.{HeadFault}
 use Rattle.dh_http.specs.declared.fault.HeadFault.TheVariants.{BadText, NoLine, TwoLines, Memory}
 

@@ -1,4 +1,3 @@
 pub mod App
 pub mod Forms
 pub mod Lines
-pub mod Outcomes

@@ -1,11 +1,9 @@
-//! Lines: the words of the program or of a script's line, and what a line prints. Nothing here
-//! knows the store.
+//! Lines: what the words of the program, or of a script's line, ask for. Nothing here knows the store.
 #![tactic(auto)]
 
 mod app;
 mod laws;
 mod lines;
-mod outcomes;
 
 pub use app::docs_command;
 pub use laws::{
@@ -13,4 +11,3 @@ pub use laws::{
     version_lines,
 };
 pub use lines::{Line, LineFault, Order, line_by, line_of};
-pub use outcomes::outcome_text;

@@ -5,8 +5,8 @@ use Rattle.std.specs.Str.{bytes_eq}
 use Rattle.std.specs.Str.Pattern.{FindsTextPrefix, StripsPrefix, FindsCharPrefix}
 use Rattle.std.proofs.lemmas.List.Splits.{slice_split_first, length-slice_split, join_with_byte-slice_split}
 use Rattle.std.proofs.lemmas.Str.Pattern.{starts_text, strip_prefix_char}
-use Rattle.dh_paths.specs.Bytes.{slash}
-use Rattle.dh_paths.specs.Texts.{rest_after, segments}
+use Rattle.dh_texts.specs.Bytes.{slash}
+use Rattle.dh_texts.specs.Texts.{rest_after, segments}
 use Rattle.dh_paths.specs.Places.{address_of, split_of, Other, File}
 
 abbrev is_slash : ℕ → Bool

@@ -7,7 +7,7 @@ use Rattle.std.proofs.lemmas.List.Elements.{All-weaker}
 use Rattle.std.proofs.lemmas.List.Sums.{AllPass-from_list_all}
 use Rattle.std.proofs.lemmas.Str.{IsUtf8-from_ascii}
 use Rattle.std.proofs.lemmas.Str.Ascii.{IsAscii-from_all}
-use Rattle.dh_paths.specs.Texts.{is_host_byte, is_host_name}
+use Rattle.dh_texts.specs.Texts.{is_host_byte, is_host_name}
 use Rattle.dh_paths.specs.Targets.{is_target_byte}
 use Rattle.dh_paths.proofs.PartLemmas.{first, second}
 

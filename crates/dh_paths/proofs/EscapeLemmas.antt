@@ -9,7 +9,7 @@ use Rattle.percent_encoding.specs.Percent.{percent_encode, percent_encode_byte, 
 use Rattle.percent_encoding.specs.declared.ascii_set.AsciiSet.{AsciiSet}
 use Rattle.percent_encoding.proofs.PercentLemmas.{IsByte}
 use Rattle.dh_paths.specs.declared.escape.TheConstants.{ESCAPED}
-use Rattle.dh_paths.specs.Bytes.{percent}
+use Rattle.dh_texts.specs.Bytes.{percent}
 use Rattle.dh_paths.specs.Escapes.{is_plain, escaped, kept_or_escaped, escape_of}
 
 swapped : {A : Type 0} (x : Bool) (p q : A) → cond (not x) p q ≡ cond x q p

@@ -5,7 +5,7 @@ use Rattle.std.proofs.lemmas.Bool.Decides.{Decides-eqb, nat_tests}
 use Rattle.std.proofs.lemmas.List.{get_or_at, get_or_past, take_at, drop_at, take_more, take-append-drop}
 use Rattle.std.proofs.lemmas.List.Folds.{length-prefix_len}
 use Rattle.std.proofs.lemmas.List.Sums.{prefix_len-le-length}
-use Rattle.dh_paths.specs.Bytes.{open_bracket, close_bracket}
+use Rattle.dh_texts.specs.Bytes.{open_bracket, close_bracket}
 use Rattle.dh_paths.specs.Targets.{is_name_byte, is_address_byte, bracketed_len, name_len, is_port, host_named, host_of}
 use Rattle.dh_paths.specs.Forms.{IsPlainName, IsBracketed, IsNameAndPort, IsHostPart}
 use Rattle.dh_paths.proofs.HostLemmas.{host_of-some}

@@ -4,6 +4,5 @@ pub mod EscapeLemmas
 pub mod HostForms
 pub mod HostLemmas
 pub mod PartLemmas
-pub mod SlugLemmas
 pub mod TargetForms
 pub mod TargetLemmas

@@ -8,8 +8,8 @@ use Rattle.std.proofs.lemmas.Bool.Decides.{Decides-eqb, nat_tests}
 use Rattle.std.proofs.lemmas.Slice.Eq.{bytes_eq-Decides}
 use Rattle.std.proofs.lemmas.List.{append-nil, take-map, map-append, length-map, take_at, drop_at, take-append-drop}
 use Rattle.std.proofs.lemmas.List.Folds.{length-prefix_len}
-use Rattle.dh_paths.specs.Bytes.{slash, question}
-use Rattle.dh_paths.specs.Texts.{first_byte}
+use Rattle.dh_texts.specs.Bytes.{slash, question}
+use Rattle.dh_texts.specs.Texts.{first_byte}
 use Rattle.dh_paths.specs.Targets.{is_target_byte, is_question, query_of, path_of, target_at, after_scheme, authority_len, rooted, host_of, begins_with_host_part, absolute_of, target_of}
 use Rattle.dh_paths.specs.Forms.{query_text, IsPathAndQuery, IsOriginForm, IsScheme, IsAuthority, IsRootedOrEmpty, IsAbsoluteForm, IsTarget}
 use Rattle.dh_paths.specs.declared.target.Target.{Target}

@@ -4,7 +4,7 @@ use Rattle.std.specs.List.{list_all}
 use Rattle.std.specs.Str.{IsUtf8, is_utf8}
 use Rattle.std.proofs.lemmas.Str.{IsUtf8-from_is_utf8, is_utf8-from_IsUtf8}
 use Rattle.dh_paths.specs.Escapes.{unescaped}
-use Rattle.dh_paths.specs.Texts.{is_no_control}
+use Rattle.dh_texts.specs.Texts.{is_no_control}
 use Rattle.dh_paths.specs.Targets.{path_of}
 
 -- bytes that are no text

@@ -4,7 +4,7 @@ use Rattle.std.specs.List.{flat_map}
 use Rattle.std.specs.Char.{is_ascii_alphanumeric}
 use Rattle.std.specs.Fmt.{digit_glyph}
 use Rattle.percent_encoding.specs.Percent.{percent_decode}
-use Rattle.dh_paths.specs.Bytes.{percent, dash, dot, slash, underscore, tilde}
+use Rattle.dh_texts.specs.Bytes.{percent, dash, dot, slash, underscore, tilde}
 
 -- a byte that stands as it is in a path: `A-Z a-z 0-9 - . _ ~ /`
 abbrev pub is_plain : ℕ → Bool

@@ -2,8 +2,8 @@
 use Rattle.std.specs.Prelude.{◌≡◌, ◌⊎◌, ℕ, ◌<◌, not, ◌||◌, ◌==◌, IsTrue, Option, Some, None, is_some, List, [], ◌∷◌, ◌++◌, length, codes}
 use Rattle.std.specs.List.{list_all}
 use Rattle.std.specs.Str.{str_eq_ignore_ascii_case}
-use Rattle.dh_paths.specs.Bytes.{slash, question, open_bracket, close_bracket}
-use Rattle.dh_paths.specs.Texts.{first_byte}
+use Rattle.dh_texts.specs.Bytes.{slash, question, open_bracket, close_bracket}
+use Rattle.dh_texts.specs.Texts.{first_byte}
 use Rattle.dh_paths.specs.Targets.{is_name_byte, is_address_byte, is_port, host_named, host_of, is_target_byte, is_question, path_of, rooted}
 use Rattle.dh_paths.specs.declared.target.Target.{Target}
 

@@ -4,8 +4,8 @@ use Rattle.std.specs.List.{starts_with, join_with_byte}
 use Rattle.std.specs.Str.{bytes_eq}
 use Rattle.dh_paths.specs.declared.place.Split.{Split}
 use Rattle.dh_paths.specs.declared.place.Split.TheVariants as code
-use Rattle.dh_paths.specs.Bytes.{slash}
-use Rattle.dh_paths.specs.Texts.{segments}
+use Rattle.dh_texts.specs.Bytes.{slash}
+use Rattle.dh_texts.specs.Texts.{segments}
 
 pub data Place : Type 0 where
   Root : Place

@@ -4,9 +4,9 @@ use Rattle.std.specs.Char.{to_ascii_lowercase}
 use Rattle.std.specs.List.{list_all, position, prefix_len, before_first}
 use Rattle.std.specs.Option.{option_map, option_map_or, option_and_then}
 use Rattle.std.specs.Str.{is_utf8, str_eq_ignore_ascii_case}
-use Rattle.dh_paths.specs.Bytes.{exclamation, hash, dollar, percent, comma, dash, dot, slash, colon, semicolon, equals, question, open_bracket, close_bracket, underscore, tilde}
+use Rattle.dh_texts.specs.Bytes.{exclamation, hash, dollar, percent, comma, dash, dot, slash, colon, semicolon, equals, question, open_bracket, close_bracket, underscore, tilde}
 use Rattle.dh_paths.specs.Escapes.{unescaped}
-use Rattle.dh_paths.specs.Texts.{is_digit, is_no_control, is_host_name, first_byte}
+use Rattle.dh_texts.specs.Texts.{is_digit, is_no_control, is_host_name, first_byte}
 use Rattle.dh_paths.specs.declared.target.Target.{Target}
 
 -- `A-Z a-z 0-9 - . _ ~ ! $ & ' ( ) * + , ; = %`: what a host's name may be written with

@@ -1,7 +1,7 @@
 //! What a path names.
 
 ghost use Rattle.std.specs.Prelude.{MatchOption, Some, None, ◌≡◌, ◌∷◌, []};
-ghost use Rattle.dh_paths.specs.Texts.{rest_after, segments};
+ghost use Rattle.dh_texts.specs.Texts.{rest_after, segments};
 ghost use Rattle.dh_paths.specs.Places.{place, split_of, address_of, Other};
 
 use crate::place::Split;

@@ -3,11 +3,10 @@
 ghost use Rattle.std.specs.Prelude.{◌≡◌, ◌≤◌, ◌<◌, IfOk, Err, IsTrue, is_some, length, map};
 ghost use Rattle.std.specs.Char.{to_ascii_lowercase};
 ghost use Rattle.std.specs.List.{list_all, prefix_len};
-ghost use Rattle.dh_paths.specs.Texts.{is_digit, Answers};
+ghost use Rattle.dh_texts.specs.Texts.{is_digit, Answers};
 ghost use Rattle.dh_paths.specs.Targets.{is_name_byte, is_address_byte, bracketed_len, name_len, is_port, host_named, host_of, NamesSome};
 
-use crate::checked::HostName;
-use crate::fault::TextFault;
+use dh_texts::{HostName, TextFault};
 use std::alloc::{AllocError, Global};
 
 fn name_bytes(bytes: &[u8]) -> usize

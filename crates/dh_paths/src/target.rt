@@ -4,13 +4,11 @@ ghost use Rattle.std.specs.Prelude.{◌≡◌, ◌≤◌, ◌∷◌, IfOk, IfSom
 ghost use Rattle.std.specs.List.{list_all, prefix_len, position, before_first};
 ghost use Rattle.std.specs.Option.{option_copied, option_map};
 ghost use Rattle.std.specs.Str.{IsAscii, str_eq_ignore_ascii_case};
-ghost use Rattle.dh_paths.specs.Bytes.{slash};
-ghost use Rattle.dh_paths.specs.Texts.{Answers};
+ghost use Rattle.dh_texts.specs.Bytes.{slash};
+ghost use Rattle.dh_texts.specs.Texts.{Answers};
 
-use crate::classes::all_no_control;
-use crate::fault::TextFault;
 use crate::host::host_name;
-use crate::text::Text;
+use dh_texts::{Text, TextFault, all_no_control};
 use percent_encoding::{DecodeError, percent_decode};
 use std::alloc::{AllocError, Global};
 

@@ -1,6 +1,6 @@
 -- A refusal of a statement, as the layers above tell it.
-use Rattle.dh_reply.specs.declared.fault.Fault.{Fault}
-use Rattle.dh_reply.specs.declared.fault.Fault.TheVariants.{Store, Memory}
+use Rattle.dh_lookup.specs.declared.fault.Fault.{Fault}
+use Rattle.dh_lookup.specs.declared.fault.Fault.TheVariants.{Store, Memory}
 use Rattle.dh_rows.specs.declared.fault.Fault as rows
 use Rattle.dh_rows.specs.declared.fault.Fault.TheVariants as refused
 

@@ -4,7 +4,7 @@ use Rattle.std.specs.List.{AllByRecursion}
 use Rattle.sqlite_value.specs.declared.value.Value.TheVariants.{Int, Text, Blob}
 use Rattle.sqlite_value.specs.Order.{Row, column}
 use Rattle.sqlite.specs.Values.{IsInt}
-use Rattle.dh_paths.specs.Texts.{is_host_name, is_lang, is_page_path, is_ref_name, is_slug, is_token}
+use Rattle.dh_texts.specs.Texts.{is_host_name, is_lang, is_page_path, is_ref_name, is_slug, is_token}
 use Rattle.dh_world.specs.declared.answer.Answer.{Answer}
 use Rattle.dh_world.specs.Answers.{IsAnswer, json_of}
 use Rattle.dh_records.specs.Lists.{Lists}

@@ -2,8 +2,8 @@
 
 ghost use Rattle.std.specs.Prelude.{◌≡◌, List, map, slice_get, string_bytes, IfOk, IsSome};
 ghost use Rattle.std.specs.List.{AllByRecursion};
-ghost use Rattle.dh_paths.specs.Texts.{is_host_name, is_lang, is_page_path, is_ref_name, is_slug, is_token};
-ghost use Rattle.dh_reply.specs.Faults.{OnStore};
+ghost use Rattle.dh_texts.specs.Texts.{is_host_name, is_lang, is_page_path, is_ref_name, is_slug, is_token};
+ghost use Rattle.dh_lookup.specs.Faults.{OnStore};
 ghost use Rattle.sqlite_value.specs.declared.value.Value.TheVariants.{Int, Text as SqlText, Blob};
 ghost use Rattle.sqlite_value.specs.Order.{column};
 ghost use Rattle.dh_rows.specs.Keyed.{Coding, flag};

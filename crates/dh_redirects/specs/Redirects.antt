@@ -1,8 +1,8 @@
 -- Redirects of a documentation host (Read the Docs, Redirects), and which of them are refused.
 use Rattle.std.specs.Prelude.{ℕ, ◌-◌, Bool, true, false, ◌&&◌, ◌||◌, not, ◌==◌, nat_le, nat_eq, List, [], ◌∷◌, length, take, codes, find, Option, Some, None}
 use Rattle.std.specs.List.{list_all, list_any, starts_with, before_first}
-use Rattle.dh_paths.specs.Bytes.{hash, star, slash, question}
-use Rattle.dh_paths.specs.Texts.{is_no_control, first_byte, last_byte, rest_after}
+use Rattle.dh_texts.specs.Bytes.{hash, star, slash, question}
+use Rattle.dh_texts.specs.Texts.{is_no_control, first_byte, last_byte, rest_after}
 use Rattle.dh_redirects.specs.declared.redirect.RedirectKind.{RedirectKind}
 use Rattle.dh_redirects.specs.declared.redirect.RedirectKind.TheVariants.{Page, Exact, CleanToHtml, HtmlToClean}
 use Rattle.dh_redirects.specs.declared.redirect.Redirect.{Redirect}

@@ -3,7 +3,7 @@
 ghost use Rattle.std.specs.Prelude.{◌≡◌, ◌==◌, ◌<◌, [], ◌∷◌, ◌++◌, drop, IfSome, IfOk, OnOk, Some, None, MatchOption, string_bytes, length, codes};
 ghost use Rattle.std.specs.List.{prefix_len};
 ghost use Rattle.std.specs.Option.{option_copied, option_map_or};
-ghost use Rattle.dh_paths.specs.Bytes.{slash};
+ghost use Rattle.dh_texts.specs.Bytes.{slash};
 ghost use Rattle.dh_redirects.specs.Locations.{matched, sent, after_colon, colon_parts, filled, one_slash};
 
 use dh_paths::{encode_path, rest_after};

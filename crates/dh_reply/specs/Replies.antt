@@ -5,16 +5,16 @@ use Rattle.std.specs.Option.{option_map, option_and_then}
 use Rattle.std.specs.Str.{bytes_eq}
 use Rattle.dh_paths.specs.Escapes.{escaped}
 use Rattle.dh_paths.specs.Places.{Place, split_of, Root, Robots, System, Page, Bare, File}
-use Rattle.dh_paths.specs.Texts.{is_slug}
+use Rattle.dh_texts.specs.Texts.{is_slug}
 use Rattle.dh_redirects.specs.declared.redirect.Asked.{Asked}
 use Rattle.dh_redirects.specs.declared.redirect.Location.{Location}
 use Rattle.dh_redirects.specs.declared.redirect.Parts.{Parts}
 use Rattle.dh_reply.specs.declared.address.GoodAddress.{GoodAddress}
-use Rattle.dh_reply.specs.declared.answer.Named.{Named}
-use Rattle.dh_reply.specs.declared.answer.Page.{Page as FoundPage}
+use Rattle.dh_lookup.specs.declared.found.Named.{Named}
+use Rattle.dh_lookup.specs.declared.found.Page.{Page as FoundPage}
 use Rattle.dh_reply.specs.declared.answer.Reply.{Reply}
-use Rattle.dh_reply.specs.declared.seen_project.SeenProject.{SeenProject}
-use Rattle.dh_reply.specs.SeenProject.{resolved, page_at, forced_result, not_found_result}
+use Rattle.dh_lookup.specs.declared.seen_project.SeenProject.{SeenProject}
+use Rattle.dh_lookup.specs.SeenProject.{resolved, page_at, forced_result, not_found_result}
 use Rattle.dh_reply.specs.Statuses.{fault_reply_of}
 
 -- `/robots.txt` and `/_/..`, of which the cases below say nothing

@@ -1,10 +1,10 @@
 //! Addresses `/language/name/..` of a project.
 
 ghost use Rattle.std.specs.Prelude.{◌≡◌};
-ghost use Rattle.dh_reply.specs.Faults.{Gives};
+ghost use Rattle.dh_lookup.specs.Faults.{Gives};
 ghost use Rattle.dh_reply.specs.Replies.{known_lang, slug_named, good_of};
 
-use crate::answer::Named;
+use dh_lookup::Named;
 use dh_paths::{Lang, Slug, TextFault};
 use std::alloc::{AllocError, Global};
 

@@ -1,20 +1,6 @@
-use dh_paths::{Bytes, Slug, Text};
+//! What is asked for, and the reply.
 
-/// The version that a name stands for.
-#[derive(Drop)]
-pub struct Named {
-    pub slug: Slug,
-    /// Whether the name is an alias, and no version's own slug.
-    pub alias: bool,
-}
-
-/// A page, or any other file of a version.
-#[derive(Drop)]
-pub struct Page {
-    /// The media type, as `text/html; charset=utf-8`.
-    pub media: Text,
-    pub body: Bytes,
-}
+use dh_paths::{Bytes, Text};
 
 /// What a GET or HEAD asks for under a host.
 #[derive(Drop)]

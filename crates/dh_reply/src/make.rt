@@ -3,7 +3,8 @@
 ghost use Rattle.std.specs.Prelude.{◌≡◌, ◌++◌, IfOk, IsSome, OnErr, OnOk, string_bytes};
 ghost use Rattle.dh_reply.specs.Replies.{page_reply, with_query, redirect, address, indexed, slash_added};
 
-use crate::answer::{Page, Reply};
+use crate::answer::Reply;
+use dh_lookup::Page;
 use dh_paths::{Bytes, Text, encode_path};
 use std::alloc::{AllocError, Global};
 

@@ -2,16 +2,15 @@
 
 ghost use Rattle.std.specs.Prelude.{◌≡◌, false};
 ghost use Rattle.dh_paths.specs.Places.{place, split_of};
-ghost use Rattle.dh_reply.specs.Lookup.{Asks, Tells, TellsMaybe, TellsOf};
+ghost use Rattle.dh_lookup.specs.Lookup.{Asks, Tells, TellsMaybe, TellsOf};
 ghost use Rattle.dh_reply.specs.Replies as spec;
 
 use crate::address::{GoodAddress, good_address, slug_of, take_lang};
-use crate::answer::{Named, Page, Read, Reply};
-use crate::fault::Fault;
-use crate::lookup::Lookup;
+use crate::answer::{Read, Reply};
 use crate::make::{joined, make_home, make_indexed, make_page_reply, make_slashed};
 use crate::redirects::{asked_of, make_led};
 use crate::statuses::fault_reply;
+use dh_lookup::{Fault, Lookup, Named, Page};
 use dh_paths::{Lang, Slug, Split, Text, split};
 use dh_redirects::Asked;
 use std::alloc::Global;

@@ -5,8 +5,8 @@ use Rattle.sqlite_value.specs.Order.{Row}
 use Rattle.sqlite_trees.specs.declared.store.Store.{Ghosts}
 use Rattle.sqlite.specs.State.{State, HasCleanDisk}
 use Rattle.sqlite.specs.Held.{Held, state}
-use Rattle.dh_reply.specs.Faults.{OnStore}
-use Rattle.dh_reply.specs.declared.fault.Fault.{Fault}
+use Rattle.dh_lookup.specs.Faults.{OnStore}
+use Rattle.dh_lookup.specs.declared.fault.Fault.{Fault}
 use Rattle.dh_rows.specs.Calls.{AreRows, IsHonest, IsBlamed, IsUnfit, Goes, GoesWithin, Stays, Refuses, Sees, CommitsAtMost, seen, committed}
 use Rattle.dh_records.specs.Lists.{Lists}
 use Rattle.dh_schema.specs.Tables.{lists_of}

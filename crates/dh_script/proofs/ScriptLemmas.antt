@@ -6,12 +6,12 @@ use Rattle.dh_paths.specs.Places.{split_of}
 use Rattle.dh_paths.specs.declared.target.Target.{Target}
 use Rattle.dh_reply.specs.Replies.{is_system, reply_to}
 use Rattle.dh_reply.specs.declared.answer.Reply.{Reply}
-use Rattle.dh_reply.specs.declared.fault.Fault.{Fault}
+use Rattle.dh_lookup.specs.declared.fault.Fault.{Fault}
 use Rattle.dh_world.specs.World.{Text, World}
 use Rattle.dh_world.specs.Seen.{seen}
 use Rattle.dh_world.specs.Reads.{host_named, pass_named}
 use Rattle.dh_world.specs.declared.outcome.Outcome.{Outcome}
-use Rattle.dh_lines.specs.Outcomes.{text_of_outcome}
+use Rattle.dh_script.specs.Outcomes.{text_of_outcome}
 use Rattle.dh_script.specs.Script.{outcome_of_read, GetsAt}
 
 -- the text of a read's outcome, whose reply is the definition's

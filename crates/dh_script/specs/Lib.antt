@@ -1,3 +1,4 @@
+pub mod Outcomes
 pub mod Reading
 pub mod Running
 pub mod Script

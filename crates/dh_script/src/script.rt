@@ -17,9 +17,10 @@ ghost use Rattle.dh_script.specs.Script.{Does, MayDo, MayDoOrder};
 ghost use Rattle.dh_script.specs.Running.{Ran, RanBut, RunsScript, seen, words_in, worded, lines_in};
 ghost use Rattle.dh_script.specs.Script.{is_unread};
 
+use crate::outcomes::outcome_text;
 use crate::reading::{ScriptFault, read_script};
 use dh_desk::Desk;
-use dh_lines::{LineFault, Order, docs_command, line_by, outcome_text};
+use dh_lines::{LineFault, Order, docs_command, line_by};
 use dh_paths::{Target, Text, TextFault};
 use dh_ports::{Sink, Source, put_all};
 use dh_reply::{Fault, Read, Reply};

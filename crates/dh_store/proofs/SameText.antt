@@ -9,7 +9,7 @@ use Rattle.sqlite.specs.Given.{IsPlain}
 use Rattle.sqlite.specs.Listing.{understood, reads_listing}
 use Rattle.sqlite_trees.specs.declared.store.Store.{Ghosts}
 use Rattle.sqlite.specs.Held.{Held}
-use Rattle.dh_reply.specs.declared.fault.Fault.{Fault}
+use Rattle.dh_lookup.specs.declared.fault.Fault.{Fault}
 use Rattle.dh_rows.specs.Calls.{command_of, IsEdit, EditsAtMost, Makes}
 
 pub as_plain : (schema : Schema) (t u : List ℕ) → IsPlain (understood schema t) → bytes_eq t u ≡ true → IsPlain (understood schema u)

@@ -8,8 +8,8 @@ use Rattle.sqlite_value.specs.Order.{Row}
 use Rattle.sqlite_trees.specs.declared.store.Store.{Ghosts}
 use Rattle.sqlite.specs.Held.{Held, state}
 use Rattle.sqlite.specs.State.{HasCleanDisk}
-use Rattle.dh_reply.specs.declared.fault.Fault.{Fault}
-use Rattle.dh_reply.specs.Faults.{OnStore}
+use Rattle.dh_lookup.specs.declared.fault.Fault.{Fault}
+use Rattle.dh_lookup.specs.Faults.{OnStore}
 use Rattle.dh_rows.specs.Calls.{Goes, IsHonest, IsSame, IsUnfit, Keep}
 use Rattle.dh_rows.proofs.Asks.{Answers}
 use Rattle.dh_records.specs.Typed.{AreTyped}

@@ -14,7 +14,7 @@ use Rattle.dh_commands.specs.Questions.{seen_questions}
 use Rattle.dh_checks.specs.declared.checked.CheckedChange.{CheckedChange}
 use Rattle.dh_commands.specs.declared.facts.Facts.{Facts}
 use Rattle.dh_commands.specs.declared.questions.Questions.{Questions}
-use Rattle.dh_paths.specs.Slugs.{slug_from}
+use Rattle.dh_texts.specs.Slugs.{slug_from}
 use Rattle.dh_redirects.specs.Redirects.{first_fault}
 use Rattle.dh_redirects.specs.declared.redirect.Redirect.{Redirect}
 use Rattle.dh_records.proofs.RecordLemmas.{found_passes}

@@ -3,7 +3,7 @@ use Rattle.std.specs.Prelude.{◌≡◌, ◌≤◌, Bool, if◌then◌else◌, L
 use Rattle.std.specs.List.{AllByRecursion}
 use Rattle.std.specs.Option.{option_and_then}
 use Rattle.std.specs.FinMap.{get}
-use Rattle.dh_paths.specs.Slugs.{slug_from}
+use Rattle.dh_texts.specs.Slugs.{slug_from}
 use Rattle.dh_redirects.specs.Redirects.{first_fault}
 use Rattle.dh_redirects.specs.declared.redirect.Redirect.{Redirect}
 use Rattle.dh_versions.specs.declared.version.Version.{Version}

@@ -4,10 +4,10 @@ use Rattle.std.specs.Prelude.{IsErrAnd}
 use Rattle.sqlite_trees.specs.View.{doubt}
 use Rattle.sqlite_trees.specs.declared.store.Store.{Ghosts}
 use Rattle.sqlite.specs.Held.{Held, state}
-use Rattle.dh_reply.specs.declared.fault.Fault.{Fault}
-use Rattle.dh_reply.specs.declared.fault.Fault.TheVariants.{Store, Memory}
-use Rattle.dh_reply.specs.Faults.{OnStore, UnlessStore}
-use Rattle.dh_reply.specs.Lookup as lookup
+use Rattle.dh_lookup.specs.declared.fault.Fault.{Fault}
+use Rattle.dh_lookup.specs.declared.fault.Fault.TheVariants.{Store, Memory}
+use Rattle.dh_lookup.specs.Faults.{OnStore, UnlessStore}
+use Rattle.dh_lookup.specs.Lookup as lookup
 use Rattle.dh_rows.specs.Calls.{IsHonest, IsSame, Lasts, seen}
 use Rattle.dh_schema.specs.Tables.{lists_of}
 use Rattle.dh_world.specs.World.{Text}

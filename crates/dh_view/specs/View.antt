@@ -11,11 +11,11 @@ use Rattle.sqlite.specs.State.{HasCleanDisk}
 use Rattle.sqlite.specs.Held.{Held, state}
 use Rattle.dh_rows.specs.Calls.{IsBlamed, IsHonest, IsSame, Lasts, Leaves, seen}
 use Rattle.dh_versions.specs.declared.version.Version.{Version}
-use Rattle.dh_reply.specs.Faults.{OnStore}
-use Rattle.dh_reply.specs.Lookup.{Meaning}
-use Rattle.dh_reply.specs.SeenProject.{resolved}
-use Rattle.dh_reply.specs.declared.fault.Fault.{Fault}
-use Rattle.dh_reply.specs.declared.seen_project.SeenProject.{SeenProject}
+use Rattle.dh_lookup.specs.Faults.{OnStore}
+use Rattle.dh_lookup.specs.Lookup.{Meaning}
+use Rattle.dh_lookup.specs.SeenProject.{resolved}
+use Rattle.dh_lookup.specs.declared.fault.Fault.{Fault}
+use Rattle.dh_lookup.specs.declared.seen_project.SeenProject.{SeenProject}
 use Rattle.dh_records.specs.declared.records.VersionRow.{VersionRow}
 use Rattle.dh_records.specs.declared.records.HeldRow.{HeldRow}
 use Rattle.dh_records.specs.declared.records.ProjectRow.{ProjectRow}

@@ -6,7 +6,7 @@ ghost use Rattle.std.specs.FinMap.{values};
 ghost use Rattle.std.proofs.Common.{◌∙◌, refl};
 ghost use Rattle.sqlite.specs.Held.{Held};
 ghost use Rattle.dh_rows.specs.Calls.{IsHonest};
-ghost use Rattle.dh_reply.specs.SeenProject.{first_result, resolved, page_at};
+ghost use Rattle.dh_lookup.specs.SeenProject.{first_result, resolved, page_at};
 ghost use Rattle.dh_records.specs.Lists.{project_of};
 ghost use Rattle.dh_world.specs.Seen.{visible_versions};
 ghost use Rattle.dh_schema.specs.Calling.{IsSettled, Learns, Reads, ReadsAll};

@@ -12,7 +12,7 @@ use Rattle.json.proofs.Printed.Trees.{value-json_tokens}
 use Rattle.serde_json.specs.Data.{Data, boolean, number, unsigned, string, object, member, no_members}
 use Rattle.serde_json.specs.Read.{read, of_json, max_depth}
 use Rattle.serde_json.specs.Written.{compact_text, outline}
-use Rattle.dh_paths.specs.Texts.{is_slug}
+use Rattle.dh_texts.specs.Texts.{is_slug}
 use Rattle.dh_world.specs.declared.answer.Answer.{Answer}
 use Rattle.dh_world.specs.declared.answer.Answer.TheVariants.{Done, Made, Known, Stored}
 use Rattle.dh_world.specs.Answers.{IsAnswer, json_of, answer_in, answer_of}

@@ -8,8 +8,11 @@ use Rattle.std.specs.FinMap.{get, insert, contains_key, len, get-insert}
 use Rattle.std.proofs.lemmas.Cmp.{tied_itself}
 use Rattle.std.proofs.lemmas.Map.Lookups.{exact_bytes}
 use Rattle.std.proofs.lemmas.Slice.Eq.{bytes_eq-Decides}
-use Rattle.dh_paths.specs.Slugs.{slug_text}
+use Rattle.dh_texts.specs.Slugs.{slug_text}
+use Rattle.dh_versions.specs.Kinds.{same_kind}
 use Rattle.dh_versions.specs.declared.version.Version.{Version}
+use Rattle.dh_rules.specs.Rules.{after_rules}
+use Rattle.dh_rules.specs.declared.rule.Fresh.{Fresh}
 use Rattle.dh_world.specs.declared.answer.Answer.{Answer}
 use Rattle.dh_world.specs.declared.command.Command.{Command}
 use Rattle.dh_world.specs.declared.command.CommandChange.{CommandChange}
@@ -19,7 +22,7 @@ use Rattle.dh_world.specs.declared.refusal.Refusal.TheVariants.{WrongKey, NoProj
 use Rattle.dh_world.specs.World.{Text, text_cmp, UsedKey, used_cmp, Project, World}
 use Rattle.dh_world.specs.Texts.{bad_text}
 use Rattle.dh_world.specs.Seen.{is_alias}
-use Rattle.dh_world.specs.Changes.{Change, change, opened, has_lang, is_place, same_kind, new_version, with_version, stored, once, at_version, at_pass, pushed, push_key, uploaded, upload_key}
+use Rattle.dh_world.specs.Changes.{Change, change, opened, has_lang, is_place, fresh, with_fresh, stored, once, at_version, at_pass, pushed, push_key, uploaded, upload_key}
 use Rattle.dh_world.specs.Step.{change_at, settled, after_texts, step}
 use Rattle.dh_world.specs.Retries.{retry_key, write_key, write_key_at, kept, left_by, after}
 use Rattle.dh_world.proofs.MapLemmas.{text_total, used_total, used_exact, get_back, put_same}
@@ -148,7 +151,21 @@ sort_of (change.Push wkey key kind name) = inr (record {
     by_version p free (Some v) =
         by_test (Leaves p (Some place)) (same_kind v.kind kind && bytes_eq v.name name) _ _
         (gives (Leaves p (Some place)) _ _ (newly_kept p p place _ refl refl free)) (refuses (Leaves p (Some place)) _)
-    by_version p free None = gives (Leaves p (Some place)) _ _ (newly_kept p (with_version p (slug_text name) (new_version p kind name)) place _ refl refl free)
+    by_version p free None =
+        let x : Fresh = after_rules p.rules (fresh p kind name) in
+        gives (Leaves p (Some place)) _ _ (newly_kept p (with_fresh (slug_text name) x p) place _ (same_wkey x.chosen) (same_used x.chosen) free)
+      where
+        -- that a rule chose the version changes the defaults alone
+        q : Bool → Project
+        q b = with_fresh (slug_text name) (record (after_rules p.rules (fresh p kind name)) { chosen = b }) p
+
+        same_wkey : (b : Bool) → (q b).wkey ≡ p.wkey
+        same_wkey true = refl
+        same_wkey false = refl
+
+        same_used : (b : Bool) → (q b).used ≡ p.used
+        same_used true = refl
+        same_used false = refl
 sort_of (change.Upload wkey key slug lang replace pages) = inr (record {
   wkey = wkey;
   key = place;
@@ -181,6 +198,16 @@ sort_of (change.SetDefault name) = inl (
   λ p.
       by_test (Leaves p None) (is_alias name) _ _ (done p _ _ refl refl)
       (at_one (Leaves p None) (get p.versions name) _ (λ v. by_test (Leaves p None) v.active _ _ (done p _ _ refl refl) (refuses (Leaves p None) _))),
+)
+sort_of (change.AddRule place rule) = inl (
+  refl,
+  λ p.
+      by_test (Leaves p None) (not (is_place place (length p.rules + 1))) _ _ (refuses (Leaves p None) _)
+      (by_test (Leaves p None) (nat_lt (length p.rules) 50) _ _ (done p _ _ refl refl) (refuses (Leaves p None) _)),
+)
+sort_of (change.DropRule place) = inl (
+  refl,
+  λ p. by_test (Leaves p None) (is_place place (length p.rules)) _ _ (done p _ _ refl refl) (refuses (Leaves p None) _),
 )
 sort_of (change.AddRedirect place redirect) = inl (
   refl,

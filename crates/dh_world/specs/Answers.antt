@@ -5,7 +5,7 @@ use Rattle.serde_json.specs.Data.{Data, boolean, number, unsigned, string, objec
 use Rattle.serde_json.specs.Find.{get, as_str, as_bool, as_number, as_u64}
 use Rattle.serde_json.specs.Read.{read}
 use Rattle.serde_json.specs.Written.{compact_text}
-use Rattle.dh_paths.specs.Texts.{is_slug}
+use Rattle.dh_texts.specs.Texts.{is_slug}
 use Rattle.dh_world.specs.declared.answer.Answer.{Answer}
 use Rattle.dh_world.specs.declared.answer.Answer.TheVariants.{Done, Made, Known, Stored}
 

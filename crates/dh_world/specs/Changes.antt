@@ -3,19 +3,23 @@ use Rattle.std.specs.Prelude.{ℕ, ◌+◌, ◌-◌, Bool, true, false, not, ◌
 use Rattle.std.specs.List.{list_any}
 use Rattle.std.specs.Str.{bytes_eq}
 use Rattle.std.specs.FinMap.{FinMap, empty, get, insert, remove, retain_keys, contains_key, len}
-use Rattle.dh_paths.specs.Slugs.{slug_text}
+use Rattle.dh_texts.specs.Slugs.{slug_text}
 use Rattle.dh_versions.specs.declared.version.Kind.{Kind}
-use Rattle.dh_versions.specs.declared.version.Kind.TheVariants.{Branch, Tag}
+use Rattle.dh_versions.specs.declared.version.Kind.TheVariants.{Branch}
+use Rattle.dh_versions.specs.Kinds.{same_kind}
 use Rattle.dh_versions.specs.declared.version.Version.{Version}
+use Rattle.dh_rules.specs.Rules.{after_rules}
+use Rattle.dh_rules.specs.declared.rule.Fresh.{Fresh}
+use Rattle.dh_rules.specs.declared.rule.Rule.{Rule}
 use Rattle.dh_redirects.specs.declared.redirect.Redirect.{Redirect}
-use Rattle.dh_reply.specs.declared.answer.Page.{Page}
+use Rattle.dh_lookup.specs.declared.found.Page.{Page}
 use Rattle.dh_world.specs.declared.answer.Answer.{Answer}
 use Rattle.dh_world.specs.declared.answer.Answer.TheVariants.{Done, Made, Known, Stored}
 use Rattle.dh_world.specs.declared.operation.Operation.TheVariants as operation
 use Rattle.dh_world.specs.World.{Text, Project, page_cmp, lies_under, UsedKey, op_code}
 use Rattle.dh_world.specs.Seen.{is_alias}
 use Rattle.dh_world.specs.declared.command.CommandChange.{CommandChange}
-use Rattle.dh_world.specs.declared.command.CommandChange.TheVariants.{NewProject, AddLang, Push, Upload, Activate, Deactivate, Hide, Unhide, Publish, MakePrivate, Gone, SetDefault, AddRedirect, DropRedirect, AddPass, DropPass, Grant, Revoke}
+use Rattle.dh_world.specs.declared.command.CommandChange.TheVariants.{NewProject, AddLang, Push, Upload, Activate, Deactivate, Hide, Unhide, Publish, MakePrivate, Gone, SetDefault, AddRule, DropRule, AddRedirect, DropRedirect, AddPass, DropPass, Grant, Revoke}
 use Rattle.dh_world.specs.declared.pages.UploadedPage.{UploadedPage}
 use Rattle.dh_world.specs.declared.property.Property.{Property}
 use Rattle.dh_world.specs.declared.property.Property.TheVariants as property
@@ -44,6 +48,7 @@ new_project lang branch private wkey = record {
   passes = empty;
   held = empty;
   used = empty;
+  rules = [];
   redirects = [];
 }
 
@@ -73,41 +78,55 @@ once p None change = change
 
 -- ---- Push
 
-abbrev pub same_kind : Kind → Kind → Bool
-same_kind Branch Branch = true
-same_kind Tag Tag = true
-same_kind _ _ = false
-
 -- a branch whose name is the default branch
 abbrev pub is_default_branch : Project → Kind → Text → Bool
 is_default_branch p kind name = same_kind kind Branch && bytes_eq name p.branch
 
--- a new version is not hidden, has the project's privacy, and is active only if it is the default branch
-abbrev pub new_version : Project → Kind → Text → Version
-new_version p kind name = record {
-  slug = slug_text name;
+-- before the rules a new version is not hidden, has the project's privacy, and is active only if it is the default branch
+abbrev pub fresh : Project → Kind → Text → Fresh
+fresh p kind name = record {
   kind = kind;
   name = name;
   active = is_default_branch p kind name;
   hidden = false;
   private = p.new_private;
+  chosen = false;
 }
+
+-- the version that stands under a slug then
+abbrev pub version_of : Text → Fresh → Version
+version_of slug x = record { slug = slug; kind = x.kind; name = x.name; active = x.active; hidden = x.hidden; private = x.private }
 
 -- the project with a version under a slug
 abbrev pub with_version : Project → Text → Version → Project
 with_version p slug v = record p { versions = insert p.versions slug v }
 
+-- the names but for this one
+abbrev pub without_name : Text → List Text → List Text
+without_name name names = filter (λ n. not (bytes_eq n name)) names
+
+-- the name is the first of the defaults, and stands there once
+abbrev pub with_default : Text → Project → Project
+with_default name p = record p { defaults = name ∷ without_name name p.defaults }
+
+-- the project with a new version under its slug, which is the first default where a rule chose it
+abbrev pub with_fresh : Text → Fresh → Project → Project
+with_fresh slug x p =
+    let after : Project = with_version p slug (version_of slug x) in
+    if x.chosen then with_default slug after else after
+
 abbrev pub made : Version → Answer
 made v = Made v.slug v.active v.hidden v.private
 
--- by the version that has the slug: the same branch or tag is known, another has taken the slug; where there is none, it is made
+-- by the version that has the slug: the same branch or tag is known, another has taken the slug; where there is none, it is made, and the rules run
 abbrev pub pushed : Project → Text → Kind → Text → Option Version → Change
 pushed p key kind name (Some v) =
     if same_kind v.kind kind && bytes_eq v.name name then keep (push_key (slug_text name) key) (Known v.slug) p
     else Err SlugTaken
 pushed p key kind name None =
-    let v : Version = new_version p kind name in
-    keep (push_key (slug_text name) key) (made v) (with_version p v.slug v)
+    let slug : Text = slug_text name in
+    let x : Fresh = after_rules p.rules (fresh p kind name) in
+    keep (push_key slug key) (made (version_of slug x)) (with_fresh slug x p)
 
 -- by the write key, by the answer kept under the retry key, and by the version with the slug
 abbrev pub push : Text → Text → Kind → Text → Project → Change
@@ -172,10 +191,6 @@ deactivate slug p = at_version (get p.versions slug) (λ v. Ok (without_pages sl
 
 -- ---- Gone and SetDefault
 
--- the names but for this one
-abbrev pub without_name : Text → List Text → List Text
-without_name name names = filter (λ n. not (bytes_eq n name)) names
-
 -- the project without a version: its pages, the grants on it and its name among the defaults go with it, and used keys stay
 abbrev pub without_version : Text → Project → Project
 without_version slug p = record (without_pages slug p) {
@@ -186,10 +201,6 @@ without_version slug p = record (without_pages slug p) {
 
 abbrev pub gone : Text → Project → Change
 gone slug p = at_version (get p.versions slug) (λ v. Ok (without_version slug p, Done))
-
--- the name is the first of the defaults, and stands there once
-abbrev pub with_default : Text → Project → Project
-with_default name p = record p { defaults = name ∷ without_name name p.defaults }
 
 -- an alias may stand for nothing; a version has to be there and active
 abbrev pub set_default : Text → Project → Change
@@ -209,6 +220,21 @@ with_one_at place x xs = take (place - 1) xs ++ x ∷ drop (place - 1) xs
 -- the one at a place is gone; those behind it move by one
 abbrev pub without_place : {X : Type 0} → ℕ → List X → List X
 without_place place xs = take (place - 1) xs ++ drop place xs
+
+-- ---- rules
+
+-- a place of the list or the next one, and there are fewer than 50
+abbrev pub add_rule : ℕ → Rule → Project → Change
+add_rule place rule p =
+    if not (is_place place (length p.rules + 1)) then Err BadPlace
+    else if nat_lt (length p.rules) 50 then Ok (record p { rules = with_one_at place rule p.rules }, Done)
+    else Err TooMany
+
+-- a place of the list
+abbrev pub drop_rule : ℕ → Project → Change
+drop_rule place p =
+    if is_place place (length p.rules) then Ok (record p { rules = without_place place p.rules }, Done)
+    else Err BadPlace
 
 -- ---- redirects
 
@@ -271,6 +297,8 @@ change (Publish slug) p = set_property property.Public slug p
 change (MakePrivate slug) p = set_property property.Private slug p
 change (Gone slug) p = gone slug p
 change (SetDefault name) p = set_default name p
+change (AddRule place rule) p = add_rule place rule p
+change (DropRule place) p = drop_rule place p
 change (AddRedirect place redirect) p = add_redirect place redirect p
 change (DropRedirect place) p = drop_redirect place p
 change (AddPass pass) p = add_pass pass p

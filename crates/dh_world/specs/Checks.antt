@@ -1,10 +1,10 @@
 -- What the checks of texts answer, and the refusals for faults.
 use Rattle.std.specs.Prelude.{◌≡◌, ◌⊎◌, Bool, true, false, Option, Some, None, Result, Ok, Err}
 use Rattle.dh_world.specs.World.{Text}
-use Rattle.dh_paths.specs.declared.fault.TextFault.{TextFault}
-use Rattle.dh_paths.specs.declared.fault.TextFault.TheVariants as text
-use Rattle.dh_reply.specs.declared.fault.Fault.{Fault}
-use Rattle.dh_reply.specs.declared.fault.Fault.TheVariants as fault
+use Rattle.dh_texts.specs.declared.fault.TextFault.{TextFault}
+use Rattle.dh_texts.specs.declared.fault.TextFault.TheVariants as text
+use Rattle.dh_lookup.specs.declared.fault.Fault.{Fault}
+use Rattle.dh_lookup.specs.declared.fault.Fault.TheVariants as fault
 use Rattle.dh_world.specs.declared.refusal.Refusal.{Refusal}
 use Rattle.dh_world.specs.declared.refusal.Refusal.TheVariants.{BadHost, BadLang, BadRef, BadPath, BadToken, Store, OutOfMemory}
 
@@ -28,11 +28,16 @@ abbrev pub Checks : {A : Type 0} → Option Refusal → (A → Type 0) → Resul
 Checks wrong P (Ok value) = (wrong ≡ None) × P value
 Checks wrong P (Err e) = (wrong ≡ Some e) ⊎ (e ≡ OutOfMemory)
 
+-- the same, where one with nothing wrong may be refused too
+abbrev pub ChecksOr : {A : Type 0} → Option Refusal → (A → Type 0) → (Refusal → Type 0) → Result A Refusal → Type 0
+ChecksOr wrong P Q (Ok value) = (wrong ≡ None) × P value
+ChecksOr wrong P Q (Err e) = (wrong ≡ Some e) ⊎ ((e ≡ OutOfMemory) ⊎ ((wrong ≡ None) × Q e))
+
 -- the refusal of a command for a fault of the tables
 abbrev pub refusal_from : Fault → Refusal
 refusal_from fault.Store = Store
 refusal_from fault.Memory = OutOfMemory
 
--- a fault of the store, and want of memory, may come wherever they occur
-abbrev pub IsSetAside : Refusal → Type 0
-IsSetAside e = (e ≡ Store) ⊎ (e ≡ OutOfMemory)
+-- a fault of the store, and out of memory, may come wherever they occur
+abbrev pub IsFault : Refusal → Type 0
+IsFault e = (e ≡ Store) ⊎ (e ≡ OutOfMemory)

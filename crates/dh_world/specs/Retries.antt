@@ -1,7 +1,7 @@
 -- Retry keys: a push or an upload that is done again gives its first answer, for good.
 use Rattle.std.specs.Prelude.{◌≡◌, true, List, [], ◌∷◌, Option, Some, None, is_some, Result, Ok, Err, option_map, option_and_then}
 use Rattle.std.specs.FinMap.{get}
-use Rattle.dh_paths.specs.Slugs.{slug_text}
+use Rattle.dh_texts.specs.Slugs.{slug_text}
 use Rattle.dh_world.specs.declared.answer.Answer.{Answer}
 use Rattle.dh_world.specs.World.{Text, World, UsedKey}
 use Rattle.dh_world.specs.declared.command.Command.{Command}

@@ -5,10 +5,10 @@ use Rattle.std.specs.FinMap.{FinMap, empty, get, insert, retain_keys, entries, k
 use Rattle.dh_versions.specs.Aliases.{latest_of, stable_of}
 use Rattle.dh_versions.specs.declared.version.Version.{Version}
 use Rattle.dh_redirects.specs.declared.redirect.Redirect.{Redirect}
-use Rattle.dh_reply.specs.declared.answer.Page.{Page}
-use Rattle.dh_reply.specs.declared.seen_project.SeenProject.{SeenProject}
-use Rattle.dh_reply.specs.declared.seen_project.StoredPage.{StoredPage}
-use Rattle.dh_reply.specs.SeenProject.{resolved}
+use Rattle.dh_lookup.specs.declared.found.Page.{Page}
+use Rattle.dh_lookup.specs.declared.seen_project.SeenProject.{SeenProject}
+use Rattle.dh_lookup.specs.declared.seen_project.StoredPage.{StoredPage}
+use Rattle.dh_lookup.specs.SeenProject.{resolved}
 use Rattle.dh_world.specs.World.{Text, text_cmp, PageKey, page_cmp, Project, World, is_visible}
 
 -- `latest` or `stable`
@@ -47,7 +47,7 @@ without_default languages branch versions pages redirects = record {
 abbrev pub with_default : SeenProject → List Text → SeenProject
 with_default p names = record p { «default» = default_of (λ name. is_some (resolved p name)) names }
 
--- the project as the holder of this pass sees it, or a caller with none: no private version that the pass does not hold, no rank, pass or key
+-- the project as the holder of this pass sees it, or a caller with none: no private version that the pass does not hold, no rank, pass, key or rule
 unfoldable pub seen_project : Project → Option Text → SeenProject
 seen_project p pass = with_default (without_default p.languages p.branch (visible_versions p pass) (visible_pages p pass) p.redirects) p.defaults
 
@@ -77,6 +77,7 @@ veiled p pass = record {
   passes = retain_keys p.passes (is_own pass);
   held = retain_keys p.held (λ key. is_own pass key.0 && is_visible p pass key.1);
   used = empty;
+  rules = [];
   redirects = p.redirects;
 }
 

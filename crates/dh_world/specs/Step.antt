@@ -1,14 +1,21 @@
 -- One step of the world: what a command changes and answers, or why it is refused.
-use Rattle.std.specs.Prelude.{◌≡◌, ◌⊎◌, Option, Some, None, Result, Ok, Err}
+use Rattle.std.specs.Prelude.{◌≡◌, ◌⊎◌, ℕ, true, Option, Some, None, Result, Ok, Err}
 use Rattle.std.specs.FinMap.{get, insert}
+use Rattle.std.specs.Str.{bytes_eq}
+use Rattle.dh_texts.specs.Slugs.{slug_text}
+use Rattle.dh_rules.specs.Patterns.{IsCustom}
+use Rattle.dh_rules.specs.Rules.{IsCustomAt}
+use Rattle.dh_versions.specs.declared.version.Kind.{Kind}
 use Rattle.dh_world.specs.declared.answer.Answer.{Answer}
 use Rattle.dh_world.specs.World.{Text, Project, World}
 use Rattle.dh_world.specs.declared.command.Command.{Command}
 use Rattle.dh_world.specs.declared.command.CommandChange.{CommandChange}
+use Rattle.dh_world.specs.declared.command.CommandChange.TheVariants.{Push, AddRule}
 use Rattle.dh_world.specs.declared.refusal.Refusal.{Refusal}
+use Rattle.dh_world.specs.declared.refusal.Refusal.TheVariants.{BadPattern, PatternRefused}
 use Rattle.dh_world.specs.Texts.{bad_text}
-use Rattle.dh_world.specs.Checks.{IsSetAside}
-use Rattle.dh_world.specs.Changes.{Change, change, opened}
+use Rattle.dh_world.specs.Checks.{IsFault}
+use Rattle.dh_world.specs.Changes.{Change, change, opened, push_key}
 
 abbrev pub change_at : CommandChange → Option Project → Change
 change_at c None = opened c
@@ -31,7 +38,36 @@ after_texts w c None = turn w c
 abbrev pub step : World → Command → Result (World × Answer) Refusal
 step w c = after_texts w c (bad_text c)
 
+-- ---- what is set aside
+
+-- `regex` may take no custom pattern, as one that is too big: then it refuses a rule that is to be added
+abbrev pub IsUntaken : CommandChange → Refusal → Type 0
+IsUntaken (AddRule place rule) e = IsCustom rule.pattern × (e ≡ BadPattern)
+IsUntaken _ e = ⊥
+
+-- a push makes a version of the project, so that the rules run, and at a place stands one of its kind with a custom pattern
+pub record RunsCustom (p : Project) (wkey key : Text) (kind : Kind) (name : Text) (e : Refusal) : Type 0 where
+  pub right_key : bytes_eq wkey p.wkey ≡ true
+  pub unused : get p.used (push_key (slug_text name) key) ≡ None
+  pub new : get p.versions (slug_text name) ≡ None
+  pub place : ℕ
+  pub custom : IsCustomAt p.rules kind place
+  pub refused : e ≡ PatternRefused place
+
+-- and then it refuses a push
+abbrev pub IsUnrun : CommandChange → Project → Refusal → Type 0
+IsUnrun (Push wkey key kind name) p e = RunsCustom p wkey key kind name e
+IsUnrun _ p e = ⊥
+
+abbrev pub IsUnrunAt : CommandChange → Option Project → Refusal → Type 0
+IsUnrunAt c None e = ⊥
+IsUnrunAt c (Some p) e = IsUnrun c p e
+
+-- What may refuse a command besides its step: a fault, or a custom pattern that `regex` does not take, where the texts are right.
+abbrev pub IsSetAside : World → Command → Refusal → Type 0
+IsSetAside w c e = IsFault e ⊎ ((bad_text c ≡ None) × (IsUntaken c.change e ⊎ IsUnrunAt c.change (get w c.host) e))
+
 -- An accepted command is one step; a refused one changes nothing, and the refusal is the step's or one set aside.
 abbrev pub IsStep : World → World → Command → Result Answer Refusal → Type 0
 IsStep before after c (Ok answer) = step before c ≡ Ok (after, answer)
-IsStep before after c (Err e) = (after ≡ before) × (IsSetAside e ⊎ (step before c ≡ Err e))
+IsStep before after c (Err e) = (after ≡ before) × (IsSetAside before c e ⊎ (step before c ≡ Err e))

@@ -2,17 +2,19 @@
 use Rattle.std.specs.Prelude.{◌==◌, ℕ, Bool, not, ◌&&◌, nat_le, List, [], ◌∷◌, ◌++◌, length, Option, None, is_some, option_map}
 use Rattle.std.specs.List.{list_any}
 use Rattle.std.specs.Str.{bytes_eq}
-use Rattle.dh_paths.specs.Texts.{is_within, first_byte, last_byte, is_host_name, is_lang, is_ref_name, is_slug, is_page_path, is_token}
-use Rattle.dh_paths.specs.Slugs.{slug_from}
+use Rattle.dh_texts.specs.Texts.{is_within, first_byte, last_byte, is_host_name, is_lang, is_ref_name, is_slug, is_page_path, is_token}
+use Rattle.dh_texts.specs.Slugs.{slug_from}
+use Rattle.dh_rules.specs.Rules.{is_allowed}
+use Rattle.dh_rules.specs.declared.rule.Rule.{Rule}
 use Rattle.dh_redirects.specs.Redirects.{first_fault, fault_number}
 use Rattle.dh_redirects.specs.declared.redirect.Redirect.{Redirect}
 use Rattle.dh_world.specs.World.{Text}
 use Rattle.dh_world.specs.declared.command.Command.{Command}
 use Rattle.dh_world.specs.declared.command.CommandChange.{CommandChange}
-use Rattle.dh_world.specs.declared.command.CommandChange.TheVariants.{NewProject, AddLang, Push, Upload, Activate, Deactivate, Hide, Unhide, Publish, MakePrivate, Gone, SetDefault, AddRedirect, DropRedirect, AddPass, DropPass, Grant, Revoke}
+use Rattle.dh_world.specs.declared.command.CommandChange.TheVariants.{NewProject, AddLang, Push, Upload, Activate, Deactivate, Hide, Unhide, Publish, MakePrivate, Gone, SetDefault, AddRule, DropRule, AddRedirect, DropRedirect, AddPass, DropPass, Grant, Revoke}
 use Rattle.dh_world.specs.declared.pages.UploadedPage.{UploadedPage}
 use Rattle.dh_world.specs.declared.refusal.Refusal.{Refusal}
-use Rattle.dh_world.specs.declared.refusal.Refusal.TheVariants.{BadHost, BadLang, BadRef, BadPath, BadPage, BadRedirect, BadToken, BadKey}
+use Rattle.dh_world.specs.declared.refusal.Refusal.TheVariants.{BadHost, BadLang, BadRef, BadPath, BadPage, BadPattern, BadRedirect, BadToken, BadKey}
 use Rattle.dh_world.specs.Refusals.{unless, or_else, first_of}
 
 -- 0x20 to 0x7E
@@ -77,6 +79,10 @@ bad_name name = unless (is_some (slug_from name)) BadRef
 abbrev pub bad_count : List UploadedPage → Option Refusal
 bad_count pages = unless (is_count pages) BadPage
 
+-- of a custom pattern, that it is over 200 bytes or no expression
+abbrev pub bad_rule : Rule → Option Refusal
+bad_rule rule = unless (is_allowed rule.pattern) BadPattern
+
 -- the number of a redirect's first fault
 abbrev pub bad_redirect : Redirect → Option Refusal
 bad_redirect redirect = option_map (λ fault. BadRedirect (fault_number fault)) (first_fault redirect)
@@ -96,6 +102,8 @@ wrong_texts (Publish slug) = bad_slug slug ∷ []
 wrong_texts (MakePrivate slug) = bad_slug slug ∷ []
 wrong_texts (Gone slug) = bad_slug slug ∷ []
 wrong_texts (SetDefault name) = bad_slug name ∷ []
+wrong_texts (AddRule place rule) = bad_rule rule ∷ []
+wrong_texts (DropRule place) = []
 wrong_texts (AddRedirect place redirect) = bad_redirect redirect ∷ []
 wrong_texts (DropRedirect place) = []
 wrong_texts (AddPass pass) = bad_token pass ∷ []

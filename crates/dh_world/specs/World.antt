@@ -8,8 +8,9 @@ use Rattle.std.specs.Cmp.Lexicographic.{slice_cmp}
 use Rattle.std.specs.FinMap.{FinMap, get, contains_key}
 use Rattle.std.specs.FinSet.{FinSet}
 use Rattle.dh_versions.specs.declared.version.Version.{Version}
+use Rattle.dh_rules.specs.declared.rule.Rule.{Rule}
 use Rattle.dh_redirects.specs.declared.redirect.Redirect.{Redirect}
-use Rattle.dh_reply.specs.declared.answer.Page.{Page}
+use Rattle.dh_lookup.specs.declared.found.Page.{Page}
 use Rattle.dh_world.specs.declared.answer.Answer.{Answer}
 use Rattle.dh_world.specs.declared.operation.Operation.{Operation}
 use Rattle.dh_world.specs.declared.operation.Operation.TheVariants.{Push, Upload}
@@ -59,7 +60,7 @@ HeldKey = Text × Text
 abbrev pub held_cmp : HeldKey → HeldKey → Ordering
 held_cmp = pair_cmp text_cmp text_cmp
 
--- A project; rules are to join it.
+-- A project.
 pub record Project : Type 0 where
   -- the main one first
   pub languages : List Text
@@ -77,6 +78,8 @@ pub record Project : Type 0 where
   pub held : FinSet held_cmp
   -- the first answer to each retry key
   pub used : FinMap used_cmp Answer
+  -- in the order in which they run
+  pub rules : List Rule
   -- in the order in which they are tried
   pub redirects : List Redirect
 

@@ -2,6 +2,7 @@
 use crate::pages::Pages;
 use dh_paths::Text;
 use dh_redirects::Redirect;
+use dh_rules::Rule;
 use dh_versions::Kind;
 
 /// An administrative command. Its texts are as they came: that one is no value of its type is found when the command is applied.
@@ -81,6 +82,17 @@ pub enum CommandChange {
     SetDefault {
         /// The slug of a version, or the name of an alias.
         name: Text,
+    },
+    /// There is a rule more; those from its place on move by one.
+    AddRule {
+        /// From 1.
+        place: u32,
+        rule: Rule,
+    },
+    /// The rule at a place is gone; those behind it move by one.
+    DropRule {
+        /// From 1.
+        place: u32,
     },
     /// There is a redirect more; those from its place on move by one.
     AddRedirect {

@@ -7,7 +7,7 @@ use Rattle.std.proofs.lemmas.Bool.{false≢true}
 use Rattle.std.proofs.lemmas.Bool.Decides.{nat_tests}
 use Rattle.std.proofs.lemmas.Str.{IsUtf8-from_ascii}
 use Rattle.std.proofs.lemmas.Str.Ascii.{IsAscii-cons, IsAscii-nil}
-use Rattle.dh_paths.specs.Texts.{is_host_name, is_token_byte, is_token}
+use Rattle.dh_texts.specs.Texts.{is_host_name, is_token_byte, is_token}
 use Rattle.dh_paths.specs.Places.{split_of}
 use Rattle.dh_reply.specs.Replies.{is_system, reply_to}
 use Rattle.dh_reply.specs.declared.answer.Read.{Read}

@@ -3,7 +3,7 @@
 ghost use Rattle.std.specs.Prelude.{◌≡◌, map, slice_get};
 ghost use Rattle.std.specs.Option.{option_and_then};
 ghost use Rattle.dh_rows.specs.Calls.{IsHonest};
-ghost use Rattle.dh_reply.specs.SeenProject.{alias_of, alias_to, resolved};
+ghost use Rattle.dh_lookup.specs.SeenProject.{alias_of, alias_to, resolved};
 ghost use Rattle.dh_schema.specs.Calling.{IsSettled, Reads};
 ghost use Rattle.dh_view.specs.View.{Queries, shown_in};
 

@@ -3,7 +3,7 @@
 ghost use Rattle.std.specs.Prelude.{map, find, []};
 ghost use Rattle.std.specs.Option.{option_map};
 ghost use Rattle.dh_rows.specs.Calls.{IsHonest};
-ghost use Rattle.dh_reply.specs.SeenProject.{resolved};
+ghost use Rattle.dh_lookup.specs.SeenProject.{resolved};
 ghost use Rattle.dh_world.specs.Seen.{default_of};
 ghost use Rattle.dh_schema.specs.Calling.{IsSettled, Reads};
 ghost use Rattle.dh_view.specs.View.{Queries, resolves, shown_in};

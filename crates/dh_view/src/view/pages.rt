@@ -4,7 +4,7 @@ ghost use Rattle.std.specs.Prelude.{◌≡◌, map, find, IfOk};
 ghost use Rattle.std.specs.Option.{option_map};
 ghost use Rattle.dh_rows.specs.Calls.{IsHonest};
 ghost use Rattle.dh_records.specs.Lists as spec;
-ghost use Rattle.dh_reply.specs.SeenProject.{page_at};
+ghost use Rattle.dh_lookup.specs.SeenProject.{page_at};
 ghost use Rattle.dh_records.specs.Lists.{project_of};
 ghost use Rattle.dh_schema.specs.Calling.{IsSettled, Reads, ReadsAll};
 ghost use Rattle.dh_view.specs.View.{Queries, shown_in};

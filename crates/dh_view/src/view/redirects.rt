@@ -3,7 +3,7 @@
 ghost use Rattle.std.specs.Prelude.{◌≡◌, map, IfOk};
 ghost use Rattle.dh_rows.specs.Calls.{IsHonest};
 ghost use Rattle.dh_records.specs.Lists.{project_of};
-ghost use Rattle.dh_reply.specs.SeenProject as spec;
+ghost use Rattle.dh_lookup.specs.SeenProject as spec;
 ghost use Rattle.dh_schema.specs.Calling.{IsSettled, Reads};
 ghost use Rattle.dh_view.specs.View.{Queries};
 

@@ -1,8 +1,8 @@
 use Rattle.std.proofs.Common.{◌<◌, length, Option, List, ℕ, take, drop, subst, sym, refl, arith, ◌-◌}
 use Rattle.std.proofs.lemmas.Bool.Decides.{nat_tests}
 use Rattle.std.proofs.lemmas.List.{take_rest}
-use Rattle.dh_paths.specs.Texts.{Answers}
-use Rattle.dh_paths.specs.declared.fault.TextFault.TheVariants.{BadHost}
+use Rattle.dh_texts.specs.Texts.{Answers}
+use Rattle.dh_texts.specs.declared.fault.TextFault.TheVariants.{BadHost}
 use Rattle.dh_paths.proofs.HostLemmas.{host_of-named}
 use Rattle.dh_paths.proofs.host.host_part.Goals as goal
 

@@ -1,7 +1,7 @@
 use Rattle.std.proofs.Common.{◌∙◌, List, ℕ, ap, inl, refl, subst, sym}
 use Rattle.std.specs.List.{list_all}
 use Rattle.std.specs.Str.{IsUtf8}
-use Rattle.dh_paths.specs.Texts.{is_no_control}
+use Rattle.dh_texts.specs.Texts.{is_no_control}
 use Rattle.dh_paths.proofs.TargetLemmas.{path_of-none, path_of-some}
 use Rattle.dh_paths.proofs.target.decoded.Goals as goal
 

@@ -1,5 +1,5 @@
 use Rattle.std.proofs.Common.{inr, refl}
-use Rattle.dh_lines.specs.Outcomes.{text_of_outcome}
+use Rattle.dh_script.specs.Outcomes.{text_of_outcome}
 use Rattle.dh_script.specs.Script.{outcome_of}
 use Rattle.dh_script.proofs.script.act_text.Goals as goal
 

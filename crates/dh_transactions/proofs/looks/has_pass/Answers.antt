@@ -2,7 +2,7 @@ use Rattle.std.proofs.Common.{◌∙◌, Option, Bor, false, is_some, sym, ap}
 use Rattle.std.specs.Prelude.{option_map}
 use Rattle.std.specs.Option.{option_map_or}
 use Rattle.std.specs.FinMap.{contains_key}
-use Rattle.dh_paths.specs.declared.checked.token.Token.{Token}
+use Rattle.dh_texts.specs.declared.checked.token.Token.{Token}
 use Rattle.dh_records.proofs.WorldLemmas.{has_pass_in}
 use Rattle.dh_transactions.proofs.looks.has_pass.Goals as goal
 use Rattle.dh_transactions.specs.Going.{records}

@@ -1,6 +1,6 @@
 use Rattle.std.proofs.Common.{◌∙◌, Bor, Option, Some, None, sym, subst}
 use Rattle.std.specs.Prelude.{option_map}
-use Rattle.dh_paths.specs.declared.checked.slug.Slug.{Slug}
+use Rattle.dh_texts.specs.declared.checked.slug.Slug.{Slug}
 use Rattle.dh_transactions.proofs.LookLemmas.{version_here}
 use Rattle.dh_transactions.proofs.looks.version_for.Goals as goal
 use Rattle.dh_transactions.specs.Finding.{IsVersion}

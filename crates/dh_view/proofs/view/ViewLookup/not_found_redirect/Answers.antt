@@ -1,7 +1,7 @@
 use Rattle.std.proofs.Common.{false, refl}
 use Rattle.std.specs.Option.{option_and_then}
 use Rattle.std.specs.FinMap.{get}
-use Rattle.dh_reply.specs.SeenProject.{first_result}
+use Rattle.dh_lookup.specs.SeenProject.{first_result}
 use Rattle.dh_rows.specs.Calls.{seen}
 use Rattle.dh_records.specs.Lists.{world_of}
 use Rattle.dh_schema.specs.Tables.{lists_of}

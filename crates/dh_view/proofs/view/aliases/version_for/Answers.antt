@@ -1,5 +1,5 @@
 use Rattle.std.proofs.Common.{◌∙◌, ap}
-use Rattle.dh_reply.specs.SeenProject.{alias_of}
+use Rattle.dh_lookup.specs.SeenProject.{alias_of}
 use Rattle.dh_records.specs.Lists.{project_of}
 use Rattle.dh_world.specs.Seen.{seen_project}
 use Rattle.dh_rows.specs.Calls.{seen}

@@ -1,6 +1,6 @@
 use Rattle.std.proofs.Common.{◌∙◌, ap, codes}
 use Rattle.std.specs.Option.{option_map}
-use Rattle.dh_reply.specs.SeenProject.{resolved}
+use Rattle.dh_lookup.specs.SeenProject.{resolved}
 use Rattle.dh_records.specs.Lists.{project_of}
 use Rattle.dh_world.specs.Seen.{seen_project}
 use Rattle.dh_rows.specs.Calls.{seen}

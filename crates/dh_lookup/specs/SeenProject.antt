@@ -1,0 +1,63 @@
+-- What a project shows its caller: the version that a name stands for, the page at a path, where redirects lead.
+use Rattle.std.specs.Prelude.{ℕ, Bool, true, false, not, ◌&&◌, if◌then◌else◌, Option, None, List, [], ◌∷◌, codes}
+use Rattle.std.specs.List.{find}
+use Rattle.std.specs.Option.{option_map, option_or}
+use Rattle.std.specs.Str.{bytes_eq}
+use Rattle.dh_versions.specs.declared.version.Version.{Version}
+use Rattle.dh_redirects.specs.declared.redirect.Asked.{Asked}
+use Rattle.dh_redirects.specs.declared.redirect.Location.{Location}
+use Rattle.dh_redirects.specs.declared.redirect.Redirect.{Redirect}
+use Rattle.dh_redirects.specs.Locations.{redirect_result}
+use Rattle.dh_lookup.specs.declared.found.Named.{Named}
+use Rattle.dh_lookup.specs.declared.found.Page.{Page}
+use Rattle.dh_lookup.specs.declared.seen_project.SeenProject.{SeenProject}
+use Rattle.dh_lookup.specs.declared.seen_project.StoredPage.{StoredPage}
+
+-- an alias for the version with that slug, where there is one
+abbrev pub alias_to : Option (List ℕ) → Option Named
+alias_to slug = option_map (λ s. record { slug = s; alias = true }) slug
+
+-- the alias of that name (Read the Docs, Versions)
+abbrev pub alias_of : SeenProject → List ℕ → Option Named
+alias_of p name =
+    if bytes_eq name (codes "latest") then alias_to p.latest
+    else if bytes_eq name (codes "stable") then alias_to p.stable
+    else None
+
+-- a version by its own slug
+abbrev pub own_name : Version → Named
+own_name v = record { slug = v.slug; alias = false }
+
+-- the visible version with that slug, else the alias of that name
+unfoldable pub resolved : SeenProject → List ℕ → Option Named
+resolved p name =
+    option_or
+    (option_map own_name (find (λ (v : Version). bytes_eq v.slug name) p.versions))
+    (alias_of p name)
+
+-- the page is at that path of that version in that language
+abbrev pub stands_at : List ℕ → List ℕ → List ℕ → StoredPage → Bool
+stands_at lang slug path s = bytes_eq s.lang lang && bytes_eq s.slug slug && bytes_eq s.path path
+
+-- the page at that path of that version in that language
+unfoldable pub page_at : SeenProject → List ℕ → List ℕ → List ℕ → Option Page
+page_at p lang slug path =
+    option_map (λ (s : StoredPage). s.page) (find (stands_at lang slug path) p.pages)
+
+-- where a redirect leads, of all or of those with force alone
+abbrev pub result_in : Bool → Redirect → Asked → Option Location
+result_in forced r asked = if forced && not r.force then None else redirect_result r asked
+
+-- where the first of them leads that has a result (Read the Docs, Redirects)
+unfoldable pub first_result : Bool → List Redirect → Asked → Option Location
+first_result forced [] asked = None
+first_result forced (r ∷ rs) asked =
+    option_or (result_in forced r asked) (first_result forced rs asked)
+
+-- the result that comes before any page
+abbrev pub forced_result : SeenProject → Asked → Option Location
+forced_result p asked = first_result true p.redirects asked
+
+-- the result that comes where nothing is served
+abbrev pub not_found_result : SeenProject → Asked → Option Location
+not_found_result p asked = first_result false p.redirects asked

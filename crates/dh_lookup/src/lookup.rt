@@ -1,0 +1,82 @@
+//! What replies are made from.
+
+ghost use Rattle.std.specs.Prelude.{is_some};
+ghost use Rattle.dh_lookup.specs.Lookup.{Asks, Meaning, Tells, TellsAll, TellsMaybe};
+ghost use Rattle.dh_lookup.specs.SeenProject.{resolved, page_at, forced_result, not_found_result};
+
+use crate::found::{Named, Page};
+use crate::fault::Fault;
+use dh_paths::{Lang, Slug, Text};
+use dh_redirects::{Asked, Location};
+use dh_versions::Version;
+use std::alloc::Global;
+
+/// What replies are made from: one project as one caller sees it, or none.
+pub trait Lookup {
+    // What a lookup shows, and what its calls leave.
+    ghost meaning: { Meaning Self };
+
+    /// Whether there is a project.
+    fn known(&mut self) -> Result<bool, Fault>
+        ensures asks { Asks meaning self.old self.new result }
+        ensures value { Tells meaning self.old self.new result is_some };
+
+    /// The version that the name stands for.
+    fn name(&mut self, alloc: Global, name: &str) -> Result<Option<Named>, Fault>
+        ensures asks { Asks meaning self.old self.new result }
+        ensures value { TellsMaybe meaning self.old self.new result (λ p. resolved p name.now) };
+
+    /// The name that `/` leads to.
+    fn default(&mut self, alloc: Global) -> Result<Option<Text>, Fault>
+        ensures asks { Asks meaning self.old self.new result }
+        ensures value { TellsMaybe meaning self.old self.new result (λ p. p.default) };
+
+    /// The languages, the main one first; none where there is no project.
+    fn langs(&mut self, alloc: Global) -> Result<Vec<Lang>, Fault>
+        ensures asks { Asks meaning self.old self.new result }
+        ensures value { TellsAll meaning self.old self.new result (λ p. p.langs) };
+
+    /// The page at a path of a version in a language.
+    fn page(
+        &mut self,
+        alloc: Global,
+        lang: &Lang,
+        slug: &Slug,
+        path: &str,
+    ) -> Result<Option<Page>, Fault>
+        ensures asks { Asks meaning self.old self.new result }
+        ensures value { TellsMaybe meaning self.old self.new result
+            (λ p. page_at p lang.now slug.now path.now) };
+
+    /// Where the first redirect with force leads that has a result.
+    fn forced_redirect(&mut self, alloc: Global, asked: &Asked) -> Result<Option<Location>, Fault>
+        ensures asks { Asks meaning self.old self.new result }
+        ensures value { TellsMaybe meaning self.old self.new result
+            (λ p. forced_result p asked.now) };
+
+    /// Where the first redirect leads that has a result, with force or without.
+    fn not_found_redirect(
+        &mut self,
+        alloc: Global,
+        asked: &Asked,
+    ) -> Result<Option<Location>, Fault>
+        ensures asks { Asks meaning self.old self.new result }
+        ensures value { TellsMaybe meaning self.old self.new result
+            (λ p. not_found_result p asked.now) };
+
+    /// The visible versions, hidden ones too, by slug; none where there is no project.
+    fn listing(&mut self, alloc: Global) -> Result<Vec<Version>, Fault>
+        ensures asks { Asks meaning self.old self.new result }
+        ensures value { TellsAll meaning self.old self.new result (λ p. p.versions) };
+
+    ghost leads_at: { (a : Self) → meaning.leads a a };
+
+    ghost keeps_at: { (a : Self) → meaning.keeps a a };
+
+    ghost leads_on: { (a b c : Self) → meaning.leads a b → meaning.leads b c → meaning.leads a c };
+
+    ghost keeps_on: { (a b c : Self) → meaning.keeps a b → meaning.keeps b c → meaning.keeps a c };
+
+    // A cause is one in a longer run of calls, too.
+    ghost fails_on: { (a b c : Self) → meaning.leads a b → meaning.fails b c → meaning.fails a c };
+}

@@ -1,0 +1,14 @@
+//! The checked texts of a documentation host, and the slug of a name.
+#![tactic(auto)]
+
+pub mod checked;
+mod classes;
+pub mod fault;
+pub mod slug;
+pub mod text;
+
+pub use checked::{HostName, Lang, PagePath, RefName, Slug, Token};
+pub use classes::{all_no_control, lower_or_digit};
+pub use fault::TextFault;
+pub use slug::slug_of;
+pub use text::{Bytes, Text};
