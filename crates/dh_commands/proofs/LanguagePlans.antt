@@ -1,5 +1,5 @@
 -- The plans of one more language.
-use Rattle.std.proofs.Common.{◌≡◌, ℕ, ◌+◌, ◌<◌, ◌≤◌, Bool, true, false, cond, [], ◌∷◌, ◌++◌, length, Ok, Err, sym, ap, ◌∙◌}
+use Rattle.std.proofs.Common.{◌≡◌, ℕ, ◌+◌, ◌<◌, ◌≤◌, Bool, true, false, cond, [], ◌∷◌, ◌++◌, length, Ok, Err, sym, ap, ◌∙◌, arith}
 use Rattle.std.specs.Prelude.{nat_lt}
 use Rattle.std.specs.List.{list_any}
 use Rattle.std.specs.Str.{bytes_eq}
@@ -34,5 +34,5 @@ module _ (lang : Text) (f : Facts) (p : Project) (k : Knows (change.AddLang lang
     pub adds : (place : ℕ) → length f.languages.items < 30 → place ≡ length f.languages.items + 1 → Plans p (add_lang lang p) (Ok (record { edits = AddLang lang place ∷ []; answer = Done }))
     adds place few is = (
       decided_is false true new (lt-ltb _ _ few),
-      ((ap (list_any (λ l. bytes_eq l lang)) k.answers.languages ∙ new, is ∙ ap (λ ls. length ls + 1) (sym k.answers.languages)), tt),
+      ((ap (list_any (λ l. bytes_eq l lang)) k.answers.languages ∙ new, is ∙ ap (λ ls. length ls + 1) (sym k.answers.languages), omega (arith, few, is)), tt),
     )

@@ -3,4 +3,4 @@ pub mod PushPlans
 pub mod UploadPlans
 pub mod LanguagePlans
 pub mod DefaultPlans
-pub mod RedirectPlans
+pub mod PlacePlans

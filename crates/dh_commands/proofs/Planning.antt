@@ -23,7 +23,7 @@ plans_by p change planned (Err e) is it = inl is
 -- a plan that was made is what is decided
 pub decides_by : (c : CheckedChange) (f : Facts) (planned : Planned) (r : Result Planned Refusal) → Makes planned r → Decides c f (Ok planned) → Decides c f r
 decides_by c f planned (Ok plan) is it = λ p k. plans_by p _ planned (Ok plan) is (it p k)
-decides_by c f planned (Err e) is it = λ p k. inl is
+decides_by c f planned (Err e) is it = λ p k. inl (inl is)
 
 -- with the right write key all that the command asks was answered
 pub answered : (c : CheckedChange) (f : Facts) (p : Project) → Knows c f p → has_right_key c f.settings ≡ true → Answers (asked_by c) f p

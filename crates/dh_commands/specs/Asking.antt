@@ -3,7 +3,7 @@ use Rattle.std.specs.Prelude.{Bool, true, if◌then◌else◌, Some}
 use Rattle.std.specs.Str.{bytes_eq}
 use Rattle.dh_world.specs.Changes.{push_key, upload_key}
 use Rattle.dh_checks.specs.declared.checked.CheckedChange.{CheckedChange}
-use Rattle.dh_checks.specs.declared.checked.CheckedChange.TheVariants.{NewProject, AddLang, Push, Upload, SetProperty, Deactivate, Gone, SetDefault, AddRedirect, DropRedirect, AddPass, DropPass, Grant, Revoke}
+use Rattle.dh_checks.specs.declared.checked.CheckedChange.TheVariants.{NewProject, AddLang, Push, Upload, SetProperty, Deactivate, Gone, SetDefault, AddRule, DropRule, AddRedirect, DropRedirect, AddPass, DropPass, Grant, Revoke}
 use Rattle.dh_checks.specs.declared.checked.ProjectSettings.{ProjectSettings}
 use Rattle.dh_commands.specs.Questions.{Asked, nothing, version_named}
 
@@ -11,12 +11,14 @@ use Rattle.dh_commands.specs.Questions.{Asked, nothing, version_named}
 abbrev pub asked_by : CheckedChange → Asked
 asked_by (NewProject x) = nothing
 asked_by (AddLang lang) = record nothing { languages = true }
-asked_by (Push x) = record nothing { version = Some x.slug; retry_key = Some (push_key x.slug x.key) }
+asked_by (Push x) = record nothing { version = Some x.slug; retry_key = Some (push_key x.slug x.key); defaults = true; rules = true }
 asked_by (Upload x) = record nothing { version = Some x.slug; retry_key = Some (upload_key x.slug x.key); languages = true }
 asked_by (SetProperty slug property) = record nothing { version = Some slug }
 asked_by (Deactivate slug) = record nothing { version = Some slug }
 asked_by (Gone slug) = record nothing { version = Some slug; defaults = true }
 asked_by (SetDefault name) = record nothing { version = version_named name; defaults = true }
+asked_by (AddRule x) = record nothing { rules = true }
+asked_by (DropRule place) = record nothing { rules = true }
 asked_by (AddRedirect x) = record nothing { redirects = true }
 asked_by (DropRedirect place) = record nothing { redirects = true }
 asked_by (AddPass pass) = record nothing { pass = Some pass; pass_count = true }

@@ -1,10 +1,13 @@
 -- The parts of plans, and why there is none.
-use Rattle.std.specs.Prelude.{◌≡◌, ℕ, ◌+◌, ◌-◌, Bool, true, false, ◌&&◌, if◌then◌else◌, List, [], ◌∷◌, ◌++◌, map, length, drop, Option, Some, None, Result, Ok, Err}
+use Rattle.std.specs.Prelude.{◌≡◌, ◌⊎◌, ℕ, ◌+◌, ◌-◌, Bool, true, false, ◌&&◌, if◌then◌else◌, List, [], ◌∷◌, ◌++◌, map, length, drop, Option, Some, None, Result, Ok, Err}
 use Rattle.std.specs.Str.{bytes_eq}
 use Rattle.dh_versions.specs.declared.version.Kind.TheVariants.{Branch}
 use Rattle.dh_versions.specs.declared.version.Version.{Version}
-use Rattle.dh_redirects.specs.declared.redirect.Redirect.{Redirect}
-use Rattle.dh_world.specs.Changes.{same_kind, made, new_project, opened}
+use Rattle.dh_versions.specs.Kinds.{same_kind}
+use Rattle.dh_rules.specs.Rules.{after_rules, IsCustomAt}
+use Rattle.dh_rules.specs.declared.rule.Fresh.{Fresh}
+use Rattle.dh_rules.specs.declared.rule.Rule.{Rule}
+use Rattle.dh_world.specs.Changes.{made, new_project, opened, version_of, without_name}
 use Rattle.dh_world.specs.Refusals.{unless}
 use Rattle.dh_world.specs.Seen.{is_alias}
 use Rattle.dh_world.specs.World.{Text}
@@ -13,7 +16,7 @@ use Rattle.dh_world.specs.declared.answer.Answer.TheVariants.{Done, Known, Store
 use Rattle.dh_world.specs.declared.operation.Operation.TheVariants as operation
 use Rattle.dh_world.specs.declared.pages.UploadedPage.{UploadedPage}
 use Rattle.dh_world.specs.declared.refusal.Refusal.{Refusal}
-use Rattle.dh_world.specs.declared.refusal.Refusal.TheVariants.{NoVersion, Inactive, NoPass}
+use Rattle.dh_world.specs.declared.refusal.Refusal.TheVariants.{NoVersion, Inactive, NoPass, PatternRefused, OutOfMemory}
 use Rattle.dh_checks.specs.Commands.{change_of}
 use Rattle.dh_commands.specs.Planned.{Planned}
 use Rattle.dh_checks.specs.declared.checked.CheckedChange.{CheckedChange}
@@ -21,7 +24,7 @@ use Rattle.dh_checks.specs.declared.checked.CheckedPush.{CheckedPush}
 use Rattle.dh_checks.specs.declared.checked.CheckedUpload.{CheckedUpload}
 use Rattle.dh_checks.specs.declared.checked.NewProject.{NewProject}
 use Rattle.dh_commands.specs.declared.edits.Edit.{Edit}
-use Rattle.dh_commands.specs.declared.edits.Edit.TheVariants.{PutVersion, PutWithoutPages, PutPage, RemovePages, PutRedirect, DropLastRedirect, PutAnswer}
+use Rattle.dh_commands.specs.declared.edits.Edit.TheVariants.{PutVersion, PutWithoutPages, PutPage, RemovePages, SetDefaults, PutAnswer}
 use Rattle.dh_checks.specs.declared.checked.ProjectSettings.{ProjectSettings}
 
 -- ---- where the host has no project
@@ -33,26 +36,41 @@ Opens c (Err e) = opened (change_of c) ≡ Err e
 
 -- ---- pushes
 
--- the version that a push makes
-abbrev pub pushed_version : ProjectSettings → CheckedPush → Version
-pushed_version s x = record {
-  slug = x.slug;
+-- what a push makes, before the rules
+abbrev pub pushed_fresh : ProjectSettings → CheckedPush → Fresh
+pushed_fresh s x = record {
   kind = x.kind;
   name = x.name;
   active = same_kind x.kind Branch && bytes_eq x.name s.branch;
   hidden = false;
   private = s.new_private;
+  chosen = false;
 }
+
+-- the rules have run; or at a place stands a custom pattern of the kind, and that place is told
+abbrev pub Runs : List Rule → Fresh → Result Fresh Refusal → Type 0
+Runs rules x (Ok after) = after ≡ after_rules rules x
+Runs rules x (Err e) = (e ≡ OutOfMemory) ⊎ ((place : ℕ) × IsCustomAt rules x.kind place × (e ≡ PatternRefused place))
+
+-- where a rule chose the version, its slug is the first default
+abbrev pub chosen_put : Bool → Text → List Text → List Edit
+chosen_put true slug defaults = SetDefaults (slug ∷ without_name slug defaults) ∷ []
+chosen_put false slug defaults = []
 
 -- this is the first answer to the retry key
 abbrev pub push_answered : CheckedPush → Answer → Edit
 push_answered x answer = PutAnswer (record { slug = x.slug; operation = operation.Push; key = x.key; answer = answer })
 
-abbrev pub plan_made : ProjectSettings → CheckedPush → Planned
-plan_made s x = record {
-  edits = PutVersion (pushed_version s x) ∷ push_answered x (made (pushed_version s x)) ∷ [];
-  answer = made (pushed_version s x);
-}
+-- of what the rules made of it
+abbrev pub plan_made : CheckedPush → List Text → Fresh → Planned
+plan_made x defaults after =
+    let v : Version = version_of x.slug after in
+    record { edits = PutVersion v ∷ (chosen_put after.chosen x.slug defaults ++ push_answered x (made v) ∷ []); answer = made v }
+
+-- the plan of what the rules make of it, unless they cannot run
+abbrev pub MakesNew : ProjectSettings → CheckedPush → List Rule → List Text → Result Planned Refusal → Type 0
+MakesNew s x rules defaults (Ok plan) = plan ≡ plan_made x defaults (after_rules rules (pushed_fresh s x))
+MakesNew s x rules defaults (Err e) = Runs rules (pushed_fresh s x) (Err e)
 
 abbrev pub plan_known : CheckedPush → Planned
 plan_known x = record { edits = push_answered x (Known x.slug) ∷ []; answer = Known x.slug }
@@ -91,18 +109,18 @@ wrong_default_version (Some v) = unless v.active Inactive
 abbrev pub wrong_default : Text → Option Version → Option Refusal
 wrong_default name version = if is_alias name then None else wrong_default_version version
 
--- ---- redirects
+-- ---- lists in order: what puts one at a place, and what drops the last one
 
--- an edit for each redirect, at the places from this one on
-abbrev pub redirects_put : ℕ → List Redirect → List Edit
-redirects_put place [] = []
-redirects_put place (r ∷ rs) = PutRedirect place r ∷ redirects_put (place + 1) rs
+-- an edit for each, at the places from this one on
+abbrev pub puts : {X : Type 0} → (ℕ → X → Edit) → ℕ → List X → List Edit
+puts put place [] = []
+puts put place (x ∷ xs) = put place x ∷ puts put (place + 1) xs
 
-abbrev pub plan_added : ℕ → Redirect → List Redirect → Planned
-plan_added place redirect rs = record { edits = redirects_put place (redirect ∷ drop (place - 1) rs); answer = Done }
+abbrev pub plan_added : {X : Type 0} → (ℕ → X → Edit) → ℕ → X → List X → Planned
+plan_added put place x xs = record { edits = puts put place (x ∷ drop (place - 1) xs); answer = Done }
 
-abbrev pub plan_dropped : ℕ → List Redirect → Planned
-plan_dropped place rs = record { edits = redirects_put place (drop place rs) ++ DropLastRedirect (length rs) ∷ []; answer = Done }
+abbrev pub plan_dropped : {X : Type 0} → (ℕ → X → Edit) → (ℕ → Edit) → ℕ → List X → Planned
+plan_dropped put drop_last place xs = record { edits = puts put place (drop place xs) ++ drop_last (length xs) ∷ []; answer = Done }
 
 -- ---- grants
 

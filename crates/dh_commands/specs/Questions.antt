@@ -11,12 +11,13 @@ pub record Asked : Type 0 where
   pub retry_key : Option UsedKey
   pub languages : Bool
   pub defaults : Bool
+  pub rules : Bool
   pub redirects : Bool
   pub pass : Option Text
   pub pass_count : Bool
 
 abbrev pub nothing : Asked
-nothing = record { version = None; retry_key = None; languages = false; defaults = false; redirects = false; pass = None; pass_count = false }
+nothing = record { version = None; retry_key = None; languages = false; defaults = false; rules = false; redirects = false; pass = None; pass_count = false }
 
 abbrev pub seen_questions : Questions → Asked
 seen_questions q = record {
@@ -24,6 +25,7 @@ seen_questions q = record {
   retry_key = option_map (λ k. (k.slug.now, (op_code k.operation, k.key.now))) q.retry_key;
   languages = q.languages;
   defaults = q.defaults;
+  rules = q.rules;
   redirects = q.redirects;
   pass = option_map (λ pass. pass.now) q.pass;
   pass_count = q.pass_count;

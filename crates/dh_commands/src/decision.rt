@@ -13,6 +13,7 @@ use crate::properties::{deactivate, set_property};
 use crate::pushes::push;
 use crate::questions::{Questions, RetryKey, is_write_key, nothing, version_named};
 use crate::redirects::{add_redirect, drop_redirect};
+use crate::rules::{add_rule, drop_rule};
 use crate::uploads::upload;
 use dh_checks::{CheckedChange, ProjectSettings};
 use dh_world::{Operation, Refusal};
@@ -35,6 +36,8 @@ fn asked_by<'q>(change: &'q CheckedChange<'_>) -> Questions<'q>
                 operation: Operation::Push,
                 key: &push.key,
             }),
+            defaults: true,
+            rules: true,
             ..nothing()
         },
         CheckedChange::Upload(upload) => Questions {
@@ -63,6 +66,10 @@ fn asked_by<'q>(change: &'q CheckedChange<'_>) -> Questions<'q>
         CheckedChange::SetDefault { name } => Questions {
             version: version_named(name),
             defaults: true,
+            ..nothing()
+        },
+        CheckedChange::AddRule(_) | CheckedChange::DropRule { place: _ } => Questions {
+            rules: true,
             ..nothing()
         },
         CheckedChange::AddRedirect(_) | CheckedChange::DropRedirect { place: _ } => Questions {
@@ -125,6 +132,8 @@ pub fn decide<'c>(
         CheckedChange::Deactivate { slug: _ } => deactivate(alloc, facts),
         CheckedChange::Gone { slug } => remove_version(alloc, slug, facts),
         CheckedChange::SetDefault { name } => set_default(alloc, name, facts),
+        CheckedChange::AddRule(added) => add_rule(alloc, added, facts),
+        CheckedChange::DropRule { place } => drop_rule(alloc, place, facts),
         CheckedChange::AddRedirect(added) => add_redirect(alloc, added, facts),
         CheckedChange::DropRedirect { place } => drop_redirect(alloc, place, facts),
         CheckedChange::AddPass { pass } => add_pass(alloc, pass, &facts),

@@ -10,6 +10,7 @@ use crate::facts::Facts;
 use crate::plan::Plan;
 use dh_checks::CheckedChange;
 use dh_paths::Slug;
+use dh_reply::Items;
 use dh_versions::Version;
 use dh_world::{Answer, Refusal};
 use std::alloc::{AllocError, Global};
@@ -31,13 +32,13 @@ fn names_but(alloc: Global, names: Vec<Slug>, but: &Slug) -> Result<Vec<Slug>, A
         .collect(alloc)
 }
 
-/// The names with this one at the front.
-fn in_front(name: Slug, names: Vec<Slug>) -> Result<Vec<Slug>, AllocError>
-    ensures { IfOk result (λ all. all.items ≡ name ∷ names.items) }
+/// The names with this one at the front, where it stands once.
+pub fn with_first(alloc: Global, name: Slug, names: Vec<Slug>) -> Result<Items<Slug>, AllocError>
+    ensures { IfOk result (λ all. all ≡ name ∷ without_name name names.items) }
 {
-    let mut names = names;
+    let mut names = names_but(alloc, names, &name)?;
     names.insert(0, name)?;
-    Ok(names)
+    Ok(Items::wrap(names))
 }
 
 /// Removes the version that was found, and its name among the defaults.
@@ -52,7 +53,7 @@ pub fn remove_version<'c>(alloc: Global, slug: Slug, facts: Facts) -> Result<Pla
     if version.is_none() {
         return Err(Refusal::NoVersion);
     }
-    let defaults = names_but(alloc, defaults, &slug)?;
+    let defaults = Items::wrap(names_but(alloc, defaults, &slug)?);
     Ok(Plan::one(alloc, Edit::RemoveVersion { slug, defaults }, Answer::Done)?)
 }
 
@@ -87,7 +88,6 @@ pub fn set_default<'c>(alloc: Global, name: Slug, facts: Facts) -> Result<Plan<'
     if let Some(refusal) = wrong_name(&name, &version) {
         return Err(refusal);
     }
-    let others = names_but(alloc, defaults, &name)?;
-    let names = in_front(name, others)?;
+    let names = with_first(alloc, name, defaults)?;
     Ok(Plan::one(alloc, Edit::SetDefaults(names), Answer::Done)?)
 }

@@ -2,6 +2,8 @@
 use dh_checks::CheckedPage;
 use dh_paths::{Lang, Slug, Token};
 use dh_redirects::Redirect;
+use dh_reply::Items;
+use dh_rules::Rule;
 use dh_versions::Version;
 use dh_world::{Answer, Operation};
 use std::marker::Model;
@@ -45,7 +47,7 @@ pub enum Edit<'c> {
     RemoveVersion {
         slug: Slug,
         /// What the defaults are without it.
-        defaults: Vec<Slug>,
+        defaults: Items<Slug>,
     },
     /// The page is one of the version's in the language, in place of the one with its path.
     PutPage {
@@ -59,7 +61,18 @@ pub enum Edit<'c> {
         lang: Lang,
     },
     /// These are the defaults, the newest first.
-    SetDefaults(Vec<Slug>),
+    SetDefaults(Items<Slug>),
+    /// The rule stands at its place, in place of the one that did, or behind the last one.
+    PutRule {
+        /// From 1.
+        place: u32,
+        rule: Rule,
+    },
+    /// The last rule is gone.
+    DropLastRule {
+        /// From 1: how many there were.
+        place: u32,
+    },
     /// The redirect stands at its place, in place of the one that did, or behind the last one.
     PutRedirect {
         /// From 1.

@@ -2,6 +2,7 @@
 use dh_checks::ProjectSettings;
 use dh_paths::{Lang, Slug};
 use dh_redirects::Redirect;
+use dh_rules::Rule;
 use dh_versions::Version;
 use dh_world::Answer;
 
@@ -18,6 +19,8 @@ pub struct Facts {
     pub languages: Vec<Lang>,
     /// Slugs and names of aliases, the newest first.
     pub defaults: Vec<Slug>,
+    /// In the order in which they run.
+    pub rules: Vec<Rule>,
     /// In the order in which they are tried.
     pub redirects: Vec<Redirect>,
     /// Whether the project has the pass.

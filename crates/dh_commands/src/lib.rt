@@ -9,6 +9,7 @@ mod decision;
 mod defaults;
 pub mod edits;
 pub mod facts;
+mod lists;
 mod passes;
 pub mod plan;
 mod projects;
@@ -16,6 +17,7 @@ mod properties;
 mod pushes;
 pub mod questions;
 mod redirects;
+mod rules;
 mod uploads;
 
 pub use decision::{decide, questions_of};

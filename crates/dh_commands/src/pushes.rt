@@ -1,18 +1,23 @@
 //! Pushes of branches and tags.
-ghost use Rattle.std.specs.Prelude.{◌≡◌, ◌&&◌, IfOk, IsSome};
+ghost use Rattle.std.specs.Prelude.{◌≡◌, ◌⊎◌, ◌&&◌, ◌++◌, IfOk, OnOk, IsSome};
 ghost use Rattle.std.specs.Str.{bytes_eq};
 ghost use Rattle.dh_world.specs.Answers.{json_of};
-ghost use Rattle.dh_world.specs.Changes.{same_kind, made};
+ghost use Rattle.dh_versions.specs.Kinds.{same_kind};
+ghost use Rattle.dh_world.specs.Changes as spec;
+ghost use Rattle.dh_world.specs.Changes.{made};
 ghost use Rattle.dh_commands.specs.Edits.{Makes};
 ghost use Rattle.dh_commands.specs.Knowing.{Decides};
-ghost use Rattle.dh_commands.specs.Plans.{pushed_version, push_answered, plan_made, plan_known};
+ghost use Rattle.dh_commands.specs.Plans.{pushed_fresh, Runs, MakesNew, chosen_put};
+ghost use Rattle.dh_commands.specs.Plans.{push_answered, plan_made, plan_known};
 
+use crate::defaults::with_first;
 use crate::edits::{Edit, FirstAnswer};
 use crate::facts::Facts;
 use crate::plan::Plan;
 use crate::questions::is_write_key;
 use dh_checks::{CheckedChange, CheckedPush, ProjectSettings};
-use dh_paths::RefName;
+use dh_paths::{RefName, Slug};
+use dh_rules::{Fresh, Rule, RuleFault, apply};
 use dh_versions::{Kind, Version};
 use dh_world::{Answer, Operation, Refusal};
 use std::alloc::{AllocError, Global};
@@ -31,21 +36,57 @@ fn is_default_branch(settings: &ProjectSettings, kind: Kind, name: &RefName) -> 
     kind == Kind::Branch && name.as_str() == settings.branch.as_str()
 }
 
-/// The version that a push makes.
-fn version_of(
+/// What a push makes, before the rules.
+fn fresh_of(
     alloc: Global,
     settings: &ProjectSettings,
     push: &CheckedPush,
-) -> Result<Version, AllocError>
-    ensures { IfOk result (λ v. v ≡ pushed_version settings.now push.now) }
+) -> Result<Fresh, AllocError>
+    ensures { IfOk result (λ x. x ≡ pushed_fresh settings.now push.now) }
 {
-    Ok(Version {
-        slug: push.slug.try_copy(alloc)?,
+    Ok(Fresh {
         kind: push.kind,
         name: push.name.try_copy(alloc)?,
         active: is_default_branch(settings, push.kind, &push.name),
         hidden: false,
         private: settings.new_private,
+        chosen: false,
+    })
+}
+
+/// The place of a rule, from 1. No list in memory is longer than places count.
+fn rule_place(place: usize) -> Refusal
+    ensures { (result ≡ Refusal.PatternRefused place) ⊎ (result ≡ Refusal.OutOfMemory) }
+{
+    match u32::try_from(place) {
+        Ok(place) => Refusal::PatternRefused(place),
+        Err(_) => Refusal::OutOfMemory,
+    }
+}
+
+/// What the rules make of a fresh version.
+fn run_rules(alloc: Global, rules: &[Rule], fresh: Fresh) -> Result<Fresh, Refusal>
+    ensures { Runs rules.now fresh result }
+{
+    let mut fresh = fresh;
+    match apply(alloc, rules, &mut fresh) {
+        Ok(()) => Ok(fresh),
+        Err(RuleFault::PatternRefused(place)) => Err(rule_place(place)),
+        Err(RuleFault::Memory) => Err(Refusal::OutOfMemory),
+    }
+}
+
+/// The version under the slug of a push, as the rules left it.
+fn version_of(alloc: Global, push: &CheckedPush, fresh: &Fresh) -> Result<Version, AllocError>
+    ensures { IfOk result (λ v. v ≡ spec.version_of push.now.slug fresh.now) }
+{
+    Ok(Version {
+        slug: push.slug.try_copy(alloc)?,
+        kind: fresh.kind,
+        name: fresh.name.try_copy(alloc)?,
+        active: fresh.active,
+        hidden: fresh.hidden,
+        private: fresh.private,
     })
 }
 
@@ -78,18 +119,55 @@ fn answer_first(
     }))
 }
 
-/// The branch or tag makes a version.
+/// Where a rule chose the version, its slug is the first default.
+fn choose<'c>(
+    alloc: Global,
+    edits: &mut Vec<Edit<'c>>,
+    chosen: bool,
+    slug: &Slug,
+    defaults: Vec<Slug>,
+) -> Result<(), AllocError>
+    ensures { OnOk result (edits.new.items
+        ≡ edits.old.items ++ chosen_put chosen slug.now defaults.items) }
+{
+    if chosen {
+        let names = with_first(alloc, slug.try_copy(alloc)?, defaults)?;
+        edits.push(Edit::SetDefaults(names))?;
+    }
+    Ok(())
+}
+
+/// The branch or tag makes this version.
 fn make<'c>(
+    alloc: Global,
+    push: &CheckedPush,
+    fresh: &Fresh,
+    defaults: Vec<Slug>,
+) -> Result<Plan<'c>, AllocError>
+    ensures { IfOk result (λ plan. plan ≡ plan_made push.now defaults.items fresh.now) }
+{
+    let version = version_of(alloc, push, fresh)?;
+    let first = answer_first(alloc, push, made_answer(alloc, &version)?)?;
+    let answer = made_answer(alloc, &version)?;
+    let mut edits = Vec::new(alloc);
+    edits.push(Edit::PutVersion(version))?;
+    choose(alloc, &mut edits, fresh.chosen, &push.slug, defaults)?;
+    edits.push(first)?;
+    Ok(Plan { edits, answer })
+}
+
+/// The branch or tag makes a version, over which the rules run first.
+fn make_new<'c>(
     alloc: Global,
     settings: &ProjectSettings,
     push: &CheckedPush,
+    rules: &[Rule],
+    defaults: Vec<Slug>,
 ) -> Result<Plan<'c>, Refusal>
-    ensures { Makes (plan_made settings.now push.now) result }
+    ensures { MakesNew settings.now push.now rules.now defaults.items result }
 {
-    let version = version_of(alloc, settings, push)?;
-    let first = answer_first(alloc, push, made_answer(alloc, &version)?)?;
-    let answer = made_answer(alloc, &version)?;
-    Ok(Plan::two(alloc, Edit::PutVersion(version), first, answer)?)
+    let fresh = run_rules(alloc, rules, fresh_of(alloc, settings, push)?)?;
+    Ok(make(alloc, push, &fresh, defaults)?)
 }
 
 /// The branch or tag is known.
@@ -103,7 +181,7 @@ fn know<'c>(alloc: Global, push: &CheckedPush) -> Result<Plan<'c>, Refusal>
 }
 
 /// A push: a retry key that was used gives its first answer; a branch or tag is known, or makes a
-/// version, unless another has taken its slug.
+/// version, over which the rules run, unless another has taken its slug.
 pub fn push<'c>(alloc: Global, push: CheckedPush, facts: Facts) -> Result<Plan<'c>, Refusal>
     ensures { Decides (CheckedChange.Push push) facts result }
 {
@@ -111,6 +189,8 @@ pub fn push<'c>(alloc: Global, push: CheckedPush, facts: Facts) -> Result<Plan<'
         settings,
         version,
         first_answer,
+        defaults,
+        rules,
         ..
     } = facts;
     if !is_write_key(&settings, &push.wkey) {
@@ -120,7 +200,7 @@ pub fn push<'c>(alloc: Global, push: CheckedPush, facts: Facts) -> Result<Plan<'
         return Ok(Plan::none(alloc, answer));
     }
     match version {
-        None => make(alloc, &settings, &push),
+        None => make_new(alloc, &settings, &push, rules.as_slice(), defaults),
         Some(version) => {
             if !comes_from(&version, push.kind, &push.name) {
                 return Err(Refusal::SlugTaken);

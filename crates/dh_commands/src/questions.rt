@@ -28,6 +28,8 @@ pub struct Questions<'q> {
     pub languages: bool,
     /// The defaults.
     pub defaults: bool,
+    /// The automation rules.
+    pub rules: bool,
     /// The redirects.
     pub redirects: bool,
     /// Whether this pass is there.
@@ -52,6 +54,7 @@ pub(crate) fn nothing<'q>() -> Questions<'q>
         retry_key: None,
         languages: false,
         defaults: false,
+        rules: false,
         redirects: false,
         pass: None,
         pass_count: false,

@@ -1,4 +1,4 @@
-use Rattle.std.proofs.Common.{◌∙◌, ◌+◌, ◌<◌, ◌≤◌, Ok, sym, ap, inr, length, subst}
+use Rattle.std.proofs.Common.{◌∙◌, ◌+◌, ◌<◌, ◌≤◌, Ok, sym, ap, inl, inr, length, subst}
 use Rattle.std.specs.List.{list_any}
 use Rattle.std.specs.Str.{bytes_eq}
 use Rattle.dh_commands.proofs.LanguagePlans.{taken, full, adds}
@@ -7,12 +7,12 @@ use Rattle.dh_commands.proofs.projects.add_lang.Goals as goal
 
 pub returns-then-is_among : goal.returns-then-is_among
 returns-then-is_among c p k =
-    inr (taken c.args.lang c.args.facts.now p k (ap (list_any (λ l. bytes_eq l c.args.lang)) (sym c.as_slice-languages.ensures.value) ∙ sym c.is_among.ensures ∙ c.if-is_among.true))
+    inl (inr (taken c.args.lang c.args.facts.now p k (ap (list_any (λ l. bytes_eq l c.args.lang)) (sym c.as_slice-languages.ensures.value) ∙ sym c.is_among.ensures ∙ c.if-is_among.true)))
 
 pub returns-then-count-ge-MOST_LANGUAGES : goal.returns-then-count-ge-MOST_LANGUAGES
 returns-then-count-ge-MOST_LANGUAGES c p k =
     let new = ap (list_any (λ l. bytes_eq l c.args.lang)) (sym c.as_slice-languages.ensures.value) ∙ sym c.is_among.ensures ∙ c.if-is_among.false in
-    inr (full c.args.lang c.args.facts.now p k new (subst (λ ls. 30 ≤ length ls) c.as_slice-languages.ensures.value c.if-count-ge-MOST_LANGUAGES.true))
+    inl (inr (full c.args.lang c.args.facts.now p k new (subst (λ ls. 30 ≤ length ls) c.as_slice-languages.ensures.value c.if-count-ge-MOST_LANGUAGES.true)))
 
 pub returns : goal.returns
 returns c p k =

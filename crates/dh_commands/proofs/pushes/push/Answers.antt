@@ -1,6 +1,7 @@
-use Rattle.std.proofs.Common.{◌∙◌, sym, inr, Ok}
+use Rattle.std.proofs.Common.{◌∙◌, sym, subst, inl, inr, Ok}
+use Rattle.dh_commands.specs.Plans.{MakesNew}
 use Rattle.dh_commands.proofs.Planning.{plans_by, decides_by}
-use Rattle.dh_commands.proofs.PushPlans.{again, taken, knows}
+use Rattle.dh_commands.proofs.PushPlans.{again, taken, knows, decides_new}
 use Rattle.dh_checks.specs.declared.checked.CheckedChange.TheVariants as CheckedChange
 use Rattle.dh_commands.proofs.pushes.push.Goals as goal
 
@@ -8,9 +9,14 @@ pub returns-in-Some : goal.returns-in-Some
 returns-in-Some c p k =
     plans_by p _ _ (Ok c.none.result) c.none.ensures (again c.args.push c.args.facts p k (sym c.is_write_key.ensures ∙ c.if-not-is_write_key.false) c.in-Some.answer c.in-Some.is)
 
+pub returns-in-None : goal.returns-in-None
+returns-in-None c =
+    decides_new c.args.push c.args.facts (sym c.is_write_key.ensures ∙ c.if-not-is_write_key.false) c.in_default.is c.in-None.is c.make_new.result
+    (subst (λ rs. MakesNew c.args.facts.settings c.args.push rs c.args.facts.defaults.items c.make_new.result) c.as_slice.ensures.value c.make_new.ensures)
+
 pub returns-then-not-comes_from : goal.returns-then-not-comes_from
 returns-then-not-comes_from c p k =
-    inr (taken c.args.push c.args.facts p k (sym c.is_write_key.ensures ∙ c.if-not-is_write_key.false) c.in_default.is c.in-Some-version.version c.in-Some-version.is (sym c.comes_from.ensures ∙ c.if-not-comes_from.true))
+    inl (inr (taken c.args.push c.args.facts p k (sym c.is_write_key.ensures ∙ c.if-not-is_write_key.false) c.in_default.is c.in-Some-version.version c.in-Some-version.is (sym c.comes_from.ensures ∙ c.if-not-comes_from.true)))
 
 pub returns : goal.returns
 returns c =

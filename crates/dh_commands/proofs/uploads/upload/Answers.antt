@@ -1,4 +1,4 @@
-use Rattle.std.proofs.Common.{◌∙◌, Ok, sym, ap, inr}
+use Rattle.std.proofs.Common.{◌∙◌, Ok, sym, ap, inl, inr}
 use Rattle.std.specs.List.{list_any}
 use Rattle.std.specs.Str.{bytes_eq}
 use Rattle.dh_commands.proofs.Planning.{plans_by}
@@ -7,8 +7,8 @@ use Rattle.dh_commands.proofs.uploads.upload.Goals as goal
 
 pub returns-then-not-is_among : goal.returns-then-not-is_among
 returns-then-not-is_among c p k =
-    inr (unspoken c.args.upload c.args.facts p k (sym c.is_write_key.ensures ∙ c.if-not-is_write_key.false) c.in_default.is c.in-Some-version.version c.in-Some-version.is c.if-not-version.false
-    (ap (list_any (λ l. bytes_eq l c.args.upload.lang)) (sym c.deref.ensures.value) ∙ sym c.is_among.ensures ∙ c.if-not-is_among.true))
+    inl (inr (unspoken c.args.upload c.args.facts p k (sym c.is_write_key.ensures ∙ c.if-not-is_write_key.false) c.in_default.is c.in-Some-version.version c.in-Some-version.is c.if-not-version.false
+    (ap (list_any (λ l. bytes_eq l c.args.upload.lang)) (sym c.deref.ensures.value) ∙ sym c.is_among.ensures ∙ c.if-not-is_among.true)))
 
 pub returns : goal.returns
 returns c p k =
