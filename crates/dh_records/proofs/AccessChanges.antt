@@ -17,7 +17,7 @@ use Rattle.dh_records.specs.declared.records.HeldRow.{HeldRow}
 use Rattle.dh_records.specs.Codings as coding
 use Rattle.dh_world.specs.World.{Text, text_cmp, HeldKey, held_cmp, Project, lies_under}
 use Rattle.dh_records.specs.Lists.{Lists, project_of, world_of, is_version, is_page_under, is_pick_of, is_pass_of, is_pass, is_held, is_held_by, is_held_on, set_picks, granted}
-use Rattle.dh_records.specs.Rules.{InOrder}
+use Rattle.dh_records.specs.Constraints.{InOrder}
 use Rattle.dh_records.proofs.KeyLemmas.{turned}
 use Rattle.dh_records.proofs.PassKeys.{held_place, same_pass, same_held}
 use Rattle.dh_records.proofs.GrantLemmas.{grant_is_free, granted_new, granted_there}

@@ -18,14 +18,14 @@ use Rattle.dh_records.specs.declared.records.PageRow.{PageRow}
 use Rattle.dh_records.specs.declared.records.UsedRow.{UsedRow}
 use Rattle.dh_records.specs.Codings as coding
 use Rattle.dh_world.specs.World.{Text, text_cmp, PageKey, page_cmp, used_cmp, op_code, Project, lies_under}
-use Rattle.dh_records.specs.Lists.{Lists, project_of, world_of, kept_answer, is_project, is_lang_of, is_page_under, is_pick_of, is_redirect_of}
-use Rattle.dh_records.specs.Rules.{InOrder, languages_of, KeepsRules}
+use Rattle.dh_records.specs.Lists.{Lists, project_of, world_of, kept_answer, is_project, is_lang_of, is_page_under, is_pick_of, is_rule_of, is_redirect_of}
+use Rattle.dh_records.specs.Constraints.{InOrder, languages_of, KeepsConstraints}
 use Rattle.dh_records.proofs.KeyLemmas.{turned, same_version, page_place, same_page, used_place, same_used}
 use Rattle.dh_world.proofs.MapLemmas.{used_total, used_exact, tied_text, text_total, page_total, page_exact, held_total, held_exact}
 use Rattle.dh_records.proofs.SeenLemmas.{get_project}
 use Rattle.dh_records.proofs.WorldLemmas.{owned_by, languages_are}
 use Rattle.dh_records.proofs.PassKeys.{held_place}
-use Rattle.dh_records.proofs.RuleLemmas.{places_below, langs_with, find_project, none_of_new, grants_owned}
+use Rattle.dh_records.proofs.ConstraintLemmas.{places_below, langs_with, find_project, none_of_new, grants_owned}
 use Rattle.dh_records.proofs.RecordLemmas.{found_passes, none_but_added, added_elsewhere, kept_none, kept_of, put_here, put_there, put_free, dropped_here, dropped_there}
 
 -- ---- one project changes
@@ -169,29 +169,29 @@ unfolding project_of
 with_langs lists more rows r = refl
 
 -- a language is added behind those of its project
-pub world_with_lang : (lists : Lists) (row : LangRow) (p : Project) → KeepsRules lists → InOrder coding.langs.key lists.langs → row.place ≡ length (filter (is_lang_of row.host) lists.langs) + 1 → get (world_of lists) row.host ≡ Some p
+pub world_with_lang : (lists : Lists) (row : LangRow) (p : Project) → KeepsConstraints lists → InOrder coding.langs.key lists.langs → row.place ≡ length (filter (is_lang_of row.host) lists.langs) + 1 → get (world_of lists) row.host ≡ Some p
     → world_of (record lists { langs = added coding.langs.key row lists.langs }) ≡ insert (world_of lists) row.host (record p { languages = p.languages ++ row.lang ∷ [] })
-world_with_lang lists row p rules up last was =
+world_with_lang lists row p constraints up last was =
     part_changed lists _ row.host p (λ x. x.languages) (λ x l. record x { languages = l })
     (languages_of lists) (λ host. map (λ l. l.lang) (filter (is_lang_of host) (added coding.langs.key row lists.langs))) (λ l. l ++ row.lang ∷ [])
     refl (λ x. refl) (languages_are lists) (with_langs lists lists.projects _)
     (λ name apart. ap (map (λ l. l.lang)) (added_elsewhere (by_key coding.langs.key) (is_lang_of name) row lists.langs apart))
-    (ap (map (λ l. l.lang)) (langs_with row lists.langs up (places_below lists row rules (owned_by lists row.host p was) last)) ∙ map-append (λ l. l.lang) (filter (is_lang_of row.host) lists.langs) (row ∷ []))
+    (ap (map (λ l. l.lang)) (langs_with row lists.langs up (places_below lists row constraints (owned_by lists row.host p was) last)) ∙ map-append (λ l. l.lang) (filter (is_lang_of row.host) lists.langs) (row ∷ []))
     was
 
 -- ---- projects
 
 -- a project of which nothing is kept yet but its own record
 abbrev fresh : ProjectRow → Project
-fresh row = record { languages = row.main ∷ []; branch = row.branch; new_private = row.new_private; wkey = row.wkey; versions = empty; pages = empty; defaults = []; passes = empty; held = empty; used = empty; redirects = [] }
+fresh row = record { languages = row.main ∷ []; branch = row.branch; new_private = row.new_private; wkey = row.wkey; versions = empty; pages = empty; defaults = []; passes = empty; held = empty; used = empty; rules = []; redirects = [] }
 
 abbrev begun : Lists → ProjectRow → LangRow → Lists
 begun lists row lang = record lists { projects = added coding.projects.key row lists.projects; langs = added coding.langs.key lang lists.langs }
 
-module _ (lists : Lists) (row : ProjectRow) (lang : LangRow) (rules : KeepsRules lists) (new : find (is_project row.host) lists.projects ≡ None) (home : lang.host ≡ row.host) (main : lang.lang ≡ row.main) where
+module _ (lists : Lists) (row : ProjectRow) (lang : LangRow) (constraints : KeepsConstraints lists) (new : find (is_project row.host) lists.projects ≡ None) (home : lang.host ≡ row.host) (main : lang.lang ≡ row.main) where
   alone : map (λ l. l.lang) (filter (is_lang_of row.host) (added coding.langs.key lang lists.langs)) ≡ row.main ∷ []
   alone =
-      ap (map (λ l. l.lang)) (none_but_added (by_key coding.langs.key) (is_lang_of row.host) lang lists.langs ((bytes_eq-Decides lang.host row.host).1 home) (none_of_new (λ l. l.host) lists.langs lists row.host new rules.langs))
+      ap (map (λ l. l.lang)) (none_but_added (by_key coding.langs.key) (is_lang_of row.host) lang lists.langs ((bytes_eq-Decides lang.host row.host).1 home) (none_of_new (λ l. l.host) lists.langs lists row.host new constraints.langs))
       ∙ ap (λ t. t ∷ []) main
 
   begins : project_of (begun lists row lang) row ≡ fresh row
@@ -201,13 +201,14 @@ module _ (lists : Lists) (row : ProjectRow) (lang : LangRow) (rules : KeepsRules
     branch = row.branch;
     new_private = row.new_private;
     wkey = row.wkey;
-    versions = kept_none text_total exact_bytes (λ v. v.host) (λ v. v.version.slug) (λ v. v.version) row.host lists.versions (none_of_new (λ v. v.host) lists.versions lists row.host new rules.versions) i;
-    pages = kept_none page_total page_exact (λ x. x.host) page_place (λ x. x.page) row.host lists.pages (none_of_new (λ x. x.host) lists.pages lists row.host new rules.pages) i;
-    defaults = ap (map (λ d. d.name)) (filter_none (is_pick_of row.host) lists.picks (none_of_new (λ d. d.host) lists.picks lists row.host new rules.picks)) i;
-    passes = kept_none text_total exact_bytes (λ x. x.host) (λ x. x.pass) (λ x. tt) row.host lists.passes (none_of_new (λ x. x.host) lists.passes lists row.host new rules.passes) i;
-    held = kept_none held_total held_exact (λ x. x.host) held_place (λ x. tt) row.host lists.held (none_of_new (λ x. x.host) lists.held lists row.host new (grants_owned lists rules)) i;
-    used = kept_none used_total used_exact (λ u. u.host) used_place kept_answer row.host lists.used (none_of_new (λ u. u.host) lists.used lists row.host new rules.used) i;
-    redirects = ap (map (λ r. r.redirect)) (filter_none (is_redirect_of row.host) lists.redirects (none_of_new (λ r. r.host) lists.redirects lists row.host new rules.redirects)) i;
+    versions = kept_none text_total exact_bytes (λ v. v.host) (λ v. v.version.slug) (λ v. v.version) row.host lists.versions (none_of_new (λ v. v.host) lists.versions lists row.host new constraints.versions) i;
+    pages = kept_none page_total page_exact (λ x. x.host) page_place (λ x. x.page) row.host lists.pages (none_of_new (λ x. x.host) lists.pages lists row.host new constraints.pages) i;
+    defaults = ap (map (λ d. d.name)) (filter_none (is_pick_of row.host) lists.picks (none_of_new (λ d. d.host) lists.picks lists row.host new constraints.picks)) i;
+    passes = kept_none text_total exact_bytes (λ x. x.host) (λ x. x.pass) (λ x. tt) row.host lists.passes (none_of_new (λ x. x.host) lists.passes lists row.host new constraints.passes) i;
+    held = kept_none held_total held_exact (λ x. x.host) held_place (λ x. tt) row.host lists.held (none_of_new (λ x. x.host) lists.held lists row.host new (grants_owned lists constraints)) i;
+    used = kept_none used_total used_exact (λ u. u.host) used_place kept_answer row.host lists.used (none_of_new (λ u. u.host) lists.used lists row.host new constraints.used) i;
+    rules = ap (map (λ r. r.rule)) (filter_none (is_rule_of row.host) lists.rules (none_of_new (λ r. r.host) lists.rules lists row.host new constraints.rules)) i;
+    redirects = ap (map (λ r. r.redirect)) (filter_none (is_redirect_of row.host) lists.redirects (none_of_new (λ r. r.host) lists.redirects lists row.host new constraints.redirects)) i;
   }
 
   here : option_map (project_of (begun lists row lang)) (find (is_project row.host) (added coding.projects.key row lists.projects)) ≡ Some (fresh row)
@@ -229,7 +230,7 @@ module _ (lists : Lists) (row : ProjectRow) (lang : LangRow) (rules : KeepsRules
           ∙ ap (λ l. record (project_of lists r) { languages = l }) (ap (map (λ l. l.lang)) other ∙ sym (languages_are lists r)))
 
 -- a project is added, with its main language
-pub world_with_project : (lists : Lists) (row : ProjectRow) (lang : LangRow) → KeepsRules lists → find (is_project row.host) lists.projects ≡ None → lang.host ≡ row.host → lang.lang ≡ row.main
+pub world_with_project : (lists : Lists) (row : ProjectRow) (lang : LangRow) → KeepsConstraints lists → find (is_project row.host) lists.projects ≡ None → lang.host ≡ row.host → lang.lang ≡ row.main
     → world_of (record lists { projects = added coding.projects.key row lists.projects; langs = added coding.langs.key lang lists.langs })
     ≡ insert (world_of lists) row.host (fresh row)
-world_with_project lists row lang rules new home main = world_changed lists (begun lists row lang) row.host (fresh row) (here lists row lang rules new home main) (there lists row lang rules new home main)
+world_with_project lists row lang constraints new home main = world_changed lists (begun lists row lang) row.host (fresh row) (here lists row lang constraints new home main) (there lists row lang constraints new home main)

@@ -1,12 +1,12 @@
 -- The keys of projects, languages and used keys: when two records have one key, and which free keys a search shows.
-use Rattle.std.proofs.Common.{◌≡◌, ℕ, ◌<◌, pos, Bool, true, false, ◌&&◌, List, find, None, refl, sym, ap, ◌∙◌, arith, Ordering, Less, Equal, Greater, is_eq}
+use Rattle.std.proofs.Common.{◌≡◌, ℕ, ◌<◌, pos, Bool, true, false, ◌&&◌, List, [], ◌∷◌, find, None, refl, sym, ap, ◌∙◌, arith, Ordering, Less, Equal, Greater, is_eq}
 use Rattle.std.specs.Str.{bytes_eq}
 use Rattle.std.specs.Ordering.{eq_by_cmp, ordering_then, nat_cmp}
 use Rattle.std.specs.Cmp.{eq_by_cmp_equiv}
 use Rattle.std.proofs.lemmas.Bool.Decides.{nat_tests}
 use Rattle.std.proofs.lemmas.Map.Text.{is_eq-slice_cmp}
 use Rattle.sqlite_value.specs.declared.value.Value.TheVariants.{Text, Int}
-use Rattle.sqlite_value.specs.Order.{value_cmp}
+use Rattle.sqlite_value.specs.Order.{Row, value_cmp}
 use Rattle.sqlite_value.proofs.OrderLemmas.{value_cmp-Text, value_cmp-Int, then-Equal}
 use Rattle.sqlite_keyed.proofs.ListLemmas.{all_weaker}
 use Rattle.dh_rows.specs.Keyed.{by_key, same_key, flag, IsFreeKey}
@@ -46,23 +46,38 @@ project_key x y = ap is_eq (then-Equal (value_cmp (Text x.host) (Text y.host))) 
 pub project_is_free : (x : ProjectRow) (rows : List ProjectRow) → find (is_project x.host) rows ≡ None → IsFreeKey coding.projects.key x rows
 project_is_free x rows e = all_weaker _ (λ y. same_key coding.projects.key x y ≡ false) (λ y out. project_key x y ∙ out) rows (none_found (is_project x.host) rows e)
 
--- ---- languages
-
-lang_order : (x y : LangRow) → by_key coding.langs.key x y ≡ ordering_then (value_cmp (Text x.host) (Text y.host)) (value_cmp (Int (pos x.place)) (Int (pos y.place)))
-lang_order x y = ap (ordering_then (value_cmp (Text x.host) (Text y.host))) (then-Equal (value_cmp (Int (pos x.place)) (Int (pos y.place))))
+-- ---- hosts with places: languages, defaults, rules and redirects
 
 pub place_above : (m n : ℕ) → m < n → value_cmp (Int (pos n)) (Int (pos m)) ≡ Greater
 place_above m n h = value_cmp-Int (pos n) (pos m) ∙ grind (arith, nat_tests)
 
+module _ {X : Type 0} (host_of : X → List ℕ) (place_of : X → ℕ) where
+  abbrev pub place_key : X → Row
+  place_key x = Text (host_of x) ∷ Int (pos (place_of x)) ∷ []
+
+  place_order : (x y : X) → by_key place_key x y ≡ ordering_then (value_cmp (Text (host_of x)) (Text (host_of y))) (value_cmp (Int (pos (place_of x))) (Int (pos (place_of y))))
+  place_order x y = ap (ordering_then (value_cmp (Text (host_of x)) (Text (host_of y)))) (then-Equal (value_cmp (Int (pos (place_of x))) (Int (pos (place_of y)))))
+
+  -- of the records of a host, the later stands behind
+  pub later_above : (x y : X) → host_of y ≡ host_of x → place_of y < place_of x → by_key place_key x y ≡ Greater
+  later_above x y e h =
+      place_order x y
+      ∙ ap (λ o. ordering_then o (value_cmp (Int (pos (place_of x))) (Int (pos (place_of y))))) (ap (λ t. value_cmp (Text (host_of x)) (Text t)) e ∙ Rattle.std.proofs.lemmas.Cmp.tied_itself Rattle.sqlite_value.proofs.OrderLemmas.value_cmp_total (Text (host_of x)))
+      ∙ place_above (place_of y) (place_of x) h
+
+  pub elsewhere : (x y : X) → bytes_eq (host_of y) (host_of x) ≡ false → same_key place_key x y ≡ false
+  elsewhere x y out =
+      ap is_eq (place_order x y) ∙ eq_then (value_cmp (Text (host_of x)) (Text (host_of y))) _
+      ∙ ap (λ b. b && is_eq (value_cmp (Int (pos (place_of x))) (Int (pos (place_of y))))) (same_text (host_of x) (host_of y) ∙ out)
+
+-- ---- languages
+
 -- of the languages of a host, the later stands behind
 pub lang_above : (x y : LangRow) → y.host ≡ x.host → y.place < x.place → by_key coding.langs.key x y ≡ Greater
-lang_above x y e h =
-    lang_order x y
-    ∙ ap (λ o. ordering_then o (value_cmp (Int (pos x.place)) (Int (pos y.place)))) (ap (λ t. value_cmp (Text x.host) (Text t)) e ∙ Rattle.std.proofs.lemmas.Cmp.tied_itself Rattle.sqlite_value.proofs.OrderLemmas.value_cmp_total (Text x.host))
-    ∙ place_above y.place x.place h
+lang_above = later_above (λ l. l.host) (λ l. l.place)
 
 pub lang_elsewhere : (x y : LangRow) → bytes_eq y.host x.host ≡ false → same_key coding.langs.key x y ≡ false
-lang_elsewhere x y out = ap is_eq (lang_order x y) ∙ eq_then (value_cmp (Text x.host) (Text y.host)) _ ∙ ap (λ b. b && is_eq (value_cmp (Int (pos x.place)) (Int (pos y.place)))) (same_text x.host y.host ∙ out)
+lang_elsewhere = elsewhere (λ l. l.host) (λ l. l.place)
 
 -- ---- versions
 

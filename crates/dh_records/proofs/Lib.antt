@@ -7,10 +7,12 @@ pub mod PassKeys
 pub mod PickLists
 pub mod GrantLemmas
 pub mod OrderLemmas
-pub mod RuleLemmas
+pub mod ConstraintLemmas
 pub mod WorldLemmas
 pub mod ChangeLemmas
 pub mod AccessChanges
-pub mod AccessRules
+pub mod AccessConstraints
 pub mod SlugOrder
+pub mod PlaceLemmas
+pub mod RuleLemmas
 pub mod RedirectLemmas

@@ -3,21 +3,19 @@ use Rattle.std.proofs.Common.{◌≡◌, ℕ, ◌+◌, ◌<◌, pos, Bool, true,
 use Rattle.std.specs.List.{AllByRecursion, range_with_len}
 use Rattle.std.specs.Str.{bytes_eq}
 use Rattle.std.specs.Ordering.{ordering_then}
-use Rattle.std.proofs.lemmas.Bool.Decides.{nat_tests}
-use Rattle.std.proofs.lemmas.Cmp.{tied_itself}
 use Rattle.std.proofs.lemmas.List.{append_assoc}
 use Rattle.std.proofs.lemmas.Slice.Eq.{bytes_eq-Decides}
 use Rattle.sqlite_value.specs.declared.value.Value.TheVariants.{Text, Int}
 use Rattle.sqlite_value.specs.Order.{value_cmp}
-use Rattle.sqlite_value.proofs.OrderLemmas.{value_cmp-Int, value_cmp_total, then-Equal}
 use Rattle.sqlite_keyed.proofs.ListLemmas.{all_weaker, all-filter, filter_none}
 use Rattle.dh_rows.specs.Keyed.{same_key, IsFreeKey, added, by_key}
 use Rattle.dh_rows.proofs.Lists.{by_key_total}
 use Rattle.dh_records.specs.declared.records.PickRow.{PickRow}
 use Rattle.dh_records.specs.Codings as coding
 use Rattle.dh_records.specs.Lists.{is_pick_of, ranked, with_picks, set_picks}
-use Rattle.dh_records.specs.Rules.{InOrder}
+use Rattle.dh_records.specs.Constraints.{InOrder}
 use Rattle.dh_records.proofs.Keys.{eq_then, same_text}
+use Rattle.dh_records.proofs.KeyLemmas.{place_above, later_above}
 use Rattle.dh_records.proofs.OrderLemmas.{added_in_order, filtered_in_order}
 use Rattle.dh_records.proofs.RecordLemmas.{all_added, added_last, added_elsewhere}
 
@@ -31,18 +29,9 @@ append_none (x ∷ xs) = ap (λ l. x ∷ l) (append_none xs)
 
 -- ---- keys
 
-pick_order : (x y : PickRow) → by_key coding.picks.key x y ≡ ordering_then (value_cmp (Text x.host) (Text y.host)) (value_cmp (Int (pos x.rank)) (Int (pos y.rank)))
-pick_order x y = ap (ordering_then (value_cmp (Text x.host) (Text y.host))) (then-Equal (value_cmp (Int (pos x.rank)) (Int (pos y.rank))))
-
-rank_above : (m n : ℕ) → m < n → value_cmp (Int (pos n)) (Int (pos m)) ≡ Greater
-rank_above m n h = value_cmp-Int (pos n) (pos m) ∙ grind (arith, nat_tests)
-
 -- of the defaults of a host, the later stands behind
 pub pick_above : (x y : PickRow) → bytes_eq y.host x.host ≡ true → y.rank < x.rank → by_key coding.picks.key x y ≡ Greater
-pick_above x y e h =
-    pick_order x y
-    ∙ ap (λ o. ordering_then o (value_cmp (Int (pos x.rank)) (Int (pos y.rank)))) (ap (λ t. value_cmp (Text x.host) (Text t)) ((bytes_eq-Decides y.host x.host).0 e) ∙ tied_itself value_cmp_total (Text x.host))
-    ∙ rank_above y.rank x.rank h
+pick_above x y e = later_above (λ d. d.host) (λ d. d.rank) x y ((bytes_eq-Decides y.host x.host).0 e)
 
 pick_apart : (x y : PickRow) → (bytes_eq y.host x.host ≡ true → y.rank < x.rank) → same_key coding.picks.key x y ≡ false
 pick_apart x y below =
@@ -52,7 +41,7 @@ pick_apart x y below =
   where
     go : (b : Bool) → (b ≡ true → y.rank < x.rank) → (b && is_eq (ordering_then (value_cmp (Int (pos x.rank)) (Int (pos y.rank))) Equal)) ≡ false
     go false h = refl
-    go true h = eq_then (value_cmp (Int (pos x.rank)) (Int (pos y.rank))) Equal ∙ ap (λ b. b && true) (ap is_eq (rank_above y.rank x.rank (h refl)))
+    go true h = eq_then (value_cmp (Int (pos x.rank)) (Int (pos y.rank))) Equal ∙ ap (λ b. b && true) (ap is_eq (place_above y.rank x.rank (h refl)))
 
 -- the next rank is free
 pub rank_is_free : (x : PickRow) (rows : List PickRow) → AreBelow x.host x.rank rows → IsFreeKey coding.picks.key x rows

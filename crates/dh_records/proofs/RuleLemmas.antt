@@ -1,406 +1,107 @@
--- The rules of the records are kept by each change.
-use Rattle.std.proofs.Common.{◌≡◌, ℕ, zero, suc, ◌<◌, ◌≤◌, ◌+◌, Bool, true, false, not, ◌&&◌, ◌||◌, cond, List, [], ◌∷◌, ◌++◌, map, filter, find, length, slice_get, is_some, is_eq, Option, Some, None, IsTrue, refl, sym, ap, ap₂, ◌∙◌, subst, arith, true≢false, Greater, length-append, map-id}
-use Rattle.std.specs.List.{AllByRecursion, IsDistinct, list_any, range_with_len}
-use Rattle.std.specs.Option.{option_map_or}
-use Rattle.std.specs.Str.{bytes_eq}
-use Rattle.std.specs.Cmp.Lexicographic.{nat_list_eq_equiv}
-use Rattle.std.proofs.lemmas.Bool.{and_parts, and_from, or_left, false_from_ne_true, true_from_ne_false}
-use Rattle.std.proofs.lemmas.List.{map-append}
-use Rattle.std.proofs.lemmas.List.Folds.{list_any-append}
-use Rattle.std.proofs.lemmas.List.FromFn.{map-range_with_len_more}
-use Rattle.std.proofs.lemmas.Map.Keys.{IsDistinct-push}
-use Rattle.std.proofs.lemmas.Slice.Eq.{bytes_eq-Decides}
-use Rattle.sqlite_keyed.proofs.ListLemmas.{all_weaker, all_both, all_of, all-filter, all_unmap, all_kept, filter_none}
-use Rattle.dh_texts.specs.Slugs.{slug_from}
-use Rattle.dh_rows.specs.Keyed.{by_key, same_key, IsFreeKey, added, put}
-use Rattle.dh_rows.proofs.Lists.{by_key_total}
+-- What putting a rule at its place, and removing the last one, make of the records, of their constraints and of the world.
+use Rattle.std.proofs.Common.{◌≡◌, ℕ, ◌+◌, ◌-◌, ◌≤◌, not, List, ◌∷◌, ◌++◌, map, filter, take, drop, length, Some, IsTrue, refl}
+use Rattle.std.specs.FinMap.{get, insert}
+use Rattle.sqlite_keyed.proofs.ListLemmas.{all-filter}
+use Rattle.dh_rows.specs.Keyed.{put}
+use Rattle.dh_rules.specs.Rules.{is_allowed}
 use Rattle.dh_records.specs.declared.records.ProjectRow.{ProjectRow}
-use Rattle.dh_records.specs.declared.records.LangRow.{LangRow}
-use Rattle.dh_records.specs.declared.records.VersionRow.{VersionRow}
-use Rattle.dh_records.specs.declared.records.PageRow.{PageRow}
-use Rattle.dh_records.specs.declared.records.UsedRow.{UsedRow}
-use Rattle.dh_records.specs.declared.records.PassRow.{PassRow}
-use Rattle.dh_records.specs.declared.records.HeldRow.{HeldRow}
+use Rattle.dh_records.specs.declared.records.RuleRow.{RuleRow}
 use Rattle.dh_records.specs.Codings as coding
-use Rattle.dh_world.specs.World.{Text}
-use Rattle.dh_world.specs.Seen.{is_alias}
-use Rattle.dh_records.specs.Lists.{Lists, is_project, is_lang_of, is_version, is_page_of, is_pick_of, is_pass, is_redirect_of}
-use Rattle.dh_records.specs.Rules.{InOrder, has_project, has_language, has_active, has_version, has_pass, AreLanguages, AreDefaults, AreRedirects, KeepsRules}
-use Rattle.dh_records.proofs.Keys.{version_key}
-use Rattle.dh_records.proofs.KeyLemmas.{turned, lang_above, lang_elsewhere}
-use Rattle.dh_records.proofs.RecordLemmas.{none_found, found_passes, all_that, all_added, all_put, find_added, find_put, none_but_added, added_elsewhere, added_last}
+use Rattle.dh_world.specs.World.{Project}
+use Rattle.dh_records.specs.Lists.{Lists, project_of, world_of, is_rule_of, is_rule}
+use Rattle.dh_records.specs.Constraints.{InOrder, AreInOrder, has_project, KeepsConstraints}
+use Rattle.dh_records.specs.Changes.{put_rule, drop_rule}
+use Rattle.dh_records.proofs.RecordLemmas.{all_put}
+use Rattle.dh_records.proofs.OrderLemmas.{filtered_in_order, put_in_order}
+use Rattle.dh_records.proofs.PlaceLemmas.{places_with, places_without, told_in, told_count, world_with, world_without}
 
-or_later : (a b c : Bool) → (IsTrue b → IsTrue c) → IsTrue (a || b) → IsTrue (a || c)
-or_later true b c h e = refl
-or_later false b c h e = h e
+-- ---- the order of the records
 
-and_later : (a b c : Bool) → (IsTrue b → IsTrue c) → IsTrue (a && b) → IsTrue (a && c)
-and_later true b c h e = h e
-and_later false b c h e = e
+pub order_with_rule : (lists : Lists) → AreInOrder lists → (row : RuleRow) → AreInOrder (put_rule row lists)
+order_with_rule lists up row = record { projects = up.projects; langs = up.langs; versions = up.versions; pages = up.pages; used = up.used; picks = up.picks; passes = up.passes; held = up.held; rules = put_in_order coding.rules.key row lists.rules up.rules; redirects = up.redirects }
 
--- ---- versions
+pub order_without_rule : (lists : Lists) → AreInOrder lists → (host : List ℕ) (place : ℕ) → AreInOrder (drop_rule host place lists)
+order_without_rule lists up host place = record { projects = up.projects; langs = up.langs; versions = up.versions; pages = up.pages; used = up.used; picks = up.picks; passes = up.passes; held = up.held; rules = filtered_in_order coding.rules.key (λ x. not (is_rule host place x)) lists.rules up.rules; redirects = up.redirects }
 
-find_version : (row : VersionRow) (rows : List VersionRow) (host slug : Text)
-    → find (is_version host slug) (put coding.versions.key row rows) ≡ cond (is_version host slug row) (Some row) (find (is_version host slug) rows)
-find_version row rows host slug = find_put coding.versions.key (is_version host slug) row alike only rows
-  where
-    alike : (y : VersionRow) → same_key coding.versions.key row y ≡ true → is_version host slug y ≡ is_version host slug row
-    alike y e =
-        let both = and_parts _ _ (sym (version_key row y) ∙ e) in
-        let hosts = (bytes_eq-Decides y.host row.host).0 both.0 in
-        let slugs = (bytes_eq-Decides y.version.slug row.version.slug).0 both.1 in
-        ap₂ (λ h s. bytes_eq h host && bytes_eq s slug) hosts slugs
+-- ---- their constraints
 
-    only : (y : VersionRow) → is_version host slug row ≡ true → is_version host slug y ≡ true → same_key coding.versions.key row y ≡ true
-    only y here there =
-        let one = and_parts _ _ here in
-        let two = and_parts _ _ there in
-        let hosts = (bytes_eq-Decides y.host host).0 two.0 ∙ sym ((bytes_eq-Decides row.host host).0 one.0) in
-        let slugs = (bytes_eq-Decides y.version.slug slug).0 two.1 ∙ sym ((bytes_eq-Decides row.version.slug slug).0 one.1) in
-        version_key row y ∙ and_from _ _ ((bytes_eq-Decides y.host row.host).1 hosts) ((bytes_eq-Decides y.version.slug row.version.slug).1 slugs)
-
--- a version that is not there, or inactive, has no pages
-pub inactive_is_bare : (lists : Lists) (host slug : Text) → KeepsRules lists → has_active lists host slug ≡ false → AllByRecursion (λ x. is_page_of host slug x ≡ false) lists.pages
-inactive_is_bare lists host slug rules off = all_weaker _ (λ x. is_page_of host slug x ≡ false) apart lists.pages rules.active
-  where
-    apart : (x : PageRow) → IsTrue (has_active lists x.host x.slug) → is_page_of host slug x ≡ false
-    apart x shown = false_from_ne_true _ (λ e.
-        let both = and_parts _ _ e in
-        true≢false (sym shown ∙ ap₂ (has_active lists) ((bytes_eq-Decides x.host host).0 both.0) ((bytes_eq-Decides x.slug slug).0 both.1) ∙ off))
-
--- nor has one whose pages were dropped
-pub dropped_is_bare : (host slug : Text) (rows : List PageRow) → AllByRecursion (λ x. is_page_of host slug x ≡ false) (filter (λ x. not (is_page_of host slug x)) rows)
-dropped_is_bare host slug rows = all_that (λ x. is_page_of host slug x ≡ false) (λ x. not (is_page_of host slug x)) (λ x out. false_from_ne_true _ (λ e. true≢false (sym out ∙ ap not e))) rows
-
-pub rules_with_version : (lists : Lists) (row : VersionRow) → KeepsRules lists → IsTrue (has_project lists row.host) → slug_from row.version.name ≡ Some row.version.slug
-    → (row.version.active ≡ false → AllByRecursion (λ x. is_page_of row.host row.version.slug x ≡ false) lists.pages)
-    → KeepsRules (record lists { versions = put coding.versions.key row lists.versions })
-rules_with_version lists row rules host named bare = record {
-  langs = rules.langs;
-  versions = all_put coding.versions.key (λ v. IsTrue (has_project lists v.host)) row lists.versions host rules.versions;
-  pages = rules.pages;
-  used = rules.used;
-  picks = rules.picks;
-  passes = rules.passes;
-  languages = rules.languages;
-  slugs = all_put coding.versions.key (λ v. slug_from v.version.name ≡ Some v.version.slug) row lists.versions named rules.slugs;
-  active = all_both _ _ (λ x. IsTrue (has_active next x.host x.slug)) still lists.pages rules.active (each row.version.active refl);
-  spoken = rules.spoken;
-  defaults = rules.defaults;
-  chosen = all_weaker _ (λ d. IsTrue (is_alias d.name || has_version next d.host d.name)) (λ d. or_later _ _ _ (kept d.host d.name)) lists.picks rules.chosen;
-  granted = all_weaker _ (λ x. IsTrue (has_pass lists x.host x.pass && has_version next x.host x.slug)) (λ x. and_later _ _ _ (kept x.host x.slug)) lists.held rules.granted;
-  redirects = rules.redirects;
-  places = rules.places;
-  good = rules.good;
-}
-  where
-    next : Lists
-    next = record lists { versions = put coding.versions.key row lists.versions }
-
-    -- a version that was there still is
-    kept : (host slug : Text) → IsTrue (has_version lists host slug) → IsTrue (has_version next host slug)
-    kept host slug was = ap is_some (find_version row lists.versions host slug) ∙ go (is_version host slug row)
-      where
-        go : (b : Bool) → is_some (cond b (Some row) (find (is_version host slug) lists.versions)) ≡ true
-        go true = refl
-        go false = was
-
-    each : (b : Bool) → row.version.active ≡ b → AllByRecursion (λ x. row.version.active ≡ false → is_page_of row.host row.version.slug x ≡ false) lists.pages
-    each true e = all_of _ (λ x off. absurd (true≢false (sym e ∙ off))) lists.pages
-    each false e = all_weaker _ (λ x. row.version.active ≡ false → is_page_of row.host row.version.slug x ≡ false) (λ x h off. h) lists.pages (bare e)
-
-    still : (x : PageRow) → IsTrue (has_active lists x.host x.slug) → (row.version.active ≡ false → is_page_of row.host row.version.slug x ≡ false) → IsTrue (has_active next x.host x.slug)
-    still x was out = ap (λ o. option_map_or (λ (v : VersionRow). v.version.active) o false) (find_version row lists.versions x.host x.slug) ∙ go (is_version x.host x.slug row) refl
-      where
-        go : (b : Bool) → is_version x.host x.slug row ≡ b → option_map_or (λ (v : VersionRow). v.version.active) (cond b (Some row) (find (is_version x.host x.slug) lists.versions)) false ≡ true
-        go false e = was
-        go true e = true_from_ne_false _ (λ off.
-            let both = and_parts _ _ e in
-            let hosts = sym ((bytes_eq-Decides row.host x.host).0 both.0) in
-            let slugs = sym ((bytes_eq-Decides row.version.slug x.slug).0 both.1) in
-            true≢false (sym (and_from _ _ ((bytes_eq-Decides x.host row.host).1 hosts) ((bytes_eq-Decides x.slug row.version.slug).1 slugs)) ∙ out off))
-
--- ---- pages
-
-pub rules_with_page : (lists : Lists) (row : PageRow) → KeepsRules lists → IsTrue (has_project lists row.host) → IsTrue (has_active lists row.host row.slug) → IsTrue (has_language lists row.host row.lang)
-    → KeepsRules (record lists { pages = put coding.pages.key row lists.pages })
-rules_with_page lists row rules host shown spoken = record {
-  langs = rules.langs;
-  versions = rules.versions;
-  pages = all_put coding.pages.key (λ x. IsTrue (has_project lists x.host)) row lists.pages host rules.pages;
-  used = rules.used;
-  picks = rules.picks;
-  passes = rules.passes;
-  languages = rules.languages;
-  slugs = rules.slugs;
-  active = all_put coding.pages.key (λ x. IsTrue (has_active lists x.host x.slug)) row lists.pages shown rules.active;
-  spoken = all_put coding.pages.key (λ x. IsTrue (has_language lists x.host x.lang)) row lists.pages spoken rules.spoken;
-  defaults = rules.defaults;
-  chosen = rules.chosen;
-  granted = rules.granted;
-  redirects = rules.redirects;
-  places = rules.places;
-  good = rules.good;
+-- a rule that may be added is put at a place of its project, or at the next one
+pub constraints_with_rule : (lists : Lists) (row : RuleRow) → KeepsConstraints lists → InOrder coding.rules.key lists.rules → IsTrue (has_project lists row.host) → 1 ≤ row.place
+    → row.place ≤ length (filter (is_rule_of row.host) lists.rules) + 1 → row.place ≤ 50 → IsTrue (is_allowed row.rule.pattern) → KeepsConstraints (put_rule row lists)
+constraints_with_rule lists row constraints up has from upto few good = record {
+  langs = constraints.langs;
+  versions = constraints.versions;
+  pages = constraints.pages;
+  used = constraints.used;
+  picks = constraints.picks;
+  passes = constraints.passes;
+  languages = constraints.languages;
+  slugs = constraints.slugs;
+  active = constraints.active;
+  spoken = constraints.spoken;
+  defaults = constraints.defaults;
+  chosen = constraints.chosen;
+  granted = constraints.granted;
+  rules = all_put coding.rules.key (λ r. IsTrue (has_project lists r.host)) row lists.rules has constraints.rules;
+  rule_places = places_with (λ r. r.host) (λ r. r.place) 50 lists lists.rules row constraints.rule_places up has from upto few;
+  allowed = all_put coding.rules.key (λ r. IsTrue (is_allowed r.rule.pattern)) row lists.rules good constraints.allowed;
+  redirects = constraints.redirects;
+  places = constraints.places;
+  good = constraints.good;
 }
 
--- some pages less
-pub rules_without : (lists : Lists) (p : PageRow → Bool) → KeepsRules lists → KeepsRules (record lists { pages = filter p lists.pages })
-rules_without lists p rules = record {
-  langs = rules.langs;
-  versions = rules.versions;
-  pages = all-filter _ p lists.pages rules.pages;
-  used = rules.used;
-  picks = rules.picks;
-  passes = rules.passes;
-  languages = rules.languages;
-  slugs = rules.slugs;
-  active = all-filter _ p lists.pages rules.active;
-  spoken = all-filter _ p lists.pages rules.spoken;
-  defaults = rules.defaults;
-  chosen = rules.chosen;
-  granted = rules.granted;
-  redirects = rules.redirects;
-  places = rules.places;
-  good = rules.good;
+-- the last rule of a project is removed
+pub constraints_without_rule : (lists : Lists) (host : List ℕ) (place : ℕ) → KeepsConstraints lists → 1 ≤ place → place ≡ length (filter (is_rule_of host) lists.rules)
+    → KeepsConstraints (drop_rule host place lists)
+constraints_without_rule lists host place constraints from last = record {
+  langs = constraints.langs;
+  versions = constraints.versions;
+  pages = constraints.pages;
+  used = constraints.used;
+  picks = constraints.picks;
+  passes = constraints.passes;
+  languages = constraints.languages;
+  slugs = constraints.slugs;
+  active = constraints.active;
+  spoken = constraints.spoken;
+  defaults = constraints.defaults;
+  chosen = constraints.chosen;
+  granted = constraints.granted;
+  rules = all-filter _ (λ x. not (is_rule host place x)) lists.rules constraints.rules;
+  rule_places = places_without (λ r. r.host) (λ r. r.place) 50 lists lists.rules host place constraints.rule_places from last;
+  allowed = all-filter _ (λ x. not (is_rule host place x)) lists.rules constraints.allowed;
+  redirects = constraints.redirects;
+  places = constraints.places;
+  good = constraints.good;
 }
 
--- ---- used keys
+-- ---- the world
 
-pub rules_with_used : (lists : Lists) (row : UsedRow) → KeepsRules lists → IsTrue (has_project lists row.host) → KeepsRules (record lists { used = added coding.used.key row lists.used })
-rules_with_used lists row rules host = record {
-  langs = rules.langs;
-  versions = rules.versions;
-  pages = rules.pages;
-  used = all_added (λ u. IsTrue (has_project lists u.host)) (by_key coding.used.key) row lists.used host rules.used;
-  picks = rules.picks;
-  passes = rules.passes;
-  languages = rules.languages;
-  slugs = rules.slugs;
-  active = rules.active;
-  spoken = rules.spoken;
-  defaults = rules.defaults;
-  chosen = rules.chosen;
-  granted = rules.granted;
-  redirects = rules.redirects;
-  places = rules.places;
-  good = rules.good;
-}
+with_rules : (lists : Lists) (rows : List RuleRow) (r : ProjectRow) → project_of (record lists { rules = rows }) r ≡ record (project_of lists r) { rules = map (λ x. x.rule) (filter (is_rule_of r.host) rows) }
+unfolding project_of
+with_rules lists rows r = refl
 
--- ---- languages
+rules_are : (lists : Lists) (r : ProjectRow) → (project_of lists r).rules ≡ map (λ x. x.rule) (filter (is_rule_of r.host) lists.rules)
+unfolding project_of
+rules_are lists r = refl
 
-pub all_found : {A : Type 0} (P : A → Type 0) (t : A → Bool) (rows : List A) (x : A) → find t rows ≡ Some x → AllByRecursion P rows → P x
-all_found P t [] x e all = absurd (cc)
-all_found P t (y ∷ rows) x e all = go (t y) e (λ f. all_found P t rows x f all.1)
-  where
-    go : (b : Bool) → cond b (Some y) (find t rows) ≡ Some x → (find t rows ≡ Some x → P x) → P x
-    go true f more = let same : y ≡ x = cc in subst P same all.0
-    go false f more = more f
+pub rules_in : (lists : Lists) (host : List ℕ) (p : Project) → get (world_of lists) host ≡ Some p → p.rules ≡ map (λ r. r.rule) (filter (is_rule_of host) lists.rules)
+rules_in lists = told_in (λ r. r.host) (λ r. r.place) (λ r. r.rule) (λ x. x.rules) lists lists.rules (rules_are lists)
 
--- a grant lies under a host that has a project
-pub grants_owned : (lists : Lists) → KeepsRules lists → AllByRecursion (λ x. IsTrue (has_project lists x.host)) lists.held
-grants_owned lists rules = all_weaker _ (λ x. IsTrue (has_project lists x.host)) owned lists.held rules.granted
-  where
-    owned : (x : HeldRow) → IsTrue (has_pass lists x.host x.pass && has_version lists x.host x.slug) → IsTrue (has_project lists x.host)
-    owned x h = go (find (is_pass x.host x.pass) lists.passes) refl (and_parts _ _ h).0
-      where
-        go : (o : Option PassRow) → find (is_pass x.host x.pass) lists.passes ≡ o → is_some o ≡ true → IsTrue (has_project lists x.host)
-        go None e t = absurd (true≢false (sym t))
-        go (Some r) e t =
-            let both = and_parts _ _ (found_passes (is_pass x.host x.pass) lists.passes r e) in
-            ap (has_project lists) (sym ((bytes_eq-Decides r.host x.host).0 both.0)) ∙ all_found (λ p. IsTrue (has_project lists p.host)) (is_pass x.host x.pass) lists.passes r e rules.passes
+pub rule_count_in : (lists : Lists) (host : List ℕ) (p : Project) → get (world_of lists) host ≡ Some p → length p.rules ≡ length (filter (is_rule_of host) lists.rules)
+rule_count_in lists = told_count (λ r. r.host) (λ r. r.place) (λ r. r.rule) (λ x. x.rules) lists lists.rules (rules_are lists)
 
--- the languages of a host that has a project
-languages_at : (lists : Lists) (host : Text) → KeepsRules lists → IsTrue (has_project lists host) → (main : Text) × AreLanguages main (filter (is_lang_of host) lists.langs)
-languages_at lists host rules has = go (find (is_project host) lists.projects) refl has
-  where
-    go : (o : Option ProjectRow) → find (is_project host) lists.projects ≡ o → is_some o ≡ true → (main : Text) × AreLanguages main (filter (is_lang_of host) lists.langs)
-    go None e h = absurd (true≢false (sym h))
-    go (Some r) e h =
-        let named : r.host ≡ host = (bytes_eq-Decides r.host host).0 (found_passes (is_project host) lists.projects r e) in
-        (r.main, subst (λ n. AreLanguages r.main (filter (is_lang_of n) lists.langs)) named (all_found _ (is_project host) lists.projects r e rules.languages))
+-- a rule is put at a place of its project, or at the next one
+pub world_with_rule : (lists : Lists) (row : RuleRow) (p : Project) → KeepsConstraints lists → InOrder coding.rules.key lists.rules → 1 ≤ row.place → row.place ≤ length (filter (is_rule_of row.host) lists.rules) + 1
+    → get (world_of lists) row.host ≡ Some p
+    → world_of (put_rule row lists) ≡ insert (world_of lists) row.host (record p { rules = take (row.place - 1) p.rules ++ row.rule ∷ drop row.place p.rules })
+world_with_rule lists row p constraints =
+    world_with (λ r. r.host) (λ r. r.place) (λ r. r.rule) 50 (λ x. x.rules) (λ x l. record x { rules = l }) (λ x. refl)
+    lists (put_rule row lists) lists.rules (put coding.rules.key row lists.rules) refl (rules_are lists) (with_rules lists _) constraints.rule_places row p refl
 
-range_below : (a n m : ℕ) → a + n ≤ m → AllByRecursion (λ k. k < m) (range_with_len a n)
-range_below a zero m h = tt
-range_below a (suc n) m h = (omega arith, range_below (a + 1) n m (omega arith))
-
--- the next place is above all that are taken
-pub places_below : (lists : Lists) (row : LangRow) → KeepsRules lists → IsTrue (has_project lists row.host) → row.place ≡ length (filter (is_lang_of row.host) lists.langs) + 1
-    → AllByRecursion (λ l. is_lang_of row.host l ≡ true → l.place < row.place) lists.langs
-places_below lists row rules has next =
-    let ls = filter (is_lang_of row.host) lists.langs in
-    let these = (languages_at lists row.host rules has).1 in
-    let below : AllByRecursion (λ k. k < row.place) (map (λ (l : LangRow). l.place) ls) = subst (AllByRecursion (λ k. k < row.place)) (sym these.places) (range_below 1 (length ls) row.place (omega arith)) in
-    all_kept (λ l. l.place < row.place) (is_lang_of row.host) lists.langs (all_unmap (λ k. k < row.place) (λ l. l.place) ls below)
-
--- a language whose place is above those of its host stands behind them
-pub langs_with : (row : LangRow) (rows : List LangRow) → InOrder coding.langs.key rows → AllByRecursion (λ l. is_lang_of row.host l ≡ true → l.place < row.place) rows
-    → filter (is_lang_of row.host) (added coding.langs.key row rows) ≡ filter (is_lang_of row.host) rows ++ row ∷ []
-langs_with row rows up below =
-    added_last (by_key coding.langs.key) (by_key_total coding.langs.key) (is_lang_of row.host) row rows up ((bytes_eq-Decides row.host row.host).1 refl)
-    (all_weaker _ (λ l. is_lang_of row.host l ≡ true → by_key coding.langs.key row l ≡ Greater) (λ l h e. lang_above row l ((bytes_eq-Decides l.host row.host).0 e) (h e)) rows below)
-
--- and its place is free
-pub lang_is_free : (lists : Lists) (row : LangRow) → KeepsRules lists → IsTrue (has_project lists row.host) → row.place ≡ length (filter (is_lang_of row.host) lists.langs) + 1 → IsFreeKey coding.langs.key row lists.langs
-lang_is_free lists row rules has next = all_weaker _ (λ l. same_key coding.langs.key row l ≡ false) apart lists.langs (places_below lists row rules has next)
-  where
-    apart : (l : LangRow) → (is_lang_of row.host l ≡ true → l.place < row.place) → same_key coding.langs.key row l ≡ false
-    apart l h = go (bytes_eq l.host row.host) refl
-      where
-        go : (b : Bool) → bytes_eq l.host row.host ≡ b → same_key coding.langs.key row l ≡ false
-        go true e = ap is_eq (lang_above row l ((bytes_eq-Decides l.host row.host).0 e) (h e))
-        go false e = lang_elsewhere row l e
-
-one_more : (n : ℕ) → range_with_len 1 (n + 1) ≡ range_with_len 1 n ++ (n + 1) ∷ []
-one_more n = sym (map-id _) ∙ map-range_with_len_more (λ k. k) 1 n (n + 1) (omega arith) ∙ ap (λ l. l ++ (n + 1) ∷ []) (map-id _)
-
-more_languages : (main : Text) (ls : List LangRow) (row : LangRow) → AreLanguages main ls → row.place ≡ length ls + 1 → list_any (λ t. bytes_eq t row.lang) (map (λ l. l.lang) ls) ≡ false → AreLanguages main (ls ++ row ∷ [])
-more_languages main ls row were next new = record {
-  places =
-      map-append (λ l. l.place) ls (row ∷ []) ∙ ap₂ (λ a k. a ++ k ∷ []) were.places next
-      ∙ sym (one_more (length ls)) ∙ ap (range_with_len 1) (sym (length-append ls (row ∷ [])));
-  apart = subst (IsDistinct bytes_eq) (sym (map-append (λ l. l.lang) ls (row ∷ []))) (IsDistinct-push nat_list_eq_equiv (map (λ l. l.lang) ls) row.lang were.apart ((λ i. list_any (λ t. turned row.lang t i) (map (λ l. l.lang) ls)) ∙ new));
-  first = ap (λ l. slice_get l 0) (map-append (λ l. l.lang) ls (row ∷ [])) ∙ leads (map (λ l. l.lang) ls) were.first;
-}
-  where
-    leads : (xs : List Text) → slice_get xs 0 ≡ Some main → slice_get (xs ++ row.lang ∷ []) 0 ≡ Some main
-    leads [] e = absurd (cc)
-    leads (x ∷ xs) e = e
-
-pub rules_with_lang : (lists : Lists) (row : LangRow) → KeepsRules lists → InOrder coding.langs.key lists.langs → IsTrue (has_project lists row.host)
-    → row.place ≡ length (filter (is_lang_of row.host) lists.langs) + 1 → has_language lists row.host row.lang ≡ false → KeepsRules (record lists { langs = added coding.langs.key row lists.langs })
-rules_with_lang lists row rules up host next new = record {
-  langs = all_added (λ l. IsTrue (has_project lists l.host)) (by_key coding.langs.key) row lists.langs host rules.langs;
-  versions = rules.versions;
-  pages = rules.pages;
-  used = rules.used;
-  picks = rules.picks;
-  passes = rules.passes;
-  languages = all_weaker _ (λ r. AreLanguages r.main (filter (is_lang_of r.host) after)) still lists.projects rules.languages;
-  slugs = rules.slugs;
-  active = rules.active;
-  spoken = all_weaker _ (λ x. list_any (λ t. bytes_eq t x.lang) (map (λ l. l.lang) (filter (is_lang_of x.host) after)) ≡ true) spoken lists.pages rules.spoken;
-  defaults = rules.defaults;
-  chosen = rules.chosen;
-  granted = rules.granted;
-  redirects = rules.redirects;
-  places = rules.places;
-  good = rules.good;
-}
-  where
-    after : List LangRow
-    after = added coding.langs.key row lists.langs
-
-    here : filter (is_lang_of row.host) after ≡ filter (is_lang_of row.host) lists.langs ++ row ∷ []
-    here = langs_with row lists.langs up (places_below lists row rules host next)
-
-    still : (r : ProjectRow) → AreLanguages r.main (filter (is_lang_of r.host) lists.langs) → AreLanguages r.main (filter (is_lang_of r.host) after)
-    still r were = go (bytes_eq row.host r.host) refl
-      where
-        go : (b : Bool) → bytes_eq row.host r.host ≡ b → AreLanguages r.main (filter (is_lang_of r.host) after)
-        go true e =
-            let same = (bytes_eq-Decides row.host r.host).0 e in
-            let mine : AreLanguages r.main (filter (is_lang_of row.host) lists.langs) = subst (λ h. AreLanguages r.main (filter (is_lang_of h) lists.langs)) (sym same) were in
-            subst (λ h. AreLanguages r.main (filter (is_lang_of h) after)) same (subst (AreLanguages r.main) (sym here) (more_languages r.main _ row mine next new))
-        go false e = subst (AreLanguages r.main) (sym (added_elsewhere (by_key coding.langs.key) (is_lang_of r.host) row lists.langs e)) were
-
-    spoken : (x : PageRow) → IsTrue (has_language lists x.host x.lang) → list_any (λ t. bytes_eq t x.lang) (map (λ l. l.lang) (filter (is_lang_of x.host) after)) ≡ true
-    spoken x was = go (bytes_eq row.host x.host) refl
-      where
-        go : (b : Bool) → bytes_eq row.host x.host ≡ b → list_any (λ t. bytes_eq t x.lang) (map (λ l. l.lang) (filter (is_lang_of x.host) after)) ≡ true
-        go true e =
-            let same = (bytes_eq-Decides row.host x.host).0 e in
-            ap (λ h. list_any (λ t. bytes_eq t x.lang) (map (λ l. l.lang) (filter (is_lang_of h) after))) (sym same) ∙ ap (λ l. list_any (λ t. bytes_eq t x.lang) (map (λ l. l.lang) l)) here
-            ∙ ap (list_any (λ t. bytes_eq t x.lang)) (map-append (λ l. l.lang) (filter (is_lang_of row.host) lists.langs) (row ∷ [])) ∙ list_any-append (λ t. bytes_eq t x.lang) (map (λ l. l.lang) (filter (is_lang_of row.host) lists.langs)) (row.lang ∷ [])
-            ∙ or_left _ _ (ap (λ h. has_language lists h x.lang) same ∙ was)
-        go false e = ap (λ l. list_any (λ t. bytes_eq t x.lang) (map (λ l. l.lang) l)) (added_elsewhere (by_key coding.langs.key) (is_lang_of x.host) row lists.langs e) ∙ was
-
--- ---- projects
-
-pub find_project : (row : ProjectRow) (rows : List ProjectRow) (host : Text) → find (is_project row.host) rows ≡ None
-    → find (is_project host) (added coding.projects.key row rows) ≡ cond (is_project host row) (Some row) (find (is_project host) rows)
-find_project row rows host new =
-    find_added (by_key coding.projects.key) (is_project host) row rows
-    (λ e. subst (λ h. AllByRecursion (λ r. is_project h r ≡ false) rows) ((bytes_eq-Decides row.host host).0 e) (none_found (is_project row.host) rows new))
-
--- what has a project does not lie under a host that has none
-apart_from_new : (lists : Lists) (host : Text) → find (is_project host) lists.projects ≡ None → (h : Text) → IsTrue (has_project lists h) → bytes_eq h host ≡ false
-apart_from_new lists host new h has = false_from_ne_true _ (λ e. true≢false (sym has ∙ ap (has_project lists) ((bytes_eq-Decides h host).0 e) ∙ ap is_some new))
-
--- no record lies under a host that has no project
-pub none_of_new : {A : Type 0} (host_of : A → Text) (rows : List A) (lists : Lists) (host : Text) → find (is_project host) lists.projects ≡ None → AllByRecursion (λ a. IsTrue (has_project lists (host_of a))) rows
-    → AllByRecursion (λ a. bytes_eq (host_of a) host ≡ false) rows
-none_of_new host_of rows lists host new has = all_weaker _ (λ a. bytes_eq (host_of a) host ≡ false) (λ a. apart_from_new lists host new (host_of a)) rows has
-
--- the place of the first language of a new project is free
-pub first_lang_is_free : (lists : Lists) (lang : LangRow) → KeepsRules lists → find (is_project lang.host) lists.projects ≡ None → IsFreeKey coding.langs.key lang lists.langs
-first_lang_is_free lists lang rules new =
-    all_weaker _ (λ l. same_key coding.langs.key lang l ≡ false) (lang_elsewhere lang) lists.langs (none_of_new (λ l. l.host) lists.langs lists lang.host new rules.langs)
-
-one_language : (main : Text) (row : LangRow) → row.lang ≡ main → row.place ≡ 1 → AreLanguages main (row ∷ [])
-unfolding IsDistinct
-one_language main row lang place = record { places = ap (λ k. k ∷ []) place; apart = (tt, tt); first = ap Some lang }
-
-none_are_chosen : AreDefaults []
-unfolding IsDistinct
-none_are_chosen = record { ranks = refl; apart = tt }
-
-no_redirects : AreRedirects []
-no_redirects = record { places = refl; few = omega arith }
-
-pub rules_with_project : (lists : Lists) (row : ProjectRow) (lang : LangRow) → KeepsRules lists → find (is_project row.host) lists.projects ≡ None → lang.host ≡ row.host → lang.lang ≡ row.main → lang.place ≡ 1
-    → KeepsRules (record lists { projects = added coding.projects.key row lists.projects; langs = added coding.langs.key lang lists.langs })
-rules_with_project lists row lang rules new home main place = record {
-  langs = all_added (λ l. IsTrue (has_project next l.host)) (by_key coding.langs.key) lang lists.langs owner (all_weaker _ (λ l. IsTrue (has_project next l.host)) (λ l. owned l.host) lists.langs rules.langs);
-  versions = all_weaker _ (λ v. IsTrue (has_project next v.host)) (λ v. owned v.host) lists.versions rules.versions;
-  pages = all_weaker _ (λ x. IsTrue (has_project next x.host)) (λ x. owned x.host) lists.pages rules.pages;
-  used = all_weaker _ (λ u. IsTrue (has_project next u.host)) (λ u. owned u.host) lists.used rules.used;
-  picks = all_weaker _ (λ d. IsTrue (has_project next d.host)) (λ d. owned d.host) lists.picks rules.picks;
-  passes = all_weaker _ (λ x. IsTrue (has_project next x.host)) (λ x. owned x.host) lists.passes rules.passes;
-  languages = all_added (λ r. AreLanguages r.main (filter (is_lang_of r.host) after)) (by_key coding.projects.key) row lists.projects first
-      (all_both _ _ (λ r. AreLanguages r.main (filter (is_lang_of r.host) after)) other lists.projects rules.languages (none_found (is_project row.host) lists.projects new));
-  slugs = rules.slugs;
-  active = rules.active;
-  spoken = all_both _ _ (λ x. IsTrue (has_language next x.host x.lang)) spoken lists.pages rules.pages rules.spoken;
-  defaults = all_added (λ r. AreDefaults (filter (is_pick_of r.host) lists.picks)) (by_key coding.projects.key) row lists.projects none_chosen rules.defaults;
-  chosen = rules.chosen;
-  granted = rules.granted;
-  redirects = all_weaker _ (λ r. IsTrue (has_project next r.host)) (λ r. owned r.host) lists.redirects rules.redirects;
-  places = all_added (λ r. AreRedirects (filter (is_redirect_of r.host) lists.redirects)) (by_key coding.projects.key) row lists.projects none_lead rules.places;
-  good = rules.good;
-}
-  where
-    after : List LangRow
-    after = added coding.langs.key lang lists.langs
-
-    next : Lists
-    next = record lists { projects = added coding.projects.key row lists.projects; langs = after }
-
-    owned : (host : Text) → IsTrue (has_project lists host) → IsTrue (has_project next host)
-    owned host was = ap is_some (find_project row lists.projects host new) ∙ go (is_project host row)
-      where
-        go : (b : Bool) → is_some (cond b (Some row) (find (is_project host) lists.projects)) ≡ true
-        go true = refl
-        go false = was
-
-    owner : IsTrue (has_project next lang.host)
-    owner = ap is_some (find_project row lists.projects lang.host new ∙ ap (λ b. cond b (Some row) (find (is_project lang.host) lists.projects)) ((bytes_eq-Decides row.host lang.host).1 (sym home)))
-
-    none_lead : AreRedirects (filter (is_redirect_of row.host) lists.redirects)
-    none_lead = subst AreRedirects (sym (filter_none (is_redirect_of row.host) lists.redirects (none_of_new (λ r. r.host) lists.redirects lists row.host new rules.redirects))) no_redirects
-
-    none_chosen : AreDefaults (filter (is_pick_of row.host) lists.picks)
-    none_chosen = subst AreDefaults (sym (filter_none (is_pick_of row.host) lists.picks (none_of_new (λ d. d.host) lists.picks lists row.host new rules.picks))) none_are_chosen
-
-    elsewhere : (host : Text) → bytes_eq host row.host ≡ false → filter (is_lang_of host) after ≡ filter (is_lang_of host) lists.langs
-    elsewhere host apart = added_elsewhere (by_key coding.langs.key) (is_lang_of host) lang lists.langs (ap (λ h. bytes_eq h host) home ∙ turned row.host host ∙ apart)
-
-    first : AreLanguages row.main (filter (is_lang_of row.host) after)
-    first = subst (AreLanguages row.main)
-        (sym (none_but_added (by_key coding.langs.key) (is_lang_of row.host) lang lists.langs ((bytes_eq-Decides lang.host row.host).1 home) (none_of_new (λ l. l.host) lists.langs lists row.host new rules.langs)))
-        (one_language row.main lang main place)
-
-    other : (r : ProjectRow) → AreLanguages r.main (filter (is_lang_of r.host) lists.langs) → is_project row.host r ≡ false → AreLanguages r.main (filter (is_lang_of r.host) after)
-    other r were apart = subst (AreLanguages r.main) (sym (elsewhere r.host apart)) were
-
-    spoken : (x : PageRow) → IsTrue (has_project lists x.host) → IsTrue (has_language lists x.host x.lang) → IsTrue (has_language next x.host x.lang)
-    spoken x has was = ap (λ l. list_any (λ t. bytes_eq t x.lang) (map (λ l. l.lang) l)) (elsewhere x.host (apart_from_new lists row.host new x.host has)) ∙ was
+-- the last rule of a project is removed
+pub world_without_rule : (lists : Lists) (host : List ℕ) (place : ℕ) (p : Project) → KeepsConstraints lists → 1 ≤ place → place ≡ length (filter (is_rule_of host) lists.rules) → get (world_of lists) host ≡ Some p
+    → world_of (drop_rule host place lists) ≡ insert (world_of lists) host (record p { rules = take (place - 1) p.rules })
+world_without_rule lists host place p constraints =
+    world_without (λ r. r.host) (λ r. r.place) (λ r. r.rule) 50 (λ x. x.rules) (λ x l. record x { rules = l }) (λ x. refl)
+    lists (drop_rule host place lists) lists.rules (filter (λ x. not (is_rule host place x)) lists.rules) refl (rules_are lists) (with_rules lists _) constraints.rule_places host place p refl

@@ -21,7 +21,7 @@ use Rattle.dh_world.specs.World.{text_cmp, holds, is_visible, may_see}
 use Rattle.dh_world.specs.World as world
 use Rattle.dh_records.specs.Lists.{Lists, project_of, is_version_of}
 use Rattle.dh_world.specs.Seen.{visible_versions}
-use Rattle.dh_records.specs.Rules.{RiseBySlug}
+use Rattle.dh_records.specs.Constraints.{RiseBySlug}
 use Rattle.dh_world.proofs.MapLemmas.{text_total}
 
 abbrev pub by_slug : VersionRow → world.Text × Version

@@ -12,7 +12,7 @@ use Rattle.dh_records.specs.declared.records.VersionRow.{VersionRow}
 use Rattle.dh_world.specs.declared.operation.Operation.{Operation}
 use Rattle.dh_world.specs.World.{Text, used_cmp, op_code, Project}
 use Rattle.dh_records.specs.Lists.{Lists, of_host, project_of, world_of, kept_answer, is_project, is_version, is_page, is_used, is_lang_of, is_pick_of, is_pass, is_held}
-use Rattle.dh_records.specs.Rules.{has_project, languages_of, has_language, has_active, has_version, has_pass}
+use Rattle.dh_records.specs.Constraints.{has_project, languages_of, has_language, has_active, has_version, has_pass}
 use Rattle.dh_records.proofs.KeyLemmas.{used_place, tied_used_key}
 use Rattle.dh_world.proofs.MapLemmas.{used_total, found_in, find_in_filter, find_same, get_back, put_twice}
 use Rattle.dh_records.proofs.RecordLemmas.{found_passes}

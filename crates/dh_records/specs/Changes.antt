@@ -4,7 +4,7 @@ use Rattle.dh_rows.specs.Keyed.{added, put}
 use Rattle.dh_world.specs.World.{Text}
 use Rattle.dh_records.specs.Codings as coding
 use Rattle.dh_records.specs.Lists as lists
-use Rattle.dh_records.specs.Lists.{Lists, granted, is_version, is_page_under, is_pick_of, is_pass, is_held, is_held_by, is_held_on, is_redirect}
+use Rattle.dh_records.specs.Lists.{Lists, granted, is_version, is_page_under, is_pick_of, is_pass, is_held, is_held_by, is_held_on, is_rule, is_redirect}
 use Rattle.dh_records.specs.declared.records.ProjectRow.{ProjectRow}
 use Rattle.dh_records.specs.declared.records.LangRow.{LangRow}
 use Rattle.dh_records.specs.declared.records.VersionRow.{VersionRow}
@@ -13,6 +13,7 @@ use Rattle.dh_records.specs.declared.records.UsedRow.{UsedRow}
 use Rattle.dh_records.specs.declared.records.PickRow.{PickRow}
 use Rattle.dh_records.specs.declared.records.PassRow.{PassRow}
 use Rattle.dh_records.specs.declared.records.HeldRow.{HeldRow}
+use Rattle.dh_records.specs.declared.records.RuleRow.{RuleRow}
 use Rattle.dh_records.specs.declared.records.RedirectRow.{RedirectRow}
 
 -- ---- a record more, whose key is free
@@ -42,6 +43,9 @@ put_version row l = record l { versions = put coding.versions.key row l.versions
 
 abbrev pub put_page : PageRow → Lists → Lists
 put_page row l = record l { pages = put coding.pages.key row l.pages }
+
+abbrev pub put_rule : RuleRow → Lists → Lists
+put_rule row l = record l { rules = put coding.rules.key row l.rules }
 
 abbrev pub put_redirect : RedirectRow → Lists → Lists
 put_redirect row l = record l { redirects = put coding.redirects.key row l.redirects }
@@ -95,6 +99,9 @@ abbrev pub drop_grants_by : Text → Text → Lists → Lists
 drop_grants_by host pass l = record l {
   held = filter (λ x. not (is_held_by host pass x)) l.held;
 }
+
+abbrev pub drop_rule : Text → ℕ → Lists → Lists
+drop_rule host place l = record l { rules = filter (λ x. not (is_rule host place x)) l.rules }
 
 abbrev pub drop_redirect : Text → ℕ → Lists → Lists
 drop_redirect host place l = record l {

@@ -1,11 +1,17 @@
 -- How the records of each table are kept in its columns.
-use Rattle.std.specs.Prelude.{ℕ, pos, ◌==◌, Bool, true, false, if◌then◌else◌, List, [], ◌∷◌}
+use Rattle.std.specs.Prelude.{ℕ, pos, ◌==◌, Bool, true, false, if◌then◌else◌, List, [], ◌∷◌, codes, drop}
+use Rattle.std.specs.Str.{bytes_eq}
 use Rattle.sqlite_value.specs.declared.value.Value.{Value}
 use Rattle.sqlite_value.specs.declared.value.Value.TheVariants.{Int, Text, Blob}
 use Rattle.sqlite_value.specs.Order.{Row, column, bytes}
 use Rattle.dh_rows.specs.Keyed.{Coding, flag, is_set}
 use Rattle.dh_versions.specs.declared.version.Kind.{Kind}
 use Rattle.dh_versions.specs.declared.version.Kind.TheVariants.{Branch, Tag}
+use Rattle.dh_rules.specs.Patterns.{pattern_text}
+use Rattle.dh_rules.specs.declared.pattern.Pattern.{Pattern}
+use Rattle.dh_rules.specs.declared.pattern.Pattern.TheVariants.{All, SemVer, Custom}
+use Rattle.dh_rules.specs.declared.rule.Action.{Action}
+use Rattle.dh_rules.specs.declared.rule.Action.TheVariants.{Activate, Hide, Public, Private, Default}
 use Rattle.dh_redirects.specs.declared.redirect.RedirectKind.{RedirectKind}
 use Rattle.dh_redirects.specs.declared.redirect.RedirectKind.TheVariants.{Page, Exact, CleanToHtml, HtmlToClean}
 use Rattle.dh_records.specs.declared.records.ProjectRow.{ProjectRow}
@@ -16,6 +22,7 @@ use Rattle.dh_records.specs.declared.records.UsedRow.{UsedRow}
 use Rattle.dh_records.specs.declared.records.PickRow.{PickRow}
 use Rattle.dh_records.specs.declared.records.PassRow.{PassRow}
 use Rattle.dh_records.specs.declared.records.HeldRow.{HeldRow}
+use Rattle.dh_records.specs.declared.records.RuleRow.{RuleRow}
 use Rattle.dh_records.specs.declared.records.RedirectRow.{RedirectRow}
 use Rattle.dh_world.specs.World.{is_upload}
 use Rattle.dh_world.specs.declared.operation.Operation.TheVariants.{Push, Upload}
@@ -33,6 +40,21 @@ kind_number HtmlToClean = 3
 -- any other number reads as the last
 abbrev pub kind_of : ℕ → RedirectKind
 kind_of n = if n == 0 then Page else if n == 1 then Exact else if n == 2 then CleanToHtml else HtmlToClean
+
+abbrev pub action_number : Action → ℕ
+action_number Activate = 0
+action_number Hide = 1
+action_number Public = 2
+action_number Private = 3
+action_number Default = 4
+
+-- any other number reads as the last
+abbrev pub action_of : ℕ → Action
+action_of n = if n == 0 then Activate else if n == 1 then Hide else if n == 2 then Public else if n == 3 then Private else Default
+
+-- any other text reads as that of a custom pattern, which begins with `re:`
+abbrev pub pattern_of : List ℕ → Pattern
+pattern_of text = if bytes_eq text (codes "all") then All else if bytes_eq text (codes "semver") then SemVer else Custom (drop 3 text)
 
 -- the number that a column reads as
 abbrev pub number_in : Value → ℕ
@@ -113,6 +135,22 @@ held = record {
   encode = λ x. Text x.host ∷ Text x.pass ∷ Text x.slug ∷ [];
   decode = λ r. record { host = text_in r 1; pass = text_in r 2; slug = text_in r 3 };
   key = λ x. Text x.host ∷ Text x.pass ∷ Text x.slug ∷ [];
+}
+
+-- a rule's key is its place, so that the records of a host stand in the order of places
+abbrev pub rules : Coding RuleRow
+rules = record {
+  encode = λ x. Text x.host ∷ Int (pos x.place) ∷ flag (is_tag x.rule.kind) ∷ Int (pos (action_number x.rule.action)) ∷ Text (pattern_text x.rule.pattern) ∷ [];
+  decode = λ r. record {
+    host = text_in r 1;
+    place = number_in (column r 2);
+    rule = record {
+      kind = if flag_in r 3 then Tag else Branch;
+      pattern = pattern_of (text_in r 5);
+      action = action_of (number_in (column r 4));
+    };
+  };
+  key = λ x. Text x.host ∷ Int (pos x.place) ∷ [];
 }
 
 -- a redirect's key is its place, so that the records of a host stand in the order of places

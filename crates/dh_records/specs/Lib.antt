@@ -1,6 +1,6 @@
 pub mod Codings
 pub mod Lists
 pub mod Typed
-pub mod Rules
+pub mod Constraints
 pub mod Changes
 pub mod Faults

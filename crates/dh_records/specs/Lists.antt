@@ -5,6 +5,7 @@ use Rattle.std.specs.Str.{bytes_eq}
 use Rattle.std.specs.FinMap.{from_entries}
 use Rattle.dh_rows.specs.Keyed.{added}
 use Rattle.dh_records.specs.Codings as coding
+use Rattle.dh_rules.specs.declared.rule.Rule.{Rule}
 use Rattle.dh_redirects.specs.declared.redirect.Redirect.{Redirect}
 use Rattle.dh_world.specs.declared.answer.Answer.{Answer}
 use Rattle.dh_world.specs.declared.answer.Answer.TheVariants.{Done}
@@ -18,6 +19,7 @@ use Rattle.dh_records.specs.declared.records.UsedRow.{UsedRow}
 use Rattle.dh_records.specs.declared.records.PickRow.{PickRow}
 use Rattle.dh_records.specs.declared.records.PassRow.{PassRow}
 use Rattle.dh_records.specs.declared.records.HeldRow.{HeldRow}
+use Rattle.dh_records.specs.declared.records.RuleRow.{RuleRow}
 use Rattle.dh_records.specs.declared.records.RedirectRow.{RedirectRow}
 use Rattle.dh_world.specs.declared.operation.Operation.{Operation}
 use Rattle.dh_world.specs.declared.operation.Operation.TheVariants.{Push, Upload}
@@ -32,6 +34,7 @@ pub record Lists : Type 0 where
   pub picks : List PickRow
   pub passes : List PassRow
   pub held : List HeldRow
+  pub rules : List RuleRow
   pub redirects : List RedirectRow
 
 -- the records of one host
@@ -94,6 +97,15 @@ is_held_by host pass r = bytes_eq r.host host && bytes_eq r.pass pass
 abbrev pub is_held_on : Text → Text → HeldRow → Bool
 is_held_on host slug r = bytes_eq r.host host && bytes_eq r.slug slug
 
+abbrev pub is_rule_of : Text → RuleRow → Bool
+is_rule_of host r = bytes_eq r.host host
+
+abbrev pub is_rule : Text → ℕ → RuleRow → Bool
+is_rule host place r = bytes_eq r.host host && nat_eq r.place place
+
+abbrev pub rule_row : Text → ℕ → Rule → RuleRow
+rule_row host place rule = record { host = host; place = place; rule = rule }
+
 abbrev pub is_redirect_of : Text → RedirectRow → Bool
 is_redirect_of host r = bytes_eq r.host host
 
@@ -149,6 +161,7 @@ project_of lists row = record {
   passes = from_entries (map (λ x. (x.pass, tt)) (of_host (λ x. x.host) row.host lists.passes));
   held = from_entries (map (λ x. ((x.pass, x.slug), tt)) (of_host (λ x. x.host) row.host lists.held));
   used = from_entries (map (λ u. ((u.slug, (op_code u.op, u.retry)), kept_answer u)) (of_host (λ u. u.host) row.host lists.used));
+  rules = map (λ r. r.rule) (of_host (λ r. r.host) row.host lists.rules);
   redirects = map (λ r. r.redirect) (of_host (λ r. r.host) row.host lists.redirects);
 }
 

@@ -5,6 +5,8 @@ use Rattle.sqlite_value.specs.declared.value.Value.TheVariants.{Int, Text, Blob}
 use Rattle.sqlite_value.specs.Order.{Row, column}
 use Rattle.sqlite.specs.Values.{IsInt}
 use Rattle.dh_texts.specs.Texts.{is_host_name, is_lang, is_page_path, is_ref_name, is_slug, is_token}
+use Rattle.dh_rules.specs.Patterns.{pattern_text}
+use Rattle.dh_rules.specs.declared.pattern.Pattern.{Pattern}
 use Rattle.dh_world.specs.declared.answer.Answer.{Answer}
 use Rattle.dh_world.specs.Answers.{IsAnswer, json_of}
 use Rattle.dh_records.specs.Lists.{Lists}
@@ -16,6 +18,7 @@ use Rattle.dh_records.specs.declared.records.UsedRow.{UsedRow}
 use Rattle.dh_records.specs.declared.records.PickRow.{PickRow}
 use Rattle.dh_records.specs.declared.records.PassRow.{PassRow}
 use Rattle.dh_records.specs.declared.records.HeldRow.{HeldRow}
+use Rattle.dh_records.specs.declared.records.RuleRow.{RuleRow}
 use Rattle.dh_records.specs.declared.records.RedirectRow.{RedirectRow}
 
 -- ---- columns
@@ -38,6 +41,10 @@ module _ (row : Row) (at : ℕ) where
 
   abbrev pub IsBody : Type 0
   IsBody = (b : List ℕ) × (column row at ≡ Blob b)
+
+  -- the text of a pattern
+  abbrev pub IsPattern : Type 0
+  IsPattern = (p : Pattern) × (column row at ≡ Text (pattern_text p)) × IsUtf8 (pattern_text p)
 
 -- a text that passes the test of its type
 abbrev pub IsOf : (List ℕ → Bool) → Row → ℕ → Type 0
@@ -96,6 +103,11 @@ pub record IsHeld (x : HeldRow) : Type 0 where
   pub pass : Passes is_token x.pass
   pub slug : Passes is_slug x.slug
 
+pub record IsRule (x : RuleRow) : Type 0 where
+  pub host : Passes is_host_name x.host
+  pub place : x.place < 2 ^ 32
+  pub pattern : IsUtf8 (pattern_text x.rule.pattern)
+
 pub record IsRedirect (x : RedirectRow) : Type 0 where
   pub host : Passes is_host_name x.host
   pub place : x.place < 2 ^ 32
@@ -113,4 +125,5 @@ pub record AreTyped (l : Lists) : Type 0 where
   pub picks : AllByRecursion IsPick l.picks
   pub passes : AllByRecursion IsPass l.passes
   pub held : AllByRecursion IsHeld l.held
+  pub rules : AllByRecursion IsRule l.rules
   pub redirects : AllByRecursion IsRedirect l.redirects

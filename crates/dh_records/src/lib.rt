@@ -6,6 +6,6 @@ pub mod records;
 
 pub use reading::{Record, all, fault_of, first, kept_answer};
 pub use records::{
-    HeldRow, LangRow, PageRow, PassRow, PickRow, ProjectRow, RedirectRow, UsedRow, VersionRow,
-    is_tag, kind_number,
+    HeldRow, LangRow, PageRow, PassRow, PickRow, ProjectRow, RedirectRow, RuleRow, UsedRow,
+    VersionRow, action_number, is_tag, kind_number,
 };

@@ -13,11 +13,13 @@ ghost use Rattle.dh_records.specs.Faults.{told_as};
 ghost use Rattle.dh_records.specs.Typed as typed;
 
 use crate::records::{
-    HeldRow, LangRow, PageRow, PassRow, PickRow, ProjectRow, RedirectRow, UsedRow, VersionRow,
+    HeldRow, LangRow, PageRow, PassRow, PickRow, ProjectRow, RedirectRow, RuleRow, UsedRow,
+    VersionRow,
 };
 use dh_paths::{Bytes, HostName, Lang, PagePath, RefName, Slug, Text, TextFault, Token};
 use dh_redirects::{Redirect, RedirectKind};
 use dh_reply::{Fault, Page};
+use dh_rules::{Action, Pattern, Rule};
 use dh_versions::{Kind, Version};
 use dh_world::{Answer, Operation};
 use sqlite::Row;
@@ -33,7 +35,7 @@ pub fn fault_of(fault: dh_rows::Fault) -> Fault
     }
 }
 
-/// A text that is no value of its type breaks a rule of the rows, so it is a fault of the store.
+/// A text that is no value of its type breaks a constraint of the rows, so it is a fault of the store.
 fn fault_of_text(fault: TextFault) -> Fault
     ensures { fault ≡ TextFault.Memory → result ≡ Fault.Memory }
 {
@@ -105,6 +107,19 @@ fn kind_of(number: u32) -> RedirectKind
         1 => RedirectKind::Exact,
         2 => RedirectKind::CleanToHtml,
         _ => RedirectKind::HtmlToClean,
+    }
+}
+
+/// The action whose number this is.
+fn action_of(number: u32) -> Action
+    ensures { result ≡ spec.action_of number }
+{
+    match number {
+        0 => Action::Activate,
+        1 => Action::Hide,
+        2 => Action::Public,
+        3 => Action::Private,
+        _ => Action::Default,
     }
 }
 
@@ -185,6 +200,17 @@ fn token_at(alloc: Global, row: &Row, at: usize) -> Result<Token, Fault>
     match Token::parse(alloc, text_at(row, at)?.as_str()) {
         Ok(token) => Ok(token),
         Err(fault) => Err(fault_of_text(fault)),
+    }
+}
+
+fn pattern_at(alloc: Global, row: &Row, at: usize) -> Result<Pattern, Fault>
+    ensures value { IfOk result (λ p. spec.pattern_of (spec.text_in row.now at) ≡ p) }
+    ensures told { OnStore result (¬ typed.IsPattern row.now at) }
+{
+    match Pattern::read(alloc, text_at(row, at)?.as_str()) {
+        Ok(Some(pattern)) => Ok(pattern),
+        Ok(None) => Err(Fault::Store),
+        Err(_) => Err(Fault::Memory),
     }
 }
 
@@ -340,6 +366,37 @@ impl Record for HeldRow {
             host: host_at(alloc, row, 0)?,
             pass: token_at(alloc, row, 1)?,
             slug: slug_at(alloc, row, 2)?,
+        })
+    }
+}
+
+fn rule_in(alloc: Global, row: &Row) -> Result<Rule, Fault>
+    ensures value { IfOk result (λ v. (y : RuleRow) → row.now ≡ spec.rules.encode y
+        → v ≡ y.rule) }
+    ensures told { (y : RuleRow) → row.now ≡ spec.rules.encode y
+        → OnStore result (¬ typed.IsRule y) }
+{
+    Ok(Rule {
+        kind: if flag_at(row, 2)? {
+            Kind::Tag
+        } else {
+            Kind::Branch
+        },
+        action: action_of(number_at(row, 3)?),
+        pattern: pattern_at(alloc, row, 4)?,
+    })
+}
+
+impl Record for RuleRow {
+    ghost coding = { spec.rules };
+
+    ghost typed = { typed.IsRule };
+
+    fn read(alloc: Global, row: &Row) -> Result<RuleRow, Fault> {
+        Ok(RuleRow {
+            host: host_at(alloc, row, 0)?,
+            place: number_at(row, 1)?,
+            rule: rule_in(alloc, row)?,
         })
     }
 }

@@ -6,6 +6,7 @@ ghost use Rattle.dh_records.specs.Codings as coding;
 use dh_paths::{HostName, Lang, PagePath, RefName, Slug, Text, Token};
 use dh_redirects::{Redirect, RedirectKind};
 use dh_reply::Page;
+use dh_rules::{Action, Rule};
 use dh_versions::{Kind, Version};
 use dh_world::Operation;
 
@@ -90,6 +91,28 @@ pub struct UsedRow {
     pub retry: Token,
     /// As JSON.
     pub answer: Text,
+}
+
+/// An automation rule under its host.
+#[derive(Drop)]
+pub struct RuleRow {
+    pub host: HostName,
+    /// From 1; a project's rules run in this order.
+    pub place: u32,
+    pub rule: Rule,
+}
+
+/// The action of a rule, as its column says it.
+pub fn action_number(action: Action) -> u32
+    ensures { result ≡ coding.action_number action }
+{
+    match action {
+        Action::Activate => 0,
+        Action::Hide => 1,
+        Action::Public => 2,
+        Action::Private => 3,
+        Action::Default => 4,
+    }
 }
 
 /// A redirect under its host.

@@ -23,7 +23,7 @@ use Rattle.dh_records.specs.declared.records.HeldRow.{HeldRow}
 use Rattle.dh_world.specs.World.{Text, text_cmp, Project, holds, is_visible, may_see}
 use Rattle.dh_records.specs.Lists.{Lists, project_of, world_of, is_project, is_version, is_version_of, is_page, is_lang_of, is_pick_of, is_redirect_of}
 use Rattle.dh_world.specs.Seen.{seen_project, without_default, default_of, visible_versions}
-use Rattle.dh_records.specs.Rules.{RiseBySlug}
+use Rattle.dh_records.specs.Constraints.{RiseBySlug}
 use Rattle.dh_view.specs.View.{opens}
 use Rattle.dh_world.proofs.MapLemmas.{tied_text}
 use Rattle.dh_records.proofs.SeenLemmas.{get_project, get_version, get_page}

@@ -8,7 +8,7 @@ ghost use Rattle.dh_schema.specs.Tables.{lists_of};
 ghost use Rattle.dh_records.specs.Changes as change;
 ghost use Rattle.dh_records.specs.Codings as coding;
 ghost use Rattle.dh_records.specs.Lists as spec;
-ghost use Rattle.dh_records.specs.Rules.{has_language};
+ghost use Rattle.dh_records.specs.Constraints.{has_language};
 
 use super::{Tables, show_number};
 use dh_paths::HostName;

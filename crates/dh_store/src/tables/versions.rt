@@ -2,7 +2,7 @@
 
 ghost use Rattle.std.specs.Prelude.{filter, find};
 ghost use Rattle.dh_schema.specs.Calling.{Asks, Learns, Reads, ReadsAll, Writes};
-ghost use Rattle.dh_records.specs.Rules.{RiseBySlug};
+ghost use Rattle.dh_records.specs.Constraints.{RiseBySlug};
 ghost use Rattle.dh_records.specs.Changes as change;
 ghost use Rattle.dh_records.specs.Lists as spec;
 

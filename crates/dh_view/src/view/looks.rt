@@ -4,7 +4,7 @@ ghost use Rattle.std.specs.Prelude.{is_some, find, filter};
 ghost use Rattle.dh_rows.specs.Calls.{IsHonest};
 ghost use Rattle.dh_records.specs.Lists as spec;
 ghost use Rattle.dh_schema.specs.Calling.{IsSettled, Learns, Reads, ReadsAll};
-ghost use Rattle.dh_records.specs.Rules.{RiseBySlug};
+ghost use Rattle.dh_records.specs.Constraints.{RiseBySlug};
 ghost use Rattle.dh_view.specs.View.{Queries};
 
 use dh_paths::{HostName, Lang, Slug, Token};

@@ -7,7 +7,7 @@ use Rattle.std.proofs.Common.{filter, refl}
 use Rattle.dh_records.specs.Codings.{versions}
 use Rattle.dh_schema.specs.Tables.{lists_of}
 use Rattle.dh_records.specs.Lists.{is_version_of}
-use Rattle.dh_records.specs.Rules.{RiseBySlug}
+use Rattle.dh_records.specs.Constraints.{RiseBySlug}
 use Rattle.dh_rows.specs.Keyed.{by_key}
 use Rattle.dh_rows.proofs.Lists.{by_key_total, rises-sort}
 use Rattle.dh_store.proofs.Known.{kept_by}

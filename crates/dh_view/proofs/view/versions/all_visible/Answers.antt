@@ -1,7 +1,7 @@
 use Rattle.std.proofs.Common.{◌∙◌, ap, map, subst}
 use Rattle.dh_rows.specs.Calls.{seen}
 use Rattle.dh_schema.specs.Tables.{lists_of}
-use Rattle.dh_records.specs.Rules.{RiseBySlug}
+use Rattle.dh_records.specs.Constraints.{RiseBySlug}
 use Rattle.dh_view.proofs.Shown.{kept_are, values_are, keys_are}
 use Rattle.dh_view.proofs.ViewLemmas.{was_honest, lists_same, queries_handed, queries_on}
 use Rattle.dh_view.proofs.view.versions.all_visible.Goals as goal

@@ -1,4 +1,4 @@
--- Changes of defaults, passes and grants, and the removal of a version, keep the rules and the order of the records.
+-- Changes of defaults, passes and grants, and the removal of a version, keep the constraints and the order of the records.
 use Rattle.std.proofs.Common.{◌≡◌, ℕ, Bool, true, false, not, ◌&&◌, ◌||◌, cond, List, [], ◌∷◌, map, filter, find, is_some, Option, Some, None, IsTrue, refl, sym, ap, ◌∙◌, subst, true≢false, Ordering, is_gt}
 use Rattle.std.specs.List.{AllByRecursion, IsDistinct, list_any}
 use Rattle.std.specs.Option.{option_map_or}
@@ -18,13 +18,13 @@ use Rattle.dh_records.specs.Codings as coding
 use Rattle.dh_world.specs.World.{Text, Project}
 use Rattle.dh_world.specs.Seen.{is_alias}
 use Rattle.dh_records.specs.Lists.{Lists, world_of, is_project, is_version, is_page_of, is_page_under, is_pick_of, is_pass, is_held, is_held_by, is_held_on, set_picks, ranked, granted}
-use Rattle.dh_records.specs.Rules.{InOrder, AreInOrder, has_project, has_active, has_version, has_pass, AreDefaults, KeepsRules}
+use Rattle.dh_records.specs.Constraints.{InOrder, AreInOrder, has_project, has_active, has_version, has_pass, AreDefaults, KeepsConstraints}
 use Rattle.dh_records.proofs.GrantLemmas.{grant_is_free, granted_new, granted_there}
 use Rattle.dh_records.proofs.PickLists.{set_of_host, set_elsewhere, set_in_order, all_set, all_with, all_ranked, names_ranked, ranks_ranked}
 use Rattle.dh_world.proofs.MapLemmas.{find_in_filter, find_same}
 use Rattle.dh_records.proofs.RecordLemmas.{all_that, all_added}
 use Rattle.dh_records.proofs.OrderLemmas.{added_in_order, filtered_in_order}
-use Rattle.dh_records.proofs.RuleLemmas.{rules_without, dropped_is_bare, all_found}
+use Rattle.dh_records.proofs.ConstraintLemmas.{constraints_without, dropped_is_bare, all_found}
 use Rattle.dh_records.proofs.WorldLemmas.{owned_by, row_of, defaults_in}
 
 -- ---- what is found after a change
@@ -71,24 +71,27 @@ or_last false b c h e = h e
 -- ---- grants
 
 -- some grants less
-pub rules_without_grants : (lists : Lists) (keep : HeldRow → Bool) → KeepsRules lists → KeepsRules (record lists { held = filter keep lists.held })
-rules_without_grants lists keep rules = record {
-  langs = rules.langs;
-  versions = rules.versions;
-  pages = rules.pages;
-  used = rules.used;
-  picks = rules.picks;
-  passes = rules.passes;
-  languages = rules.languages;
-  slugs = rules.slugs;
-  active = rules.active;
-  spoken = rules.spoken;
-  defaults = rules.defaults;
-  chosen = rules.chosen;
-  granted = all-filter _ keep lists.held rules.granted;
-  redirects = rules.redirects;
-  places = rules.places;
-  good = rules.good;
+pub constraints_without_grants : (lists : Lists) (keep : HeldRow → Bool) → KeepsConstraints lists → KeepsConstraints (record lists { held = filter keep lists.held })
+constraints_without_grants lists keep constraints = record {
+  langs = constraints.langs;
+  versions = constraints.versions;
+  pages = constraints.pages;
+  used = constraints.used;
+  picks = constraints.picks;
+  passes = constraints.passes;
+  languages = constraints.languages;
+  slugs = constraints.slugs;
+  active = constraints.active;
+  spoken = constraints.spoken;
+  defaults = constraints.defaults;
+  chosen = constraints.chosen;
+  granted = all-filter _ keep lists.held constraints.granted;
+  rules = constraints.rules;
+  rule_places = constraints.rule_places;
+  allowed = constraints.allowed;
+  redirects = constraints.redirects;
+  places = constraints.places;
+  good = constraints.good;
 }
 
 all_granted : (P : HeldRow → Type 0) (row : HeldRow) (rows : List HeldRow) → P row → AllByRecursion P rows → AllByRecursion P (granted row rows)
@@ -99,24 +102,27 @@ all_granted P row rows new old = go (list_any (is_held row.host row.pass row.slu
     go false = all_added P (by_key coding.held.key) row rows new old
 
 -- a grant of a pass and on a version that are there
-pub rules_with_grant : (lists : Lists) (row : HeldRow) → KeepsRules lists → IsTrue (has_pass lists row.host row.pass) → IsTrue (has_version lists row.host row.slug) → KeepsRules (record lists { held = granted row lists.held })
-rules_with_grant lists row rules pass version = record {
-  langs = rules.langs;
-  versions = rules.versions;
-  pages = rules.pages;
-  used = rules.used;
-  picks = rules.picks;
-  passes = rules.passes;
-  languages = rules.languages;
-  slugs = rules.slugs;
-  active = rules.active;
-  spoken = rules.spoken;
-  defaults = rules.defaults;
-  chosen = rules.chosen;
-  granted = all_granted (λ x. IsTrue (has_pass lists x.host x.pass && has_version lists x.host x.slug)) row lists.held (and_from _ _ pass version) rules.granted;
-  redirects = rules.redirects;
-  places = rules.places;
-  good = rules.good;
+pub constraints_with_grant : (lists : Lists) (row : HeldRow) → KeepsConstraints lists → IsTrue (has_pass lists row.host row.pass) → IsTrue (has_version lists row.host row.slug) → KeepsConstraints (record lists { held = granted row lists.held })
+constraints_with_grant lists row constraints pass version = record {
+  langs = constraints.langs;
+  versions = constraints.versions;
+  pages = constraints.pages;
+  used = constraints.used;
+  picks = constraints.picks;
+  passes = constraints.passes;
+  languages = constraints.languages;
+  slugs = constraints.slugs;
+  active = constraints.active;
+  spoken = constraints.spoken;
+  defaults = constraints.defaults;
+  chosen = constraints.chosen;
+  granted = all_granted (λ x. IsTrue (has_pass lists x.host x.pass && has_version lists x.host x.slug)) row lists.held (and_from _ _ pass version) constraints.granted;
+  rules = constraints.rules;
+  rule_places = constraints.rule_places;
+  allowed = constraints.allowed;
+  redirects = constraints.redirects;
+  places = constraints.places;
+  good = constraints.good;
 }
 
 -- no grant is left on the version, or of the pass
@@ -128,49 +134,55 @@ dropped_holds_none host pass rows = all_that (λ x. is_held_by host pass x ≡ f
 
 -- ---- passes
 
-pub rules_with_pass : (lists : Lists) (row : PassRow) → KeepsRules lists → IsTrue (has_project lists row.host) → KeepsRules (record lists { passes = added coding.passes.key row lists.passes })
-rules_with_pass lists row rules host = record {
-  langs = rules.langs;
-  versions = rules.versions;
-  pages = rules.pages;
-  used = rules.used;
-  picks = rules.picks;
-  passes = all_added (λ x. IsTrue (has_project lists x.host)) (by_key coding.passes.key) row lists.passes host rules.passes;
-  languages = rules.languages;
-  slugs = rules.slugs;
-  active = rules.active;
-  spoken = rules.spoken;
-  defaults = rules.defaults;
-  chosen = rules.chosen;
+pub constraints_with_pass : (lists : Lists) (row : PassRow) → KeepsConstraints lists → IsTrue (has_project lists row.host) → KeepsConstraints (record lists { passes = added coding.passes.key row lists.passes })
+constraints_with_pass lists row constraints host = record {
+  langs = constraints.langs;
+  versions = constraints.versions;
+  pages = constraints.pages;
+  used = constraints.used;
+  picks = constraints.picks;
+  passes = all_added (λ x. IsTrue (has_project lists x.host)) (by_key coding.passes.key) row lists.passes host constraints.passes;
+  languages = constraints.languages;
+  slugs = constraints.slugs;
+  active = constraints.active;
+  spoken = constraints.spoken;
+  defaults = constraints.defaults;
+  chosen = constraints.chosen;
   granted = all_weaker _ (λ x. IsTrue (has_pass next x.host x.pass && has_version lists x.host x.slug))
-      (λ x. and_first _ _ _ (found_still (by_key coding.passes.key) (is_pass x.host x.pass) row lists.passes)) lists.held rules.granted;
-  redirects = rules.redirects;
-  places = rules.places;
-  good = rules.good;
+      (λ x. and_first _ _ _ (found_still (by_key coding.passes.key) (is_pass x.host x.pass) row lists.passes)) lists.held constraints.granted;
+  rules = constraints.rules;
+  rule_places = constraints.rule_places;
+  allowed = constraints.allowed;
+  redirects = constraints.redirects;
+  places = constraints.places;
+  good = constraints.good;
 }
   where
     next : Lists
     next = record lists { passes = added coding.passes.key row lists.passes }
 
 -- a pass that holds nothing is removed
-pub rules_without_pass : (lists : Lists) (host pass : Text) → KeepsRules lists → AllByRecursion (λ x. is_held_by host pass x ≡ false) lists.held → KeepsRules (record lists { passes = filter (λ x. not (is_pass host pass x)) lists.passes })
-rules_without_pass lists host pass rules none = record {
-  langs = rules.langs;
-  versions = rules.versions;
-  pages = rules.pages;
-  used = rules.used;
-  picks = rules.picks;
-  passes = all-filter _ (λ x. not (is_pass host pass x)) lists.passes rules.passes;
-  languages = rules.languages;
-  slugs = rules.slugs;
-  active = rules.active;
-  spoken = rules.spoken;
-  defaults = rules.defaults;
-  chosen = rules.chosen;
-  granted = all_both _ _ (λ x. IsTrue (has_pass next x.host x.pass && has_version lists x.host x.slug)) (λ x was out. and_first _ _ _ (kept x out) was) lists.held rules.granted none;
-  redirects = rules.redirects;
-  places = rules.places;
-  good = rules.good;
+pub constraints_without_pass : (lists : Lists) (host pass : Text) → KeepsConstraints lists → AllByRecursion (λ x. is_held_by host pass x ≡ false) lists.held → KeepsConstraints (record lists { passes = filter (λ x. not (is_pass host pass x)) lists.passes })
+constraints_without_pass lists host pass constraints none = record {
+  langs = constraints.langs;
+  versions = constraints.versions;
+  pages = constraints.pages;
+  used = constraints.used;
+  picks = constraints.picks;
+  passes = all-filter _ (λ x. not (is_pass host pass x)) lists.passes constraints.passes;
+  languages = constraints.languages;
+  slugs = constraints.slugs;
+  active = constraints.active;
+  spoken = constraints.spoken;
+  defaults = constraints.defaults;
+  chosen = constraints.chosen;
+  granted = all_both _ _ (λ x. IsTrue (has_pass next x.host x.pass && has_version lists x.host x.slug)) (λ x was out. and_first _ _ _ (kept x out) was) lists.held constraints.granted none;
+  rules = constraints.rules;
+  rule_places = constraints.rule_places;
+  allowed = constraints.allowed;
+  redirects = constraints.redirects;
+  places = constraints.places;
+  good = constraints.good;
 }
   where
     next : Lists
@@ -193,26 +205,29 @@ rules_without_pass lists host pass rules none = record {
 abbrev pub MayChoose : Lists → Text → Text → Type 0
 MayChoose lists host name = IsTrue (is_alias name || has_version lists host name)
 
-pub rules_with_defaults : (lists : Lists) (host : Text) (names : List Text) → KeepsRules lists → InOrder coding.picks.key lists.picks → IsTrue (has_project lists host) → IsDistinct bytes_eq names → AllByRecursion (MayChoose lists host) names
-    → KeepsRules (record lists { picks = set_picks host names lists.picks })
-rules_with_defaults lists host names rules up has apart may = record {
-  langs = rules.langs;
-  versions = rules.versions;
-  pages = rules.pages;
-  used = rules.used;
-  picks = all_set host (λ d. IsTrue (has_project lists d.host)) names lists.picks (all_ranked host (λ d. IsTrue (has_project lists d.host)) 1 names (all_of _ (λ name rank. has) names)) rules.picks;
-  passes = rules.passes;
-  languages = rules.languages;
-  slugs = rules.slugs;
-  active = rules.active;
-  spoken = rules.spoken;
-  defaults = all_weaker _ (λ r. AreDefaults (filter (is_pick_of r.host) (set_picks host names lists.picks))) still lists.projects rules.defaults;
+pub constraints_with_defaults : (lists : Lists) (host : Text) (names : List Text) → KeepsConstraints lists → InOrder coding.picks.key lists.picks → IsTrue (has_project lists host) → IsDistinct bytes_eq names → AllByRecursion (MayChoose lists host) names
+    → KeepsConstraints (record lists { picks = set_picks host names lists.picks })
+constraints_with_defaults lists host names constraints up has apart may = record {
+  langs = constraints.langs;
+  versions = constraints.versions;
+  pages = constraints.pages;
+  used = constraints.used;
+  picks = all_set host (λ d. IsTrue (has_project lists d.host)) names lists.picks (all_ranked host (λ d. IsTrue (has_project lists d.host)) 1 names (all_of _ (λ name rank. has) names)) constraints.picks;
+  passes = constraints.passes;
+  languages = constraints.languages;
+  slugs = constraints.slugs;
+  active = constraints.active;
+  spoken = constraints.spoken;
+  defaults = all_weaker _ (λ r. AreDefaults (filter (is_pick_of r.host) (set_picks host names lists.picks))) still lists.projects constraints.defaults;
   chosen = all_set host (λ d. MayChoose lists d.host d.name) names lists.picks
-      (all_ranked host (λ d. MayChoose lists d.host d.name) 1 names (all_weaker _ (λ name. (rank : ℕ) → MayChoose lists host name) (λ name h rank. h) names may)) rules.chosen;
-  granted = rules.granted;
-  redirects = rules.redirects;
-  places = rules.places;
-  good = rules.good;
+      (all_ranked host (λ d. MayChoose lists d.host d.name) 1 names (all_weaker _ (λ name. (rank : ℕ) → MayChoose lists host name) (λ name h rank. h) names may)) constraints.chosen;
+  granted = constraints.granted;
+  rules = constraints.rules;
+  rule_places = constraints.rule_places;
+  allowed = constraints.allowed;
+  redirects = constraints.redirects;
+  places = constraints.places;
+  good = constraints.good;
 }
   where
     are : AreDefaults (ranked host 1 names)
@@ -256,11 +271,11 @@ front_distinct name names apart = (all_that (λ n. bytes_eq name n ≡ false) (�
 
 -- ---- the defaults of a project of the world
 
-module _ (lists : Lists) (host : Text) (p : Project) (rules : KeepsRules lists) (was : get (world_of lists) host ≡ Some p) where
+module _ (lists : Lists) (host : Text) (p : Project) (constraints : KeepsConstraints lists) (was : get (world_of lists) host ≡ Some p) where
   pub defaults_distinct : IsDistinct bytes_eq p.defaults
   defaults_distinct =
       let it = row_of lists host p was in
-      let here = all_found (λ r. AreDefaults (filter (is_pick_of r.host) lists.picks)) (is_project host) lists.projects it.0 it.1.found rules.defaults in
+      let here = all_found (λ r. AreDefaults (filter (is_pick_of r.host) lists.picks)) (is_project host) lists.projects it.0 it.1.found constraints.defaults in
       subst (IsDistinct bytes_eq) (ap (λ h. map (λ d. d.name) (filter (is_pick_of h) lists.picks)) it.1.host_is ∙ sym (defaults_in lists host p was)) here.apart
 
   pub defaults_chosen : AllByRecursion (MayChoose lists host) p.defaults
@@ -268,30 +283,33 @@ module _ (lists : Lists) (host : Text) (p : Project) (rules : KeepsRules lists) 
       subst (AllByRecursion (MayChoose lists host)) (sym (defaults_in lists host p was))
       (all_map (MayChoose lists host) (λ d. d.name) (filter (is_pick_of host) lists.picks)
       (all_both _ _ (λ d. MayChoose lists host d.name) (λ d may here. subst (λ h. MayChoose lists h d.name) ((bytes_eq-Decides d.host host).0 here) may) (filter (is_pick_of host) lists.picks)
-      (all-filter _ (is_pick_of host) lists.picks rules.chosen) (all_that (λ d. is_pick_of host d ≡ true) (is_pick_of host) (λ d e. e) lists.picks)))
+      (all-filter _ (is_pick_of host) lists.picks constraints.chosen) (all_that (λ d. is_pick_of host d ≡ true) (is_pick_of host) (λ d e. e) lists.picks)))
 
 -- ---- versions
 
 -- a version is removed that has no pages, on which no pass has a grant, and that is no default
-pub rules_without_version : (lists : Lists) (host slug : Text) → KeepsRules lists → AllByRecursion (λ x. is_page_of host slug x ≡ false) lists.pages → AllByRecursion (λ x. is_held_on host slug x ≡ false) lists.held
-    → AllByRecursion (λ d. (is_pick_of host d && bytes_eq d.name slug) ≡ false) lists.picks → KeepsRules (record lists { versions = filter (λ v. not (is_version host slug v)) lists.versions })
-rules_without_version lists host slug rules bare unheld unnamed = record {
-  langs = rules.langs;
-  versions = all-filter _ (λ v. not (is_version host slug v)) lists.versions rules.versions;
-  pages = rules.pages;
-  used = rules.used;
-  picks = rules.picks;
-  passes = rules.passes;
-  languages = rules.languages;
-  slugs = all-filter _ (λ v. not (is_version host slug v)) lists.versions rules.slugs;
-  active = all_both _ _ (λ x. IsTrue (has_active next x.host x.slug)) (λ x was out. ap (λ o. option_map_or (λ (v : VersionRow). v.version.active) o false) (stays x.host x.slug out) ∙ was) lists.pages rules.active bare;
-  spoken = rules.spoken;
-  defaults = rules.defaults;
-  chosen = all_both _ _ (λ d. MayChoose next d.host d.name) (λ d was out. or_last _ _ _ (λ h. ap is_some (stays d.host d.name out) ∙ h) was) lists.picks rules.chosen unnamed;
-  granted = all_both _ _ (λ x. IsTrue (has_pass lists x.host x.pass && has_version next x.host x.slug)) (λ x was out. and_last _ _ _ (λ h. ap is_some (stays x.host x.slug out) ∙ h) was) lists.held rules.granted unheld;
-  redirects = rules.redirects;
-  places = rules.places;
-  good = rules.good;
+pub constraints_without_version : (lists : Lists) (host slug : Text) → KeepsConstraints lists → AllByRecursion (λ x. is_page_of host slug x ≡ false) lists.pages → AllByRecursion (λ x. is_held_on host slug x ≡ false) lists.held
+    → AllByRecursion (λ d. (is_pick_of host d && bytes_eq d.name slug) ≡ false) lists.picks → KeepsConstraints (record lists { versions = filter (λ v. not (is_version host slug v)) lists.versions })
+constraints_without_version lists host slug constraints bare unheld unnamed = record {
+  langs = constraints.langs;
+  versions = all-filter _ (λ v. not (is_version host slug v)) lists.versions constraints.versions;
+  pages = constraints.pages;
+  used = constraints.used;
+  picks = constraints.picks;
+  passes = constraints.passes;
+  languages = constraints.languages;
+  slugs = all-filter _ (λ v. not (is_version host slug v)) lists.versions constraints.slugs;
+  active = all_both _ _ (λ x. IsTrue (has_active next x.host x.slug)) (λ x was out. ap (λ o. option_map_or (λ (v : VersionRow). v.version.active) o false) (stays x.host x.slug out) ∙ was) lists.pages constraints.active bare;
+  spoken = constraints.spoken;
+  defaults = constraints.defaults;
+  chosen = all_both _ _ (λ d. MayChoose next d.host d.name) (λ d was out. or_last _ _ _ (λ h. ap is_some (stays d.host d.name out) ∙ h) was) lists.picks constraints.chosen unnamed;
+  granted = all_both _ _ (λ x. IsTrue (has_pass lists x.host x.pass && has_version next x.host x.slug)) (λ x was out. and_last _ _ _ (λ h. ap is_some (stays x.host x.slug out) ∙ h) was) lists.held constraints.granted unheld;
+  rules = constraints.rules;
+  rule_places = constraints.rule_places;
+  allowed = constraints.allowed;
+  redirects = constraints.redirects;
+  places = constraints.places;
+  good = constraints.good;
 }
   where
     next : Lists
@@ -311,56 +329,56 @@ rules_without_version lists host slug rules bare unheld unnamed = record {
 -- ---- several changes, one after the other
 
 -- a version is removed with its pages, the grants on it and its name among the defaults
-pub rules_gone : (lists : Lists) (host slug : Text) (p : Project) → KeepsRules lists → InOrder coding.picks.key lists.picks → get (world_of lists) host ≡ Some p
-    → KeepsRules (record lists {
+pub constraints_gone : (lists : Lists) (host slug : Text) (p : Project) → KeepsConstraints lists → InOrder coding.picks.key lists.picks → get (world_of lists) host ≡ Some p
+    → KeepsConstraints (record lists {
       versions = filter (λ v. not (is_version host slug v)) lists.versions;
       pages = filter (λ x. not (is_page_under host slug None x)) lists.pages;
       picks = set_picks host (filter (λ n. not (bytes_eq n slug)) p.defaults) lists.picks;
       held = filter (λ x. not (is_held_on host slug x)) lists.held;
     })
-rules_gone lists host slug p rules up was =
+constraints_gone lists host slug p constraints up was =
     let names = filter (λ n. not (bytes_eq n slug)) p.defaults in
     let one = record lists { picks = set_picks host names lists.picks } in
     let two = record one { pages = filter (λ x. not (is_page_under host slug None x)) lists.pages } in
     let three = record two { held = filter (λ x. not (is_held_on host slug x)) lists.held } in
-    let first : KeepsRules one = rules_with_defaults lists host names rules up (owned_by lists host p was) (filter_distinct _ p.defaults (defaults_distinct lists host p rules was)) (all-filter _ _ p.defaults (defaults_chosen lists host p rules was)) in
-    let second : KeepsRules two = rules_without one (λ x. not (is_page_under host slug None x)) first in
-    let third : KeepsRules three = rules_without_grants two (λ x. not (is_held_on host slug x)) second in
-    rules_without_version three host slug third (dropped_is_bare host slug lists.pages) (dropped_is_unheld host slug lists.held)
+    let first : KeepsConstraints one = constraints_with_defaults lists host names constraints up (owned_by lists host p was) (filter_distinct _ p.defaults (defaults_distinct lists host p constraints was)) (all-filter _ _ p.defaults (defaults_chosen lists host p constraints was)) in
+    let second : KeepsConstraints two = constraints_without one (λ x. not (is_page_under host slug None x)) first in
+    let third : KeepsConstraints three = constraints_without_grants two (λ x. not (is_held_on host slug x)) second in
+    constraints_without_version three host slug third (dropped_is_bare host slug lists.pages) (dropped_is_unheld host slug lists.held)
     (set_unnamed host slug names lists.picks (all_that (λ n. bytes_eq n slug ≡ false) (λ n. not (bytes_eq n slug)) (λ n out. false_from_ne_true _ (λ e. true≢false (sym out ∙ ap not e))) p.defaults))
 
 -- a pass is removed with its grants
-pub rules_pass_gone : (lists : Lists) (host pass : Text) → KeepsRules lists
-    → KeepsRules (record lists { passes = filter (λ x. not (is_pass host pass x)) lists.passes; held = filter (λ x. not (is_held_by host pass x)) lists.held })
-rules_pass_gone lists host pass rules =
-    rules_without_pass (record lists { held = filter (λ x. not (is_held_by host pass x)) lists.held }) host pass (rules_without_grants lists (λ x. not (is_held_by host pass x)) rules) (dropped_holds_none host pass lists.held)
+pub constraints_pass_gone : (lists : Lists) (host pass : Text) → KeepsConstraints lists
+    → KeepsConstraints (record lists { passes = filter (λ x. not (is_pass host pass x)) lists.passes; held = filter (λ x. not (is_held_by host pass x)) lists.held })
+constraints_pass_gone lists host pass constraints =
+    constraints_without_pass (record lists { held = filter (λ x. not (is_held_by host pass x)) lists.held }) host pass (constraints_without_grants lists (λ x. not (is_held_by host pass x)) constraints) (dropped_holds_none host pass lists.held)
 
 -- a name goes to the front of the defaults
-pub rules_with_front : (lists : Lists) (host name : Text) (p : Project) → KeepsRules lists → InOrder coding.picks.key lists.picks → get (world_of lists) host ≡ Some p → MayChoose lists host name
-    → KeepsRules (record lists { picks = set_picks host (name ∷ filter (λ n. not (bytes_eq n name)) p.defaults) lists.picks })
-rules_with_front lists host name p rules up was may =
-    rules_with_defaults lists host _ rules up (owned_by lists host p was) (front_distinct name p.defaults (defaults_distinct lists host p rules was)) (may, all-filter _ (λ n. not (bytes_eq n name)) p.defaults (defaults_chosen lists host p rules was))
+pub constraints_with_front : (lists : Lists) (host name : Text) (p : Project) → KeepsConstraints lists → InOrder coding.picks.key lists.picks → get (world_of lists) host ≡ Some p → MayChoose lists host name
+    → KeepsConstraints (record lists { picks = set_picks host (name ∷ filter (λ n. not (bytes_eq n name)) p.defaults) lists.picks })
+constraints_with_front lists host name p constraints up was may =
+    constraints_with_defaults lists host _ constraints up (owned_by lists host p was) (front_distinct name p.defaults (defaults_distinct lists host p constraints was)) (may, all-filter _ (λ n. not (bytes_eq n name)) p.defaults (defaults_chosen lists host p constraints was))
 
 -- ---- the order of the records
 
 module _ (lists : Lists) (up : AreInOrder lists) where
   pub order_without_version : (keep : VersionRow → Bool) → AreInOrder (record lists { versions = filter keep lists.versions })
-  order_without_version keep = record { projects = up.projects; langs = up.langs; versions = filtered_in_order coding.versions.key keep lists.versions up.versions; pages = up.pages; used = up.used; picks = up.picks; passes = up.passes; held = up.held; redirects = up.redirects }
+  order_without_version keep = record { projects = up.projects; langs = up.langs; versions = filtered_in_order coding.versions.key keep lists.versions up.versions; pages = up.pages; used = up.used; picks = up.picks; passes = up.passes; held = up.held; rules = up.rules; redirects = up.redirects }
 
   pub order_with_defaults : (host : Text) (names : List Text) → AreInOrder (record lists { picks = set_picks host names lists.picks })
-  order_with_defaults host names = record { projects = up.projects; langs = up.langs; versions = up.versions; pages = up.pages; used = up.used; picks = set_in_order host names lists.picks up.picks; passes = up.passes; held = up.held; redirects = up.redirects }
+  order_with_defaults host names = record { projects = up.projects; langs = up.langs; versions = up.versions; pages = up.pages; used = up.used; picks = set_in_order host names lists.picks up.picks; passes = up.passes; held = up.held; rules = up.rules; redirects = up.redirects }
 
   pub order_with_pass : (row : PassRow) → IsFreeKey coding.passes.key row lists.passes → AreInOrder (record lists { passes = added coding.passes.key row lists.passes })
-  order_with_pass row free = record { projects = up.projects; langs = up.langs; versions = up.versions; pages = up.pages; used = up.used; picks = up.picks; passes = added_in_order coding.passes.key row lists.passes free up.passes; held = up.held; redirects = up.redirects }
+  order_with_pass row free = record { projects = up.projects; langs = up.langs; versions = up.versions; pages = up.pages; used = up.used; picks = up.picks; passes = added_in_order coding.passes.key row lists.passes free up.passes; held = up.held; rules = up.rules; redirects = up.redirects }
 
   pub order_without_pass : (keep : PassRow → Bool) → AreInOrder (record lists { passes = filter keep lists.passes })
-  order_without_pass keep = record { projects = up.projects; langs = up.langs; versions = up.versions; pages = up.pages; used = up.used; picks = up.picks; passes = filtered_in_order coding.passes.key keep lists.passes up.passes; held = up.held; redirects = up.redirects }
+  order_without_pass keep = record { projects = up.projects; langs = up.langs; versions = up.versions; pages = up.pages; used = up.used; picks = up.picks; passes = filtered_in_order coding.passes.key keep lists.passes up.passes; held = up.held; rules = up.rules; redirects = up.redirects }
 
   pub order_without_grants : (keep : HeldRow → Bool) → AreInOrder (record lists { held = filter keep lists.held })
-  order_without_grants keep = record { projects = up.projects; langs = up.langs; versions = up.versions; pages = up.pages; used = up.used; picks = up.picks; passes = up.passes; held = filtered_in_order coding.held.key keep lists.held up.held; redirects = up.redirects }
+  order_without_grants keep = record { projects = up.projects; langs = up.langs; versions = up.versions; pages = up.pages; used = up.used; picks = up.picks; passes = up.passes; held = filtered_in_order coding.held.key keep lists.held up.held; rules = up.rules; redirects = up.redirects }
 
   pub order_with_grant : (row : HeldRow) → AreInOrder (record lists { held = granted row lists.held })
-  order_with_grant row = record { projects = up.projects; langs = up.langs; versions = up.versions; pages = up.pages; used = up.used; picks = up.picks; passes = up.passes; held = go (find (is_held row.host row.pass row.slug) lists.held) refl; redirects = up.redirects }
+  order_with_grant row = record { projects = up.projects; langs = up.langs; versions = up.versions; pages = up.pages; used = up.used; picks = up.picks; passes = up.passes; held = go (find (is_held row.host row.pass row.slug) lists.held) refl; rules = up.rules; redirects = up.redirects }
     where
       go : (o : Option HeldRow) → find (is_held row.host row.pass row.slug) lists.held ≡ o → InOrder coding.held.key (granted row lists.held)
       go None e = subst (InOrder coding.held.key) (sym (granted_new row lists.held (ap is_some e))) (added_in_order coding.held.key row lists.held (grant_is_free row lists.held (ap is_some e)) up.held)

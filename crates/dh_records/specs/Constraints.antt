@@ -1,5 +1,5 @@
 -- What the records keep besides being in the order of their keys.
-use Rattle.std.specs.Prelude.{◌≡◌, ◌≤◌, Bool, false, ◌&&◌, ◌||◌, IsTrue, List, map, filter, length, slice_get, find, Some, None, is_some}
+use Rattle.std.specs.Prelude.{◌≡◌, ◌≤◌, ℕ, Bool, false, ◌&&◌, ◌||◌, IsTrue, List, map, filter, length, slice_get, find, Some, None, is_some}
 use Rattle.std.specs.declared.cmp.Ordering.TheVariants.{Less}
 use Rattle.std.specs.List.{AllByRecursion, IsDistinct, list_any, range_with_len}
 use Rattle.std.specs.Option.{option_map_or}
@@ -8,14 +8,16 @@ use Rattle.std.specs.FinMap.{is_sorted}
 use Rattle.sqlite_value.specs.Order.{Row}
 use Rattle.sqlite_trees.specs.Tree.{IsAscending}
 use Rattle.dh_texts.specs.Slugs.{slug_from}
+use Rattle.dh_rules.specs.Rules.{is_allowed}
 use Rattle.dh_redirects.specs.Redirects.{first_fault}
 use Rattle.dh_rows.specs.Keyed.{by_key}
 use Rattle.dh_world.specs.World.{Text, text_cmp}
 use Rattle.dh_world.specs.Seen.{is_alias}
 use Rattle.dh_records.specs.Codings as coding
-use Rattle.dh_records.specs.Lists.{Lists, is_project, is_lang_of, is_version, is_pick_of, is_pass, is_redirect_of}
+use Rattle.dh_records.specs.Lists.{Lists, is_project, is_lang_of, is_version, is_pick_of, is_pass, is_rule_of, is_redirect_of}
 use Rattle.dh_records.specs.declared.records.LangRow.{LangRow}
 use Rattle.dh_records.specs.declared.records.PickRow.{PickRow}
+use Rattle.dh_records.specs.declared.records.RuleRow.{RuleRow}
 use Rattle.dh_records.specs.declared.records.RedirectRow.{RedirectRow}
 use Rattle.dh_records.specs.declared.records.VersionRow.{VersionRow}
 
@@ -37,6 +39,7 @@ pub record AreInOrder (lists : Lists) : Type 0 where
   pub picks : InOrder coding.picks.key lists.picks
   pub passes : InOrder coding.passes.key lists.passes
   pub held : InOrder coding.held.key lists.held
+  pub rules : InOrder coding.rules.key lists.rules
   pub redirects : InOrder coding.redirects.key lists.redirects
 
 abbrev pub has_project : Lists → Text → Bool
@@ -70,13 +73,21 @@ pub record AreLanguages (main : Text) (langs : List LangRow) : Type 0 where
   pub apart : IsDistinct bytes_eq (map (λ l. l.lang) langs)
   pub first : slice_get (map (λ l. l.lang) langs) 0 ≡ Some main
 
--- The redirects of one project: they have the places 1 to n without gaps, and there are at most 100.
-pub record AreRedirects (rows : List RedirectRow) : Type 0 where
-  pub places : map (λ r. r.place) rows ≡ range_with_len 1 (length rows)
-  pub few : length rows ≤ 100
+-- The records of one project that stand at places: they have the places 1 to n without gaps, and there are at most so many.
+pub record HavePlaces {X : Type 0} (place_of : X → ℕ) (most : ℕ) (rows : List X) : Type 0 where
+  pub places : map place_of rows ≡ range_with_len 1 (length rows)
+  pub few : length rows ≤ most
 
--- The rules of the records, beyond what each says for itself.
-pub record KeepsRules (lists : Lists) : Type 0 where
+-- the rules of one project: at most 50
+abbrev pub AreRules : List RuleRow → Type 0
+AreRules = HavePlaces (λ r. r.place) 50
+
+-- the redirects of one project: at most 100
+abbrev pub AreRedirects : List RedirectRow → Type 0
+AreRedirects = HavePlaces (λ r. r.place) 100
+
+-- The constraints of the records, beyond what each says for itself.
+pub record KeepsConstraints (lists : Lists) : Type 0 where
   -- every host has its project
   pub langs : AllByRecursion (λ l. IsTrue (has_project lists l.host)) lists.langs
   pub versions : AllByRecursion (λ v. IsTrue (has_project lists v.host)) lists.versions
@@ -95,6 +106,10 @@ pub record KeepsRules (lists : Lists) : Type 0 where
   pub chosen : AllByRecursion (λ d. IsTrue (is_alias d.name || has_version lists d.host d.name)) lists.picks
   -- a grant's pass and version are there
   pub granted : AllByRecursion (λ x. IsTrue (has_pass lists x.host x.pass && has_version lists x.host x.slug)) lists.held
+  pub rules : AllByRecursion (λ r. IsTrue (has_project lists r.host)) lists.rules
+  pub rule_places : AllByRecursion (λ r. AreRules (filter (is_rule_of r.host) lists.rules)) lists.projects
+  -- each rule may be added
+  pub allowed : AllByRecursion (λ r. IsTrue (is_allowed r.rule.pattern)) lists.rules
   pub redirects : AllByRecursion (λ r. IsTrue (has_project lists r.host)) lists.redirects
   pub places : AllByRecursion (λ r. AreRedirects (filter (is_redirect_of r.host) lists.redirects)) lists.projects
   -- no redirect has a fault
