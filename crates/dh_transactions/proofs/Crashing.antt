@@ -12,7 +12,7 @@ use Rattle.dh_world.specs.declared.command.Command.{Command}
 use Rattle.dh_world.specs.declared.refusal.Refusal.{Refusal}
 use Rattle.dh_world.specs.Texts.{bad_text}
 use Rattle.dh_world.specs.Step.{step}
-use Rattle.dh_world.specs.Checks.{IsSetAside}
+use Rattle.dh_world.specs.Checks.{IsFault}
 use Rattle.dh_transactions.specs.Sound.{Turns}
 use Rattle.dh_transactions.specs.Crashes.{spelled, LeavesStep, LeavesEnd}
 use Rattle.dh_transactions.proofs.Turning.{right_texts}
@@ -70,7 +70,7 @@ module _ {S : Type 0} (g : Ghosts S) where
 
   -- a refusal after calls that leave nothing more
   pub refused_after : (old middle new : Held S) (r : Result Answer Refusal) → LeavesNoMore g old middle → (HasCleanDisk (state g new) → HasCleanDisk (state g middle))
-      → IfErr r (λ e. IsSetAside e ⊎ LeavesNoMore g middle new) → IfErr r (λ e. IsSetAside e ⊎ LeavesNoMore g old new)
+      → IfErr r (λ e. IsFault e ⊎ LeavesNoMore g middle new) → IfErr r (λ e. IsFault e ⊎ LeavesNoMore g old new)
   refused_after old middle new (Ok a) quiet back it = tt
   refused_after old middle new (Err e) quiet back (inl aside) = inl aside
   refused_after old middle new (Err e) quiet back (inr more) = inr (λ clean db may. quiet (back clean) db (more clean db may))

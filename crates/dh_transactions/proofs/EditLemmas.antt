@@ -6,24 +6,26 @@ use Rattle.std.specs.List.{IsDistinct}
 use Rattle.std.specs.Str.{bytes_eq}
 use Rattle.dh_commands.specs.Edits.{edited, all_edited, MayEdit, MayEditAll}
 use Rattle.dh_commands.specs.declared.edits.Edit.{Edit}
-use Rattle.dh_commands.specs.declared.edits.Edit.TheVariants.{AddLang, PutVersion, PutWithoutPages, RemoveVersion, PutPage, RemovePages, SetDefaults, PutRedirect, DropLastRedirect, AddPass, RemovePass, Grant, Revoke, PutAnswer}
+use Rattle.dh_commands.specs.declared.edits.Edit.TheVariants.{AddLang, PutVersion, PutWithoutPages, RemoveVersion, PutPage, RemovePages, SetDefaults, PutRule, DropLastRule, PutRedirect, DropLastRedirect, AddPass, RemovePass, Grant, Revoke, PutAnswer}
 use Rattle.dh_rows.specs.Keyed.{IsFreeKey}
 use Rattle.dh_records.proofs.AccessChanges.{world_gone, world_with_defaults, world_with_pass, world_pass_gone, world_with_grant, world_without_grant}
-use Rattle.dh_records.proofs.AccessRules.{defaults_distinct, filter_distinct, front_distinct, rules_gone, rules_with_front, rules_with_pass, rules_pass_gone, rules_with_grant, rules_without_grants, order_without_version, order_with_defaults, order_with_pass, order_without_pass, order_with_grant, order_without_grants}
+use Rattle.dh_records.proofs.AccessConstraints.{defaults_distinct, filter_distinct, front_distinct, constraints_gone, constraints_with_front, constraints_with_pass, constraints_pass_gone, constraints_with_grant, constraints_without_grants, order_without_version, order_with_defaults, order_with_pass, order_without_pass, order_with_grant, order_without_grants}
 use Rattle.dh_records.proofs.ChangeLemmas.{world_with_lang, world_with_version, world_with_page, world_without_pages, world_with_used}
 use Rattle.dh_records.proofs.KeyLemmas.{used_is_free, pass_is_free}
 use Rattle.dh_records.proofs.OrderLemmas.{order_with_lang, order_with_version, order_with_page, order_without, order_with_used}
-use Rattle.dh_records.proofs.RuleLemmas.{lang_is_free, rules_with_lang, rules_with_version, rules_with_page, rules_without, rules_with_used, inactive_is_bare, dropped_is_bare}
-use Rattle.dh_records.proofs.RedirectLemmas.{order_with_redirect, order_without_redirect, rules_with_redirect, rules_without_redirect, redirect_count_in, world_with_redirect, world_without_redirect}
+use Rattle.dh_records.proofs.ConstraintLemmas.{lang_is_free, constraints_with_lang, constraints_with_version, constraints_with_page, constraints_without, constraints_with_used, inactive_is_bare, dropped_is_bare}
+use Rattle.dh_records.proofs.RuleLemmas.{order_with_rule, order_without_rule, constraints_with_rule, constraints_without_rule, rule_count_in, world_with_rule, world_without_rule}
+use Rattle.dh_records.proofs.RedirectLemmas.{order_with_redirect, order_without_redirect, constraints_with_redirect, constraints_without_redirect, redirect_count_in, world_with_redirect, world_without_redirect}
 use Rattle.dh_records.proofs.WorldLemmas.{owned_by, count_in, speaks_in, active_in, has_version_in, has_pass_in, used_in, changed_twice}
 use Rattle.dh_records.specs.Codings as coding
-use Rattle.dh_records.specs.Lists.{Lists, world_of, is_page_under, is_pass, is_held, is_held_by, is_held_on, is_redirect_of, redirect_row, is_version, kept_answer, keeping}
-use Rattle.dh_records.specs.Rules.{has_project, has_version}
+use Rattle.dh_records.specs.Lists.{Lists, world_of, is_page_under, is_pass, is_held, is_held_by, is_held_on, is_rule_of, rule_row, is_redirect_of, redirect_row, is_version, kept_answer, keeping}
+use Rattle.dh_records.specs.Constraints.{has_project, has_version}
 use Rattle.dh_records.specs.declared.records.HeldRow.{HeldRow}
 use Rattle.dh_records.specs.declared.records.LangRow.{LangRow}
 use Rattle.dh_records.specs.declared.records.PageRow.{PageRow}
 use Rattle.dh_records.specs.declared.records.PassRow.{PassRow}
 use Rattle.dh_records.specs.declared.records.RedirectRow.{RedirectRow}
+use Rattle.dh_records.specs.declared.records.RuleRow.{RuleRow}
 use Rattle.dh_records.specs.declared.records.UsedRow.{UsedRow}
 use Rattle.dh_records.specs.declared.records.VersionRow.{VersionRow}
 use Rattle.dh_transactions.specs.RowEdits.{lang_row, version_row, page_row, pass_row, grant_row, answer_row, with_defaults, without_pages, rows_edited, all_rows_edited, RowsMay, RowsMayAll}
@@ -68,21 +70,23 @@ module _ (host : Text) (lists : Lists) (p : Project) (sound : AreSound lists) (w
 
   rows_may : (e : Edit) → MayEdit e p → RowsMay host e lists
   rows_may (AddLang lang place) may = (
-    lang_is_free lists (lang_row host lang place) sound.rules owned (may.1 ∙ ap (λ n. n + 1) (count_in lists host p was)),
+    lang_is_free lists (lang_row host lang place) sound.constraints owned (may.1 ∙ ap (λ n. n + 1) (count_in lists host p was)),
     sym (speaks_in lists host p was lang) ∙ may.0,
   )
   rows_may (PutVersion v) may = tt
   rows_may (PutWithoutPages v) may = tt
   rows_may (RemoveVersion slug defaults) may =
-      subst (IsDistinct bytes_eq) (sym may) (filter_distinct (λ n. not (bytes_eq n slug)) p.defaults (defaults_distinct lists host p sound.rules was))
+      subst (IsDistinct bytes_eq) (sym may) (filter_distinct (λ n. not (bytes_eq n slug)) p.defaults (defaults_distinct lists host p sound.constraints was))
   rows_may (PutPage slug lang x) may = tt
   rows_may (RemovePages slug lang) may = tt
   rows_may (SetDefaults names) may =
-      subst (IsDistinct bytes_eq) (sym may.names_are) (front_distinct may.name p.defaults (defaults_distinct lists host p sound.rules was))
+      subst (IsDistinct bytes_eq) (sym may.names_are) (front_distinct may.name p.defaults (defaults_distinct lists host p sound.constraints was))
+  rows_may (PutRule place rule) may = tt
+  rows_may (DropLastRule place) may = tt
   rows_may (PutRedirect place r) may = tt
   rows_may (DropLastRedirect place) may = tt
   rows_may (AddPass pass) may =
-      pass_is_free (pass_row host pass) lists.passes (missing _ (sym (has_pass_in lists host p was pass) ∙ may))
+      pass_is_free (pass_row host pass) lists.passes (missing _ (sym (has_pass_in lists host p was pass) ∙ may.0))
   rows_may (RemovePass pass) may = tt
   rows_may (Grant pass slug) may = tt
   rows_may (Revoke pass slug) may = tt
@@ -97,7 +101,7 @@ module _ (host : Text) (lists : Lists) (p : Project) (sound : AreSound lists) (w
         world_is = world_gone lists host slug (change.without_name slug p.defaults) p sound.order.picks was;
         sound = record {
           order = order_without_version three (order_without_grants two (order_without one (order_with_defaults lists sound.order host (change.without_name slug p.defaults)) (λ x. not (is_page_under host slug None x))) (λ x. not (is_held_on host slug x))) (λ v. not (is_version host slug v));
-          rules = rules_gone lists host slug p sound.rules sound.order.picks was;
+          constraints = constraints_gone lists host slug p sound.constraints sound.order.picks was;
         };
       }
 
@@ -106,7 +110,7 @@ module _ (host : Text) (lists : Lists) (p : Project) (sound : AreSound lists) (w
     world_is = world_with_defaults lists host (name ∷ change.without_name name p.defaults) p sound.order.picks was;
     sound = record {
       order = order_with_defaults lists sound.order host (name ∷ change.without_name name p.defaults);
-      rules = rules_with_front lists host name p sound.rules sound.order.picks was may;
+      constraints = constraints_with_front lists host name p sound.constraints sound.order.picks was may;
     };
   }
 
@@ -114,10 +118,10 @@ module _ (host : Text) (lists : Lists) (p : Project) (sound : AreSound lists) (w
   edit_spells (AddLang lang place) may =
       let row : LangRow = lang_row host lang place in
       let next = may.1 ∙ ap (λ n. n + 1) (count_in lists host p was) in record {
-        world_is = world_with_lang lists row p sound.rules sound.order.langs next was;
+        world_is = world_with_lang lists row p sound.constraints sound.order.langs next was;
         sound = record {
           order = order_with_lang lists sound.order row (rows_may (AddLang lang place) may).0;
-          rules = rules_with_lang lists row sound.rules sound.order.langs owned next (sym (speaks_in lists host p was lang) ∙ may.0);
+          constraints = constraints_with_lang lists row sound.constraints sound.order.langs owned next (sym (speaks_in lists host p was lang) ∙ may.0);
         };
       }
   edit_spells (PutVersion v) may =
@@ -125,8 +129,8 @@ module _ (host : Text) (lists : Lists) (p : Project) (sound : AreSound lists) (w
         world_is = world_with_version lists row p was;
         sound = record {
           order = order_with_version lists sound.order row;
-          rules = rules_with_version lists row sound.rules owned may.0
-              (λ off. inactive_is_bare lists host v.slug sound.rules (sym (active_in lists host p was v.slug) ∙ may.1 off));
+          constraints = constraints_with_version lists row sound.constraints owned may.0
+              (λ off. inactive_is_bare lists host v.slug sound.constraints (sym (active_in lists host p was v.slug) ∙ may.1 off));
         };
       }
   edit_spells (PutWithoutPages v) may =
@@ -138,7 +142,7 @@ module _ (host : Text) (lists : Lists) (p : Project) (sound : AreSound lists) (w
             (world_without_pages lists host v.slug None p was) (world_with_version bare row p1);
         sound = record {
           order = order_with_version bare (order_without lists sound.order out) row;
-          rules = rules_with_version bare row (rules_without lists out sound.rules) owned may (λ off. dropped_is_bare host v.slug lists.pages);
+          constraints = constraints_with_version bare row (constraints_without lists out sound.constraints) owned may (λ off. dropped_is_bare host v.slug lists.pages);
         };
       }
   edit_spells (RemoveVersion slug defaults) may =
@@ -149,33 +153,51 @@ module _ (host : Text) (lists : Lists) (p : Project) (sound : AreSound lists) (w
         world_is = world_with_page lists row p was;
         sound = record {
           order = order_with_page lists sound.order row;
-          rules = rules_with_page lists row sound.rules owned (sym (active_in lists host p was slug) ∙ may.0) (sym (speaks_in lists host p was lang) ∙ may.1);
+          constraints = constraints_with_page lists row sound.constraints owned (sym (active_in lists host p was slug) ∙ may.0) (sym (speaks_in lists host p was lang) ∙ may.1);
         };
       }
   edit_spells (RemovePages slug lang) may =
       let out : PageRow → Bool = λ x. not (is_page_under host slug (Some lang) x) in record {
         world_is = world_without_pages lists host slug (Some lang) p was;
-        sound = record { order = order_without lists sound.order out; rules = rules_without lists out sound.rules };
+        sound = record { order = order_without lists sound.order out; constraints = constraints_without lists out sound.constraints };
       }
   edit_spells (SetDefaults names) may =
       let P : List Text → Type 0 = λ ns. Spells host lists (with_defaults host ns lists) (record p { defaults = ns }) in
       subst P (sym may.names_are) (new_front may.name (sym (ap (λ b. is_alias may.name || b) (has_version_in lists host p was may.name)) ∙ may.may))
+  edit_spells (PutRule place rule) may =
+      let row : RuleRow = rule_row host place rule in
+      let last : place ≤ length (filter (is_rule_of host) lists.rules) + 1 =
+      subst (λ n. place ≤ n + 1) (rule_count_in lists host p was) may.1 in record {
+        world_is = world_with_rule lists row p sound.constraints sound.order.rules may.0 last was;
+        sound = record {
+          order = order_with_rule lists sound.order row;
+          constraints = constraints_with_rule lists row sound.constraints sound.order.rules owned may.0 last may.2 may.3;
+        };
+      }
+  edit_spells (DropLastRule place) may =
+      let all = may.1 ∙ rule_count_in lists host p was in record {
+        world_is = world_without_rule lists host place p sound.constraints may.0 all was;
+        sound = record {
+          order = order_without_rule lists sound.order host place;
+          constraints = constraints_without_rule lists host place sound.constraints may.0 all;
+        };
+      }
   edit_spells (PutRedirect place r) may =
       let row : RedirectRow = redirect_row host place r in
       let last : place ≤ length (filter (is_redirect_of host) lists.redirects) + 1 =
       subst (λ n. place ≤ n + 1) (redirect_count_in lists host p was) may.1 in record {
-        world_is = world_with_redirect lists row p sound.rules sound.order.redirects may.0 last was;
+        world_is = world_with_redirect lists row p sound.constraints sound.order.redirects may.0 last was;
         sound = record {
           order = order_with_redirect lists sound.order row;
-          rules = rules_with_redirect lists row sound.rules sound.order.redirects owned may.0 last may.2 may.3;
+          constraints = constraints_with_redirect lists row sound.constraints sound.order.redirects owned may.0 last may.2 may.3;
         };
       }
   edit_spells (DropLastRedirect place) may =
       let all = may.1 ∙ redirect_count_in lists host p was in record {
-        world_is = world_without_redirect lists host place p sound.rules may.0 all was;
+        world_is = world_without_redirect lists host place p sound.constraints may.0 all was;
         sound = record {
           order = order_without_redirect lists sound.order host place;
-          rules = rules_without_redirect lists host place sound.rules may.0 all;
+          constraints = constraints_without_redirect lists host place sound.constraints may.0 all;
         };
       }
   edit_spells (AddPass pass) may =
@@ -184,7 +206,7 @@ module _ (host : Text) (lists : Lists) (p : Project) (sound : AreSound lists) (w
         world_is = world_with_pass lists row p free was;
         sound = record {
           order = order_with_pass lists sound.order row free;
-          rules = rules_with_pass lists row sound.rules owned;
+          constraints = constraints_with_pass lists row sound.constraints owned;
         };
       }
   edit_spells (RemovePass pass) may =
@@ -192,7 +214,7 @@ module _ (host : Text) (lists : Lists) (p : Project) (sound : AreSound lists) (w
         world_is = world_pass_gone lists host pass p was;
         sound = record {
           order = order_without_pass bare (order_without_grants lists sound.order (λ x. not (is_held_by host pass x))) (λ x. not (is_pass host pass x));
-          rules = rules_pass_gone lists host pass sound.rules;
+          constraints = constraints_pass_gone lists host pass sound.constraints;
         };
       }
   edit_spells (Grant pass slug) may =
@@ -200,7 +222,7 @@ module _ (host : Text) (lists : Lists) (p : Project) (sound : AreSound lists) (w
         world_is = world_with_grant lists row p was;
         sound = record {
           order = order_with_grant lists sound.order row;
-          rules = rules_with_grant lists row sound.rules (sym (has_pass_in lists host p was pass) ∙ may.0) (sym (has_version_in lists host p was slug) ∙ may.1);
+          constraints = constraints_with_grant lists row sound.constraints (sym (has_pass_in lists host p was pass) ∙ may.0) (sym (has_version_in lists host p was slug) ∙ may.1);
         };
       }
   edit_spells (Revoke pass slug) may =
@@ -208,7 +230,7 @@ module _ (host : Text) (lists : Lists) (p : Project) (sound : AreSound lists) (w
         world_is = world_without_grant lists host pass slug p was;
         sound = record {
           order = order_without_grants lists sound.order keep;
-          rules = rules_without_grants lists keep sound.rules;
+          constraints = constraints_without_grants lists keep sound.constraints;
         };
       }
   edit_spells (PutAnswer a) may =
@@ -219,7 +241,7 @@ module _ (host : Text) (lists : Lists) (p : Project) (sound : AreSound lists) (w
             (kept_is host a.slug a.key a.operation a.answer may.1 may.2);
         sound = record {
           order = order_with_used lists sound.order row free;
-          rules = rules_with_used lists row sound.rules owned;
+          constraints = constraints_with_used lists row sound.constraints owned;
         };
       }
 

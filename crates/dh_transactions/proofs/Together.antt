@@ -8,15 +8,15 @@ use Rattle.dh_rows.specs.Calls.{Goes, IsHonest}
 use Rattle.dh_records.specs.Lists.{Lists}
 use Rattle.dh_schema.specs.InTurn.{goes_on}
 use Rattle.dh_transactions.specs.Going.{Makes, Sees, records}
-use Rattle.dh_world.specs.Checks.{IsSetAside}
+use Rattle.dh_world.specs.Checks.{IsFault}
 use Rattle.dh_world.specs.declared.refusal.Refusal.{Refusal}
 
 -- what is set aside stays so where it is handed on
 pub set_aside_on
     : {T : Type 0} (r : Result T Refusal) (e : Refusal)
-    → IsErrAnd r (λ f. f ≡ e) → IsSetAside e → IfErr r IsSetAside
+    → IsErrAnd r (λ f. f ≡ e) → IsFault e → IfErr r IsFault
 set_aside_on (Ok x) e is it = tt
-set_aside_on (Err f) e is it = subst IsSetAside (sym is) it
+set_aside_on (Err f) e is it = subst IsFault (sym is) it
 
 -- where a refusal is handed on, nothing was answered
 pub none_answered

@@ -7,8 +7,8 @@ use Rattle.dh_checks.specs.Commands.{change_of, command_of}
 use Rattle.dh_checks.specs.declared.checked.CheckedChange.{CheckedChange}
 use Rattle.dh_records.specs.Lists.{Lists, world_of}
 use Rattle.dh_transactions.specs.Sound.{AreSound, Turns, Steps}
-use Rattle.dh_world.specs.Checks.{IsSetAside}
-use Rattle.dh_world.specs.Step.{change_at, settled, turn, step, after_texts}
+use Rattle.dh_world.specs.Checks.{IsFault}
+use Rattle.dh_world.specs.Step.{IsUntaken, IsSetAside, change_at, settled, turn, step, after_texts}
 use Rattle.dh_world.specs.Texts.{bad_text}
 use Rattle.dh_world.specs.World.{Text, Project}
 use Rattle.dh_world.specs.declared.answer.Answer.{Answer}
@@ -31,17 +31,22 @@ pub right_texts
     → step (world_of lists) c ≡ turn (world_of lists) c
 right_texts lists c e = ap (after_texts (world_of lists) c) e
 
--- a command whose texts are not right is refused, unless out of memory
+-- a command whose texts are not right is refused, unless out of memory; or its pattern is not taken
 pub steps_wrong
     : (start : Lists) (c : Command) (e : Refusal) (r : Result Answer Refusal)
-    → IsErrAnd r (λ x. x ≡ e) → (bad_text c ≡ Some e) ⊎ (e ≡ OutOfMemory) → Steps start start c r
+    → IsErrAnd r (λ x. x ≡ e)
+    → (bad_text c ≡ Some e) ⊎ ((e ≡ OutOfMemory) ⊎ ((bad_text c ≡ None) × IsUntaken c.change e))
+    → Steps start start c r
 steps_wrong start c e r is why =
     let at = err_from_is_err_and r is in
     subst (Steps start start c) (sym (at.1 ∙ ap Err at.2)) (refl, go why)
   where
-    go : (bad_text c ≡ Some e) ⊎ (e ≡ OutOfMemory) → IsSetAside e ⊎ (step (world_of start) c ≡ Err e)
+    go
+        : (bad_text c ≡ Some e) ⊎ ((e ≡ OutOfMemory) ⊎ ((bad_text c ≡ None) × IsUntaken c.change e))
+        → IsSetAside (world_of start) c e ⊎ (step (world_of start) c ≡ Err e)
     go (inl is) = inr (ap (after_texts (world_of start) c) is)
-    go (inr is) = inl (inr is)
+    go (inr (inl is)) = inl (inl (inr is))
+    go (inr (inr it)) = inl (inr (it.0, inl it.1))
 
 -- ---- the end
 
@@ -50,7 +55,7 @@ pub ended
     : (start worked after kept : Lists) (c : Command) (result answer : Result Answer Refusal)
     → bad_text c ≡ None → kept ≡ start → Turns start worked c result
     → IfOk answer (λ a. (result ≡ Ok a) × (after ≡ worked))
-    → IfErr answer (λ e. (after ≡ kept) × (IsSetAside e ⊎ (result ≡ Err e)))
+    → IfErr answer (λ e. (after ≡ kept) × (IsFault e ⊎ (result ≡ Err e)))
     → Steps start after c answer
 ended start worked after kept c result (Ok a) right same turned ok err =
     let at : Turns start worked c (Ok a) = subst (Turns start worked c) ok.0 turned in
@@ -58,10 +63,11 @@ ended start worked after kept c result (Ok a) right same turned ok err =
     subst P (sym ok.1) (right_texts start c right ∙ at.0, at.1)
 ended start worked after kept c result (Err e) right same turned ok err = (err.0 ∙ same, go err.1)
   where
-    go : IsSetAside e ⊎ (result ≡ Err e) → IsSetAside e ⊎ (step (world_of start) c ≡ Err e)
-    go (inl is) = inl is
+    go : IsFault e ⊎ (result ≡ Err e) → IsSetAside (world_of start) c e ⊎ (step (world_of start) c ≡ Err e)
+    go (inl is) = inl (inl is)
     go (inr is) = turn_refused (subst (Turns start worked c) is turned)
       where
-        turn_refused : Turns start worked c (Err e) → IsSetAside e ⊎ (step (world_of start) c ≡ Err e)
-        turn_refused (inl x) = inl x
-        turn_refused (inr x) = inr (right_texts start c right ∙ x)
+        turn_refused : Turns start worked c (Err e) → IsSetAside (world_of start) c e ⊎ (step (world_of start) c ≡ Err e)
+        turn_refused (inl fault) = inl (inl fault)
+        turn_refused (inr (inl unrun)) = inl (inr (right, inr unrun))
+        turn_refused (inr (inr is)) = inr (right_texts start c right ∙ is)

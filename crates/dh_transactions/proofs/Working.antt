@@ -14,8 +14,7 @@ use Rattle.dh_transactions.specs.Finding.{FindsFacts}
 use Rattle.dh_transactions.specs.RowEdits.{RowsMayAll, all_rows_edited}
 use Rattle.dh_transactions.specs.Sound.{AreSound, Turns}
 use Rattle.dh_world.specs.Changes as world
-use Rattle.dh_world.specs.Checks.{IsSetAside}
-use Rattle.dh_world.specs.Step.{settled, turn}
+use Rattle.dh_world.specs.Step.{settled, IsUnrun, IsUnrunAt}
 use Rattle.dh_world.specs.World.{Text}
 use Rattle.dh_world.specs.declared.answer.Answer.{Answer}
 use Rattle.dh_world.specs.declared.refusal.Refusal.{Refusal}
@@ -31,9 +30,12 @@ module _ (host : Text) (change : CheckedChange) (lists : Lists) (f : Facts) (fou
       let at = err_from_is_err_and r is in
       subst (Turns lists after (command_of host change)) (sym (at.1 ∙ ap Err at.2)) (go (decided found.0 found.2))
     where
-      go : (e ≡ OutOfMemory) ⊎ (world.change (change_of change) found.0 ≡ Err e) → IsSetAside e ⊎ (turn (world_of lists) (command_of host change) ≡ Err e)
-      go (inl memory) = inl (inr memory)
-      go (inr is) = inr (turn_at host change lists (Some found.0) found.1 ∙ ap (settled (world_of lists) host) is)
+      go
+          : ((e ≡ OutOfMemory) ⊎ (world.change (change_of change) found.0 ≡ Err e)) ⊎ IsUnrun (change_of change) found.0 e
+          → Turns lists after (command_of host change) (Err e)
+      go (inl (inl memory)) = inl (inr memory)
+      go (inl (inr is)) = inr (inr (turn_at host change lists (Some found.0) found.1 ∙ ap (settled (world_of lists) host) is))
+      go (inr unrun) = inr (inl (subst (λ o. IsUnrunAt (change_of change) o e) (sym found.1) unrun))
 
   module _ (sound : AreSound lists) (plan : Planned) (decided : Decides change f (Ok plan)) where
     pub edits_may : RowsMayAll host plan.edits lists

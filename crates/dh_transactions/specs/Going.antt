@@ -6,7 +6,7 @@ use Rattle.sqlite.specs.State.{HasCleanDisk}
 use Rattle.dh_rows.specs.Calls.{IsHonest, Goes, seen, committed}
 use Rattle.dh_records.specs.Lists.{Lists}
 use Rattle.dh_schema.specs.Tables.{lists_of}
-use Rattle.dh_world.specs.Checks.{IsSetAside}
+use Rattle.dh_world.specs.Checks.{IsFault}
 use Rattle.dh_world.specs.declared.answer.Answer.{Answer}
 use Rattle.dh_world.specs.declared.refusal.Refusal.{Refusal}
 
@@ -39,17 +39,17 @@ module _ {S : Type 0} (g : Ghosts S) where
       pub goes : Goes g old new
       -- those that were answered left the records as they were
       pub looks : OnOk result (Sees old new (records old))
-      -- a refusal is a fault of the store, or want of memory
-      pub err : IfErr result IsSetAside
+      -- a refusal is a fault of the store, or out of memory
+      pub err : IfErr result IsFault
 
     -- What edits within a transaction leave, whatever they answer.
     pub record Makes (change : Lists → Lists) : Type 0 where
       pub goes : Goes g old new
       -- those that were made changed the records so
       pub sees : OnOk result (Sees old new (change (records old)))
-      pub err : IfErr result IsSetAside
+      pub err : IfErr result IsFault
 
   -- A command that was answered, or refused for what it asks, has left no transaction open.
   abbrev pub IsOver : Held S → Result Answer Refusal → Type 0
   IsOver new (Ok answer) = new.in_transaction ≡ false
-  IsOver new (Err e) = IsSetAside e ⊎ (new.in_transaction ≡ false)
+  IsOver new (Err e) = IsFault e ⊎ (new.in_transaction ≡ false)

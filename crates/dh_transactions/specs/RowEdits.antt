@@ -3,12 +3,12 @@ use Rattle.std.specs.Prelude.{◌≡◌, false, not, filter, List, [], ◌∷◌
 use Rattle.std.specs.List.{IsDistinct}
 use Rattle.std.specs.Str.{bytes_eq}
 use Rattle.dh_commands.specs.declared.edits.Edit.{Edit}
-use Rattle.dh_commands.specs.declared.edits.Edit.TheVariants.{AddLang, PutVersion, PutWithoutPages, RemoveVersion, PutPage, RemovePages, SetDefaults, PutRedirect, DropLastRedirect, AddPass, RemovePass, Grant, Revoke, PutAnswer}
+use Rattle.dh_commands.specs.declared.edits.Edit.TheVariants.{AddLang, PutVersion, PutWithoutPages, RemoveVersion, PutPage, RemovePages, SetDefaults, PutRule, DropLastRule, PutRedirect, DropLastRedirect, AddPass, RemovePass, Grant, Revoke, PutAnswer}
 use Rattle.dh_commands.specs.KeptAnswer.{KeptAnswer}
 use Rattle.dh_rows.specs.Keyed.{IsFreeKey, added, put}
 use Rattle.dh_records.specs.Codings as coding
-use Rattle.dh_records.specs.Lists.{Lists, is_version, is_page_under, is_pass, is_held, is_held_by, is_held_on, is_redirect, redirect_row, set_picks, granted, keeping}
-use Rattle.dh_records.specs.Rules.{has_language}
+use Rattle.dh_records.specs.Lists.{Lists, is_version, is_page_under, is_pass, is_held, is_held_by, is_held_on, is_rule, rule_row, is_redirect, redirect_row, set_picks, granted, keeping}
+use Rattle.dh_records.specs.Constraints.{has_language}
 use Rattle.dh_records.specs.declared.records.HeldRow.{HeldRow}
 use Rattle.dh_records.specs.declared.records.LangRow.{LangRow}
 use Rattle.dh_records.specs.declared.records.PageRow.{PageRow}
@@ -102,12 +102,18 @@ rows_edited host (PutVersion v) l = with_version host v l
 rows_edited host (PutWithoutPages v) l = with_version host v (without_pages host v.slug l)
 rows_edited host (RemoveVersion slug defaults) l =
     without_version host slug
-    (without_grants_on host slug (without_pages host slug (with_defaults host defaults.items l)))
+    (without_grants_on host slug (without_pages host slug (with_defaults host defaults l)))
 rows_edited host (PutPage slug lang x) l = record l {
   pages = put coding.pages.key (page_row host slug lang x) l.pages;
 }
 rows_edited host (RemovePages slug lang) l = without_pages_in host slug lang l
-rows_edited host (SetDefaults names) l = with_defaults host names.items l
+rows_edited host (SetDefaults names) l = with_defaults host names l
+rows_edited host (PutRule place rule) l = record l {
+  rules = put coding.rules.key (rule_row host place rule) l.rules;
+}
+rows_edited host (DropLastRule place) l = record l {
+  rules = filter (λ x. not (is_rule host place x)) l.rules;
+}
 rows_edited host (PutRedirect place r) l = record l {
   redirects = put coding.redirects.key (redirect_row host place r) l.redirects;
 }
@@ -136,8 +142,8 @@ abbrev pub RowsMay : Text → Edit → Lists → Type 0
 RowsMay host (AddLang lang place) l =
     IsFreeKey coding.langs.key (lang_row host lang place) l.langs
     × (has_language l host lang ≡ false)
-RowsMay host (RemoveVersion slug defaults) l = IsDistinct bytes_eq defaults.items
-RowsMay host (SetDefaults names) l = IsDistinct bytes_eq names.items
+RowsMay host (RemoveVersion slug defaults) l = IsDistinct bytes_eq defaults
+RowsMay host (SetDefaults names) l = IsDistinct bytes_eq names
 RowsMay host (AddPass pass) l = IsFreeKey coding.passes.key (pass_row host pass) l.passes
 RowsMay host (PutAnswer a) l = IsFreeKey coding.used.key (answer_row host a) l.used
 RowsMay host _ l = Unit {0}

@@ -11,7 +11,8 @@ use dh_commands::{Edit, FirstAnswer};
 use dh_paths::{Bytes, HostName, Lang, Slug, Text, Token};
 use dh_redirects::Redirect;
 use dh_reply::Page;
-use dh_tables::{HeldRow, LangRow, PageRow, PassRow, RedirectRow, Tables, VersionRow};
+use dh_rules::Rule;
+use dh_tables::{HeldRow, LangRow, PageRow, PassRow, RedirectRow, RuleRow, Tables, VersionRow};
 use dh_versions::Version;
 use dh_world::Refusal;
 use sqlite::Alter;
@@ -173,6 +174,37 @@ fn set_defaults<S: Alter>(
     Ok(tables.set_picks(host, names)?)
 }
 
+fn put_rule<S: Alter>(
+    tables: &mut Tables<S>,
+    alloc: Global,
+    host: &HostName,
+    place: u32,
+    rule: Rule,
+) -> Result<(), Refusal>
+    requires within { IsHonest S.Store tables.old → tables.old.in_transaction ≡ true }
+    ensures makes { Makes S.Store tables.old tables.new result
+        (rows_edited host.now (Edit.PutRule place rule)) }
+{
+    let row = RuleRow {
+        host: host.try_copy(alloc)?,
+        place,
+        rule,
+    };
+    Ok(tables.put_rule(alloc, &row)?)
+}
+
+fn drop_rule<S: Alter>(
+    tables: &mut Tables<S>,
+    host: &HostName,
+    place: u32,
+) -> Result<(), Refusal>
+    requires within { IsHonest S.Store tables.old → tables.old.in_transaction ≡ true }
+    ensures makes { Makes S.Store tables.old tables.new result
+        (rows_edited host.now (Edit.DropLastRule place)) }
+{
+    Ok(tables.drop_rule(host, place)?)
+}
+
 fn put_redirect<S: Alter>(
     tables: &mut Tables<S>,
     alloc: Global,
@@ -311,6 +343,8 @@ fn make_edit<S: Alter>(
         Edit::PutPage { slug, lang, page } => put_page(tables, alloc, host, slug, lang, page),
         Edit::RemovePages { slug, lang } => remove_pages(tables, host, &slug, &lang),
         Edit::SetDefaults(names) => set_defaults(tables, host, names.as_slice()),
+        Edit::PutRule { place, rule } => put_rule(tables, alloc, host, place, rule),
+        Edit::DropLastRule { place } => drop_rule(tables, host, place),
         Edit::PutRedirect { place, redirect } => put_redirect(tables, alloc, host, place, redirect),
         Edit::DropLastRedirect { place } => drop_redirect(tables, host, place),
         Edit::AddPass(pass) => add_pass(tables, alloc, host, pass),

@@ -2,16 +2,18 @@
 ghost use Rattle.std.specs.Prelude.{◌≡◌, false, [], map, option_map, if◌then◌else◌, IfOk};
 ghost use Rattle.std.specs.Option.{option_and_then, option_map_or};
 ghost use Rattle.std.specs.FinMap.{get, contains_key, len};
-ghost use Rattle.dh_transactions.specs.Finding.{OfProject, IsVersion, AreRedirects, FindsSettings, FindsFacts, asked_key};
+ghost use Rattle.dh_transactions.specs.Finding.{OfProject, IsVersion, AreRules, AreRedirects};
+ghost use Rattle.dh_transactions.specs.Finding.{FindsSettings, FindsAt, FindsLists, FindsFacts, asked_key};
 ghost use Rattle.dh_schema.specs.Calling.{Learns};
 ghost use Rattle.dh_transactions.specs.Going.{Asks};
 ghost use Rattle.dh_transactions.specs.Sound.{AreSound};
 
 use dh_checks::{CheckedChange, ProjectSettings};
-use dh_commands::{Facts, RetryKey, questions_of};
+use dh_commands::{Facts, Questions, RetryKey, questions_of};
 use dh_paths::{HostName, Lang, Slug, Token};
 use dh_redirects::Redirect;
-use dh_tables::{LangRow, PickRow, ProjectRow, RedirectRow, Tables};
+use dh_rules::Rule;
+use dh_tables::{LangRow, PickRow, ProjectRow, RedirectRow, RuleRow, Tables};
 use dh_versions::Version;
 use dh_world::{Answer, Refusal};
 use sqlite::Alter;
@@ -159,6 +161,30 @@ fn pass_count<S: Alter>(
     }
 }
 
+fn rules_in(alloc: Global, rows: Vec<RuleRow>) -> Result<Vec<Rule>, AllocError>
+    ensures { IfOk result (λ rules. rules.items ≡ map (λ row. row.rule) rows.items) }
+{
+    rows.into_iter().map(|row| row.rule).collect(alloc)
+}
+
+/// The automation rules, where they are asked for.
+fn rules_for<S: Alter>(
+    tables: &mut Tables<S>,
+    alloc: Global,
+    host: &HostName,
+    ask: bool,
+) -> Result<Vec<Rule>, Refusal>
+    ensures asks { Asks S.Store tables.old tables.new result }
+    ensures value { Learns S.Store tables.old tables.new result (λ l rules. AreSound l
+        → OfProject host.now (AreRules ask rules.items) l) }
+{
+    if !ask {
+        return Ok(Vec::new(alloc));
+    }
+    let rows = tables.rules(alloc, host)?;
+    Ok(rules_in(alloc, rows)?)
+}
+
 fn redirects_in(alloc: Global, rows: Vec<RedirectRow>) -> Result<Vec<Redirect>, AllocError>
     ensures { IfOk result
         (λ redirects. redirects.items ≡ map (λ row. row.redirect) rows.items) }
@@ -184,6 +210,68 @@ fn redirects_for<S: Alter>(
     Ok(redirects_in(alloc, rows)?)
 }
 
+/// What stands under a key, and how many passes there are.
+#[derive(Drop)]
+struct FoundAt {
+    version: Option<Version>,
+    first_answer: Option<Answer>,
+    has_pass: bool,
+    pass_count: usize,
+}
+
+fn look_at<S: Alter>(
+    tables: &mut Tables<S>,
+    alloc: Global,
+    host: &HostName,
+    questions: &Questions<'_>,
+) -> Result<FoundAt, Refusal>
+    ensures asks { Asks S.Store tables.old tables.new result }
+    ensures value { Learns S.Store tables.old tables.new result
+        (λ l found. AreSound l → OfProject host.now (FindsAt questions.now found) l) }
+{
+    let version = version_for(tables, alloc, host, questions.version)?;
+    let first_answer = first_answer_for(tables, alloc, host, questions.retry_key)?;
+    let has_pass = has_pass(tables, alloc, host, questions.pass)?;
+    let pass_count = pass_count(tables, host, questions.pass_count)?;
+    Ok(FoundAt {
+        version,
+        first_answer,
+        has_pass,
+        pass_count,
+    })
+}
+
+/// The lists of the project.
+#[derive(Drop)]
+struct FoundLists {
+    languages: Vec<Lang>,
+    defaults: Vec<Slug>,
+    rules: Vec<Rule>,
+    redirects: Vec<Redirect>,
+}
+
+fn look_lists<S: Alter>(
+    tables: &mut Tables<S>,
+    alloc: Global,
+    host: &HostName,
+    questions: &Questions<'_>,
+) -> Result<FoundLists, Refusal>
+    ensures asks { Asks S.Store tables.old tables.new result }
+    ensures value { Learns S.Store tables.old tables.new result
+        (λ l found. AreSound l → OfProject host.now (FindsLists questions.now found) l) }
+{
+    let languages = languages_for(tables, alloc, host, questions.languages)?;
+    let defaults = defaults_for(tables, alloc, host, questions.defaults)?;
+    let rules = rules_for(tables, alloc, host, questions.rules)?;
+    let redirects = redirects_for(tables, alloc, host, questions.redirects)?;
+    Ok(FoundLists {
+        languages,
+        defaults,
+        rules,
+        redirects,
+    })
+}
+
 /// What the command has to know of the project of its host, or `None` where there is none.
 pub fn look<S: Alter>(
     tables: &mut Tables<S>,
@@ -199,19 +287,25 @@ pub fn look<S: Alter>(
         return Ok(None);
     };
     let questions = questions_of(change, &settings);
-    let version = version_for(tables, alloc, host, questions.version)?;
-    let first_answer = first_answer_for(tables, alloc, host, questions.retry_key)?;
-    let languages = languages_for(tables, alloc, host, questions.languages)?;
-    let defaults = defaults_for(tables, alloc, host, questions.defaults)?;
-    let has_pass = has_pass(tables, alloc, host, questions.pass)?;
-    let pass_count = pass_count(tables, host, questions.pass_count)?;
-    let redirects = redirects_for(tables, alloc, host, questions.redirects)?;
+    let FoundAt {
+        version,
+        first_answer,
+        has_pass,
+        pass_count,
+    } = look_at(tables, alloc, host, &questions)?;
+    let FoundLists {
+        languages,
+        defaults,
+        rules,
+        redirects,
+    } = look_lists(tables, alloc, host, &questions)?;
     Ok(Some(Facts {
         settings,
         version,
         first_answer,
         languages,
         defaults,
+        rules,
         redirects,
         has_pass,
         pass_count,

@@ -4,7 +4,7 @@ ghost use Rattle.sqlite.specs.Held.{state};
 ghost use Rattle.sqlite.specs.State.{HasCleanDisk};
 ghost use Rattle.dh_checks.specs.Commands.{command_of};
 ghost use Rattle.dh_rows.specs.Calls.{IsHonest, LeavesNoMore, Goes};
-ghost use Rattle.dh_world.specs.Checks.{IsSetAside};
+ghost use Rattle.dh_world.specs.Checks.{IsFault};
 ghost use Rattle.dh_transactions.specs.Crashes.{LeavesEnd, LeavesStep};
 ghost use Rattle.dh_transactions.specs.Going.{Stays, IsOver, records, last_records};
 ghost use Rattle.dh_transactions.specs.Sound.{AreSound, Turns, Steps};
@@ -49,11 +49,11 @@ fn end<S: Alter>(tables: &mut Tables<S>, worked: Result<Answer, Refusal>) -> Res
         × (last_records S.Store tables.new ≡ records S.Store tables.old)) }
     ensures err { IsHonest S.Store tables.new → IfErr result (λ e.
         (last_records S.Store tables.new ≡ last_records S.Store tables.old)
-        × (IsSetAside e ⊎ (worked ≡ Err e))) }
+        × (IsFault e ⊎ (worked ≡ Err e))) }
     ensures outside { IsHonest S.Store tables.new → IsOver S.Store tables.new result }
     ensures crash { LeavesEnd S.Store tables.old tables.new worked }
     ensures refused { IfErr result
-        (λ e. IsSetAside e ⊎ LeavesNoMore S.Store tables.old tables.new) }
+        (λ e. IsFault e ⊎ LeavesNoMore S.Store tables.old tables.new) }
     ensures live { OnOk worked (IsHonest S.Store tables.old)
         → HasCleanDisk (state S.Store tables.new) → OnOk result (IsHonest S.Store tables.new) }
     ensures clean { HasCleanDisk (state S.Store tables.new)
@@ -89,7 +89,7 @@ pub fn run<S: Alter>(
     ensures outside { IsHonest S.Store tables.new → IsOver S.Store tables.new result }
     ensures crash { LeavesStep S.Store tables.old tables.new command.now }
     ensures refused { IfErr result
-        (λ e. IsSetAside e ⊎ LeavesNoMore S.Store tables.old tables.new) }
+        (λ e. IsFault e ⊎ LeavesNoMore S.Store tables.old tables.new) }
     ensures live { HasCleanDisk (state S.Store tables.new)
         → OnOk result (IsHonest S.Store tables.new) }
     ensures clean { HasCleanDisk (state S.Store tables.new)
