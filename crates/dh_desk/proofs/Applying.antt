@@ -11,12 +11,12 @@ use Rattle.dh_records.specs.Lists.{Lists}
 use Rattle.dh_schema.specs.Tables.{lists_of}
 use Rattle.dh_transactions.specs.Going.{IsOver, last_records}
 use Rattle.dh_transactions.specs.Sound.{Steps}
-use Rattle.dh_world.specs.Checks.{refusal_from, IsSetAside}
+use Rattle.dh_world.specs.Checks.{refusal_from, IsFault}
 use Rattle.dh_world.specs.declared.answer.Answer.{Answer}
 use Rattle.dh_world.specs.declared.command.Command.{Command}
 use Rattle.dh_world.specs.declared.refusal.Refusal.{Refusal}
 
-aside : (f : Fault) (e : Refusal) → e ≡ refusal_from f → IsSetAside e
+aside : (f : Fault) (e : Refusal) → e ≡ refusal_from f → IsFault e
 aside fault.Store e is = inl is
 aside fault.Memory e is = inr is
 
@@ -26,7 +26,7 @@ pub steps_aside
     → after ≡ before → IsErrAnd r (λ e. e ≡ refusal_from f) → Steps before after c r
 steps_aside before after c f r same is =
     let at = err_from_is_err_and r is in
-    subst (Steps before after c) (sym at.1) (same, inl (aside f at.0 at.2))
+    subst (Steps before after c) (sym at.1) (same, inl (inl (aside f at.0 at.2)))
 
 pub over_aside
     : {S : Type 0} (g : Ghosts S) (new : Held S) (f : Fault) (r : Result Answer Refusal)

@@ -11,7 +11,7 @@ ghost use Rattle.dh_schema.specs.Tables.{lists_of};
 ghost use Rattle.dh_transactions.specs.Crashes.{LeavesStep, LeavesEither};
 ghost use Rattle.dh_transactions.specs.Going.{IsOver, last_records};
 ghost use Rattle.dh_transactions.specs.Sound.{Steps};
-ghost use Rattle.dh_world.specs.Checks.{IsSetAside};
+ghost use Rattle.dh_world.specs.Checks.{IsFault};
 ghost use Rattle.dh_world.specs.Reads.{host_named, pass_named, is_unanswered};
 ghost use Rattle.dh_world.specs.Seen as caller;
 ghost use Rattle.dh_world.specs.Step.{IsStep};
@@ -67,7 +67,7 @@ fn apply<S: Alter>(
     ensures outside { IsHonest S.Store tables.new → IsOver S.Store tables.new result }
     ensures crash { LeavesStep S.Store tables.old tables.new command.now }
     ensures refused { IfErr result
-        (λ e. IsSetAside e ⊎ LeavesNoMore S.Store tables.old tables.new) }
+        (λ e. IsFault e ⊎ LeavesNoMore S.Store tables.old tables.new) }
     ensures live { HasCleanDisk (state S.Store tables.new)
         → OnOk result (IsHonest S.Store tables.new) }
     ensures clean { HasCleanDisk (state S.Store tables.new)
@@ -124,7 +124,7 @@ impl<S: Alter> Desk<S> {
             → LeavesCommitted S.Store lists_of self.new.tables }
         ensures crash { LeavesEither S.Store self.old.tables self.new.tables command.now }
         ensures refused { IfErr result
-            (λ e. IsSetAside e ⊎ LeavesNoMore S.Store self.old.tables self.new.tables) }
+            (λ e. IsFault e ⊎ LeavesNoMore S.Store self.old.tables self.new.tables) }
         ensures shut { (state S.Store self.old.tables).is_open ≡ false
             → LeavesNoMore S.Store self.old.tables self.new.tables }
         ensures live { HasCleanDisk (state S.Store self.new.tables)

@@ -9,6 +9,7 @@ use dh_desk::{Answer, Command, CommandChange, Desk, Pages, Refusal, UploadedPage
 use dh_paths::{Bytes, Text};
 use dh_redirects::{Redirect, RedirectKind};
 use dh_reply::{Fault, Read, Reply};
+use dh_rules::{Action, Pattern, Rule};
 use dh_tables::Tables;
 use dh_versions::Kind;
 use sqlite::MemStore;
@@ -66,6 +67,16 @@ fn upload(alloc: Global, pages: Vec<UploadedPage>) -> Result<Command, Fail> {
         pages: Pages::wrap(pages),
     };
     command(alloc, change)
+}
+
+/// A rule that hides branches whose name begins with `m`.
+fn add_rule(alloc: Global) -> Result<Command, Fail> {
+    let rule = Rule {
+        kind: Kind::Branch,
+        pattern: Pattern::Custom(text(alloc, "^m")?),
+        action: Action::Hide,
+    };
+    command(alloc, CommandChange::AddRule { place: 1, rule })
 }
 
 /// A redirect from a path to `/`, in front of the others.

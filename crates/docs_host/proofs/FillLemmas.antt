@@ -1,5 +1,5 @@
 -- Commands in turn, up to the first that is refused.
-use Rattle.std.proofs.Common.{◌≡◌, ◌⊎◌, ℕ, ◌+◌, List, [], ◌∷◌, length, take, Result, Ok, Err, refl, sym, ap, ◌∙◌, subst, inl, inr, arith, add-one}
+use Rattle.std.proofs.Common.{◌≡◌, ◌⊎◌, ℕ, ◌+◌, List, [], ◌∷◌, take, slice_get, Result, Ok, Err, refl, sym, ap, ◌∙◌, subst, add-one}
 use Rattle.std.specs.Result.{IsErrAnd, result_unwrap_or}
 use Rattle.std.specs.FinMap.{empty}
 use Rattle.std.proofs.lemmas.Result.{err_from_is_err_and}
@@ -7,9 +7,7 @@ use Rattle.dh_world.specs.World.{World}
 use Rattle.dh_world.specs.declared.answer.Answer.{Answer}
 use Rattle.dh_world.specs.declared.command.Command.{Command}
 use Rattle.dh_world.specs.declared.refusal.Refusal.{Refusal}
-use Rattle.dh_world.specs.Checks.{IsSetAside}
-use Rattle.dh_world.specs.Step.{IsStep}
-use Rattle.dh_world.specs.Step.{step}
+use Rattle.dh_world.specs.Step.{step, IsStep, IsSetAside}
 use Rattle.docs_host.specs.SampleWorld.{on_step, after_all, sample_commands, sample_world, StopsBehind, DoesAll}
 
 -- a step of a command is that of an equal one
@@ -20,17 +18,12 @@ step_of w c d r same is = ap (step w) (sym same) ∙ is
 after_step : (c : Command) (cs : List Command) (w next : World) (answer : Answer) (r : Result World Refusal) → step w c ≡ Ok (next, answer) → after_all cs next ≡ r → after_all (c ∷ cs) w ≡ r
 after_step c cs w next answer r accepted then = ap (λ s. on_step s (after_all cs)) accepted ∙ then
 
-why_first : (c : Command) (cs : List Command) (w : World) (e : Refusal) → IsSetAside e ⊎ (step w c ≡ Err e) → IsSetAside e ⊎ (after_all (take 1 (c ∷ cs)) w ≡ Err e)
-why_first c cs w e (inl aside) = inl aside
-why_first c cs w e (inr refused) = inr (ap (λ s. on_step s (after_all [])) refused)
-
 -- the first command is refused
 does_none : (c : Command) (cs : List Command) (w after : World) (e : Refusal) → IsStep w after c (Err e) → DoesAll (c ∷ cs) w after (Err e)
-does_none c cs w after e refused = (0, record { some_left = omega arith; only_those = ap Ok (sym refused.0); why = why_first c cs w e refused.1 })
-
-why_next : (c : Command) (cs : List Command) (w next : World) (answer : Answer) (e : Refusal) (done : ℕ) → step w c ≡ Ok (next, answer) → IsSetAside e ⊎ (after_all (take (done + 1) cs) next ≡ Err e) → IsSetAside e ⊎ (after_all (c ∷ take (done + 1) cs) w ≡ Err e)
-why_next c cs w next answer e done accepted (inl aside) = inl aside
-why_next c cs w next answer e done accepted (inr refused) = inr (after_step c (take (done + 1) cs) w next answer (Err e) accepted refused)
+does_none c cs w after e refused = (
+  0,
+  record { only_those = ap Ok (sym refused.0); command = c; next = refl; why = subst (λ x. IsSetAside x c e ⊎ (step x c ≡ Err e)) (sym refused.0) refused.1 },
+)
 
 -- the first command is accepted, and then as the others do
 pub does_next : (c : Command) (cs : List Command) (w next after : World) (answer : Answer) (r : Result Unit Refusal) → step w c ≡ Ok (next, answer) → DoesAll cs next after r → DoesAll (c ∷ cs) w after r
@@ -40,9 +33,10 @@ does_next c cs w next after answer (Err e) accepted then =
     let one_more : (n : ℕ) → c ∷ take n cs ≡ take (n + 1) (c ∷ cs) = λ n. sym (ap (λ m. take m (c ∷ cs)) (add-one n)) in (
       done + 1,
       record {
-        some_left = omega (arith, then.1.some_left);
         only_those = ap (λ l. after_all l w) (sym (one_more done)) ∙ after_step c (take done cs) w next answer (Ok after) accepted then.1.only_those;
-        why = subst (λ l. IsSetAside e ⊎ (after_all l w ≡ Err e)) (one_more (done + 1)) (why_next c cs w next answer e done accepted then.1.why);
+        command = then.1.command;
+        next = ap (slice_get (c ∷ cs)) (add-one done) ∙ then.1.next;
+        why = then.1.why;
       },
     )
 

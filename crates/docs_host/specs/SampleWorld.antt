@@ -1,5 +1,5 @@
 -- The sample as a world: what three commands leave.
-use Rattle.std.specs.Prelude.{◌≡◌, ◌⊎◌, ℕ, ◌+◌, ◌<◌, false, List, [], ◌∷◌, ◌++◌, length, take, codes, Result, Ok, Err}
+use Rattle.std.specs.Prelude.{◌≡◌, ◌⊎◌, ℕ, false, List, [], ◌∷◌, ◌++◌, take, slice_get, Some, codes, Result, Ok, Err}
 use Rattle.std.specs.Result.{result_unwrap_or}
 use Rattle.std.specs.FinMap.{empty}
 use Rattle.dh_versions.specs.declared.version.Kind.TheVariants.{Branch}
@@ -10,8 +10,7 @@ use Rattle.dh_world.specs.declared.command.CommandChange.TheVariants.{NewProject
 use Rattle.dh_world.specs.declared.pages.UploadedPage.{UploadedPage}
 use Rattle.dh_world.specs.declared.refusal.Refusal.{Refusal}
 use Rattle.dh_world.specs.declared.answer.Answer.{Answer}
-use Rattle.dh_world.specs.Checks.{IsSetAside}
-use Rattle.dh_world.specs.Step.{step}
+use Rattle.dh_world.specs.Step.{step, IsSetAside}
 
 -- a page whose body is the text and LF
 abbrev pub uploaded_page : Text → Text → UploadedPage
@@ -58,11 +57,12 @@ sample_commands = make_sample ∷ push_sample ∷ upload_sample ∷ []
 unfoldable pub sample_world : World
 sample_world = result_unwrap_or (after_all sample_commands empty) empty
 
--- one command was refused, by its step or by what is set aside, and none behind it was done: so many before it were
+-- so many commands were done, the next one was refused, by its step or by what is set aside, and none behind it was done
 pub record StopsBehind (cs : List Command) (before after : World) (e : Refusal) (done : ℕ) : Type 0 where
-  pub some_left : done < length cs
   pub only_those : after_all (take done cs) before ≡ Ok after
-  pub why : IsSetAside e ⊎ (after_all (take (done + 1) cs) before ≡ Err e)
+  pub command : Command
+  pub next : slice_get cs done ≡ Some command
+  pub why : IsSetAside after command e ⊎ (step after command ≡ Err e)
 
 -- all commands are done; or those before one that was refused, and no other
 abbrev pub DoesAll : List Command → World → World → Result Unit Refusal → Type 0

@@ -1,6 +1,6 @@
 //! A command that finds no memory has changed nothing, and can be done again. `tools/failing_alloc` refuses each allocation in turn.
 
-use super::{add_redirect, apply, empty_desk, get, new_project, page, push_main, upload};
+use super::{add_redirect, add_rule, apply, empty_desk, get, new_project, page, push_main, upload};
 use dh_desk::{Answer, Command, Desk, Refusal};
 use sqlite::MemStore;
 use std::alloc::Global;
@@ -29,9 +29,18 @@ fn is_project_made(alloc: Global, desk: &mut Desk<MemStore>) -> Result<bool, Fai
     Ok(matches!(answer, Ok(Answer::Done)))
 }
 
+fn is_rule_added(alloc: Global, desk: &mut Desk<MemStore>) -> Result<bool, Fail> {
+    let answer = done_again(alloc, desk, &add_rule(alloc)?, "/", 404)?;
+    Ok(matches!(answer, Ok(Answer::Done)))
+}
+
+/// Pushes `main`, which the rule hides.
 fn is_main_pushed(alloc: Global, desk: &mut Desk<MemStore>) -> Result<bool, Fail> {
     let answer = done_again(alloc, desk, &push_main(alloc)?, "/", 404)?;
-    Ok(matches!(answer, Ok(Answer::Made { active: true, .. })))
+    Ok(matches!(
+        answer,
+        Ok(Answer::Made { active: true, hidden: true, .. })
+    ))
 }
 
 fn are_pages_stored(alloc: Global, desk: &mut Desk<MemStore>) -> Result<bool, Fail> {
@@ -54,6 +63,7 @@ fn refused_memory_changes_nothing(rt: HostRuntime) -> Result<(), Fail> {
     let alloc = rt.alloc();
     let mut desk = empty_desk(alloc)?;
     assert!(rt; is_project_made(alloc, &mut desk)?);
+    assert!(rt; is_rule_added(alloc, &mut desk)?);
     assert!(rt; is_main_pushed(alloc, &mut desk)?);
     assert!(rt; are_pages_stored(alloc, &mut desk)?);
     assert_eq!(rt; get(alloc, &mut desk, "/en/latest/")?.status, 200);
