@@ -22,10 +22,10 @@ use Rattle.dh_rows.proofs.Create.{IsCreate, makes, Makes, Creates, creates, free
 use Rattle.dh_rows.proofs.Effects.{IsSimple, Turns, other_keeps}
 use Rattle.dh_rows.proofs.Read.{insert_of}
 use Rattle.dh_rows.proofs.Texts.{ArePlain}
-use Rattle.dh_records.specs.Codings.{projects, langs, versions, pages, used, picks, passes, held, redirects}
+use Rattle.dh_records.specs.Codings.{projects, langs, versions, pages, used, picks, passes, held, rules, redirects}
 use Rattle.dh_records.specs.Typed.{AreTyped}
-use Rattle.dh_schema.specs.Tables.{lists_of, meta, meta_table, redirect_table, project_table, lang_table, version_table, page_table, used_table, pick_table, pass_table, holds_table}
-use Rattle.dh_schema.specs.Making.{IsReady, IsMade, no_lists, our_tables, from_meta, from_redirect, from_project, from_lang, from_version, from_page, from_used, from_pick, from_pass, from_holds, upto_meta, upto_redirect, upto_project, upto_lang, upto_version, upto_page, upto_used, upto_pick, upto_pass, upto_holds}
+use Rattle.dh_schema.specs.Tables.{lists_of, meta, meta_table, rule_table, redirect_table, project_table, lang_table, version_table, page_table, used_table, pick_table, pass_table, holds_table}
+use Rattle.dh_schema.specs.Making.{IsReady, IsMade, no_lists, our_tables, from_meta, from_rule, from_redirect, from_project, from_lang, from_version, from_page, from_used, from_pick, from_pass, from_holds, upto_meta, upto_rule, upto_redirect, upto_project, upto_lang, upto_version, upto_page, upto_used, upto_pick, upto_pass, upto_holds}
 
 -- the name, and those of the indexes that come with the table
 abbrev Spares : Table → Table → Type 0
@@ -59,15 +59,34 @@ make_meta_read : IsCreate make_meta_text meta_table
 unfolding everything
 make_meta_read = makes refl refl refl refl refl refl refl refl
 
-meta_spares : AllByRecursion (Spares meta_table) from_redirect
+meta_spares : AllByRecursion (Spares meta_table) from_rule
 unfolding everything
-meta_spares = ((refl, λ tree. tt), ((refl, λ tree. tt), ((refl, λ tree. tt), ((refl, λ tree. tt), ((refl, λ tree. tt), ((refl, λ tree. tt), ((refl, λ tree. tt), ((refl, λ tree. tt), ((refl, λ tree. tt), tt)))))))))
+meta_spares = ((refl, λ tree. tt), ((refl, λ tree. tt), ((refl, λ tree. tt), ((refl, λ tree. tt), ((refl, λ tree. tt), ((refl, λ tree. tt), ((refl, λ tree. tt), ((refl, λ tree. tt), ((refl, λ tree. tt), ((refl, λ tree. tt), tt))))))))))
 
 pub make_meta_asks : (s : State) → IsReady [] from_meta s.now → Creates s make_meta_text meta_table
 make_meta_asks s r = creates meta_table make_meta_text make_meta_read refl refl tt s r.free.0.0 r.free.0.1 r.counted r.placed
 
-pub make_meta_makes : (s : State) → IsReady [] from_meta s.now → (after : Database) → Edits s make_meta_text [] after → IsReady upto_meta from_redirect after
-make_meta_makes s r after it = one_more meta_table refl s.now after ((make_meta_asks s r).made after it) [] from_redirect r meta_spares
+pub make_meta_makes : (s : State) → IsReady [] from_meta s.now → (after : Database) → Edits s make_meta_text [] after → IsReady upto_meta from_rule after
+make_meta_makes s r after it = one_more meta_table refl s.now after ((make_meta_asks s r).made after it) [] from_rule r meta_spares
+
+-- ---- rule
+
+abbrev pub make_rule_text : List ℕ
+make_rule_text = codes "CREATE TABLE rule (host TEXT NOT NULL, place INTEGER NOT NULL, kind INTEGER NOT NULL, action INTEGER NOT NULL, pattern TEXT NOT NULL, PRIMARY KEY (host, place)) STRICT"
+
+make_rule_read : IsCreate make_rule_text rule_table
+unfolding everything
+make_rule_read = makes refl refl refl refl refl refl refl refl
+
+rule_spares : AllByRecursion (Spares rule_table) from_redirect
+unfolding everything
+rule_spares = ((refl, λ tree. (refl, tt)), ((refl, λ tree. (refl, tt)), ((refl, λ tree. (refl, tt)), ((refl, λ tree. (refl, tt)), ((refl, λ tree. (refl, tt)), ((refl, λ tree. (refl, tt)), ((refl, λ tree. (refl, tt)), ((refl, λ tree. (refl, tt)), ((refl, λ tree. (refl, tt)), tt)))))))))
+
+pub make_rule_asks : (s : State) → IsReady upto_meta from_rule s.now → Creates s make_rule_text rule_table
+make_rule_asks s r = creates rule_table make_rule_text make_rule_read refl refl (refl, tt) s r.free.0.0 r.free.0.1 r.counted r.placed
+
+pub make_rule_makes : (s : State) → IsReady upto_meta from_rule s.now → (after : Database) → Edits s make_rule_text [] after → IsReady upto_rule from_redirect after
+make_rule_makes s r after it = one_more rule_table refl s.now after ((make_rule_asks s r).made after it) upto_meta from_redirect r rule_spares
 
 -- ---- redirect
 
@@ -82,11 +101,11 @@ redirect_spares : AllByRecursion (Spares redirect_table) from_project
 unfolding everything
 redirect_spares = ((refl, λ tree. (refl, tt)), ((refl, λ tree. (refl, tt)), ((refl, λ tree. (refl, tt)), ((refl, λ tree. (refl, tt)), ((refl, λ tree. (refl, tt)), ((refl, λ tree. (refl, tt)), ((refl, λ tree. (refl, tt)), ((refl, λ tree. (refl, tt)), tt))))))))
 
-pub make_redirect_asks : (s : State) → IsReady upto_meta from_redirect s.now → Creates s make_redirect_text redirect_table
+pub make_redirect_asks : (s : State) → IsReady upto_rule from_redirect s.now → Creates s make_redirect_text redirect_table
 make_redirect_asks s r = creates redirect_table make_redirect_text make_redirect_read refl refl (refl, tt) s r.free.0.0 r.free.0.1 r.counted r.placed
 
-pub make_redirect_makes : (s : State) → IsReady upto_meta from_redirect s.now → (after : Database) → Edits s make_redirect_text [] after → IsReady upto_redirect from_project after
-make_redirect_makes s r after it = one_more redirect_table refl s.now after ((make_redirect_asks s r).made after it) upto_meta from_project r redirect_spares
+pub make_redirect_makes : (s : State) → IsReady upto_rule from_redirect s.now → (after : Database) → Edits s make_redirect_text [] after → IsReady upto_redirect from_project after
+make_redirect_makes s r after it = one_more redirect_table refl s.now after ((make_redirect_asks s r).made after it) upto_rule from_project r redirect_spares
 
 -- ---- project
 
@@ -241,9 +260,9 @@ pub make_holds_makes : (s : State) → IsReady upto_pass from_holds s.now → (a
 make_holds_makes s r after it = one_more holds_table refl s.now after ((make_holds_asks s r).made after it) upto_pass [] r holds_spares
 
 -- no other table has the name of that of the number
-are_apart : AllByRecursion (λ t. same_name t.name meta_table.name ≡ false) from_redirect
+are_apart : AllByRecursion (λ t. same_name t.name meta_table.name ≡ false) from_rule
 unfolding everything
-are_apart = (refl, (refl, (refl, (refl, (refl, (refl, (refl, (refl, (refl, tt)))))))))
+are_apart = (refl, (refl, (refl, (refl, (refl, (refl, (refl, (refl, (refl, (refl, tt))))))))))
 
 -- ---- the number of the schema
 
@@ -268,7 +287,7 @@ number_read schema tree = refl
 
 pub number_writes : (s : State) → IsReady upto_holds [] s.now → Writes s number_text (meta.encode 1) meta_table meta (added meta.key 1)
 number_writes s r =
-    let m = r.standing.1.1.1.1.1.1.1.1.1.0 in
+    let m = r.standing.1.1.1.1.1.1.1.1.1.1.0 in
     insert meta_table meta_simple meta_plain meta s (bare meta meta_table s.now m.0 m.1) number_text _ _ (number_read _ _) 1 (λ n. refl) (tt, tt) refl
     (subst (λ rows. AllByRecursion (λ y. Rattle.dh_rows.specs.Keyed.same_key meta.key 1 y ≡ false) (records meta rows)) (sym m.1) tt)
 
@@ -277,24 +296,25 @@ stays_bare : {X : Type 0} {change : List ℕ → List ℕ} {db after : Database}
 stays_bare {db = db} it c t r apart = let o = other_keeps it t c (bare c t db r.0 r.1) apart in (o.0, o.1 ∙ ap (records c) r.1)
 
 none_typed : AreTyped no_lists
-none_typed = record { projects = tt; langs = tt; versions = tt; pages = tt; used = tt; picks = tt; passes = tt; held = tt; redirects = tt }
+none_typed = record { projects = tt; langs = tt; versions = tt; pages = tt; used = tt; picks = tt; passes = tt; held = tt; rules = tt; redirects = tt }
 
 pub number_makes : (s : State) → IsReady upto_holds [] s.now → (after : Database) → Edits s number_text (meta.encode 1) after → IsMade after
 number_makes s r after edits =
     let it = (number_writes s r).turns after edits in
-    let m = r.standing.1.1.1.1.1.1.1.1.1.0 in
-    let redirect_kept = stays_bare it redirects redirect_table r.standing.1.1.1.1.1.1.1.1.0 are_apart.0 in
-    let project_kept = stays_bare it projects project_table r.standing.1.1.1.1.1.1.1.0 are_apart.1.0 in
-    let lang_kept = stays_bare it langs lang_table r.standing.1.1.1.1.1.1.0 are_apart.1.1.0 in
-    let version_kept = stays_bare it versions version_table r.standing.1.1.1.1.1.0 are_apart.1.1.1.0 in
-    let page_kept = stays_bare it pages page_table r.standing.1.1.1.1.0 are_apart.1.1.1.1.0 in
-    let used_kept = stays_bare it used used_table r.standing.1.1.1.0 are_apart.1.1.1.1.1.0 in
-    let pick_kept = stays_bare it picks pick_table r.standing.1.1.0 are_apart.1.1.1.1.1.1.0 in
-    let pass_kept = stays_bare it passes pass_table r.standing.1.0 are_apart.1.1.1.1.1.1.1.0 in
-    let holds_kept = stays_bare it held holds_table r.standing.0 are_apart.1.1.1.1.1.1.1.1.0 in
-    let none : lists_of after ≡ no_lists = λ i. record { projects = project_kept.1 i; langs = lang_kept.1 i; versions = version_kept.1 i; pages = page_kept.1 i; used = used_kept.1 i; picks = pick_kept.1 i; passes = pass_kept.1 i; held = holds_kept.1 i; redirects = redirect_kept.1 i } in
+    let m = r.standing.1.1.1.1.1.1.1.1.1.1.0 in
+    let rule_kept = stays_bare it rules rule_table r.standing.1.1.1.1.1.1.1.1.1.0 are_apart.0 in
+    let redirect_kept = stays_bare it redirects redirect_table r.standing.1.1.1.1.1.1.1.1.0 are_apart.1.0 in
+    let project_kept = stays_bare it projects project_table r.standing.1.1.1.1.1.1.1.0 are_apart.1.1.0 in
+    let lang_kept = stays_bare it langs lang_table r.standing.1.1.1.1.1.1.0 are_apart.1.1.1.0 in
+    let version_kept = stays_bare it versions version_table r.standing.1.1.1.1.1.0 are_apart.1.1.1.1.0 in
+    let page_kept = stays_bare it pages page_table r.standing.1.1.1.1.0 are_apart.1.1.1.1.1.0 in
+    let used_kept = stays_bare it used used_table r.standing.1.1.1.0 are_apart.1.1.1.1.1.1.0 in
+    let pick_kept = stays_bare it picks pick_table r.standing.1.1.0 are_apart.1.1.1.1.1.1.1.0 in
+    let pass_kept = stays_bare it passes pass_table r.standing.1.0 are_apart.1.1.1.1.1.1.1.1.0 in
+    let holds_kept = stays_bare it held holds_table r.standing.0 are_apart.1.1.1.1.1.1.1.1.1.0 in
+    let none : lists_of after ≡ no_lists = λ i. record { projects = project_kept.1 i; langs = lang_kept.1 i; versions = version_kept.1 i; pages = page_kept.1 i; used = used_kept.1 i; picks = pick_kept.1 i; passes = pass_kept.1 i; held = holds_kept.1 i; rules = rule_kept.1 i; redirects = redirect_kept.1 i } in
     record {
-      holds = record { meta = it.keeps; number = it.records ∙ ap (λ rows. added meta.key 1 (records meta rows)) m.1; projects = project_kept.0; langs = lang_kept.0; versions = version_kept.0; pages = page_kept.0; used = used_kept.0; picks = pick_kept.0; passes = pass_kept.0; held = holds_kept.0; redirects = redirect_kept.0; typed = subst AreTyped (sym none) none_typed };
+      holds = record { meta = it.keeps; number = it.records ∙ ap (λ rows. added meta.key 1 (records meta rows)) m.1; projects = project_kept.0; langs = lang_kept.0; versions = version_kept.0; pages = page_kept.0; used = used_kept.0; picks = pick_kept.0; passes = pass_kept.0; held = holds_kept.0; rules = rule_kept.0; redirects = redirect_kept.0; typed = subst AreTyped (sym none) none_typed };
       empty = none;
     }
 

@@ -12,7 +12,7 @@ use Rattle.dh_rows.specs.Calls.{IsHonest, GoesWithin, Refuses, whole, committed}
 use Rattle.dh_rows.specs.Places.{IsFree, IsUnmentioned, ArePlaced, Stands, rows_of}
 use Rattle.dh_records.specs.Lists.{Lists}
 use Rattle.sqlite_schema.specs.declared.schema.Schema.{Schema}
-use Rattle.dh_schema.specs.Tables.{Holds, lists_of, meta_table, redirect_table, project_table, lang_table, version_table, page_table, used_table, pick_table, pass_table, holds_table}
+use Rattle.dh_schema.specs.Tables.{Holds, lists_of, meta_table, rule_table, redirect_table, project_table, lang_table, version_table, page_table, used_table, pick_table, pass_table, holds_table}
 
 -- Some tables stand with no row, the others can be made: their names are free, and no foreign key names them.
 pub record IsReady (made left : List Table) (db : Database) : Type 0 where
@@ -23,7 +23,7 @@ pub record IsReady (made left : List Table) (db : Database) : Type 0 where
   pub placed : ArePlaced db.schema
 
 abbrev pub no_lists : Lists
-no_lists = record { projects = []; langs = []; versions = []; pages = []; used = []; picks = []; passes = []; held = []; redirects = [] }
+no_lists = record { projects = []; langs = []; versions = []; pages = []; used = []; picks = []; passes = []; held = []; rules = []; redirects = [] }
 
 -- all tables stand, and spell nothing
 pub record IsMade (db : Database) : Type 0 where
@@ -59,14 +59,20 @@ from_project = project_table ∷ from_lang
 abbrev pub from_redirect : List Table
 from_redirect = redirect_table ∷ from_project
 
+abbrev pub from_rule : List Table
+from_rule = rule_table ∷ from_redirect
+
 abbrev pub from_meta : List Table
-from_meta = meta_table ∷ from_redirect
+from_meta = meta_table ∷ from_rule
 
 abbrev pub upto_meta : List Table
 upto_meta = meta_table ∷ []
 
+abbrev pub upto_rule : List Table
+upto_rule = rule_table ∷ upto_meta
+
 abbrev pub upto_redirect : List Table
-upto_redirect = redirect_table ∷ upto_meta
+upto_redirect = redirect_table ∷ upto_rule
 
 abbrev pub upto_project : List Table
 upto_project = project_table ∷ upto_redirect

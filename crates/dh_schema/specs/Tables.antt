@@ -22,6 +22,9 @@ integer = needed Integer
 abbrev pub meta_table : Table
 meta_table = keyed_table (codes "meta") [] (integer (codes "schema") ∷ [])
 
+abbrev pub rule_table : Table
+rule_table = keyed_table (codes "rule") (1 ∷ 2 ∷ []) (text (codes "host") ∷ integer (codes "place") ∷ integer (codes "kind") ∷ integer (codes "action") ∷ text (codes "pattern") ∷ [])
+
 abbrev pub redirect_table : Table
 redirect_table = keyed_table (codes "redirect") (1 ∷ 2 ∷ [])
     (text (codes "host") ∷ integer (codes "place") ∷ integer (codes "kind") ∷ integer (codes "status") ∷ integer (codes "force") ∷ text (codes "source") ∷ text (codes "target") ∷ [])
@@ -69,6 +72,7 @@ lists_of db = record {
   picks = records_of coding.picks (codes "pick") db;
   passes = records_of coding.passes (codes "pass") db;
   held = records_of coding.held (codes "holds") db;
+  rules = records_of coding.rules (codes "rule") db;
   redirects = records_of coding.redirects (codes "redirect") db;
 }
 
@@ -85,5 +89,6 @@ pub record Holds (db : Database) : Type 0 where
   pub picks : Keeps pick_table coding.picks db
   pub passes : Keeps pass_table coding.passes db
   pub held : Keeps holds_table coding.held db
+  pub rules : Keeps rule_table coding.rules db
   pub redirects : Keeps redirect_table coding.redirects db
   pub typed : AreTyped (lists_of db)

@@ -5,7 +5,7 @@ ghost use Rattle.sqlite.specs.Held.{state};
 ghost use Rattle.sqlite.specs.State.{HasCleanDisk};
 ghost use Rattle.dh_rows.specs.Calls.{IsHonest, Lasts, Begins, Commits, Refuses, whole};
 ghost use Rattle.dh_rows.specs.Places.{IsFree, IsUnmentioned, ArePlaced};
-ghost use Rattle.dh_schema.specs.Making.{CanMake, IsReady, IsMade, Builds, BuildsOne, AreCommitted, CommitsNothing, our_tables, from_meta, from_redirect, from_project, from_lang, from_version, from_page, from_used, from_pick, from_pass, from_holds, upto_meta, upto_redirect, upto_project, upto_lang, upto_version, upto_page, upto_used, upto_pick, upto_pass, upto_holds};
+ghost use Rattle.dh_schema.specs.Making.{CanMake, IsReady, IsMade, Builds, BuildsOne, AreCommitted, CommitsNothing, our_tables, from_meta, from_rule, from_redirect, from_project, from_lang, from_version, from_page, from_used, from_pick, from_pass, from_holds, upto_meta, upto_rule, upto_redirect, upto_project, upto_lang, upto_version, upto_page, upto_used, upto_pick, upto_pass, upto_holds};
 
 use crate::query::write;
 use dh_records::fault_of;
@@ -17,7 +17,7 @@ use sqlite_schema::schema::Schema;
 fn make_meta<S: Alter>(conn: &mut Connection<S>) -> Result<(), Fault>
     requires { IsHonest S.Store conn.old
         → IsReady [] from_meta (state S.Store conn.old).now }
-    ensures builds { BuildsOne S.Store conn.old conn.new result (IsReady upto_meta from_redirect) }
+    ensures builds { BuildsOne S.Store conn.old conn.new result (IsReady upto_meta from_rule) }
 {
     write(
         conn,
@@ -26,9 +26,21 @@ fn make_meta<S: Alter>(conn: &mut Connection<S>) -> Result<(), Fault>
     )
 }
 
+fn make_rule<S: Alter>(conn: &mut Connection<S>) -> Result<(), Fault>
+    requires { IsHonest S.Store conn.old
+        → IsReady upto_meta from_rule (state S.Store conn.old).now }
+    ensures builds { BuildsOne S.Store conn.old conn.new result (IsReady upto_rule from_redirect) }
+{
+    write(
+        conn,
+        "CREATE TABLE rule (host TEXT NOT NULL, place INTEGER NOT NULL, kind INTEGER NOT NULL, action INTEGER NOT NULL, pattern TEXT NOT NULL, PRIMARY KEY (host, place)) STRICT",
+        &[],
+    )
+}
+
 fn make_redirect<S: Alter>(conn: &mut Connection<S>) -> Result<(), Fault>
     requires { IsHonest S.Store conn.old
-        → IsReady upto_meta from_redirect (state S.Store conn.old).now }
+        → IsReady upto_rule from_redirect (state S.Store conn.old).now }
     ensures builds { BuildsOne S.Store conn.old conn.new result
         (IsReady upto_redirect from_project) }
 {
@@ -150,6 +162,7 @@ fn make_first<S: Alter>(conn: &mut Connection<S>) -> Result<(), Fault>
     ensures builds { Builds S.Store conn.old conn.new result (IsReady upto_lang from_version) }
 {
     make_meta(conn)?;
+    make_rule(conn)?;
     make_redirect(conn)?;
     make_project(conn)?;
     make_lang(conn)
@@ -198,6 +211,7 @@ pub fn can_make(schema: &Schema) -> bool
     ensures { IsTrue result ↔ CanMake schema.now }
 {
     can_have(schema, b"meta")
+        && can_have(schema, b"rule")
         && can_have(schema, b"redirect")
         && can_have(schema, b"project")
         && can_have(schema, b"lang")
