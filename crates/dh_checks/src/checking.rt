@@ -7,8 +7,7 @@ use crate::checked::{
 };
 use crate::pages::check_pages;
 use crate::texts::{
-    host_in, lang_in, redirect_in, ref_in, retry_key_in, rule_in, slug_in, slug_in_name,
-    token_in,
+    host_in, lang_in, redirect_in, ref_in, retry_key_in, rule_in, slug_in, slug_in_name, token_in,
 };
 use dh_paths::Text;
 use dh_versions::Kind;

@@ -16,8 +16,33 @@ use crate::redirects::{add_redirect, drop_redirect};
 use crate::rules::{add_rule, drop_rule};
 use crate::uploads::upload;
 use dh_checks::{CheckedChange, ProjectSettings};
+use dh_paths::{Slug, Token};
 use dh_world::{Operation, Refusal};
 use std::alloc::Global;
+
+/// The version with a slug.
+fn of_version(slug: &Slug) -> Questions<'_>
+    ensures { seen_questions result ≡ spec.of_version slug.now }
+{
+    Questions {
+        version: Some(slug),
+        ..nothing()
+    }
+}
+
+/// The version with a slug, and the first answer to a retry key.
+fn of_retried<'q>(slug: &'q Slug, operation: Operation, key: &'q Token) -> Questions<'q>
+    ensures { seen_questions result ≡ spec.of_retried slug.now operation key.now }
+{
+    Questions {
+        retry_key: Some(RetryKey {
+            slug,
+            operation,
+            key,
+        }),
+        ..of_version(slug)
+    }
+}
 
 /// What a command asks whose write key is right.
 fn asked_by<'q>(change: &'q CheckedChange<'_>) -> Questions<'q>
@@ -30,38 +55,19 @@ fn asked_by<'q>(change: &'q CheckedChange<'_>) -> Questions<'q>
             ..nothing()
         },
         CheckedChange::Push(push) => Questions {
-            version: Some(&push.slug),
-            retry_key: Some(RetryKey {
-                slug: &push.slug,
-                operation: Operation::Push,
-                key: &push.key,
-            }),
             defaults: true,
             rules: true,
-            ..nothing()
+            ..of_retried(&push.slug, Operation::Push, &push.key)
         },
         CheckedChange::Upload(upload) => Questions {
-            version: Some(&upload.slug),
-            retry_key: Some(RetryKey {
-                slug: &upload.slug,
-                operation: Operation::Upload,
-                key: &upload.key,
-            }),
             languages: true,
-            ..nothing()
+            ..of_retried(&upload.slug, Operation::Upload, &upload.key)
         },
-        CheckedChange::SetProperty { slug, property: _ } => Questions {
-            version: Some(slug),
-            ..nothing()
-        },
-        CheckedChange::Deactivate { slug } => Questions {
-            version: Some(slug),
-            ..nothing()
-        },
+        CheckedChange::SetProperty { slug, property: _ } => of_version(slug),
+        CheckedChange::Deactivate { slug } => of_version(slug),
         CheckedChange::Gone { slug } => Questions {
-            version: Some(slug),
             defaults: true,
-            ..nothing()
+            ..of_version(slug)
         },
         CheckedChange::SetDefault { name } => Questions {
             version: version_named(name),
@@ -86,9 +92,8 @@ fn asked_by<'q>(change: &'q CheckedChange<'_>) -> Questions<'q>
             ..nothing()
         },
         CheckedChange::Grant { pass, slug } | CheckedChange::Revoke { pass, slug } => Questions {
-            version: Some(slug),
             pass: Some(pass),
-            ..nothing()
+            ..of_version(slug)
         },
     }
 }

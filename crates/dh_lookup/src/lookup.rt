@@ -4,8 +4,8 @@ ghost use Rattle.std.specs.Prelude.{is_some};
 ghost use Rattle.dh_lookup.specs.Lookup.{Asks, Meaning, Tells, TellsAll, TellsMaybe};
 ghost use Rattle.dh_lookup.specs.SeenProject.{resolved, page_at, forced_result, not_found_result};
 
-use crate::found::{Named, Page};
 use crate::fault::Fault;
+use crate::found::{Named, Page};
 use dh_paths::{Lang, Slug, Text};
 use dh_redirects::{Asked, Location};
 use dh_versions::Version;

@@ -8,8 +8,8 @@ ghost use Rattle.dh_lookup.specs.Faults.{Gives};
 ghost use Rattle.dh_lookup.specs.SeenProject as spec;
 ghost use Rattle.dh_lookup.specs.SeenProject.{alias_of, resolved, stands_at, page_at};
 
-use crate::found::{Named, Page};
 use crate::fault::Fault;
+use crate::found::{Named, Page};
 use crate::lookup::Lookup;
 use crate::seen_project::{SeenProject, StoredPage};
 use dh_paths::{Bytes, Lang, Slug, Text};

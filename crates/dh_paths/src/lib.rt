@@ -10,8 +10,7 @@ pub mod target;
 
 pub use address::{rest_after, split};
 pub use dh_texts::{
-    Bytes, HostName, Lang, PagePath, RefName, Slug, Text, TextFault, Token, all_no_control,
-    slug_of,
+    Bytes, HostName, Lang, PagePath, RefName, Slug, Text, TextFault, Token, all_no_control, slug_of,
 };
 pub use escape::{encode_path, same_path};
 pub use host::{host_name, host_part};

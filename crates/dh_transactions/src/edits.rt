@@ -193,11 +193,7 @@ fn put_rule<S: Alter>(
     Ok(tables.put_rule(alloc, &row)?)
 }
 
-fn drop_rule<S: Alter>(
-    tables: &mut Tables<S>,
-    host: &HostName,
-    place: u32,
-) -> Result<(), Refusal>
+fn drop_rule<S: Alter>(tables: &mut Tables<S>, host: &HostName, place: u32) -> Result<(), Refusal>
     requires within { IsHonest S.Store tables.old → tables.old.in_transaction ≡ true }
     ensures makes { Makes S.Store tables.old tables.new result
         (rows_edited host.now (Edit.DropLastRule place)) }

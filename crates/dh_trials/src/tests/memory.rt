@@ -39,7 +39,11 @@ fn is_main_pushed(alloc: Global, desk: &mut Desk<MemStore>) -> Result<bool, Fail
     let answer = done_again(alloc, desk, &push_main(alloc)?, "/", 404)?;
     Ok(matches!(
         answer,
-        Ok(Answer::Made { active: true, hidden: true, .. })
+        Ok(Answer::Made {
+            active: true,
+            hidden: true,
+            ..
+        })
     ))
 }
 
