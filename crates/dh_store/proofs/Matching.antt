@@ -14,9 +14,14 @@ use Rattle.sqlite_sql.specs.Ops.{binary, is_true, from_truth}
 use Rattle.dh_rows.specs.Keyed.{flag, is_set}
 use Rattle.dh_versions.specs.declared.version.Kind.{Kind}
 use Rattle.dh_versions.specs.declared.version.Kind.TheVariants.{Branch, Tag}
+use Rattle.dh_rules.specs.Patterns.{pattern_text}
+use Rattle.dh_rules.specs.declared.pattern.Pattern.{Pattern}
+use Rattle.dh_rules.specs.declared.pattern.Pattern.TheVariants.{All, SemVer, Custom}
+use Rattle.dh_rules.specs.declared.rule.Action.{Action}
+use Rattle.dh_rules.specs.declared.rule.Action.TheVariants.{Activate, Hide, Public, Private, Default}
 use Rattle.dh_redirects.specs.declared.redirect.RedirectKind.{RedirectKind}
 use Rattle.dh_redirects.specs.declared.redirect.RedirectKind.TheVariants.{Page, Exact, CleanToHtml, HtmlToClean}
-use Rattle.dh_records.specs.Codings.{is_tag, kind_number, kind_of}
+use Rattle.dh_records.specs.Codings.{is_tag, action_number, action_of, pattern_of, kind_number, kind_of}
 use Rattle.dh_world.specs.World.{is_upload}
 use Rattle.dh_records.specs.Lists.{same_op}
 use Rattle.dh_world.specs.declared.operation.Operation.{Operation}
@@ -57,6 +62,18 @@ kind_back Tag = refl
 pub op_back : (o : Operation) → cond (is_set (flag (is_upload o))) Upload Push ≡ o
 op_back Push = refl
 op_back Upload = refl
+
+pub action_back : (a : Action) → action_of (action_number a) ≡ a
+action_back Activate = refl
+action_back Hide = refl
+action_back Public = refl
+action_back Private = refl
+action_back Default = refl
+
+pub pattern_back : (p : Pattern) → pattern_of (pattern_text p) ≡ p
+pattern_back All = refl
+pattern_back SemVer = refl
+pattern_back (Custom text) = refl
 
 pub redirect_kind_back : (k : RedirectKind) → kind_of (kind_number k) ≡ k
 redirect_kind_back Page = refl

@@ -25,15 +25,16 @@ use Rattle.dh_records.specs.declared.records.UsedRow.{UsedRow}
 use Rattle.dh_records.specs.declared.records.PickRow.{PickRow}
 use Rattle.dh_records.specs.declared.records.PassRow.{PassRow}
 use Rattle.dh_records.specs.declared.records.HeldRow.{HeldRow}
+use Rattle.dh_records.specs.declared.records.RuleRow.{RuleRow}
 use Rattle.dh_records.specs.declared.records.RedirectRow.{RedirectRow}
 use Rattle.dh_world.specs.declared.operation.Operation.{Operation}
 use Rattle.dh_world.specs.World.{is_upload}
-use Rattle.dh_records.specs.Typed.{IsProject, IsLanguage, IsVersion, IsPage, IsUsed, IsPick, IsPass, IsHeld, IsRedirect}
-use Rattle.dh_records.specs.Codings.{projects, langs, versions, pages, used, picks, passes, held, redirects}
-use Rattle.dh_schema.specs.Tables.{Holds, lists_of, project_table, lang_table, version_table, page_table, used_table, pick_table, pass_table, holds_table, redirect_table}
-use Rattle.dh_records.specs.Lists.{is_project, is_lang_of, is_version_of, is_version, is_page_of, is_page_in, is_page, is_used, same_op, is_pick_of, is_pass_of, is_pass, is_held, is_held_by, is_held_on, is_redirect_of, is_redirect}
+use Rattle.dh_records.specs.Typed.{IsProject, IsLanguage, IsVersion, IsPage, IsUsed, IsPick, IsPass, IsHeld, IsRule, IsRedirect}
+use Rattle.dh_records.specs.Codings.{projects, langs, versions, pages, used, picks, passes, held, rules, redirects}
+use Rattle.dh_schema.specs.Tables.{Holds, lists_of, project_table, lang_table, version_table, page_table, used_table, pick_table, pass_table, holds_table, rule_table, redirect_table}
+use Rattle.dh_records.specs.Lists.{is_project, is_lang_of, is_version_of, is_version, is_page_of, is_page_in, is_page, is_used, same_op, is_pick_of, is_pass_of, is_pass, is_held, is_held_by, is_held_on, is_rule_of, is_rule, is_redirect_of, is_redirect}
 use Rattle.dh_store.proofs.Kept.{all_kept, all_added, all_put}
-use Rattle.dh_store.proofs.Matching.{equal_text, equal_place, equal_op, flag_back, kind_back, op_back, redirect_kind_back}
+use Rattle.dh_store.proofs.Matching.{equal_text, equal_place, equal_op, flag_back, kind_back, op_back, action_back, pattern_back, redirect_kind_back}
 use Rattle.dh_records.proofs.Keys.{one, two, three, four}
 use Rattle.dh_schema.proofs.CallLemmas.{Changed}
 use Rattle.dh_store.proofs.Others.{changed}
@@ -52,7 +53,7 @@ project_back x n = rw (flag_back x.new_private) refl
 -- the other tables keep their records
 project_changed : (db after : Database) (change : List ProjectRow → List ProjectRow) → ((xs : List ProjectRow) → AllByRecursion IsProject xs → AllByRecursion IsProject (change xs)) → Holds db → Turns project_table projects change db after → Changed db after (λ l. record l { projects = change l.projects })
 unfolding everything
-project_changed db after change typed had it = changed project_table db after it (λ l. record l { projects = change l.projects }) had refl (record { projects = record { keeps = it.keeps; records = it.records; typed = typed _ had.typed.projects }; langs = refl; versions = refl; pages = refl; used = refl; picks = refl; passes = refl; held = refl; redirects = refl })
+project_changed db after change typed had it = changed project_table db after it (λ l. record l { projects = change l.projects }) had refl (record { projects = record { keeps = it.keeps; records = it.records; typed = typed _ had.typed.projects }; langs = refl; versions = refl; pages = refl; used = refl; picks = refl; passes = refl; held = refl; rules = refl; redirects = refl })
 
 -- ---- lang
 
@@ -68,7 +69,7 @@ lang_back x n = refl
 -- the other tables keep their records
 lang_changed : (db after : Database) (change : List LangRow → List LangRow) → ((xs : List LangRow) → AllByRecursion IsLanguage xs → AllByRecursion IsLanguage (change xs)) → Holds db → Turns lang_table langs change db after → Changed db after (λ l. record l { langs = change l.langs })
 unfolding everything
-lang_changed db after change typed had it = changed lang_table db after it (λ l. record l { langs = change l.langs }) had refl (record { projects = refl; langs = record { keeps = it.keeps; records = it.records; typed = typed _ had.typed.langs }; versions = refl; pages = refl; used = refl; picks = refl; passes = refl; held = refl; redirects = refl })
+lang_changed db after change typed had it = changed lang_table db after it (λ l. record l { langs = change l.langs }) had refl (record { projects = refl; langs = record { keeps = it.keeps; records = it.records; typed = typed _ had.typed.langs }; versions = refl; pages = refl; used = refl; picks = refl; passes = refl; held = refl; rules = refl; redirects = refl })
 
 -- ---- version
 
@@ -84,7 +85,7 @@ version_back x n = rw (kind_back x.version.kind, flag_back x.version.active, fla
 -- the other tables keep their records
 version_changed : (db after : Database) (change : List VersionRow → List VersionRow) → ((xs : List VersionRow) → AllByRecursion IsVersion xs → AllByRecursion IsVersion (change xs)) → Holds db → Turns version_table versions change db after → Changed db after (λ l. record l { versions = change l.versions })
 unfolding everything
-version_changed db after change typed had it = changed version_table db after it (λ l. record l { versions = change l.versions }) had refl (record { projects = refl; langs = refl; versions = record { keeps = it.keeps; records = it.records; typed = typed _ had.typed.versions }; pages = refl; used = refl; picks = refl; passes = refl; held = refl; redirects = refl })
+version_changed db after change typed had it = changed version_table db after it (λ l. record l { versions = change l.versions }) had refl (record { projects = refl; langs = refl; versions = record { keeps = it.keeps; records = it.records; typed = typed _ had.typed.versions }; pages = refl; used = refl; picks = refl; passes = refl; held = refl; rules = refl; redirects = refl })
 
 -- ---- page
 
@@ -100,7 +101,7 @@ page_back x n = refl
 -- the other tables keep their records
 page_changed : (db after : Database) (change : List PageRow → List PageRow) → ((xs : List PageRow) → AllByRecursion IsPage xs → AllByRecursion IsPage (change xs)) → Holds db → Turns page_table pages change db after → Changed db after (λ l. record l { pages = change l.pages })
 unfolding everything
-page_changed db after change typed had it = changed page_table db after it (λ l. record l { pages = change l.pages }) had refl (record { projects = refl; langs = refl; versions = refl; pages = record { keeps = it.keeps; records = it.records; typed = typed _ had.typed.pages }; used = refl; picks = refl; passes = refl; held = refl; redirects = refl })
+page_changed db after change typed had it = changed page_table db after it (λ l. record l { pages = change l.pages }) had refl (record { projects = refl; langs = refl; versions = refl; pages = record { keeps = it.keeps; records = it.records; typed = typed _ had.typed.pages }; used = refl; picks = refl; passes = refl; held = refl; rules = refl; redirects = refl })
 
 -- ---- used
 
@@ -116,7 +117,7 @@ used_back x n = rw (op_back x.op) refl
 -- the other tables keep their records
 used_changed : (db after : Database) (change : List UsedRow → List UsedRow) → ((xs : List UsedRow) → AllByRecursion IsUsed xs → AllByRecursion IsUsed (change xs)) → Holds db → Turns used_table used change db after → Changed db after (λ l. record l { used = change l.used })
 unfolding everything
-used_changed db after change typed had it = changed used_table db after it (λ l. record l { used = change l.used }) had refl (record { projects = refl; langs = refl; versions = refl; pages = refl; used = record { keeps = it.keeps; records = it.records; typed = typed _ had.typed.used }; picks = refl; passes = refl; held = refl; redirects = refl })
+used_changed db after change typed had it = changed used_table db after it (λ l. record l { used = change l.used }) had refl (record { projects = refl; langs = refl; versions = refl; pages = refl; used = record { keeps = it.keeps; records = it.records; typed = typed _ had.typed.used }; picks = refl; passes = refl; held = refl; rules = refl; redirects = refl })
 
 -- ---- pick
 
@@ -132,7 +133,7 @@ pick_back x n = refl
 -- the other tables keep their records
 pick_changed : (db after : Database) (change : List PickRow → List PickRow) → ((xs : List PickRow) → AllByRecursion IsPick xs → AllByRecursion IsPick (change xs)) → Holds db → Turns pick_table picks change db after → Changed db after (λ l. record l { picks = change l.picks })
 unfolding everything
-pick_changed db after change typed had it = changed pick_table db after it (λ l. record l { picks = change l.picks }) had refl (record { projects = refl; langs = refl; versions = refl; pages = refl; used = refl; picks = record { keeps = it.keeps; records = it.records; typed = typed _ had.typed.picks }; passes = refl; held = refl; redirects = refl })
+pick_changed db after change typed had it = changed pick_table db after it (λ l. record l { picks = change l.picks }) had refl (record { projects = refl; langs = refl; versions = refl; pages = refl; used = refl; picks = record { keeps = it.keeps; records = it.records; typed = typed _ had.typed.picks }; passes = refl; held = refl; rules = refl; redirects = refl })
 
 -- ---- pass
 
@@ -148,7 +149,7 @@ pass_back x n = refl
 -- the other tables keep their records
 pass_changed : (db after : Database) (change : List PassRow → List PassRow) → ((xs : List PassRow) → AllByRecursion IsPass xs → AllByRecursion IsPass (change xs)) → Holds db → Turns pass_table passes change db after → Changed db after (λ l. record l { passes = change l.passes })
 unfolding everything
-pass_changed db after change typed had it = changed pass_table db after it (λ l. record l { passes = change l.passes }) had refl (record { projects = refl; langs = refl; versions = refl; pages = refl; used = refl; picks = refl; passes = record { keeps = it.keeps; records = it.records; typed = typed _ had.typed.passes }; held = refl; redirects = refl })
+pass_changed db after change typed had it = changed pass_table db after it (λ l. record l { passes = change l.passes }) had refl (record { projects = refl; langs = refl; versions = refl; pages = refl; used = refl; picks = refl; passes = record { keeps = it.keeps; records = it.records; typed = typed _ had.typed.passes }; held = refl; rules = refl; redirects = refl })
 
 -- ---- holds
 
@@ -164,7 +165,23 @@ holds_back x n = refl
 -- the other tables keep their records
 holds_changed : (db after : Database) (change : List HeldRow → List HeldRow) → ((xs : List HeldRow) → AllByRecursion IsHeld xs → AllByRecursion IsHeld (change xs)) → Holds db → Turns holds_table held change db after → Changed db after (λ l. record l { held = change l.held })
 unfolding everything
-holds_changed db after change typed had it = changed holds_table db after it (λ l. record l { held = change l.held }) had refl (record { projects = refl; langs = refl; versions = refl; pages = refl; used = refl; picks = refl; passes = refl; held = record { keeps = it.keeps; records = it.records; typed = typed _ had.typed.held }; redirects = refl })
+holds_changed db after change typed had it = changed holds_table db after it (λ l. record l { held = change l.held }) had refl (record { projects = refl; langs = refl; versions = refl; pages = refl; used = refl; picks = refl; passes = refl; held = record { keeps = it.keeps; records = it.records; typed = typed _ had.typed.held }; rules = refl; redirects = refl })
+
+-- ---- rule
+
+rule_simple : IsSimple rule_table
+rule_simple = refl
+
+rule_plain : ArePlain rule_table.columns
+rule_plain = ((refl, refl), ((refl, refl), ((refl, refl), ((refl, refl), ((refl, refl), tt)))))
+
+rule_back : (x : RuleRow) (n : ℤ) → rules.decode (Int n ∷ rules.encode x) ≡ x
+rule_back x n = rw (kind_back x.rule.kind, action_back x.rule.action, pattern_back x.rule.pattern) refl
+
+-- the other tables keep their records
+rule_changed : (db after : Database) (change : List RuleRow → List RuleRow) → ((xs : List RuleRow) → AllByRecursion IsRule xs → AllByRecursion IsRule (change xs)) → Holds db → Turns rule_table rules change db after → Changed db after (λ l. record l { rules = change l.rules })
+unfolding everything
+rule_changed db after change typed had it = changed rule_table db after it (λ l. record l { rules = change l.rules }) had refl (record { projects = refl; langs = refl; versions = refl; pages = refl; used = refl; picks = refl; passes = refl; held = refl; rules = record { keeps = it.keeps; records = it.records; typed = typed _ had.typed.rules }; redirects = refl })
 
 -- ---- redirect
 
@@ -180,7 +197,7 @@ redirect_back x n = rw (redirect_kind_back x.redirect.kind, flag_back x.redirect
 -- the other tables keep their records
 redirect_changed : (db after : Database) (change : List RedirectRow → List RedirectRow) → ((xs : List RedirectRow) → AllByRecursion IsRedirect xs → AllByRecursion IsRedirect (change xs)) → Holds db → Turns redirect_table redirects change db after → Changed db after (λ l. record l { redirects = change l.redirects })
 unfolding everything
-redirect_changed db after change typed had it = changed redirect_table db after it (λ l. record l { redirects = change l.redirects }) had refl (record { projects = refl; langs = refl; versions = refl; pages = refl; used = refl; picks = refl; passes = refl; held = refl; redirects = record { keeps = it.keeps; records = it.records; typed = typed _ had.typed.redirects } })
+redirect_changed db after change typed had it = changed redirect_table db after it (λ l. record l { redirects = change l.redirects }) had refl (record { projects = refl; langs = refl; versions = refl; pages = refl; used = refl; picks = refl; passes = refl; held = refl; rules = refl; redirects = record { keeps = it.keeps; records = it.records; typed = typed _ had.typed.redirects } })
 
 abbrev pub project_text : List ℕ
 project_text = codes "SELECT host, main, branch, wkey, private FROM project WHERE host = ?1 ORDER BY host"
@@ -631,6 +648,71 @@ pub held_by_answers : (s : State) → Holds s.now → (host pass : List ℕ) →
 held_by_answers s had host pass =
     select holds_table holds_simple holds_plain held s had.held held_by_text _ _ _ held_by_read _ held_by_count refl (is_held_by host pass) held.encode
     (λ n x. rw (equal_text x.host host, equal_text x.pass pass) (two (bytes_eq x.host host) (bytes_eq x.pass pass))) (λ n x. refl) (λ x y. refl)
+
+-- ---- rules
+
+abbrev pub rules_text : List ℕ
+rules_text = codes "SELECT host, place, kind, action, pattern FROM rule WHERE host = ?1 ORDER BY host, place"
+
+rules_read : select_of rule_table rules_text ≡ Some (0 ∷ 1 ∷ 2 ∷ 3 ∷ 4 ∷ [], (0, 0) ∷ [], 0 ∷ 1 ∷ [])
+unfolding everything
+rules_read = refl
+
+rules_count : parameters_in rules_text ≡ Some 1
+unfolding everything
+rules_count = refl
+
+pub rules_answers : (s : State) → Holds s.now → (host : List ℕ) → Answers s rules_text (Text host ∷ []) (map rules.encode (filter (is_rule_of host) (lists_of s.now).rules))
+rules_answers s had host =
+    select rule_table rule_simple rule_plain rules s had.rules rules_text _ _ _ rules_read _ rules_count refl (is_rule_of host) rules.encode
+    (λ n x. rw (equal_text x.host host) (one (bytes_eq x.host host))) (λ n x. refl) (λ x y. refl)
+
+rule_key : IsKeyOf rule_table (1 ∷ 2 ∷ [])
+rule_key = record { primary = refl; uniques = refl; apart = refl; own = refl; among = refl }
+
+abbrev pub put_rule_text : List ℕ
+put_rule_text = codes "INSERT INTO rule VALUES (?1, ?2, ?3, ?4, ?5) ON CONFLICT (host, place) DO UPDATE SET kind = ?3, action = ?4, pattern = ?5"
+
+abbrev put_rule_new : List Term
+put_rule_new = col 1 0 ∷ col 1 0 ∷ col 1 1 ∷ col 1 2 ∷ col 0 2 ∷ col 0 3 ∷ col 0 4 ∷ []
+
+put_rule_read : (schema : Schema) (tree : ℕ) → IsUpsert schema rule_table tree put_rule_text (lit Null ∷ col 0 0 ∷ col 0 1 ∷ col 0 2 ∷ col 0 3 ∷ col 0 4 ∷ []) 6 5 put_rule_new
+unfolding everything
+put_rule_read schema tree = puts refl refl refl refl refl refl refl refl (λ cx. refl)
+
+put_rule_fits : (x : RuleRow) → Fits rule_table rules x (1 ∷ 2 ∷ []) 5 put_rule_new
+unfolding first_key
+put_rule_fits x = record {
+  back = rule_back x;
+  kinds = (tt, (tt, (tt, (tt, (tt, tt)))));
+  agrees = λ n m y. rw (same_text y.host x.host, same_int (pos y.place) (pos x.place)) (tied_is (rules.key x) (rules.key y));
+  placed = λ id more. refl;
+  shows = λ n more y same.
+      let host = and_parts _ _ (tied_is (rules.key x) (rules.key y) ∙ same) in
+      let place = and_parts _ _ host.1 in
+      rw (alike_text y.host x.host host.0, alike_int (pos y.place) (pos x.place) place.0) refl;
+}
+
+pub put_rule_writes : (s : State) → Holds s.now → (x : RuleRow) → Writes s put_rule_text (rules.encode x) rule_table rules (put rules.key x)
+put_rule_writes s had x = upsert rule_table rule_simple rule_plain rules s had.rules (1 ∷ 2 ∷ []) rule_key put_rule_text _ 6 5 put_rule_new put_rule_read refl x (put_rule_fits x) refl
+
+pub put_rule_changes : (s : State) → Holds s.now → (x : RuleRow) → IsRule x → (after : Database) → Rattle.dh_rows.specs.Calls.Edits s put_rule_text (rules.encode x) after
+    → Changed s.now after (λ l. record l { rules = put rules.key x l.rules })
+put_rule_changes s had x typed after it = rule_changed s.now after (put rules.key x) (all_put IsRule rules.key x typed) had ((put_rule_writes s had x).turns after it)
+
+abbrev pub drop_rule_text : List ℕ
+drop_rule_text = codes "DELETE FROM rule WHERE host = ?1 AND place = ?2"
+
+drop_rule_read : delete_of rule_table drop_rule_text ≡ Some ((0, 0) ∷ (1, 1) ∷ [])
+unfolding everything
+drop_rule_read = refl
+
+pub drop_rule_writes : (s : State) → Holds s.now → (host : List ℕ) (place : ℕ) → Writes s drop_rule_text (Text host ∷ Int (pos place) ∷ []) rule_table rules (filter (λ x. not (is_rule host place x)))
+drop_rule_writes s had host place = delete rule_table rule_simple rule_plain rules s had.rules drop_rule_text _ drop_rule_read _ (is_rule host place) (λ n x. rw (equal_text x.host host, equal_place x.place place) (two (bytes_eq x.host host) (nat_eq x.place place)))
+
+pub drop_rule_changes : (s : State) → Holds s.now → (host : List ℕ) (place : ℕ) → (after : Database) → Rattle.dh_rows.specs.Calls.Edits s drop_rule_text (Text host ∷ Int (pos place) ∷ []) after
+    → Changed s.now after (λ l. record l { rules = filter (λ x. not (is_rule host place x)) l.rules })
+drop_rule_changes s had host place after it = rule_changed s.now after (filter (λ x. not (is_rule host place x))) (all_kept IsRule _) had ((drop_rule_writes s had host place).turns after it)
 
 -- ---- redirects
 

@@ -18,6 +18,7 @@ mod passes;
 mod projects;
 mod redirects;
 mod retry_keys;
+mod rules;
 mod versions;
 
 use dh_records::fault_of;
