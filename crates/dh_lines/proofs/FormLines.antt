@@ -6,21 +6,27 @@ use Rattle.clap.specs.Walk.{Text, answers_to}
 use Rattle.clap.specs.Simple.{App, Shape, built, built_leaf, inherited, label_of, subcommand_of}
 use Rattle.clap.specs.Faults.{defaults_fault}
 use Rattle.clap.specs.declared.error.kind.ErrorKind.TheVariants.{UnknownArgument, InvalidSubcommand}
+use Rattle.dh_versions.specs.declared.version.Kind.{Kind}
+use Rattle.dh_rules.specs.Patterns.{pattern_text}
+use Rattle.dh_rules.specs.declared.pattern.Pattern.{Pattern}
+use Rattle.dh_rules.specs.declared.rule.Action.{Action}
 use Rattle.dh_redirects.specs.declared.redirect.RedirectKind.{RedirectKind}
 use Rattle.dh_world.specs.declared.command.CommandChange.{CommandChange}
-use Rattle.dh_world.specs.declared.command.CommandChange.TheVariants.{AddRedirect}
+use Rattle.dh_world.specs.declared.command.CommandChange.TheVariants.{AddRedirect, AddRule}
 use Rattle.dh_words.specs.Words.{is_plain, ArePlain, has_command}
 use Rattle.dh_words.proofs.NameLemmas.{IsQuiet}
 use Rattle.dh_words.proofs.TokenLemmas.{Token, chosen, written, text_of, Fits, tokens_rows}
 use Rattle.dh_words.proofs.TokenLemmas.{tokens_level}
 use Rattle.dh_words.proofs.FormLemmas.{form_matches, form_fails, stray_fails}
 use Rattle.dh_lines.specs.App.{docs_app, bare_app, version_app, pass_app, grant_app}
-use Rattle.dh_lines.specs.App.{add_redirect_app}
+use Rattle.dh_lines.specs.App.{add_redirect_app, add_rule_app}
 use Rattle.dh_lines.specs.Lines.{line_in, as_line, asking, order_of, order_in, unless_faulty, Orders}
 use Rattle.dh_lines.specs.Lines.{OrdersOnVersion, OrdersOnPass, OrdersOnGrant}
 use Rattle.dh_lines.specs.Lines.{OrdersRedirectBy, redirect_of, place_of, status_of}
+use Rattle.dh_lines.specs.Lines.{OrdersRuleOf, rule_of, pattern_of}
 use Rattle.dh_lines.specs.declared.lines.Order.{Order}
 use Rattle.dh_lines.specs.declared.lines.Order.TheVariants.{Act}
+use Rattle.dh_lines.proofs.PatternLemmas.{pattern_of-text, pattern_is_plain}
 
 quiet : IsQuiet (built docs_app)
 unfolding defaults_fault
@@ -107,6 +113,36 @@ module _ (more : List Token) (force : Bool) (word : Text) (kind : RedirectKind) 
       (Act (asking host (AddRedirect place (redirect_of kind status source target force))))
       refl refl (fits host p s source target plain) (passes host p s source target)
       (reads host p s source target ∙ ap₂ (redirect_by host source target) is_place is_status)
+
+module _ (kind_word : Text) (kind : Kind) (action_word : Text) (action : Action) where
+  -- the words behind `add-rule`
+  abbrev pub rule_words : (host place pattern : Text) → List Token
+  rule_words host place pattern =
+      chosen host ∷ chosen place ∷ written kind_word ∷ chosen pattern ∷ written action_word ∷ []
+
+  -- what they order, by the place and the pattern that they read as
+  abbrev pub rule_by : (host : Text) → Option ℕ → Option Pattern → Option Order
+  rule_by host place pattern =
+      option_map Act (option_map (asking host) (option_and_then (λ place.
+      option_map (AddRule place)
+      (option_map (λ pattern. rule_of kind pattern action) pattern)) place))
+
+  pub rule_line : ((host place pattern : Text) → ArePlain (host ∷ place ∷ pattern ∷ [])
+      → Fits (rule_words host place pattern))
+      → ((host place pattern : Text)
+      → tokens_level (below add_rule_app) (rule_words host place pattern) ≡ [])
+      → ((host place pattern : Text) → order_in (codes "add-rule")
+      (tokens_rows (below add_rule_app) (rule_words host place pattern))
+      ≡ rule_by host (place_of place) (pattern_of pattern))
+      → OrdersRuleOf kind_word kind action_word action
+  rule_line fits passes reads host p place pattern plain is_place =
+      let text = pattern_text pattern in
+      let all_plain : ArePlain (host ∷ p ∷ text ∷ []) =
+      (plain.0, (plain.1.0, (pattern_is_plain pattern, tt))) in
+      form_line (codes "add-rule") (rule_words host p text) add_rule_app
+      (Act (asking host (AddRule place (rule_of kind pattern action))))
+      refl refl (fits host p text all_plain) (passes host p text)
+      (reads host p text ∙ ap₂ (rule_by host) is_place (pattern_of-text pattern))
 
 pub stray_line : (name : Text) (rest : List Text) → is_plain name ≡ true
     → has_command docs_app name ≡ false → line_in (name ∷ rest) ≡ None

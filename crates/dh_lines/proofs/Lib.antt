@@ -1,3 +1,4 @@
 pub mod LineLemmas
 pub mod FormLines
 pub mod NumberLemmas
+pub mod PatternLemmas

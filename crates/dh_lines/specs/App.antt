@@ -68,6 +68,16 @@ drop_redirect_app = form (codes "drop-redirect") (codes "host" ∷ codes "place"
 abbrev pub redirect_apps : List App
 redirect_apps = add_redirect_app ∷ drop_redirect_app ∷ []
 
+abbrev pub add_rule_app : App
+add_rule_app = form (codes "add-rule")
+    (codes "host" ∷ codes "place" ∷ codes "kind" ∷ codes "pattern" ∷ codes "action" ∷ [])
+
+abbrev pub drop_rule_app : App
+drop_rule_app = form (codes "drop-rule") (codes "host" ∷ codes "place" ∷ [])
+
+abbrev pub rule_apps : List App
+rule_apps = add_rule_app ∷ drop_rule_app ∷ []
+
 abbrev pub get_app : App
 get_app = with_rule (form (codes "get") (codes "host" ∷ codes "target" ∷ []))
     (option_rule (codes "pass"))
@@ -93,5 +103,5 @@ bare_app = record (new_app (codes "docs_host")) {
 -- the program: the lines of scripts, and what it does with its input
 abbrev pub docs_app : App
 docs_app = with_apps bare_app
-    (project_apps ++ version_apps ++ pass_apps ++ redirect_apps
+    (project_apps ++ version_apps ++ pass_apps ++ redirect_apps ++ rule_apps
     ++ (get_app ∷ script_app ∷ answer_app ∷ []))

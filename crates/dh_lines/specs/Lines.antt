@@ -1,7 +1,7 @@
 -- The line that words are.
 use Rattle.std.specs.Prelude.{◌≡◌, ◌≢◌, Bool, true, false, if◌then◌else◌, List, [], ◌∷◌, Option}
 use Rattle.std.specs.Prelude.{Some, None, option_map, option_and_then, codes, Result, Ok, Err, ⊤}
-use Rattle.std.specs.Prelude.{ℕ, ◌&&◌, ◌^◌, nat_lt, length}
+use Rattle.std.specs.Prelude.{ℕ, ◌&&◌, ◌^◌, nat_lt, length, take, drop}
 use Rattle.std.specs.Char.{is_ascii_digit}
 use Rattle.std.specs.List.{list_all}
 use Rattle.std.specs.Option.{option_map_or}
@@ -14,6 +14,12 @@ use Rattle.clap.specs.Faults.{fault_of}
 use Rattle.clap.specs.declared.parser.matches.ArgMatches.{ArgMatches}
 use Rattle.dh_versions.specs.declared.version.Kind.{Kind}
 use Rattle.dh_versions.specs.declared.version.Kind.TheVariants.{Branch, Tag}
+use Rattle.dh_rules.specs.Patterns.{pattern_text, expression_mark}
+use Rattle.dh_rules.specs.declared.pattern.Pattern.{Pattern}
+use Rattle.dh_rules.specs.declared.pattern.Pattern.TheVariants.{All, SemVer, Custom}
+use Rattle.dh_rules.specs.declared.rule.Action.{Action}
+use Rattle.dh_rules.specs.declared.rule.Action.TheVariants as action
+use Rattle.dh_rules.specs.declared.rule.Rule.{Rule}
 use Rattle.dh_redirects.specs.declared.redirect.Redirect.{Redirect}
 use Rattle.dh_redirects.specs.declared.redirect.RedirectKind.{RedirectKind}
 use Rattle.dh_redirects.specs.declared.redirect.RedirectKind.TheVariants.{Page, Exact, CleanToHtml}
@@ -27,7 +33,8 @@ use Rattle.dh_world.specs.declared.command.CommandChange.TheVariants.{Hide, Unhi
 use Rattle.dh_world.specs.declared.command.CommandChange.TheVariants.{MakePrivate, Gone, SetDefault}
 use Rattle.dh_world.specs.declared.command.CommandChange.TheVariants.{AddPass, DropPass, Grant}
 use Rattle.dh_world.specs.declared.command.CommandChange.TheVariants.{Revoke, AddRedirect}
-use Rattle.dh_world.specs.declared.command.CommandChange.TheVariants.{DropRedirect}
+use Rattle.dh_world.specs.declared.command.CommandChange.TheVariants.{DropRedirect, AddRule}
+use Rattle.dh_world.specs.declared.command.CommandChange.TheVariants.{DropRule}
 use Rattle.dh_words.specs.Words.{ArePlain}
 use Rattle.dh_lines.specs.App.{docs_app}
 use Rattle.dh_lines.specs.declared.lines.Line.{Line}
@@ -63,6 +70,23 @@ redirect_kind_of text =
     else if bytes_eq text (codes "exact") then Some Exact
     else if bytes_eq text (codes "clean-to-html") then Some CleanToHtml
     else if bytes_eq text (codes "html-to-clean") then Some HtmlToClean
+    else None
+
+-- the pattern that the text writes
+abbrev pub pattern_of : Text → Option Pattern
+pattern_of text =
+    if bytes_eq text (codes "all") then Some All
+    else if bytes_eq text (codes "semver") then Some SemVer
+    else if bytes_eq (take 3 text) expression_mark then Some (Custom (drop 3 text))
+    else None
+
+abbrev pub action_of : Text → Option Action
+action_of text =
+    if bytes_eq text (codes "activate") then Some action.Activate
+    else if bytes_eq text (codes "hide") then Some action.Hide
+    else if bytes_eq text (codes "public") then Some action.Public
+    else if bytes_eq text (codes "private") then Some action.Private
+    else if bytes_eq text (codes "default") then Some action.Default
     else None
 
 -- the number that the text writes, where it is decimal digits alone, at least one, and the number
@@ -202,6 +226,29 @@ add_redirect_in rows =
 abbrev pub drop_redirect_in : List Row → Option CommandChange
 drop_redirect_in rows = option_map DropRedirect (place_in rows)
 
+abbrev pub rule_of : Kind → Pattern → Action → Rule
+rule_of kind pattern action = record { kind = kind; pattern = pattern; action = action }
+
+-- the rule of a line: `branch|tag PATTERN ACTION`
+abbrev pub rule_in : List Row → Option Rule
+rule_in rows =
+    with_word (codes "kind") rows (λ kind.
+    with_word (codes "pattern") rows (λ pattern.
+    with_word (codes "action") rows (λ action.
+    option_and_then (λ kind.
+    option_and_then (λ pattern.
+    option_map (rule_of kind pattern) (action_of action))
+    (pattern_of pattern)) (kind_of kind))))
+
+-- `add-rule HOST PLACE branch|tag PATTERN ACTION`
+abbrev pub add_rule_in : List Row → Option CommandChange
+add_rule_in rows =
+    option_and_then (λ place. option_map (AddRule place) (rule_in rows)) (place_in rows)
+
+-- `drop-rule HOST PLACE`
+abbrev pub drop_rule_in : List Row → Option CommandChange
+drop_rule_in rows = option_map DropRule (place_in rows)
+
 -- `get HOST TARGET [--pass PASS]`
 abbrev pub get_in : List Row → Option Order
 get_in rows =
@@ -209,14 +256,21 @@ get_in rows =
     with_word (codes "target") rows (λ target.
     Some (Get host target (first_of (codes "pass") rows))))
 
--- the change of a line on redirects, or on one version
+-- the change of a line on rules, or on one version
+unfoldable pub rule_change_in : Text → List Row → Option CommandChange
+rule_change_in name rows =
+    if bytes_eq name (codes "add-rule") then add_rule_in rows
+    else if bytes_eq name (codes "drop-rule") then drop_rule_in rows
+    else version_in name rows
+
+-- the change of a line on redirects, on rules, or on one version
 unfoldable pub redirect_change_in : Text → List Row → Option CommandChange
 redirect_change_in name rows =
     if bytes_eq name (codes "add-redirect") then add_redirect_in rows
     else if bytes_eq name (codes "drop-redirect") then drop_redirect_in rows
-    else version_in name rows
+    else rule_change_in name rows
 
--- the change of a line on a pass, on redirects, or on one version
+-- the change of a line on a pass, on redirects, on rules, or on one version
 unfoldable pub access_in : Text → List Row → Option CommandChange
 access_in name rows =
     if bytes_eq name (codes "add-pass") then add_pass_in rows
@@ -321,3 +375,18 @@ OrdersRedirect word kind = OrdersRedirectBy [] false word kind
 -- a redirect with force, where `--force` stands behind them
 abbrev pub OrdersForced : Text → RedirectKind → Type 0
 OrdersForced word kind = OrdersRedirectBy (codes "--force" ∷ []) true word kind
+
+-- `add-rule HOST PLACE branch|tag PATTERN ACTION` orders a rule of this kind with this action, for
+-- each pattern, where HOST is plain, and PLACE is plain and digits of this number
+abbrev pub OrdersRuleOf : Text → Kind → Text → Action → Type 0
+OrdersRuleOf kind_word kind action_word action =
+    (host place_word : Text) (place : ℕ) (pattern : Pattern) → ArePlain (host ∷ place_word ∷ [])
+    → place_of place_word ≡ Some place
+    → Orders (codes "add-rule" ∷ host ∷ place_word ∷ kind_word ∷ pattern_text pattern
+    ∷ action_word ∷ [])
+    (Act (asking host (AddRule place (rule_of kind pattern action))))
+
+-- and so for branches and for tags
+abbrev pub OrdersRule : Text → Action → Type 0
+OrdersRule word action =
+    OrdersRuleOf (codes "branch") Branch word action × OrdersRuleOf (codes "tag") Tag word action

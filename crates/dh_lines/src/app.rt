@@ -48,11 +48,13 @@ fn word_help(id: &str) -> &'static str {
         "type" => "The media type of the page, as text/html",
         "text" => "The page, as one word",
         "pass" => "A pass: a word that shows its reader the private versions it is granted",
-        "place" => "The redirect's place in the project's list, from 1",
+        "place" => "A place in the project's list of redirects or of rules, from 1",
         "redirect-kind" => "page, exact, clean-to-html or html-to-clean",
         "status" => "301 or 302",
         "from" => "The path that is led away, as /old/*, or none",
         "to" => "Where it is led, as /en/latest/:splat, or none",
+        "pattern" => "Which names: all, semver, or re: and an expression, as re:^v[0-9]+$",
+        "action" => "activate, hide, public, private or default: what becomes of a new version",
         "target" => "The path that is read, and its query, as /en/latest/?q=1",
         _ => "",
     }
@@ -127,7 +129,7 @@ fn bare_command<'a>(alloc: Global) -> Command<'a>
 }
 
 /// The commands of the program: the lines of scripts, and what it does with its input.
-const FORMS: [Form<'static>; 21] = [
+const FORMS: [Form<'static>; 23] = [
     Form {
         name: "new-project",
         about: "Makes a project with one language and no version",
@@ -259,6 +261,20 @@ const FORMS: [Form<'static>; 21] = [
         name: "drop-redirect",
         about: "Takes the redirect at a place out of the project's list",
         example: "Example: drop-redirect docs.test 1",
+        ids: &["host", "place"],
+        more: More::Nothing,
+    },
+    Form {
+        name: "add-rule",
+        about: "Adds a rule for new versions at a place of the list; those from there on move by one",
+        example: "Example: add-rule docs.test 1 tag semver activate",
+        ids: &["host", "place", "kind", "pattern", "action"],
+        more: More::Nothing,
+    },
+    Form {
+        name: "drop-rule",
+        about: "Takes the rule at a place out of the project's list",
+        example: "Example: drop-rule docs.test 1",
         ids: &["host", "place"],
         more: More::Nothing,
     },

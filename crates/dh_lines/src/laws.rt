@@ -4,6 +4,7 @@
 ghost use Rattle.std.specs.Prelude.{◌≡◌, ℕ, true, false, Some, None, codes, ◌∷◌, [], List};
 ghost use Rattle.clap.specs.Walk.{Text};
 ghost use Rattle.dh_versions.specs.declared.version.Kind.TheVariants.{Branch, Tag};
+ghost use Rattle.dh_rules.specs.declared.rule.Action.TheVariants as action;
 ghost use Rattle.dh_redirects.specs.declared.redirect.RedirectKind.TheVariants.{Page, Exact};
 ghost use Rattle.dh_redirects.specs.declared.redirect.RedirectKind.TheVariants.{CleanToHtml};
 ghost use Rattle.dh_redirects.specs.declared.redirect.RedirectKind.TheVariants.{HtmlToClean};
@@ -15,10 +16,12 @@ ghost use Rattle.dh_world.specs.declared.command.CommandChange.TheVariants.{Make
 ghost use Rattle.dh_world.specs.declared.command.CommandChange.TheVariants.{SetDefault, AddPass};
 ghost use Rattle.dh_world.specs.declared.command.CommandChange.TheVariants.{DropPass, Grant};
 ghost use Rattle.dh_world.specs.declared.command.CommandChange.TheVariants.{Revoke, DropRedirect};
+ghost use Rattle.dh_world.specs.declared.command.CommandChange.TheVariants.{DropRule};
 ghost use Rattle.dh_words.specs.Words.{is_plain, ArePlain, has_command};
 ghost use Rattle.dh_lines.specs.App.{docs_app};
 ghost use Rattle.dh_lines.specs.Lines.{line_in, asking, Orders, OrdersOnVersion, OrdersOnPass};
-ghost use Rattle.dh_lines.specs.Lines.{OrdersOnGrant, OrdersRedirect, OrdersForced, place_of};
+ghost use Rattle.dh_lines.specs.Lines.{OrdersOnGrant, OrdersRedirect, OrdersForced, OrdersRule};
+ghost use Rattle.dh_lines.specs.Lines.{place_of};
 ghost use Rattle.dh_lines.specs.declared.lines.Order.TheVariants.{Act, Get, Script, Answer};
 
 /// The lines on projects and pushes.
@@ -96,6 +99,19 @@ pub fn redirect_lines()
         → place_of place_word ≡ Some place
         → Orders (codes "drop-redirect" ∷ host ∷ place_word ∷ [])
         (Act (asking host (DropRedirect place))) }
+{}
+
+/// The lines on automation rules: for branches and for tags, with each pattern, as it is written.
+pub fn rule_lines()
+    ensures activate { OrdersRule (codes "activate") action.Activate }
+    ensures hide { OrdersRule (codes "hide") action.Hide }
+    ensures public { OrdersRule (codes "public") action.Public }
+    ensures private { OrdersRule (codes "private") action.Private }
+    ensures default { OrdersRule (codes "default") action.Default }
+    ensures drop_rule { (host place_word : Text) (place : ℕ) → ArePlain (host ∷ place_word ∷ [])
+        → place_of place_word ≡ Some place
+        → Orders (codes "drop-rule" ∷ host ∷ place_word ∷ [])
+        (Act (asking host (DropRule place))) }
 {}
 
 /// The lines that read, without a pass, and with it behind or before the other words.

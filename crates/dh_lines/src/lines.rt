@@ -5,6 +5,7 @@ use clap::ArgMatches;
 use clap::error::ErrorKind;
 use dh_paths::{Bytes, Text};
 use dh_redirects::{Redirect, RedirectKind};
+use dh_rules::{Action, Pattern, Rule};
 use dh_versions::Kind;
 use dh_world::{Command, CommandChange, Pages, UploadedPage};
 use std::alloc::{AllocError, Global};
@@ -70,7 +71,8 @@ ghost use Rattle.dh_lines.specs.Lines.{push_in, upload_in, change_on, version_in
 ghost use Rattle.dh_lines.specs.Lines.{drop_pass_in, grant_in, revoke_in, access_in, change_in};
 ghost use Rattle.dh_lines.specs.Lines.{redirect_kind_of, place_of, status_of, place_in};
 ghost use Rattle.dh_lines.specs.Lines.{text_meant as meant_by, redirect_in, add_redirect_in};
-ghost use Rattle.dh_lines.specs.Lines.{drop_redirect_in, redirect_change_in};
+ghost use Rattle.dh_lines.specs.Lines.{drop_redirect_in, redirect_change_in, pattern_of, action_of};
+ghost use Rattle.dh_lines.specs.Lines.{rule_in, add_rule_in, drop_rule_in, rule_change_in};
 ghost use Rattle.dh_lines.specs.Lines.{command_in, get_in, order_of, line_in, Says, Matches};
 
 fn value<'a>(matches: &ArgMatches<'a>, id: &str) -> Option<&'a str>
@@ -151,6 +153,28 @@ fn read_redirect_kind(text: &str) -> Option<RedirectKind>
         "exact" => Some(RedirectKind::Exact),
         "clean-to-html" => Some(RedirectKind::CleanToHtml),
         "html-to-clean" => Some(RedirectKind::HtmlToClean),
+        _ => None,
+    }
+}
+
+fn read_pattern(alloc: Global, text: &str) -> Result<Pattern, LineFault>
+    ensures { Says (pattern_of text.now) result }
+{
+    match Pattern::read(alloc, text)? {
+        Some(pattern) => Ok(pattern),
+        None => Err(LineFault::Usage),
+    }
+}
+
+fn read_action(text: &str) -> Option<Action>
+    ensures { result ≡ action_of text.now }
+{
+    match text {
+        "activate" => Some(Action::Activate),
+        "hide" => Some(Action::Hide),
+        "public" => Some(Action::Public),
+        "private" => Some(Action::Private),
+        "default" => Some(Action::Default),
         _ => None,
     }
 }
@@ -379,6 +403,41 @@ fn drop_redirect(alloc: Global, matches: &ArgMatches<'_>) -> Result<CommandChang
     Ok(CommandChange::DropRedirect { place })
 }
 
+fn rule(alloc: Global, matches: &ArgMatches<'_>) -> Result<Rule, LineFault>
+    ensures { Says (rule_in (rows_of (found_of matches.now))) result }
+{
+    let kind_word = word(alloc, matches, "kind")?;
+    let pattern_word = word(alloc, matches, "pattern")?;
+    let action_word = word(alloc, matches, "action")?;
+    let Some(kind) = read_kind(kind_word.as_str()) else {
+        return Err(LineFault::Usage);
+    };
+    let pattern = read_pattern(alloc, pattern_word.as_str())?;
+    let Some(action) = read_action(action_word.as_str()) else {
+        return Err(LineFault::Usage);
+    };
+    Ok(Rule {
+        kind,
+        pattern,
+        action,
+    })
+}
+
+fn add_rule(alloc: Global, matches: &ArgMatches<'_>) -> Result<CommandChange, LineFault>
+    ensures { Says (add_rule_in (rows_of (found_of matches.now))) result }
+{
+    let place = place(alloc, matches)?;
+    let rule = rule(alloc, matches)?;
+    Ok(CommandChange::AddRule { place, rule })
+}
+
+fn drop_rule(alloc: Global, matches: &ArgMatches<'_>) -> Result<CommandChange, LineFault>
+    ensures { Says (drop_rule_in (rows_of (found_of matches.now))) result }
+{
+    let place = place(alloc, matches)?;
+    Ok(CommandChange::DropRule { place })
+}
+
 fn get(alloc: Global, matches: &ArgMatches<'_>) -> Result<Order, LineFault>
     ensures { Says (get_in (rows_of (found_of matches.now))) result }
 {
@@ -388,7 +447,23 @@ fn get(alloc: Global, matches: &ArgMatches<'_>) -> Result<Order, LineFault>
     Ok(Order::Get { host, target, pass })
 }
 
-/// A line on redirects, or on one version.
+/// A line on rules, or on one version.
+#[tactic(auto, unfolding(crate::specs::Lines::rule_change_in))]
+fn rule_line(
+    alloc: Global,
+    name: &str,
+    matches: &ArgMatches<'_>,
+) -> Result<CommandChange, LineFault>
+    ensures { Says (rule_change_in name.now (rows_of (found_of matches.now))) result }
+{
+    match name {
+        "add-rule" => add_rule(alloc, matches),
+        "drop-rule" => drop_rule(alloc, matches),
+        _ => version(alloc, name, matches),
+    }
+}
+
+/// A line on redirects, on rules, or on one version.
 #[tactic(auto, unfolding(crate::specs::Lines::redirect_change_in))]
 fn redirect_line(
     alloc: Global,
@@ -400,11 +475,11 @@ fn redirect_line(
     match name {
         "add-redirect" => add_redirect(alloc, matches),
         "drop-redirect" => drop_redirect(alloc, matches),
-        _ => version(alloc, name, matches),
+        _ => rule_line(alloc, name, matches),
     }
 }
 
-/// A line on a pass, on redirects, or on one version.
+/// A line on a pass, on redirects, on rules, or on one version.
 #[tactic(auto, unfolding(crate::specs::Lines::access_in))]
 fn access(alloc: Global, name: &str, matches: &ArgMatches<'_>) -> Result<CommandChange, LineFault>
     ensures { Says (access_in name.now (rows_of (found_of matches.now))) result }

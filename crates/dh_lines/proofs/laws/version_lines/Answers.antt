@@ -1,5 +1,5 @@
 use Rattle.std.proofs.Common.{codes, refl}
-use Rattle.dh_lines.specs.Lines.{change_in, access_in, redirect_change_in}
+use Rattle.dh_lines.specs.Lines.{change_in, access_in, redirect_change_in, rule_change_in}
 use Rattle.dh_world.specs.declared.command.CommandChange.TheVariants.{Activate, Deactivate, Hide}
 use Rattle.dh_world.specs.declared.command.CommandChange.TheVariants.{Unhide, Publish, MakePrivate}
 use Rattle.dh_world.specs.declared.command.CommandChange.TheVariants.{Gone, SetDefault}
@@ -7,7 +7,7 @@ use Rattle.dh_lines.proofs.FormLines.{version_line}
 use Rattle.dh_lines.proofs.laws.version_lines.Goals as goal
 
 pub returns : goal.returns
-unfolding change_in access_in redirect_change_in
+unfolding change_in access_in redirect_change_in rule_change_in
 returns c = record {
   activate = version_line (codes "activate") Activate refl (λ host slug. refl);
   deactivate = version_line (codes "deactivate") Deactivate refl (λ host slug. refl);
