@@ -12,6 +12,6 @@ returns-clause-value g c honest sound =
     facts_here c.args.host.now c.args.change.now lists
     (records g.S.Store c.settings_of.new.tables) (records g.S.Store c.look_at.new.tables)
     c.questions_of-questions.result _ _ _
-    (c.in_ok-settings.ensures.asks.looks.now_is h0) (c.in_ok-look_at.ensures.asks.looks.now_is h1) sound
+    (c.in_ok-settings.ensures.asks.looks.now_is h0) (c.in_ok-version.ensures.asks.looks.now_is h1) sound
     (subst (FindsSettings c.args.host.now lists) c.in-Some.is (c.in_ok-settings.ensures.value h0)) c.questions_of-questions.ensures
-    (c.in_ok-look_at.ensures.value h1) (c.in_ok-look_lists.ensures.value honest)
+    (c.in_ok-version.ensures.value h1) (c.in_ok-languages.ensures.value honest)
