@@ -2,7 +2,8 @@
 #![tactic(auto)]
 
 pub use dh_records::{
-    HeldRow, LangRow, PageRow, PassRow, PickRow, ProjectRow, RedirectRow, UsedRow, VersionRow,
+    HeldRow, LangRow, PageRow, PassRow, PickRow, ProjectRow, RedirectRow, RuleRow, UsedRow,
+    VersionRow,
 };
 pub use dh_store::{Tables, TablesFault};
 pub use dh_view::{View, doubt_is_of_the_store};
