@@ -1,5 +1,5 @@
 -- Changes of defaults, passes and grants, and the removal of a version, keep the constraints and the order of the records.
-use Rattle.std.proofs.Common.{◌≡◌, ℕ, Bool, true, false, not, ◌&&◌, ◌||◌, cond, List, [], ◌∷◌, map, filter, find, is_some, Option, Some, None, IsTrue, refl, sym, ap, ◌∙◌, subst, true≢false, Ordering, is_gt}
+use Rattle.std.proofs.Common.{◌≡◌, ℕ, ◌<◌, ◌≤◌, Bool, true, false, not, ◌&&◌, ◌||◌, cond, List, [], ◌∷◌, map, filter, find, length, is_some, Option, Some, None, IsTrue, refl, sym, ap, ◌∙◌, subst, arith, true≢false, Ordering, is_gt}
 use Rattle.std.specs.List.{AllByRecursion, IsDistinct, list_any}
 use Rattle.std.specs.Option.{option_map_or}
 use Rattle.std.specs.Str.{bytes_eq}
@@ -17,12 +17,12 @@ use Rattle.dh_records.specs.declared.records.HeldRow.{HeldRow}
 use Rattle.dh_records.specs.Codings as coding
 use Rattle.dh_world.specs.World.{Text, Project}
 use Rattle.dh_world.specs.Seen.{is_alias}
-use Rattle.dh_records.specs.Lists.{Lists, world_of, is_project, is_version, is_page_of, is_page_under, is_pick_of, is_pass, is_held, is_held_by, is_held_on, set_picks, ranked, granted}
+use Rattle.dh_records.specs.Lists.{Lists, world_of, is_project, is_version, is_page_of, is_page_under, is_pick_of, is_pass_of, is_pass, is_held, is_held_by, is_held_on, set_picks, ranked, granted}
 use Rattle.dh_records.specs.Constraints.{InOrder, AreInOrder, has_project, has_active, has_version, has_pass, AreDefaults, KeepsConstraints}
 use Rattle.dh_records.proofs.GrantLemmas.{grant_is_free, granted_new, granted_there}
 use Rattle.dh_records.proofs.PickLists.{set_of_host, set_elsewhere, set_in_order, all_set, all_with, all_ranked, names_ranked, ranks_ranked}
 use Rattle.dh_world.proofs.MapLemmas.{find_in_filter, find_same}
-use Rattle.dh_records.proofs.RecordLemmas.{all_that, all_added}
+use Rattle.dh_records.proofs.RecordLemmas.{all_that, all_added, added_elsewhere, count_added, count_kept}
 use Rattle.dh_records.proofs.OrderLemmas.{added_in_order, filtered_in_order}
 use Rattle.dh_records.proofs.ConstraintLemmas.{constraints_without, dropped_is_bare, all_found}
 use Rattle.dh_records.proofs.WorldLemmas.{owned_by, row_of, defaults_in}
@@ -80,6 +80,8 @@ constraints_without_grants lists keep constraints = record {
   picks = constraints.picks;
   passes = constraints.passes;
   languages = constraints.languages;
+  few_passes = constraints.few_passes;
+  answers = constraints.answers;
   slugs = constraints.slugs;
   active = constraints.active;
   spoken = constraints.spoken;
@@ -111,6 +113,8 @@ constraints_with_grant lists row constraints pass version = record {
   picks = constraints.picks;
   passes = constraints.passes;
   languages = constraints.languages;
+  few_passes = constraints.few_passes;
+  answers = constraints.answers;
   slugs = constraints.slugs;
   active = constraints.active;
   spoken = constraints.spoken;
@@ -134,8 +138,9 @@ dropped_holds_none host pass rows = all_that (λ x. is_held_by host pass x ≡ f
 
 -- ---- passes
 
-pub constraints_with_pass : (lists : Lists) (row : PassRow) → KeepsConstraints lists → IsTrue (has_project lists row.host) → KeepsConstraints (record lists { passes = added coding.passes.key row lists.passes })
-constraints_with_pass lists row constraints host = record {
+pub constraints_with_pass : (lists : Lists) (row : PassRow) → KeepsConstraints lists → IsTrue (has_project lists row.host) → length (filter (is_pass_of row.host) lists.passes) < 1000
+    → KeepsConstraints (record lists { passes = added coding.passes.key row lists.passes })
+constraints_with_pass lists row constraints host few = record {
   langs = constraints.langs;
   versions = constraints.versions;
   pages = constraints.pages;
@@ -143,6 +148,8 @@ constraints_with_pass lists row constraints host = record {
   picks = constraints.picks;
   passes = all_added (λ x. IsTrue (has_project lists x.host)) (by_key coding.passes.key) row lists.passes host constraints.passes;
   languages = constraints.languages;
+  few_passes = all_weaker _ (λ r. length (filter (is_pass_of r.host) next.passes) ≤ 1000) still lists.projects constraints.few_passes;
+  answers = constraints.answers;
   slugs = constraints.slugs;
   active = constraints.active;
   spoken = constraints.spoken;
@@ -161,6 +168,16 @@ constraints_with_pass lists row constraints host = record {
     next : Lists
     next = record lists { passes = added coding.passes.key row lists.passes }
 
+    still : (r : ProjectRow) → length (filter (is_pass_of r.host) lists.passes) ≤ 1000 → length (filter (is_pass_of r.host) next.passes) ≤ 1000
+    still r were = go (bytes_eq row.host r.host) refl
+      where
+        here : length (filter (is_pass_of row.host) next.passes) ≤ 1000
+        here = omega (arith, few, count_added (by_key coding.passes.key) (is_pass_of row.host) row lists.passes)
+
+        go : (b : Bool) → bytes_eq row.host r.host ≡ b → length (filter (is_pass_of r.host) next.passes) ≤ 1000
+        go true e = subst (λ h. length (filter (is_pass_of h) next.passes) ≤ 1000) ((bytes_eq-Decides row.host r.host).0 e) here
+        go false e = subst (λ l. length l ≤ 1000) (sym (added_elsewhere (by_key coding.passes.key) (is_pass_of r.host) row lists.passes e)) were
+
 -- a pass that holds nothing is removed
 pub constraints_without_pass : (lists : Lists) (host pass : Text) → KeepsConstraints lists → AllByRecursion (λ x. is_held_by host pass x ≡ false) lists.held → KeepsConstraints (record lists { passes = filter (λ x. not (is_pass host pass x)) lists.passes })
 constraints_without_pass lists host pass constraints none = record {
@@ -171,6 +188,9 @@ constraints_without_pass lists host pass constraints none = record {
   picks = constraints.picks;
   passes = all-filter _ (λ x. not (is_pass host pass x)) lists.passes constraints.passes;
   languages = constraints.languages;
+  few_passes = all_weaker _ (λ r. length (filter (is_pass_of r.host) (filter (λ x. not (is_pass host pass x)) lists.passes)) ≤ 1000)
+      (λ r were. omega (arith, were, count_kept (is_pass_of r.host) (λ x. not (is_pass host pass x)) lists.passes)) lists.projects constraints.few_passes;
+  answers = constraints.answers;
   slugs = constraints.slugs;
   active = constraints.active;
   spoken = constraints.spoken;
@@ -215,6 +235,8 @@ constraints_with_defaults lists host names constraints up has apart may = record
   picks = all_set host (λ d. IsTrue (has_project lists d.host)) names lists.picks (all_ranked host (λ d. IsTrue (has_project lists d.host)) 1 names (all_of _ (λ name rank. has) names)) constraints.picks;
   passes = constraints.passes;
   languages = constraints.languages;
+  few_passes = constraints.few_passes;
+  answers = constraints.answers;
   slugs = constraints.slugs;
   active = constraints.active;
   spoken = constraints.spoken;
@@ -298,6 +320,8 @@ constraints_without_version lists host slug constraints bare unheld unnamed = re
   picks = constraints.picks;
   passes = constraints.passes;
   languages = constraints.languages;
+  few_passes = constraints.few_passes;
+  answers = constraints.answers;
   slugs = all-filter _ (λ v. not (is_version host slug v)) lists.versions constraints.slugs;
   active = all_both _ _ (λ x. IsTrue (has_active next x.host x.slug)) (λ x was out. ap (λ o. option_map_or (λ (v : VersionRow). v.version.active) o false) (stays x.host x.slug out) ∙ was) lists.pages constraints.active bare;
   spoken = constraints.spoken;

@@ -1,5 +1,6 @@
 -- The constraints of the records are kept by each change.
 use Rattle.std.proofs.Common.{◌≡◌, ℕ, zero, suc, ◌<◌, ◌≤◌, ◌+◌, Bool, true, false, not, ◌&&◌, ◌||◌, cond, List, [], ◌∷◌, ◌++◌, map, filter, find, length, slice_get, is_some, is_eq, Option, Some, None, IsTrue, refl, sym, ap, ap₂, ◌∙◌, subst, arith, true≢false, Greater, length-append, map-id}
+use Rattle.std.specs.Prelude.{IsSome}
 use Rattle.std.specs.List.{AllByRecursion, IsDistinct, list_any, range_with_len}
 use Rattle.std.specs.Option.{option_map_or}
 use Rattle.std.specs.Str.{bytes_eq}
@@ -22,9 +23,10 @@ use Rattle.dh_records.specs.declared.records.UsedRow.{UsedRow}
 use Rattle.dh_records.specs.declared.records.PassRow.{PassRow}
 use Rattle.dh_records.specs.declared.records.HeldRow.{HeldRow}
 use Rattle.dh_records.specs.Codings as coding
+use Rattle.dh_world.specs.Answers.{answer_of}
 use Rattle.dh_world.specs.World.{Text}
 use Rattle.dh_world.specs.Seen.{is_alias}
-use Rattle.dh_records.specs.Lists.{Lists, is_project, is_lang_of, is_version, is_page_of, is_pick_of, is_pass, is_rule_of, is_redirect_of}
+use Rattle.dh_records.specs.Lists.{Lists, is_project, is_lang_of, is_version, is_page_of, is_pick_of, is_pass_of, is_pass, is_rule_of, is_redirect_of}
 use Rattle.dh_records.specs.Constraints.{InOrder, has_project, has_language, has_active, has_version, has_pass, AreLanguages, AreDefaults, HavePlaces, AreRules, AreRedirects, KeepsConstraints}
 use Rattle.dh_records.proofs.Keys.{version_key}
 use Rattle.dh_records.proofs.KeyLemmas.{turned, lang_above, lang_elsewhere}
@@ -83,6 +85,8 @@ constraints_with_version lists row constraints host named bare = record {
   picks = constraints.picks;
   passes = constraints.passes;
   languages = constraints.languages;
+  few_passes = constraints.few_passes;
+  answers = constraints.answers;
   slugs = all_put coding.versions.key (λ v. slug_from v.version.name ≡ Some v.version.slug) row lists.versions named constraints.slugs;
   active = all_both _ _ (λ x. IsTrue (has_active next x.host x.slug)) still lists.pages constraints.active (each row.version.active refl);
   spoken = constraints.spoken;
@@ -135,6 +139,8 @@ constraints_with_page lists row constraints host shown spoken = record {
   picks = constraints.picks;
   passes = constraints.passes;
   languages = constraints.languages;
+  few_passes = constraints.few_passes;
+  answers = constraints.answers;
   slugs = constraints.slugs;
   active = all_put coding.pages.key (λ x. IsTrue (has_active lists x.host x.slug)) row lists.pages shown constraints.active;
   spoken = all_put coding.pages.key (λ x. IsTrue (has_language lists x.host x.lang)) row lists.pages spoken constraints.spoken;
@@ -159,6 +165,8 @@ constraints_without lists p constraints = record {
   picks = constraints.picks;
   passes = constraints.passes;
   languages = constraints.languages;
+  few_passes = constraints.few_passes;
+  answers = constraints.answers;
   slugs = constraints.slugs;
   active = all-filter _ p lists.pages constraints.active;
   spoken = all-filter _ p lists.pages constraints.spoken;
@@ -175,8 +183,9 @@ constraints_without lists p constraints = record {
 
 -- ---- used keys
 
-pub constraints_with_used : (lists : Lists) (row : UsedRow) → KeepsConstraints lists → IsTrue (has_project lists row.host) → KeepsConstraints (record lists { used = added coding.used.key row lists.used })
-constraints_with_used lists row constraints host = record {
+pub constraints_with_used : (lists : Lists) (row : UsedRow) → KeepsConstraints lists → IsTrue (has_project lists row.host) → IsSome (answer_of row.answer)
+    → KeepsConstraints (record lists { used = added coding.used.key row lists.used })
+constraints_with_used lists row constraints host read = record {
   langs = constraints.langs;
   versions = constraints.versions;
   pages = constraints.pages;
@@ -184,6 +193,8 @@ constraints_with_used lists row constraints host = record {
   picks = constraints.picks;
   passes = constraints.passes;
   languages = constraints.languages;
+  few_passes = constraints.few_passes;
+  answers = all_added (λ u. IsSome (answer_of u.answer)) (by_key coding.used.key) row lists.used read constraints.answers;
   slugs = constraints.slugs;
   active = constraints.active;
   spoken = constraints.spoken;
@@ -265,13 +276,14 @@ lang_is_free lists row constraints has next = all_weaker _ (λ l. same_key codin
 one_more : (n : ℕ) → range_with_len 1 (n + 1) ≡ range_with_len 1 n ++ (n + 1) ∷ []
 one_more n = sym (map-id _) ∙ map-range_with_len_more (λ k. k) 1 n (n + 1) (omega arith) ∙ ap (λ l. l ++ (n + 1) ∷ []) (map-id _)
 
-more_languages : (main : Text) (ls : List LangRow) (row : LangRow) → AreLanguages main ls → row.place ≡ length ls + 1 → list_any (λ t. bytes_eq t row.lang) (map (λ l. l.lang) ls) ≡ false → AreLanguages main (ls ++ row ∷ [])
-more_languages main ls row were next new = record {
+more_languages : (main : Text) (ls : List LangRow) (row : LangRow) → AreLanguages main ls → row.place ≡ length ls + 1 → row.place ≤ 30 → list_any (λ t. bytes_eq t row.lang) (map (λ l. l.lang) ls) ≡ false → AreLanguages main (ls ++ row ∷ [])
+more_languages main ls row were next few new = record {
   places =
       map-append (λ l. l.place) ls (row ∷ []) ∙ ap₂ (λ a k. a ++ k ∷ []) were.places next
       ∙ sym (one_more (length ls)) ∙ ap (range_with_len 1) (sym (length-append ls (row ∷ [])));
   apart = subst (IsDistinct bytes_eq) (sym (map-append (λ l. l.lang) ls (row ∷ []))) (IsDistinct-push nat_list_eq_equiv (map (λ l. l.lang) ls) row.lang were.apart ((λ i. list_any (λ t. turned row.lang t i) (map (λ l. l.lang) ls)) ∙ new));
   first = ap (λ l. slice_get l 0) (map-append (λ l. l.lang) ls (row ∷ [])) ∙ leads (map (λ l. l.lang) ls) were.first;
+  few = subst (λ n. n ≤ 30) (next ∙ sym (length-append ls (row ∷ []))) few;
 }
   where
     leads : (xs : List Text) → slice_get xs 0 ≡ Some main → slice_get (xs ++ row.lang ∷ []) 0 ≡ Some main
@@ -279,8 +291,8 @@ more_languages main ls row were next new = record {
     leads (x ∷ xs) e = e
 
 pub constraints_with_lang : (lists : Lists) (row : LangRow) → KeepsConstraints lists → InOrder coding.langs.key lists.langs → IsTrue (has_project lists row.host)
-    → row.place ≡ length (filter (is_lang_of row.host) lists.langs) + 1 → has_language lists row.host row.lang ≡ false → KeepsConstraints (record lists { langs = added coding.langs.key row lists.langs })
-constraints_with_lang lists row constraints up host next new = record {
+    → row.place ≡ length (filter (is_lang_of row.host) lists.langs) + 1 → row.place ≤ 30 → has_language lists row.host row.lang ≡ false → KeepsConstraints (record lists { langs = added coding.langs.key row lists.langs })
+constraints_with_lang lists row constraints up host next few new = record {
   langs = all_added (λ l. IsTrue (has_project lists l.host)) (by_key coding.langs.key) row lists.langs host constraints.langs;
   versions = constraints.versions;
   pages = constraints.pages;
@@ -288,6 +300,8 @@ constraints_with_lang lists row constraints up host next new = record {
   picks = constraints.picks;
   passes = constraints.passes;
   languages = all_weaker _ (λ r. AreLanguages r.main (filter (is_lang_of r.host) after)) still lists.projects constraints.languages;
+  few_passes = constraints.few_passes;
+  answers = constraints.answers;
   slugs = constraints.slugs;
   active = constraints.active;
   spoken = all_weaker _ (λ x. list_any (λ t. bytes_eq t x.lang) (map (λ l. l.lang) (filter (is_lang_of x.host) after)) ≡ true) spoken lists.pages constraints.spoken;
@@ -315,7 +329,7 @@ constraints_with_lang lists row constraints up host next new = record {
         go true e =
             let same = (bytes_eq-Decides row.host r.host).0 e in
             let mine : AreLanguages r.main (filter (is_lang_of row.host) lists.langs) = subst (λ h. AreLanguages r.main (filter (is_lang_of h) lists.langs)) (sym same) were in
-            subst (λ h. AreLanguages r.main (filter (is_lang_of h) after)) same (subst (AreLanguages r.main) (sym here) (more_languages r.main _ row mine next new))
+            subst (λ h. AreLanguages r.main (filter (is_lang_of h) after)) same (subst (AreLanguages r.main) (sym here) (more_languages r.main _ row mine next few new))
         go false e = subst (AreLanguages r.main) (sym (added_elsewhere (by_key coding.langs.key) (is_lang_of r.host) row lists.langs e)) were
 
     spoken : (x : PageRow) → IsTrue (has_language lists x.host x.lang) → list_any (λ t. bytes_eq t x.lang) (map (λ l. l.lang) (filter (is_lang_of x.host) after)) ≡ true
@@ -353,7 +367,7 @@ first_lang_is_free lists lang constraints new =
 
 one_language : (main : Text) (row : LangRow) → row.lang ≡ main → row.place ≡ 1 → AreLanguages main (row ∷ [])
 unfolding IsDistinct
-one_language main row lang place = record { places = ap (λ k. k ∷ []) place; apart = (tt, tt); first = ap Some lang }
+one_language main row lang place = record { places = ap (λ k. k ∷ []) place; apart = (tt, tt); first = ap Some lang; few = omega arith }
 
 none_are_chosen : AreDefaults []
 unfolding IsDistinct
@@ -373,6 +387,8 @@ constraints_with_project lists row lang constraints new home main place = record
   passes = all_weaker _ (λ x. IsTrue (has_project next x.host)) (λ x. owned x.host) lists.passes constraints.passes;
   languages = all_added (λ r. AreLanguages r.main (filter (is_lang_of r.host) after)) (by_key coding.projects.key) row lists.projects first
       (all_both _ _ (λ r. AreLanguages r.main (filter (is_lang_of r.host) after)) other lists.projects constraints.languages (none_found (is_project row.host) lists.projects new));
+  few_passes = all_added (λ r. length (filter (is_pass_of r.host) lists.passes) ≤ 1000) (by_key coding.projects.key) row lists.projects none_pass constraints.few_passes;
+  answers = constraints.answers;
   slugs = constraints.slugs;
   active = constraints.active;
   spoken = all_both _ _ (λ x. IsTrue (has_language next x.host x.lang)) spoken lists.pages constraints.pages constraints.spoken;
@@ -402,6 +418,9 @@ constraints_with_project lists row lang constraints new home main place = record
 
     owner : IsTrue (has_project next lang.host)
     owner = ap is_some (find_project row lists.projects lang.host new ∙ ap (λ b. cond b (Some row) (find (is_project lang.host) lists.projects)) ((bytes_eq-Decides row.host lang.host).1 (sym home)))
+
+    none_pass : length (filter (is_pass_of row.host) lists.passes) ≤ 1000
+    none_pass = subst (λ l. length l ≤ 1000) (sym (filter_none (is_pass_of row.host) lists.passes (none_of_new (λ x. x.host) lists.passes lists row.host new constraints.passes))) (omega arith)
 
     none_run : AreRules (filter (is_rule_of row.host) lists.rules)
     none_run = subst AreRules (sym (filter_none (is_rule_of row.host) lists.rules (none_of_new (λ r. r.host) lists.rules lists row.host new constraints.rules))) (none_have_places (λ r. r.place) 50)

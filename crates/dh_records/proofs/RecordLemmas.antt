@@ -1,5 +1,5 @@
 -- Records that are added, put and dropped: what is found of them afterwards, and the map of the records of one host.
-use Rattle.std.proofs.Common.{◌≡◌, Bool, true, false, not, ◌&&◌, cond, List, [], ◌∷◌, ◌++◌, map, filter, find, Option, Some, None, refl, sym, ap, ap₂, ◌∙◌, subst, true≢false, Ordering, Less, Greater, is_gt, is_eq}
+use Rattle.std.proofs.Common.{◌≡◌, ◌≤◌, ◌+◌, Bool, true, false, not, ◌&&◌, cond, List, [], ◌∷◌, ◌++◌, map, filter, find, length, Option, Some, None, refl, sym, ap, ap₂, ◌∙◌, subst, arith, true≢false, Ordering, Less, Greater, is_gt, is_eq}
 use Rattle.std.specs.Prelude.{option_map}
 use Rattle.std.specs.List.{AllByRecursion}
 use Rattle.std.specs.Str.{bytes_eq}
@@ -87,6 +87,43 @@ added_elsewhere cmp p x (y ∷ rows) out = go (is_gt (cmp x y)) (added_elsewhere
     go : (g : Bool) → filter p (insert_sorted cmp x rows) ≡ filter p rows → filter p (cond g (y ∷ insert_sorted cmp x rows) (x ∷ y ∷ rows)) ≡ filter p (y ∷ rows)
     go true more = ap (λ l. cond (p y) (y ∷ l) l) more
     go false more = rw out refl
+
+-- one record more is at most one more that passes
+pub count_added : {A : Type 0} (cmp : A → A → Ordering) (p : A → Bool) (x : A) (rows : List A) → length (filter p (insert_sorted cmp x rows)) ≤ length (filter p rows) + 1
+count_added {A} cmp p x rows = each rows
+  where
+    in_front : (b : Bool) (ys : List A) → length (cond b (x ∷ ys) ys) ≤ length ys + 1
+    in_front true ys = omega arith
+    in_front false ys = omega arith
+
+    behind : (b : Bool) (y : A) (xs ys : List A) → length xs ≤ length ys + 1 → length (cond b (y ∷ xs) xs) ≤ length (cond b (y ∷ ys) ys) + 1
+    behind true y xs ys h = omega arith
+    behind false y xs ys h = h
+
+    each : (rows : List A) → length (filter p (insert_sorted cmp x rows)) ≤ length (filter p rows) + 1
+    each [] = in_front (p x) []
+    each (y ∷ rows) = go (is_gt (cmp x y)) (each rows)
+      where
+        go : (g : Bool) → length (filter p (insert_sorted cmp x rows)) ≤ length (filter p rows) + 1 → length (filter p (cond g (y ∷ insert_sorted cmp x rows) (x ∷ y ∷ rows))) ≤ length (filter p (y ∷ rows)) + 1
+        go true more = behind (p y) y (filter p (insert_sorted cmp x rows)) (filter p rows) more
+        go false more = in_front (p x) (filter p (y ∷ rows))
+
+-- of fewer records no more pass
+pub count_kept : {A : Type 0} (p keep : A → Bool) (rows : List A) → length (filter p (filter keep rows)) ≤ length (filter p rows)
+count_kept p keep [] = omega arith
+count_kept {A} p keep (y ∷ rows) = go (keep y) (count_kept p keep rows)
+  where
+    beside : (b : Bool) (xs ys : List A) → length xs ≤ length ys → length (cond b (y ∷ xs) xs) ≤ length (cond b (y ∷ ys) ys)
+    beside true xs ys h = omega arith
+    beside false xs ys h = h
+
+    without : (b : Bool) (xs ys : List A) → length xs ≤ length ys → length xs ≤ length (cond b (y ∷ ys) ys)
+    without true xs ys h = omega arith
+    without false xs ys h = h
+
+    go : (k : Bool) → length (filter p (filter keep rows)) ≤ length (filter p rows) → length (filter p (cond k (y ∷ filter keep rows) (filter keep rows))) ≤ length (filter p (y ∷ rows))
+    go true more = beside (p y) (filter p (filter keep rows)) (filter p rows) more
+    go false more = without (p y) (filter p (filter keep rows)) (filter p rows) more
 
 module _ {A : Type 0} (cmp : A → A → Ordering) (total : IsTotalOrder cmp) where
   above_rest : (x y : A) (rows : List A) → is_gt (cmp x y) ≡ false → AllByRecursion (λ z. cmp y z ≡ Less) rows → AllByRecursion (λ z. is_gt (cmp x z) ≡ false) rows

@@ -1,5 +1,5 @@
 -- What the records keep besides being in the order of their keys.
-use Rattle.std.specs.Prelude.{◌≡◌, ◌≤◌, ℕ, Bool, false, ◌&&◌, ◌||◌, IsTrue, List, map, filter, length, slice_get, find, Some, None, is_some}
+use Rattle.std.specs.Prelude.{◌≡◌, ◌≤◌, ℕ, Bool, false, ◌&&◌, ◌||◌, IsTrue, List, map, filter, length, slice_get, find, Some, None, is_some, IsSome}
 use Rattle.std.specs.declared.cmp.Ordering.TheVariants.{Less}
 use Rattle.std.specs.List.{AllByRecursion, IsDistinct, list_any, range_with_len}
 use Rattle.std.specs.Option.{option_map_or}
@@ -11,10 +11,11 @@ use Rattle.dh_texts.specs.Slugs.{slug_from}
 use Rattle.dh_rules.specs.Rules.{is_allowed}
 use Rattle.dh_redirects.specs.Redirects.{first_fault}
 use Rattle.dh_rows.specs.Keyed.{by_key}
+use Rattle.dh_world.specs.Answers.{answer_of}
 use Rattle.dh_world.specs.World.{Text, text_cmp}
 use Rattle.dh_world.specs.Seen.{is_alias}
 use Rattle.dh_records.specs.Codings as coding
-use Rattle.dh_records.specs.Lists.{Lists, is_project, is_lang_of, is_version, is_pick_of, is_pass, is_rule_of, is_redirect_of}
+use Rattle.dh_records.specs.Lists.{Lists, is_project, is_lang_of, is_version, is_pick_of, is_pass_of, is_pass, is_rule_of, is_redirect_of}
 use Rattle.dh_records.specs.declared.records.LangRow.{LangRow}
 use Rattle.dh_records.specs.declared.records.PickRow.{PickRow}
 use Rattle.dh_records.specs.declared.records.RuleRow.{RuleRow}
@@ -67,11 +68,12 @@ pub record AreDefaults (picks : List PickRow) : Type 0 where
   pub ranks : map (λ d. d.rank) picks ≡ range_with_len 1 (length picks)
   pub apart : IsDistinct bytes_eq (map (λ d. d.name) picks)
 
--- The languages of one project: they have the places 1 to n without gaps, none stands twice, and the main one stands first.
+-- The languages of one project: they have the places 1 to n without gaps, none stands twice, the main one stands first, and there are at most 30.
 pub record AreLanguages (main : Text) (langs : List LangRow) : Type 0 where
   pub places : map (λ l. l.place) langs ≡ range_with_len 1 (length langs)
   pub apart : IsDistinct bytes_eq (map (λ l. l.lang) langs)
   pub first : slice_get (map (λ l. l.lang) langs) 0 ≡ Some main
+  pub few : length langs ≤ 30
 
 -- The records of one project that stand at places: they have the places 1 to n without gaps, and there are at most so many.
 pub record HavePlaces {X : Type 0} (place_of : X → ℕ) (most : ℕ) (rows : List X) : Type 0 where
@@ -96,6 +98,10 @@ pub record KeepsConstraints (lists : Lists) : Type 0 where
   pub picks : AllByRecursion (λ d. IsTrue (has_project lists d.host)) lists.picks
   pub passes : AllByRecursion (λ x. IsTrue (has_project lists x.host)) lists.passes
   pub languages : AllByRecursion (λ r. AreLanguages r.main (filter (is_lang_of r.host) lists.langs)) lists.projects
+  -- a project has at most 1,000 passes
+  pub few_passes : AllByRecursion (λ r. length (filter (is_pass_of r.host) lists.passes) ≤ 1000) lists.projects
+  -- each kept answer is read again
+  pub answers : AllByRecursion (λ u. IsSome (answer_of u.answer)) lists.used
   -- a version's slug comes from its name
   pub slugs : AllByRecursion (λ v. slug_from v.version.name ≡ Some v.version.slug) lists.versions
   -- a page's version is there and active, and its language is one of the project's

@@ -1,5 +1,5 @@
 -- Edits of the records are edits of the world: once for each kind of edit.
-use Rattle.std.proofs.Common.{◌≡◌, ◌+◌, ◌≤◌, ℕ, Bool, false, not, ◌||◌, filter, List, [], ◌∷◌, Option, Some, None, length, is_some, refl, sym, ap, ◌∙◌, subst}
+use Rattle.std.proofs.Common.{◌≡◌, ◌+◌, ◌<◌, ◌≤◌, ℕ, Bool, false, not, ◌||◌, filter, List, [], ◌∷◌, Option, Some, None, length, is_some, refl, sym, ap, ◌∙◌, subst}
 use Rattle.std.specs.Prelude.{option_map, unwrap_or, IsSome, IsTrue}
 use Rattle.std.specs.FinMap.{get, insert}
 use Rattle.std.specs.List.{IsDistinct}
@@ -8,7 +8,7 @@ use Rattle.dh_commands.specs.Edits.{edited, all_edited, MayEdit, MayEditAll}
 use Rattle.dh_commands.specs.declared.edits.Edit.{Edit}
 use Rattle.dh_commands.specs.declared.edits.Edit.TheVariants.{AddLang, PutVersion, PutWithoutPages, RemoveVersion, PutPage, RemovePages, SetDefaults, PutRule, DropLastRule, PutRedirect, DropLastRedirect, AddPass, RemovePass, Grant, Revoke, PutAnswer}
 use Rattle.dh_rows.specs.Keyed.{IsFreeKey}
-use Rattle.dh_records.proofs.AccessChanges.{world_gone, world_with_defaults, world_with_pass, world_pass_gone, world_with_grant, world_without_grant}
+use Rattle.dh_records.proofs.AccessChanges.{world_gone, world_with_defaults, world_with_pass, pass_count_in, world_pass_gone, world_with_grant, world_without_grant}
 use Rattle.dh_records.proofs.AccessConstraints.{defaults_distinct, filter_distinct, front_distinct, constraints_gone, constraints_with_front, constraints_with_pass, constraints_pass_gone, constraints_with_grant, constraints_without_grants, order_without_version, order_with_defaults, order_with_pass, order_without_pass, order_with_grant, order_without_grants}
 use Rattle.dh_records.proofs.ChangeLemmas.{world_with_lang, world_with_version, world_with_page, world_without_pages, world_with_used}
 use Rattle.dh_records.proofs.KeyLemmas.{used_is_free, pass_is_free}
@@ -18,7 +18,7 @@ use Rattle.dh_records.proofs.RuleLemmas.{order_with_rule, order_without_rule, co
 use Rattle.dh_records.proofs.RedirectLemmas.{order_with_redirect, order_without_redirect, constraints_with_redirect, constraints_without_redirect, redirect_count_in, world_with_redirect, world_without_redirect}
 use Rattle.dh_records.proofs.WorldLemmas.{owned_by, count_in, speaks_in, active_in, has_version_in, has_pass_in, used_in, changed_twice}
 use Rattle.dh_records.specs.Codings as coding
-use Rattle.dh_records.specs.Lists.{Lists, world_of, is_page_under, is_pass, is_held, is_held_by, is_held_on, is_rule_of, rule_row, is_redirect_of, redirect_row, is_version, kept_answer, keeping}
+use Rattle.dh_records.specs.Lists.{Lists, world_of, is_page_under, is_pass_of, is_pass, is_held, is_held_by, is_held_on, is_rule_of, rule_row, is_redirect_of, redirect_row, is_version, kept_answer, keeping}
 use Rattle.dh_records.specs.Constraints.{has_project, has_version}
 use Rattle.dh_records.specs.declared.records.HeldRow.{HeldRow}
 use Rattle.dh_records.specs.declared.records.LangRow.{LangRow}
@@ -50,6 +50,14 @@ kept_is host slug key op a is told = go (json_of a) refl told
     go : (o : Option (List ℕ)) → json_of a ≡ o → IsSome o → unwrap_or (answer_of (unwrap_or o [])) Done ≡ a
     go None e some = absurd (cc)
     go (Some text) e some = ap (λ x. unwrap_or x Done) (told_again a text is e)
+
+-- and its text is read again
+kept_reads : (a : Answer) → IsAnswer a → IsSome (json_of a) → IsSome (answer_of (unwrap_or (json_of a) []))
+kept_reads a is told = go (json_of a) refl told
+  where
+    go : (o : Option (List ℕ)) → json_of a ≡ o → IsSome o → IsSome (answer_of (unwrap_or o []))
+    go None e some = absurd (cc)
+    go (Some text) e some = ap is_some (told_again a text is e)
 
 unmapped : {A B : Type 0} (f : A → B) (o : Option A) → option_map f o ≡ None → o ≡ None
 unmapped f None e = refl
@@ -121,7 +129,7 @@ module _ (host : Text) (lists : Lists) (p : Project) (sound : AreSound lists) (w
         world_is = world_with_lang lists row p sound.constraints sound.order.langs next was;
         sound = record {
           order = order_with_lang lists sound.order row (rows_may (AddLang lang place) may).0;
-          constraints = constraints_with_lang lists row sound.constraints sound.order.langs owned next (sym (speaks_in lists host p was lang) ∙ may.0);
+          constraints = constraints_with_lang lists row sound.constraints sound.order.langs owned next may.2 (sym (speaks_in lists host p was lang) ∙ may.0);
         };
       }
   edit_spells (PutVersion v) may =
@@ -202,11 +210,13 @@ module _ (host : Text) (lists : Lists) (p : Project) (sound : AreSound lists) (w
       }
   edit_spells (AddPass pass) may =
       let row : PassRow = pass_row host pass in
-      let free : IsFreeKey coding.passes.key row lists.passes = rows_may (AddPass pass) may in record {
+      let free : IsFreeKey coding.passes.key row lists.passes = rows_may (AddPass pass) may in
+      let few : length (filter (is_pass_of host) lists.passes) < 1000 =
+      subst (λ n. n < 1000) (pass_count_in lists host p sound.order.passes was) may.1 in record {
         world_is = world_with_pass lists row p free was;
         sound = record {
           order = order_with_pass lists sound.order row free;
-          constraints = constraints_with_pass lists row sound.constraints owned;
+          constraints = constraints_with_pass lists row sound.constraints owned few;
         };
       }
   edit_spells (RemovePass pass) may =
@@ -241,7 +251,7 @@ module _ (host : Text) (lists : Lists) (p : Project) (sound : AreSound lists) (w
             (kept_is host a.slug a.key a.operation a.answer may.1 may.2);
         sound = record {
           order = order_with_used lists sound.order row free;
-          constraints = constraints_with_used lists row sound.constraints owned;
+          constraints = constraints_with_used lists row sound.constraints owned (kept_reads a.answer may.1 may.2);
         };
       }
 
