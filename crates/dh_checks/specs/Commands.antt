@@ -2,7 +2,7 @@
 use Rattle.std.specs.Prelude.{◌≡◌, ◌≤◌, List, [], ◌∷◌, length, Option, Result}
 use Rattle.dh_world.specs.Checks.{ChecksOr}
 use Rattle.dh_world.specs.Refusals.{first_of}
-use Rattle.dh_world.specs.Step.{IsUntaken}
+use Rattle.dh_world.specs.Step.{RuleRefused}
 use Rattle.dh_world.specs.Texts.{bad_count, bad_pages, bad_change, bad_text}
 use Rattle.dh_world.specs.World.{Text}
 use Rattle.dh_world.specs.declared.command.Command.{Command}
@@ -58,10 +58,10 @@ AreFewPages pages checked = (checked ≡ pages) × (length checked ≤ 256)
 abbrev pub bad_upload : List UploadedPage → Option Refusal
 bad_upload pages = first_of (bad_count pages ∷ bad_pages [] pages ∷ [])
 
--- the change itself where all its texts are right, or the refusal of the first one that is not; or of a pattern that `regex` does not take
+-- the change itself where all its texts are right, or the refusal of the first one that is not; or of a custom pattern, which `regex` may refuse
 abbrev pub ChecksChange : CommandChange → Result CheckedChange Refusal → Type 0
-ChecksChange change = ChecksOr (bad_change change) (λ x. change_of x ≡ change) (IsUntaken change)
+ChecksChange change = ChecksOr (bad_change change) (λ x. change_of x ≡ change) (RuleRefused change)
 
 -- the command itself, by the same; its host comes first
 abbrev pub ChecksCommand : Command → Result CheckedCommand Refusal → Type 0
-ChecksCommand command = ChecksOr (bad_text command) (λ x. command_of x.host x.change ≡ command) (IsUntaken command.change)
+ChecksCommand command = ChecksOr (bad_text command) (λ x. command_of x.host x.change ≡ command) (RuleRefused command.change)

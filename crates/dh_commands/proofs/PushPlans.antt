@@ -18,7 +18,7 @@ use Rattle.dh_world.specs.declared.answer.Answer.{Answer}
 use Rattle.dh_world.specs.declared.answer.Answer.TheVariants.{Known}
 use Rattle.dh_world.specs.declared.refusal.Refusal.{Refusal}
 use Rattle.dh_world.specs.declared.refusal.Refusal.TheVariants.{WrongKey, SlugTaken, PatternRefused}
-use Rattle.dh_world.specs.Step.{RunsCustom}
+use Rattle.dh_world.specs.Step.{RunsCustomRule}
 use Rattle.dh_commands.specs.Edits.{MayEditAll, all_edited, Plans}
 use Rattle.dh_commands.specs.Knowing.{Answers, Knows, Decides}
 use Rattle.dh_commands.specs.Planned.{Planned}
@@ -129,7 +129,7 @@ module _ (x : CheckedPush) (f : Facts) (p : Project) (k : Knows (change.Push x) 
           subst (λ ds. Plans p (push x.wkey x.key x.kind x.name p) (Ok (plan_made x ds after))) found.defaults (made_is ∙ it.0, it.1)
 
       -- the rules run, and at this place stands a custom one of the kind
-      stops : (place : ℕ) → IsCustomAt f.rules.items x.kind place → (e : Refusal) → e ≡ PatternRefused place → RunsCustom p x.wkey x.key x.kind x.name e
+      stops : (place : ℕ) → IsCustomAt f.rules.items x.kind place → (e : Refusal) → e ≡ PatternRefused place → RunsCustomRule p x.wkey x.key x.kind x.name e
       stops place custom e is = record {
         right_key = ap (bytes_eq x.wkey) k.settings.wkey ∙ right;
         unused = ap (λ s. get p.used (push_key s x.key)) slug_is ∙ free;

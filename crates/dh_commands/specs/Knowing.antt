@@ -7,7 +7,7 @@ use Rattle.dh_texts.specs.Slugs.{slug_from}
 use Rattle.dh_rules.specs.Rules.{is_allowed}
 use Rattle.dh_redirects.specs.Redirects.{first_fault}
 use Rattle.dh_world.specs.Changes.{change}
-use Rattle.dh_world.specs.Step.{IsUnrun}
+use Rattle.dh_world.specs.Step.{PushRefused}
 use Rattle.dh_world.specs.World.{Project}
 use Rattle.dh_world.specs.declared.refusal.Refusal.{Refusal}
 use Rattle.dh_checks.specs.Commands.{change_of}
@@ -49,7 +49,7 @@ pub record Knows (c : CheckedChange) (f : Facts) (p : Project) : Type 0 where
   pub settings : HasSettings p f.settings
   pub answers : Answers (asked c f.settings) f p
 
--- A plan is that of the change, for each project that has these facts; a refusal is the change's, or of a pattern that `regex` does not take.
+-- A plan is that of the change, for each project that has these facts; a refusal is the change's, or of a custom pattern, which `regex` may refuse.
 abbrev pub Decides : CheckedChange → Facts → Result Planned Refusal → Type 0
 Decides c f (Ok plan) = (p : Project) → Knows c f p → Plans p (change (change_of c) p) (Ok plan)
-Decides c f (Err e) = (p : Project) → Knows c f p → Plans p (change (change_of c) p) (Err e) ⊎ IsUnrun (change_of c) p e
+Decides c f (Err e) = (p : Project) → Knows c f p → Plans p (change (change_of c) p) (Err e) ⊎ PushRefused (change_of c) p e

@@ -1,5 +1,5 @@
 //! Pushes of branches and tags.
-ghost use Rattle.std.specs.Prelude.{◌≡◌, ◌⊎◌, ◌&&◌, ◌++◌, IfOk, OnOk, IsSome};
+ghost use Rattle.std.specs.Prelude.{◌≡◌, ◌<◌, ◌^◌, ◌⊎◌, ◌&&◌, ◌++◌, IfOk, OnOk, IsSome};
 ghost use Rattle.std.specs.Str.{bytes_eq};
 ghost use Rattle.dh_world.specs.Answers.{json_of};
 ghost use Rattle.dh_versions.specs.Kinds.{same_kind};
@@ -54,9 +54,10 @@ fn fresh_of(
     })
 }
 
-/// The place of a rule, from 1. No list in memory is longer than places count.
-fn rule_place(place: usize) -> Refusal
-    ensures { (result ≡ Refusal.PatternRefused place) ⊎ (result ≡ Refusal.OutOfMemory) }
+/// The refusal of a pattern, by the place of its rule. No list in memory is longer than places count.
+fn pattern_refused(place: usize) -> Refusal
+    ensures either { (result ≡ Refusal.PatternRefused place) ⊎ (result ≡ Refusal.OutOfMemory) }
+    ensures told { place < 2 ^ 32 → result ≡ Refusal.PatternRefused place }
 {
     match u32::try_from(place) {
         Ok(place) => Refusal::PatternRefused(place),
@@ -71,7 +72,7 @@ fn run_rules(alloc: Global, rules: &[Rule], fresh: Fresh) -> Result<Fresh, Refus
     let mut fresh = fresh;
     match apply(alloc, rules, &mut fresh) {
         Ok(()) => Ok(fresh),
-        Err(RuleFault::PatternRefused(place)) => Err(rule_place(place)),
+        Err(RuleFault::PatternRefused(place)) => Err(pattern_refused(place)),
         Err(RuleFault::Memory) => Err(Refusal::OutOfMemory),
     }
 }

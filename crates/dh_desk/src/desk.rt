@@ -3,8 +3,7 @@ ghost use Rattle.std.specs.Prelude.{◌≡◌, ◌⊎◌, true, false, Err, IfOk
 ghost use Rattle.std.specs.Option.{option_map, option_and_then};
 ghost use Rattle.sqlite.specs.Held.{state};
 ghost use Rattle.sqlite.specs.State.{HasCleanDisk};
-ghost use Rattle.dh_paths.specs.Places.{split_of};
-ghost use Rattle.dh_reply.specs.Replies.{is_system, reply_to};
+ghost use Rattle.dh_reply.specs.Replies.{reply_to};
 ghost use Rattle.dh_rows.specs.Calls.{IsHonest, IsRefused, LeavesNoMore, LeavesCommitted};
 ghost use Rattle.dh_schema.specs.Calling.{Blames};
 ghost use Rattle.dh_schema.specs.Tables.{lists_of};
@@ -147,9 +146,6 @@ impl<S: Alter> Desk<S> {
     /// The reply to a read under a host, for a caller who shows this pass or none. A name that is no
     /// host's names no project, and a text that is no pass counts as none. After a fault of the store
     /// the desk answers it to each call.
-    ///
-    /// `/robots.txt` and what begins with `/_/` have no reply of their own yet: 404 with the host's
-    /// text.
     pub fn read(
         &mut self,
         alloc: Global,
@@ -158,7 +154,6 @@ impl<S: Alter> Desk<S> {
         asked: &Read,
     ) -> Result<Reply, Fault>
         ensures value { IsHonest S.Store self.new.tables
-            → is_system (split_of asked.now.path) ≡ false
             → IfOk result (λ r. r ≡ reply_to (caller.seen (world S.Store self.old)
             (host_named host.now)
             (option_and_then pass_named (option_map (λ text. text.now) pass.entry)))

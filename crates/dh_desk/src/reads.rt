@@ -3,10 +3,9 @@ ghost use Rattle.std.specs.Prelude.{◌≡◌, false, IfOk, OnOk};
 ghost use Rattle.std.specs.Option.{option_map, option_and_then};
 ghost use Rattle.sqlite.specs.Held.{state};
 ghost use Rattle.sqlite.specs.State.{HasCleanDisk};
-ghost use Rattle.dh_paths.specs.Places.{split_of};
 ghost use Rattle.dh_rows.specs.Calls.{IsHonest, IsRefused};
 ghost use Rattle.dh_lookup.specs.Faults.{OnStore};
-ghost use Rattle.dh_reply.specs.Replies.{is_system, reply_to};
+ghost use Rattle.dh_reply.specs.Replies.{reply_to};
 ghost use Rattle.dh_records.specs.Lists.{world_of};
 ghost use Rattle.dh_schema.specs.Calling.{Blames};
 ghost use Rattle.dh_schema.specs.Tables.{lists_of};
@@ -68,7 +67,6 @@ fn look<S: Alter>(
     ensures looks { Looks S.Store tables.old tables.new }
     ensures told { OnStore result (Fails S.Store tables.old tables.new) }
     ensures value { IsHonest S.Store tables.new
-        → is_system (split_of read.now.path) ≡ false
         → IfOk result (λ r. r
         ≡ reply_to (shown S.Store tables.old host pass) read.now.path read.now.query) }
 {
@@ -87,7 +85,6 @@ pub fn read<S: Alter>(
     asked: &Read,
 ) -> Result<Reply, Fault>
     ensures value { IsHonest S.Store tables.new
-        → is_system (split_of asked.now.path) ≡ false
         → IfOk result (λ r. r ≡ reply_to (caller.seen (world_of (last_records S.Store tables.old))
         (host_named host.now)
         (option_and_then pass_named (option_map (λ text. text.now) pass.entry)))

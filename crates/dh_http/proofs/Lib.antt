@@ -1,6 +1,3 @@
-pub mod Lines
-pub mod Ends
-pub mod Needs
-pub mod Named
-pub mod Whole
-pub mod Requests
+pub mod PassLemmas
+pub mod Headlines
+pub mod Writing

@@ -1,6 +1,3 @@
-pub mod HeadEnd
-pub mod Scan
-pub mod Fields
-pub mod Head
-pub mod Faults
-pub mod Request
+pub mod Commands
+pub mod Answers
+pub mod Headline

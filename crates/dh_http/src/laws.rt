@@ -1,16 +1,15 @@
-//! What holds of all requests. Each law is the contract of a function that does nothing.
+//! What holds of all read requests. Each law is the contract of a function that does nothing.
 
-ghost use Rattle.std.specs.Prelude.{◌≡◌, ℕ, List};
-ghost use Rattle.dh_http.specs.declared.request.Request.{Request};
-ghost use Rattle.dh_http.specs.Head.{HeadEndsByLines};
-ghost use Rattle.dh_http.specs.Request.{IsRequest};
+ghost use Rattle.dh_http.specs.Headline.{SameProjectSameBytes, VeiledBytes};
 
-/// Some bytes are no more than one request.
-pub fn one_reading()
-    ensures { (input : List ℕ) (a b : Request) → IsRequest input a → IsRequest input b → a ≡ b }
+/// For every read request, two worlds that show its caller the same project under the requested host give the same reply, byte for
+/// byte.
+pub fn same_project_same_bytes()
+    ensures { SameProjectSameBytes }
 {}
 
-/// A head of the grammar is a head by its lines, and has a line a field beside the request line.
-pub fn whole_head()
-    ensures { HeadEndsByLines }
+/// Rows of other projects, and private versions that the caller's pass does not open, never change a reply: it is that of the world
+/// in which none of them are left.
+pub fn veiled_bytes()
+    ensures { VeiledBytes }
 {}

@@ -1,16 +1,14 @@
-//! HTTP requests: how they are read, and what they ask for.
+//! One request over a desk: it is read, done, and answered.
 #![tactic(auto)]
 
-mod fault;
-mod fields;
-mod head;
-mod head_end;
+mod answering;
+mod callers;
+mod commands;
+pub mod fault;
 mod laws;
-pub mod request;
+mod sending;
 
-pub use dh_ports::Stop;
-pub use laws::{one_reading, whole_head};
-pub use request::{Request, read_request};
-
-#[cfg(test)]
-mod tests;
+pub use answering::answer;
+pub use fault::{Done, EngineFault};
+pub use laws::{same_project_same_bytes, veiled_bytes};
+pub use sending::answer_unavailable;

@@ -1,3 +1,5 @@
+//! Why a look-up gave nothing.
+
 ghost use Rattle.std.specs.Prelude.{◌≡◌};
 ghost use Rattle.dh_lookup.specs.declared.fault.Fault.TheVariants.{Memory};
 

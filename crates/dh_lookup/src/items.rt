@@ -1,3 +1,5 @@
+//! A list, seen as its items.
+
 ghost use Rattle.std.specs.Prelude.{◌≡◌};
 
 use std::marker::Model;

@@ -1,3 +1,5 @@
+//! The plain list form of what a caller sees, as a `Lookup`.
+
 ghost use Rattle.std.specs.Prelude.{◌≡◌, ◌<◌, length, [], IfOk, OnErr, IsTrue, true};
 ghost use Rattle.std.specs.Option.{option_copied, option_and_then, option_map_or};
 ghost use Rattle.std.specs.List.{find, list_any};

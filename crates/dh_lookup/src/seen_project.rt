@@ -1,3 +1,5 @@
+//! A project as one caller sees it.
+
 use crate::found::Page;
 use crate::items::Items;
 use dh_paths::{Lang, PagePath, Slug, Text};

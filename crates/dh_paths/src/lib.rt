@@ -17,6 +17,3 @@ pub use host::{host_name, host_part};
 pub use laws::{host_part_is_name_and_port, target_is_its_parts};
 pub use place::Split;
 pub use target::Target;
-
-#[cfg(test)]
-mod tests;

@@ -41,6 +41,6 @@ Adds old new before after (Ok came) = AddsSome old new before after came
 Adds old new before after (Err stop) = (after ≡ before) × TookAtMost old new (most_lost stop)
 
 -- so many reads brought these bytes, and no more may be made: each brought a byte at least
-pub record IsFull (turns : ℕ) (bytes : List ℕ) : Type 0 where
-  pub turns_used : turns ≡ 100000
+pub record IsFull (reads : ℕ) (bytes : List ℕ) : Type 0 where
+  pub reads_made : reads ≡ 100000
   pub bytes_came : 100000 ≤ length bytes

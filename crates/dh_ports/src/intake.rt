@@ -18,20 +18,20 @@ const PIECE: usize = 4096;
 #[derive(Drop)]
 pub struct Intake {
     pub bytes: Vec<u8>,
-    pub turns: u32,
-    ghost counted: { turns ≤ vec_len bytes },
-    ghost bounded: { turns ≤ 100000 },
+    pub reads: u32,
+    ghost counted: { reads ≤ vec_len bytes },
+    ghost bounded: { reads ≤ 100000 },
 }
 
 impl Intake {
     /// Nothing read yet.
     pub fn new(alloc: Global) -> Intake
         ensures empty { result.bytes.items ≡ [] }
-        ensures unasked { result.turns ≡ 0 }
+        ensures unasked { result.reads ≡ 0 }
     {
         Intake {
             bytes: Vec::new(alloc),
-            turns: 0,
+            reads: 0,
         }
     }
 
@@ -42,16 +42,16 @@ impl Intake {
         ensures adds { Adds (R.left source.old) (R.left source.new)
             self.old.bytes.items self.new.bytes.items result }
         ensures broken { R.broken source.new ≡ reader_failed result }
-        ensures turns { IfOk result (λ came.
-            self.new.turns ≡ self.old.turns + (if came then 1 else 0)) }
+        ensures spent { IfOk result (λ came.
+            self.new.reads ≡ self.old.reads + (if came then 1 else 0)) }
         ensures full { IsErrOf result Stop.TooManyTurns
-            → IsFull self.old.turns self.old.bytes.items × (source.new ≡ source.old) }
+            → IsFull self.old.reads self.old.bytes.items × (source.new ≡ source.old) }
         ensures reads { CountsUpTo (R.fills source.old) (R.fills source.new)
-            (min 1 (100000 - self.old.turns)) }
+            (min 1 (100000 - self.old.reads)) }
         ensures asked { OnOk result (CountsAtLeast (R.fills source.old) (R.fills source.new) 1) }
-        ensures few { self.new.turns ≤ 100000 }
+        ensures few { self.new.reads ≤ 100000 }
     {
-        if self.turns == MOST_READS {
+        if self.reads == MOST_READS {
             return Err(Stop::TooManyTurns);
         }
         let mut room = [0u8; PIECE];
@@ -62,7 +62,7 @@ impl Intake {
                 if self.bytes.extend_from_slice(&room[..count]).is_err() {
                     return Err(Stop::Memory);
                 }
-                self.turns += 1;
+                self.reads += 1;
                 Ok(true)
             }
         }
@@ -71,7 +71,7 @@ impl Intake {
     pub fn into_bytes(self) -> Vec<u8>
         ensures { result.items ≡ self.bytes.items }
     {
-        let Intake { bytes, turns: _ } = self;
+        let Intake { bytes, reads: _ } = self;
         bytes
     }
 }

@@ -9,9 +9,6 @@ mod stop;
 
 pub use intake::Intake;
 pub use port::Port;
-pub use sink::{Sink, put_all};
+pub use sink::{Sink, put_all, put_both};
 pub use source::{Failed, Source};
 pub use stop::Stop;
-
-#[cfg(test)]
-mod tests;

@@ -1,6 +1,6 @@
 //! Ports over the readers and writers of std.
 
-ghost use Rattle.std.specs.Prelude.{◌≡◌, false};
+ghost use Rattle.std.specs.Prelude.{◌≡◌, false, Some};
 
 use crate::sink::Sink;
 use crate::source::{Failed, Source};
@@ -11,6 +11,8 @@ use std::io::{Read, Write};
 pub struct Port<T> {
     inner: T,
     stopped: bool,
+    /// How often the reader was asked; it stays at 2^64 - 1.
+    reads: u64,
 }
 
 impl<T> Port<T> {
@@ -22,6 +24,7 @@ impl<T> Port<T> {
         Port {
             inner,
             stopped: false,
+            reads: 0,
         }
     }
 }
@@ -31,7 +34,10 @@ impl<T: Read> Source for Port<T> {
 
     ghost broken = { λ port. port.stopped };
 
+    ghost fills = { λ port. Some port.reads };
+
     fn fill(&mut self, room: &mut [u8]) -> Result<usize, Failed> {
+        self.reads = self.reads.saturating_add(1);
         match self.inner.read(room) {
             Ok(count) => Ok(count),
             Err(_) => {

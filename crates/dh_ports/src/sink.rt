@@ -1,6 +1,6 @@
 //! Where bytes go to.
 
-ghost use Rattle.std.specs.Prelude.{◌≡◌, ℕ, ◌<◌, ◌≤◌, ◌||◌, Bool, false, List, length, take, Option, is_err, IfOk, OnOk, IfErr};
+ghost use Rattle.std.specs.Prelude.{◌≡◌, ℕ, ◌<◌, ◌≤◌, ◌||◌, ◌++◌, Bool, false, List, length, take, Option, is_err, IfOk, OnOk, IfErr};
 ghost use Rattle.std.specs.Io.KnownBytes.{Appends, WriteAppends};
 ghost use Rattle.dh_ports.specs.Ports.{put_stops, PutsFirst};
 
@@ -42,4 +42,20 @@ pub fn put_all<W: Sink>(out: &mut W, bytes: &[u8]) -> Result<(), usize>
         }
     }
     Ok(())
+}
+
+/// Writes two pieces, one behind the other, without a copy of either. At `Err(n)` exactly the first n bytes of both went out.
+pub fn put_both<W: Sink>(out: &mut W, front: &[u8], back: &[u8]) -> Result<(), usize>
+    requires { W.broken out.old ≡ false }
+    ensures ok { OnOk result
+        (Appends (W.held out.old) (W.held out.new) (front.now ++ back.now)) }
+    ensures err { IfErr result
+        (PutsFirst (W.held out.old) (W.held out.new) (front.now ++ back.now)) }
+    ensures cause { W.broken out.new ≡ is_err result }
+{
+    put_all(out, front)?;
+    match put_all(out, back) {
+        Ok(()) => Ok(()),
+        Err(count) => Err(front.len() + count),
+    }
 }

@@ -86,7 +86,7 @@ constraints_without_grants lists keep constraints = record {
   active = constraints.active;
   spoken = constraints.spoken;
   defaults = constraints.defaults;
-  chosen = constraints.chosen;
+  default_names = constraints.default_names;
   granted = all-filter _ keep lists.held constraints.granted;
   rules = constraints.rules;
   rule_places = constraints.rule_places;
@@ -119,7 +119,7 @@ constraints_with_grant lists row constraints pass version = record {
   active = constraints.active;
   spoken = constraints.spoken;
   defaults = constraints.defaults;
-  chosen = constraints.chosen;
+  default_names = constraints.default_names;
   granted = all_granted (λ x. IsTrue (has_pass lists x.host x.pass && has_version lists x.host x.slug)) row lists.held (and_from _ _ pass version) constraints.granted;
   rules = constraints.rules;
   rule_places = constraints.rule_places;
@@ -154,7 +154,7 @@ constraints_with_pass lists row constraints host few = record {
   active = constraints.active;
   spoken = constraints.spoken;
   defaults = constraints.defaults;
-  chosen = constraints.chosen;
+  default_names = constraints.default_names;
   granted = all_weaker _ (λ x. IsTrue (has_pass next x.host x.pass && has_version lists x.host x.slug))
       (λ x. and_first _ _ _ (found_still (by_key coding.passes.key) (is_pass x.host x.pass) row lists.passes)) lists.held constraints.granted;
   rules = constraints.rules;
@@ -195,7 +195,7 @@ constraints_without_pass lists host pass constraints none = record {
   active = constraints.active;
   spoken = constraints.spoken;
   defaults = constraints.defaults;
-  chosen = constraints.chosen;
+  default_names = constraints.default_names;
   granted = all_both _ _ (λ x. IsTrue (has_pass next x.host x.pass && has_version lists x.host x.slug)) (λ x was out. and_first _ _ _ (kept x out) was) lists.held constraints.granted none;
   rules = constraints.rules;
   rule_places = constraints.rule_places;
@@ -221,11 +221,11 @@ constraints_without_pass lists host pass constraints none = record {
 
 -- ---- defaults
 
--- a default that may be chosen: an alias, or a version that is there
-abbrev pub MayChoose : Lists → Text → Text → Type 0
-MayChoose lists host name = IsTrue (is_alias name || has_version lists host name)
+-- a name that may be a default: an alias, or a version that is there
+abbrev pub MayBeDefault : Lists → Text → Text → Type 0
+MayBeDefault lists host name = IsTrue (is_alias name || has_version lists host name)
 
-pub constraints_with_defaults : (lists : Lists) (host : Text) (names : List Text) → KeepsConstraints lists → InOrder coding.picks.key lists.picks → IsTrue (has_project lists host) → IsDistinct bytes_eq names → AllByRecursion (MayChoose lists host) names
+pub constraints_with_defaults : (lists : Lists) (host : Text) (names : List Text) → KeepsConstraints lists → InOrder coding.picks.key lists.picks → IsTrue (has_project lists host) → IsDistinct bytes_eq names → AllByRecursion (MayBeDefault lists host) names
     → KeepsConstraints (record lists { picks = set_picks host names lists.picks })
 constraints_with_defaults lists host names constraints up has apart may = record {
   langs = constraints.langs;
@@ -241,8 +241,8 @@ constraints_with_defaults lists host names constraints up has apart may = record
   active = constraints.active;
   spoken = constraints.spoken;
   defaults = all_weaker _ (λ r. AreDefaults (filter (is_pick_of r.host) (set_picks host names lists.picks))) still lists.projects constraints.defaults;
-  chosen = all_set host (λ d. MayChoose lists d.host d.name) names lists.picks
-      (all_ranked host (λ d. MayChoose lists d.host d.name) 1 names (all_weaker _ (λ name. (rank : ℕ) → MayChoose lists host name) (λ name h rank. h) names may)) constraints.chosen;
+  default_names = all_set host (λ d. MayBeDefault lists d.host d.name) names lists.picks
+      (all_ranked host (λ d. MayBeDefault lists d.host d.name) 1 names (all_weaker _ (λ name. (rank : ℕ) → MayBeDefault lists host name) (λ name h rank. h) names may)) constraints.default_names;
   granted = constraints.granted;
   rules = constraints.rules;
   rule_places = constraints.rule_places;
@@ -300,12 +300,12 @@ module _ (lists : Lists) (host : Text) (p : Project) (constraints : KeepsConstra
       let here = all_found (λ r. AreDefaults (filter (is_pick_of r.host) lists.picks)) (is_project host) lists.projects it.0 it.1.found constraints.defaults in
       subst (IsDistinct bytes_eq) (ap (λ h. map (λ d. d.name) (filter (is_pick_of h) lists.picks)) it.1.host_is ∙ sym (defaults_in lists host p was)) here.apart
 
-  pub defaults_chosen : AllByRecursion (MayChoose lists host) p.defaults
-  defaults_chosen =
-      subst (AllByRecursion (MayChoose lists host)) (sym (defaults_in lists host p was))
-      (all_map (MayChoose lists host) (λ d. d.name) (filter (is_pick_of host) lists.picks)
-      (all_both _ _ (λ d. MayChoose lists host d.name) (λ d may here. subst (λ h. MayChoose lists h d.name) ((bytes_eq-Decides d.host host).0 here) may) (filter (is_pick_of host) lists.picks)
-      (all-filter _ (is_pick_of host) lists.picks constraints.chosen) (all_that (λ d. is_pick_of host d ≡ true) (is_pick_of host) (λ d e. e) lists.picks)))
+  pub defaults_named : AllByRecursion (MayBeDefault lists host) p.defaults
+  defaults_named =
+      subst (AllByRecursion (MayBeDefault lists host)) (sym (defaults_in lists host p was))
+      (all_map (MayBeDefault lists host) (λ d. d.name) (filter (is_pick_of host) lists.picks)
+      (all_both _ _ (λ d. MayBeDefault lists host d.name) (λ d may here. subst (λ h. MayBeDefault lists h d.name) ((bytes_eq-Decides d.host host).0 here) may) (filter (is_pick_of host) lists.picks)
+      (all-filter _ (is_pick_of host) lists.picks constraints.default_names) (all_that (λ d. is_pick_of host d ≡ true) (is_pick_of host) (λ d e. e) lists.picks)))
 
 -- ---- versions
 
@@ -326,7 +326,7 @@ constraints_without_version lists host slug constraints bare unheld unnamed = re
   active = all_both _ _ (λ x. IsTrue (has_active next x.host x.slug)) (λ x was out. ap (λ o. option_map_or (λ (v : VersionRow). v.version.active) o false) (stays x.host x.slug out) ∙ was) lists.pages constraints.active bare;
   spoken = constraints.spoken;
   defaults = constraints.defaults;
-  chosen = all_both _ _ (λ d. MayChoose next d.host d.name) (λ d was out. or_last _ _ _ (λ h. ap is_some (stays d.host d.name out) ∙ h) was) lists.picks constraints.chosen unnamed;
+  default_names = all_both _ _ (λ d. MayBeDefault next d.host d.name) (λ d was out. or_last _ _ _ (λ h. ap is_some (stays d.host d.name out) ∙ h) was) lists.picks constraints.default_names unnamed;
   granted = all_both _ _ (λ x. IsTrue (has_pass lists x.host x.pass && has_version next x.host x.slug)) (λ x was out. and_last _ _ _ (λ h. ap is_some (stays x.host x.slug out) ∙ h) was) lists.held constraints.granted unheld;
   rules = constraints.rules;
   rule_places = constraints.rule_places;
@@ -365,7 +365,7 @@ constraints_gone lists host slug p constraints up was =
     let one = record lists { picks = set_picks host names lists.picks } in
     let two = record one { pages = filter (λ x. not (is_page_under host slug None x)) lists.pages } in
     let three = record two { held = filter (λ x. not (is_held_on host slug x)) lists.held } in
-    let first : KeepsConstraints one = constraints_with_defaults lists host names constraints up (owned_by lists host p was) (filter_distinct _ p.defaults (defaults_distinct lists host p constraints was)) (all-filter _ _ p.defaults (defaults_chosen lists host p constraints was)) in
+    let first : KeepsConstraints one = constraints_with_defaults lists host names constraints up (owned_by lists host p was) (filter_distinct _ p.defaults (defaults_distinct lists host p constraints was)) (all-filter _ _ p.defaults (defaults_named lists host p constraints was)) in
     let second : KeepsConstraints two = constraints_without one (λ x. not (is_page_under host slug None x)) first in
     let third : KeepsConstraints three = constraints_without_grants two (λ x. not (is_held_on host slug x)) second in
     constraints_without_version three host slug third (dropped_is_bare host slug lists.pages) (dropped_is_unheld host slug lists.held)
@@ -378,10 +378,10 @@ constraints_pass_gone lists host pass constraints =
     constraints_without_pass (record lists { held = filter (λ x. not (is_held_by host pass x)) lists.held }) host pass (constraints_without_grants lists (λ x. not (is_held_by host pass x)) constraints) (dropped_holds_none host pass lists.held)
 
 -- a name goes to the front of the defaults
-pub constraints_with_front : (lists : Lists) (host name : Text) (p : Project) → KeepsConstraints lists → InOrder coding.picks.key lists.picks → get (world_of lists) host ≡ Some p → MayChoose lists host name
+pub constraints_with_front : (lists : Lists) (host name : Text) (p : Project) → KeepsConstraints lists → InOrder coding.picks.key lists.picks → get (world_of lists) host ≡ Some p → MayBeDefault lists host name
     → KeepsConstraints (record lists { picks = set_picks host (name ∷ filter (λ n. not (bytes_eq n name)) p.defaults) lists.picks })
 constraints_with_front lists host name p constraints up was may =
-    constraints_with_defaults lists host _ constraints up (owned_by lists host p was) (front_distinct name p.defaults (defaults_distinct lists host p constraints was)) (may, all-filter _ (λ n. not (bytes_eq n name)) p.defaults (defaults_chosen lists host p constraints was))
+    constraints_with_defaults lists host _ constraints up (owned_by lists host p was) (front_distinct name p.defaults (defaults_distinct lists host p constraints was)) (may, all-filter _ (λ n. not (bytes_eq n name)) p.defaults (defaults_named lists host p constraints was))
 
 -- ---- the order of the records
 

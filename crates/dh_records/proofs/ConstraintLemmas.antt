@@ -91,7 +91,7 @@ constraints_with_version lists row constraints host named bare = record {
   active = all_both _ _ (λ x. IsTrue (has_active next x.host x.slug)) still lists.pages constraints.active (each row.version.active refl);
   spoken = constraints.spoken;
   defaults = constraints.defaults;
-  chosen = all_weaker _ (λ d. IsTrue (is_alias d.name || has_version next d.host d.name)) (λ d. or_later _ _ _ (kept d.host d.name)) lists.picks constraints.chosen;
+  default_names = all_weaker _ (λ d. IsTrue (is_alias d.name || has_version next d.host d.name)) (λ d. or_later _ _ _ (kept d.host d.name)) lists.picks constraints.default_names;
   granted = all_weaker _ (λ x. IsTrue (has_pass lists x.host x.pass && has_version next x.host x.slug)) (λ x. and_later _ _ _ (kept x.host x.slug)) lists.held constraints.granted;
   rules = constraints.rules;
   rule_places = constraints.rule_places;
@@ -145,7 +145,7 @@ constraints_with_page lists row constraints host shown spoken = record {
   active = all_put coding.pages.key (λ x. IsTrue (has_active lists x.host x.slug)) row lists.pages shown constraints.active;
   spoken = all_put coding.pages.key (λ x. IsTrue (has_language lists x.host x.lang)) row lists.pages spoken constraints.spoken;
   defaults = constraints.defaults;
-  chosen = constraints.chosen;
+  default_names = constraints.default_names;
   granted = constraints.granted;
   rules = constraints.rules;
   rule_places = constraints.rule_places;
@@ -171,7 +171,7 @@ constraints_without lists p constraints = record {
   active = all-filter _ p lists.pages constraints.active;
   spoken = all-filter _ p lists.pages constraints.spoken;
   defaults = constraints.defaults;
-  chosen = constraints.chosen;
+  default_names = constraints.default_names;
   granted = constraints.granted;
   rules = constraints.rules;
   rule_places = constraints.rule_places;
@@ -199,7 +199,7 @@ constraints_with_used lists row constraints host read = record {
   active = constraints.active;
   spoken = constraints.spoken;
   defaults = constraints.defaults;
-  chosen = constraints.chosen;
+  default_names = constraints.default_names;
   granted = constraints.granted;
   rules = constraints.rules;
   rule_places = constraints.rule_places;
@@ -306,7 +306,7 @@ constraints_with_lang lists row constraints up host next few new = record {
   active = constraints.active;
   spoken = all_weaker _ (λ x. list_any (λ t. bytes_eq t x.lang) (map (λ l. l.lang) (filter (is_lang_of x.host) after)) ≡ true) spoken lists.pages constraints.spoken;
   defaults = constraints.defaults;
-  chosen = constraints.chosen;
+  default_names = constraints.default_names;
   granted = constraints.granted;
   rules = constraints.rules;
   rule_places = constraints.rule_places;
@@ -369,9 +369,9 @@ one_language : (main : Text) (row : LangRow) → row.lang ≡ main → row.place
 unfolding IsDistinct
 one_language main row lang place = record { places = ap (λ k. k ∷ []) place; apart = (tt, tt); first = ap Some lang; few = omega arith }
 
-none_are_chosen : AreDefaults []
+none_are_defaults : AreDefaults []
 unfolding IsDistinct
-none_are_chosen = record { ranks = refl; apart = tt }
+none_are_defaults = record { ranks = refl; apart = tt }
 
 none_have_places : {X : Type 0} (place_of : X → ℕ) (most : ℕ) → HavePlaces place_of most []
 none_have_places place_of most = record { places = refl; few = omega arith }
@@ -392,8 +392,8 @@ constraints_with_project lists row lang constraints new home main place = record
   slugs = constraints.slugs;
   active = constraints.active;
   spoken = all_both _ _ (λ x. IsTrue (has_language next x.host x.lang)) spoken lists.pages constraints.pages constraints.spoken;
-  defaults = all_added (λ r. AreDefaults (filter (is_pick_of r.host) lists.picks)) (by_key coding.projects.key) row lists.projects none_chosen constraints.defaults;
-  chosen = constraints.chosen;
+  defaults = all_added (λ r. AreDefaults (filter (is_pick_of r.host) lists.picks)) (by_key coding.projects.key) row lists.projects no_defaults constraints.defaults;
+  default_names = constraints.default_names;
   granted = constraints.granted;
   rules = all_weaker _ (λ r. IsTrue (has_project next r.host)) (λ r. owned r.host) lists.rules constraints.rules;
   rule_places = all_added (λ r. AreRules (filter (is_rule_of r.host) lists.rules)) (by_key coding.projects.key) row lists.projects none_run constraints.rule_places;
@@ -428,8 +428,8 @@ constraints_with_project lists row lang constraints new home main place = record
     none_lead : AreRedirects (filter (is_redirect_of row.host) lists.redirects)
     none_lead = subst AreRedirects (sym (filter_none (is_redirect_of row.host) lists.redirects (none_of_new (λ r. r.host) lists.redirects lists row.host new constraints.redirects))) (none_have_places (λ r. r.place) 100)
 
-    none_chosen : AreDefaults (filter (is_pick_of row.host) lists.picks)
-    none_chosen = subst AreDefaults (sym (filter_none (is_pick_of row.host) lists.picks (none_of_new (λ d. d.host) lists.picks lists row.host new constraints.picks))) none_are_chosen
+    no_defaults : AreDefaults (filter (is_pick_of row.host) lists.picks)
+    no_defaults = subst AreDefaults (sym (filter_none (is_pick_of row.host) lists.picks (none_of_new (λ d. d.host) lists.picks lists row.host new constraints.picks))) none_are_defaults
 
     elsewhere : (host : Text) → bytes_eq host row.host ≡ false → filter (is_lang_of host) after ≡ filter (is_lang_of host) lists.langs
     elsewhere host apart = added_elsewhere (by_key coding.langs.key) (is_lang_of host) lang lists.langs (ap (λ h. bytes_eq h host) home ∙ turned row.host host ∙ apart)

@@ -38,8 +38,8 @@ kind_number CleanToHtml = 2
 kind_number HtmlToClean = 3
 
 -- any other number reads as the last
-abbrev pub kind_of : ℕ → RedirectKind
-kind_of n = if n == 0 then Page else if n == 1 then Exact else if n == 2 then CleanToHtml else HtmlToClean
+abbrev pub stored_kind : ℕ → RedirectKind
+stored_kind n = if n == 0 then Page else if n == 1 then Exact else if n == 2 then CleanToHtml else HtmlToClean
 
 abbrev pub action_number : Action → ℕ
 action_number Activate = 0
@@ -49,12 +49,12 @@ action_number Private = 3
 action_number Default = 4
 
 -- any other number reads as the last
-abbrev pub action_of : ℕ → Action
-action_of n = if n == 0 then Activate else if n == 1 then Hide else if n == 2 then Public else if n == 3 then Private else Default
+abbrev pub stored_action : ℕ → Action
+stored_action n = if n == 0 then Activate else if n == 1 then Hide else if n == 2 then Public else if n == 3 then Private else Default
 
 -- any other text reads as that of a custom pattern, which begins with `re:`
-abbrev pub pattern_of : List ℕ → Pattern
-pattern_of text = if bytes_eq text (codes "all") then All else if bytes_eq text (codes "semver") then SemVer else Custom (drop 3 text)
+abbrev pub stored_pattern : List ℕ → Pattern
+stored_pattern text = if bytes_eq text (codes "all") then All else if bytes_eq text (codes "semver") then SemVer else Custom (drop 3 text)
 
 -- the number that a column reads as
 abbrev pub number_in : Value → ℕ
@@ -146,8 +146,8 @@ rules = record {
     place = number_in (column r 2);
     rule = record {
       kind = if flag_in r 3 then Tag else Branch;
-      pattern = pattern_of (text_in r 5);
-      action = action_of (number_in (column r 4));
+      pattern = stored_pattern (text_in r 5);
+      action = stored_action (number_in (column r 4));
     };
   };
   key = λ x. Text x.host ∷ Int (pos x.place) ∷ [];
@@ -163,7 +163,7 @@ redirects = record {
     host = text_in r 1;
     place = number_in (column r 2);
     redirect = record {
-      kind = kind_of (number_in (column r 3));
+      kind = stored_kind (number_in (column r 3));
       source = text_in r 6;
       target = text_in r 7;
       status = number_in (column r 4);

@@ -109,7 +109,7 @@ pub record KeepsConstraints (lists : Lists) : Type 0 where
   pub spoken : AllByRecursion (λ x. IsTrue (has_language lists x.host x.lang)) lists.pages
   pub defaults : AllByRecursion (λ r. AreDefaults (filter (is_pick_of r.host) lists.picks)) lists.projects
   -- a default is an alias or a version that is there
-  pub chosen : AllByRecursion (λ d. IsTrue (is_alias d.name || has_version lists d.host d.name)) lists.picks
+  pub default_names : AllByRecursion (λ d. IsTrue (is_alias d.name || has_version lists d.host d.name)) lists.picks
   -- a grant's pass and version are there
   pub granted : AllByRecursion (λ x. IsTrue (has_pass lists x.host x.pass && has_version lists x.host x.slug)) lists.held
   pub rules : AllByRecursion (λ r. IsTrue (has_project lists r.host)) lists.rules

@@ -99,8 +99,8 @@ fn status_at(row: &Row, at: usize) -> Result<u16, Fault>
 }
 
 /// The kind whose number this is.
-fn kind_of(number: u32) -> RedirectKind
-    ensures { result ≡ spec.kind_of number }
+fn stored_kind(number: u32) -> RedirectKind
+    ensures { result ≡ spec.stored_kind number }
 {
     match number {
         0 => RedirectKind::Page,
@@ -111,8 +111,8 @@ fn kind_of(number: u32) -> RedirectKind
 }
 
 /// The action whose number this is.
-fn action_of(number: u32) -> Action
-    ensures { result ≡ spec.action_of number }
+fn stored_action(number: u32) -> Action
+    ensures { result ≡ spec.stored_action number }
 {
     match number {
         0 => Action::Activate,
@@ -204,7 +204,7 @@ fn token_at(alloc: Global, row: &Row, at: usize) -> Result<Token, Fault>
 }
 
 fn pattern_at(alloc: Global, row: &Row, at: usize) -> Result<Pattern, Fault>
-    ensures value { IfOk result (λ p. spec.pattern_of (spec.text_in row.now at) ≡ p) }
+    ensures value { IfOk result (λ p. spec.stored_pattern (spec.text_in row.now at) ≡ p) }
     ensures told { OnStore result (¬ typed.IsPattern row.now at) }
 {
     match Pattern::read(alloc, text_at(row, at)?.as_str()) {
@@ -382,7 +382,7 @@ fn rule_in(alloc: Global, row: &Row) -> Result<Rule, Fault>
         } else {
             Kind::Branch
         },
-        action: action_of(number_at(row, 3)?),
+        action: stored_action(number_at(row, 3)?),
         pattern: pattern_at(alloc, row, 4)?,
     })
 }
@@ -408,7 +408,7 @@ fn redirect_in(row: &Row) -> Result<Redirect, Fault>
         → OnStore result (¬ typed.IsRedirect y) }
 {
     Ok(Redirect {
-        kind: kind_of(number_at(row, 2)?),
+        kind: stored_kind(number_at(row, 2)?),
         status: status_at(row, 3)?,
         force: flag_at(row, 4)?,
         source: Text::wrap(text_at(row, 5)?),

@@ -12,6 +12,3 @@ mod texts;
 pub use laws::to_is_filled_from_the_left;
 pub use query::with_query;
 pub use redirect::{Asked, BadRedirect, Location, Parts, Redirect, RedirectKind};
-
-#[cfg(test)]
-mod tests;

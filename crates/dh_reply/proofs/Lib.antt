@@ -1,1 +1,1 @@
-pub mod WireLemmas
+pub mod SystemLemmas

@@ -1,4 +1,3 @@
 pub mod Replies
-pub mod Statuses
-pub mod Wire
+pub mod System
 pub mod Ports

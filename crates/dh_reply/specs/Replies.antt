@@ -1,5 +1,5 @@
 -- The reply to a read, as a function of the project that its caller sees.
-use Rattle.std.specs.Prelude.{ℕ, ◌-◌, Bool, true, false, ◌||◌, ◌==◌, if◌then◌else◌, Option, Some, None, List, [], ◌∷◌, ◌++◌, length, slice_index, slice_get, unwrap_or, codes}
+use Rattle.std.specs.Prelude.{ℕ, ◌-◌, ◌||◌, ◌==◌, if◌then◌else◌, Option, Some, None, List, [], ◌∷◌, ◌++◌, length, slice_index, slice_get, unwrap_or, codes}
 use Rattle.std.specs.List.{find}
 use Rattle.std.specs.Option.{option_map, option_and_then}
 use Rattle.std.specs.Str.{bytes_eq}
@@ -12,29 +12,15 @@ use Rattle.dh_redirects.specs.declared.redirect.Parts.{Parts}
 use Rattle.dh_reply.specs.declared.address.GoodAddress.{GoodAddress}
 use Rattle.dh_lookup.specs.declared.found.Named.{Named}
 use Rattle.dh_lookup.specs.declared.found.Page.{Page as FoundPage}
-use Rattle.dh_reply.specs.declared.answer.Reply.{Reply}
+use Rattle.dh_wire.specs.declared.answer.Reply.{Reply}
 use Rattle.dh_lookup.specs.declared.seen_project.SeenProject.{SeenProject}
 use Rattle.dh_lookup.specs.SeenProject.{resolved, page_at, forced_result, not_found_result}
-use Rattle.dh_reply.specs.Statuses.{fault_reply_of}
+use Rattle.dh_wire.specs.Bodies.{body_reply}
+use Rattle.dh_wire.specs.Statuses.{host_not_found}
+use Rattle.dh_reply.specs.System.{robots, system}
 
--- `/robots.txt` and `/_/..`, of which the cases below say nothing
-abbrev pub is_system : Place → Bool
-is_system Robots = true
-is_system (System rest) = true
-is_system _ = false
-
--- 404 with the host's text
-abbrev pub host_not_found : Reply
-host_not_found = fault_reply_of 404 None
-
-unfoldable pub page_reply : ℕ → FoundPage → Reply
-page_reply status page = record {
-  status = status;
-  location = None;
-  allow = None;
-  media = Some page.media;
-  body = page.body;
-}
+abbrev pub page_reply : ℕ → FoundPage → Reply
+page_reply status page = body_reply status page.media page.body
 
 -- a `?` and the query, where there is one
 abbrev pub with_query : List ℕ → Option (List ℕ) → List ℕ
@@ -197,10 +183,16 @@ abbrev pub reply_at : SeenProject → Place → Option GoodAddress → List ℕ 
 reply_at p place own path query =
     unwrap_or (found p place own (asked_at place own path query) path query) (nothing_served p own)
 
-abbrev pub project_reply : SeenProject → Place → List ℕ → Option (List ℕ) → Reply
-project_reply p place path query = reply_at p place (good_at p place) path query
+abbrev pub place_reply : SeenProject → Place → List ℕ → Option (List ℕ) → Reply
+place_reply p place path query = reply_at p place (good_at p place) path query
 
--- the reply to a read (Read the Docs, Versions and Redirects); of `/robots.txt` and `/_/..` it says nothing
+-- at `/robots.txt` and below `/_/` neither redirects nor pages count
+abbrev pub project_reply : SeenProject → Place → List ℕ → Option (List ℕ) → Reply
+project_reply p Robots path query = robots p
+project_reply p (System name) path query = system p name
+project_reply p place path query = place_reply p place path query
+
+-- the reply to a read (Read the Docs, Versions and Redirects)
 abbrev pub reply_to : Option SeenProject → List ℕ → Option (List ℕ) → Reply
 reply_to None path query = host_not_found
 reply_to (Some p) path query = project_reply p (split_of path) path query

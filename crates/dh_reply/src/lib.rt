@@ -1,22 +1,19 @@
-//! The reply to a read and its bytes, over any lookup; and the ports that bytes come from and go to.
+//! The reply to a read, over any lookup; what a reply and its bytes are, and the ports that bytes come from and go to, it hands on.
 #![tactic(auto)]
 
 mod address;
-pub mod answer;
+mod listing;
 mod make;
 pub mod ports;
 mod redirects;
 mod respond;
-mod statuses;
-mod wire;
+mod robots;
+mod system;
 
-pub use answer::{Allow, Read, Reply};
 pub use dh_lookup::{
     Fault, Items, Lookup, Named, Page, Seen, SeenProject, StoredPage, first_result,
 };
+pub use dh_wire::{
+    Allow, Read, Reply, fault_reply, head_bytes, reply_bytes, text_reply, unavailable_bytes,
+};
 pub use respond::reply;
-pub use statuses::fault_reply;
-pub use wire::{reply_bytes, unavailable_bytes};
-
-#[cfg(test)]
-mod tests;

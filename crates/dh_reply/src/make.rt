@@ -3,12 +3,12 @@
 ghost use Rattle.std.specs.Prelude.{◌≡◌, ◌++◌, IfOk, IsSome, OnErr, OnOk, string_bytes};
 ghost use Rattle.dh_reply.specs.Replies.{page_reply, with_query, redirect, address, indexed, slash_added};
 
-use crate::answer::Reply;
 use dh_lookup::Page;
 use dh_paths::{Bytes, Text, encode_path};
+use dh_wire::Reply;
 use std::alloc::{AllocError, Global};
 
-#[tactic(auto, unfolding(crate::specs::Replies::page_reply))]
+#[tactic(auto, unfolding(dh_wire::specs::Bodies::body_reply))]
 pub fn make_page_reply(status: u16, page: Page) -> Reply
     ensures { result ≡ page_reply status page }
 {

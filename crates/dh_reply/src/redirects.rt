@@ -5,9 +5,9 @@ ghost use Rattle.dh_paths.specs.Places.{place};
 ghost use Rattle.dh_reply.specs.Replies.{asked_at, leads_to, parts_at};
 
 use crate::address::GoodAddress;
-use crate::answer::{Read, Reply};
 use dh_paths::{Bytes, Split, Text};
 use dh_redirects::{Asked, Location, Parts};
+use dh_wire::{Read, Reply};
 use std::alloc::{AllocError, Global};
 
 /// The parts of a good address of a file.

@@ -1,18 +1,17 @@
 //! The reply to a read: each case of the table is a function of its own.
 
-ghost use Rattle.std.specs.Prelude.{◌≡◌, false};
-ghost use Rattle.dh_paths.specs.Places.{place, split_of};
+ghost use Rattle.dh_paths.specs.Places.{place};
 ghost use Rattle.dh_lookup.specs.Lookup.{Asks, Tells, TellsMaybe, TellsOf};
 ghost use Rattle.dh_reply.specs.Replies as spec;
 
 use crate::address::{GoodAddress, good_address, slug_of, take_lang};
-use crate::answer::{Read, Reply};
 use crate::make::{joined, make_home, make_indexed, make_page_reply, make_slashed};
 use crate::redirects::{asked_of, make_led};
-use crate::statuses::fault_reply;
+use crate::system::{robots, system};
 use dh_lookup::{Fault, Lookup, Named, Page};
 use dh_paths::{Lang, Slug, Split, Text, split};
 use dh_redirects::Asked;
+use dh_wire::{Read, Reply, fault_reply};
 use std::alloc::Global;
 
 /// To the file in the default version, where there is a default.
@@ -295,6 +294,21 @@ fn reply_at<L: Lookup>(
 }
 
 /// The first case that holds at a place.
+fn place_reply<L: Lookup>(
+    alloc: Global,
+    lookup: &mut L,
+    asked: &Split,
+    read: &Read,
+) -> Result<Reply, Fault>
+    ensures asks { Asks L.meaning lookup.old lookup.new result }
+    ensures value { TellsOf L.meaning lookup.old lookup.new result
+        (λ p. spec.place_reply p (place asked.now) read.now.path read.now.query) }
+{
+    let own = good_at(alloc, lookup, asked)?;
+    reply_at(alloc, lookup, asked, &own, read)
+}
+
+/// The reply of a project.
 fn project_reply<L: Lookup>(
     alloc: Global,
     lookup: &mut L,
@@ -305,26 +319,22 @@ fn project_reply<L: Lookup>(
     ensures value { TellsOf L.meaning lookup.old lookup.new result
         (λ p. spec.project_reply p (place asked.now) read.now.path read.now.query) }
 {
-    let own = good_at(alloc, lookup, asked)?;
-    reply_at(alloc, lookup, asked, &own, read)
+    match asked {
+        Split::Robots => robots(alloc, lookup),
+        Split::System(name) => system(alloc, lookup, name),
+        _ => place_reply(alloc, lookup, asked, read),
+    }
 }
 
 /// The reply to a read of what the lookup contains.
-///
-/// `/robots.txt` and what begins with `/_/` have no reply of their own yet: 404 with the host's
-/// text.
 pub fn reply<L: Lookup>(alloc: Global, lookup: &mut L, read: &Read) -> Result<Reply, Fault>
     ensures asks { Asks L.meaning lookup.old lookup.new result }
-    ensures value { spec.is_system (split_of read.now.path) ≡ false →
-        Tells L.meaning lookup.old lookup.new result
+    ensures value { Tells L.meaning lookup.old lookup.new result
         (λ content. spec.reply_to content read.now.path read.now.query) }
 {
     if !lookup.known()? {
         return Ok(fault_reply(alloc, 404, None)?);
     }
     let asked = split(read.path.as_str());
-    match asked {
-        Split::Robots | Split::System(_) => Ok(fault_reply(alloc, 404, None)?),
-        _ => project_reply(alloc, lookup, &asked, read),
-    }
+    project_reply(alloc, lookup, &asked, read)
 }

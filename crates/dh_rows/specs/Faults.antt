@@ -5,7 +5,7 @@ use Rattle.sqlite.specs.declared.error.ErrorCode.TheVariants.{OutOfMemory}
 use Rattle.dh_rows.specs.declared.fault.Fault.{Fault}
 use Rattle.dh_rows.specs.declared.fault.Fault.TheVariants.{Store, Memory}
 
--- want of memory, or any other fault of the store
+-- out of memory, or any other fault of the store
 abbrev pub fault_of : Error → Fault
 fault_of (SqliteFailure OutOfMemory) = Memory
 fault_of _ = Store

@@ -1,3 +1,5 @@
+//! Why a call on tables was refused.
+
 ghost use Rattle.std.specs.Prelude.{◌≡◌};
 ghost use Rattle.dh_rows.specs.Faults.{fault_of};
 

@@ -5,8 +5,6 @@ mod fault;
 mod laws;
 mod places;
 mod statements;
-#[cfg(test)]
-mod tests;
 
 pub use fault::Fault;
 pub use laws::{blameless_law, crash_law, memory_law};

@@ -1,3 +1,5 @@
+//! Where a table stands among those of others, and whether one of a name can be made.
+
 ghost use Rattle.std.specs.Prelude.{◌≡◌, ◌==◌, ◌<◌, ◌^◌, ◌||◌, ◌↔◌, false, not, is_some, IsTrue, IfSome};
 ghost use Rattle.std.specs.List.{list_all, list_any, position_from};
 ghost use Rattle.sqlite_schema.specs.declared.schema.Table.{Table as spec_Table};

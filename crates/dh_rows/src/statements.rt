@@ -1,3 +1,5 @@
+//! Transactions and statements.
+
 ghost use Rattle.std.specs.Prelude.{◌≡◌, false, true, IfErr, OnOk};
 ghost use Rattle.sqlite.specs.Held.{state};
 ghost use Rattle.sqlite.specs.State.{Survives, CommitsBy};

@@ -12,6 +12,3 @@ pub use fault::{CheckFault, RuleFault};
 pub use laws::{patterns_differ_in_text, patterns_match};
 pub use pattern::Pattern;
 pub use rule::{Action, Fresh, Rule};
-
-#[cfg(test)]
-mod tests;

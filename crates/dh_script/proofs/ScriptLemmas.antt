@@ -1,11 +1,10 @@
 -- Lines of a script.
-use Rattle.std.proofs.Common.{◌≡◌, false, Option, Some, Result, IfOk, option_and_then, ◌∙◌, ap}
+use Rattle.std.proofs.Common.{◌≡◌, Option, Some, Result, IfOk, option_and_then, ◌∙◌, ap}
 use Rattle.std.proofs.Common.{subst}
 use Rattle.std.proofs.lemmas.Result.{IfOk-weaker}
-use Rattle.dh_paths.specs.Places.{split_of}
 use Rattle.dh_paths.specs.declared.target.Target.{Target}
-use Rattle.dh_reply.specs.Replies.{is_system, reply_to}
-use Rattle.dh_reply.specs.declared.answer.Reply.{Reply}
+use Rattle.dh_reply.specs.Replies.{reply_to}
+use Rattle.dh_wire.specs.declared.answer.Reply.{Reply}
 use Rattle.dh_lookup.specs.declared.fault.Fault.{Fault}
 use Rattle.dh_world.specs.World.{Text, World}
 use Rattle.dh_world.specs.Seen.{seen}
@@ -16,10 +15,10 @@ use Rattle.dh_script.specs.Script.{outcome_of_read, GetsAt}
 
 -- the text of a read's outcome, whose reply is the definition's
 pub got : {S E : Type 0} (text_in : S → Text) (w : World) (named host : Text) (shown pass : Option Text) (t : Target) (reply : Result Reply Fault) (outcome : Outcome) (result : Result S E)
-    → (is_system (split_of t.path) ≡ false → IfOk reply (λ r. r ≡ reply_to (seen w (host_named named) (option_and_then pass_named shown)) t.path t.query))
+    → IfOk reply (λ r. r ≡ reply_to (seen w (host_named named) (option_and_then pass_named shown)) t.path t.query)
     → named ≡ host → shown ≡ pass → outcome ≡ outcome_of_read reply → IfOk result (λ text. text_in text ≡ text_of_outcome outcome)
     → IfOk result (λ text. GetsAt w host pass (Some t) (text_in text))
 got text_in w named host shown pass t reply outcome result value same_host same_pass same told =
-    let by_host = subst (λ (h : Text). is_system (split_of t.path) ≡ false → IfOk reply (λ r. r ≡ reply_to (seen w (host_named h) (option_and_then pass_named shown)) t.path t.query)) same_host value in
-    let by_pass = subst (λ (p : Option Text). is_system (split_of t.path) ≡ false → IfOk reply (λ r. r ≡ reply_to (seen w (host_named host) (option_and_then pass_named p)) t.path t.query)) same_pass by_host in
+    let by_host = subst (λ (h : Text). IfOk reply (λ r. r ≡ reply_to (seen w (host_named h) (option_and_then pass_named shown)) t.path t.query)) same_host value in
+    let by_pass = subst (λ (p : Option Text). IfOk reply (λ r. r ≡ reply_to (seen w (host_named host) (option_and_then pass_named p)) t.path t.query)) same_pass by_host in
     IfOk-weaker result _ _ (λ text e. (reply, by_pass, e ∙ ap text_of_outcome same)) told

@@ -1,11 +1,10 @@
 -- What a line of a script does and prints, and what a script leaves.
 use Rattle.std.specs.Prelude.{◌≡◌, ◌⊎◌, Bool, true, false, codes, Option, Some, None, option_and_then}
 use Rattle.std.specs.Prelude.{Result, Ok, Err, IfOk}
-use Rattle.dh_paths.specs.Places.{split_of}
 use Rattle.dh_paths.specs.Targets.{target_of}
 use Rattle.dh_paths.specs.declared.target.Target.{Target}
-use Rattle.dh_reply.specs.Replies.{is_system, reply_to}
-use Rattle.dh_reply.specs.declared.answer.Reply.{Reply}
+use Rattle.dh_reply.specs.Replies.{reply_to}
+use Rattle.dh_wire.specs.declared.answer.Reply.{Reply}
 use Rattle.dh_lookup.specs.declared.fault.Fault.{Fault}
 use Rattle.dh_world.specs.World.{Text, World}
 use Rattle.dh_world.specs.Seen.{seen}
@@ -38,12 +37,12 @@ Acts before c after text = (answer : Result Answer Refusal) × IsStep before aft
 
 -- a read of a target that is none prints `bad target`; any other prints the outcome of the read
 -- under the host named, whatever host the target gives: its reply is the definition's over what the
--- caller sees, but for `/robots.txt` and `/_/..`
+-- caller sees
 abbrev pub GetsAt : World → Text → Option Text → Option Target → Text → Type 0
 GetsAt w host pass None text = text ≡ codes "bad target"
 GetsAt w host pass (Some t) text =
     (reply : Result Reply Fault)
-    × (is_system (split_of t.path) ≡ false → IfOk reply (λ r. r ≡ reply_to (seen w (host_named host) (option_and_then pass_named pass)) t.path t.query))
+    × IfOk reply (λ r. r ≡ reply_to (seen w (host_named host) (option_and_then pass_named pass)) t.path t.query)
     × (text ≡ text_of_outcome (outcome_of_read reply))
 
 -- what a line does to the world, and prints; what is no line of a script prints `usage`, and

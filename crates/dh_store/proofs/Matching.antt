@@ -21,7 +21,7 @@ use Rattle.dh_rules.specs.declared.rule.Action.{Action}
 use Rattle.dh_rules.specs.declared.rule.Action.TheVariants.{Activate, Hide, Public, Private, Default}
 use Rattle.dh_redirects.specs.declared.redirect.RedirectKind.{RedirectKind}
 use Rattle.dh_redirects.specs.declared.redirect.RedirectKind.TheVariants.{Page, Exact, CleanToHtml, HtmlToClean}
-use Rattle.dh_records.specs.Codings.{is_tag, action_number, action_of, pattern_of, kind_number, kind_of}
+use Rattle.dh_records.specs.Codings.{is_tag, action_number, stored_action, stored_pattern, kind_number, stored_kind}
 use Rattle.dh_world.specs.World.{is_upload}
 use Rattle.dh_records.specs.Lists.{same_op}
 use Rattle.dh_world.specs.declared.operation.Operation.{Operation}
@@ -63,19 +63,19 @@ pub op_back : (o : Operation) → cond (is_set (flag (is_upload o))) Upload Push
 op_back Push = refl
 op_back Upload = refl
 
-pub action_back : (a : Action) → action_of (action_number a) ≡ a
+pub action_back : (a : Action) → stored_action (action_number a) ≡ a
 action_back Activate = refl
 action_back Hide = refl
 action_back Public = refl
 action_back Private = refl
 action_back Default = refl
 
-pub pattern_back : (p : Pattern) → pattern_of (pattern_text p) ≡ p
+pub pattern_back : (p : Pattern) → stored_pattern (pattern_text p) ≡ p
 pattern_back All = refl
 pattern_back SemVer = refl
 pattern_back (Custom text) = refl
 
-pub redirect_kind_back : (k : RedirectKind) → kind_of (kind_number k) ≡ k
+pub redirect_kind_back : (k : RedirectKind) → stored_kind (kind_number k) ≡ k
 redirect_kind_back Page = refl
 redirect_kind_back Exact = refl
 redirect_kind_back CleanToHtml = refl

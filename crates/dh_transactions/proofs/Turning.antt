@@ -8,7 +8,7 @@ use Rattle.dh_checks.specs.declared.checked.CheckedChange.{CheckedChange}
 use Rattle.dh_records.specs.Lists.{Lists, world_of}
 use Rattle.dh_transactions.specs.Sound.{AreSound, Turns, Steps}
 use Rattle.dh_world.specs.Checks.{IsFault}
-use Rattle.dh_world.specs.Step.{IsUntaken, IsSetAside, change_at, settled, turn, step, after_texts}
+use Rattle.dh_world.specs.Step.{RuleRefused, IsSetAside, change_at, settled, turn, step, after_texts}
 use Rattle.dh_world.specs.Texts.{bad_text}
 use Rattle.dh_world.specs.World.{Text, Project}
 use Rattle.dh_world.specs.declared.answer.Answer.{Answer}
@@ -35,14 +35,14 @@ right_texts lists c e = ap (after_texts (world_of lists) c) e
 pub steps_wrong
     : (start : Lists) (c : Command) (e : Refusal) (r : Result Answer Refusal)
     → IsErrAnd r (λ x. x ≡ e)
-    → (bad_text c ≡ Some e) ⊎ ((e ≡ OutOfMemory) ⊎ ((bad_text c ≡ None) × IsUntaken c.change e))
+    → (bad_text c ≡ Some e) ⊎ ((e ≡ OutOfMemory) ⊎ ((bad_text c ≡ None) × RuleRefused c.change e))
     → Steps start start c r
 steps_wrong start c e r is why =
     let at = err_from_is_err_and r is in
     subst (Steps start start c) (sym (at.1 ∙ ap Err at.2)) (refl, go why)
   where
     go
-        : (bad_text c ≡ Some e) ⊎ ((e ≡ OutOfMemory) ⊎ ((bad_text c ≡ None) × IsUntaken c.change e))
+        : (bad_text c ≡ Some e) ⊎ ((e ≡ OutOfMemory) ⊎ ((bad_text c ≡ None) × RuleRefused c.change e))
         → IsSetAside (world_of start) c e ⊎ (step (world_of start) c ≡ Err e)
     go (inl is) = inr (ap (after_texts (world_of start) c) is)
     go (inr (inl is)) = inl (inl (inr is))
@@ -69,5 +69,5 @@ ended start worked after kept c result (Err e) right same turned ok err = (err.0
       where
         turn_refused : Turns start worked c (Err e) → IsSetAside (world_of start) c e ⊎ (step (world_of start) c ≡ Err e)
         turn_refused (inl fault) = inl (inl fault)
-        turn_refused (inr (inl unrun)) = inl (inr (right, inr unrun))
+        turn_refused (inr (inl refused)) = inl (inr (right, inr refused))
         turn_refused (inr (inr is)) = inr (right_texts start c right ∙ is)

@@ -14,7 +14,7 @@ use Rattle.dh_transactions.specs.Finding.{FindsFacts}
 use Rattle.dh_transactions.specs.RowEdits.{RowsMayAll, all_rows_edited}
 use Rattle.dh_transactions.specs.Sound.{AreSound, Turns}
 use Rattle.dh_world.specs.Changes as world
-use Rattle.dh_world.specs.Step.{settled, IsUnrun, IsUnrunAt}
+use Rattle.dh_world.specs.Step.{settled, PushRefused, PushRefusedAt}
 use Rattle.dh_world.specs.World.{Text}
 use Rattle.dh_world.specs.declared.answer.Answer.{Answer}
 use Rattle.dh_world.specs.declared.refusal.Refusal.{Refusal}
@@ -31,11 +31,11 @@ module _ (host : Text) (change : CheckedChange) (lists : Lists) (f : Facts) (fou
       subst (Turns lists after (command_of host change)) (sym (at.1 ∙ ap Err at.2)) (go (decided found.0 found.2))
     where
       go
-          : ((e ≡ OutOfMemory) ⊎ (world.change (change_of change) found.0 ≡ Err e)) ⊎ IsUnrun (change_of change) found.0 e
+          : ((e ≡ OutOfMemory) ⊎ (world.change (change_of change) found.0 ≡ Err e)) ⊎ PushRefused (change_of change) found.0 e
           → Turns lists after (command_of host change) (Err e)
       go (inl (inl memory)) = inl (inr memory)
       go (inl (inr is)) = inr (inr (turn_at host change lists (Some found.0) found.1 ∙ ap (settled (world_of lists) host) is))
-      go (inr unrun) = inr (inl (subst (λ o. IsUnrunAt (change_of change) o e) (sym found.1) unrun))
+      go (inr refused) = inr (inl (subst (λ o. PushRefusedAt (change_of change) o e) (sym found.1) refused))
 
   module _ (sound : AreSound lists) (plan : Planned) (decided : Decides change f (Ok plan)) where
     pub edits_may : RowsMayAll host plan.edits lists

@@ -4,7 +4,7 @@ use Rattle.std.specs.FinMap.{get}
 use Rattle.dh_records.specs.Lists.{Lists, world_of}
 use Rattle.dh_records.specs.Constraints.{AreInOrder, KeepsConstraints}
 use Rattle.dh_world.specs.Checks.{IsFault}
-use Rattle.dh_world.specs.Step.{turn, step, IsUnrunAt, IsSetAside}
+use Rattle.dh_world.specs.Step.{turn, step, PushRefusedAt, IsSetAside}
 use Rattle.dh_world.specs.declared.answer.Answer.{Answer}
 use Rattle.dh_world.specs.declared.command.Command.{Command}
 use Rattle.dh_world.specs.declared.refusal.Refusal.{Refusal}
@@ -20,7 +20,7 @@ Turns before after c (Ok answer) =
     (turn (world_of before) c ≡ Ok (world_of after, answer)) × AreSound after
 Turns before after c (Err e) =
     IsFault e
-    ⊎ (IsUnrunAt c.change (get (world_of before) c.host) e ⊎ (turn (world_of before) c ≡ Err e))
+    ⊎ (PushRefusedAt c.change (get (world_of before) c.host) e ⊎ (turn (world_of before) c ≡ Err e))
 
 -- a command in whole, by what is committed
 abbrev pub Steps : Lists → Lists → Command → Result Answer Refusal → Type 0

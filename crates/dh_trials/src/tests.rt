@@ -2,6 +2,8 @@
 
 mod answers;
 mod memory;
+mod requests;
+mod rows;
 mod tables;
 mod uploads;
 

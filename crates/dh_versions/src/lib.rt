@@ -10,6 +10,3 @@ pub use aliases::{higher, latest, stable};
 pub use laws::releases_by_grammar;
 pub use releases::{is_semver, release};
 pub use version::{Kind, Version};
-
-#[cfg(test)]
-mod tests;

@@ -18,12 +18,12 @@ refusal_of text.BadToken = BadToken
 refusal_of text.BadTarget = BadPath
 refusal_of text.Memory = OutOfMemory
 
--- a text that passes is taken as it is; the refusal comes only of one that does not pass, or of want of memory
+-- a text that passes is taken as it is; the refusal is of one that does not pass, or out of memory
 abbrev pub Reads : (Text → Bool) → Refusal → Text → Result Text Refusal → Type 0
 Reads test refusal text (Ok value) = (value ≡ text) × (test text ≡ true)
 Reads test refusal text (Err e) = ((e ≡ refusal) × (test text ≡ false)) ⊎ (e ≡ OutOfMemory)
 
--- what has the property is answered only where nothing is wrong; a refusal is the first wrong thing, or want of memory
+-- what has the property is answered only where nothing is wrong; a refusal is the first wrong thing, or out of memory
 abbrev pub Checks : {A : Type 0} → Option Refusal → (A → Type 0) → Result A Refusal → Type 0
 Checks wrong P (Ok value) = (wrong ≡ None) × P value
 Checks wrong P (Err e) = (wrong ≡ Some e) ⊎ (e ≡ OutOfMemory)

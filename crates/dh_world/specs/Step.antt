@@ -40,13 +40,13 @@ step w c = after_texts w c (bad_text c)
 
 -- ---- what is set aside
 
--- `regex` may take no custom pattern, as one that is too big: then it refuses a rule that is to be added
-abbrev pub IsUntaken : CommandChange → Refusal → Type 0
-IsUntaken (AddRule place rule) e = IsCustom rule.pattern × (e ≡ BadPattern)
-IsUntaken _ e = ⊥
+-- a rule with a custom pattern, which `regex` may refuse as too big, is to be added, and the refusal is its own
+abbrev pub RuleRefused : CommandChange → Refusal → Type 0
+RuleRefused (AddRule place rule) e = IsCustom rule.pattern × (e ≡ BadPattern)
+RuleRefused _ e = ⊥
 
 -- a push makes a version of the project, so that the rules run, and at a place stands one of its kind with a custom pattern
-pub record RunsCustom (p : Project) (wkey key : Text) (kind : Kind) (name : Text) (e : Refusal) : Type 0 where
+pub record RunsCustomRule (p : Project) (wkey key : Text) (kind : Kind) (name : Text) (e : Refusal) : Type 0 where
   pub right_key : bytes_eq wkey p.wkey ≡ true
   pub unused : get p.used (push_key (slug_text name) key) ≡ None
   pub new : get p.versions (slug_text name) ≡ None
@@ -54,18 +54,18 @@ pub record RunsCustom (p : Project) (wkey key : Text) (kind : Kind) (name : Text
   pub custom : IsCustomAt p.rules kind place
   pub refused : e ≡ PatternRefused place
 
--- and then it refuses a push
-abbrev pub IsUnrun : CommandChange → Project → Refusal → Type 0
-IsUnrun (Push wkey key kind name) p e = RunsCustom p wkey key kind name e
-IsUnrun _ p e = ⊥
+-- a push runs such a rule, and the refusal is its own
+abbrev pub PushRefused : CommandChange → Project → Refusal → Type 0
+PushRefused (Push wkey key kind name) p e = RunsCustomRule p wkey key kind name e
+PushRefused _ p e = ⊥
 
-abbrev pub IsUnrunAt : CommandChange → Option Project → Refusal → Type 0
-IsUnrunAt c None e = ⊥
-IsUnrunAt c (Some p) e = IsUnrun c p e
+abbrev pub PushRefusedAt : CommandChange → Option Project → Refusal → Type 0
+PushRefusedAt c None e = ⊥
+PushRefusedAt c (Some p) e = PushRefused c p e
 
--- What may refuse a command besides its step: a fault, or a custom pattern that `regex` does not take, where the texts are right.
+-- What may refuse a command besides its step: a fault; or, where the texts are right, a custom pattern, which `regex` may refuse.
 abbrev pub IsSetAside : World → Command → Refusal → Type 0
-IsSetAside w c e = IsFault e ⊎ ((bad_text c ≡ None) × (IsUntaken c.change e ⊎ IsUnrunAt c.change (get w c.host) e))
+IsSetAside w c e = IsFault e ⊎ ((bad_text c ≡ None) × (RuleRefused c.change e ⊎ PushRefusedAt c.change (get w c.host) e))
 
 -- An accepted command is one step; a refused one changes nothing, and the refusal is the step's or one set aside.
 abbrev pub IsStep : World → World → Command → Result Answer Refusal → Type 0

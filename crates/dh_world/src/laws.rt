@@ -10,7 +10,7 @@ pub fn veil_law()
     ensures { (w : World) (host pass : Option Text) → seen (veil w host pass) host pass ≡ seen w host pass }
 {}
 
-/// Each reply to a caller is the reply in the world that holds nothing but what he sees.
+/// Each reply to a caller, at every path, is the reply in the world that holds nothing but what he sees.
 pub fn veiled_reply()
     ensures { (w : World) (host pass : Option Text) (path : Text) (query : Option Text) → reply_to (seen (veil w host pass) host pass) path query ≡ reply_to (seen w host pass) path query }
 {}

@@ -57,7 +57,7 @@ pub enum Refusal {
     PatternRefused(u32),
     /// The store failed.
     Store,
-    /// Want of memory.
+    /// Out of memory.
     OutOfMemory,
 }
 

@@ -4,7 +4,7 @@
 mod answer;
 mod filling;
 
-use answer::answer_sample;
+use answer::{SampleFault, answer_sample};
 use clap::Error;
 use dh_lines::{LineFault, Order, docs_command, line_of};
 use dh_ports::Port;
@@ -90,6 +90,7 @@ fn main(rt: HostRuntime) -> ExitCode {
     match order {
         Order::Answer => match answer_sample(rt.alloc(), &mut source, &mut sink) {
             Ok(_) => ExitCode::SUCCESS,
+            Err(SampleFault::Store) => fail(&rt, "Store", FAULT),
             Err(fault) => {
                 let _ = eprintln!(rt; "fault {fault}");
                 ExitCode::from(UNANSWERED)

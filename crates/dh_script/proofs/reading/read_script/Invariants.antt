@@ -6,12 +6,12 @@ use Rattle.dh_script.proofs.reading.read_script.Given as goal
 abbrev pub invariant-pieces : goal.invariant-pieces
 invariant-pieces g l = record {
   taken : Consumes (g.R.Source.left l.fn.source) (g.R.Source.left l.source) l.intake.bytes.items;
-  asked : CountsUpTo (g.R.Source.fills l.fn.source) (g.R.Source.fills l.source) l.intake.turns;
-  counted : CountsAtLeast (g.R.Source.fills l.fn.source) (g.R.Source.fills l.source) l.intake.turns;
+  asked : CountsUpTo (g.R.Source.fills l.fn.source) (g.R.Source.fills l.source) l.intake.reads;
+  counted : CountsAtLeast (g.R.Source.fills l.fn.source) (g.R.Source.fills l.source) l.intake.reads;
   little : length l.intake.bytes.items ≤ 1048576;
-  few : l.intake.turns ≤ 100000;
+  few : l.intake.reads ≤ 100000;
   fine : g.R.Source.broken l.source ≡ false;
 }
 
 abbrev pub decreases-pieces : goal.decreases-pieces
-decreases-pieces g l = 100000 - l.intake.turns
+decreases-pieces g l = 100000 - l.intake.reads

@@ -1,12 +1,15 @@
-use Rattle.docs_host.specs.Answer.{AnswersSource}
-use Rattle.docs_host.specs.SampleWorld.{sample_world}
-use Rattle.docs_host.proofs.AnswerLemmas.{request_answered, sent_as, unread}
+use Rattle.std.proofs.Common.{refl}
+use Rattle.sqlite.proofs.Callers.{memory_is_clean}
+use Rattle.sqlite.specs.Steps.{over_memory}
+use Rattle.dh_desk.specs.Desk.{world}
+use Rattle.docs_host.proofs.AnswerLemmas.{sample_answered, unmade_answered}
 use Rattle.docs_host.proofs.answer.answer_sample.Goals as goal
 
 pub returns-in-Ok-clause-writes : goal.returns-in-Ok-clause-writes
 returns-in-Ok-clause-writes g c =
-    request_answered sample_world _ _ _ c.in-Ok.request c.answer_request.result c.in-Ok.ensures.asked c.answer_request.ensures.writes
+    sample_answered (world over_memory c.in-Ok.desk) (world over_memory c.answer.new.desk) (g.R.Source.left c.args.source.now) _ _ c.answer.result _ c.told.ensures.told c.in-Ok.ensures
+    (c.answer.ensures.answers (memory_is_clean c.answer.new.desk.tables, refl))
 
-pub returns-in-Err-Memory-clause-writes : goal.returns-in-Err-Memory-clause-writes
-returns-in-Err-Memory-clause-writes g c =
-    sent_as (AnswersSource sample_world (g.R.Source.left c.args.source.now)) _ _ 503 c.unavailable_bytes.result.now _ (unread sample_world _ _ c.unavailable_bytes.ensures) c.send.ensures.writes
+pub returns-in-Err-OutOfMemory-clause-writes : goal.returns-in-Err-OutOfMemory-clause-writes
+returns-in-Err-OutOfMemory-clause-writes g c =
+    unmade_answered (g.R.Source.left c.args.source.now) _ _ c.answer_unavailable.result _ c.told-in-Err-OutOfMemory.ensures.told c.answer_unavailable.ensures.writes

@@ -1,0 +1,12 @@
+//! The JSON bodies of POST: which change one asks for. Nothing here knows HTTP.
+#![tactic(auto)]
+
+pub mod change;
+mod field;
+mod laws;
+mod page;
+pub mod post;
+
+pub use change::read_change;
+pub use laws::{base64_is_exact, last_value_counts};
+pub use post::Post;

@@ -1,0 +1,40 @@
+-- The headline, from what is said of each request.
+use Rattle.std.proofs.Common.{◌≡◌, ◌⊎◌, ℕ, Bool, false, List, Option, Some, None, Result, Ok, Err, inl, inr, ap, subst, ◌∙◌}
+use Rattle.dh_wire.specs.Wire.{reply_bytes_of}
+use Rattle.dh_wire.specs.declared.answer.Read.{Read}
+use Rattle.dh_wire.specs.declared.answer.Reply.{Reply}
+use Rattle.dh_requests.specs.declared.request.Request.{Request}
+use Rattle.dh_requests.specs.declared.request.Request.TheVariants as request
+use Rattle.dh_requests.specs.Request.{IsRequest}
+use Rattle.dh_requests.proofs.Requests.{one}
+use Rattle.dh_world.specs.World.{World}
+use Rattle.dh_http.specs.declared.fault.Done.{Done}
+use Rattle.dh_http.specs.declared.fault.EngineFault.{EngineFault}
+use Rattle.dh_http.specs.Commands.{unavailable}
+use Rattle.dh_http.specs.Answers.{IsReplyTo, MayDo, IsWritten, AnswersRequest, AnswersSource, Writes}
+use Rattle.dh_http.specs.Headline.{read_bytes, IsUnavailable, AnswersRead, Headline}
+
+-- the bytes that answer a read request
+read_answered : (before after : World) (host pass : Option (List ℕ)) (read : Read) (head : Bool) (status : ℕ) (text : List ℕ) (reply : Reply)
+    → IsReplyTo before after (request.Read host pass read head) reply ⊎ ((reply ≡ unavailable) × MayDo before after (request.Read host pass read head))
+    → IsWritten reply head status text
+    → (text ≡ read_bytes before host pass read head) ⊎ IsUnavailable text
+read_answered before after host pass read head status text reply (inl is) written =
+    inl (written.text_is ∙ ap (λ r. reply_bytes_of r head) is.1)
+read_answered before after host pass read head status text reply (inr un) written =
+    inr (head, written.text_is ∙ ap (λ r. reply_bytes_of r head) un.0)
+
+answered_as : (before after : World) (a b : Request) (status : ℕ) (text : List ℕ) → a ≡ b → AnswersRequest before after a status text → AnswersRequest before after b status text
+answered_as before after a b status text same h = subst (λ q. AnswersRequest before after q status text) same h
+
+input_answered : (before after : World) (input : List ℕ) (status : ℕ) (text : List ℕ) → AnswersSource (Some input) before after status text → AnswersRead before input text
+input_answered before after input status text (inl a) host pass read head is =
+    let b = answered_as before after a.0 (request.Read host pass read head) status text (one input a.0 (request.Read host pass read head) a.1 is) a.2 in
+    read_answered before after host pass read head status text b.0 b.1 b.2
+input_answered before after input status text (inr un) host pass read head is = inr (false, un.1.text_is)
+
+pub headline_of : (before after : World) (left held now : Option (List ℕ)) (result : Result Done EngineFault) → Writes (AnswersSource left before after) held now result → Headline before left held now result
+headline_of before after left held now (Err e) w = tt
+headline_of before after None held now (Ok done) w = tt
+headline_of before after (Some input) held now (Ok done) w =
+    (w.0, w.2, input_answered before after input done.status w.0 w.1)

@@ -1,0 +1,30 @@
+use Rattle.std.proofs.Common.{◌≡◌, refl}
+use Rattle.dh_desk.specs.Desk.{world}
+use Rattle.dh_http.proofs.Headlines.{headline_of}
+use Rattle.dh_http.proofs.Writing.{request_answered, unread_answered, in_vain, anyway}
+use Rattle.dh_http.proofs.answering.answer.Goals as goal
+
+pub returns-in-Ok-clause-answers : goal.returns-in-Ok-clause-answers
+returns-in-Ok-clause-answers g c honest =
+    request_answered (world g.S.Store c.args.desk.now) (world g.S.Store c.answer_request.new.desk) (g.R.Source.left c.args.source.now) _ _ c.in-Ok.request c.answer_request.result c.in-Ok.ensures.asked (c.answer_request.ensures.writes honest)
+
+pub returns-in-Ok-clause-headline : goal.returns-in-Ok-clause-headline
+returns-in-Ok-clause-headline g c honest =
+    headline_of (world g.S.Store c.args.desk.now) (world g.S.Store c.answer_request.new.desk) (g.R.Source.left c.args.source.now) _ _ c.answer_request.result (returns-in-Ok-clause-answers g c honest)
+
+pub returns-in-Err-Memory-clause-answers : goal.returns-in-Err-Memory-clause-answers
+returns-in-Err-Memory-clause-answers g c honest =
+    unread_answered (world g.S.Store c.args.desk.now) (g.R.Source.left c.args.source.now) _ _ c.answer_unavailable.result c.answer_unavailable.ensures.writes
+
+pub returns-in-Ok-clause-refused : goal.returns-in-Ok-clause-refused
+returns-in-Ok-clause-refused g c =
+    in_vain (c.answer_request.new.desk ≡ c.args.desk.now) (g.R.Source.left c.args.source.now) c.in-Ok.request c.in-Ok.ensures.asked c.answer_request.ensures.refused
+
+pub returns-in-Err-Memory-clause-refused : goal.returns-in-Err-Memory-clause-refused
+returns-in-Err-Memory-clause-refused g c = anyway (c.args.desk.now ≡ c.args.desk.now) (g.R.Source.left c.args.source.now) refl
+
+pub returns-in-Err-Read-clause-refused : goal.returns-in-Err-Read-clause-refused
+returns-in-Err-Read-clause-refused g c = anyway (c.args.desk.now ≡ c.args.desk.now) (g.R.Source.left c.args.source.now) refl
+
+pub returns-in-Err-TooManyTurns-clause-refused : goal.returns-in-Err-TooManyTurns-clause-refused
+returns-in-Err-TooManyTurns-clause-refused g c = anyway (c.args.desk.now ≡ c.args.desk.now) (g.R.Source.left c.args.source.now) refl

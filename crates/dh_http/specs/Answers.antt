@@ -1,0 +1,126 @@
+-- What is written for a request, and what it does to the world.
+use Rattle.std.specs.Prelude.{◌≡◌, ◌⊎◌, ℕ, ◌≤◌, Bool, true, false, List, Option, Some, None, Result, Ok, Err, IfSome, length, option_and_then}
+use Rattle.std.specs.Io.KnownBytes.{Appends}
+use Rattle.dh_ports.specs.Ports.{PutsFirst}
+use Rattle.dh_reply.specs.Replies.{reply_to}
+use Rattle.dh_wire.specs.Statuses.{fault_reply_of}
+use Rattle.dh_wire.specs.Wire.{reply_bytes_of}
+use Rattle.dh_wire.specs.declared.answer.Read.{Read}
+use Rattle.dh_wire.specs.declared.answer.Reply.{Reply}
+use Rattle.dh_requests.specs.Request.{IsRequest}
+use Rattle.dh_requests.specs.declared.request.Request.{Request}
+use Rattle.dh_requests.specs.declared.request.Request.TheVariants as request
+use Rattle.dh_world.specs.World.{World}
+use Rattle.dh_world.specs.Seen.{seen}
+use Rattle.dh_world.specs.Reads.{pass_named}
+use Rattle.dh_world.specs.Step.{IsStep}
+use Rattle.dh_world.specs.declared.answer.Answer.{Answer}
+use Rattle.dh_world.specs.declared.command.Command.{Command}
+use Rattle.dh_world.specs.declared.refusal.Refusal.{Refusal}
+use Rattle.dh_http.specs.Commands.{unavailable, command_reply}
+use Rattle.dh_http.specs.declared.fault.Done.{Done}
+use Rattle.dh_http.specs.declared.fault.EngineFault.{EngineFault}
+use Rattle.dh_http.specs.declared.fault.EngineFault.TheVariants as fault
+
+-- the pass of a request: bytes that are no pass count as none
+abbrev pub pass_shown : Option (List ℕ) → Option (List ℕ)
+pass_shown = option_and_then pass_named
+
+-- the reply to a read: that of the definition, of what the caller sees of the world
+abbrev pub read_reply : World → Option (List ℕ) → Option (List ℕ) → Read → Reply
+read_reply world host pass read =
+    reply_to (seen world host (pass_shown pass)) read.path read.query
+
+-- a command is one step of the world, or is refused, or set aside, and this replies to it
+abbrev pub IsAppliedAs : World → World → Command → Reply → Type 0
+IsAppliedAs before after command reply =
+    (outcome : Result Answer Refusal)
+    × IsStep before after command outcome
+    × (reply ≡ command_reply outcome)
+
+-- the reply to a request: a command alone changes the world
+abbrev pub IsReplyTo : World → World → Request → Reply → Type 0
+IsReplyTo before after (request.Read host pass read head) reply =
+    (after ≡ before) × (reply ≡ read_reply before host pass read)
+IsReplyTo before after (request.Apply command) reply = IsAppliedAs before after command reply
+IsReplyTo before after (request.Refused status allow head) reply =
+    (after ≡ before) × (reply ≡ fault_reply_of status allow)
+
+-- a command was done, or refused, or set aside
+abbrev pub MayApply : World → World → Command → Type 0
+MayApply before after command =
+    (outcome : Result Answer Refusal) × IsStep before after command outcome
+
+-- what a request does that gets no reply of its own: a command is done or not
+abbrev pub MayDo : World → World → Request → Type 0
+MayDo before after (request.Read host pass read head) = after ≡ before
+MayDo before after (request.Apply command) = MayApply before after command
+MayDo before after (request.Refused status allow head) = after ≡ before
+
+-- the reply to a request, where one was made
+abbrev pub Makes : World → World → Request → Option Reply → Type 0
+Makes before after request (Some reply) = IsReplyTo before after request reply
+Makes before after request None = MayDo before after request
+
+-- the reply's body is left out
+abbrev pub is_bodiless : Request → Bool
+is_bodiless (request.Read host pass read head) = head
+is_bodiless (request.Apply command) = false
+is_bodiless (request.Refused status allow head) = head
+
+-- the status and the bytes of a reply, with its body or without
+pub record IsWritten (reply : Reply) (head : Bool) (status : ℕ) (text : List ℕ) : Type 0 where
+  pub status_is : status ≡ reply.status
+  pub text_is : text ≡ reply_bytes_of reply head
+
+-- the status and the bytes that answer a request: those of its reply; or of a 503, whose cause is not told
+abbrev pub AnswersRequest : World → World → Request → ℕ → List ℕ → Type 0
+AnswersRequest before after request status text =
+    (reply : Reply)
+    × (IsReplyTo before after request reply
+    ⊎ ((reply ≡ unavailable) × MayDo before after request))
+    × IsWritten reply (is_bodiless request) status text
+
+-- the same for a source: of the request that it holds, and of some request where it does not tell its bytes; or a 503 before
+-- the request was known, and then nothing was done
+abbrev pub AnswersSource : Option (List ℕ) → World → World → ℕ → List ℕ → Type 0
+AnswersSource left before after status text =
+    ((request : Request)
+    × IfSome left (λ input. IsRequest input request)
+    × AnswersRequest before after request status text)
+    ⊎ ((after ≡ before) × IsWritten unavailable false status text)
+
+-- a whole answer was written, and its status told; or exactly its first n bytes, where the writer failed; or nothing
+abbrev pub Writes
+    : (ℕ → List ℕ → Type 0) → Option (List ℕ) → Option (List ℕ) → Result Done EngineFault → Type 0
+Writes IsAnswer held now (Ok done) =
+    (text : List ℕ) × IsAnswer done.status text × Appends held now text
+Writes IsAnswer held now (Err (fault.Write n)) =
+    (status : ℕ) × (text : List ℕ) × IsAnswer status text × PutsFirst held now text n
+Writes IsAnswer held now (Err fault.Read) = now ≡ held
+Writes IsAnswer held now (Err fault.TooManyTurns) = now ≡ held
+
+-- the answer is that the reader failed
+abbrev pub reader_failed : Result Done EngineFault → Bool
+reader_failed (Err fault.Read) = true
+reader_failed _ = false
+
+-- the answer is that the writer failed
+abbrev pub writer_failed : Result Done EngineFault → Bool
+writer_failed (Err (fault.Write n)) = true
+writer_failed _ = false
+
+-- the answer is that no whole request was read
+abbrev pub is_unread : Result Done EngineFault → Bool
+is_unread (Err fault.Read) = true
+is_unread (Err fault.TooManyTurns) = true
+is_unread _ = false
+
+-- a request that asks for nothing that can be done
+abbrev pub IsRefusal : Request → Type 0
+IsRefusal (request.Refused status allow head) = Unit {0}
+IsRefusal _ = ⊥
+
+-- the input is one
+abbrev pub AsksInVain : List ℕ → Type 0
+AsksInVain input = (request : Request) × IsRequest input request × IsRefusal request

@@ -1,0 +1,65 @@
+-- The reply to a command, by what came of it.
+use Rattle.std.specs.Prelude.{ℕ, List, None, Some, Result, Ok, Err, codes, unwrap_or}
+use Rattle.serde_json.specs.Data.{Data, number, unsigned, string, object, no_members, member}
+use Rattle.serde_json.specs.Written.{compact_text}
+use Rattle.dh_wire.specs.declared.answer.Reply.{Reply}
+use Rattle.dh_wire.specs.Bodies.{json, body_reply}
+use Rattle.dh_wire.specs.Statuses.{fault_reply_of}
+use Rattle.dh_world.specs.Answers.{data_of}
+use Rattle.dh_world.specs.Refusals.{number_of}
+use Rattle.dh_world.specs.declared.answer.Answer.{Answer}
+use Rattle.dh_world.specs.declared.refusal.Refusal.{Refusal}
+use Rattle.dh_world.specs.declared.refusal.Refusal.TheVariants.{BadHost, BadLang, BadRef, BadPath, BadPage, BadPattern, BadRedirect, BadToken, BadKey, NoProject, WrongKey, ProjectTaken, LangTaken, NoLang, NoVersion, SlugTaken, Inactive, BadPlace, TooMany, PassTaken, NoPass, PatternRefused, Store, OutOfMemory}
+
+-- the constant 503, where a reply cannot be made
+abbrev pub unavailable : Reply
+unavailable = fault_reply_of 503 None
+
+-- the status of a refused command (RFC 9110, sections 15.5 and 15.6)
+abbrev pub status_of : Refusal → ℕ
+status_of BadHost = 404
+status_of NoProject = 404
+status_of BadToken = 403
+status_of WrongKey = 403
+status_of BadLang = 400
+status_of BadRef = 400
+status_of BadPath = 400
+status_of BadPage = 400
+status_of BadPattern = 400
+status_of (BadRedirect fault) = 400
+status_of BadKey = 400
+status_of (PatternRefused place) = 503
+status_of Store = 503
+status_of OutOfMemory = 503
+status_of ProjectTaken = 409
+status_of LangTaken = 409
+status_of NoLang = 409
+status_of NoVersion = 409
+status_of SlugTaken = 409
+status_of Inactive = 409
+status_of BadPlace = 409
+status_of TooMany = 409
+status_of PassTaken = 409
+status_of NoPass = 409
+
+-- `{"answer":"done"}`, which answers no push or upload
+abbrev pub done_data : Data
+done_data = object (member (codes "answer") (string (codes "done")) no_members)
+
+-- the answer as a JSON object, with no spaces
+abbrev pub answer_text : Answer → List ℕ
+answer_text answer = compact_text (unwrap_or (data_of answer) done_data)
+
+-- `{"refused":N}`, by the number of the refusal
+abbrev pub refused_data : ℕ → Data
+refused_data n = object (member (codes "refused") (number (unsigned n)) no_members)
+
+-- the reply to a refused command; out of memory, the constant 503
+abbrev pub refused_reply : Refusal → Reply
+refused_reply OutOfMemory = unavailable
+refused_reply e = body_reply (status_of e) json (compact_text (refused_data (number_of e)))
+
+-- the reply to a command
+abbrev pub command_reply : Result Answer Refusal → Reply
+command_reply (Ok answer) = body_reply 200 json (answer_text answer)
+command_reply (Err e) = refused_reply e

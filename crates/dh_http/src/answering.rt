@@ -1,0 +1,165 @@
+//! One request: read, done and answered.
+
+ghost use Rattle.std.specs.Prelude.{◌≡◌, true, false, IfSome, IsErrOf, option_map, if◌then◌else◌};
+ghost use Rattle.dh_ports.specs.Ports.{CountsUpTo, CountsAtLeast};
+ghost use Rattle.dh_requests.specs.Needs.{IsNeeded};
+ghost use Rattle.dh_requests.specs.Takes.{TookAtLeast};
+ghost use Rattle.dh_wire.specs.Wire.{head_of};
+ghost use Rattle.dh_rows.specs.Calls.{IsHonest};
+ghost use Rattle.dh_desk.specs.Desk.{world};
+ghost use Rattle.dh_http.specs.Answers as spec;
+ghost use Rattle.dh_http.specs.Headline.{Headline};
+
+use crate::callers::{host_text, pass_text};
+use crate::commands::command_reply;
+use crate::fault::{Done, EngineFault};
+use crate::sending::{answer_unavailable, send_reply};
+use dh_desk::Desk;
+use dh_paths::{Bytes, HostName};
+use dh_ports::{Sink, Source};
+use dh_reply::{Read, Reply, fault_reply, head_bytes};
+use dh_requests::{Request, Stop, read_request};
+use dh_world::Command;
+use sqlite::Alter;
+use std::alloc::Global;
+
+/// The reply to a read, unless memory is out or the store fails.
+fn read_reply<S: Alter>(
+    alloc: Global,
+    desk: &mut Desk<S>,
+    host: &Option<HostName>,
+    pass: &Option<Bytes>,
+    read: &Read,
+) -> Option<Reply>
+    ensures reply { IsHonest S.Store desk.new.tables → IfSome result (λ r. r
+        ≡ spec.read_reply (world S.Store desk.old) host.now pass.now read.now) }
+    ensures same { IsHonest S.Store desk.new.tables
+        → world S.Store desk.new ≡ world S.Store desk.old }
+    ensures was { IsHonest S.Store desk.new.tables → IsHonest S.Store desk.old.tables }
+{
+    desk.read(alloc, host_text(host), pass_text(pass), read)
+        .ok()
+}
+
+/// Does a command, and gives its reply, unless memory is out.
+fn apply_reply<S: Alter>(alloc: Global, desk: &mut Desk<S>, command: &Command) -> Option<Reply>
+    ensures reply { IsHonest S.Store desk.new.tables → IfSome result
+        (spec.IsAppliedAs (world S.Store desk.old) (world S.Store desk.new) command.now) }
+    ensures done { IsHonest S.Store desk.new.tables → spec.MayApply
+        (world S.Store desk.old) (world S.Store desk.new) command.now }
+    ensures was { IsHonest S.Store desk.new.tables → IsHonest S.Store desk.old.tables }
+{
+    command_reply(alloc, desk.apply(alloc, command)).ok()
+}
+
+/// Does what a request asks for, and gives the reply, unless memory is out or the store fails in a
+/// read.
+fn request_reply<S: Alter>(alloc: Global, desk: &mut Desk<S>, request: &Request) -> Option<Reply>
+    ensures makes { IsHonest S.Store desk.new.tables → spec.Makes
+        (world S.Store desk.old) (world S.Store desk.new) request.now result }
+    ensures refused { spec.IsRefusal request.now → desk.new ≡ desk.old }
+    ensures was { IsHonest S.Store desk.new.tables → IsHonest S.Store desk.old.tables }
+{
+    match request {
+        Request::Read {
+            host,
+            pass,
+            read,
+            ..
+        } => read_reply(alloc, desk, host, pass, read),
+        Request::Apply { command } => apply_reply(alloc, desk, command),
+        Request::Refused { status, allow, .. } => fault_reply(alloc, *status, *allow).ok(),
+    }
+}
+
+fn is_bodiless(request: &Request) -> bool
+    ensures { result ≡ spec.is_bodiless request.now }
+{
+    match request {
+        Request::Read { head, .. } => *head,
+        Request::Apply { .. } => false,
+        Request::Refused { head, .. } => *head,
+    }
+}
+
+/// The reply to a request, and its bytes up to the body, unless memory is out or the store fails in a
+/// read.
+fn make_answer<S: Alter>(
+    alloc: Global,
+    desk: &mut Desk<S>,
+    request: &Request,
+) -> Option<(Reply, Vec<u8>)>
+    ensures makes { IsHonest S.Store desk.new.tables → spec.Makes
+        (world S.Store desk.old) (world S.Store desk.new) request.now
+        (option_map (λ made. made.0) result) }
+    ensures head { IfSome result (λ made. made.1.items ≡ head_of made.0) }
+    ensures refused { spec.IsRefusal request.now → desk.new ≡ desk.old }
+    ensures was { IsHonest S.Store desk.new.tables → IsHonest S.Store desk.old.tables }
+{
+    let reply = request_reply(alloc, desk, request)?;
+    let head = head_bytes(alloc, &reply).ok()?;
+    Some((reply, head))
+}
+
+/// Answers a request, by the constant 503 where no reply can be made.
+fn answer_request<S: Alter, W: Sink>(
+    alloc: Global,
+    desk: &mut Desk<S>,
+    request: &Request,
+    sink: &mut W,
+) -> Result<Done, EngineFault>
+    requires { W.broken sink.old ≡ false }
+    ensures writes { IsHonest S.Store desk.new.tables → spec.Writes
+        (spec.AnswersRequest (world S.Store desk.old) (world S.Store desk.new) request.now)
+        (W.held sink.old) (W.held sink.new) result }
+    ensures refused { spec.IsRefusal request.now → desk.new ≡ desk.old }
+    ensures writer_fault { W.broken sink.new ≡ spec.writer_failed result }
+    ensures read { spec.is_unread result ≡ false }
+    ensures was { IsHonest S.Store desk.new.tables → IsHonest S.Store desk.old.tables }
+{
+    match make_answer(alloc, desk, request) {
+        Some((reply, head)) => send_reply(sink, &reply, head.as_slice(), is_bodiless(request)),
+        None => answer_unavailable(sink, is_bodiless(request)),
+    }
+}
+
+/// Reads one request, does what it asks for, and writes the whole reply to it.
+///
+/// A read is answered by what its caller sees of the project of its host; a POST to `/_/push` or
+/// `/_/upload` is one command; anything else is refused, and the desk is not asked. Out of memory, and where the store fails
+/// in a read, the reply is 503. At `Write` an accepted command stays.
+pub fn answer<S: Alter, R: Source, W: Sink>(
+    alloc: Global,
+    desk: &mut Desk<S>,
+    source: &mut R,
+    sink: &mut W,
+) -> Result<Done, EngineFault>
+    requires reader { R.broken source.old ≡ false }
+    requires writer { W.broken sink.old ≡ false }
+    ensures answers { IsHonest S.Store desk.new.tables → spec.Writes
+        (spec.AnswersSource (R.left source.old) (world S.Store desk.old) (world S.Store desk.new))
+        (W.held sink.old) (W.held sink.new) result }
+    ensures headline { IsHonest S.Store desk.new.tables → Headline
+        (world S.Store desk.old) (R.left source.old) (W.held sink.old) (W.held sink.new) result }
+    ensures unread { spec.is_unread result ≡ true
+        → (desk.new ≡ desk.old) × (sink.new ≡ sink.old) }
+    ensures refused { IfSome (R.left source.old)
+        (λ input. spec.AsksInVain input → desk.new ≡ desk.old) }
+    ensures was { IsHonest S.Store desk.new.tables → IsHonest S.Store desk.old.tables }
+    ensures reader_fault { R.broken source.new ≡ spec.reader_failed result }
+    ensures writer_fault { W.broken sink.new ≡ spec.writer_failed result }
+    ensures needed { IsNeeded (R.left source.old) (R.left source.new)
+        (if spec.reader_failed result then 0 else 4096) }
+    ensures turns { IsErrOf result EngineFault.TooManyTurns
+        → TookAtLeast (R.left source.old) (R.left source.new) 100000 }
+    ensures full { IsErrOf result EngineFault.TooManyTurns
+        → CountsAtLeast (R.fills source.old) (R.fills source.new) 100000 }
+    ensures reads { CountsUpTo (R.fills source.old) (R.fills source.new) 100000 }
+{
+    match read_request(alloc, source) {
+        Ok(request) => answer_request(alloc, desk, &request, sink),
+        Err(Stop::Memory) => answer_unavailable(sink, false),
+        Err(Stop::Read) => Err(EngineFault::Read),
+        Err(Stop::TooManyTurns) => Err(EngineFault::TooManyTurns),
+    }
+}

@@ -1,0 +1,102 @@
+-- What a project answers at `/robots.txt` and below `/_/`: the addresses that crawlers are to leave out, and its versions as JSON.
+use Rattle.std.specs.Prelude.{ℕ, Bool, false, not, if◌then◌else◌, Option, Some, None, List, [], ◌∷◌, ◌++◌, map, filter, flat_map, codes}
+use Rattle.std.specs.Option.{option_map_or}
+use Rattle.std.specs.Str.{bytes_eq}
+use Rattle.serde_json.specs.Data.{Data, null, string, array, object, no_members, member}
+use Rattle.serde_json.specs.View.{items_of}
+use Rattle.serde_json.specs.Written.{compact_text}
+use Rattle.dh_versions.specs.declared.version.Kind.{Kind}
+use Rattle.dh_versions.specs.declared.version.Kind.TheVariants.{Branch, Tag}
+use Rattle.dh_versions.specs.declared.version.Version.{Version}
+use Rattle.dh_lookup.specs.declared.found.Named.{Named}
+use Rattle.dh_lookup.specs.declared.seen_project.SeenProject.{SeenProject}
+use Rattle.dh_lookup.specs.SeenProject.{resolved}
+use Rattle.dh_wire.specs.declared.answer.Reply.{Reply}
+use Rattle.dh_wire.specs.Bodies.{plain_text, json, body_reply}
+use Rattle.dh_wire.specs.Statuses.{host_not_found}
+
+-- ---- `/robots.txt` (RFC 9309, section 2.2)
+
+-- `Disallow: /language/slug/`
+unfoldable pub disallow : List ℕ → List ℕ → List ℕ
+disallow slug lang = codes "Disallow: /" ++ lang ++ 47 ∷ slug ++ 47 ∷ []
+
+-- a line for each hidden version, and for each of its languages
+abbrev pub disallowed : List (List ℕ) → List Version → List (List ℕ)
+disallowed langs versions =
+    flat_map
+    (λ (v : Version). map (disallow v.slug) langs)
+    (filter (λ (v : Version). v.hidden) versions)
+
+-- these lines, and where there are none the one that leaves out nothing
+abbrev pub or_nothing : List (List ℕ) → List (List ℕ)
+or_nothing [] = codes "Disallow:" ∷ []
+or_nothing (line ∷ lines) = line ∷ lines
+
+-- each line and LF
+abbrev pub lines_text : List (List ℕ) → List ℕ
+lines_text lines = flat_map (λ line. line ++ 10 ∷ []) lines
+
+unfoldable pub robots_text : List (List ℕ) → List Version → List ℕ
+robots_text langs versions =
+    lines_text (codes "User-agent: *" ∷ or_nothing (disallowed langs versions))
+
+abbrev pub robots : SeenProject → Reply
+robots p = body_reply 200 plain_text (robots_text p.langs p.versions)
+
+-- ---- `/_/versions`
+
+-- the name stands for an alias, and not for a version of that slug
+abbrev pub stands_for_alias : SeenProject → List ℕ → Bool
+stands_for_alias p name = option_map_or (λ (n : Named). n.alias) (resolved p name) false
+
+abbrev pub aliases : SeenProject → List (List ℕ)
+aliases p = filter (stands_for_alias p) (codes "latest" ∷ codes "stable" ∷ [])
+
+-- texts as a JSON array
+abbrev pub texts_data : List (List ℕ) → Data
+texts_data texts = array (items_of (map string texts))
+
+-- a text, or `null`
+abbrev pub text_data : Option (List ℕ) → Data
+text_data None = null
+text_data (Some text) = string text
+
+abbrev pub kind_text : Kind → List ℕ
+kind_text Branch = codes "branch"
+kind_text Tag = codes "tag"
+
+unfoldable pub version_data : Version → Data
+version_data v = object
+    (member (codes "kind") (string (kind_text v.kind))
+    (member (codes "ref") (string v.name)
+    (member (codes "slug") (string v.slug) no_members)))
+
+-- the versions that are not hidden
+abbrev pub listed_data : List Version → Data
+listed_data versions =
+    array (items_of (map version_data (filter (λ (v : Version). not v.hidden) versions)))
+
+-- an object with its keys in the order of their bytes
+unfoldable pub versions_data
+    : List (List ℕ) → Option (List ℕ) → List (List ℕ) → List Version → Data
+versions_data aliases name langs versions = object
+    (member (codes "aliases") (texts_data aliases)
+    (member (codes "default") (text_data name)
+    (member (codes "languages") (texts_data langs)
+    (member (codes "versions") (listed_data versions) no_members))))
+
+-- its text, with no spaces
+unfoldable pub versions_reply
+    : List (List ℕ) → Option (List ℕ) → List (List ℕ) → List Version → Reply
+versions_reply aliases name langs versions =
+    body_reply 200 json (compact_text (versions_data aliases name langs versions))
+
+abbrev pub versions : SeenProject → Reply
+versions p = versions_reply (aliases p) p.«default» p.langs p.versions
+
+-- ---- `/_/name`
+
+-- any name but `versions` is answered as where there is no project
+abbrev pub system : SeenProject → List ℕ → Reply
+system p name = if bytes_eq name (codes "versions") then versions p else host_not_found

@@ -1,0 +1,70 @@
+//! `/robots.txt`, and what stands below `/_/`.
+
+ghost use Rattle.std.specs.Prelude.{false};
+ghost use Rattle.std.specs.Option.{option_map_or};
+ghost use Rattle.dh_lookup.specs.Lookup.{Asks, Tells, TellsAll, TellsOf};
+ghost use Rattle.dh_reply.specs.System as spec;
+
+use crate::listing::{names_where, versions_reply};
+use crate::robots::robots_text;
+use dh_lookup::{Fault, Lookup};
+use dh_paths::Text;
+use dh_wire::{Reply, fault_reply, text_reply};
+use std::alloc::Global;
+
+/// `/robots.txt`.
+pub fn robots<L: Lookup>(alloc: Global, lookup: &mut L) -> Result<Reply, Fault>
+    ensures asks { Asks L.meaning lookup.old lookup.new result }
+    ensures value { TellsOf L.meaning lookup.old lookup.new result spec.robots }
+{
+    let langs = lookup.langs(alloc)?;
+    let versions = lookup.listing(alloc)?;
+    let text = robots_text(alloc, &langs, &versions)?;
+    Ok(text_reply(alloc, 200, "text/plain; charset=utf-8", text)?)
+}
+
+/// Whether the name stands for an alias, and not for a version of that slug.
+fn stands_for_alias<L: Lookup>(alloc: Global, lookup: &mut L, name: &str) -> Result<bool, Fault>
+    ensures asks { Asks L.meaning lookup.old lookup.new result }
+    ensures value { Tells L.meaning lookup.old lookup.new result
+        (λ content. option_map_or (λ p. spec.stands_for_alias p name.now) content false) }
+{
+    match lookup.name(alloc, name)? {
+        Some(named) => Ok(named.alias),
+        None => Ok(false),
+    }
+}
+
+/// Those of `latest` and `stable` that stand for an alias.
+fn aliases<L: Lookup>(alloc: Global, lookup: &mut L) -> Result<Vec<Text>, Fault>
+    ensures asks { Asks L.meaning lookup.old lookup.new result }
+    ensures value { TellsAll L.meaning lookup.old lookup.new result spec.aliases }
+{
+    let latest = stands_for_alias(alloc, lookup, "latest")?;
+    let stable = stands_for_alias(alloc, lookup, "stable")?;
+    Ok(names_where(alloc, latest, stable)?)
+}
+
+/// `/_/versions`.
+fn versions<L: Lookup>(alloc: Global, lookup: &mut L) -> Result<Reply, Fault>
+    ensures asks { Asks L.meaning lookup.old lookup.new result }
+    ensures value { TellsOf L.meaning lookup.old lookup.new result spec.versions }
+{
+    let aliases = aliases(alloc, lookup)?;
+    let default = lookup.default(alloc)?;
+    let langs = lookup.langs(alloc)?;
+    let versions = lookup.listing(alloc)?;
+    Ok(versions_reply(alloc, &aliases, &default, &langs, &versions)?)
+}
+
+/// `/_/name`: there is nothing but `versions`.
+pub fn system<L: Lookup>(alloc: Global, lookup: &mut L, name: &str) -> Result<Reply, Fault>
+    ensures asks { Asks L.meaning lookup.old lookup.new result }
+    ensures value { TellsOf L.meaning lookup.old lookup.new result (λ p. spec.system p name.now) }
+{
+    if name == "versions" {
+        versions(alloc, lookup)
+    } else {
+        Ok(fault_reply(alloc, 404, None)?)
+    }
+}

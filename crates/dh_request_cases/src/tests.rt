@@ -1,0 +1,4 @@
+//! A file for each crate.
+
+mod bodies;
+mod requests;

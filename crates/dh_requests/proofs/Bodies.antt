@@ -1,0 +1,107 @@
+-- Reading up to the end of a body.
+use Rattle.std.proofs.Common.{◌≡◌, ℕ, ◌+◌, ◌-◌, ◌<◌, ◌≤◌, min, Bool, true, false, cond, leb, List, [], ◌++◌, length, length-append, take, Option, Some, None, Result, IsErrAnd, inl, inr, refl, arith, append_assoc, append-nil, ap, sym, subst, ◌∙◌}
+use Rattle.std.proofs.lemmas.Bool.{leb-true, leb-false}
+use Rattle.std.proofs.lemmas.List.{take-append-le, take_min}
+use Rattle.std.specs.Io.KnownBytes.{Consumes}
+use Rattle.dh_ports.specs.declared.stop.Stop.{Stop}
+use Rattle.dh_ports.specs.Reading.{reader_failed, TookAtMost, AddsSome, most_lost}
+use Rattle.dh_requests.specs.declared.asked.Asked.TheVariants.{Command}
+use Rattle.dh_requests.specs.declared.asked.Posted.{Posted}
+use Rattle.dh_requests.specs.declared.head_end.HeadEnd.{HeadEnd}
+use Rattle.dh_requests.specs.declared.head_end.HeadEnd.TheVariants.{At, TooLarge, CutShort}
+use Rattle.dh_requests.specs.HeadEnd.{HeadSize, head_end_in, head_end_of, OpenHead, most_spent}
+use Rattle.dh_requests.specs.Scan.{end_from, at_first}
+use Rattle.dh_requests.specs.Request.{AsksFor}
+use Rattle.dh_requests.specs.Takes.{AddsBytes, FillsUpTo, TookWhile, TookAtLeast}
+use Rattle.dh_requests.specs.Needs.{OpenBody, IsNeeded, StaysNeeded}
+use Rattle.dh_requests.proofs.Ends.{window, end_stays, head_end_of-search}
+use Rattle.dh_requests.proofs.Little.{no_end}
+use Rattle.dh_requests.proofs.Takes.{consumes_on, consumes_none, needed_on, needed_stop}
+
+-- before any read
+pub adds_none : (left : Option (List ℕ)) (bytes : List ℕ) → AddsBytes left left bytes bytes
+adds_none left bytes = ([], consumes_none left, sym (append-nil bytes))
+
+-- one more read
+pub adds_on : (old mid new : Option (List ℕ)) (before bytes after : List ℕ) (came : Bool) → AddsBytes old mid before bytes → AddsSome mid new bytes after came → AddsBytes old new before after
+adds_on old mid new before bytes after came h k =
+    (h.0 ++ k.0, consumes_on old mid new h.0 k.0 h.1 k.1, k.2 ∙ ap (λ w. w ++ k.0) h.2 ∙ append_assoc before h.0 k.0)
+
+too_few : (old mid : Option (List ℕ)) (before bytes : List ℕ) (count : ℕ) → (h : AddsBytes old mid before bytes) → length bytes < count → length before + length h.0 < count
+too_few old mid before bytes count h lt = omega (arith, ap length h.2 ∙ length-append before h.0)
+
+-- a read was needed
+pub fills_on : (old mid new : Option (List ℕ)) (before bytes after : List ℕ) (count : ℕ) (came : Bool) → AddsBytes old mid before bytes → length bytes < count → AddsSome mid new bytes after came → FillsUpTo old new (length before) count 4096
+fills_on old mid new before bytes after count came h lt k =
+    needed_on (λ part. length before + length part < count) old mid new h.0 bytes after came h.1 (too_few old mid before bytes count h lt) k
+
+-- and one that stopped
+pub fills_stop : {A : Type 0} (old mid new : Option (List ℕ)) (before bytes : List ℕ) (count : ℕ) (stop : Stop) (r : Result A Stop) → AddsBytes old mid before bytes → length bytes < count → TookAtMost mid new (most_lost stop) → IsErrAnd r (λ e. e ≡ stop) → FillsUpTo old new (length before) count (cond (reader_failed r) 0 4096)
+fills_stop old mid new before bytes count stop r h lt k is =
+    needed_stop (λ part. length before + length part < count) old mid new h.0 stop r h.1 (too_few old mid before bytes count h lt) k is
+
+-- there were too few bytes before, too
+pub not_yet : (old mid : Option (List ℕ)) (before bytes : List ℕ) (count : ℕ) → AddsBytes old mid before bytes → length bytes < count → length before < count
+not_yet old mid before bytes count h lt = omega (arith, ap length h.2 ∙ length-append before h.0)
+
+-- an end of a head stays where it is, whatever follows
+ends_on : (o p : Option HeadSize) (len more n : ℕ) → ((size : HeadSize) → o ≡ Some size → p ≡ Some size) → At n ≡ head_end_in o len → head_end_in p more ≡ At n
+ends_on None p len more n h e = absurd (no_end _ n (sym e))
+ends_on (Some size) p len more n h e = ap (λ o. head_end_in o more) (h size refl) ∙ sym e
+
+pub end_kept : (bytes more : List ℕ) (n : ℕ) → At n ≡ head_end_of bytes → head_end_of (bytes ++ more) ≡ At n
+end_kept bytes more n e =
+    let first = take 16384 bytes in
+    let w = window 16384 bytes more in
+    let swapped : min (length bytes) 16384 ≡ min 16384 (length bytes) = omega arith in
+    let front : take (min (length bytes) 16384) bytes ≡ first = ap (λ k. take k bytes) swapped ∙ take_min 16384 bytes in
+    let whole : take 16384 (bytes ++ more) ≡ first ++ w.0 = w.1 ∙ ap (λ v. v ++ w.0) front in
+    head_end_of-search (bytes ++ more)
+    ∙ ends_on (end_from at_first first) (end_from at_first (take 16384 (bytes ++ more))) (length bytes) (length (bytes ++ more)) n
+    (λ size f. ap (end_from at_first) whole ∙ end_stays at_first first w.0 size f)
+    (e ∙ head_end_of-search bytes)
+
+-- a head alone was open
+pub head_needed : (old new : Option (List ℕ)) (most : ℕ) → TookWhile OpenHead old new most → IsNeeded old new most
+head_needed old new most n = (n.0, n.1, inl n.2, n.3, n.4)
+
+-- the body was open before the last read
+open_body : (bytes part : List ℕ) (start : ℕ) (posted : Posted) → At start ≡ head_end_of bytes → start ≤ length bytes → AsksFor (take start bytes) (Command posted) → length bytes + length part < start + posted.length → OpenBody (bytes ++ part)
+open_body bytes part start posted e le asks lt = record {
+  size = start;
+  posted = posted;
+  ends = end_kept bytes part start e;
+  asks = subst (λ w. AsksFor w (Command posted)) (sym (take-append-le start bytes part le)) asks;
+  short = omega (arith, length-append bytes part, lt);
+}
+
+body_needed : (old now new : Option (List ℕ)) (bytes : List ℕ) (start most : ℕ) (posted : Posted) → At start ≡ head_end_of bytes → start ≤ length bytes → AsksFor (take start bytes) (Command posted) → Consumes old now bytes → FillsUpTo now new (length bytes) (start + posted.length) most → IsNeeded old new most
+body_needed old now new bytes start most posted e le asks taken h = (
+  bytes ++ h.0,
+  h.1,
+  inr (open_body bytes h.0 start posted e le asks h.2),
+  subst (λ w. Consumes old new w) (sym (append_assoc bytes h.0 h.1)) (consumes_on old now new bytes (h.0 ++ h.1) taken h.3),
+  h.4,
+)
+
+unread_needed : (old now new : Option (List ℕ)) (failed : Bool) → new ≡ now → failed ≡ false → IsNeeded old now 4096 → IsNeeded old new (cond failed 0 4096)
+unread_needed old now new failed same fine n = subst (λ b. IsNeeded old new (cond b 0 4096)) (sym fine) (subst (λ w. IsNeeded old w 4096) (sym same) n)
+
+-- whether the body was there with the head or not
+pub stays_needed : (now new : Option (List ℕ)) (bytes : List ℕ) (start : ℕ) (posted : Posted) (failed : Bool) → At start ≡ head_end_of bytes → start ≤ length bytes → AsksFor (take start bytes) (Command posted) → (start + posted.length ≤ length bytes → (new ≡ now) × (failed ≡ false)) → (length bytes < start + posted.length → FillsUpTo now new (length bytes) (start + posted.length) (cond failed 0 4096)) → StaysNeeded now new bytes (cond failed 0 4096)
+stays_needed now new bytes start posted failed e le asks there filled =
+    λ old taken n.
+    elim (leb (start + posted.length) (length bytes)) as (λ b. leb (start + posted.length) (length bytes) ≡ b → IsNeeded old new (cond failed 0 4096)) [
+      | true ↦ λ t. let same = there (leb-true (start + posted.length) (length bytes) t) in unread_needed old now new failed same.0 same.1 n
+      | false ↦ λ t. body_needed old now new bytes start (cond failed 0 4096) posted e le asks taken (filled (leb-false (start + posted.length) (length bytes) t))
+    ] refl
+
+-- with what was taken before
+pub took_all : (old mid new : Option (List ℕ)) (bytes : List ℕ) (least : ℕ) → Consumes old mid bytes → TookAtLeast mid new (least - length bytes) → TookAtLeast old new least
+took_all old mid new bytes least p q = (bytes ++ q.0, consumes_on old mid new bytes q.0 p q.1, omega (arith, length-append bytes q.0, q.2))
+
+-- reads of the head, and of what follows it
+pub spent_all : (end : HeadEnd) (reads : ℕ) → reads ≤ 100000 → most_spent end reads + (100000 - most_spent end reads) ≤ 100000
+spent_all (At n) reads le = omega arith
+spent_all TooLarge reads le = omega arith
+spent_all CutShort reads le = omega arith

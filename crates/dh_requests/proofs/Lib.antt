@@ -1,0 +1,11 @@
+pub mod Lines
+pub mod Ends
+pub mod Takes
+pub mod Needs
+pub mod Named
+pub mod Numbers
+pub mod Little
+pub mod Bodies
+pub mod Decided
+pub mod Whole
+pub mod Requests

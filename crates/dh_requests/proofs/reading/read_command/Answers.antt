@@ -1,0 +1,13 @@
+use Rattle.std.proofs.Common.{List, ℕ, ◌+◌, ◌-◌, ◌<◌, length, take, drop, ap}
+use Rattle.dh_requests.proofs.Requests.{whole_body}
+use Rattle.dh_requests.proofs.Takes.{needed_still}
+use Rattle.dh_requests.proofs.reading.read_command.Goals as goal
+
+pub returns-clause-needed : goal.returns-clause-needed
+returns-clause-needed g c =
+    λ few. needed_still (λ part. length c.args.intake.bytes.items + length part < c.args.start + c.args.posted.length) _ _ c.command_of.result c.command_of.ensures.err (c.in_ok-read_up_to.ensures.needed few)
+
+pub returns-clause-request : goal.returns-clause-request
+returns-clause-request g c =
+    let cut = λ (w : List ℕ). take (c.args.start + c.args.posted.length - c.args.start) (drop c.args.start w) in
+    whole_body c.command_of.result (g.R.Source.left c.args.source.now) (g.R.Source.left c.read_up_to.new.source) c.args.intake.bytes.items c.read_up_to.new.intake.bytes.items (cut c.deref.result.now) c.args.start c.args.posted c.in_ok-read_up_to.field-0 c.if-not-branch.false c.requires.within c.in_ok-read_up_to.ensures.adds (ap cut c.deref.ensures.value) c.command_of.ensures.request

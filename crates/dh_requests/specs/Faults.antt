@@ -1,0 +1,19 @@
+-- What is answered of a head, or of a part of it.
+use Rattle.std.specs.Prelude.{◌≡◌, Option, Some, None, Result, Ok, Err, ⊤}
+use Rattle.dh_texts.specs.declared.fault.TextFault.{TextFault}
+use Rattle.dh_texts.specs.declared.fault.TextFault.TheVariants as text
+use Rattle.dh_requests.specs.declared.fault.HeadFault.{HeadFault}
+use Rattle.dh_requests.specs.declared.fault.HeadFault.TheVariants.{BadText, NoLine, TwoLines, Memory}
+
+-- the fault of a head by that of a text in it
+abbrev pub fault_of : TextFault → HeadFault
+fault_of text.Memory = Memory
+fault_of _ = BadText
+
+-- the definition's value is found; a fault but out of memory comes only where it has none
+abbrev pub Finds : {A : Type 0} → Option A → Result A HeadFault → Type 0
+Finds spec (Ok value) = spec ≡ Some value
+Finds spec (Err BadText) = spec ≡ None
+Finds spec (Err NoLine) = spec ≡ None
+Finds spec (Err TwoLines) = spec ≡ None
+Finds spec (Err Memory) = ⊤

@@ -1,0 +1,36 @@
+-- How long the body of a request is, by its head (RFC 9112, section 6).
+use Rattle.std.specs.Prelude.{ℕ, Bool, false, ◌&&◌, List, [], ◌∷◌, Option, Some, None, Result, Ok, Err, if◌then◌else◌, nat_le}
+use Rattle.std.specs.List.{list_all}
+use Rattle.std.specs.Str.Parse.{digits_value}
+use Rattle.dh_texts.specs.Texts.{is_digit}
+use Rattle.dh_requests.specs.declared.length.LengthFault.{LengthFault}
+use Rattle.dh_requests.specs.declared.length.LengthFault.TheVariants.{Untold, Wrong, TooLarge}
+
+-- one or more digits
+abbrev pub is_number : List ℕ → Bool
+is_number [] = false
+is_number (b ∷ text) = is_digit b && list_all is_digit text
+
+-- no body has more than 4,194,304 bytes
+abbrev pub limited : ℕ → Result ℕ LengthFault
+limited number = if nat_le number 4194304 then Ok number else Err TooLarge
+
+-- the length that the value of a Content-Length line tells (RFC 9110, section 8.6)
+abbrev pub told_length : List ℕ → Result ℕ LengthFault
+told_length value = if is_number value then limited (digits_value 10 value) else Err Wrong
+
+-- the length by the lines of Transfer-Encoding and of Content-Length: a body in a transfer coding
+-- tells none, and two lines tell none that counts
+abbrev pub body_length :
+    Option (Option (List ℕ)) → Option (Option (List ℕ)) → Result ℕ LengthFault
+body_length (Some None) (Some (Some value)) = told_length value
+body_length (Some None) (Some None) = Err Untold
+body_length (Some None) None = Err Wrong
+body_length (Some (Some coding)) lines = Err Untold
+body_length None lines = Err Untold
+
+-- the status of a request whose body has no length that counts (RFC 9110, section 15.5)
+abbrev pub length_status : LengthFault → ℕ
+length_status Untold = 411
+length_status Wrong = 400
+length_status TooLarge = 413

@@ -1,0 +1,150 @@
+-- What request some bytes are.
+use Rattle.std.specs.Prelude.{◌≡◌, ℕ, Bool, false, ◌||◌, List, [], length, take, drop, Option, Some, None, Result, Ok, Err, unwrap_or, if◌then◌else◌, codes, nat_le}
+use Rattle.std.specs.Option.{option_map, option_map_or, option_and_then}
+use Rattle.std.specs.Str.{bytes_eq, is_utf8}
+use Rattle.httparse.specs.Grammar.{RequestHead}
+use Rattle.dh_paths.specs.declared.target.Target.{Target}
+use Rattle.dh_paths.specs.Targets.{target_of, host_of}
+use Rattle.dh_wire.specs.declared.answer.Allow.{Allow}
+use Rattle.dh_wire.specs.declared.answer.Allow.TheVariants as allow
+use Rattle.dh_bodies.specs.Bodies.{change_of}
+use Rattle.dh_bodies.specs.declared.post.Post.{Post}
+use Rattle.dh_bodies.specs.declared.post.Post.TheVariants.{Push, Upload}
+use Rattle.dh_requests.specs.declared.head_end.HeadEnd.{HeadEnd}
+use Rattle.dh_requests.specs.declared.head_end.HeadEnd.TheVariants.{At, TooLarge, CutShort}
+use Rattle.dh_requests.specs.declared.length.LengthFault.{LengthFault}
+use Rattle.dh_requests.specs.declared.request.Request.{Request}
+use Rattle.dh_requests.specs.declared.request.Request.TheVariants.{Read, Apply, Refused}
+use Rattle.dh_requests.specs.declared.asked.Posted.{Posted}
+use Rattle.dh_requests.specs.declared.asked.Asked.{Asked}
+use Rattle.dh_requests.specs.declared.asked.Asked.TheVariants.{Whole, Command}
+use Rattle.dh_requests.specs.HeadEnd.{head_end_of}
+use Rattle.dh_requests.specs.Head.{IsHeadOf, Parts, parts_of}
+use Rattle.dh_requests.specs.Lengths.{body_length, length_status}
+
+-- the method is HEAD, whose replies have no body (RFC 9110, section 9.3.2)
+abbrev pub is_head : List ℕ → Bool
+is_head method = bytes_eq method (codes "HEAD")
+
+-- the host of a request: that of its target, else that of the one Host line, which there must be
+-- in any case (RFC 9112, section 3.2)
+abbrev pub requested_host :
+    Option (List ℕ) → Option (Option (List ℕ)) → Option (Option (List ℕ))
+requested_host named (Some (Some value)) = host_of (unwrap_or named value)
+requested_host named (Some None) = None
+requested_host named None = None
+
+-- ---- by the path and the method
+
+-- what is posted to a path; nothing, where a path is for reading
+abbrev pub post_at : List ℕ → Option Post
+post_at path =
+    if bytes_eq path (codes "/_/push") then Some Push
+    else if bytes_eq path (codes "/_/upload") then Some Upload
+    else None
+
+-- by another method than is allowed
+abbrev pub not_allowed : Allow → List ℕ → Request
+not_allowed allowed method = Refused 405 (Some allowed) (is_head method)
+
+-- GET and HEAD read
+abbrev pub read_by : List ℕ → Target → Option (List ℕ) → Option (List ℕ) → Request
+read_by method target host pass =
+    if bytes_eq method (codes "GET") || is_head method
+    then Read host pass (record { path = target.path; query = target.query }) (is_head method)
+    else not_allowed allow.Get method
+
+-- bytes that are UTF-8, else the empty text
+abbrev pub text_of : List ℕ → List ℕ
+text_of bytes = if is_utf8 bytes then bytes else []
+
+-- the write key: the value of its line as a text; empty where there is none
+abbrev pub key_text : Option (List ℕ) → List ℕ
+key_text key = option_map_or text_of key []
+
+-- a command whose body is that long, or the refusal of its length; a host that no project can have
+-- is the empty text
+abbrev pub posted :
+    Post → Option (List ℕ) → Option (List ℕ) → Result ℕ LengthFault → Asked
+posted post host key (Ok count) =
+    Command (record {
+      host = unwrap_or host [];
+      key = key_text key;
+      post = post;
+      length = count;
+    })
+posted post host key (Err fault) = Whole (Refused (length_status fault) None false)
+
+-- POST is a command
+abbrev pub post_by : Post → Parts → Option (List ℕ) → Option (List ℕ) → Asked
+post_by post parts host key =
+    if bytes_eq parts.method (codes "POST")
+    then posted post host key (body_length parts.coding parts.length)
+    else Whole (not_allowed allow.Post parts.method)
+
+-- ---- the head
+
+-- what is asked for at a target, by the host, the pass and the write key
+abbrev pub asked_at :
+    Parts → Target → Option (List ℕ) → Option (List ℕ) → Option (List ℕ) → Asked
+asked_at parts target host pass key =
+    option_map_or (λ post. post_by post parts host key) (post_at target.path)
+    (Whole (read_by parts.method target host pass))
+
+-- what a head asks for whose target is one, whose host is one, and which has no more than one line
+-- for the pass and for the key
+abbrev pub asked_where_right : Parts → Option Asked
+asked_where_right parts =
+    option_and_then (λ target.
+    option_and_then (λ host.
+    option_and_then (λ pass.
+    option_map (λ key. asked_at parts target host pass key) parts.key) parts.pass)
+    (requested_host target.host parts.host)) (target_of parts.target)
+
+-- any other is a bad request
+abbrev pub asked_by : Parts → Asked
+asked_by parts = unwrap_or (asked_where_right parts) (Whole (Refused 400 None (is_head parts.method)))
+
+-- what a head of the grammar asks for; what is none is a bad request
+abbrev pub asked_of : Option RequestHead → Asked
+asked_of None = Whole (Refused 400 None false)
+asked_of (Some head) = asked_by (parts_of head)
+
+-- ---- the body
+
+-- the command of a body; a body that is not of the form is a bad request
+unfoldable pub command_of : Posted → List ℕ → Request
+command_of posted body =
+    option_map_or (λ change. Apply (record { host = posted.host; change = change }))
+    (change_of posted.post posted.key body) (Refused 400 None false)
+
+-- the request of a head, by what follows it: a command has its body there, and what follows that
+-- counts for nothing; a body that is cut short is a bad request
+abbrev pub request_behind : Asked → List ℕ → Request
+request_behind (Whole request) rest = request
+request_behind (Command posted) rest =
+    if nat_le posted.length (length rest) then command_of posted (take posted.length rest)
+    else Refused 400 None false
+
+-- ---- the input
+
+-- a text that is a head by its lines asks for that
+abbrev pub AsksFor : List ℕ → Asked → Type 0
+AsksFor text asked = (head : Option RequestHead) × IsHeadOf text head × (asked ≡ asked_of head)
+
+-- the request of a text that is a head by its lines, and of what follows it
+abbrev pub IsRequestText : List ℕ → List ℕ → Request → Type 0
+IsRequestText text rest request =
+    (head : Option RequestHead)
+    × IsHeadOf text head
+    × (request ≡ request_behind (asked_of head) rest)
+
+-- the request of an input whose head ends there
+abbrev pub IsRequestUpTo : HeadEnd → List ℕ → Request → Type 0
+IsRequestUpTo (At n) input request = IsRequestText (take n input) (drop n input) request
+IsRequestUpTo TooLarge input request = request ≡ Refused 431 None false
+IsRequestUpTo CutShort input request = request ≡ Refused 400 None false
+
+-- the request that the input is
+abbrev pub IsRequest : List ℕ → Request → Type 0
+IsRequest input request = IsRequestUpTo (head_end_of input) input request

@@ -1,0 +1,174 @@
+//! From the parts of a head to what it asks for.
+
+ghost use Rattle.std.specs.Prelude.{◌≡◌, [], IfOk, IfErr, OnErr, Some, None, unwrap_or};
+ghost use Rattle.std.specs.Option.{option_copied};
+ghost use Rattle.dh_requests.specs.Faults.{Finds};
+ghost use Rattle.dh_requests.specs.Fields.{one_of};
+ghost use Rattle.dh_requests.specs.Head.{parts_found};
+ghost use Rattle.dh_requests.specs.HeadEnd.{IsHeadText};
+ghost use Rattle.dh_requests.specs.Request as request;
+
+use crate::asked::{Asked, Posted};
+use crate::fault::HeadFault;
+use crate::fields::Lines;
+use crate::head::{Head, head_of};
+use crate::length::{body_length, length_status};
+use crate::request::{Request, is_head, not_allowed, read_by, refused};
+use dh_bodies::Post;
+use dh_paths::{HostName, Target, Text, host_name, host_part};
+use dh_ports::Stop;
+use dh_reply::Allow;
+use std::alloc::{AllocError, Global};
+
+/// The value of a line that may stand once.
+fn one_value<'b>(lines: Lines<'b>) -> Result<Option<&'b [u8]>, HeadFault>
+    ensures ok { IfOk result (λ value. one_of lines.entry ≡ Some (option_copied value)) }
+    ensures err { OnErr result (one_of lines.entry ≡ None) }
+    ensures fault { IfErr result (λ fault. fault ≡ HeadFault.TwoLines) }
+{
+    match lines {
+        Lines::Absent => Ok(None),
+        Lines::One(value) => Ok(Some(value)),
+        Lines::Many => Err(HeadFault::TwoLines),
+    }
+}
+
+/// The host that is asked for: that of the target where it names one, else that of the `Host` line.
+fn requested_host(
+    alloc: Global,
+    named: &Option<Text>,
+    lines: Lines<'_>,
+) -> Result<Option<HostName>, HeadFault>
+    ensures { Finds (request.requested_host named.now (one_of lines.entry)) result }
+{
+    match lines {
+        Lines::One(value) => match named {
+            Some(part) => Ok(host_name(alloc, part.as_str())?),
+            None => Ok(host_part(alloc, value)?),
+        },
+        Lines::Absent => Err(HeadFault::NoLine),
+        Lines::Many => Err(HeadFault::TwoLines),
+    }
+}
+
+/// What is posted to the path, if anything can be.
+fn post_at(path: &str) -> Option<Post>
+    ensures { result ≡ request.post_at path.now }
+{
+    match path {
+        "/_/push" => Some(Post::Push),
+        "/_/upload" => Some(Post::Upload),
+        _ => None,
+    }
+}
+
+/// The name of a host; the empty text where there is none.
+fn host_text(host: &Option<HostName>) -> &str
+    ensures { result.now ≡ unwrap_or host.now [] }
+{
+    match host {
+        Some(host) => host.as_str(),
+        None => "",
+    }
+}
+
+/// The bytes as a text; the empty text where they are none.
+fn text_of(bytes: &[u8]) -> &str
+    ensures { result.now ≡ request.text_of bytes.now }
+{
+    match str::from_utf8(bytes) {
+        Ok(text) => text,
+        Err(_) => "",
+    }
+}
+
+/// The write key: the value of its line as a text.
+fn key_text(key: Option<&[u8]>) -> &str
+    ensures { result.now ≡ request.key_text (option_copied key.entry) }
+{
+    match key {
+        Some(value) => text_of(value),
+        None => "",
+    }
+}
+
+/// What a request asks for that posts.
+fn post_by(
+    alloc: Global,
+    post: Post,
+    head: &Head<'_>,
+    host: &Option<HostName>,
+    key: Option<&[u8]>,
+) -> Result<Asked, AllocError>
+    ensures { IfOk result (λ asked. asked
+        ≡ request.post_by post (parts_found head.now) host.now (option_copied key.entry)) }
+{
+    if head.method != b"POST".as_slice() {
+        return Ok(Asked::Whole(not_allowed(Allow::Post, head.method)));
+    }
+    match body_length(head.coding, head.length) {
+        Ok(length) => Ok(Asked::Command(Posted {
+            host: Text::copy_of(alloc, host_text(host))?,
+            key: Text::copy_of(alloc, key_text(key))?,
+            post,
+            length,
+        })),
+        Err(fault) => Ok(Asked::Whole(refused(length_status(fault), false))),
+    }
+}
+
+/// What a head asks for at its target, by the values of its lines.
+fn asked_at(
+    alloc: Global,
+    head: &Head<'_>,
+    target: Target,
+    host: Option<HostName>,
+    pass: Option<&[u8]>,
+    key: Option<&[u8]>,
+) -> Result<Asked, AllocError>
+    ensures { IfOk result (λ asked. asked
+        ≡ request.asked_at (parts_found head.now) target host
+        (option_copied pass.entry) (option_copied key.entry)) }
+{
+    match post_at(target.path.as_str()) {
+        Some(post) => post_by(alloc, post, head, &host, key),
+        None => Ok(Asked::Whole(read_by(alloc, head.method, target, host, pass)?)),
+    }
+}
+
+/// What a head asks for in which nothing is wrong.
+fn asked_where_right(alloc: Global, head: &Head<'_>) -> Result<Asked, HeadFault>
+    ensures { Finds (request.asked_where_right (parts_found head.now)) result }
+{
+    let target = Target::read(alloc, head.target)?;
+    let host = requested_host(alloc, &target.host, head.host)?;
+    let pass = one_value(head.pass)?;
+    let key = one_value(head.key)?;
+    Ok(asked_at(alloc, head, target, host, pass, key)?)
+}
+
+fn head_asks(alloc: Global, head: &Head<'_>) -> Result<Asked, Stop>
+    ensures asked { IfOk result (λ asked. asked ≡ request.asked_by (parts_found head.now)) }
+    ensures err { IfErr result (λ stop. stop ≡ Stop.Memory) }
+{
+    let fault = match asked_where_right(alloc, head) {
+        Ok(asked) => return Ok(asked),
+        Err(fault) => fault,
+    };
+    if fault == HeadFault::Memory {
+        return Err(Stop::Memory);
+    }
+    Ok(Asked::Whole(refused(400, is_head(head.method))))
+}
+
+/// What the text of a head asks for.
+pub fn text_asks(alloc: Global, text: &[u8]) -> Result<Asked, Stop>
+    requires { IsHeadText text.now }
+    ensures asked { IfOk result (request.AsksFor text.now) }
+    ensures err { IfErr result (λ stop. stop ≡ Stop.Memory) }
+{
+    match head_of(text) {
+        Some(head) => head_asks(alloc, &head),
+        None => Ok(Asked::Whole(refused(400, false))),
+    }
+}

@@ -1,0 +1,49 @@
+//! Why a head asks for nothing that can be done.
+
+ghost use Rattle.std.specs.Prelude.{◌≡◌};
+ghost use Rattle.dh_requests.specs.Faults.{fault_of};
+ghost use Rattle.dh_requests.specs.declared.fault.HeadFault.TheVariants.{Memory};
+
+use dh_paths::TextFault;
+use std::alloc::{AllocError, AllocFailed};
+
+/// Why a head asks for nothing that can be done.
+#[derive(Clone, Copy, Debug, PartialEq, Eq, Drop)]
+pub enum HeadFault {
+    /// The target is no target, or the host no host part.
+    BadText,
+    /// A line that must stand is missing.
+    NoLine,
+    /// A line stands twice that may stand once.
+    TwoLines,
+    /// Out of memory, which says nothing of the head.
+    Memory,
+}
+
+impl From<TextFault> for HeadFault {
+    ghost from_gives = { λ text fault. fault ≡ fault_of text };
+
+    fn from(text: TextFault) -> HeadFault {
+        if text == TextFault::Memory {
+            HeadFault::Memory
+        } else {
+            HeadFault::BadText
+        }
+    }
+}
+
+impl From<AllocError> for HeadFault {
+    ghost from_gives = { λ _ fault. fault ≡ Memory };
+
+    fn from(_refused: AllocError) -> HeadFault {
+        HeadFault::Memory
+    }
+}
+
+impl<T: Drop> From<AllocFailed<T>> for HeadFault {
+    ghost from_gives = { λ _ fault. fault ≡ Memory };
+
+    fn from(_refused: AllocFailed<T>) -> HeadFault {
+        HeadFault::Memory
+    }
+}

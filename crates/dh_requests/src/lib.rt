@@ -1,0 +1,19 @@
+//! HTTP requests: how they are read, and what they ask for.
+#![tactic(auto)]
+
+pub mod asked;
+mod asking;
+mod body;
+mod fault;
+mod fields;
+mod head;
+mod head_end;
+mod laws;
+pub mod length;
+mod reading;
+pub mod request;
+
+pub use dh_ports::Stop;
+pub use laws::{each_reading, one_reading, whole_head};
+pub use reading::read_request;
+pub use request::Request;

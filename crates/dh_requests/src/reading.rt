@@ -1,0 +1,161 @@
+//! Reading a request.
+
+ghost use Rattle.std.specs.Prelude.{◌≡◌, ◌+◌, ◌-◌, ◌<◌, ◌≤◌, ◌++◌, false, length, drop, IfOk, IfErr, IfSome, IsErrOf, if◌then◌else◌};
+ghost use Rattle.dh_ports.specs.Ports.{CountsUpTo, CountsAtLeast};
+ghost use Rattle.dh_ports.specs.Reading.{reader_failed, TookAtMost};
+ghost use Rattle.dh_requests.specs.declared.asked.Asked.{Asked};
+ghost use Rattle.dh_requests.specs.declared.head_end.HeadEnd.TheVariants.{At};
+ghost use Rattle.dh_requests.specs.HeadEnd.{head_end_of, EndsHead, most_spent};
+ghost use Rattle.dh_requests.specs.Request as request;
+ghost use Rattle.dh_requests.specs.Takes.{FillsUpTo, TookAtLeast};
+ghost use Rattle.dh_requests.specs.Needs.{IsNeeded, StaysNeeded};
+
+use crate::asked::{Asked, Posted};
+use crate::asking::text_asks;
+use crate::body::read_up_to;
+use crate::head_end::{HeadEnd, read_head};
+use crate::request::{Request, refused};
+use dh_bodies::read_change;
+use dh_ports::{Intake, Source, Stop};
+use dh_world::Command;
+use std::alloc::Global;
+
+/// The command of a body.
+#[tactic(auto, unfolding(crate::specs::Request::command_of))]
+fn command_of(alloc: Global, posted: Posted, body: &[u8]) -> Result<Request, Stop>
+    ensures request { IfOk result (λ r. r ≡ request.command_of posted body.now) }
+    ensures err { IfErr result (λ stop. stop ≡ Stop.Memory) }
+{
+    let Posted {
+        host,
+        key,
+        post,
+        length: _,
+    } = posted;
+    match read_change(alloc, post, key, body)? {
+        Some(change) => Ok(Request::Apply {
+            command: Command { host, change },
+        }),
+        None => Ok(refused(400, false)),
+    }
+}
+
+/// Reads a command, whose head ends there.
+fn read_command<R: Source>(
+    alloc: Global,
+    mut intake: Intake,
+    source: &mut R,
+    start: usize,
+    posted: Posted,
+) -> Result<Request, Stop>
+    requires fine { R.broken source.old ≡ false }
+    requires within { start ≤ length intake.bytes.items }
+    requires little { length intake.bytes.items ≤ 20480 }
+    requires small { posted.length ≤ 4194304 }
+    ensures request { IfOk result (λ r. IfSome (R.left source.old) (λ left.
+        r ≡ request.request_behind (Asked.Command posted)
+        (drop start (intake.bytes.items ++ left)))) }
+    ensures unread { start + posted.length ≤ length intake.bytes.items
+        → source.new ≡ source.old }
+    ensures needed { length intake.bytes.items < start + posted.length
+        → FillsUpTo (R.left source.old) (R.left source.new) (length intake.bytes.items)
+        (start + posted.length) (if reader_failed result then 0 else 4096) }
+    ensures broken { R.broken source.new ≡ reader_failed result }
+    ensures turns { IsErrOf result Stop.TooManyTurns
+        → TookAtLeast (R.left source.old) (R.left source.new)
+        (100000 - length intake.bytes.items) }
+    ensures full { IsErrOf result Stop.TooManyTurns
+        → CountsAtLeast (R.fills source.old) (R.fills source.new) (100000 - intake.reads) }
+    ensures reads { CountsUpTo (R.fills source.old) (R.fills source.new)
+        (100000 - intake.reads) }
+{
+    let count = start + posted.length;
+    if !read_up_to(&mut intake, source, count)? {
+        return Ok(refused(400, false));
+    }
+    command_of(alloc, posted, &intake.bytes[start..count])
+}
+
+/// Reads what follows a head that ends there.
+fn read_behind<R: Source>(
+    alloc: Global,
+    intake: Intake,
+    source: &mut R,
+    start: usize,
+) -> Result<Request, Stop>
+    requires fine { R.broken source.old ≡ false }
+    requires head { At start ≡ head_end_of intake.bytes.items }
+    requires text { EndsHead (At start) intake.bytes.items }
+    requires little { length intake.bytes.items ≤ 20480 }
+    ensures request { IfOk result (λ r. IfSome (R.left source.old) (λ left.
+        request.IsRequestUpTo (At start) (intake.bytes.items ++ left) r)) }
+    ensures needed { StaysNeeded (R.left source.old) (R.left source.new) intake.bytes.items
+        (if reader_failed result then 0 else 4096) }
+    ensures broken { R.broken source.new ≡ reader_failed result }
+    ensures turns { IsErrOf result Stop.TooManyTurns
+        → TookAtLeast (R.left source.old) (R.left source.new)
+        (100000 - length intake.bytes.items) }
+    ensures full { IsErrOf result Stop.TooManyTurns
+        → CountsAtLeast (R.fills source.old) (R.fills source.new) (100000 - intake.reads) }
+    ensures reads { CountsUpTo (R.fills source.old) (R.fills source.new)
+        (100000 - intake.reads) }
+{
+    match text_asks(alloc, &intake.bytes[..start])? {
+        Asked::Whole(request) => Ok(request),
+        Asked::Command(posted) => read_command(alloc, intake, source, start, posted),
+    }
+}
+
+/// Reads what follows a head.
+fn read_on<R: Source>(
+    alloc: Global,
+    intake: Intake,
+    source: &mut R,
+    end: HeadEnd,
+) -> Result<Request, Stop>
+    requires fine { R.broken source.old ≡ false }
+    requires head { end ≡ head_end_of intake.bytes.items }
+    requires text { EndsHead end intake.bytes.items }
+    requires little { length intake.bytes.items ≤ 20480 }
+    ensures request { IfOk result (λ r. IfSome (R.left source.old) (λ left.
+        request.IsRequestUpTo end (intake.bytes.items ++ left) r)) }
+    ensures needed { StaysNeeded (R.left source.old) (R.left source.new) intake.bytes.items
+        (if reader_failed result then 0 else 4096) }
+    ensures broken { R.broken source.new ≡ reader_failed result }
+    ensures turns { IsErrOf result Stop.TooManyTurns
+        → TookAtLeast (R.left source.old) (R.left source.new)
+        (100000 - length intake.bytes.items) }
+    ensures full { IsErrOf result Stop.TooManyTurns
+        → CountsAtLeast (R.fills source.old) (R.fills source.new) (100000 - intake.reads) }
+    ensures reads { CountsUpTo (R.fills source.old) (R.fills source.new)
+        (100000 - most_spent end intake.reads) }
+{
+    match end {
+        HeadEnd::At(start) => read_behind(alloc, intake, source, start),
+        HeadEnd::TooLarge => Ok(refused(431, false)),
+        HeadEnd::CutShort => Ok(refused(400, false)),
+    }
+}
+
+/// Reads a request, in reads of any size: its head, and the body that this asks for. No read is made once the request is whole, so
+/// a client may wait for the reply with its connection open; the last one may take some bytes behind it too.
+///
+/// It refuses by 400, 405, 411, 413 or 431 as a server does (RFC 9110, section 15.5; RFC 6585, section 5).
+pub fn read_request<R: Source>(alloc: Global, source: &mut R) -> Result<Request, Stop>
+    requires { R.broken source.old ≡ false }
+    ensures asked { IfOk result (λ r.
+        IfSome (R.left source.old) (λ input. request.IsRequest input r)) }
+    ensures taken { TookAtMost (R.left source.old) (R.left source.new) 4214784 }
+    ensures needed { IsNeeded (R.left source.old) (R.left source.new)
+        (if reader_failed result then 0 else 4096) }
+    ensures broken { R.broken source.new ≡ reader_failed result }
+    ensures turns { IsErrOf result Stop.TooManyTurns
+        → TookAtLeast (R.left source.old) (R.left source.new) 100000 }
+    ensures full { IsErrOf result Stop.TooManyTurns
+        → CountsAtLeast (R.fills source.old) (R.fills source.new) 100000 }
+    ensures reads { CountsUpTo (R.fills source.old) (R.fills source.new) 100000 }
+{
+    let mut intake = Intake::new(alloc);
+    let end = read_head(&mut intake, source)?;
+    read_on(alloc, intake, source, end)
+}

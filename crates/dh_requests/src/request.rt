@@ -1,0 +1,104 @@
+//! What a request is.
+
+ghost use Rattle.std.specs.Prelude.{◌≡◌, Some, None, IfOk};
+ghost use Rattle.std.specs.Option.{option_copied};
+ghost use Rattle.dh_requests.specs.Request as request;
+
+use dh_paths::{Bytes, HostName, Target};
+use dh_reply::{Allow, Read};
+use dh_world::Command;
+use std::alloc::{AllocError, Global};
+
+/// What a request asks for.
+#[derive(Drop)]
+pub enum Request {
+    /// A GET or HEAD, of any path.
+    Read {
+        /// None where no project can have the host's name.
+        host: Option<HostName>,
+        /// The value of `Docs-Pass`, as it was sent.
+        pass: Option<Bytes>,
+        read: Read,
+        /// Whether the reply's body is left out.
+        head: bool,
+    },
+    /// A change of a project. The name of its host is empty where no project can have it.
+    Apply {
+        command: Command,
+    },
+    /// Nothing that can be done.
+    Refused {
+        status: u16,
+        /// For 405: what is allowed.
+        allow: Option<Allow>,
+        /// Whether the reply's body is left out.
+        head: bool,
+    },
+}
+
+/// A request that is refused by this status.
+pub fn refused(status: u16, head: bool) -> Request
+    ensures { result ≡ Request.Refused status None head }
+{
+    Request::Refused {
+        status,
+        allow: None,
+        head,
+    }
+}
+
+/// Whether the reply to this method has no body.
+pub fn is_head(method: &[u8]) -> bool
+    ensures { result ≡ request.is_head method.now }
+{
+    method == b"HEAD".as_slice()
+}
+
+/// A request by another method than is allowed.
+pub fn not_allowed(allow: Allow, method: &[u8]) -> Request
+    ensures { result ≡ request.not_allowed allow method.now }
+{
+    Request::Refused {
+        status: 405,
+        allow: Some(allow),
+        head: is_head(method),
+    }
+}
+
+fn copied(alloc: Global, bytes: Option<&[u8]>) -> Result<Option<Bytes>, AllocError>
+    ensures { IfOk result (λ copy. copy ≡ option_copied bytes.entry) }
+{
+    match bytes {
+        Some(bytes) => Ok(Some(Bytes::copy_of(alloc, bytes)?)),
+        None => Ok(None),
+    }
+}
+
+/// The read that is asked for, by GET or HEAD.
+pub fn read_by(
+    alloc: Global,
+    method: &[u8],
+    target: Target,
+    host: Option<HostName>,
+    pass: Option<&[u8]>,
+) -> Result<Request, AllocError>
+    ensures { IfOk result (λ r. r
+        ≡ request.read_by method.now target host (option_copied pass.entry)) }
+{
+    let head = is_head(method);
+    if !head && method != b"GET".as_slice() {
+        return Ok(not_allowed(Allow::Get, method));
+    }
+    let pass = copied(alloc, pass)?;
+    let Target {
+        host: _,
+        path,
+        query,
+    } = target;
+    Ok(Request::Read {
+        host,
+        pass,
+        read: Read { path, query },
+        head,
+    })
+}
