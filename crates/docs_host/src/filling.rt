@@ -98,14 +98,22 @@ fn upload_command(alloc: Global) -> Result<Command, AllocError>
     command(alloc, change)
 }
 
+/// Does a command of the sample, and lets it go.
+fn perform<S: Alter>(alloc: Global, desk: &mut Desk<S>, command: Command) -> Result<Answer, Refusal>
+    ensures step { IsHonest S.Store desk.new.tables
+        → IsStep (world S.Store desk.old) (world S.Store desk.new) command result }
+    ensures was { IsHonest S.Store desk.new.tables → IsHonest S.Store desk.old.tables }
+{
+    desk.apply(alloc, &command)
+}
+
 /// Makes the sample project.
 fn make_project<S: Alter>(alloc: Global, desk: &mut Desk<S>) -> Result<Answer, Refusal>
     ensures step { IsHonest S.Store desk.new.tables
         → IsStep (world S.Store desk.old) (world S.Store desk.new) make_sample result }
     ensures was { IsHonest S.Store desk.new.tables → IsHonest S.Store desk.old.tables }
 {
-    let command = make_command(alloc)?;
-    desk.apply(alloc, &command)
+    perform(alloc, desk, make_command(alloc)?)
 }
 
 /// Pushes its branch.
@@ -114,8 +122,7 @@ fn push_branch<S: Alter>(alloc: Global, desk: &mut Desk<S>) -> Result<Answer, Re
         → IsStep (world S.Store desk.old) (world S.Store desk.new) push_sample result }
     ensures was { IsHonest S.Store desk.new.tables → IsHonest S.Store desk.old.tables }
 {
-    let command = push_command(alloc)?;
-    desk.apply(alloc, &command)
+    perform(alloc, desk, push_command(alloc)?)
 }
 
 /// Stores its pages.
@@ -124,8 +131,7 @@ fn store_pages<S: Alter>(alloc: Global, desk: &mut Desk<S>) -> Result<Answer, Re
         → IsStep (world S.Store desk.old) (world S.Store desk.new) upload_sample result }
     ensures was { IsHonest S.Store desk.new.tables → IsHonest S.Store desk.old.tables }
 {
-    let command = upload_command(alloc)?;
-    desk.apply(alloc, &command)
+    perform(alloc, desk, upload_command(alloc)?)
 }
 
 /// Makes the sample project, pushes its branch and stores its pages: three commands. The first refusal is answered: what was done

@@ -49,13 +49,26 @@ fn fail(rt: &impl Eprint, name: &str, status: u8) -> ExitCode {
     ExitCode::from(status)
 }
 
+/// What is run.
+enum Program {
+    Answer,
+    Script,
+}
+
+/// Tells that there are no words, as memory is out or one is no text.
+fn tell_unread(rt: &HostRuntime, error: &io::Error) -> ExitCode {
+    if error.kind() == ErrorKind::OutOfMemory {
+        return fail(rt, "Memory", FAULT);
+    }
+    let _ = eprintln!(rt; "docs_host: a word is not UTF-8; try '--help'");
+    ExitCode::from(USAGE)
+}
+
 /// Tells what is wrong with the words on standard error, or the help that they ask for on standard output.
-fn tell_usage<R: Print + Eprint + AllocGlobal>(rt: &R, words: &[String]) -> ExitCode {
+fn tell_usage(rt: &HostRuntime, words: &[String]) -> ExitCode {
     match check_words(rt.alloc(), words) {
         Ok(()) => {
-            let _ = eprintln!(rt;
-                "docs_host: a word is none of those that its place may have; try '--help'"
-            );
+            let _ = eprintln!(rt; "docs_host: a word may not stand where it does; try '--help'");
             ExitCode::from(USAGE)
         }
         Err(error) if error.kind() == clap::error::ErrorKind::OutOfMemory => {
@@ -69,50 +82,71 @@ fn tell_usage<R: Print + Eprint + AllocGlobal>(rt: &R, words: &[String]) -> Exit
     }
 }
 
-fn main(rt: HostRuntime) -> ExitCode {
-    let words = match words_of(&rt) {
-        Ok(words) => words,
-        Err(error) if error.kind() == ErrorKind::OutOfMemory => {
-            return fail(&rt, "Memory", FAULT);
-        }
-        Err(_) => {
-            let _ = eprintln!(rt; "docs_host: a word is not UTF-8; try '--help'");
-            return ExitCode::from(USAGE);
-        }
-    };
-    let order = match line_of(rt.alloc(), words.as_slice()) {
+/// The program that is asked for; a line of a script is none.
+fn program_in(order: Order) -> Option<Program> {
+    match order {
+        Order::Answer => Some(Program::Answer),
+        Order::Script => Some(Program::Script),
+        Order::Act(_) | Order::Get { .. } => None,
+    }
+}
+
+/// The program that the words ask for; or the exit status, once it is told why there is none.
+fn program_of(rt: &HostRuntime, words: &[String]) -> Result<Program, ExitCode> {
+    let order = match line_of(rt.alloc(), words) {
         Ok(line) => line.order,
-        Err(LineFault::Usage) => return tell_usage(&rt, words.as_slice()),
-        Err(LineFault::Memory) => return fail(&rt, "Memory", FAULT),
+        Err(LineFault::Usage) => return Err(tell_usage(rt, words)),
+        Err(LineFault::Memory) => return Err(fail(rt, "Memory", FAULT)),
+    };
+    match program_in(order) {
+        Some(program) => Ok(program),
+        None => {
+            let _ = eprintln!(rt; "docs_host: that is a line of a script: docs_host script < FILE");
+            Err(ExitCode::from(USAGE))
+        }
+    }
+}
+
+/// Answers the request of standard input.
+fn answer_input(rt: &HostRuntime) -> ExitCode {
+    let mut source = Port::new(rt.stdin());
+    let mut sink = Port::new(rt.stdout());
+    match answer_sample(rt.alloc(), &mut source, &mut sink) {
+        Ok(_) => ExitCode::SUCCESS,
+        Err(SampleFault::Store) => fail(rt, "Store", FAULT),
+        Err(fault) => {
+            let _ = eprintln!(rt; "fault {fault}");
+            ExitCode::from(UNANSWERED)
+        }
+    }
+}
+
+/// Runs the lines of standard input.
+fn run_input(rt: &HostRuntime) -> ExitCode {
+    let mut desk = match empty_desk(rt.alloc()) {
+        Ok(desk) => desk,
+        Err(Fault::Store) => return fail(rt, "Store", FAULT),
+        Err(Fault::Memory) => return fail(rt, "Memory", FAULT),
     };
     let mut source = Port::new(rt.stdin());
     let mut sink = Port::new(rt.stdout());
-    match order {
-        Order::Answer => match answer_sample(rt.alloc(), &mut source, &mut sink) {
-            Ok(_) => ExitCode::SUCCESS,
-            Err(SampleFault::Store) => fail(&rt, "Store", FAULT),
-            Err(fault) => {
-                let _ = eprintln!(rt; "fault {fault}");
-                ExitCode::from(UNANSWERED)
-            }
-        },
-        Order::Script => {
-            let mut desk = match empty_desk(rt.alloc()) {
-                Ok(desk) => desk,
-                Err(Fault::Store) => return fail(&rt, "Store", FAULT),
-                Err(Fault::Memory) => return fail(&rt, "Memory", FAULT),
-            };
-            match run_script(rt.alloc(), &mut desk, &mut source, &mut sink) {
-                Ok(()) => ExitCode::SUCCESS,
-                Err(fault) => {
-                    let _ = eprintln!(rt; "fault {fault}");
-                    ExitCode::from(FAULT)
-                }
-            }
+    match run_script(rt.alloc(), &mut desk, &mut source, &mut sink) {
+        Ok(()) => ExitCode::SUCCESS,
+        Err(fault) => {
+            let _ = eprintln!(rt; "fault {fault}");
+            ExitCode::from(FAULT)
         }
-        Order::Act(_) | Order::Get { .. } => {
-            let _ = eprintln!(rt; "docs_host: that is a line of a script: docs_host script < FILE");
-            ExitCode::from(USAGE)
-        }
+    }
+}
+
+fn main(rt: HostRuntime) -> ExitCode {
+    let words = match words_of(&rt) {
+        Ok(words) => words,
+        Err(error) => return tell_unread(&rt, &error),
+    };
+    match program_of(&rt, words.as_slice()) {
+        Ok(Program::Answer) => answer_input(&rt),
+        Ok(Program::Script) => run_input(&rt),
+        Err(status) => status,
     }
 }
