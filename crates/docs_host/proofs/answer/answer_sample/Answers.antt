@@ -2,6 +2,8 @@ use Rattle.std.proofs.Common.{refl}
 use Rattle.sqlite.proofs.Callers.{memory_is_clean}
 use Rattle.sqlite.specs.Steps.{over_memory}
 use Rattle.dh_desk.specs.Desk.{world}
+use Rattle.dh_requests.proofs.Bodies.{head_needed}
+use Rattle.dh_requests.proofs.Needs.{none_yet}
 use Rattle.docs_host.proofs.AnswerLemmas.{sample_answered, unmade_answered}
 use Rattle.docs_host.proofs.answer.answer_sample.Goals as goal
 
@@ -13,3 +15,13 @@ returns-in-Ok-clause-writes g c =
 pub returns-in-Err-OutOfMemory-clause-writes : goal.returns-in-Err-OutOfMemory-clause-writes
 returns-in-Err-OutOfMemory-clause-writes g c =
     unmade_answered (g.R.Source.left c.args.source.now) _ _ c.answer_unavailable.result _ c.told-in-Err-OutOfMemory.ensures.told c.answer_unavailable.ensures.writes
+
+pub returns-in-Err-OutOfMemory-clause-needed : goal.returns-in-Err-OutOfMemory-clause-needed
+returns-in-Err-OutOfMemory-clause-needed g c =
+    let source = g.R.Source.left c.args.source.now in
+    head_needed source source _ (none_yet source _)
+
+pub returns-in-Err-clause-needed : goal.returns-in-Err-clause-needed
+returns-in-Err-clause-needed g c =
+    let source = g.R.Source.left c.args.source.now in
+    head_needed source source _ (none_yet source _)
