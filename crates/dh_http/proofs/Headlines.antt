@@ -5,7 +5,6 @@ use Rattle.dh_wire.specs.declared.answer.Read.{Read}
 use Rattle.dh_wire.specs.declared.answer.Reply.{Reply}
 use Rattle.dh_requests.specs.declared.request.Request.{Request}
 use Rattle.dh_requests.specs.declared.request.Request.TheVariants as request
-use Rattle.dh_requests.specs.Request.{IsRequest}
 use Rattle.dh_requests.proofs.Requests.{one}
 use Rattle.dh_world.specs.World.{World}
 use Rattle.dh_http.specs.declared.fault.Done.{Done}

@@ -1,5 +1,5 @@
 -- What is written, from what is made for a request.
-use Rattle.std.proofs.Common.{◌≡◌, ◌⊎◌, ℕ, Bool, false, List, Option, Some, None, Result, Ok, Err, inl, inr, refl, subst}
+use Rattle.std.proofs.Common.{◌≡◌, ℕ, Bool, false, List, Option, Some, None, Result, Ok, Err, inl, inr, refl, subst}
 use Rattle.std.specs.Prelude.{IfSome}
 use Rattle.dh_wire.specs.declared.answer.Reply.{Reply}
 use Rattle.dh_requests.specs.declared.request.Request.{Request}

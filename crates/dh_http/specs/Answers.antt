@@ -1,5 +1,5 @@
 -- What is written for a request, and what it does to the world.
-use Rattle.std.specs.Prelude.{◌≡◌, ◌⊎◌, ℕ, ◌≤◌, Bool, true, false, List, Option, Some, None, Result, Ok, Err, IfSome, length, option_and_then}
+use Rattle.std.specs.Prelude.{◌≡◌, ◌⊎◌, ℕ, Bool, true, false, List, Option, Some, None, Result, Ok, Err, IfSome, option_and_then}
 use Rattle.std.specs.Io.KnownBytes.{Appends}
 use Rattle.dh_ports.specs.Ports.{PutsFirst}
 use Rattle.dh_reply.specs.Replies.{reply_to}

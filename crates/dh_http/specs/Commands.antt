@@ -1,5 +1,5 @@
 -- The reply to a command, by what came of it.
-use Rattle.std.specs.Prelude.{ℕ, List, None, Some, Result, Ok, Err, codes, unwrap_or}
+use Rattle.std.specs.Prelude.{ℕ, List, None, Result, Ok, Err, codes, unwrap_or}
 use Rattle.serde_json.specs.Data.{Data, number, unsigned, string, object, no_members, member}
 use Rattle.serde_json.specs.Written.{compact_text}
 use Rattle.dh_wire.specs.declared.answer.Reply.{Reply}

@@ -1,5 +1,5 @@
 -- What is written for a request over the sample.
-use Rattle.std.specs.Prelude.{◌≡◌, ℕ, Bool, true, false, List, Option, Some, None, Result, Ok, Err}
+use Rattle.std.specs.Prelude.{◌≡◌, ℕ, Bool, false, List, Option, Some, None, Result, Ok, Err}
 use Rattle.dh_world.specs.World.{World}
 use Rattle.dh_http.specs.Answers as engine
 use Rattle.dh_http.specs.declared.fault.Done.{Done}
