@@ -41,7 +41,7 @@ pub record Answers (s : State) (text : List ℕ) (params : Row) (answer : List R
   pub fits : IsUnfit s text params → IsSome s.step_limit
 
 -- A query of one table that takes its parameters is refused for a limit on steps alone.
-fitting : (s : State) (text : List ℕ) (params : Row) {tree : ℕ} {terms shown : List Term} {order : List (Term × Key)} {names : List (List ℕ)} → Chooses s.now.schema text (Select (record { lets = []; body = from_table tree terms shown order }) names)
+pub fitting : (s : State) (text : List ℕ) (params : Row) {tree : ℕ} {terms shown : List Term} {order : List (Term × Key)} {names : List (List ℕ)} → Chooses s.now.schema text (Select (record { lets = []; body = from_table tree terms shown order }) names)
     → Counts text (length params) → accepts_program s.now.schema [] (from_table tree terms shown order) params ≡ true → IsUnfit s text params → IsSome s.step_limit
 fitting s text params {tree = tree} it counts accepts (e, inl wrong) = absurd (elim wrong [
   | inl unread ↦ subst IsPlain unread.1 it.means.plain

@@ -1,5 +1,5 @@
 -- SELECT columns FROM one table WHERE a test ORDER BY columns, with what is found of the schema as given.
-use Rattle.std.proofs.Common.{◌≡◌, ℕ, pos, negsuc, List, [], ◌∷◌, ◌++◌, ◌==◌, map, Bool, true, false, Option, None, Some, Ok, refl, slice_get, length, ap}
+use Rattle.std.proofs.Common.{◌≡◌, ℕ, pos, negsuc, ◌^◌, nat_lt, codes, List, [], ◌∷◌, ◌++◌, ◌==◌, map, Bool, true, false, Option, None, Some, Ok, refl, slice_get, length, ap}
 use Rattle.sqlite_value.specs.declared.keys.Collation.{Collation}
 use Rattle.sqlite_value.specs.declared.keys.Key.{Key}
 use Rattle.sqlite_value.specs.declared.value.Value.TheVariants.{Int}
@@ -23,11 +23,11 @@ use Rattle.sqlite_draft.specs.declared.query.Draft.{Draft}
 use Rattle.sqlite_resolve.specs.declared.state.State.{State}
 use Rattle.sqlite_resolve.specs.declared.scope.Bound.{Bound}
 use Rattle.sqlite_resolve.specs.declared.scope.Output.{Output}
-use Rattle.sqlite_resolve.specs.declared.scope.Found.TheVariants.{Column}
+use Rattle.sqlite_resolve.specs.declared.scope.Found.TheVariants.{Column, Rowid}
 use Rattle.sqlite_resolve.specs.declared.body.Body.{Body}
 use Rattle.sqlite_resolve.specs.declared.body.Joined.{Joined}
 use Rattle.sqlite_resolve.specs.Lowering.{fresh, max_budget, take_slot, alone}
-use Rattle.sqlite_resolve.specs.Scope.{Context, find, in_level, only, hit, column_in, is_among}
+use Rattle.sqlite_resolve.specs.Scope.{Context, find, in_level, only, hit, column_in, is_among, is_rowid, rowid_in}
 use Rattle.sqlite_resolve.specs.Body.{within, bound, bounds, table_in, tests, shown, outputs, join, joins, inner_join, shared, result, matching, body, heading, is_column, declared}
 use Rattle.sqlite_resolve.specs.Order.{sort, sorts, key, keys, peeled, alias_in, collation_of, placed, is_numeral, written_on}
 use Rattle.sqlite_resolve.specs.Select.{outermost, inside, having, parts, assembled, ungrouped, named, paging, constant_or}
@@ -58,6 +58,16 @@ module _ (schema : Schema) (name : List ℕ) (at : ℕ) (table : Table) (is_name
       → heading (seen schema name at shows may) e text ≡ column.name
   unfolding heading declared
   heading_as shows may e text c k column out found has = rw (out, found, stands, has) refl
+
+  -- a name of the rowid that no column has, of a table that is stored
+  pub rowid_seen : (shows : List Output) (may : Bool) (c : List ℕ) → column_named table c ≡ None → is_rowid c ≡ true → nat_lt table.tree (2 ^ 31) ≡ true → find (seen schema name at shows may) None c ≡ Ok (Rowid 1 at)
+  unfolding find in_level only hit column_in is_among rowid_in
+  rowid_seen shows may c none is stored = rw (stands, none, is, stored) refl
+
+  pub rowid_heading : (shows : List Output) (may : Bool) (e : Expr) (text c : List ℕ) → out-Expr e ≡ Expr-F.Column None c → find (seen schema name at shows may) None c ≡ Ok (Rowid 1 at) → table.key ≡ None
+      → heading (seen schema name at shows may) e text ≡ codes "rowid"
+  unfolding heading declared
+  rowid_heading shows may e text c out found plain = rw (out, found, stands, plain) refl
 
   -- FROM
   pub bounds_as : (src : Source) (s : State) → (out-Source src).origin ≡ origin.Table name → (out-Source src).alias ≡ None → (out-Source src).using ≡ [] → s.next ≡ 1

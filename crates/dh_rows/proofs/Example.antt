@@ -9,8 +9,11 @@ use Rattle.sqlite_sql.specs.Term.{Term, lit, col}
 use Rattle.sqlite_schema.specs.declared.schema.Schema.{Schema}
 use Rattle.sqlite_tied.specs.Compute.{everything}
 use Rattle.sqlite.specs.State.{State}
-use Rattle.dh_rows.specs.Keyed.{IsFreeKey, added, put}
-use Rattle.dh_rows.specs.Places.{IsFree, IsUnmentioned, ArePlaced, Keeps, records_of}
+use Rattle.sqlite.specs.Effect.{IsDatabase}
+use Rattle.dh_rows.specs.Calls.{AreRows}
+use Rattle.dh_rows.specs.Keyed.{IsTableOf, IsFreeKey, added, put}
+use Rattle.dh_rows.specs.Places.{IsFree, IsUnmentioned, ArePlaced, Stands, Keeps, rows_of, records_of}
+use Rattle.dh_rows.specs.Whole.{Spells}
 use Rattle.sqlite.specs.Does.{lacks_sequence}
 use Rattle.dh_rows.specs.Example.{Note, note_table, notes, is_of, is_note}
 use Rattle.dh_rows.proofs.Effects.{IsSimple}
@@ -20,6 +23,7 @@ use Rattle.dh_rows.proofs.Equal.{equal_text, equal_int, tied_is, alike_text, ali
 use Rattle.dh_rows.proofs.Create.{IsCreate, makes, Creates, creates}
 use Rattle.dh_rows.proofs.Asks.{Writes, Answers, delete, insert, upsert, select}
 use Rattle.dh_rows.proofs.Upsert.{IsUpsert, puts, IsKeyOf, Fits}
+use Rattle.dh_rows.proofs.Whole.{AreTextsOf, IsCodingOf, Asks, asks_ids, asks_all, spelled, spells}
 
 -- ---- once for the table
 
@@ -117,3 +121,34 @@ create_read = makes refl refl refl refl refl refl refl refl
 
 pub made : (s : State) → IsFree s.now.schema note_table.name → IsUnmentioned s.now.schema note_table.name → lacks_sequence s.now.schema ≡ false → ArePlaced s.now.schema → Creates s create_text note_table
 made s free unmentioned counted fine = creates note_table create_text create_read refl refl (refl, tt) s free unmentioned counted fine
+
+-- ---- all rows
+
+abbrev ids_text : List ℕ
+ids_text = codes "SELECT rowid FROM note ORDER BY rowid"
+
+abbrev all_text : List ℕ
+all_text = codes "SELECT name, place, text FROM note ORDER BY name, place"
+
+note_texts : AreTextsOf note_table ids_text all_text (0 ∷ 1 ∷ [])
+unfolding everything
+note_texts = record { simple = refl; plain = note_plain; ids_read = refl; all_read = refl }
+
+note_coding : IsCodingOf note_table notes (0 ∷ 1 ∷ [])
+note_coding = record { back = note_back; wide = λ x. refl; full = λ x. refl; keys = λ x. refl; sorts = λ x y. refl }
+
+module _ (s : State) (stands : Stands s.now.schema note_table) where
+  pub asks_note_ids : Asks s ids_text
+  asks_note_ids = asks_ids note_texts s stands
+
+  pub asks_notes : Asks s all_text
+  asks_notes = asks_all note_texts s stands
+
+  -- where the answers spell notes, the table is ours and has these
+  pub are_notes : IsDatabase s.now → (ids rows : List Row) (xs : List Note) → AreRows s ids_text [] ids → AreRows s all_text [] rows → Spells notes ids rows xs
+      → IsTableOf notes (rows_of s.now note_table.name) × (records_of notes note_table.name s.now ≡ xs)
+  are_notes = spelled note_texts s stands note_coding
+
+  -- and where it is, they do
+  pub notes_are : (ids rows : List Row) → AreRows s ids_text [] ids → AreRows s all_text [] rows → IsTableOf notes (rows_of s.now note_table.name) → Spells notes ids rows (records_of notes note_table.name s.now)
+  notes_are = spells note_texts s stands note_coding

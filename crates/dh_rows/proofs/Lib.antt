@@ -16,7 +16,10 @@ pub mod Replaced
 pub mod Create
 pub mod Upsert
 pub mod Asks
+pub mod Whole
+pub mod RowidLemmas
 pub mod Example
 pub mod Names
 pub mod Found
 pub mod Blameless
+pub mod ShapeLemmas

@@ -83,6 +83,9 @@ module _ {X : Type 0} (cmp : X → X → Ordering) (total : IsTotalOrder cmp) wh
   pub ties_moved : (xs ys : List X) → IsPermutation xs ys → NoTies xs → NoTies ys
   ties_moved xs ys same = (moves xs ys same).1
 
+pub all_moved : {A : Type 0} (P : A → Type 0) (xs ys : List A) → IsPermutation xs ys → AllByRecursion P xs → AllByRecursion P ys
+all_moved P xs ys same all = recursion_from_All P ys (All-permutation P xs ys same (All-from_recursion P xs all))
+
 pub by_key_total : {X : Type 0} (key : X → Row) → IsTotalOrder (by_key key)
 by_key_total key = on_total key (lists_total value_cmp_total)
 
@@ -102,7 +105,7 @@ put_row_moves new (r ∷ rs) free = go (value_cmp (rowid r) (rowid new)) refl (p
 id_cmp : Row → Row → Ordering
 id_cmp a b = value_cmp (rowid a) (rowid b)
 
-id_total : IsTotalOrder (λ (a : Row) (b : Row). value_cmp (rowid a) (rowid b))
+pub id_total : IsTotalOrder (λ (a : Row) (b : Row). value_cmp (rowid a) (rowid b))
 id_total = on_total rowid value_cmp_total
 
 free_apart : (rows : List Row) (new : Row) → is_taken rows new ≡ false → AllByRecursion (λ r. is_eq (value_cmp (rowid new) (rowid r)) ≡ false) rows
@@ -117,9 +120,6 @@ free_apart (r ∷ rs) new free = go (is_eq (value_cmp (rowid r) (rowid new))) re
 module _ {X : Type 0} (c : Coding X) where
   abbrev Apart : X → List X → Type 0
   Apart x xs = AllByRecursion (λ y. is_eq (by_key c.key x y) ≡ false) xs
-
-  all_moved : (P : Row → Type 0) (xs ys : List Row) → IsPermutation xs ys → AllByRecursion P xs → AllByRecursion P ys
-  all_moved P xs ys same all = recursion_from_All P ys (All-permutation P xs ys same (All-from_recursion P xs all))
 
   pub adds_row : (new : Row) (rows : List Row) → IsTableOf c rows → is_taken rows new ≡ false → IsCoded c new → Apart (c.decode new) (map c.decode rows)
       → IsTableOf c (put_row new rows) × (records c (put_row new rows) ≡ insert_sorted (by_key c.key) (c.decode new) (records c rows))

@@ -1,5 +1,5 @@
 -- A text of one of our shapes, read off by a function, so that `refl` finds the shape of a text that is written out.
-use Rattle.std.proofs.Common.{◌≡◌, ℕ, zero, suc, ◌-◌, ◌+◌, ◌≤◌, List, [], ◌∷◌, ◌++◌, length, nat_le, Bool, true, false, cond, Option, None, Some, Ok, Err, Result, refl, sym, ap, ◌∙◌, slice_get, option_and_then, bytes_eq, leb, leb-true, true≢false}
+use Rattle.std.proofs.Common.{◌≡◌, ℕ, zero, suc, ◌-◌, ◌+◌, ◌≤◌, List, [], ◌∷◌, ◌++◌, map, length, nat_le, Bool, true, false, cond, Option, None, Some, Ok, Err, Result, refl, sym, ap, ◌∙◌, slice_get, option_and_then, bytes_eq, leb, leb-true, true≢false}
 use Rattle.std.proofs.lemmas.Slice.Eq.{bytes_eq-Decides}
 use Rattle.sqlite_ast.specs.Layer.{Layer, ShownLayer}
 use Rattle.sqlite_ast.specs.declared.Expr.{Expr, out-Expr}
@@ -17,6 +17,7 @@ use Rattle.sqlite_ast.specs.declared.Statement.TheVariants as written
 use Rattle.sqlite_ast.specs.declared.Conflict.TheVariants as conflict
 use Rattle.sqlite_syntax.specs.declared.statement.Parsed.{Parsed}
 use Rattle.sqlite_sql.specs.Term.{Term}
+use Rattle.sqlite_schema.specs.declared.schema.Column.{Column as Declared}
 use Rattle.sqlite_schema.specs.declared.schema.Table.{Table}
 use Rattle.sqlite_schema.specs.declared.schema.Schema.{Schema}
 use Rattle.sqlite_schema.specs.declared.command.Source.{Source as Given}
@@ -24,7 +25,7 @@ use Rattle.sqlite_schema.specs.declared.command.Source.TheVariants.{Values, Quer
 use Rattle.sqlite_schema.specs.Names.{column_named}
 use Rattle.sqlite_resolve.specs.Lowering.{Checked}
 use Rattle.sqlite_resolve.specs.Compile.{first, new_rows, small}
-use Rattle.dh_rows.proofs.Texts.{IsColumn, named, IsEqual, equal, IsTest, one, both, IsWhere, all, only, AreShown, none, next, AreSorts, IsChoice, chooses, IsDelete, deletes, IsSelect, selects, IsInsert, adds}
+use Rattle.dh_rows.proofs.Texts.{IsColumn, named, IsEqual, equal, IsTest, one, both, IsWhere, all, only, AreShown, none, next, AreSorts, rowid_name, IsRowidOf, unnamed, IsFrame, IsChoice, chooses, IsDelete, deletes, IsSelect, selects, IsIds, rowids, IsInsert, adds}
 
 -- ---- tests on the way
 
@@ -240,30 +241,32 @@ abbrev lists_of : Table → Core → List Sort → Option Shape
 lists_of t core order =
     option_and_then (λ ks. option_and_then (λ ws. option_and_then (λ os. if_true (nat_le (length ks) 100) (if_true (nat_le (length ws) 100) (if_true (nat_le (length os) 100) (Some (ks, ws, os))))) (sorts_of t order)) (where_of t (out-Core core).filter)) (shown_of t (out-Core core).shown)
 
-abbrev origin_by : Table → Origin Select → Option Shape → Option Shape
+abbrev origin_by : {B : Type 0} → Table → Origin Select → Option B → Option B
 origin_by t (origin.Table name) o = if_true (bytes_eq name t.name) o
 origin_by t (origin.Query q) o = None
 
-abbrev source_of : Table → Source → Option Shape → Option Shape
+abbrev source_of : {B : Type 0} → Table → Source → Option B → Option B
 source_of t src o = origin_by t (out-Source src).origin (if_none (out-Source src).alias (if_nil (out-Source src).using (if_none (out-Source src).on (if_not (out-Source src).is_left o))))
 
-abbrev core_of : Table → Core → List Sort → Option Shape
-core_of t core order =
-    if_nil (out-Core core).group (if_none (out-Core core).having (if_not (out-Core core).distinct (option_and_then (λ src. source_of t src (lists_of t core order)) (single (out-Core core).from))))
+abbrev core_of : {B : Type 0} → Table → Core → Option B → Option B
+core_of t core o = if_nil (out-Core core).group (if_none (out-Core core).having (if_not (out-Core core).distinct (option_and_then (λ src. source_of t src o) (single (out-Core core).from))))
+
+-- of a SELECT from the table alone
+abbrev frame_of : {B : Type 0} → Table → Select → Option B → Option B
+frame_of t q o = if_nil (out-Select q).with (if_nil (out-Select q).others (if_none (out-Select q).limit (if_none (out-Select q).offset (core_of t (out-Select q).first o))))
 
 abbrev choice_of : Table → Select → Option Shape
-choice_of t q = if_nil (out-Select q).with (if_nil (out-Select q).others (if_none (out-Select q).limit (if_none (out-Select q).offset (core_of t (out-Select q).first (out-Select q).order))))
+choice_of t q = frame_of t q (lists_of t (out-Select q).first (out-Select q).order)
 
-is_origin : (t : Table) (src : Source) (o : Option Shape) (z : Shape) → origin_by t (out-Source src).origin o ≡ Some z → ((out-Source src).origin ≡ origin.Table t.name) × (o ≡ Some z)
-is_origin t src o z h = go (out-Source src).origin refl h
+is_origin : {B : Type 0} (t : Table) (src : Source) (o : Option B) (z : B) → origin_by t (out-Source src).origin o ≡ Some z → ((out-Source src).origin ≡ origin.Table t.name) × (o ≡ Some z)
+is_origin {B} t src o z h = go (out-Source src).origin refl h
   where
     go : (from : Origin Select) → (out-Source src).origin ≡ from → origin_by t from o ≡ Some z → ((out-Source src).origin ≡ origin.Table t.name) × (o ≡ Some z)
     go (origin.Table name) is h = let e = so _ _ z h in (is ∙ ap origin.Table (same_bytes name t.name e.0), e.1)
     go (origin.Query q) is h = absurd (cc)
 
-is_choice : (t : Table) (q : Select) (ks : List ℕ) (ws : List (ℕ × ℕ)) (os : List ℕ) → choice_of t q ≡ Some (ks, ws, os) → IsChoice t q ks ws os
-is_choice t q ks ws os h =
-    let z : Shape = (ks, ws, os) in
+is_frame : {B : Type 0} (t : Table) (q : Select) (o : Option B) (z : B) → frame_of t q o ≡ Some z → (src : Source) × IsFrame t q (out-Select q).first src × (o ≡ Some z)
+is_frame t q o z h =
     let core = (out-Select q).first in
     let bare = nil _ _ z h in
     let others = nil _ _ z bare.1 in
@@ -272,14 +275,39 @@ is_choice t q ks ws os h =
     let group = nil _ _ z offset.1 in
     let having = absent _ _ z group.1 in
     let distinct = not_so _ _ z having.1 in
-    let src = got (λ src. source_of t src (lists_of t core (out-Select q).order)) (single (out-Core core).from) z distinct.1 in
+    let src = got (λ src. source_of t src o) (single (out-Core core).from) z distinct.1 in
     let from = is_origin t src.0 _ z src.2 in
     let alias = absent _ _ z from.1 in
     let using = nil _ _ z alias.1 in
     let on = absent _ _ z using.1 in
-    let left = not_so _ _ z on.1 in
-    let lists = listed core (out-Select q).order z left.1 in
-    chooses bare.0 others.0 limit.0 offset.0 refl (alone _ _ src.1) from.0 alias.0 using.0 on.0 left.0 refl lists.0 lists.1 refl lists.2 lists.3 group.0 having.0 distinct.0 refl lists.4 lists.5
+    let left = not_so _ _ z on.1 in (
+      src.0,
+      record {
+        bare = bare.0;
+        others = others.0;
+        limit = limit.0;
+        offset = offset.0;
+        first_is = refl;
+        from = alone _ _ src.1;
+        origin_is = from.0;
+        alias = alias.0;
+        using = using.0;
+        on = on.0;
+        left = left.0;
+        group = group.0;
+        having = having.0;
+        distinct = distinct.0;
+      },
+      left.1,
+    )
+
+is_choice : (t : Table) (q : Select) (ks : List ℕ) (ws : List (ℕ × ℕ)) (os : List ℕ) → choice_of t q ≡ Some (ks, ws, os) → IsChoice t q ks ws os
+is_choice t q ks ws os h =
+    let z : Shape = (ks, ws, os) in
+    let it = is_frame t q _ z h in
+    let f = it.1 in
+    let lists = listed (out-Select q).first (out-Select q).order z it.2 in
+    chooses f.bare f.others f.limit f.offset refl f.from f.origin_is f.alias f.using f.on f.left refl lists.0 lists.1 refl lists.2 lists.3 f.group f.having f.distinct refl lists.4 lists.5
   where
     listed : (core : Core) (order : List Sort) (z : Shape) → lists_of t core order ≡ Some z
         → AreShown t (out-Core core).shown z.0 × (length z.0 ≤ 100) × IsWhere t (out-Core core).filter z.1 × (length z.1 ≤ 100) × AreSorts t order z.2 × (length z.2 ≤ 100)
@@ -294,27 +322,36 @@ is_choice t q ks ws os h =
         Rattle.std.proofs.Common.subst (λ (y : Shape). AreShown t (out-Core core).shown y.0 × (length y.0 ≤ 100) × IsWhere t (out-Core core).filter y.1 × (length y.1 ≤ 100) × AreSorts t order y.2 × (length y.2 ≤ 100)) same
         (are_shown t _ k.0 k.1, few k.0 a.0, is_where t _ w.0 w.1, few w.0 b.0, are_sorts t order o.0 o.1, few o.0 c.0)
 
-abbrev select_by : Table → Statement → Option Shape
-select_by t (written.Select q) = choice_of t q
-select_by t _ = None
+abbrev query_by : {B : Type 0} → (Select → Option B) → Statement → Option B
+query_by f (written.Select q) = f q
+query_by f _ = None
 
-abbrev select_in : Table → Checked Parsed → Option Shape
-select_in t (Ok p) = if_nil p.formats (select_by t p.statement)
-select_in t (Err e) = None
+abbrev query_in : {B : Type 0} → (Select → Option B) → Checked Parsed → Option B
+query_in f (Ok p) = if_nil p.formats (query_by f p.statement)
+query_in f (Err e) = None
+
+-- what f tells of the query that a text is
+record Queries {B : Type 0} (f : Select → Option B) (r : Checked Parsed) (z : B) : Type 0 where
+  parsed : Parsed
+  query : Select
+  read : r ≡ Ok parsed
+  statement : parsed.statement ≡ written.Select query
+  formats : parsed.formats ≡ []
+  told : f query ≡ Some z
+
+is_query : {B : Type 0} (f : Select → Option B) (r : Checked Parsed) (z : B) → query_in f r ≡ Some z → Queries f r z
+is_query f (Err e) z h = absurd (cc)
+is_query {B} f (Ok p) z h = let formats = nil _ _ z h in go p.statement refl formats.0 formats.1
+  where
+    go : (s : Statement) → p.statement ≡ s → p.formats ≡ [] → query_by f s ≡ Some z → Queries f (Ok p) z
+    go (written.Select q) is formats h = record { parsed = p; query = q; read = refl; statement = is; formats = formats; told = h }
+    go _ is formats h = absurd (cc)
 
 abbrev pub select_of : Table → List ℕ → Option (List ℕ × List (ℕ × ℕ) × List ℕ)
-select_of t text = select_in t (first text)
+select_of t text = query_in (choice_of t) (first text)
 
 pub is_select : (t : Table) (text : List ℕ) (ks : List ℕ) (ws : List (ℕ × ℕ)) (os : List ℕ) → select_of t text ≡ Some (ks, ws, os) → IsSelect t text ks ws os
-is_select t text ks ws os h = go (first text) refl h
-  where
-    by : (p : Parsed) → first text ≡ Ok p → p.formats ≡ [] → (s : Statement) → p.statement ≡ s → select_by t s ≡ Some (ks, ws, os) → IsSelect t text ks ws os
-    by p read formats (written.Select q) is h = selects read is formats (is_choice t q ks ws os h)
-    by p read formats _ is h = absurd (cc)
-
-    go : (r : Checked Parsed) → first text ≡ r → select_in t r ≡ Some (ks, ws, os) → IsSelect t text ks ws os
-    go (Ok p) read h = let formats = nil _ _ (ks, ws, os) h in by p read formats.0 p.statement refl formats.1
-    go (Err e) read h = absurd (cc)
+is_select t text ks ws os h = let it = is_query (choice_of t) (first text) (ks, ws, os) h in selects it.read it.statement it.formats (is_choice t it.query ks ws os it.told)
 
 -- ---- how many parameters a text has
 
@@ -340,6 +377,102 @@ are_counted text n h = go (first text) refl h
         let whole = so _ _ n h in
         record { parsed = p; read = read; whole = leb-true (length text) p.tail whole.0; given = some_same whole.1 }
     go (Err e) read h = absurd (cc)
+
+-- ---- queries of a whole table, without parameters
+
+abbrev whole_in : {B : Type 0} → List ℕ → (Select → Option B) → Checked Parsed → Option B
+whole_in text f (Ok p) = if_true (nat_le (length text) p.tail) (if_nil p.names (query_in f (Ok p)))
+whole_in text f (Err e) = None
+
+is_whole : {B : Type 0} (text : List ℕ) (f : Select → Option B) (z : B) → whole_in text f (first text) ≡ Some z → Counts text 0 × Queries f (first text) z
+is_whole {B} text f z h = go (first text) refl h
+  where
+    go : (r : Checked Parsed) → first text ≡ r → whole_in text f r ≡ Some z → Counts text 0 × Queries f (first text) z
+    go (Ok p) read h =
+        let whole = so _ _ z h in
+        let bare = nil _ _ z whole.1 in (
+          record { parsed = p; read = read; whole = leb-true (length text) p.tail whole.0; given = ap length bare.0 },
+          Rattle.std.proofs.Common.subst (λ r. Queries f r z) (sym read) (is_query f (Ok p) z bare.1),
+        )
+    go (Err e) read h = absurd (cc)
+
+abbrev rowid_by : {B : Type 0} → Table → Layer → Option B → Option B
+rowid_by t (Expr-F.Column None name) o = if_true (bytes_eq name rowid_name) (if_none (column_named t rowid_name) o)
+rowid_by t _ o = None
+
+is_rowid : {B : Type 0} (t : Table) (e : Expr) (o : Option B) (z : B) → rowid_by t (out-Expr e) o ≡ Some z → IsRowidOf t e × (o ≡ Some z)
+is_rowid {B} t e o z h = go (out-Expr e) refl h
+  where
+    go : (l : Layer) → out-Expr e ≡ l → rowid_by t l o ≡ Some z → IsRowidOf t e × (o ≡ Some z)
+    go (Expr-F.Column None name) out h =
+        let is = so _ _ z h in
+        let free = absent _ _ z is.1 in
+        (unnamed (out ∙ ap (Expr-F.Column None) (same_bytes name rowid_name is.0)) free.0, free.1)
+    go _ out h = absurd (cc)
+
+abbrev shows_rowid : {B : Type 0} → Table → ShownLayer → Option B → Option B
+shows_rowid t (Shown-F.One e None text) o = rowid_by t (out-Expr e) o
+shows_rowid t _ o = None
+
+abbrev sorts_rowid : Table → Sort → Option (Unit {0})
+sorts_rowid t s = if_not (out-Sort s).descending (if_none (out-Sort s).nulls_first (rowid_by t (out-Expr (out-Sort s).key) (Some tt)))
+
+abbrev ids_in : Table → Core → List Sort → Option (Unit {0})
+ids_in t core order = if_none (out-Core core).filter (option_and_then (λ s. option_and_then (λ so. shows_rowid t (out-Shown s) (sorts_rowid t so)) (single order)) (single (out-Core core).shown))
+
+abbrev ids_by : Table → Select → Option (Unit {0})
+ids_by t q = frame_of t q (ids_in t (out-Select q).first (out-Select q).order)
+
+-- a SELECT of the rowids of the table, in their order
+abbrev pub ids_of : Table → List ℕ → Option (Unit {0})
+ids_of t text = whole_in text (ids_by t) (first text)
+
+pub is_ids : (t : Table) (text : List ℕ) → ids_of t text ≡ Some tt → Counts text 0 × IsIds t text
+is_ids t text h =
+    let it = is_whole text (ids_by t) tt h in
+    let q = it.1.query in
+    let frame = is_frame t q _ tt it.1.told in
+    let bare = absent _ _ tt frame.2 in
+    let s = got (λ s. option_and_then (λ so. shows_rowid t (out-Shown s) (sorts_rowid t so)) (single (out-Select q).order)) (single (out-Core (out-Select q).first).shown) tt bare.1 in
+    let o = got (λ so. shows_rowid t (out-Shown s.0) (sorts_rowid t so)) (single (out-Select q).order) tt s.2 in
+    (it.0, go it.1 frame.0 frame.1 bare.0 s.0 (alone _ _ s.1) o.0 (alone _ _ o.1) (out-Shown s.0) refl o.2)
+  where
+    go : (it : Queries (ids_by t) (first text) tt) (src : Source) → IsFrame t it.query (out-Select it.query).first src → (out-Core (out-Select it.query).first).filter ≡ None
+        → (s : Shown) → (out-Core (out-Select it.query).first).shown ≡ s ∷ [] → (o : Sort) → (out-Select it.query).order ≡ o ∷ [] → (l : ShownLayer) → out-Shown s ≡ l → shows_rowid t l (sorts_rowid t o) ≡ Some tt → IsIds t text
+    go it src frame bare s shown o order (Shown-F.One e None heading) out h =
+        let e_is = is_rowid t e _ tt h in
+        let down = not_so _ _ tt e_is.1 in
+        let nulls = absent _ _ tt down.1 in
+        let o_is = is_rowid t (out-Sort o).key _ tt nulls.1 in
+        rowids it.read it.statement it.formats frame shown out e_is.0 bare order down.0 nulls.0 o_is.0
+    go it src frame bare s shown o order _ out h = absurd (cc)
+
+-- the places of the columns, in their order
+abbrev pub places : List Declared → List ℕ
+places [] = []
+places (c ∷ cs) = 0 ∷ map suc (places cs)
+
+abbrev all_by : Table → Shape → Option (List ℕ)
+all_by t s = if_true (bytes_eq s.0 (places t.columns)) (if_nil s.1 (Some s.2))
+
+abbrev all_in : Table → Select → Option (List ℕ)
+all_in t q = option_and_then (all_by t) (choice_of t q)
+
+-- the columns that a SELECT of all columns sorts by
+abbrev pub all_of : Table → List ℕ → Option (List ℕ)
+all_of t text = whole_in text (all_in t) (first text)
+
+pub is_all : (t : Table) (text : List ℕ) (os : List ℕ) → all_of t text ≡ Some os → Counts text 0 × IsSelect t text (places t.columns) [] os
+is_all t text os h =
+    let it = is_whole text (all_in t) os h in
+    let shape = got (all_by t) (choice_of t it.1.query) os it.1.told in
+    let shown = so _ _ os shape.2 in
+    let bare = nil _ _ os shown.1 in
+    let same : shape.0 ≡ (places t.columns, [], os) = three shape.0 (same_bytes _ _ shown.0) bare.0 (some_same bare.1) in
+    (it.0, selects it.1.read it.1.statement it.1.formats (is_choice t it.1.query _ _ _ (shape.1 ∙ ap Some same)))
+  where
+    three : (z : Shape) → z.0 ≡ places t.columns → z.1 ≡ [] → z.2 ≡ os → z ≡ (places t.columns, [], os)
+    three z a b c = λ i. (a i, b i, c i)
 
 -- ---- INSERT
 

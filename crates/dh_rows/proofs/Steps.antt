@@ -7,7 +7,7 @@ use Rattle.sqlite_sql.specs.Term.{Term, col}
 use Rattle.sqlite_resolve.specs.declared.state.State.{State}
 use Rattle.sqlite_resolve.specs.declared.state.Carried.{Carried}
 use Rattle.sqlite_resolve.specs.declared.state.Passes.{Passes}
-use Rattle.sqlite_resolve.specs.declared.scope.Found.TheVariants.{Column}
+use Rattle.sqlite_resolve.specs.declared.scope.Found.TheVariants.{Column, Rowid}
 use Rattle.sqlite_resolve.specs.Lowering.{Lowering, nothing, chosen, finish, begin, spend, passed, written_or, either}
 use Rattle.sqlite_resolve.specs.Scope.{Context, find, column_at, column, term_of}
 use Rattle.sqlite_resolve.specs.Body.{tests}
@@ -47,6 +47,10 @@ module _ (lower : Context → Expr → Lowering Term) (cx : Context) (e : Expr) 
   unfolding opened column term_of
   column_as s name slot at k t c out found has = rw (out, found, has) refl
 
+  pub rowid_as : (s : State) (name : List ℕ) (slot at : ℕ) → out-Expr e ≡ Expr-F.Column None name → find cx None name ≡ Ok (Rowid slot at) → opened lower cx e s ≡ Ok (col slot 0, record s { last = nothing })
+  unfolding opened column term_of
+  rowid_as s name slot at out found = rw (out, found) refl
+
   pub parameter_as : (s : State) (n : ℕ) → out-Expr e ≡ Expr-F.Parameter n → opened lower cx e s ≡ Ok (col 0 (n - 1), s)
   unfolding opened
   parameter_as s n out = rw out refl
@@ -81,6 +85,9 @@ binary = record { collation = Some Binary; is_written = false }
 
 abbrev pub column_end : State → State
 column_end s = ended s All (record (begun s) { last = binary })
+
+abbrev pub rowid_end : State → State
+rowid_end s = ended s All (begun s)
 
 abbrev pub parameter_end : State → State
 parameter_end s = ended s hands.Nothing (begun s)

@@ -20,6 +20,10 @@ wanted = map (λ w. equals w.0 w.1)
 abbrev pub rising : ℕ → Term × Key
 rising k = (col 1 (suc k), record { collation = Binary; descending = false })
 
+-- ascending by the rowid
+abbrev pub by_rowid : Term × Key
+by_rowid = (col 1 0, record { collation = Binary; descending = false })
+
 abbrev pub from_table : ℕ → List Term → List Term → List (Term × Key) → Query
 from_table tree filter shown order = record {
   from = inner tree end;

@@ -1,5 +1,5 @@
 -- The meaning of our texts, by their shape: any list of columns, of equalities joined by AND and of sort keys.
-use Rattle.std.proofs.Common.{◌≡◌, ℕ, zero, suc, ◌+◌, ◌-◌, ◌*◌, ◌^◌, ◌≤◌, ◌<◌, pos, negsuc, List, [], ◌∷◌, ◌++◌, ◌==◌, ◌&&◌, nat_lt, nat_le, map, length, Bool, true, false, cond, Option, None, Some, Ok, refl, sym, ap, ap₂, subst, ◌∙◌, slice_get, unwrap_or, option_map, option_and_then, is_some, arith, append_assoc, length-append, add-one, append-nil, lt-ltb, lit≤}
+use Rattle.std.proofs.Common.{◌≡◌, ℕ, zero, suc, ◌+◌, ◌-◌, ◌*◌, ◌^◌, ◌≤◌, ◌<◌, pos, negsuc, List, [], ◌∷◌, ◌++◌, ◌==◌, ◌&&◌, nat_lt, nat_le, map, length, Bool, true, false, cond, Option, None, Some, Ok, codes, refl, sym, ap, ap₂, subst, ◌∙◌, slice_get, unwrap_or, option_map, option_and_then, is_some, arith, append_assoc, length-append, add-one, append-nil, lt-ltb, lit≤}
 use Rattle.std.specs.List.{AllByRecursion, list_all, position_from}
 use Rattle.std.proofs.lemmas.Bool.{and_parts, lt-leb}
 use Rattle.std.proofs.lemmas.List.{map-append}
@@ -40,8 +40,9 @@ use Rattle.sqlite_resolve.specs.declared.compare.Affinity.TheVariants as affinit
 use Rattle.sqlite_resolve.specs.declared.state.State.{State}
 use Rattle.sqlite_resolve.specs.declared.state.Passes.TheVariants as hands
 use Rattle.sqlite_resolve.specs.declared.scope.Output.{Output}
-use Rattle.sqlite_resolve.specs.Lowering.{fresh, max_budget, alone}
-use Rattle.sqlite_resolve.specs.Scope.{Context, column_at}
+use Rattle.sqlite_resolve.specs.declared.scope.Found.TheVariants.{Rowid}
+use Rattle.sqlite_resolve.specs.Lowering.{fresh, max_budget, nothing, alone}
+use Rattle.sqlite_resolve.specs.Scope.{Context, column_at, find, is_rowid}
 use Rattle.sqlite_resolve.specs.Terms.{conjuncts}
 use Rattle.sqlite_resolve.specs.Body.{tests, outputs, outputs_from, is_column}
 use Rattle.sqlite_resolve.specs.Order.{sorts, sorts_from, peeled, alias_in, written_on, is_numeral}
@@ -51,15 +52,16 @@ use Rattle.sqlite_resolve.specs.Program.{program}
 use Rattle.sqlite_resolve.specs.Compare.{compared, affinity_of, of_column, of_kind, converted, converted_by, spelled, may_be_text, is_parameter}
 use Rattle.sqlite_resolve.specs.Expr.{lower, lower_to, passes, combine, tests_truth, tests_alias, wanted_truth}
 use Rattle.sqlite_resolve.specs.Compile.{first, new_rows, small, read as resolve_read}
+use Rattle.sqlite_tied.specs.Compute.{everything}
 use Rattle.sqlite.specs.Listing.{understood, reads_listing}
 use Rattle.sqlite.specs.Given.{IsPlain}
 use Rattle.dh_rows.specs.Calls.{command_of}
 use Rattle.dh_rows.proofs.Calls.{tail_of, parameters_of}
 use Rattle.dh_rows.specs.Places.{tree_of, table_in, Stands}
-use Rattle.dh_rows.proofs.Terms.{equals, wanted, rising, from_table, columns_at}
+use Rattle.dh_rows.proofs.Terms.{equals, wanted, rising, by_rowid, from_table, columns_at}
 use Rattle.dh_rows.proofs.Effects.{IsSimple}
-use Rattle.dh_rows.proofs.Steps.{begun, ended, binary, column_end, equal_end, node_as, column_as, both_as, tests_as, columned_as, deleted_as, equal_as}
-use Rattle.dh_rows.proofs.Choose.{seen, bound_at, seen_as, heading_as, bounds_as, joins_as, shown_as, sort_as, body_as, named_as, read_as, select_means}
+use Rattle.dh_rows.proofs.Steps.{begun, ended, binary, column_end, rowid_end, equal_end, node_as, column_as, rowid_as, both_as, tests_as, columned_as, deleted_as, equal_as}
+use Rattle.dh_rows.proofs.Choose.{seen, bound_at, seen_as, heading_as, rowid_seen, rowid_heading, bounds_as, joins_as, shown_as, sort_as, body_as, named_as, read_as, select_means}
 use Rattle.dh_rows.proofs.Meaning.{delete_means, insert_means}
 
 -- ---- the shapes
@@ -95,6 +97,30 @@ pub data AreShown (t : Table) : List Shown → List ℕ → Type 0 where
 pub data AreSorts (t : Table) : List Sort → List ℕ → Type 0 where
   none : AreSorts t [] []
   next : {s : Sort} {e : Expr} {k : ℕ} {ss : List Sort} {ks : List ℕ} → (out-Sort s).key ≡ e → (out-Sort s).descending ≡ false → (out-Sort s).nulls_first ≡ None → IsColumn t e k → AreSorts t ss ks → AreSorts t (s ∷ ss) (k ∷ ks)
+
+abbrev pub rowid_name : List ℕ
+rowid_name = codes "rowid"
+
+-- the expression names the rowid, as no column of the table is named
+pub data IsRowidOf (t : Table) : Expr → Type 0 where
+  unnamed : {e : Expr} → out-Expr e ≡ Expr-F.Column None rowid_name → column_named t rowid_name ≡ None → IsRowidOf t e
+
+-- a SELECT from the table alone, with no WITH, UNION, GROUP BY, DISTINCT or LIMIT
+pub record IsFrame (t : Table) (q : Select) (core : Core) (src : Source) : Type 0 where
+  pub bare : (out-Select q).with ≡ []
+  pub others : (out-Select q).others ≡ []
+  pub limit : (out-Select q).limit ≡ None
+  pub offset : (out-Select q).offset ≡ None
+  pub first_is : (out-Select q).first ≡ core
+  pub from : (out-Core core).from ≡ src ∷ []
+  pub origin_is : (out-Source src).origin ≡ origin.Table t.name
+  pub alias : (out-Source src).alias ≡ None
+  pub using : (out-Source src).using ≡ []
+  pub on : (out-Source src).on ≡ None
+  pub left : (out-Source src).is_left ≡ false
+  pub group : (out-Core core).group ≡ []
+  pub having : (out-Core core).having ≡ None
+  pub distinct : (out-Core core).distinct ≡ false
 
 -- the text's meaning at a schema
 pub record Means (schema : Schema) (text : List ℕ) (k : Command) : Type 0 where
@@ -151,6 +177,12 @@ pub data IsChoice (t : Table) (q : Select) (ks : List ℕ) (ws : List (ℕ × �
 pub data IsSelect (t : Table) (text : List ℕ) (ks : List ℕ) (ws : List (ℕ × ℕ)) (os : List ℕ) : Type 0 where
   selects : {p : Parsed} {q : Select} → first text ≡ Ok p → p.statement ≡ written.Select q → p.formats ≡ [] → IsChoice t q ks ws os → IsSelect t text ks ws os
 
+-- a text of this shape: the rowids of the table, in their order
+pub data IsIds (t : Table) (text : List ℕ) : Type 0 where
+  rowids : {p : Parsed} {q : Select} {core : Core} {src : Source} {sh : Shown} {e : Expr} {heading : List ℕ} {so : Sort} → first text ≡ Ok p → p.statement ≡ written.Select q → p.formats ≡ [] → IsFrame t q core src
+      → (out-Core core).shown ≡ sh ∷ [] → out-Shown sh ≡ Shown-F.One e None heading → IsRowidOf t e → (out-Core core).filter ≡ None
+      → (out-Select q).order ≡ so ∷ [] → (out-Sort so).descending ≡ false → (out-Sort so).nulls_first ≡ None → IsRowidOf t (out-Sort so).key → IsIds t text
+
 -- a text of this shape, and the terms of its one row after the rowid
 pub data IsInsert (schema : Schema) (t : Table) (tree : ℕ) (text : List ℕ) (terms : List Term) (width : ℕ) : Type 0 where
   adds : {p : Parsed} {columns : List (List ℕ)} {rows : Rows} → first text ≡ Ok p → p.statement ≡ written.Insert conflict.Abort t.name columns rows [] [] → p.formats ≡ []
@@ -205,6 +237,14 @@ no_alias : (t : Table) (name : List ℕ) (from : ℕ) (ks : List ℕ) → positi
 no_alias t name from [] = refl
 no_alias t name from (k ∷ ks) = no_alias t name (from + 1) ks
 
+-- what the result calls the rowid
+abbrev rowid_out : Output
+rowid_out = record { name = rowid_name; is_alias = false; is_column = true; term = col 1 0; carried = nothing }
+
+names_rowid : is_rowid rowid_name ≡ true
+unfolding everything
+names_rowid = refl
+
 module _ (schema : Schema) (t : Table) (stands : Stands schema t) (simple : IsSimple t) (plain : ArePlain t.columns) where
   abbrev its : Table
   its = table_in schema t
@@ -231,6 +271,14 @@ module _ (schema : Schema) (t : Table) (stands : Stands schema t) (simple : IsSi
   lowers_column shows may e k (named {name = name} {c = c} out is has) d s h =
       node_as (lower_to d) (cx shows may) e s (record (begun s) { last = binary }) (col 1 (suc k)) hands.All (enough s.budget h) (rw out refl)
       (column_as (lower_to d) (cx shows may) e (begun s) name 1 at k (col 1 (suc k)) binary out (seen_as schema t.name at its stands.has.named there shows may name k is) (has_column k c has))
+
+  finds_rowid : (shows : List Output) (may : Bool) → column_named t rowid_name ≡ None → find (cx shows may) None rowid_name ≡ Ok (Rowid 1 at)
+  finds_rowid shows may free = rowid_seen schema t.name at its stands.has.named there shows may rowid_name free names_rowid (lt-ltb (tree_of schema t.name) (2 ^ 31) stands.stored)
+
+  lowers_rowid : (shows : List Output) (may : Bool) (e : Expr) → IsRowidOf t e → (d : ℕ) (s : State) → 1 < s.budget → lower_to (suc d) (cx shows may) e s ≡ Ok (col 1 0, rowid_end s)
+  unfolding lower_to passes
+  lowers_rowid shows may e (unnamed out free) d s h =
+      node_as (lower_to d) (cx shows may) e s (begun s) (col 1 0) hands.All (enough s.budget h) (rw out refl) (rowid_as (lower_to d) (cx shows may) e (begun s) rowid_name 1 at out (finds_rowid shows may free))
 
   made : (shows : List Output) (may : Bool) (k n : ℕ) (c : Declared) → slice_get t.columns k ≡ Some c → (s : State) → combine (cx shows may) Eq Binary (col 1 (suc k)) (col 0 n) s ≡ Ok (equals k n, s)
   unfolding combine compared affinity_of of_column converted is_parameter
@@ -430,30 +478,34 @@ module _ (schema : Schema) (t : Table) (stands : Stands schema t) (simple : IsSi
       let means = delete_means schema p t.name test is formats at its _ _ stands.has.named there none typed text parse in
       record { is = ap command_of means; plain = subst IsPlain (sym means) (refl, refl) }
 
-  -- ---- SELECT .. FROM t WHERE .. ORDER BY ..
+  -- ---- SELECT .. FROM t
 
-  pub select_is : (text : List ℕ) (ks : List ℕ) (ws : List (ℕ × ℕ)) (os : List ℕ) → IsSelect t text ks ws os
-      → Chooses schema text (command.Select (record { lets = []; body = from_table (tree_of schema t.name) (wanted ws) (columns_at ks) (map rising os) }) (map (name_at t) ks))
-  unfolding outputs sorts ungrouped
-  select_is text ks ws os (selects {p = p} {q = q} parse is formats (chooses {core = core} {src = src} {ss = ss} {test = test} {by_order = by_order} bare others limit offset first_is from origin_is alias using on left shows_are shows few_shown filter_is filter few group having distinct order_is sort few_sorts)) =
-      let s1 : State = record (fresh 1 max_budget) { next = 2 } in
-      let columns = map (out_at t) ks in
-      let x = listed [] ss ks shows s1 (omega arith) in
-      let y = tested columns false test ws filter few x.after (omega (arith, x.follows.budget)) in
-      let z = sorted ks [] by_order os sort y.after (omega (arith, x.follows.budget, y.follows.budget)) in
-      let whole = body_as schema core (fresh 1 max_budget) s1 x.after x.after y.after (bound_at t.name at ∷ []) columns (record { steps = Inner its.tree ∷ []; filter = [] }) (wanted ws)
-      (rw from (bounds_as schema t.name at its stands.has.named there src (fresh 1 max_budget) origin_is alias using refl)) (rw shows_are x.is)
-      (rw from (joins_as schema t.name at its stands.has.named there columns false src x.after on using left)) (rw filter_is y.is) in
-      let aggregates : (length y.after.aggregates == 0) ≡ true = rw (y.follows.aggregates, x.follows.aggregates) refl in
-      let steps : z.after.steps ≡ [] = z.follows.steps ∙ y.follows.steps ∙ x.follows.steps in
+  abbrev begins : State
+  begins = record (fresh 1 max_budget) { next = 2 }
+
+  -- what a SELECT of this frame means, from what its parts are read as
+  frame_is : (text : List ℕ) (p : Parsed) (q : Select) (core : Core) (src : Source) → first text ≡ Ok p → p.statement ≡ written.Select q → p.formats ≡ [] → IsFrame t q core src
+      → (columns : List Output) (ws : List (ℕ × ℕ)) (order : List (Term × Key)) (s2 s3 s4 : State)
+      → outputs lower (cx [] true) (bound_at t.name at ∷ []) (out-Core core).shown begins ≡ Ok (columns, s2) → tests lower (cx columns false) [] (out-Core core).filter s2 ≡ Ok (wanted ws, s3)
+      → sorts lower (cx columns false) columns (out-Select q).order s3 ≡ Ok (order, s4) → s3.aggregates ≡ [] → s4.steps ≡ []
+      → (shown : List Term) (names : List (List ℕ)) → map (λ (o : Output). o.term) columns ≡ shown → map (λ (o : Output). o.name) columns ≡ names
+      → are_tests [] slots (wanted ws) ≡ true → are_typed [] slots shown ≡ true → are_typed [] slots (map (λ (x : Term × Key). x.0) order) ≡ true
+      → Chooses schema text (command.Select (record { lets = []; body = from_table (tree_of schema t.name) (wanted ws) shown order }) names)
+  unfolding ungrouped
+  frame_is text p q core src parse is formats frame columns ws order s2 s3 s4 x y z bare idle shown names shown_is names_are typed_tests typed_shown typed_order =
+      let whole = body_as schema core (fresh 1 max_budget) begins s2 s2 s3 (bound_at t.name at ∷ []) columns (record { steps = Inner its.tree ∷ []; filter = [] }) (wanted ws)
+      (rw frame.from (bounds_as schema t.name at its stands.has.named there src (fresh 1 max_budget) frame.origin_is frame.alias frame.using refl)) x
+      (rw frame.from (joins_as schema t.name at its stands.has.named there columns false src s2 frame.on frame.using frame.left)) y in
+      let aggregates : (length s3.aggregates == 0) ≡ true = rw bare refl in
       let page : Term × Term = (lit (Int (negsuc 0)), lit (Int (pos 0))) in
-      let draft : Draft = ungrouped ((Inner its.tree ∷ []) ++ z.after.steps) (wanted ws) columns false (map rising os) (lit (Int (negsuc 0))) (lit (Int (pos 0))) in
+      let draft : Draft = ungrouped ((Inner its.tree ∷ []) ++ s4.steps) (wanted ws) columns false order (lit (Int (negsuc 0))) (lit (Int (pos 0))) in
       let one : named_to schema core (out-Select q).order page ≡ Ok (draft, map (λ (o : Output). o.name) columns, map (λ (o : Output). o.carried.collation) columns) =
-      rw order_is (named_as schema core by_order page _ y.after z.after (map rising os) whole group having distinct aggregates z.is) in
-      let is_drafted : draft ≡ record (drafted (Inner (tree_of schema t.name) ∷ []) (wanted ws) (columns_at ks)) { order = map rising os } = rw (steps, columns_same ks) refl in
-      let typed = accepts draft ws (columns_at ks) (map rising os) is_drafted (all_tests ws (where_within test ws filter)) (all_shown [] ks (shown_within ss ks shows)) (all_sorts [] os (sorts_within by_order os sort)) in
-      let read : resolve_read schema q ≡ Ok (command.Select (record { lets = []; body = from_table (tree_of schema t.name) (wanted ws) (columns_at ks) (map rising os) }) (map (name_at t) ks)) =
-      read_as schema q core src t.name draft _ _ _ bare others limit offset first_is from origin_is one typed ∙ ap (λ names. Ok (command.Select (record { lets = []; body = from_table (tree_of schema t.name) (wanted ws) (columns_at ks) (map rising os) }) names)) (names_same ks) in
+      named_as schema core (out-Select q).order page _ s3 s4 order whole frame.group frame.having frame.distinct aggregates z in
+      let is_drafted : draft ≡ record (drafted (Inner (tree_of schema t.name) ∷ []) (wanted ws) shown) { order = order } = rw (idle, shown_is) refl in
+      let typed = accepts draft ws shown order is_drafted typed_tests typed_shown typed_order in
+      let read : resolve_read schema q ≡ Ok (command.Select (record { lets = []; body = from_table (tree_of schema t.name) (wanted ws) shown order }) names) =
+      read_as schema q core src t.name draft _ _ _ frame.bare frame.others frame.limit frame.offset frame.first_is frame.from frame.origin_is one typed
+      ∙ ap (λ l. Ok (command.Select (record { lets = []; body = from_table (tree_of schema t.name) (wanted ws) shown order }) l)) names_are in
       let both = select_means schema p q _ text parse is formats read in
       record {
         means = record { is = ap command_of both.0; plain = subst IsPlain (sym both.0) (refl, refl) };
@@ -464,11 +516,41 @@ module _ (schema : Schema) (t : Table) (stands : Stands schema t) (simple : IsSi
         given = ap parameters_of both.0;
       }
 
+  -- ---- SELECT .. FROM t WHERE .. ORDER BY ..
+
+  pub select_is : (text : List ℕ) (ks : List ℕ) (ws : List (ℕ × ℕ)) (os : List ℕ) → IsSelect t text ks ws os
+      → Chooses schema text (command.Select (record { lets = []; body = from_table (tree_of schema t.name) (wanted ws) (columns_at ks) (map rising os) }) (map (name_at t) ks))
+  unfolding outputs sorts
+  select_is text ks ws os (selects {p = p} {q = q} parse is formats (chooses {core = core} {src = src} {ss = ss} {test = test} {by_order = by_order} bare others limit offset first_is from origin_is alias using on left shows_are shows few_shown filter_is filter few group having distinct order_is sort few_sorts)) =
+      let frame : IsFrame t q core src = record { bare = bare; others = others; limit = limit; offset = offset; first_is = first_is; from = from; origin_is = origin_is; alias = alias; using = using; on = on; left = left; group = group; having = having; distinct = distinct } in
+      let x = listed [] ss ks shows begins (omega arith) in
+      let y = tested (map (out_at t) ks) false test ws filter few x.after (omega (arith, x.follows.budget)) in
+      let z = sorted ks [] by_order os sort y.after (omega (arith, x.follows.budget, y.follows.budget)) in
+      frame_is text p q core src parse is formats frame (map (out_at t) ks) ws (map rising os) x.after y.after z.after (rw shows_are x.is) (rw filter_is y.is) (rw order_is z.is)
+      (y.follows.aggregates ∙ x.follows.aggregates) (z.follows.steps ∙ y.follows.steps ∙ x.follows.steps) (columns_at ks) (map (name_at t) ks) (columns_same ks) (names_same ks)
+      (all_tests ws (where_within test ws filter)) (all_shown [] ks (shown_within ss ks shows)) (all_sorts [] os (sorts_within by_order os sort))
+
   -- parameters of the columns' kinds are accepted
   pub select_accepts : (text : List ℕ) (ks : List ℕ) (ws : List (ℕ × ℕ)) (os : List ℕ) → IsSelect t text ks ws os → (params : Row) → all_suit t params ws ≡ true
       → accepts_program schema [] (from_table (tree_of schema t.name) (wanted ws) (columns_at ks) (map rising os)) params ≡ true
   select_accepts text ks ws os (selects {p = p} {q = q} parse is formats (chooses {core = core} {src = src} {ss = ss} {test = test} {by_order = by_order} bare others limit offset first_is from origin_is alias using on left shows_are shows few_shown filter_is filter few group having distinct order_is sort few_sorts)) params suits =
       rw (small', stands.has.found, all_bound params ws (where_within test ws filter) suits, all_shown params ks (shown_within ss ks shows), all_sorts params os (sorts_within by_order os sort)) refl
+
+  -- ---- SELECT rowid FROM t ORDER BY rowid
+
+  pub ids_is : (text : List ℕ) → IsIds t text → Chooses schema text (command.Select (record { lets = []; body = from_table (tree_of schema t.name) [] (col 1 0 ∷ []) (by_rowid ∷ []) }) (rowid_name ∷ []))
+  unfolding outputs sorts tests is_column peeled alias_in written_on is_numeral alone
+  ids_is text (rowids {p = p} {q = q} {core = core} {src = src} {sh = sh} {e = e} {heading = heading} {so = so} parse is formats frame shown_is show (unnamed named_e free) filter order_is down nulls (unnamed named_so other)) =
+      let columns : List Output = rowid_out ∷ [] in
+      let head = rowid_heading schema t.name at its stands.has.named there [] true e heading rowid_name named_e (finds_rowid [] true free) no_key in
+      let x = shown_as (cx [] true) (bound_at t.name at ∷ []) [] sh e heading rowid_name begins (rowid_end begins) (col 1 0) show (lowers_rowid [] true e (unnamed named_e free) 699 begins (omega arith)) head (rw named_e refl) in
+      let z = sort_as (cx columns false) columns [] so (out-Sort so).key (rowid_end begins) (rowid_end (rowid_end begins)) 0 refl down nulls (rw named_so refl) (rw named_so refl) (rw named_so refl)
+      (lowers_rowid columns false (out-Sort so).key (unnamed named_so other) 699 (rowid_end begins) (omega arith)) (rw named_so refl) in
+      frame_is text p q core src parse is formats frame columns [] (by_rowid ∷ []) (rowid_end begins) (rowid_end begins) (rowid_end (rowid_end begins)) (rw shown_is (rw x refl)) (rw filter refl) (rw order_is (rw z refl))
+      refl refl (col 1 0 ∷ []) (rowid_name ∷ []) refl refl refl refl refl
+
+  pub ids_accepts : accepts_program schema [] (from_table (tree_of schema t.name) [] (col 1 0 ∷ []) (by_rowid ∷ [])) [] ≡ true
+  ids_accepts = rw (small', stands.has.found) refl
 
   -- ---- INSERT INTO t VALUES (..)
 

@@ -12,7 +12,7 @@ use sqlite_schema::names::same_name;
 use sqlite_schema::schema::{Reference, Schema, Table};
 
 /// The trees from here on are those of tables that a statement computes.
-const COMPUTED: u32 = 1 << 31;
+pub(crate) const COMPUTED: u32 = 1 << 31;
 
 /// Whether the name is of no table, index or view.
 pub fn is_free(schema: &Schema, name: &[u8]) -> bool
@@ -76,7 +76,7 @@ fn place_with_tree(schema: &Schema, tree: u32) -> Option<usize>
     schema.tables.as_slice().iter().position(|t| t.tree == tree)
 }
 
-fn all_bear(schema: &Schema, tree: u32, name: &[u8]) -> bool
+pub(crate) fn all_bear(schema: &Schema, tree: u32, name: &[u8]) -> bool
     ensures { result ≡ list_all (λ t. not (t.tree == tree) || same_name t.name name.now) schema.now.tables }
 {
     schema
