@@ -1,0 +1,5 @@
+pub mod ListLemmas
+pub mod OrderLemmas
+pub mod RunLemmas
+pub mod PlaceLemmas
+pub mod PatternLemmas

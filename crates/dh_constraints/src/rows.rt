@@ -1,0 +1,168 @@
+//! What records of several kinds have in common.
+
+ghost use Rattle.std.specs.Prelude.{◌≡◌, ℕ, List};
+
+use dh_paths::HostName;
+use dh_records::{
+    LangRow, PageRow, PassRow, PickRow, ProjectRow, RedirectRow, RuleRow, UsedRow, VersionRow,
+};
+
+/// A record that stands under a host.
+pub trait Hosted {
+    ghost host_of: { Self → List ℕ };
+
+    fn host(&self) -> &HostName
+        ensures { result.now ≡ host_of self.now };
+}
+
+impl Hosted for ProjectRow {
+    ghost host_of = { λ r. r.host };
+
+    fn host(&self) -> &HostName {
+        &self.host
+    }
+}
+
+impl Hosted for LangRow {
+    ghost host_of = { λ r. r.host };
+
+    fn host(&self) -> &HostName {
+        &self.host
+    }
+}
+
+impl Hosted for VersionRow {
+    ghost host_of = { λ r. r.host };
+
+    fn host(&self) -> &HostName {
+        &self.host
+    }
+}
+
+impl Hosted for PageRow {
+    ghost host_of = { λ r. r.host };
+
+    fn host(&self) -> &HostName {
+        &self.host
+    }
+}
+
+impl Hosted for UsedRow {
+    ghost host_of = { λ r. r.host };
+
+    fn host(&self) -> &HostName {
+        &self.host
+    }
+}
+
+impl Hosted for PickRow {
+    ghost host_of = { λ r. r.host };
+
+    fn host(&self) -> &HostName {
+        &self.host
+    }
+}
+
+impl Hosted for PassRow {
+    ghost host_of = { λ r. r.host };
+
+    fn host(&self) -> &HostName {
+        &self.host
+    }
+}
+
+impl Hosted for RuleRow {
+    ghost host_of = { λ r. r.host };
+
+    fn host(&self) -> &HostName {
+        &self.host
+    }
+}
+
+impl Hosted for RedirectRow {
+    ghost host_of = { λ r. r.host };
+
+    fn host(&self) -> &HostName {
+        &self.host
+    }
+}
+
+/// A record with a name of its own under its host.
+pub trait Named: Hosted {
+    ghost name_of: { Self → List ℕ };
+
+    fn name(&self) -> &str
+        ensures { result.now ≡ name_of self.now };
+}
+
+impl Named for LangRow {
+    ghost name_of = { λ r. r.lang };
+
+    fn name(&self) -> &str {
+        self.lang.as_str()
+    }
+}
+
+impl Named for VersionRow {
+    ghost name_of = { λ r. r.version.slug };
+
+    fn name(&self) -> &str {
+        self.version.slug.as_str()
+    }
+}
+
+impl Named for PickRow {
+    ghost name_of = { λ r. r.name };
+
+    fn name(&self) -> &str {
+        self.name.as_str()
+    }
+}
+
+impl Named for PassRow {
+    ghost name_of = { λ r. r.pass };
+
+    fn name(&self) -> &str {
+        self.pass.as_str()
+    }
+}
+
+/// A record that stands at a place under its host.
+pub trait Placed {
+    ghost place_of: { Self → ℕ };
+
+    fn place(&self) -> u64
+        ensures { result ≡ place_of self.now };
+}
+
+impl Placed for LangRow {
+    ghost place_of = { λ r. r.place };
+
+    fn place(&self) -> u64 {
+        u64::from(self.place)
+    }
+}
+
+impl Placed for PickRow {
+    ghost place_of = { λ r. r.rank };
+
+    fn place(&self) -> u64 {
+        self.rank
+    }
+}
+
+impl Placed for RuleRow {
+    ghost place_of = { λ r. r.place };
+
+    fn place(&self) -> u64 {
+        u64::from(self.place)
+    }
+}
+
+impl Placed for RedirectRow {
+    ghost place_of = { λ r. r.place };
+
+    fn place(&self) -> u64 {
+        u64::from(self.place)
+    }
+}
