@@ -7,3 +7,4 @@ pub mod Unrefused
 pub mod Finding
 pub mod Known
 pub mod PickLemmas
+pub mod OpenLemmas

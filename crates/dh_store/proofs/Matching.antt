@@ -1,5 +1,5 @@
 -- What the WHERE of our statements tests.
-use Rattle.std.proofs.Common.{◌≡◌, ℕ, pos, nat_eq, List, Bool, true, false, cond, Some, refl, ap, ◌∙◌, is_eq, int_cmp}
+use Rattle.std.proofs.Common.{◌≡◌, ℕ, pos, nat_eq, List, Bool, true, false, Some, refl, ap, ◌∙◌, is_eq, int_cmp}
 use Rattle.std.proofs.lemmas.Map.Text.{is_eq-slice_cmp}
 use Rattle.std.specs.Bool.{one_answer}
 use Rattle.std.specs.Cmp.{signed_Decides, unsigned_Decides}
@@ -11,17 +11,7 @@ use Rattle.sqlite_value.proofs.OrderLemmas.{value_cmp-Int, value_cmp-Text}
 use Rattle.sqlite_sql.specs.declared.ops.BinaryOp.TheVariants.{Compare}
 use Rattle.sqlite_sql.specs.declared.ops.CompareOp.TheVariants.{Eq}
 use Rattle.sqlite_sql.specs.Ops.{binary, is_true, from_truth}
-use Rattle.dh_rows.specs.Keyed.{flag, is_set}
-use Rattle.dh_versions.specs.declared.version.Kind.{Kind}
-use Rattle.dh_versions.specs.declared.version.Kind.TheVariants.{Branch, Tag}
-use Rattle.dh_rules.specs.Patterns.{pattern_text}
-use Rattle.dh_rules.specs.declared.pattern.Pattern.{Pattern}
-use Rattle.dh_rules.specs.declared.pattern.Pattern.TheVariants.{All, SemVer, Custom}
-use Rattle.dh_rules.specs.declared.rule.Action.{Action}
-use Rattle.dh_rules.specs.declared.rule.Action.TheVariants.{Activate, Hide, Public, Private, Default}
-use Rattle.dh_redirects.specs.declared.redirect.RedirectKind.{RedirectKind}
-use Rattle.dh_redirects.specs.declared.redirect.RedirectKind.TheVariants.{Page, Exact, CleanToHtml, HtmlToClean}
-use Rattle.dh_records.specs.Codings.{is_tag, action_number, stored_action, stored_pattern, kind_number, stored_kind}
+use Rattle.dh_rows.specs.Keyed.{flag}
 use Rattle.dh_world.specs.World.{is_upload}
 use Rattle.dh_records.specs.Lists.{same_op}
 use Rattle.dh_world.specs.declared.operation.Operation.{Operation}
@@ -48,35 +38,3 @@ equal_op Push Push = refl
 equal_op Push Upload = refl
 equal_op Upload Push = refl
 equal_op Upload Upload = refl
-
--- ---- what is read is what was kept
-
-pub flag_back : (b : Bool) → is_set (flag b) ≡ b
-flag_back true = refl
-flag_back false = refl
-
-pub kind_back : (k : Kind) → cond (is_set (flag (is_tag k))) Tag Branch ≡ k
-kind_back Branch = refl
-kind_back Tag = refl
-
-pub op_back : (o : Operation) → cond (is_set (flag (is_upload o))) Upload Push ≡ o
-op_back Push = refl
-op_back Upload = refl
-
-pub action_back : (a : Action) → stored_action (action_number a) ≡ a
-action_back Activate = refl
-action_back Hide = refl
-action_back Public = refl
-action_back Private = refl
-action_back Default = refl
-
-pub pattern_back : (p : Pattern) → stored_pattern (pattern_text p) ≡ p
-pattern_back All = refl
-pattern_back SemVer = refl
-pattern_back (Custom text) = refl
-
-pub redirect_kind_back : (k : RedirectKind) → stored_kind (kind_number k) ≡ k
-redirect_kind_back Page = refl
-redirect_kind_back Exact = refl
-redirect_kind_back CleanToHtml = refl
-redirect_kind_back HtmlToClean = refl

@@ -11,8 +11,7 @@ use Rattle.sqlite_tied.specs.Compute.{everything}
 use Rattle.sqlite.specs.Effect.{Database}
 use Rattle.sqlite.specs.State.{State}
 use Rattle.dh_rows.specs.Keyed.{IsFreeKey, added, put, flag}
-use Rattle.dh_rows.proofs.Effects.{IsSimple, Turns}
-use Rattle.dh_rows.proofs.Texts.{ArePlain}
+use Rattle.dh_rows.proofs.Effects.{Turns}
 use Rattle.dh_rows.proofs.Read.{delete_of, select_of, parameters_in, insert_of}
 use Rattle.dh_rows.proofs.Asks.{Writes, Answers, delete, insert, upsert, select}
 use Rattle.dh_rows.proofs.Equal.{tied_is, alike_text, alike_int, equal_text as same_text, equal_int as same_int}
@@ -34,21 +33,13 @@ use Rattle.dh_records.specs.Codings.{projects, langs, versions, pages, used, pic
 use Rattle.dh_schema.specs.Tables.{Holds, lists_of, project_table, lang_table, version_table, page_table, used_table, pick_table, pass_table, holds_table, rule_table, redirect_table}
 use Rattle.dh_records.specs.Lists.{is_project, is_lang_of, is_version_of, is_version, is_page_of, is_page_in, is_page, is_used, same_op, is_pick_of, is_pass_of, is_pass, is_held, is_held_by, is_held_on, is_rule_of, is_rule, is_redirect_of, is_redirect}
 use Rattle.dh_store.proofs.Kept.{all_kept, all_added, all_put}
-use Rattle.dh_store.proofs.Matching.{equal_text, equal_place, equal_op, flag_back, kind_back, op_back, action_back, pattern_back, redirect_kind_back}
+use Rattle.dh_store.proofs.Matching.{equal_text, equal_place, equal_op}
+use Rattle.dh_opening.specs.Columns.{project_simple, project_plain, project_back, lang_simple, lang_plain, lang_back, version_simple, version_plain, version_back, page_simple, page_plain, page_back, used_simple, used_plain, used_back, pick_simple, pick_plain, pick_back, pass_simple, pass_plain, pass_back, holds_simple, holds_plain, holds_back, rule_simple, rule_plain, rule_back, redirect_simple, redirect_plain, redirect_back}
 use Rattle.dh_records.proofs.Keys.{one, two, three, four}
 use Rattle.dh_schema.proofs.CallLemmas.{Changed}
 use Rattle.dh_store.proofs.Others.{changed}
 
 -- ---- project
-
-project_simple : IsSimple project_table
-project_simple = refl
-
-project_plain : ArePlain project_table.columns
-project_plain = ((refl, refl), ((refl, refl), ((refl, refl), ((refl, refl), ((refl, refl), tt)))))
-
-project_back : (x : ProjectRow) (n : ℤ) → projects.decode (Int n ∷ projects.encode x) ≡ x
-project_back x n = rw (flag_back x.new_private) refl
 
 -- the other tables keep their records
 project_changed : (db after : Database) (change : List ProjectRow → List ProjectRow) → ((xs : List ProjectRow) → AllByRecursion IsProject xs → AllByRecursion IsProject (change xs)) → Holds db → Turns project_table projects change db after → Changed db after (λ l. record l { projects = change l.projects })
@@ -57,30 +48,12 @@ project_changed db after change typed had it = changed project_table db after it
 
 -- ---- lang
 
-lang_simple : IsSimple lang_table
-lang_simple = refl
-
-lang_plain : ArePlain lang_table.columns
-lang_plain = ((refl, refl), ((refl, refl), ((refl, refl), tt)))
-
-lang_back : (x : LangRow) (n : ℤ) → langs.decode (Int n ∷ langs.encode x) ≡ x
-lang_back x n = refl
-
 -- the other tables keep their records
 lang_changed : (db after : Database) (change : List LangRow → List LangRow) → ((xs : List LangRow) → AllByRecursion IsLanguage xs → AllByRecursion IsLanguage (change xs)) → Holds db → Turns lang_table langs change db after → Changed db after (λ l. record l { langs = change l.langs })
 unfolding everything
 lang_changed db after change typed had it = changed lang_table db after it (λ l. record l { langs = change l.langs }) had refl (record { projects = refl; langs = record { keeps = it.keeps; records = it.records; typed = typed _ had.typed.langs }; versions = refl; pages = refl; used = refl; picks = refl; passes = refl; held = refl; rules = refl; redirects = refl })
 
 -- ---- version
-
-version_simple : IsSimple version_table
-version_simple = refl
-
-version_plain : ArePlain version_table.columns
-version_plain = ((refl, refl), ((refl, refl), ((refl, refl), ((refl, refl), ((refl, refl), ((refl, refl), ((refl, refl), tt)))))))
-
-version_back : (x : VersionRow) (n : ℤ) → versions.decode (Int n ∷ versions.encode x) ≡ x
-version_back x n = rw (kind_back x.version.kind, flag_back x.version.active, flag_back x.version.hidden, flag_back x.version.private) refl
 
 -- the other tables keep their records
 version_changed : (db after : Database) (change : List VersionRow → List VersionRow) → ((xs : List VersionRow) → AllByRecursion IsVersion xs → AllByRecursion IsVersion (change xs)) → Holds db → Turns version_table versions change db after → Changed db after (λ l. record l { versions = change l.versions })
@@ -89,30 +62,12 @@ version_changed db after change typed had it = changed version_table db after it
 
 -- ---- page
 
-page_simple : IsSimple page_table
-page_simple = refl
-
-page_plain : ArePlain page_table.columns
-page_plain = ((refl, refl), ((refl, refl), ((refl, refl), ((refl, refl), ((refl, refl), ((refl, refl), tt))))))
-
-page_back : (x : PageRow) (n : ℤ) → pages.decode (Int n ∷ pages.encode x) ≡ x
-page_back x n = refl
-
 -- the other tables keep their records
 page_changed : (db after : Database) (change : List PageRow → List PageRow) → ((xs : List PageRow) → AllByRecursion IsPage xs → AllByRecursion IsPage (change xs)) → Holds db → Turns page_table pages change db after → Changed db after (λ l. record l { pages = change l.pages })
 unfolding everything
 page_changed db after change typed had it = changed page_table db after it (λ l. record l { pages = change l.pages }) had refl (record { projects = refl; langs = refl; versions = refl; pages = record { keeps = it.keeps; records = it.records; typed = typed _ had.typed.pages }; used = refl; picks = refl; passes = refl; held = refl; rules = refl; redirects = refl })
 
 -- ---- used
-
-used_simple : IsSimple used_table
-used_simple = refl
-
-used_plain : ArePlain used_table.columns
-used_plain = ((refl, refl), ((refl, refl), ((refl, refl), ((refl, refl), ((refl, refl), tt)))))
-
-used_back : (x : UsedRow) (n : ℤ) → used.decode (Int n ∷ used.encode x) ≡ x
-used_back x n = rw (op_back x.op) refl
 
 -- the other tables keep their records
 used_changed : (db after : Database) (change : List UsedRow → List UsedRow) → ((xs : List UsedRow) → AllByRecursion IsUsed xs → AllByRecursion IsUsed (change xs)) → Holds db → Turns used_table used change db after → Changed db after (λ l. record l { used = change l.used })
@@ -121,30 +76,12 @@ used_changed db after change typed had it = changed used_table db after it (λ l
 
 -- ---- pick
 
-pick_simple : IsSimple pick_table
-pick_simple = refl
-
-pick_plain : ArePlain pick_table.columns
-pick_plain = ((refl, refl), ((refl, refl), ((refl, refl), tt)))
-
-pick_back : (x : PickRow) (n : ℤ) → picks.decode (Int n ∷ picks.encode x) ≡ x
-pick_back x n = refl
-
 -- the other tables keep their records
 pick_changed : (db after : Database) (change : List PickRow → List PickRow) → ((xs : List PickRow) → AllByRecursion IsPick xs → AllByRecursion IsPick (change xs)) → Holds db → Turns pick_table picks change db after → Changed db after (λ l. record l { picks = change l.picks })
 unfolding everything
 pick_changed db after change typed had it = changed pick_table db after it (λ l. record l { picks = change l.picks }) had refl (record { projects = refl; langs = refl; versions = refl; pages = refl; used = refl; picks = record { keeps = it.keeps; records = it.records; typed = typed _ had.typed.picks }; passes = refl; held = refl; rules = refl; redirects = refl })
 
 -- ---- pass
-
-pass_simple : IsSimple pass_table
-pass_simple = refl
-
-pass_plain : ArePlain pass_table.columns
-pass_plain = ((refl, refl), ((refl, refl), tt))
-
-pass_back : (x : PassRow) (n : ℤ) → passes.decode (Int n ∷ passes.encode x) ≡ x
-pass_back x n = refl
 
 -- the other tables keep their records
 pass_changed : (db after : Database) (change : List PassRow → List PassRow) → ((xs : List PassRow) → AllByRecursion IsPass xs → AllByRecursion IsPass (change xs)) → Holds db → Turns pass_table passes change db after → Changed db after (λ l. record l { passes = change l.passes })
@@ -153,15 +90,6 @@ pass_changed db after change typed had it = changed pass_table db after it (λ l
 
 -- ---- holds
 
-holds_simple : IsSimple holds_table
-holds_simple = refl
-
-holds_plain : ArePlain holds_table.columns
-holds_plain = ((refl, refl), ((refl, refl), ((refl, refl), tt)))
-
-holds_back : (x : HeldRow) (n : ℤ) → held.decode (Int n ∷ held.encode x) ≡ x
-holds_back x n = refl
-
 -- the other tables keep their records
 holds_changed : (db after : Database) (change : List HeldRow → List HeldRow) → ((xs : List HeldRow) → AllByRecursion IsHeld xs → AllByRecursion IsHeld (change xs)) → Holds db → Turns holds_table held change db after → Changed db after (λ l. record l { held = change l.held })
 unfolding everything
@@ -169,30 +97,12 @@ holds_changed db after change typed had it = changed holds_table db after it (λ
 
 -- ---- rule
 
-rule_simple : IsSimple rule_table
-rule_simple = refl
-
-rule_plain : ArePlain rule_table.columns
-rule_plain = ((refl, refl), ((refl, refl), ((refl, refl), ((refl, refl), ((refl, refl), tt)))))
-
-rule_back : (x : RuleRow) (n : ℤ) → rules.decode (Int n ∷ rules.encode x) ≡ x
-rule_back x n = rw (kind_back x.rule.kind, action_back x.rule.action, pattern_back x.rule.pattern) refl
-
 -- the other tables keep their records
 rule_changed : (db after : Database) (change : List RuleRow → List RuleRow) → ((xs : List RuleRow) → AllByRecursion IsRule xs → AllByRecursion IsRule (change xs)) → Holds db → Turns rule_table rules change db after → Changed db after (λ l. record l { rules = change l.rules })
 unfolding everything
 rule_changed db after change typed had it = changed rule_table db after it (λ l. record l { rules = change l.rules }) had refl (record { projects = refl; langs = refl; versions = refl; pages = refl; used = refl; picks = refl; passes = refl; held = refl; rules = record { keeps = it.keeps; records = it.records; typed = typed _ had.typed.rules }; redirects = refl })
 
 -- ---- redirect
-
-redirect_simple : IsSimple redirect_table
-redirect_simple = refl
-
-redirect_plain : ArePlain redirect_table.columns
-redirect_plain = ((refl, refl), ((refl, refl), ((refl, refl), ((refl, refl), ((refl, refl), ((refl, refl), ((refl, refl), tt)))))))
-
-redirect_back : (x : RedirectRow) (n : ℤ) → redirects.decode (Int n ∷ redirects.encode x) ≡ x
-redirect_back x n = rw (redirect_kind_back x.redirect.kind, flag_back x.redirect.force) refl
 
 -- the other tables keep their records
 redirect_changed : (db after : Database) (change : List RedirectRow → List RedirectRow) → ((xs : List RedirectRow) → AllByRecursion IsRedirect xs → AllByRecursion IsRedirect (change xs)) → Holds db → Turns redirect_table redirects change db after → Changed db after (λ l. record l { redirects = change l.redirects })

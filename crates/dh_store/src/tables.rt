@@ -5,11 +5,13 @@ ghost use Rattle.std.specs.FinMap.{empty};
 ghost use Rattle.sqlite.specs.Held.{state};
 ghost use Rattle.sqlite.specs.State.{HasCleanDisk};
 ghost use Rattle.sqlite.specs.Steps.{over_memory};
-ghost use Rattle.dh_rows.specs.Calls.{IsHonest, Lasts, Goes, Begins, Commits, Undoes, Refuses, Leaves, LeavesNoMore, LeavesCommitted, seen, committed};
+ghost use Rattle.dh_rows.specs.Calls.{IsBlamed, IsHonest, Lasts, Goes, Begins, Commits, Undoes, Refuses, Leaves, LeavesNoMore, LeavesCommitted, seen, committed};
 ghost use Rattle.dh_schema.specs.Calling.{Blames, IsSettled, KeepsSchema};
 ghost use Rattle.dh_schema.specs.Making.{CanMake, CommitsNothing, no_lists};
 ghost use Rattle.dh_schema.specs.Tables.{lists_of};
+ghost use Rattle.dh_records.specs.Constraints.{AreInOrder, KeepsConstraints};
 ghost use Rattle.dh_records.specs.Lists as spec;
+ghost use Rattle.dh_opening.specs.Opening.{IsOurs};
 
 mod defaults;
 mod languages;
@@ -21,13 +23,14 @@ mod retry_keys;
 mod rules;
 mod versions;
 
+pub use dh_opening::TablesFault;
+use dh_opening::check;
 use dh_records::fault_of;
 use dh_reply::Fault;
 use dh_schema::{can_make, make_at_once, make_tables};
 use sqlite::{Alter, Connection, MemStore};
 use std::alloc::Global;
 use std::marker::Model;
-use thiserror::Error;
 
 /// The records of all hosts, over any store, among whatever other tables it holds.
 pub struct Tables<S: Alter> {
@@ -116,18 +119,6 @@ fn show_number(n: u32)
     let _ = n;
 }
 
-/// Why tables could not be made.
-#[derive(Clone, Copy, Debug, PartialEq, Eq, Error)]
-pub enum TablesFault {
-    /// One of their names is taken, a foreign key names one of them, or a counted (AUTOINCREMENT) table lacks the table that counts for it.
-    #[error("the tables are not ours")]
-    NotOurs,
-    #[error("the store failed")]
-    Store,
-    #[error("out of memory")]
-    Memory,
-}
-
 impl<S: Alter> Tables<S> {
     /// Makes the tables, in a transaction of their own. A connection that is handed back may still be in it. The limit on
     /// a statement's steps is cleared, also of one that is handed back.
@@ -155,6 +146,52 @@ impl<S: Alter> Tables<S> {
             Ok(()) => Ok(Tables { conn }),
             Err(Fault::Store) => Err((TablesFault::Store, conn)),
             Err(Fault::Memory) => Err((TablesFault::Memory, conn)),
+        }
+    }
+}
+
+/// That outside a transaction what is seen was committed. It does nothing.
+fn show_settled<S: Alter>(conn: &Connection<S>)
+    requires { conn.now.in_transaction ≡ false }
+    ensures { IsTrue (state S.Store conn.now).is_open
+        → (state S.Store conn.now).now ≡ (state S.Store conn.now).committed }
+{
+    let _ = conn.is_autocommit();
+}
+
+impl<S: Alter> Tables<S> {
+    /// Opens the tables that stand in a database, of a connection that is in no transaction: as they are made and nothing of
+    /// others on them, with rows that spell records which keep the constraints. They spell what they spelt. It reads each
+    /// table whole. The limit on a statement's steps is cleared, also of a connection that is handed back.
+    pub fn open(
+        alloc: Global,
+        conn: Connection<S>,
+    ) -> Result<Tables<S>, (TablesFault, Connection<S>)>
+        requires { conn.in_transaction ≡ false }
+        ensures opened { IfOk result (λ t. HasCleanDisk (state S.Store t)
+            → IsHonest S.Store conn × IsHonest S.Store t × (t.in_transaction ≡ false)) }
+        ensures seen { IfOk result (λ t. HasCleanDisk (state S.Store t)
+            → seen S.Store lists_of t ≡ seen S.Store lists_of conn) }
+        ensures last { IfOk result (λ t. HasCleanDisk (state S.Store t)
+            → committed S.Store lists_of t ≡ seen S.Store lists_of conn) }
+        ensures sound { IfOk result (λ t. HasCleanDisk (state S.Store t)
+            → AreInOrder (committed S.Store lists_of t)
+            × KeepsConstraints (committed S.Store lists_of t)) }
+        ensures left { IfOk result (λ t. IsHonest S.Store t → LeavesCommitted S.Store lists_of t) }
+        ensures quiet { IfOk result (λ t. IsHonest S.Store conn → LeavesNoMore S.Store conn t) }
+        ensures ours { IfErr result (λ e. HasCleanDisk (state S.Store e.1)
+            → e.0 ≡ TablesFault.NotOurs → ¬ IsOurs (state S.Store conn).now) }
+        ensures told { IfErr result (λ e. HasCleanDisk (state S.Store e.1)
+            → e.0 ≡ TablesFault.Store → IsBlamed S.Store conn e.1) }
+        ensures back { IfErr result (λ e. IsHonest S.Store e.1 → CommitsNothing S.Store conn e.1) }
+        ensures kept { IfErr result (λ e. IsHonest S.Store conn → LeavesNoMore S.Store conn e.1) }
+    {
+        let mut conn = conn;
+        conn.set_step_limit(None);
+        show_settled(&conn);
+        match check(&mut conn, alloc) {
+            Ok(()) => Ok(Tables { conn }),
+            Err(fault) => Err((fault, conn)),
         }
     }
 }

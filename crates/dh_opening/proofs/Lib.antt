@@ -1,0 +1,5 @@
+pub mod Rising
+pub mod KeptLemmas
+pub mod Looks
+pub mod Telling
+pub mod Spelling

@@ -1,0 +1,162 @@
+-- What looks leave that come one after the other.
+use Rattle.std.proofs.Common.{◌≡◌, inl, inr, ℕ, List, [], Vec, Result, Ok, Err, IsErrAnd, IfOk, OnOk, OnErr, refl, sym, subst, ◌∙◌}
+use Rattle.std.proofs.lemmas.Bool.{cases_Bool}
+use Rattle.sqlite_value.specs.Order.{Row}
+use Rattle.std.specs.List.{AllByRecursion}
+use Rattle.sqlite_trees.specs.declared.store.Store.{Ghosts}
+use Rattle.sqlite.specs.Effect.{Database, IsDatabase}
+use Rattle.sqlite.specs.Held.{Held, state}
+use Rattle.sqlite.specs.State.{HasCleanDisk}
+use Rattle.dh_rows.specs.declared.fault.Fault as below
+use Rattle.dh_rows.specs.declared.fault.Fault.TheVariants as fault
+use Rattle.dh_rows.specs.Calls.{AreRows, Blames, Finds, Goes, IsHonest, IsUnfit, Refuses, Stays, whole}
+use Rattle.dh_rows.specs.Shapes.{StandsAlone}
+use Rattle.dh_schema.specs.Making.{our_tables}
+use Rattle.dh_schema.specs.InTurn.{blamed_before, goes_on, same_on, refused_on}
+use Rattle.dh_opening.specs.declared.fault.TablesFault.{TablesFault}
+use Rattle.dh_opening.specs.declared.fault.TablesFault.TheVariants.{NotOurs, Store, Memory}
+use Rattle.dh_opening.specs.Faults.{told_as}
+use Rattle.dh_opening.specs.Opening.{Answers, IsLaid, IsWhole, OnNotOurs, OnFailed, Opens}
+
+on_ok : {T A B : Type 0} (r : Result T TablesFault) → (A → B) → OnOk r A → OnOk r B
+on_ok (Ok x) f a = f a
+on_ok (Err e) f a = tt
+
+on_err : {T A B : Type 0} (r : Result T TablesFault) → (A → B) → OnErr r A → OnErr r B
+on_err (Ok x) f a = tt
+on_err (Err e) f a = f a
+
+if_ok : {T : Type 0} {A B : T → Type 0} (r : Result T TablesFault) → ((x : T) → A x → B x) → IfOk r A → IfOk r B
+if_ok (Ok x) f a = f x a
+if_ok (Err e) f a = tt
+
+on_ours : {T A B : Type 0} (r : Result T TablesFault) → (A → B) → OnNotOurs r A → OnNotOurs r B
+on_ours (Ok x) f a = tt
+on_ours (Err NotOurs) f a = f a
+on_ours (Err Store) f a = tt
+on_ours (Err Memory) f a = tt
+
+on_failed : {T A B : Type 0} (r : Result T TablesFault) → (A → B) → OnFailed r A → OnFailed r B
+on_failed (Ok x) f a = tt
+on_failed (Err NotOurs) f a = tt
+on_failed (Err Store) f a = f a
+on_failed (Err Memory) f a = tt
+
+module _ {S : Type 0} {g : Ghosts S} where
+  -- what a look tells, in other words
+  pub opens_as
+      : {a b : Held S} {T : Type 0} {P Q : Database → T → Type 0} {N M : Database → Type 0} (r : Result T TablesFault)
+      → (IsHonest g a → (x : T) → P (state g a).now x → Q (state g a).now x) → (IsHonest g a → N (state g a).now → M (state g a).now)
+      → Opens g a b r P N → Opens g a b r Q M
+  opens_as r more less it = record {
+    goes = it.goes;
+    same = it.same;
+    err = it.err;
+    found = λ clean. if_ok r (λ x was. (was.0, more was.0 x was.1)) (it.found clean);
+    ours = λ clean. on_ours r (λ was. (was.0, less was.0 was.1)) (it.ours clean);
+    told = it.told;
+  }
+
+  -- a refusal that is handed on
+  pub handed_on
+      : {a b : Held S} {T U : Type 0} {P : Database → T → Type 0} {Q : Database → U → Type 0} {N : Database → Type 0} (e : TablesFault)
+      → Opens g a b {T = T} (Err e) P N → Opens g a b {T = U} (Err e) Q N
+  handed_on NotOurs it = record { goes = it.goes; same = λ clean. tt; err = it.err; found = λ clean. tt; ours = it.ours; told = λ clean. tt }
+  handed_on Store it = record { goes = it.goes; same = λ clean. tt; err = it.err; found = λ clean. tt; ours = λ clean. tt; told = it.told }
+  handed_on Memory it = record { goes = it.goes; same = λ clean. tt; err = it.err; found = λ clean. tt; ours = λ clean. tt; told = λ clean. tt }
+
+  module _ {a b c : Held S} {T U : Type 0} {P : Database → T → Type 0} {N : Database → Type 0} {Q : Database → U → Type 0} {M : Database → Type 0} (x : T) (r : Result U TablesFault)
+      (first : Opens g a b (Ok x) P N) (next : Opens g b c r Q M) where
+    -- what comes after an answered look
+    pub opens_on : Opens g a c r (λ db u. P db x × Q db u) M
+    opens_on = record {
+      goes = goes_on first.goes (λ honest clean. (clean, (first.same clean).is_open)) next.goes;
+      same = λ clean. on_ok r (same_on (first.same (back clean))) (next.same clean);
+      err = λ honest. on_err r (refused_on (first.same (back honest.0))) (next.err honest);
+      found = λ clean. if_ok r (λ u it. let was = first.found (back clean) in (was.0, (was.1, subst (λ (db : Database). Q db u) (now clean) it.1))) (next.found clean);
+      ours = λ clean. on_ours r (λ it. ((first.found (back clean)).0, subst M (now clean) it.1)) (next.ours clean);
+      told = λ clean. on_failed r (blamed_before first.goes.lasts next.goes.lasts clean) (next.told clean);
+    }
+      where
+        back : HasCleanDisk (state g c) → HasCleanDisk (state g b)
+        back = next.goes.lasts.clean
+
+        now : HasCleanDisk (state g c) → (state g b).now ≡ (state g a).now
+        now clean = (first.same (back clean)).now_is
+
+  -- an answered look leaves the tables laid
+  pub laid_on : {a b : Held S} {T : Type 0} {P : Database → T → Type 0} {N : Database → Type 0} (x : T) → Opens g a b (Ok x) P N → (IsHonest g a → IsLaid (state g a)) → IsHonest g b → IsLaid (state g b)
+  laid_on {a} {b} x it laid honest =
+      let was = laid (it.goes.lasts.was honest) in
+      let same = sym (it.same honest.0).now_is in
+      record {
+        sound = subst IsDatabase same was.sound;
+        alone = subst (λ (db : Database). AllByRecursion (StandsAlone db.schema) our_tables) same was.alone;
+        unlimited = it.goes.lasts.limit ∙ was.unlimited;
+      }
+
+-- ---- a refusal that `?` hands on
+
+module _ {S : Type 0} {g : Ghosts S} {a b : Held S} {T U : Type 0} {P : Database → T → Type 0} {N : Database → Type 0} {Q : Database → U → Type 0} {M : Database → Type 0} where
+  pub handed : (r : Result U TablesFault) (fault : TablesFault) → IsErrAnd r (λ f. f ≡ fault) → (IsHonest g a → N (state g a).now → M (state g a).now) → Opens g a b {T = T} (Err fault) P N → Opens g a b r Q M
+  handed (Ok u) fault is less it = absurd (is)
+  handed (Err f) fault is less it = opens_as (Err f) (λ honest u q. q) less (subst (λ (e : TablesFault). Opens g a b {T = U} (Err e) Q N) (sym is) (handed_on fault it))
+
+  -- memory that ran out behind an answered look
+  pub out_of_memory : (r : Result U TablesFault) → IsErrAnd r (λ f. f ≡ Memory) → (x : T) → Opens g a b (Ok x) P N → Opens g a b r Q M
+  out_of_memory (Ok u) is x it = absurd (is)
+  out_of_memory (Err f) is x it =
+      subst (λ (e : TablesFault). Opens g a b {T = U} (Err e) Q M) (sym is)
+      (record { goes = it.goes; same = λ clean. tt; err = λ honest. inl (it.same honest.0); found = λ clean. tt; ours = λ clean. tt; told = λ clean. tt })
+
+-- ---- an answer that is decided on
+
+module _ {S : Type 0} {g : Ghosts S} {a b : Held S} {T U : Type 0} {P : Database → T → Type 0} {N : Database → Type 0} {Q : Database → U → Type 0} {M : Database → Type 0} (x : T) (it : Opens g a b (Ok x) P N) where
+  pub then_ok : (u : U) → (IsHonest g a → P (state g a).now x → Q (state g a).now u) → Opens g a b (Ok u) Q M
+  then_ok u more = record {
+    goes = it.goes;
+    same = it.same;
+    err = λ honest. tt;
+    found = λ clean. let was = it.found clean in (was.0, more was.0 was.1);
+    ours = λ clean. tt;
+    told = λ clean. tt;
+  }
+
+  pub then_not_ours : (IsHonest g a → P (state g a).now x → M (state g a).now) → Opens g a b {T = U} (Err NotOurs) Q M
+  then_not_ours less = record {
+    goes = it.goes;
+    same = λ clean. tt;
+    err = λ honest. inl (it.same honest.0);
+    found = λ clean. tt;
+    ours = λ clean. let was = it.found clean in (was.0, less was.0 was.1);
+    told = λ clean. tt;
+  }
+
+-- ---- one query
+
+module _ {S : Type 0} {g : Ghosts S} {a b : Held S} (sql : List ℕ) where
+  -- one that was answered
+  pub answered_as
+      : {Z : Type 0} (rows : Vec Row Z) → Goes g a b → Stays g whole a b {E = below.Fault} (Ok rows) → Finds g a b {E = below.Fault} (Ok rows) (λ v. AreRows (state g a) sql [] v.items)
+      → Opens g a b (Ok rows) (λ db v. Answers db sql v.items) (λ _. ⊥)
+  answered_as rows goes same found = record { goes = goes; same = same; err = λ honest. tt; found = found; ours = λ clean. tt; told = λ clean. tt }
+
+  -- one that was refused, though it fits
+  pub refused_as
+      : (T : Type 0) {U : Type 0} {P : Database → U → Type 0} {N : Database → Type 0} (e : below.Fault) → Goes g a b → Refuses g whole a b {T = T} {E = below.Fault} (Err e) → Blames g {T = T} a b (Err e) (IsUnfit (state g a) sql [])
+      → (IsHonest g a → IsWhole (state g a) sql) → Opens g a b {T = U} (Err (told_as e)) P N
+  refused_as T fault.Memory goes err blamed whole = record { goes = goes; same = λ clean. tt; err = err; found = λ clean. tt; ours = λ clean. tt; told = λ clean. tt }
+  refused_as T fault.Store goes err blamed whole = record {
+    goes = goes;
+    same = λ clean. tt;
+    err = err;
+    found = λ clean. tt;
+    ours = λ clean. tt;
+    told = λ clean. elim (blamed clean refl) [
+      | inl own ↦ own
+      | inr unfit ↦ elim (cases_Bool (state g a).is_open) [
+        | inl live ↦ absurd ((whole (goes.lasts.clean clean, live)).fits unfit)
+        | inr shut ↦ inr shut
+      ]
+    ];
+  }

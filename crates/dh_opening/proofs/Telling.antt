@@ -1,0 +1,41 @@
+-- From what two queries of a table answer to what the table is.
+use Rattle.std.proofs.Common.{◌≡◌, ℕ, List, Option, None, Some, IsSome, sym, subst, true≢false}
+use Rattle.std.specs.List.{AllByRecursion}
+use Rattle.sqlite_value.specs.Order.{Row}
+use Rattle.sqlite_schema.specs.declared.schema.Table.{Table}
+use Rattle.sqlite.specs.State.{State}
+use Rattle.dh_rows.specs.Keyed.{Coding}
+use Rattle.dh_rows.specs.Shapes.{StandsAlone}
+use Rattle.dh_rows.specs.Whole.{Spells}
+use Rattle.dh_rows.proofs.Whole.{AreTextsOf, IsCodingOf, Asks, asks_ids, asks_all, spelled, spells}
+use Rattle.dh_schema.specs.Making.{our_tables}
+use Rattle.dh_opening.specs.Opening.{Answers, AreTold, IsLaid, IsWhole, StandFor}
+
+-- a query that only a limit on steps refuses is refused by none
+as_whole : (s : State) (text : List ℕ) → s.step_limit ≡ None → Asks s text → IsWhole s text
+as_whole s text unlimited it = record { plain = it.plain; listing = it.listing; fits = λ unfit. never s.step_limit unlimited (it.fits unfit) }
+  where
+    never : (o : Option ℕ) → o ≡ None → IsSome o → ⊥
+    never None e it = true≢false (sym it)
+    never (Some n) e it = absurd (cc)
+
+module _ {t : Table} {ids rows order : List ℕ} (reads : AreTextsOf t ids rows order) (ours : (P : Table → Type 0) → AllByRecursion P our_tables → P t) (s : State) (laid : IsLaid s) where
+  stands : StandsAlone s.now.schema t
+  stands = ours (StandsAlone s.now.schema) laid.alone
+
+  pub whole_ids : IsWhole s ids
+  whole_ids = as_whole s ids laid.unlimited (asks_ids reads s stands.stands)
+
+  pub whole_rows : IsWhole s rows
+  whole_rows = as_whole s rows laid.unlimited (asks_all reads s stands.stands)
+
+  module _ {X : Type 0} {c : Coding X} (typed : X → Type 0) (suits : IsCodingOf t c order) (first second : List Row) (first_are : Answers s.now ids first) (second_are : Answers s.now rows second) where
+    -- what is told is what it has
+    pub stand_for : (xs : List X) → AreTold c typed first second xs → StandFor c typed t.name s.now xs
+    stand_for xs told =
+        let it = spelled reads s stands.stands suits laid.sound first second xs first_are second_are told.spells in
+        record { rows = it.0; records = it.1; typed = told.typed }
+
+    -- what it has is told
+    pub stand_for_none : ((xs : List X) → ¬ AreTold c typed first second xs) → (xs : List X) → ¬ StandFor c typed t.name s.now xs
+    stand_for_none none xs it = none xs (record { spells = subst (Spells c first second) it.records (spells reads s stands.stands suits first second first_are second_are it.rows); typed = it.typed })

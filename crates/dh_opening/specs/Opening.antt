@@ -1,0 +1,115 @@
+-- What an open of the tables finds.
+use Rattle.std.specs.Prelude.{◌≡◌, ℕ, None, List, [], ◌∷◌, codes, map, Result, Ok, Err, IfOk, ⊤}
+use Rattle.std.specs.List.{AllByRecursion}
+use Rattle.std.specs.declared.cmp.Ordering.TheVariants.{Less}
+use Rattle.sqlite_value.specs.Order.{Row}
+use Rattle.sqlite_trees.specs.Tree.{IsAscending}
+use Rattle.sqlite_trees.specs.declared.store.Store.{Ghosts}
+use Rattle.sqlite.specs.Effect.{Database, IsDatabase, Reads}
+use Rattle.sqlite.specs.Held.{Held, state}
+use Rattle.sqlite.specs.Listing.{understood}
+use Rattle.sqlite.specs.State.{State, HasCleanDisk}
+use Rattle.dh_rows.specs.Calls.{Goes, Stays, Refuses, IsBlamed, IsHonest, IsPlainText, IsUnfit, SparesListing, command_of, whole}
+use Rattle.dh_rows.specs.Keyed.{Coding, IsTableOf, by_key}
+use Rattle.dh_rows.specs.Places.{records_of, rows_of}
+use Rattle.dh_rows.specs.Shapes.{StandsAlone}
+use Rattle.dh_rows.specs.Whole.{Spells}
+use Rattle.dh_records.specs.Codings as coding
+use Rattle.dh_records.specs.Constraints.{KeepsConstraints}
+use Rattle.dh_records.specs.Lists.{Lists}
+use Rattle.dh_records.specs.Typed.{IsProject, IsLanguage, IsVersion, IsPage, IsUsed, IsPick, IsPass, IsHeld, IsRule, IsRedirect}
+use Rattle.dh_schema.specs.Tables.{Holds, lists_of, meta}
+use Rattle.dh_schema.specs.Making.{our_tables}
+use Rattle.dh_opening.specs.declared.fault.TablesFault.{TablesFault}
+use Rattle.dh_opening.specs.declared.fault.TablesFault.TheVariants.{NotOurs, Store, Memory}
+
+-- ---- records
+
+module _ {X : Type 0} (c : Coding X) (IsTyped : X → Type 0) where
+  -- the row is the record's, which can be read again
+  pub record IsKeptAs (row : Row) (x : X) : Type 0 where
+    pub is : row ≡ c.encode x
+    pub typed : IsTyped x
+
+  -- the rows are those of these records, which can be read again, and whose keys rise
+  pub record AreKept (rows : List Row) (xs : List X) : Type 0 where
+    pub are : rows ≡ map c.encode xs
+    pub typed : AllByRecursion IsTyped xs
+    pub rise : IsAscending (λ x y. by_key c.key x y ≡ Less) xs
+
+  -- Two queries of a table tell these records, which can be read again.
+  pub record AreTold (ids rows : List Row) (xs : List X) : Type 0 where
+    pub spells : Spells c ids rows xs
+    pub typed : AllByRecursion IsTyped xs
+
+  -- The rows of the table of this name stand for these records.
+  pub record StandFor (name : List ℕ) (db : Database) (xs : List X) : Type 0 where
+    pub rows : IsTableOf c (rows_of db name)
+    pub records : records_of c name db ≡ xs
+    pub typed : AllByRecursion IsTyped xs
+
+-- ---- databases
+
+-- the schema's number is 1
+pub record IsNumbered (db : Database) : Type 0 where
+  pub rows : IsTableOf meta (rows_of db (codes "meta"))
+  pub number : records_of meta (codes "meta") db ≡ 1 ∷ []
+
+-- The rows of all tables stand for these records.
+pub record AreSpelled (db : Database) (l : Lists) : Type 0 where
+  pub projects : StandFor coding.projects IsProject (codes "project") db l.projects
+  pub langs : StandFor coding.langs IsLanguage (codes "lang") db l.langs
+  pub versions : StandFor coding.versions IsVersion (codes "version") db l.versions
+  pub pages : StandFor coding.pages IsPage (codes "page") db l.pages
+  pub used : StandFor coding.used IsUsed (codes "used") db l.used
+  pub picks : StandFor coding.picks IsPick (codes "pick") db l.picks
+  pub passes : StandFor coding.passes IsPass (codes "pass") db l.passes
+  pub held : StandFor coding.held IsHeld (codes "holds") db l.held
+  pub rules : StandFor coding.rules IsRule (codes "rule") db l.rules
+  pub redirects : StandFor coding.redirects IsRedirect (codes "redirect") db l.redirects
+
+-- Our tables stand alone, their rows stand for records, and these keep the constraints.
+pub record IsOurs (db : Database) : Type 0 where
+  pub alone : AllByRecursion (StandsAlone db.schema) our_tables
+  pub holds : Holds db
+  pub keeps : KeepsConstraints (lists_of db)
+
+-- Our tables stand in a sound database, and no statement's steps are limited.
+pub record IsLaid (s : State) : Type 0 where
+  pub sound : IsDatabase s.now
+  pub alone : AllByRecursion (StandsAlone s.now.schema) our_tables
+  pub unlimited : s.step_limit ≡ None
+
+-- the rows are what the query answers
+abbrev pub Answers : Database → List ℕ → List Row → Type 0
+Answers db sql rows = Reads (command_of (understood db.schema sql)) db [] rows
+
+-- a query of all rows of a table, which is refused for no reason of its own
+pub record IsWhole (s : State) (sql : List ℕ) : Type 0 where
+  pub plain : IsPlainText s sql
+  pub listing : SparesListing s sql
+  pub fits : ¬ IsUnfit s sql []
+
+-- ---- calls
+
+-- the fact, if the answer is that the tables are not ours
+abbrev pub OnNotOurs : {T : Type 0} → Result T TablesFault → Type 0 → Type 0
+OnNotOurs (Err NotOurs) P = P
+OnNotOurs _ P = ⊤
+
+-- the fact, if the answer is that the store failed
+abbrev pub OnFailed : {T : Type 0} → Result T TablesFault → Type 0 → Type 0
+OnFailed (Err Store) P = P
+OnFailed _ P = ⊤
+
+module _ {S : Type 0} (g : Ghosts S) (old new : Held S) {T : Type 0} (result : Result T TablesFault) where
+  -- What a look at the database leaves: an answer has P, and one that is not ours has N.
+  pub record Opens (P : Database → T → Type 0) (N : Database → Type 0) : Type 0 where
+    -- nothing is committed, and a crash leaves nothing more
+    pub goes : Goes g old new
+    pub same : Stays g whole old new result
+    pub err : Refuses g whole old new result
+    pub found : HasCleanDisk (state g new) → IfOk result (λ x. IsHonest g old × P (state g old).now x)
+    pub ours : HasCleanDisk (state g new) → OnNotOurs result (IsHonest g old × N (state g old).now)
+    -- `Store` is told for a fault of the store alone
+    pub told : HasCleanDisk (state g new) → OnFailed result (IsBlamed g old new)

@@ -1,0 +1,13 @@
+//! Whether a database that was opened is ours: its tables, what their rows spell, and the constraints that these keep.
+#![tactic(auto)]
+
+mod fault;
+mod kept;
+mod number;
+mod opening;
+mod rows;
+mod shapes;
+mod tables;
+
+pub use fault::TablesFault;
+pub use opening::check;

@@ -1,0 +1,86 @@
+//! The number of the schema.
+
+ghost use Rattle.std.specs.Prelude.{◌≡◌, ℕ, ◌<◌, ◌^◌, [], IfOk};
+ghost use Rattle.sqlite_value.specs.Order.{column};
+ghost use Rattle.dh_lookup.specs.Faults.{OnStore};
+ghost use Rattle.dh_records.specs.Codings.{number_in};
+ghost use Rattle.dh_records.specs.Typed.{IsNumber};
+ghost use Rattle.dh_schema.specs.Tables as spec;
+ghost use Rattle.dh_opening.specs.Readings as readings;
+
+use crate::kept::{Kept, show_number};
+use crate::rows::has_values;
+use dh_records::{Record, fault_of};
+use dh_reply::Fault;
+use sqlite::{Row, params};
+use std::alloc::{AllocError, Global};
+use std::marker::Model;
+
+/// The number of a schema, as its one row keeps it.
+#[derive(Drop)]
+pub struct Number {
+    pub number: u32,
+}
+
+impl Model for Number {
+    ghost Value = { ℕ };
+
+    ghost view = { λ n. n.number };
+}
+
+fn number_at(row: &Row) -> Result<u32, Fault>
+    ensures value { IfOk result (λ n. number_in (column row.now 0) ≡ n) }
+    ensures told { OnStore result (¬ IsNumber row.now 0) }
+{
+    match row.get(0) {
+        Ok(number) => Ok(number),
+        Err(error) => Err(fault_of(error.into())),
+    }
+}
+
+impl Record for Number {
+    ghost coding = { spec.meta };
+
+    ghost typed = { λ n. n < 2 ^ 32 };
+
+    fn read(_alloc: Global, row: &Row) -> Result<Number, Fault> {
+        Ok(Number {
+            number: number_at(row)?,
+        })
+    }
+}
+
+impl Kept for Number {
+    ghost table = { spec.meta_table };
+
+    ghost ids = { readings.meta_ids };
+
+    ghost rows = { readings.meta_rows };
+
+    ghost order = { [] };
+
+    ghost kept = { spec.meta };
+
+    ghost reads = { readings.meta_reads };
+
+    ghost suits = { readings.meta_suits };
+
+    ghost ours = { λ P all. all.0 };
+
+    fn ids() -> &'static str {
+        "SELECT rowid FROM meta ORDER BY rowid"
+    }
+
+    fn rows() -> &'static str {
+        "SELECT schema FROM meta"
+    }
+
+    fn key() -> &'static [usize] {
+        &[]
+    }
+
+    fn is_kept_as(&self, _alloc: Global, row: &Row) -> Result<bool, AllocError> {
+        show_number(self.number);
+        Ok(has_values(row, params![self.number]))
+    }
+}

@@ -1,0 +1,129 @@
+//! Whole tables read.
+
+ghost use Rattle.std.specs.Prelude.{◌≡◌, List, None, IfOk, IfSome};
+ghost use Rattle.sqlite.specs.Held.{state};
+ghost use Rattle.dh_rows.specs.Calls.{IsHonest};
+ghost use Rattle.dh_records.specs.Constraints.{AreInOrder, InOrder};
+ghost use Rattle.dh_records.specs.Lists.{Lists};
+ghost use Rattle.dh_constraints.specs.Lists.{lists_in};
+ghost use Rattle.dh_opening.specs.Opening.{Answers, AreSpelled, AreTold, IsLaid, IsNumbered, IsWhole, Opens, StandFor};
+
+use crate::fault::TablesFault;
+use crate::kept::{Kept, records_in};
+use crate::number::Number;
+use dh_constraints::Records;
+use dh_rows::are_rowids;
+use sqlite::{Alter, Connection, Row};
+use std::alloc::{AllocError, Global};
+
+/// All rows that a query answers.
+fn select<S: Alter>(conn: &mut Connection<S>, sql: &str) -> Result<Vec<Row>, TablesFault>
+    requires whole { IsHonest S.Store conn.old → IsWhole (state S.Store conn.old) sql.now }
+    ensures opens { Opens S.Store conn.old conn.new result
+        (λ db rows. Answers db sql.now rows.items) (λ _. ⊥) }
+{
+    match dh_rows::select(conn, sql, &[]) {
+        Ok(rows) => Ok(rows),
+        Err(fault) => Err(TablesFault::from(fault)),
+    }
+}
+
+/// The records that the rows of a table keep, by its rowids and its rows; none where it is no table of such records.
+fn records_of<R: Kept>(
+    alloc: Global,
+    ids: &[Row],
+    rows: &[Row],
+) -> Result<Option<Vec<R>>, AllocError>
+    ensures some { IfOk result (λ o. IfSome o (λ v.
+        AreTold R.Record.coding R.Record.typed ids.now rows.now v.items)) }
+    ensures none { IfOk result (λ o. o ≡ None → (xs : List R)
+        → ¬ AreTold R.Record.coding R.Record.typed ids.now rows.now xs) }
+{
+    if are_rowids(ids) {
+        records_in(alloc, rows)
+    } else {
+        Ok(None)
+    }
+}
+
+/// The records of a whole table.
+fn read_table<S: Alter, R: Kept>(
+    conn: &mut Connection<S>,
+    alloc: Global,
+) -> Result<Vec<R>, TablesFault>
+    requires laid { IsHonest S.Store conn.old → IsLaid (state S.Store conn.old) }
+    ensures opens { Opens S.Store conn.old conn.new result
+        (λ db v. StandFor R.Record.coding R.Record.typed R.Kept.table.name db v.items)
+        (λ db. (xs : List R)
+        → ¬ StandFor R.Record.coding R.Record.typed R.Kept.table.name db xs) }
+    ensures order { IfOk result (λ v. InOrder R.Record.coding.key v.items) }
+{
+    let ids = select(conn, R::ids())?;
+    let rows = select(conn, R::rows())?;
+    match records_of(alloc, ids.as_slice(), rows.as_slice())? {
+        Some(records) => Ok(records),
+        None => Err(TablesFault::NotOurs),
+    }
+}
+
+/// The records of two whole tables.
+fn read_two<S: Alter, A: Kept, B: Kept>(
+    conn: &mut Connection<S>,
+    alloc: Global,
+) -> Result<(Vec<A>, Vec<B>), TablesFault>
+    requires laid { IsHonest S.Store conn.old → IsLaid (state S.Store conn.old) }
+    ensures opens { Opens S.Store conn.old conn.new result
+        (λ db v. StandFor A.Record.coding A.Record.typed A.Kept.table.name db v.0.items
+        × StandFor B.Record.coding B.Record.typed B.Kept.table.name db v.1.items)
+        (λ db. (xs : List A) (ys : List B)
+        → StandFor A.Record.coding A.Record.typed A.Kept.table.name db xs
+        → ¬ StandFor B.Record.coding B.Record.typed B.Kept.table.name db ys) }
+    ensures order { IfOk result (λ v. InOrder A.Record.coding.key v.0.items
+        × InOrder B.Record.coding.key v.1.items) }
+{
+    let first = read_table(conn, alloc)?;
+    let second = read_table(conn, alloc)?;
+    Ok((first, second))
+}
+
+/// Whether the number of the schema is 1.
+pub fn check_number<S: Alter>(conn: &mut Connection<S>, alloc: Global) -> Result<(), TablesFault>
+    requires laid { IsHonest S.Store conn.old → IsLaid (state S.Store conn.old) }
+    ensures opens { Opens S.Store conn.old conn.new result
+        (λ db _. IsNumbered db) (λ db. ¬ IsNumbered db) }
+{
+    let numbers: Vec<Number> = read_table(conn, alloc)?;
+    match numbers.as_slice() {
+        [only] if only.number == 1 => Ok(()),
+        _ => Err(TablesFault::NotOurs),
+    }
+}
+
+/// The records of all our tables.
+pub fn all_records<S: Alter>(
+    conn: &mut Connection<S>,
+    alloc: Global,
+) -> Result<Records, TablesFault>
+    requires laid { IsHonest S.Store conn.old → IsLaid (state S.Store conn.old) }
+    ensures opens { Opens S.Store conn.old conn.new result
+        (λ db records. AreSpelled db (lists_in records)) (λ db. (l : Lists) → ¬ AreSpelled db l) }
+    ensures order { IfOk result (λ records. AreInOrder (lists_in records)) }
+{
+    let (projects, langs) = read_two(conn, alloc)?;
+    let (versions, pages) = read_two(conn, alloc)?;
+    let (used, picks) = read_two(conn, alloc)?;
+    let (passes, held) = read_two(conn, alloc)?;
+    let (rules, redirects) = read_two(conn, alloc)?;
+    Ok(Records {
+        projects,
+        langs,
+        versions,
+        pages,
+        used,
+        picks,
+        passes,
+        held,
+        rules,
+        redirects,
+    })
+}
