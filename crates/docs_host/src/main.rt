@@ -1,16 +1,12 @@
 //! A host of versioned documentation.
 #![tactic(auto)]
 
-mod answer;
-mod filling;
-
-use answer::{SampleFault, answer_sample};
 use clap::Error;
 use dh_lines::{LineFault, Order, docs_command, line_of};
 use dh_ports::Port;
 use dh_reply::Fault;
+use dh_sample::{SampleFault, answer_sample, empty_desk};
 use dh_script::run_script;
-use filling::empty_desk;
 use std::alloc::Global;
 use std::io::{self, ErrorKind};
 use std::process::ExitCode;

@@ -6,8 +6,8 @@ use Rattle.dh_http.specs.Commands.{unavailable}
 use Rattle.dh_http.specs.declared.fault.Done.{Done}
 use Rattle.dh_http.specs.declared.fault.EngineFault.{EngineFault}
 use Rattle.dh_http.proofs.Writing.{writes_as, unread_answered}
-use Rattle.docs_host.specs.SampleWorld.{sample_world}
-use Rattle.docs_host.specs.Answer.{AnswersSample, WritesTold}
+use Rattle.dh_sample.specs.SampleWorld.{sample_world}
+use Rattle.dh_sample.specs.Answer.{AnswersSample, WritesTold}
 
 -- a desk whose world is the sample answered
 pub sample_answered : (before after : World) (left held now : Option (List ℕ)) (r : Result Done EngineFault) (told : Option (Result Done EngineFault)) → told ≡ Some r → before ≡ sample_world → engine.Writes (engine.AnswersSource left before after) held now r → WritesTold (AnswersSample left) held now told

@@ -4,8 +4,8 @@ use Rattle.sqlite.specs.Steps.{over_memory}
 use Rattle.dh_desk.specs.Desk.{world}
 use Rattle.dh_requests.proofs.Bodies.{head_needed}
 use Rattle.dh_requests.proofs.Needs.{none_yet}
-use Rattle.docs_host.proofs.AnswerLemmas.{sample_answered, unmade_answered}
-use Rattle.docs_host.proofs.answer.answer_sample.Goals as goal
+use Rattle.dh_sample.proofs.AnswerLemmas.{sample_answered, unmade_answered}
+use Rattle.dh_sample.proofs.answer.answer_sample.Goals as goal
 
 pub returns-in-Ok-clause-writes : goal.returns-in-Ok-clause-writes
 returns-in-Ok-clause-writes g c =

@@ -28,7 +28,7 @@ ghost use Rattle.std.specs.Prelude.{◌≡◌, Some, false, IsErrOf, if◌then�
 ghost use Rattle.dh_ports.specs.Ports.{CountsUpTo, CountsAtLeast};
 ghost use Rattle.dh_requests.specs.Needs.{IsNeeded};
 ghost use Rattle.dh_requests.specs.Takes.{TookAtLeast};
-ghost use Rattle.docs_host.specs.Answer.{AnswersSample, engine_told, WritesTold, reader_failed, writer_failed};
+ghost use Rattle.dh_sample.specs.Answer.{AnswersSample, engine_told, WritesTold, reader_failed, writer_failed};
 
 fn told(answered: Result<Done, EngineFault>) -> Result<u16, SampleFault>
     ensures told { engine_told result ≡ Some answered }

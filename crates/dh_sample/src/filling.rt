@@ -4,7 +4,7 @@ ghost use Rattle.std.specs.Prelude.{◌≡◌, ◌∷◌, ◌++◌, [], IfOk};
 ghost use Rattle.dh_rows.specs.Calls.{IsHonest};
 ghost use Rattle.dh_world.specs.Step.{IsStep};
 ghost use Rattle.dh_desk.specs.Desk.{world};
-ghost use Rattle.docs_host.specs.SampleWorld.{uploaded_page, sample_uploads, of_sample, make_sample, push_sample, upload_sample, sample_world, Fills};
+ghost use Rattle.dh_sample.specs.SampleWorld.{uploaded_page, sample_uploads, of_sample, make_sample, push_sample, upload_sample, sample_world, Fills};
 ghost use Rattle.std.specs.FinMap.{empty};
 ghost use Rattle.sqlite.specs.Steps.{over_memory};
 

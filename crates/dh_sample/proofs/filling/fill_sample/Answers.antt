@@ -1,8 +1,8 @@
 use Rattle.std.proofs.Common.{◌∷◌, [], Ok, refl}
 use Rattle.dh_desk.specs.Desk.{world}
-use Rattle.docs_host.specs.SampleWorld.{make_sample, push_sample, upload_sample}
-use Rattle.docs_host.proofs.FillLemmas.{does_next, does_refused}
-use Rattle.docs_host.proofs.filling.fill_sample.Goals as goal
+use Rattle.dh_sample.specs.SampleWorld.{make_sample, push_sample, upload_sample}
+use Rattle.dh_sample.proofs.FillLemmas.{does_next, does_refused}
+use Rattle.dh_sample.proofs.filling.fill_sample.Goals as goal
 
 pub returns-in_err-make_project-clause-fills : goal.returns-in_err-make_project-clause-fills
 returns-in_err-make_project-clause-fills g c honest =

@@ -8,7 +8,7 @@ use Rattle.dh_world.specs.declared.answer.Answer.{Answer}
 use Rattle.dh_world.specs.declared.command.Command.{Command}
 use Rattle.dh_world.specs.declared.refusal.Refusal.{Refusal}
 use Rattle.dh_world.specs.Step.{step, IsStep, IsSetAside}
-use Rattle.docs_host.specs.SampleWorld.{on_step, after_all, sample_commands, sample_world, DoesAll}
+use Rattle.dh_sample.specs.SampleWorld.{on_step, after_all, sample_commands, sample_world, DoesAll}
 
 -- a step of a command is that of an equal one
 pub step_of : (w : World) (c d : Command) (r : Result (World × Answer) Refusal) → c ≡ d → step w c ≡ r → step w d ≡ r

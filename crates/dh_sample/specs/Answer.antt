@@ -5,9 +5,9 @@ use Rattle.dh_http.specs.Answers as engine
 use Rattle.dh_http.specs.declared.fault.Done.{Done}
 use Rattle.dh_http.specs.declared.fault.EngineFault.{EngineFault}
 use Rattle.dh_http.specs.declared.fault.EngineFault.TheVariants as told
-use Rattle.docs_host.specs.SampleWorld.{sample_world}
-use Rattle.docs_host.specs.declared.answer.SampleFault.{SampleFault}
-use Rattle.docs_host.specs.declared.answer.SampleFault.TheVariants as fault
+use Rattle.dh_sample.specs.SampleWorld.{sample_world}
+use Rattle.dh_sample.specs.declared.answer.SampleFault.{SampleFault}
+use Rattle.dh_sample.specs.declared.answer.SampleFault.TheVariants as fault
 
 -- the answer to the request that the source is, by a desk that has the sample alone
 abbrev pub AnswersSample : Option (List ℕ) → ℕ → List ℕ → Type 0
