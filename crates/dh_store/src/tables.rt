@@ -123,6 +123,7 @@ impl<S: Alter> Tables<S> {
     /// Makes the tables, in a transaction of their own. A connection that is handed back may still be in it. The limit on
     /// a statement's steps is cleared, also of one that is handed back.
     pub fn create(conn: Connection<S>) -> Result<Tables<S>, (TablesFault, Connection<S>)>
+        ensures was { IfOk result (λ t. IsHonest S.Store t → IsHonest S.Store conn) }
         ensures honest { IfOk result (λ t. IsHonest S.Store conn → HasCleanDisk (state S.Store t)
             → IsHonest S.Store t × (t.in_transaction ≡ false)) }
         ensures none { IfOk result (λ t. IsHonest S.Store conn → HasCleanDisk (state S.Store t)
