@@ -1,5 +1,6 @@
 -- A desk, and the world of its tables.
-use Rattle.std.specs.Prelude.{Bool, true, false, Result, Ok, Err, refl}
+use Rattle.std.specs.Prelude.{Bool, true, false, Option, Result, Ok, Err, refl}
+use Rattle.std.specs.Option.{option_and_then}
 use Rattle.std.specs.Coded.{Coded, code_by, coded×, coded_bool}
 use Rattle.sqlite_trees.specs.declared.store.Store.{Ghosts}
 use Rattle.sqlite.specs.Held.{Held, held_code}
@@ -7,7 +8,12 @@ use Rattle.dh_rows.specs.Calls.{IsHonest}
 use Rattle.dh_records.specs.Lists.{world_of}
 use Rattle.dh_transactions.specs.Going.{last_records}
 use Rattle.dh_transactions.specs.Sound.{AreSound}
-use Rattle.dh_world.specs.World.{World}
+use Rattle.dh_reply.specs.Replies.{reply_to}
+use Rattle.dh_wire.specs.declared.answer.Read.{Read}
+use Rattle.dh_wire.specs.declared.answer.Reply.{Reply}
+use Rattle.dh_world.specs.World.{Text, World}
+use Rattle.dh_world.specs.Reads.{host_named, pass_named}
+use Rattle.dh_world.specs.Seen.{seen, veil}
 use Rattle.dh_world.specs.declared.answer.Answer.{Answer}
 use Rattle.dh_world.specs.declared.refusal.Refusal.{Refusal}
 use Rattle.dh_world.specs.declared.refusal.Refusal.TheVariants.{Store}
@@ -26,6 +32,16 @@ standing_code code =
 abbrev pub is_fault : Result Answer Refusal → Bool
 is_fault (Err Store) = true
 is_fault _ = false
+
+-- the reply to a read under a host, for a caller who shows this pass or none: that of what the caller
+-- sees of the world
+abbrev pub reply_in : World → Text → Option Text → Read → Reply
+reply_in w host pass asked =
+    reply_to (seen w (host_named host) (option_and_then pass_named pass)) asked.path asked.query
+
+-- the world that holds nothing but what that caller sees under the host
+abbrev pub veil_of : World → Text → Option Text → World
+veil_of w host pass = veil w (host_named host) (option_and_then pass_named pass)
 
 module _ {S : Type 0} (g : Ghosts S) where
   -- the world that the tables spell, as it was committed last

@@ -1,9 +1,8 @@
 //! The desk and its two calls.
 ghost use Rattle.std.specs.Prelude.{◌≡◌, ◌⊎◌, true, false, Err, IfOk, IfErr, OnOk};
-ghost use Rattle.std.specs.Option.{option_map, option_and_then};
+ghost use Rattle.std.specs.Option.{option_map};
 ghost use Rattle.sqlite.specs.Held.{state};
 ghost use Rattle.sqlite.specs.State.{HasCleanDisk};
-ghost use Rattle.dh_reply.specs.Replies.{reply_to};
 ghost use Rattle.dh_rows.specs.Calls.{IsHonest, IsRefused, LeavesNoMore, LeavesCommitted};
 ghost use Rattle.dh_schema.specs.Calling.{Blames};
 ghost use Rattle.dh_schema.specs.Tables.{lists_of};
@@ -11,10 +10,9 @@ ghost use Rattle.dh_transactions.specs.Crashes.{LeavesStep, LeavesEither};
 ghost use Rattle.dh_transactions.specs.Going.{IsOver, last_records};
 ghost use Rattle.dh_transactions.specs.Sound.{Steps};
 ghost use Rattle.dh_world.specs.Checks.{IsFault};
-ghost use Rattle.dh_world.specs.Reads.{host_named, pass_named, is_unanswered};
-ghost use Rattle.dh_world.specs.Seen as caller;
+ghost use Rattle.dh_world.specs.Reads.{is_unanswered};
 ghost use Rattle.dh_world.specs.Step.{IsStep};
-ghost use Rattle.dh_desk.specs.Desk.{IsKept, is_fault, world};
+ghost use Rattle.dh_desk.specs.Desk.{IsKept, is_fault, world, reply_in, veil_of};
 
 use crate::reads::read;
 use dh_reply::{Fault, Read, Reply};
@@ -154,10 +152,12 @@ impl<S: Alter> Desk<S> {
         asked: &Read,
     ) -> Result<Reply, Fault>
         ensures value { IsHonest S.Store self.new.tables
-            → IfOk result (λ r. r ≡ reply_to (caller.seen (world S.Store self.old)
-            (host_named host.now)
-            (option_and_then pass_named (option_map (λ text. text.now) pass.entry)))
-            asked.now.path asked.now.query) }
+            → IfOk result (λ r. r ≡ reply_in (world S.Store self.old) host.now
+            (option_map (λ text. text.now) pass.entry) asked.now) }
+        ensures veiled { IsHonest S.Store self.new.tables
+            → IfOk result (λ r. r ≡ reply_in
+            (veil_of (world S.Store self.old) host.now (option_map (λ text. text.now) pass.entry))
+            host.now (option_map (λ text. text.now) pass.entry) asked.now) }
         ensures same { IsHonest S.Store self.new.tables
             → world S.Store self.new ≡ world S.Store self.old }
         ensures rests { IsHonest S.Store self.new.tables
