@@ -1,0 +1,114 @@
+//! What is wrong with a file.
+
+use dh_tables::TablesFault;
+use sqlite::{Error, ErrorCode};
+use std::io;
+
+/// What is wrong with a file.
+#[derive(Clone, Copy, Debug, PartialEq, Eq)]
+pub enum FileFault {
+    /// There is none of this name.
+    Missing,
+    /// Nothing is in it.
+    Empty,
+    /// It is a folder.
+    Folder,
+    /// It may not be read or written.
+    Forbidden,
+    /// It is a device, or the system does not open it.
+    Unopened,
+    /// It is no SQLite database.
+    NoDatabase,
+    /// A page of it is not what was written, or was written without sums.
+    Damaged,
+    /// Another program has it open.
+    Busy,
+    /// It is to be made, and there is something in it.
+    Taken,
+    /// Its tables are not ours, or its rows break a constraint.
+    NotOurs,
+    /// The disk is full.
+    Full,
+    /// The disk failed.
+    Failed,
+    /// Out of memory.
+    Memory,
+}
+
+impl FileFault {
+    /// The fault's name for scripts: `NotOurs`, `Store` or `Memory`.
+    pub fn name(self) -> &'static str {
+        match self {
+            FileFault::Taken | FileFault::NotOurs => "NotOurs",
+            FileFault::Memory => "Memory",
+            FileFault::Missing
+            | FileFault::Empty
+            | FileFault::Folder
+            | FileFault::Forbidden
+            | FileFault::Unopened
+            | FileFault::NoDatabase
+            | FileFault::Damaged
+            | FileFault::Busy
+            | FileFault::Full
+            | FileFault::Failed => "Store",
+        }
+    }
+
+    /// What is wrong, as the end of a sentence that begins with the file's name.
+    pub fn cause(self) -> &'static str {
+        match self {
+            FileFault::Missing => "there is no such file; docs_host init FILE makes one",
+            FileFault::Empty => "nothing is in it; docs_host init FILE makes its tables",
+            FileFault::Folder => "it is a folder",
+            FileFault::Forbidden => "it may not be read and written by this user",
+            FileFault::Unopened => "the system does not open it",
+            FileFault::NoDatabase => "it is no SQLite database, and was left as it is",
+            FileFault::Damaged => {
+                "it is damaged, or a sqlite3 that knows nothing of the sums of its pages has written to it"
+            }
+            FileFault::Busy => "another program has it open",
+            FileFault::Taken => "there is something in it already, which was left as it is",
+            FileFault::NotOurs => {
+                "its tables are not those of docs_host, or a row breaks a constraint"
+            }
+            FileFault::Full => "the disk is full",
+            FileFault::Failed => "the disk failed",
+            FileFault::Memory => "memory is out",
+        }
+    }
+}
+
+impl From<Error> for FileFault {
+    fn from(error: Error) -> FileFault {
+        match error {
+            Error::SqliteFailure(ErrorCode::NotADatabase) => FileFault::NoDatabase,
+            Error::SqliteFailure(ErrorCode::DatabaseCorrupt) => FileFault::Damaged,
+            Error::SqliteFailure(ErrorCode::DatabaseBusy) => FileFault::Busy,
+            Error::SqliteFailure(ErrorCode::CannotOpen) => FileFault::Unopened,
+            Error::SqliteFailure(ErrorCode::DiskFull) => FileFault::Full,
+            Error::SqliteFailure(ErrorCode::OutOfMemory) => FileFault::Memory,
+            _ => FileFault::Failed,
+        }
+    }
+}
+
+impl From<TablesFault> for FileFault {
+    fn from(fault: TablesFault) -> FileFault {
+        match fault {
+            TablesFault::NotOurs => FileFault::NotOurs,
+            TablesFault::Store => FileFault::Failed,
+            TablesFault::Memory => FileFault::Memory,
+        }
+    }
+}
+
+impl From<io::Error> for FileFault {
+    fn from(error: io::Error) -> FileFault {
+        match error.kind() {
+            io::ErrorKind::NotFound => FileFault::Missing,
+            io::ErrorKind::PermissionDenied => FileFault::Forbidden,
+            io::ErrorKind::OutOfMemory => FileFault::Memory,
+            _ => FileFault::Unopened,
+        }
+    }
+}

@@ -1,0 +1,115 @@
+//! Files with tables of ours.
+
+ghost use Rattle.std.specs.Prelude.{◌≡◌, false, IfOk};
+
+use crate::fault::FileFault;
+use crate::looking::{Found, look};
+use dh_desk::Desk;
+use dh_tables::Tables;
+use sqlite::{Alter, Connection, FileFrom, FileStore, Start};
+use std::alloc::Global;
+
+/// A connection to a file, whose contents `S` stands for.
+type FileConnection<S> = Connection<FileStore<FileFrom<S>>>;
+
+/// A desk over the tables of a file.
+pub type FileDesk<S> = Desk<FileStore<FileFrom<S>>>;
+
+/// A file that was opened.
+#[derive(Drop)]
+pub struct OpenFile<S: Start> {
+    pub desk: FileDesk<S>,
+    /// How many projects it has.
+    pub projects: i64,
+}
+
+/// Connects to a file. A file that is made has a sum on each page.
+fn connect<S: Start>(
+    rt: &HostRuntime,
+    path: &str,
+    start: S,
+) -> Result<FileConnection<S>, FileFault>
+    ensures { IfOk result (λ conn. conn.in_transaction ≡ false) }
+{
+    match Connection::open_from(rt, path, true, start) {
+        Ok(conn) => Ok(conn),
+        Err((error, _left)) => Err(FileFault::from(error)),
+    }
+}
+
+/// Closes a file: what its log holds is copied into it.
+fn close<S: Start>(conn: FileConnection<S>) -> Result<(), FileFault> {
+    match conn.close() {
+        Ok(()) => Ok(()),
+        Err(error) => Err(FileFault::from(error)),
+    }
+}
+
+/// Makes the tables in a database that has none at all.
+fn make_tables<S: Start>(conn: FileConnection<S>) -> Result<FileConnection<S>, FileFault> {
+    if !conn.schema().tables.is_empty() || !conn.schema().views.is_empty() {
+        return Err(FileFault::Taken);
+    }
+    match Tables::create(conn) {
+        Ok(tables) => Ok(tables.into_conn()),
+        Err((fault, _conn)) => Err(FileFault::from(fault)),
+    }
+}
+
+/// Makes a file with no project. It may be there if nothing is in it: what a run left that was stopped
+/// before it had made the tables counts as nothing.
+pub fn init_file<S: Start>(rt: &HostRuntime, path: &str, start: S) -> Result<(), FileFault> {
+    if look(rt, path)? == Found::Other {
+        return Err(FileFault::Taken);
+    }
+    close(make_tables(connect(rt, path, start)?)?)
+}
+
+/// The number of projects; 0 where there is no such table, which the opening of the tables tells.
+fn count_projects<S: Alter>(conn: &mut Connection<S>) -> i64
+    ensures { conn.old.in_transaction ≡ false → conn.new.in_transaction ≡ false }
+{
+    match conn.query_row("SELECT COUNT(*) FROM project", &[]) {
+        Ok(row) => row.get(0).unwrap_or(0),
+        Err(_) => 0,
+    }
+}
+
+/// Opens the tables of a connection.
+fn open_tables<S: Start>(
+    alloc: Global,
+    conn: FileConnection<S>,
+) -> Result<OpenFile<S>, FileFault>
+    requires { conn.in_transaction ≡ false }
+{
+    let mut conn = conn;
+    let projects = count_projects(&mut conn);
+    match Tables::open(alloc, conn) {
+        Ok(tables) => Ok(OpenFile {
+            desk: Desk::over(tables),
+            projects,
+        }),
+        Err((fault, _conn)) => Err(FileFault::from(fault)),
+    }
+}
+
+/// Opens a file that `init_file` made. The whole file is read. No other program can open it until it is
+/// closed. It makes no file, and leaves one that it refuses as it is.
+pub fn open_desk<S: Start>(
+    rt: &HostRuntime,
+    path: &str,
+    start: S,
+) -> Result<OpenFile<S>, FileFault> {
+    match look(rt, path)? {
+        Found::Nothing => Err(FileFault::Missing),
+        Found::Empty => Err(FileFault::Empty),
+        Found::Other => Err(FileFault::NoDatabase),
+        Found::Database => open_tables(rt.alloc(), connect(rt, path, start)?),
+    }
+}
+
+/// Closes a file. Where it fails nothing is lost: the log beside the file holds what is not in it, and
+/// the next opening takes it.
+pub fn close_desk<S: Start>(desk: FileDesk<S>) -> Result<(), FileFault> {
+    close(desk.into_conn())
+}

@@ -1,0 +1,211 @@
+//! How the program ends, and how it tells why.
+
+ghost use Rattle.std.specs.Prelude.{◌≤◌};
+
+use dh_files::FileFault;
+use dh_http::EngineFault;
+use dh_ports::{Sink, put_all};
+use dh_reply::Fault;
+use dh_sample::SampleFault;
+use dh_script::ScriptFault;
+use std::alloc::AllocError;
+
+/// How the program ends.
+#[derive(Clone, Copy, Debug, PartialEq, Eq)]
+pub enum Status {
+    Done,
+    /// A single command was refused, or failed.
+    Refused,
+    /// A mistake in the words.
+    Usage,
+    /// A fault of a store, a file, a script, a port or an output, or no memory for what no reply tells.
+    Faulty,
+    /// A request got no whole reply.
+    Unanswered,
+}
+
+impl Status {
+    /// The exit status.
+    pub fn number(self) -> u8
+        ensures { result ≤ 4 }
+    {
+        match self {
+            Status::Done => 0,
+            Status::Refused => 1,
+            Status::Usage => 2,
+            Status::Faulty => 3,
+            Status::Unanswered => 4,
+        }
+    }
+}
+
+/// Why the program ends with a fault.
+#[derive(Clone, Copy, Debug, PartialEq, Eq)]
+pub enum Failure {
+    /// The file of the records.
+    File(FileFault),
+    /// The records in memory.
+    Store,
+    /// Out of memory.
+    Memory,
+    /// No connection can come in at the port.
+    Bind,
+    /// Standard output.
+    Write,
+    Script(ScriptFault),
+    Request(EngineFault),
+}
+
+impl Failure {
+    /// The exit status.
+    pub fn status(self) -> Status {
+        match self {
+            Failure::Request(_) => Status::Unanswered,
+            Failure::File(_)
+            | Failure::Store
+            | Failure::Memory
+            | Failure::Bind
+            | Failure::Write
+            | Failure::Script(_) => Status::Faulty,
+        }
+    }
+
+    /// The name for scripts.
+    fn name(self) -> &'static str {
+        match self {
+            Failure::File(fault) => fault.name(),
+            Failure::Store => "Store",
+            Failure::Memory => "Memory",
+            Failure::Bind => "Bind",
+            Failure::Write => "Write",
+            Failure::Script(fault) => script_name(fault),
+            Failure::Request(fault) => request_name(fault),
+        }
+    }
+
+    /// What is wrong, for people.
+    fn cause(self) -> &'static str {
+        match self {
+            Failure::File(fault) => fault.cause(),
+            Failure::Store => "the records in memory cannot be made",
+            Failure::Memory => "memory is out",
+            Failure::Bind => "the port is taken, or may not be used by this user",
+            Failure::Write => "standard output takes no more",
+            Failure::Script(fault) => script_cause(fault),
+            Failure::Request(fault) => request_cause(fault),
+        }
+    }
+}
+
+fn script_name(fault: ScriptFault) -> &'static str {
+    match fault {
+        ScriptFault::Read => "Read",
+        ScriptFault::TooLong => "TooLong",
+        ScriptFault::NotText => "NotText",
+        ScriptFault::TooManyTurns => "TooManyTurns",
+        ScriptFault::UnreadMemory | ScriptFault::Memory => "Memory",
+        ScriptFault::Write => "Write",
+    }
+}
+
+fn script_cause(fault: ScriptFault) -> &'static str {
+    match fault {
+        ScriptFault::Read => "standard input cannot be read; no line ran",
+        ScriptFault::TooLong => "the script has more than 1,048,576 bytes; no line ran",
+        ScriptFault::NotText => "the script is not UTF-8; no line ran",
+        ScriptFault::TooManyTurns => "100,000 reads did not reach the script's end; no line ran",
+        ScriptFault::UnreadMemory => "memory is out; no line ran",
+        ScriptFault::Memory => "memory is out; the lines that were told are done",
+        ScriptFault::Write => "standard output takes no more; the lines that were told are done",
+    }
+}
+
+fn request_name(fault: EngineFault) -> &'static str {
+    match fault {
+        EngineFault::Read => "Read",
+        EngineFault::Write(_) => "Write",
+        EngineFault::TooManyTurns => "TooManyTurns",
+    }
+}
+
+fn request_cause(fault: EngineFault) -> &'static str {
+    match fault {
+        EngineFault::Read => "standard input cannot be read",
+        EngineFault::Write(_) => "standard output took a part of the reply alone",
+        EngineFault::TooManyTurns => "100,000 reads brought no whole request",
+    }
+}
+
+impl From<FileFault> for Failure {
+    fn from(fault: FileFault) -> Failure {
+        Failure::File(fault)
+    }
+}
+
+impl From<AllocError> for Failure {
+    fn from(_refused: AllocError) -> Failure {
+        Failure::Memory
+    }
+}
+
+impl From<ScriptFault> for Failure {
+    fn from(fault: ScriptFault) -> Failure {
+        Failure::Script(fault)
+    }
+}
+
+impl From<EngineFault> for Failure {
+    fn from(fault: EngineFault) -> Failure {
+        Failure::Request(fault)
+    }
+}
+
+impl From<Fault> for Failure {
+    fn from(fault: Fault) -> Failure {
+        match fault {
+            Fault::Store => Failure::Store,
+            Fault::Memory => Failure::Memory,
+        }
+    }
+}
+
+impl From<SampleFault> for Failure {
+    fn from(fault: SampleFault) -> Failure {
+        match fault {
+            SampleFault::Read => Failure::Request(EngineFault::Read),
+            SampleFault::Write(count) => Failure::Request(EngineFault::Write(count)),
+            SampleFault::TooManyTurns => Failure::Request(EngineFault::TooManyTurns),
+            SampleFault::Store => Failure::Store,
+        }
+    }
+}
+
+/// Writes a text, unless the sink has failed. What standard error does not take is lost: there is nowhere
+/// else to tell it.
+pub fn put<E: Sink>(errors: &mut E, text: &str) {
+    if !errors.failed() {
+        let _ = put_all(errors, text.as_bytes());
+    }
+}
+
+/// Tells a fault: its name on the first line, and on the second what is wrong, and with which file.
+pub fn tell<E: Sink>(errors: &mut E, failure: Failure, file: Option<&str>) -> Status {
+    put(errors, "fault ");
+    put(errors, failure.name());
+    put(errors, "\ndocs_host: ");
+    if let (Failure::File(_), Some(file)) = (failure, file) {
+        put(errors, file);
+        put(errors, ": ");
+    }
+    put(errors, failure.cause());
+    put(errors, "\n");
+    failure.status()
+}
+
+/// Tells a mistake in the words.
+pub fn tell_usage<E: Sink>(errors: &mut E, mistake: &str) -> Status {
+    put(errors, "docs_host: ");
+    put(errors, mistake);
+    put(errors, "; try 'docs_host --help'\n");
+    Status::Usage
+}

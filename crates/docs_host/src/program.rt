@@ -1,0 +1,182 @@
+//! The program over its words.
+
+ghost use Rattle.std.specs.Prelude.{◌≡◌, ◌≤◌, false};
+
+use crate::failure::{Failure, Status, put, tell, tell_usage};
+use crate::orders::{run_lines, run_order, say};
+use crate::usage::{tell_help, tell_mistake};
+use dh_files::{OpenFile, close_desk, init_file, open_desk};
+use dh_lines::{Line, LineFault, Order, line_of};
+use dh_ports::{Sink, Source};
+use dh_sample::{answer_sample, empty_desk};
+use dh_script::is_bad_target;
+use sqlite::Start;
+use std::alloc::{AllocError, Global};
+
+/// Whether what is ordered is a read whose target is none.
+fn has_bad_target(alloc: Global, order: &Order) -> Result<bool, AllocError> {
+    match order {
+        Order::Get { target, .. } => is_bad_target(alloc, target),
+        _ => Ok(false),
+    }
+}
+
+/// Says which file is served.
+fn tell_served<E: Sink>(alloc: Global, order: &Order, file: &str, projects: i64, errors: &mut E) {
+    if let Order::Serve { .. } = order {
+        if let Ok(count) = format!(in alloc; "{projects}") {
+            put(errors, "docs_host: serving ");
+            put(errors, file);
+            put(errors, ", projects: ");
+            put(errors, count.as_str());
+            put(errors, "\n");
+        }
+    }
+}
+
+/// Does what is ordered over the records of a file.
+fn run_over<S: Start, R: Source, W: Sink, E: Sink>(
+    rt: &HostRuntime,
+    start: S,
+    order: &Order,
+    file: &str,
+    source: &mut R,
+    sink: &mut W,
+    errors: &mut E,
+) -> Result<Status, Failure>
+    requires reader { R.broken source.old ≡ false }
+    requires writer { W.broken sink.old ≡ false }
+{
+    if has_bad_target(rt.alloc(), order)? {
+        say(sink, "bad target")?;
+        return Ok(Status::Refused);
+    }
+    let OpenFile { mut desk, projects } = open_desk(rt, file, start)?;
+    tell_served(rt.alloc(), order, file, projects, errors);
+    let ran = run_order(rt, &mut desk, order, source, sink, errors);
+    let closed = close_desk(desk);
+    let status = ran?;
+    closed?;
+    Ok(status)
+}
+
+/// Runs the lines of the input over an empty store in memory.
+fn run_in_memory<R: Source, W: Sink>(
+    alloc: Global,
+    source: &mut R,
+    sink: &mut W,
+) -> Result<Status, Failure>
+    requires reader { R.broken source.old ≡ false }
+    requires writer { W.broken sink.old ≡ false }
+{
+    let mut desk = empty_desk(alloc)?;
+    run_lines(alloc, &mut desk, source, sink)
+}
+
+/// Answers the request of the input, over the sample.
+fn answer_alone<R: Source, W: Sink>(
+    alloc: Global,
+    source: &mut R,
+    sink: &mut W,
+) -> Result<Status, Failure>
+    requires reader { R.broken source.old ≡ false }
+    requires writer { W.broken sink.old ≡ false }
+{
+    answer_sample(alloc, source, sink)?;
+    Ok(Status::Done)
+}
+
+/// Makes a file.
+fn init<S: Start>(rt: &HostRuntime, start: S, file: &str) -> Result<Status, Failure> {
+    init_file(rt, file, start)?;
+    Ok(Status::Done)
+}
+
+/// Does a line of the program.
+fn run_line<S: Start, R: Source, W: Sink, E: Sink>(
+    rt: &HostRuntime,
+    start: S,
+    line: &Line,
+    source: &mut R,
+    sink: &mut W,
+    errors: &mut E,
+) -> Result<Status, Failure>
+    requires reader { R.broken source.old ≡ false }
+    requires writer { W.broken sink.old ≡ false }
+{
+    match (&line.order, &line.store) {
+        (Order::Init { file }, None) => init(rt, start, file.as_str()),
+        (Order::Script, None) => run_in_memory(rt.alloc(), source, sink),
+        (Order::Answer, None) => answer_alone(rt.alloc(), source, sink),
+        (order, Some(file)) => run_over(rt, start, order, file.as_str(), source, sink, errors),
+        (Order::Act(_) | Order::Get { .. } | Order::Serve { .. }, None) => Ok(tell_usage(
+            errors,
+            "which file has the records is missing: --store FILE",
+        )),
+    }
+}
+
+/// The words that follow `help`, where that is the first.
+fn helped(words: &[String]) -> Option<&[String]> {
+    match words.split_first() {
+        Some((first, rest)) if first.as_str() == "help" => Some(rest),
+        _ => None,
+    }
+}
+
+/// Does what the words ask for, and tells how it ended.
+fn run_words<S: Start, R: Source, W: Sink, E: Sink>(
+    rt: &HostRuntime,
+    start: S,
+    words: &[String],
+    source: &mut R,
+    sink: &mut W,
+    errors: &mut E,
+) -> Status
+    requires reader { R.broken source.old ≡ false }
+    requires writer { W.broken sink.old ≡ false }
+{
+    let line = match line_of(rt.alloc(), words) {
+        Ok(line) => line,
+        Err(LineFault::Usage) => return tell_mistake(rt.alloc(), words, sink, errors),
+        Err(LineFault::Memory) => return tell(errors, Failure::Memory, None),
+    };
+    match run_line(rt, start, &line, source, sink, errors) {
+        Ok(status) => status,
+        Err(failure) => tell(errors, failure, file_of(&line)),
+    }
+}
+
+/// The file that a line names.
+fn file_of(line: &Line) -> Option<&str> {
+    match (&line.order, &line.store) {
+        (Order::Init { file }, _) => Some(file.as_str()),
+        (_, Some(file)) => Some(file.as_str()),
+        (_, None) => None,
+    }
+}
+
+/// The whole program over its words, without its own name: the input, the output and the error output are
+/// given, and `start` stands for what the file of the records holds. It gives the exit status: 0 done, 1 a
+/// single command was refused or failed, 2 a mistake in the words, 3 a fault of a store, file, script or
+/// output, 4 a request without a whole reply.
+///
+/// Faults are found in this order: the words, the target of a read, the file, the port, the run.
+pub fn run_program<S: Start, R: Source, W: Sink, E: Sink>(
+    rt: &HostRuntime,
+    start: S,
+    words: &[String],
+    source: &mut R,
+    sink: &mut W,
+    errors: &mut E,
+) -> u8
+    requires reader { R.broken source.old ≡ false }
+    requires writer { W.broken sink.old ≡ false }
+    ensures { result ≤ 4 }
+{
+    let status = match helped(words) {
+        Some(names) => tell_help(rt.alloc(), names, sink, errors),
+        None => run_words(rt, start, words, source, sink, errors),
+    };
+    status.number()
+}

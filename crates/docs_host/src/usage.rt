@@ -1,0 +1,151 @@
+//! Help, and what is wrong with words that are no line.
+
+ghost use Rattle.std.specs.Prelude.{◌≡◌, false};
+
+use crate::failure::{Failure, Status, put, tell, tell_usage};
+use clap::error::ErrorKind;
+use clap::{ArgMatches, Error};
+use dh_lines::docs_command;
+use dh_ports::{Sink, put_all};
+use std::alloc::{AllocError, Global};
+
+/// The words of lines that may have some values alone, and which.
+const LIMITED: [(&str, &str); 9] = [
+    ("privacy", "public or private"),
+    ("kind", "branch or tag"),
+    ("place", "a number, from 1"),
+    ("redirect-kind", "page, exact, clean-to-html or html-to-clean"),
+    ("status", "301 or 302"),
+    ("pattern", "all, semver, or re: and an expression"),
+    ("action", "activate, hide, public, private or default"),
+    ("count", "a number below 4,294,967,296"),
+    ("port", "a number below 65,536"),
+];
+
+/// Tells which values the words may have that a line gives for limited ones.
+fn tell_limits<E: Sink>(matches: &ArgMatches<'_>, errors: &mut E) {
+    for (id, values) in &LIMITED {
+        if let Some(value) = matches.get_str(*id) {
+            put(errors, "  ");
+            put(errors, *id);
+            put(errors, " '");
+            put(errors, value);
+            put(errors, "': it may be ");
+            put(errors, *values);
+            put(errors, "\n");
+        }
+    }
+}
+
+/// Tells what is wrong with words that `clap` takes and that are no line: a word that may have some values
+/// alone has another.
+fn tell_values<E: Sink>(matches: &ArgMatches<'_>, errors: &mut E) -> Status {
+    match matches.subcommand() {
+        Some((name, words)) => {
+            put(errors, "docs_host: a word of ");
+            put(errors, name);
+            put(errors, " is none that may stand there\n");
+            tell_limits(words, errors);
+            put(errors, "For more information, try 'docs_host help ");
+            put(errors, name);
+            put(errors, "'\n");
+            Status::Usage
+        }
+        None => tell_usage(errors, "the name of a command is missing"),
+    }
+}
+
+/// Writes the help that was asked for to the output, and a mistake to the error output.
+fn tell_error<W: Sink, E: Sink>(
+    alloc: Global,
+    error: &Error,
+    sink: &mut W,
+    errors: &mut E,
+) -> Result<Status, Failure>
+    requires { W.broken sink.old ≡ false }
+{
+    if error.kind() == ErrorKind::OutOfMemory {
+        return Err(Failure::Memory);
+    }
+    let text = format!(in alloc; "{error}")?;
+    if error.exit_code() != 0 {
+        put(errors, text.as_str());
+        return Ok(Status::Usage);
+    }
+    match put_all(sink, text.as_bytes()) {
+        Ok(()) => Ok(Status::Done),
+        Err(_) => Err(Failure::Write),
+    }
+}
+
+/// What `clap` says of the words.
+fn tell_words<W: Sink, E: Sink>(
+    alloc: Global,
+    words: &[String],
+    sink: &mut W,
+    errors: &mut E,
+) -> Result<Status, Failure>
+    requires { W.broken sink.old ≡ false }
+{
+    let mut program = docs_command(alloc)?;
+    match program.try_get_matches_from_mut(words) {
+        Ok(matches) => Ok(tell_values(&matches, errors)),
+        Err(error) => tell_error(alloc, &error, sink, errors),
+    }
+}
+
+/// The words that ask `clap` for the help of a command, or of the program.
+fn help_words(alloc: Global, names: &[String]) -> Result<Vec<String>, AllocError> {
+    let mut words = Vec::new(alloc);
+    for name in names {
+        words.push(String::from_str(alloc, name.as_str())?)?;
+    }
+    words.push(String::from_str(alloc, "--help")?)?;
+    Ok(words)
+}
+
+/// Writes the help of the command that is named, or of the program.
+fn write_help<W: Sink, E: Sink>(
+    alloc: Global,
+    names: &[String],
+    sink: &mut W,
+    errors: &mut E,
+) -> Result<Status, Failure>
+    requires { W.broken sink.old ≡ false }
+{
+    let words = help_words(alloc, names)?;
+    tell_words(alloc, words.as_slice(), sink, errors)
+}
+
+fn ended<E: Sink>(ended: Result<Status, Failure>, errors: &mut E) -> Status {
+    match ended {
+        Ok(status) => status,
+        Err(failure) => tell(errors, failure, None),
+    }
+}
+
+/// Gives help on the command of this name, or on the program where none is named.
+pub fn tell_help<W: Sink, E: Sink>(
+    alloc: Global,
+    names: &[String],
+    sink: &mut W,
+    errors: &mut E,
+) -> Status
+    requires { W.broken sink.old ≡ false }
+{
+    let written = write_help(alloc, names, sink, errors);
+    ended(written, errors)
+}
+
+/// Tells what is wrong with words that are no line, or gives the help that they ask for.
+pub fn tell_mistake<W: Sink, E: Sink>(
+    alloc: Global,
+    words: &[String],
+    sink: &mut W,
+    errors: &mut E,
+) -> Status
+    requires { W.broken sink.old ≡ false }
+{
+    let told = tell_words(alloc, words, sink, errors);
+    ended(told, errors)
+}
