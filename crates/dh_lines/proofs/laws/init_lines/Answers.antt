@@ -1,7 +1,7 @@
 use Rattle.std.proofs.Common.{codes, refl, [], ◌∷◌, None}
 use Rattle.clap.specs.Faults.{defaults_fault}
 use Rattle.clap.specs.declared.error.kind.ErrorKind.TheVariants.{UnknownArgument}
-use Rattle.dh_words.proofs.TokenLemmas.{chosen, written}
+use Rattle.dh_words.proofs.TokenLemmas.{chosen}
 use Rattle.dh_lines.specs.App.{init_app}
 use Rattle.dh_lines.specs.Lines.{as_line}
 use Rattle.dh_lines.specs.declared.lines.Order.TheVariants.{Init}

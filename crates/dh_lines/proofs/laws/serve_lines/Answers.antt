@@ -3,7 +3,7 @@ use Rattle.std.specs.Prelude.{option_map, option_and_then}
 use Rattle.clap.specs.Faults.{defaults_fault}
 use Rattle.clap.specs.Walk.{Text}
 use Rattle.clap.specs.declared.error.kind.ErrorKind.TheVariants.{MissingRequiredArgument}
-use Rattle.dh_words.proofs.TokenLemmas.{Token, chosen, written}
+use Rattle.dh_words.proofs.TokenLemmas.{chosen, written}
 use Rattle.dh_lines.specs.App.{serve_app}
 use Rattle.dh_lines.specs.Lines.{as_line}
 use Rattle.dh_lines.specs.declared.lines.Line.{Line}
