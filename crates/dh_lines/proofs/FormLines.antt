@@ -133,14 +133,16 @@ module _ (name : Text) where
         form_line name (chosen host ∷ chosen pass ∷ []) (pass_app name)
         (Act (asking host (change pass))) found refl plain (refl, λ file. refl) (reads host pass)
 
-  pub grant_line : (change : Text → Text → CommandChange) → IsCommand name (with_store (grant_app name))
+  pub grant_line : (change : Text → Text → CommandChange)
+      → IsCommand name (with_store (grant_app name))
       → ((host pass slug : Text) → Reads name (grant_app name)
       (chosen host ∷ chosen pass ∷ chosen slug ∷ []) (Act (asking host (change pass slug))))
       → OrdersOnGrant name change
   unfolding defaults_fault
   grant_line change found reads host pass slug plain =
       form_line name (chosen host ∷ chosen pass ∷ chosen slug ∷ []) (grant_app name)
-      (Act (asking host (change pass slug))) found refl plain (refl, λ file. refl) (reads host pass slug)
+      (Act (asking host (change pass slug))) found refl plain (refl, λ file. refl)
+      (reads host pass slug)
 
 module _ (more : List Token) (force : Bool) (word : Text) (kind : RedirectKind) where
   -- the words behind `add-redirect`
@@ -166,8 +168,8 @@ module _ (more : List Token) (force : Bool) (word : Text) (kind : RedirectKind) 
       (redirect_by host source target (place_of place) (status_of status)))
       → OrdersRedirectBy (map text_of more) force word kind
   redirect_line fits passes reads host p s source target place status plain is_place is_status =
-      let order = Act (asking host (AddRedirect place (redirect_of kind status source target force)))
-      in
+      let redirect = redirect_of kind status source target force in
+      let order = Act (asking host (AddRedirect place redirect)) in
       let words = words_of host p s source target in
       form_line (codes "add-redirect") words add_redirect_app order
       refl refl (fits host p s source target plain) (passes host p s source target)

@@ -1,6 +1,7 @@
 -- What `clap` says of the words of a line.
 use Rattle.std.proofs.Common.{◌≡◌, inl, inr, ◌≢◌, true, List, [], ◌∷◌, Option, Some, None}
-use Rattle.std.proofs.Common.{unwrap_or, ap₂, option_map, Result, Ok, Err, IsErrAnd, refl, sym, ◌∙◌, ap, subst}
+use Rattle.std.proofs.Common.{unwrap_or, ap₂, option_map, Result, Ok, Err, IsErrAnd, refl, sym}
+use Rattle.std.proofs.Common.{◌∙◌, ap, subst}
 use Rattle.std.specs.Prelude.{Box}
 use Rattle.std.specs.Box.{box_value}
 use Rattle.std.proofs.lemmas.Result.{err_from_is_err_and}

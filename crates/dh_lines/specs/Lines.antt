@@ -371,7 +371,7 @@ Matches words (Err Usage) = fault_of docs_app words ≢ []
 Matches words (Err Memory) = ⊤
 
 -- the words are the line that orders this and names no store; with `--store FILE` behind them they
--- order the same over the store in FILE, where FILE is plain
+-- are the line that orders the same over the store in FILE, where FILE is plain
 abbrev pub Orders : List Text → Order → Type 0
 Orders words order = (line_in words ≡ Some (as_line None order))
     × ((file : Text) → is_plain file ≡ true
@@ -426,8 +426,8 @@ abbrev pub OrdersRule : Text → Action → Type 0
 OrdersRule word action =
     OrdersRuleOf (codes "branch") Branch word action × OrdersRuleOf (codes "tag") Tag word action
 
--- `serve --store FILE --count N` and these words serve N requests at this port, where FILE and N are
--- plain, and N is digits of this number
+-- `serve --store FILE --count N` and these words serve N connections at this port over the store in
+-- FILE, where FILE and N are plain, and N is digits of this number
 abbrev pub ServesAt : List Text → ℕ → Bool → Type 0
 ServesAt more port log = (file count_word : Text) (count : ℕ) → ArePlain (file ∷ count_word ∷ [])
     → count_of count_word ≡ Some count

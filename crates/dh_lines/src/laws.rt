@@ -1,6 +1,6 @@
-//! Laws of lines: the words of each form are its line, without a store, and with the one that
-//! `--store FILE` behind them names. A word that the caller chooses is plain: it does not begin with
-//! `-`.
+//! Laws of lines: the words of each form are its line, which names no store, and with
+//! `--store FILE` behind them the same over the store in FILE. A word that the caller chooses is
+//! plain: it does not begin with `-`.
 
 ghost use Rattle.std.specs.Prelude.{◌≡◌, ℕ, true, false, Some, None, codes, ◌∷◌, [], List};
 ghost use Rattle.clap.specs.Walk.{Text};
@@ -141,8 +141,8 @@ pub fn init_lines()
         → line_in (codes "init" ∷ file ∷ codes "--store" ∷ other ∷ []) ≡ None }
 {}
 
-/// The words that serve a store: the port is 0 where it is left out. The store and the count have to
-/// be there.
+/// The words that serve a store: the port is 0 where it is left out. The store and the count have
+/// to be there.
 pub fn serve_lines()
     ensures quiet { ServesAt [] 0 false }
     ensures told { ServesAt (codes "--log" ∷ []) 0 true }

@@ -1,4 +1,4 @@
-//! Lines: what the words of the program, or of a script's line, ask for. Nothing here knows the store.
+//! Lines: what the words of the program, or of a script's line, ask for. Nothing here has a store.
 #![tactic(auto)]
 
 mod app;

@@ -6,7 +6,8 @@ use Rattle.dh_rules.specs.declared.rule.Action.TheVariants as action
 use Rattle.dh_world.specs.declared.command.CommandChange.TheVariants.{DropRule}
 use Rattle.dh_words.proofs.TokenLemmas.{chosen}
 use Rattle.dh_lines.specs.App.{drop_rule_app}
-use Rattle.dh_lines.specs.Lines.{asking, place_of, change_in, access_in, redirect_change_in, rule_change_in}
+use Rattle.dh_lines.specs.Lines.{asking, place_of, change_in, access_in, redirect_change_in}
+use Rattle.dh_lines.specs.Lines.{rule_change_in}
 use Rattle.dh_lines.specs.declared.lines.Order.TheVariants.{Act}
 use Rattle.dh_lines.proofs.FormLines.{form_line, read_as, rule_line}
 use Rattle.dh_lines.proofs.laws.rule_lines.Goals as goal
@@ -56,7 +57,8 @@ returns c = record {
   );
   drop_rule = λ host place_word place plain is_place.
       let words = chosen host ∷ chosen place_word ∷ [] in
-      let order = λ (p : Option ℕ). option_map Act (option_map (asking host) (option_map DropRule p)) in
+      let order =
+      λ (p : Option ℕ). option_map Act (option_map (asking host) (option_map DropRule p)) in
       form_line (codes "drop-rule") words drop_rule_app (Act (asking host (DropRule place)))
       refl refl plain (refl, λ file. refl)
       (read_as (codes "drop-rule") drop_rule_app words (order (place_of place_word))
