@@ -1,10 +1,14 @@
 -- What `clap` says of the words of a line.
 use Rattle.std.proofs.Common.{◌≡◌, inl, inr, ◌≢◌, true, List, [], ◌∷◌, Option, Some, None}
-use Rattle.std.proofs.Common.{option_map, Result, Ok, Err, IsErrAnd, refl, sym, ◌∙◌, ap, subst}
+use Rattle.std.proofs.Common.{unwrap_or, ap₂, option_map, Result, Ok, Err, IsErrAnd, refl, sym}
+use Rattle.std.proofs.Common.{◌∙◌, ap, subst}
+use Rattle.std.specs.Prelude.{Box}
+use Rattle.std.specs.Box.{box_value}
 use Rattle.std.proofs.lemmas.Result.{err_from_is_err_and}
 use Rattle.clap.specs.Walk.{Text, Row}
 use Rattle.clap.specs.Built.{BuildsOrBreaks, is_broken}
-use Rattle.clap.specs.Simple.{app_of, subcommand_of, subcommand_rows_of, HasMatchesOf}
+use Rattle.clap.specs.Simple.{app_of, subcommand_of, subcommand_rows, subcommand_rows_of}
+use Rattle.clap.specs.Simple.{HasMatchesOf}
 use Rattle.clap.specs.declared.builder.command.Command.{Command}
 use Rattle.dh_words.specs.Apps.{StandsFor}
 use Rattle.dh_words.proofs.StandsLemmas.{IsSteady, agrees, still_stands}
@@ -14,11 +18,12 @@ use Rattle.clap.specs.Faults.{fault_of, is_simple_and_free}
 use Rattle.clap.specs.declared.error.Error.{Error}
 use Rattle.clap.specs.declared.error.kind.ErrorKind.TheVariants.{OutOfMemory}
 use Rattle.clap.specs.declared.parser.matches.ArgMatches.{ArgMatches}
+use Rattle.clap.specs.declared.parser.matches.ArgMatches.TheViews.{out-SubCommand}
+use Rattle.clap.specs.declared.parser.matches.SubCommand.{SubCommand}
 use Rattle.clap.proofs.OnLiterals.{clap_on_literals}
 use Rattle.dh_lines.specs.App.{docs_app}
-use Rattle.dh_lines.specs.Lines.{Matches, Says, as_line, order_of, unless_faulty, line_in}
+use Rattle.dh_lines.specs.Lines.{Matches, Says, named_line, line_with, unless_faulty, line_in}
 use Rattle.dh_lines.specs.declared.lines.Line.{Line}
-use Rattle.dh_lines.specs.declared.lines.Order.{Order}
 use Rattle.dh_lines.specs.declared.lines.LineFault.{LineFault}
 use Rattle.dh_lines.specs.declared.lines.LineFault.TheVariants.{Usage, Memory}
 
@@ -70,46 +75,45 @@ unfolding line_in
 faulty words some = by_faults (fault_of docs_app words) some
   where
     found : Option Line
-    found = option_map as_line (order_of (subcommand_of docs_app words))
+    found = line_with (subcommand_of docs_app words)
 
     by_faults : (faults : Kinds) → faults ≢ [] → unless_faulty faults found ≡ None
     by_faults [] some = absurd (some refl)
     by_faults (fault ∷ faults) some = refl
 
--- the line is what the matches order
-ordered : (words : List Text) (m : ArgMatches) → Matches words (Ok m)
-    → line_in words ≡ option_map as_line (order_of (subcommand_rows_of m))
+-- the line is that of the matches
+matched_line : (words : List Text) (m : ArgMatches) → Matches words (Ok m)
+    → line_in words ≡ line_with (subcommand_rows_of m)
 unfolding line_in
-ordered words m h =
-    let found = option_map as_line (order_of (subcommand_of docs_app words)) in
-    ap (λ (faults : Kinds). unless_faulty faults found) h.0
-    ∙ ap (λ (o : Option (Text × List Row)). option_map as_line (order_of o)) (sym h.1)
+matched_line words m h =
+    let found = line_with (subcommand_of docs_app words) in
+    ap (λ (faults : Kinds). unless_faulty faults found) h.0 ∙ ap line_with (sym h.1)
 
-pub line_found : (words : List Text) (m : ArgMatches) (order : Order) → Matches words (Ok m)
-    → order_of (subcommand_rows_of m) ≡ Some order → line_in words ≡ Some (as_line order)
-line_found words m order h e = ordered words m h ∙ ap (option_map as_line) e
+pub line_read : (words : List Text) (m : ArgMatches) (r : Result Line LineFault)
+    → Matches words (Ok m) → Says (line_with (subcommand_rows_of m)) r → Says (line_in words) r
+line_read words m r h says =
+    subst (λ (l : Option Line). Says l r) (sym (matched_line words m h)) says
+
+-- the line of the subcommand that was found
+pub subcommand_found : {Z : Type 0} (o : Option (Box SubCommand Z)) (name : Text) (rows : List Row)
+    (r : Result Line LineFault)
+    → Some name ≡ option_map (λ b. (out-SubCommand (box_value b)).name.now) o
+    → Some rows ≡ option_map (λ p. p.1) (subcommand_rows o)
+    → Says (named_line name rows) r → Says (line_with (subcommand_rows o)) r
+subcommand_found None name rows r is_name is_rows says = let no : ⊥ = cc in absurd no
+subcommand_found (Some b) name rows r is_name is_rows says =
+    let same_name = ap (λ (o : Option Text). unwrap_or o name) is_name in
+    let same_rows = ap (λ (o : Option (List Row)). unwrap_or o rows) is_rows in
+    subst (λ (l : Option Line). Says l r) (ap₂ named_line same_name same_rows) says
 
 unmatched_line : (words : List Text) (e : LineFault) → Matches words (Err e)
     → Says (line_in words) (Err e)
 unmatched_line words Usage h = faulty words h
 unmatched_line words Memory h = tt
 
-unordered_line : (words : List Text) (m : ArgMatches) (e : LineFault) → Matches words (Ok m)
-    → Says (order_of (subcommand_rows_of m)) (Err e) → Says (line_in words) (Err e)
-unordered_line words m Usage h none = ordered words m h ∙ ap (option_map as_line) none
-unordered_line words m Memory h none = tt
-
--- the fault of `clap`, or of the order, is the answer
-module _ (words : List Text) (e : LineFault) (r : Result Line LineFault)
-    (is : IsErrAnd r (λ x. x ≡ e)) where
-  answered : Says (line_in words) (Err e) → Says (line_in words) r
-  answered says =
-      let at = err_from_is_err_and r is in
-      subst (Says (line_in words)) (sym (at.1 ∙ ap Err at.2)) says
-
-  pub no_matches : Matches words (Err e) → Says (line_in words) r
-  no_matches h = answered (unmatched_line words e h)
-
-  pub no_order : (m : ArgMatches) → Matches words (Ok m)
-      → Says (order_of (subcommand_rows_of m)) (Err e) → Says (line_in words) r
-  no_order m h none = answered (unordered_line words m e h none)
+-- the fault of `clap` is the answer
+pub no_matches : (words : List Text) (e : LineFault) (r : Result Line LineFault)
+    → IsErrAnd r (λ x. x ≡ e) → Matches words (Err e) → Says (line_in words) r
+no_matches words e r is h =
+    let at = err_from_is_err_and r is in
+    subst (Says (line_in words)) (sym (at.1 ∙ ap Err at.2)) (unmatched_line words e h)

@@ -1,8 +1,8 @@
 -- The words of the program and of a script's line, as `clap` sees them.
-use Rattle.std.specs.Prelude.{true, List, [], ◌∷◌, ◌++◌, codes}
+use Rattle.std.specs.Prelude.{true, List, [], ◌∷◌, ◌++◌, codes, map}
 use Rattle.clap.specs.Walk.{Text}
 use Rattle.clap.specs.Simple.{App, new_app, with_rule}
-use Rattle.dh_words.specs.Apps.{option_rule, flag_rule, form, with_apps}
+use Rattle.dh_words.specs.Apps.{option_rule, required_option_rule, flag_rule, form, with_apps}
 
 abbrev pub new_project_app : App
 new_project_app = form (codes "new-project")
@@ -88,6 +88,25 @@ script_app = form (codes "script") []
 abbrev pub answer_app : App
 answer_app = form (codes "answer") []
 
+-- the forms that may name the file of their records
+abbrev pub store_apps : List App
+store_apps =
+    project_apps ++ version_apps ++ pass_apps ++ redirect_apps ++ rule_apps
+    ++ (get_app ∷ script_app ∷ answer_app ∷ [])
+
+-- a form that takes `--store FILE`, too
+abbrev pub with_store : App → App
+with_store app = with_rule app (option_rule (codes "store"))
+
+abbrev pub init_app : App
+init_app = form (codes "init") (codes "file" ∷ [])
+
+abbrev pub serve_app : App
+serve_app =
+    with_rule (with_rule (with_rule (with_rule (form (codes "serve") [])
+    (required_option_rule (codes "store"))) (required_option_rule (codes "count")))
+    (option_rule (codes "port"))) (flag_rule (codes "log"))
+
 -- the program without its subcommands, one of which has to be named; its words come without the
 -- program's own name
 abbrev pub bare_app : App
@@ -100,8 +119,6 @@ bare_app = record (new_app (codes "docs_host")) {
   };
 }
 
--- the program: the lines of scripts, and what it does with its input
+-- the program: the lines of scripts, and what it does with a file or with its input
 abbrev pub docs_app : App
-docs_app = with_apps bare_app
-    (project_apps ++ version_apps ++ pass_apps ++ redirect_apps ++ rule_apps
-    ++ (get_app ∷ script_app ∷ answer_app ∷ []))
+docs_app = with_apps bare_app (map with_store store_apps ++ (init_app ∷ serve_app ∷ []))

@@ -2,6 +2,7 @@
 use Rattle.std.specs.Prelude.{map}
 use Rattle.clap.specs.Simple.{App, with_rule}
 use Rattle.dh_words.specs.Apps.{option_rule, flag_rule, form}
+use Rattle.dh_lines.specs.App.{with_store}
 use Rattle.dh_lines.specs.declared.app.Form.{Form}
 use Rattle.dh_lines.specs.declared.app.More.{More}
 use Rattle.dh_lines.specs.declared.app.More.TheVariants as more
@@ -14,3 +15,7 @@ with_more app (more.Value id help) = with_rule app (option_rule id.now)
 
 abbrev pub app_of_form : Form → App
 app_of_form f = with_more (form f.name.now (map (λ id. id.now) f.ids.now)) f.more
+
+-- the app of a form that may name the file of its records
+abbrev pub store_app_of : Form → App
+store_app_of f = with_store (app_of_form f)

@@ -1,5 +1,6 @@
 -- The line that words are.
 use Rattle.std.specs.Prelude.{◌≡◌, ◌≢◌, Bool, true, false, if◌then◌else◌, List, [], ◌∷◌, Option}
+use Rattle.std.specs.Prelude.{◌++◌}
 use Rattle.std.specs.Prelude.{Some, None, option_map, option_and_then, codes, Result, Ok, Err, ⊤}
 use Rattle.std.specs.Prelude.{ℕ, ◌&&◌, ◌^◌, nat_lt, length, take, drop}
 use Rattle.std.specs.Char.{is_ascii_digit}
@@ -35,11 +36,11 @@ use Rattle.dh_world.specs.declared.command.CommandChange.TheVariants.{AddPass, D
 use Rattle.dh_world.specs.declared.command.CommandChange.TheVariants.{Revoke, AddRedirect}
 use Rattle.dh_world.specs.declared.command.CommandChange.TheVariants.{DropRedirect, AddRule}
 use Rattle.dh_world.specs.declared.command.CommandChange.TheVariants.{DropRule}
-use Rattle.dh_words.specs.Words.{ArePlain}
+use Rattle.dh_words.specs.Words.{is_plain, ArePlain}
 use Rattle.dh_lines.specs.App.{docs_app}
 use Rattle.dh_lines.specs.declared.lines.Line.{Line}
 use Rattle.dh_lines.specs.declared.lines.Order.{Order}
-use Rattle.dh_lines.specs.declared.lines.Order.TheVariants.{Act, Get, Script, Answer}
+use Rattle.dh_lines.specs.declared.lines.Order.TheVariants.{Act, Get, Init, Script, Answer, Serve}
 use Rattle.dh_lines.specs.declared.lines.LineFault.{LineFault}
 use Rattle.dh_lines.specs.declared.lines.LineFault.TheVariants.{Usage, Memory}
 
@@ -102,6 +103,12 @@ place_of text = number_in (2 ^ 32) text
 
 abbrev pub status_of : Text → Option ℕ
 status_of text = number_in (2 ^ 16) text
+
+abbrev pub count_of : Text → Option ℕ
+count_of text = number_in (2 ^ 32) text
+
+abbrev pub port_of : Text → Option ℕ
+port_of text = number_in (2 ^ 16) text
 
 -- the text that a word stands for: `none` for the empty one, any other for itself
 abbrev pub text_meant : Text → Text
@@ -256,6 +263,25 @@ get_in rows =
     with_word (codes "target") rows (λ target.
     Some (Get host target (first_of (codes "pass") rows))))
 
+-- `init FILE`
+abbrev pub init_in : List Row → Option Order
+init_in rows = with_word (codes "file") rows (λ file. Some (Init file))
+
+-- the count of a line
+abbrev pub count_in : List Row → Option ℕ
+count_in rows = with_word (codes "count") rows count_of
+
+-- the port of a line: 0 where none is given
+abbrev pub port_in : List Row → Option ℕ
+port_in rows = option_map_or port_of (first_of (codes "port") rows) (Some 0)
+
+-- `serve --store FILE --count N [--port P] [--log]`
+abbrev pub serve_in : List Row → Option Order
+serve_in rows =
+    option_and_then (λ count.
+    option_map (λ port. Serve count port (is_set (codes "log") rows)) (port_in rows))
+    (count_in rows)
+
 -- the change of a line on rules, or on one version
 unfoldable pub rule_change_in : Text → List Row → Option CommandChange
 rule_change_in name rows =
@@ -304,14 +330,21 @@ order_in name rows =
     if bytes_eq name (codes "get") then get_in rows
     else if bytes_eq name (codes "script") then Some Script
     else if bytes_eq name (codes "answer") then Some Answer
+    else if bytes_eq name (codes "init") then init_in rows
+    else if bytes_eq name (codes "serve") then serve_in rows
     else option_map Act (command_in name rows)
 
-abbrev pub order_of : Option (Text × List Row) → Option Order
-order_of None = None
-order_of (Some (name, rows)) = order_in name rows
+-- the line of this order, over the store in this file
+abbrev pub as_line : Option Text → Order → Line
+as_line file order = record { order = order; store = file }
 
-abbrev pub as_line : Order → Line
-as_line order = record { order = order }
+-- the line of this name
+abbrev pub named_line : Text → List Row → Option Line
+named_line name rows = option_map (as_line (first_of (codes "store") rows)) (order_in name rows)
+
+abbrev pub line_with : Option (Text × List Row) → Option Line
+line_with None = None
+line_with (Some (name, rows)) = named_line name rows
 
 -- what is found, where there is no fault
 abbrev pub unless_faulty : {A : Type 0} → Kinds → Option A → Option A
@@ -321,8 +354,7 @@ unless_faulty (fault ∷ faults) found = None
 -- the line that the words are: what `clap` matches in them, where it finds no fault with them
 unfoldable pub line_in : List Text → Option Line
 line_in words =
-    unless_faulty (fault_of docs_app words)
-    (option_map as_line (order_of (subcommand_of docs_app words)))
+    unless_faulty (fault_of docs_app words) (line_with (subcommand_of docs_app words))
 
 -- the definition's value is answered; a fault of usage comes only where it has none, and out of
 -- memory anywhere
@@ -338,9 +370,12 @@ Matches words (Ok matches) =
 Matches words (Err Usage) = fault_of docs_app words ≢ []
 Matches words (Err Memory) = ⊤
 
--- the words are the line that orders this
+-- the words are the line that orders this and names no store; with `--store FILE` behind them they
+-- are the line that orders the same over the store in FILE, where FILE is plain
 abbrev pub Orders : List Text → Order → Type 0
-Orders words order = line_in words ≡ Some (as_line order)
+Orders words order = (line_in words ≡ Some (as_line None order))
+    × ((file : Text) → is_plain file ≡ true
+    → line_in (words ++ codes "--store" ∷ file ∷ []) ≡ Some (as_line (Some file) order))
 
 -- `NAME HOST SLUG` orders this change, where the words that the caller chooses are plain
 abbrev pub OrdersOnVersion : Text → (Text → CommandChange) → Type 0
@@ -390,3 +425,16 @@ OrdersRuleOf kind_word kind action_word action =
 abbrev pub OrdersRule : Text → Action → Type 0
 OrdersRule word action =
     OrdersRuleOf (codes "branch") Branch word action × OrdersRuleOf (codes "tag") Tag word action
+
+-- `serve --store FILE --count N` and these words serve N connections at this port over the store in
+-- FILE, where FILE and N are plain, and N is digits of this number
+abbrev pub ServesAt : List Text → ℕ → Bool → Type 0
+ServesAt more port log = (file count_word : Text) (count : ℕ) → ArePlain (file ∷ count_word ∷ [])
+    → count_of count_word ≡ Some count
+    → line_in (codes "serve" ∷ codes "--store" ∷ file ∷ codes "--count" ∷ count_word ∷ more)
+    ≡ Some (as_line (Some file) (Serve count port log))
+
+-- and so with `--port P` before these words, where P is plain and digits of the port
+abbrev pub ServesAtPort : List Text → Bool → Type 0
+ServesAtPort more log = (port_word : Text) (port : ℕ) → is_plain port_word ≡ true
+    → port_of port_word ≡ Some port → ServesAt (codes "--port" ∷ port_word ∷ more) port log

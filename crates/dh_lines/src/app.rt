@@ -1,14 +1,14 @@
 //! The words of the program and of a script's line, as `clap` sees them.
 
 ghost use Rattle.std.specs.Prelude.{IfOk, map, [], ◌∷◌};
-ghost use Rattle.clap.specs.Simple.{app_of};
-ghost use Rattle.dh_words.specs.Apps.{IsApp, HasNoGlobals, with_apps};
+ghost use Rattle.clap.specs.Simple.{app_of, with_rule};
+ghost use Rattle.dh_words.specs.Apps.{IsApp, HasNoGlobals, option_rule, with_apps};
 ghost use Rattle.dh_words.specs.Apps.{with_words as words_added};
-ghost use Rattle.dh_lines.specs.App.{bare_app, docs_app};
-ghost use Rattle.dh_lines.specs.Forms.{app_of_form, with_more};
+ghost use Rattle.dh_lines.specs.App.{bare_app, docs_app, init_app, serve_app, with_store};
+ghost use Rattle.dh_lines.specs.Forms.{app_of_form, store_app_of, with_more};
 
 use clap::Command;
-use dh_words::{named, with_command, with_flag, with_option, with_word};
+use dh_words::{named, with_command, with_flag, with_option, with_required_option, with_word};
 use std::alloc::{AllocError, Global};
 
 /// What a form may take beside its words.
@@ -54,6 +54,7 @@ fn word_help(id: &str) -> &'static str {
         "from" => "The path that is led away, as /old/*, or none",
         "to" => "Where it is led, as /en/latest/:splat, or none",
         "pattern" => "Which names: all, semver, or re: and an expression, as re:^v[0-9]+$",
+        "file" => "The file that is made: none may be there by this name",
         "action" => "activate, hide, public, private or default: what becomes of a new version",
         "target" => "The path that is read, and its query, as /en/latest/?q=1",
         _ => "",
@@ -97,20 +98,58 @@ fn form_command<'a>(alloc: Global, form: &Form<'a>) -> Result<Command<'a>, Alloc
     with_more_words(alloc, with_words(alloc, command, form.ids)?, &form.more)
 }
 
-/// A program that takes more forms.
+/// A command that may name the file of its records, as each may that reads or changes them.
+fn store_command<'a>(alloc: Global, form: &Form<'a>) -> Result<Command<'a>, AllocError>
+    ensures { IfOk result (IsApp (store_app_of form.now)) }
+{
+    let command = form_command(alloc, form)?;
+    with_option(alloc, command, "store", "The file of the records, which init made")
+}
+
+/// A program that takes more forms, each with `--store`.
 fn with_forms<'a>(
     alloc: Global,
     program: Command<'a>,
     forms: &[Form<'a>],
 ) -> Result<Command<'a>, AllocError>
     requires { HasNoGlobals program }
-    ensures { IfOk result (IsApp (with_apps (app_of program.entry) (map app_of_form forms.now))) }
+    ensures { IfOk result (IsApp (with_apps (app_of program.entry) (map store_app_of forms.now))) }
 {
     let mut program = program;
     for form in forms {
-        program = with_command(program, form_command(alloc, form)?)?;
+        program = with_command(program, store_command(alloc, form)?)?;
     }
     Ok(program)
+}
+
+fn init_command<'a>(alloc: Global) -> Result<Command<'a>, AllocError>
+    ensures { IfOk result (IsApp init_app) }
+{
+    let command = named(
+        alloc,
+        "init",
+        "Makes a file of records, with no project",
+        "Example: docs_host init docs.db",
+    );
+    with_word(alloc, command, "file", word_help("file"))
+}
+
+fn serve_command<'a>(alloc: Global) -> Result<Command<'a>, AllocError>
+    ensures { IfOk result (IsApp serve_app) }
+{
+    let command = named(
+        alloc,
+        "serve",
+        "Answers HTTP requests at a port of 127.0.0.1, over the records in a file",
+        "Example: docs_host serve --store docs.db --count 100 --port 8080 --log",
+    );
+    let store = "The file of the records, which init made";
+    let command = with_required_option(alloc, command, "store", store)?;
+    let count = "How many connections are answered before it ends, as 100";
+    let command = with_required_option(alloc, command, "count", count)?;
+    let port = "The port, as 8080; any free one where this is left out, or 0";
+    let command = with_option(alloc, command, "port", port)?;
+    with_flag(alloc, command, "log", "Tells each request on standard error")
 }
 
 fn bare_command<'a>(alloc: Global) -> Command<'a>
@@ -120,7 +159,7 @@ fn bare_command<'a>(alloc: Global) -> Command<'a>
         alloc,
         "docs_host",
         "A host of versioned documentation",
-        "All commands but script and answer are lines of a script, as in\n  echo 'get docs.test /' | docs_host script",
+        "The records of projects live in a file, which init makes and --store names:\n  docs_host init docs.db\n  docs_host new-project docs.test en main public wkey-1 --store docs.db\n  docs_host get docs.test / --store docs.db\n  docs_host serve --store docs.db --count 100 --port 8080\nThe commands from new-project to get are lines of a script as well, without --store:\n  echo 'get docs.test /' | docs_host script --store docs.db",
     )
     .no_binary_name(true)
     .disable_help_subcommand(true)
@@ -128,33 +167,33 @@ fn bare_command<'a>(alloc: Global) -> Command<'a>
     .subcommand_required(true)
 }
 
-/// The commands of the program: the lines of scripts, and what it does with its input.
+/// The lines of scripts, and what the program does with its input.
 const FORMS: [Form<'static>; 23] = [
     Form {
         name: "new-project",
         about: "Makes a project with one language and no version",
-        example: "Example: new-project docs.test en main public wkey-1",
+        example: "Example: docs_host new-project docs.test en main public wkey-1 --store docs.db",
         ids: &["host", "lang", "branch", "privacy", "wkey"],
         more: More::Nothing,
     },
     Form {
         name: "add-lang",
         about: "Adds a language to a project",
-        example: "Example: add-lang docs.test fr",
+        example: "Example: docs_host add-lang docs.test fr --store docs.db",
         ids: &["host", "lang"],
         more: More::Nothing,
     },
     Form {
         name: "push",
         about: "Records a branch or tag: its version is made, or is known already",
-        example: "Example: push docs.test wkey-1 k1 tag 1.0",
+        example: "Example: docs_host push docs.test wkey-1 k1 tag 1.0 --store docs.db",
         ids: &["host", "wkey", "key", "kind", "ref"],
         more: More::Nothing,
     },
     Form {
         name: "upload",
         about: "Adds a page to an active version, in place of the one at its path",
-        example: "Example: upload docs.test wkey-1 u1 1.0 en guide/index.html text/html Welcome",
+        example: "Example: docs_host upload docs.test wkey-1 u1 1.0 en guide/index.html text/html Welcome --store docs.db",
         ids: &[
             "host", "wkey", "key", "slug", "lang", "path", "type", "text",
         ],
@@ -166,91 +205,91 @@ const FORMS: [Form<'static>; 23] = [
     Form {
         name: "activate",
         about: "Activates a version: its pages can be uploaded and read",
-        example: "Example: activate docs.test 1.0",
+        example: "Example: docs_host activate docs.test 1.0 --store docs.db",
         ids: &["host", "slug"],
         more: More::Nothing,
     },
     Form {
         name: "deactivate",
         about: "Deactivates a version and deletes its pages",
-        example: "Example: deactivate docs.test 1.0",
+        example: "Example: docs_host deactivate docs.test 1.0 --store docs.db",
         ids: &["host", "slug"],
         more: More::Nothing,
     },
     Form {
         name: "hide",
         about: "Hides a version: it is served, and left out of lists",
-        example: "Example: hide docs.test 1.0",
+        example: "Example: docs_host hide docs.test 1.0 --store docs.db",
         ids: &["host", "slug"],
         more: More::Nothing,
     },
     Form {
         name: "unhide",
         about: "Shows a hidden version in lists again",
-        example: "Example: unhide docs.test 1.0",
+        example: "Example: docs_host unhide docs.test 1.0 --store docs.db",
         ids: &["host", "slug"],
         more: More::Nothing,
     },
     Form {
         name: "publish",
         about: "Makes a version public",
-        example: "Example: publish docs.test 1.0",
+        example: "Example: docs_host publish docs.test 1.0 --store docs.db",
         ids: &["host", "slug"],
         more: More::Nothing,
     },
     Form {
         name: "make-private",
         about: "Makes a version private: read with a pass that it is granted to",
-        example: "Example: make-private docs.test 1.0",
+        example: "Example: docs_host make-private docs.test 1.0 --store docs.db",
         ids: &["host", "slug"],
         more: More::Nothing,
     },
     Form {
         name: "gone",
         about: "Deletes a version with its pages and the grants on it",
-        example: "Example: gone docs.test 1.0",
+        example: "Example: docs_host gone docs.test 1.0 --store docs.db",
         ids: &["host", "slug"],
         more: More::Nothing,
     },
     Form {
         name: "set-default",
         about: "Makes a version, or an alias such as latest, the project's first default",
-        example: "Example: set-default docs.test 1.0",
+        example: "Example: docs_host set-default docs.test 1.0 --store docs.db",
         ids: &["host", "slug"],
         more: More::Nothing,
     },
     Form {
         name: "add-pass",
         about: "Adds a pass with no grants to a project",
-        example: "Example: add-pass docs.test reader-7",
+        example: "Example: docs_host add-pass docs.test reader-7 --store docs.db",
         ids: &["host", "pass"],
         more: More::Nothing,
     },
     Form {
         name: "drop-pass",
         about: "Deletes a pass and its grants",
-        example: "Example: drop-pass docs.test reader-7",
+        example: "Example: docs_host drop-pass docs.test reader-7 --store docs.db",
         ids: &["host", "pass"],
         more: More::Nothing,
     },
     Form {
         name: "grant",
         about: "Grants a version to a pass",
-        example: "Example: grant docs.test reader-7 1.0",
+        example: "Example: docs_host grant docs.test reader-7 1.0 --store docs.db",
         ids: &["host", "pass", "slug"],
         more: More::Nothing,
     },
     Form {
         name: "revoke",
         about: "Takes the grant of a version from a pass",
-        example: "Example: revoke docs.test reader-7 1.0",
+        example: "Example: docs_host revoke docs.test reader-7 1.0 --store docs.db",
         ids: &["host", "pass", "slug"],
         more: More::Nothing,
     },
     Form {
         name: "add-redirect",
         about: "Adds a redirect at a place of the project's list; those from there on move by one",
-        example: "Example: add-redirect docs.test 1 exact 302 /old/* /en/latest/:splat",
+        example: "Example: docs_host add-redirect docs.test 1 exact 302 '/old/*' /en/latest/:splat --store docs.db",
         ids: &["host", "place", "redirect-kind", "status", "from", "to"],
         more: More::Flag {
             id: "force",
@@ -260,28 +299,28 @@ const FORMS: [Form<'static>; 23] = [
     Form {
         name: "drop-redirect",
         about: "Takes the redirect at a place out of the project's list",
-        example: "Example: drop-redirect docs.test 1",
+        example: "Example: docs_host drop-redirect docs.test 1 --store docs.db",
         ids: &["host", "place"],
         more: More::Nothing,
     },
     Form {
         name: "add-rule",
         about: "Adds a rule for new versions at a place of the list; those from there on move by one",
-        example: "Example: add-rule docs.test 1 tag semver activate",
+        example: "Example: docs_host add-rule docs.test 1 tag semver activate --store docs.db",
         ids: &["host", "place", "kind", "pattern", "action"],
         more: More::Nothing,
     },
     Form {
         name: "drop-rule",
         about: "Takes the rule at a place out of the project's list",
-        example: "Example: drop-rule docs.test 1",
+        example: "Example: docs_host drop-rule docs.test 1 --store docs.db",
         ids: &["host", "place"],
         more: More::Nothing,
     },
     Form {
         name: "get",
         about: "Reads an address, and prints the reply's status, its location or -, and its size",
-        example: "Example: get docs.test /en/latest/ --pass reader-7",
+        example: "Example: docs_host get docs.test /en/latest/ --pass reader-7 --store docs.db",
         ids: &["host", "target"],
         more: More::Value {
             id: "pass",
@@ -290,15 +329,15 @@ const FORMS: [Form<'static>; 23] = [
     },
     Form {
         name: "script",
-        about: "Runs the lines of standard input, over an empty store in memory",
-        example: "Example: docs_host script < lines.txt",
+        about: "Runs the lines of standard input, over no project where --store is left out",
+        example: "Example: docs_host script --store docs.db < lines.txt",
         ids: &[],
         more: More::Nothing,
     },
     Form {
         name: "answer",
-        about: "Answers one HTTP request from standard input, over the sample project of docs.test",
-        example: "Example: docs_host answer < request.http",
+        about: "Answers one HTTP request from standard input, over a sample where --store is left out",
+        example: "Example: docs_host answer --store docs.db < request.http",
         ids: &[],
         more: More::Nothing,
     },
@@ -308,5 +347,7 @@ const FORMS: [Form<'static>; 23] = [
 pub fn docs_command<'a>(alloc: Global) -> Result<Command<'a>, AllocError>
     ensures { IfOk result (IsApp docs_app) }
 {
-    with_forms(alloc, bare_command(alloc), &FORMS)
+    let lines = with_forms(alloc, bare_command(alloc), &FORMS)?;
+    let with_init = with_command(lines, init_command(alloc)?)?;
+    with_command(with_init, serve_command(alloc)?)
 }

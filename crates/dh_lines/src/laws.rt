@@ -1,5 +1,6 @@
-//! Laws of lines: the words of each form are its line. A word that the caller chooses is plain: it
-//! does not begin with `-`.
+//! Laws of lines: the words of each form are its line, which names no store, and with
+//! `--store FILE` behind them the same over the store in FILE. A word that the caller chooses is
+//! plain: it does not begin with `-`.
 
 ghost use Rattle.std.specs.Prelude.{◌≡◌, ℕ, true, false, Some, None, codes, ◌∷◌, [], List};
 ghost use Rattle.clap.specs.Walk.{Text};
@@ -21,8 +22,8 @@ ghost use Rattle.dh_words.specs.Words.{is_plain, ArePlain, has_command};
 ghost use Rattle.dh_lines.specs.App.{docs_app};
 ghost use Rattle.dh_lines.specs.Lines.{line_in, asking, Orders, OrdersOnVersion, OrdersOnPass};
 ghost use Rattle.dh_lines.specs.Lines.{OrdersOnGrant, OrdersRedirect, OrdersForced, OrdersRule};
-ghost use Rattle.dh_lines.specs.Lines.{place_of};
-ghost use Rattle.dh_lines.specs.declared.lines.Order.TheVariants.{Act, Get, Script, Answer};
+ghost use Rattle.dh_lines.specs.Lines.{place_of, as_line, ServesAt, ServesAtPort};
+ghost use Rattle.dh_lines.specs.declared.lines.Order.TheVariants.{Act, Get, Init, Script, Answer};
 
 /// The lines on projects and pushes.
 pub fn project_lines()
@@ -130,6 +131,27 @@ pub fn get_lines()
 pub fn program_lines()
     ensures script { Orders (codes "script" ∷ []) Script }
     ensures answer { Orders (codes "answer" ∷ []) Answer }
+{}
+
+/// The words that make a store, which name no other.
+pub fn init_lines()
+    ensures init { (file : Text) → is_plain file ≡ true
+        → line_in (codes "init" ∷ file ∷ []) ≡ Some (as_line None (Init file)) }
+    ensures other { (file other : Text) → ArePlain (file ∷ other ∷ [])
+        → line_in (codes "init" ∷ file ∷ codes "--store" ∷ other ∷ []) ≡ None }
+{}
+
+/// The words that serve a store: the port is 0 where it is left out. The store and the count have
+/// to be there.
+pub fn serve_lines()
+    ensures quiet { ServesAt [] 0 false }
+    ensures told { ServesAt (codes "--log" ∷ []) 0 true }
+    ensures quiet_at { ServesAtPort [] false }
+    ensures told_at { ServesAtPort (codes "--log" ∷ []) true }
+    ensures no_store { (count : Text) → is_plain count ≡ true
+        → line_in (codes "serve" ∷ codes "--count" ∷ count ∷ []) ≡ None }
+    ensures no_count { (file : Text) → is_plain file ≡ true
+        → line_in (codes "serve" ∷ codes "--store" ∷ file ∷ []) ≡ None }
 {}
 
 /// Words whose first is plain and names no command are no line.

@@ -1,4 +1,4 @@
-//! Lines: what the words of the program, or of a script's line, ask for. Nothing here knows the store.
+//! Lines: what the words of the program, or of a script's line, ask for. Nothing here has a store.
 #![tactic(auto)]
 
 mod app;
@@ -7,7 +7,7 @@ mod lines;
 
 pub use app::docs_command;
 pub use laws::{
-    get_lines, pass_lines, program_lines, project_lines, redirect_lines, rule_lines, stray_lines,
-    upload_lines, version_lines,
+    get_lines, init_lines, pass_lines, program_lines, project_lines, redirect_lines, rule_lines,
+    serve_lines, stray_lines, upload_lines, version_lines,
 };
 pub use lines::{Line, LineFault, Order, line_by, line_of};

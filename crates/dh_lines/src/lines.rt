@@ -24,16 +24,27 @@ pub enum Order {
         target: Text,
         pass: Option<Text>,
     },
+    /// To make a store in a file.
+    Init { file: Text },
     /// To run the lines of standard input.
     Script,
     /// To answer the request of standard input.
     Answer,
+    /// To answer so many connections at a port: any free one where it is 0.
+    Serve {
+        count: u32,
+        port: u16,
+        /// Whether each request is told.
+        log: bool,
+    },
 }
 
 /// A line.
 #[derive(Drop)]
 pub struct Line {
     pub order: Order,
+    /// The file of the records, where the line names one.
+    pub store: Option<Text>,
 }
 
 /// Why words gave no line.
@@ -57,7 +68,7 @@ impl From<AllocError> for LineFault {
     }
 }
 
-ghost use Rattle.std.specs.Prelude.{◌≡◌, ◌∷◌, [], IfOk, option_map, map, string_bytes};
+ghost use Rattle.std.specs.Prelude.{◌≡◌, ◌^◌, ◌∷◌, [], IfOk, option_map, map, string_bytes};
 ghost use Rattle.std.specs.Char.{is_ascii_digit};
 ghost use Rattle.std.specs.List.{list_all};
 ghost use Rattle.clap.specs.Walk.{first_of, rows_of};
@@ -69,11 +80,12 @@ ghost use Rattle.dh_lines.specs.Lines.{one_page as pages_of};
 ghost use Rattle.dh_lines.specs.Lines.{is_set, privacy_of, kind_of, new_project_in, add_lang_in};
 ghost use Rattle.dh_lines.specs.Lines.{push_in, upload_in, change_on, version_in, add_pass_in};
 ghost use Rattle.dh_lines.specs.Lines.{drop_pass_in, grant_in, revoke_in, access_in, change_in};
-ghost use Rattle.dh_lines.specs.Lines.{redirect_kind_of, place_of, status_of, place_in};
+ghost use Rattle.dh_lines.specs.Lines.{redirect_kind_of, number_in, place_in};
 ghost use Rattle.dh_lines.specs.Lines.{text_meant as meant_by, redirect_in, add_redirect_in};
 ghost use Rattle.dh_lines.specs.Lines.{drop_redirect_in, redirect_change_in, pattern_of, action_of};
 ghost use Rattle.dh_lines.specs.Lines.{rule_in, add_rule_in, drop_rule_in, rule_change_in};
-ghost use Rattle.dh_lines.specs.Lines.{command_in, get_in, order_of, line_in, Says, Matches};
+ghost use Rattle.dh_lines.specs.Lines.{command_in, get_in, init_in, count_in, port_in, serve_in};
+ghost use Rattle.dh_lines.specs.Lines.{order_in, named_line, line_with, line_in, Says, Matches};
 
 fn value<'a>(matches: &ArgMatches<'a>, id: &str) -> Option<&'a str>
     ensures { option_map (λ s. s.now) result ≡ first_of id.now (rows_of (found_of matches.now)) }
@@ -185,28 +197,28 @@ fn all_digits(text: &str) -> bool
     text.as_bytes().iter().all(|b| b.is_ascii_digit())
 }
 
-/// Digits alone: `parse` takes a plus as well.
-fn read_place(text: &str) -> Option<u32>
-    ensures { result ≡ place_of text.now }
+/// The number that digits alone write: `parse` takes a plus as well.
+fn read_u32(text: &str) -> Option<u32>
+    ensures { result ≡ number_in (2 ^ 32) text.now }
 {
     if !all_digits(text) {
         return None;
     }
     match text.parse::<u32>() {
-        Ok(place) => Some(place),
+        Ok(number) => Some(number),
         Err(_) => None,
     }
 }
 
-/// Digits alone, as of a place.
-fn read_status(text: &str) -> Option<u16>
-    ensures { result ≡ status_of text.now }
+/// The small number that digits alone write.
+fn read_u16(text: &str) -> Option<u16>
+    ensures { result ≡ number_in (2 ^ 16) text.now }
 {
     if !all_digits(text) {
         return None;
     }
     match text.parse::<u16>() {
-        Ok(status) => Some(status),
+        Ok(small) => Some(small),
         Err(_) => None,
     }
 }
@@ -360,7 +372,7 @@ fn place(alloc: Global, matches: &ArgMatches<'_>) -> Result<u32, LineFault>
     ensures { Says (place_in (rows_of (found_of matches.now))) result }
 {
     let place_word = word(alloc, matches, "place")?;
-    match read_place(place_word.as_str()) {
+    match read_u32(place_word.as_str()) {
         Some(place) => Ok(place),
         None => Err(LineFault::Usage),
     }
@@ -376,7 +388,7 @@ fn redirect(alloc: Global, matches: &ArgMatches<'_>) -> Result<Redirect, LineFau
     let Some(kind) = read_redirect_kind(kind_word.as_str()) else {
         return Err(LineFault::Usage);
     };
-    let Some(status) = read_status(status_word.as_str()) else {
+    let Some(status) = read_u16(status_word.as_str()) else {
         return Err(LineFault::Usage);
     };
     Ok(Redirect {
@@ -445,6 +457,45 @@ fn get(alloc: Global, matches: &ArgMatches<'_>) -> Result<Order, LineFault>
     let target = word(alloc, matches, "target")?;
     let pass = option_value(alloc, matches, "pass")?;
     Ok(Order::Get { host, target, pass })
+}
+
+fn init(alloc: Global, matches: &ArgMatches<'_>) -> Result<Order, LineFault>
+    ensures { Says (init_in (rows_of (found_of matches.now))) result }
+{
+    let file = word(alloc, matches, "file")?;
+    Ok(Order::Init { file })
+}
+
+fn count(matches: &ArgMatches<'_>) -> Option<u32>
+    ensures { result ≡ count_in (rows_of (found_of matches.now)) }
+{
+    match value(matches, "count") {
+        Some(text) => read_u32(text),
+        None => None,
+    }
+}
+
+/// The port, which is 0 where it is left out.
+fn port(matches: &ArgMatches<'_>) -> Option<u16>
+    ensures { result ≡ port_in (rows_of (found_of matches.now)) }
+{
+    match value(matches, "port") {
+        Some(text) => read_u16(text),
+        None => Some(0),
+    }
+}
+
+fn serve(matches: &ArgMatches<'_>) -> Result<Order, LineFault>
+    ensures { Says (serve_in (rows_of (found_of matches.now))) result }
+{
+    let Some(count) = count(matches) else {
+        return Err(LineFault::Usage);
+    };
+    let Some(port) = port(matches) else {
+        return Err(LineFault::Usage);
+    };
+    let log = has_flag(matches, "log");
+    Ok(Order::Serve { count, port, log })
 }
 
 /// A line on rules, or on one version.
@@ -516,18 +567,35 @@ fn command(alloc: Global, name: &str, matches: &ArgMatches<'_>) -> Result<Comman
     Ok(Command { host, change })
 }
 
-fn read_order(alloc: Global, matches: &ArgMatches<'_>) -> Result<Order, LineFault>
-    ensures { Says (order_of (subcommand_rows_of matches.now)) result }
+/// What a line of this name orders.
+fn read_order(alloc: Global, name: &str, matches: &ArgMatches<'_>) -> Result<Order, LineFault>
+    ensures { Says (order_in name.now (rows_of (found_of matches.now))) result }
 {
-    let (name, words) = match matches.subcommand() {
-        Some(found) => found,
-        None => return Err(LineFault::Usage),
-    };
     match name {
-        "get" => get(alloc, words),
+        "get" => get(alloc, matches),
         "script" => Ok(Order::Script),
         "answer" => Ok(Order::Answer),
-        _ => Ok(Order::Act(command(alloc, name, words)?)),
+        "init" => init(alloc, matches),
+        "serve" => serve(matches),
+        _ => Ok(Order::Act(command(alloc, name, matches)?)),
+    }
+}
+
+/// The line of this name.
+fn read_named(alloc: Global, name: &str, matches: &ArgMatches<'_>) -> Result<Line, LineFault>
+    ensures { Says (named_line name.now (rows_of (found_of matches.now))) result }
+{
+    let store = option_value(alloc, matches, "store")?;
+    let order = read_order(alloc, name, matches)?;
+    Ok(Line { order, store })
+}
+
+fn read_line(alloc: Global, matches: &ArgMatches<'_>) -> Result<Line, LineFault>
+    ensures { Says (line_with (subcommand_rows_of matches.now)) result }
+{
+    match matches.subcommand() {
+        Some((name, words)) => read_named(alloc, name, words),
+        None => Err(LineFault::Usage),
     }
 }
 
@@ -564,8 +632,7 @@ pub fn line_by<'a>(
     ensures stands { StandsFor docs_app program.new }
 {
     let matches = read_words(program, words)?;
-    let order = read_order(alloc, &matches)?;
-    Ok(Line { order })
+    read_line(alloc, &matches)
 }
 
 /// The line that the words are: the program's words without its own name, or those of a script's

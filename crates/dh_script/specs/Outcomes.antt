@@ -56,3 +56,10 @@ text_of_outcome (Applied answer) = text_of_answer answer
 text_of_outcome (Refused refusal) = text_of_refusal refusal
 text_of_outcome (Replied reply) = text_of_reply reply
 text_of_outcome (Failed fault) = text_of_fault fault
+
+-- whether the outcome is none that was asked for: a refusal or a failure
+abbrev pub is_refusal : Outcome → Bool
+is_refusal (Applied answer) = false
+is_refusal (Refused refusal) = true
+is_refusal (Replied reply) = false
+is_refusal (Failed fault) = true

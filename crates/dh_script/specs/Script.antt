@@ -15,7 +15,7 @@ use Rattle.dh_world.specs.declared.command.Command.{Command}
 use Rattle.dh_world.specs.declared.outcome.Outcome.{Outcome}
 use Rattle.dh_world.specs.declared.outcome.Outcome.TheVariants.{Applied, Refused, Replied, Failed}
 use Rattle.dh_world.specs.declared.refusal.Refusal.{Refusal}
-use Rattle.dh_script.specs.Outcomes.{text_of_outcome}
+use Rattle.dh_script.specs.Outcomes.{text_of_outcome, is_refusal}
 use Rattle.dh_lines.specs.declared.lines.Line.{Line}
 use Rattle.dh_lines.specs.declared.lines.Order.{Order}
 use Rattle.dh_lines.specs.declared.lines.Order.TheVariants as order
@@ -31,31 +31,56 @@ abbrev pub outcome_of_read : Result Reply Fault → Outcome
 outcome_of_read (Ok reply) = Replied reply
 outcome_of_read (Err fault) = Failed fault
 
--- a command is one step of the world, or is refused, or set aside; its outcome is printed
-abbrev pub Acts : World → Command → World → Text → Type 0
-Acts before c after text = (answer : Result Answer Refusal) × IsStep before after c answer × (text ≡ text_of_outcome (outcome_of answer))
+-- an outcome's text is printed, and whether it is a refusal is told
+abbrev pub Tells : Outcome → Text → Bool → Type 0
+Tells outcome text refused = (text ≡ text_of_outcome outcome) × (refused ≡ is_refusal outcome)
 
--- a read of a target that is none prints `bad target`; any other prints the outcome of the read
--- under the host named, whatever host the target gives: its reply is the definition's over what the
--- caller sees
-abbrev pub GetsAt : World → Text → Option Text → Option Target → Text → Type 0
-GetsAt w host pass None text = text ≡ codes "bad target"
-GetsAt w host pass (Some t) text =
+-- a command is one step of the world, or is refused, or set aside; its outcome is printed
+abbrev pub Acts : World → Command → World → Text → Bool → Type 0
+Acts before c after text refused =
+    (answer : Result Answer Refusal) × IsStep before after c answer
+    × Tells (outcome_of answer) text refused
+
+-- a read of a target that is none prints `bad target` and is refused; any other prints the outcome
+-- of the read under the host named, whatever host the target gives: its reply is the definition's
+-- over what the caller sees
+abbrev pub GetsAt : World → Text → Option Text → Option Target → Text → Bool → Type 0
+GetsAt w host pass None text refused = (text ≡ codes "bad target") × (refused ≡ true)
+GetsAt w host pass (Some t) text refused =
     (reply : Result Reply Fault)
     × IfOk reply (λ r. r ≡ reply_to (seen w (host_named host) (option_and_then pass_named pass)) t.path t.query)
-    × (text ≡ text_of_outcome (outcome_of_read reply))
+    × Tells (outcome_of_read reply) text refused
 
--- what a line does to the world, and prints; what is no line of a script prints `usage`, and
--- neither that nor a read changes the world
+-- an order that is none of a desk is refused
+abbrev pub IsUsage : Text → Bool → Type 0
+IsUsage text refused = (text ≡ codes "usage") × (refused ≡ true)
+
+-- what an order does to the world, what it prints, and whether it is refused; an order that is none
+-- of a desk prints `usage`, and neither that nor a read changes the world
+abbrev pub Performs : World → Order → World → Text → Bool → Type 0
+Performs before (order.Act c) after text refused = Acts before c after text refused
+Performs before (order.Get host target pass) after text refused =
+    (after ≡ before) × GetsAt before host pass (target_of target) text refused
+Performs before (order.Init file) after text refused = (after ≡ before) × IsUsage text refused
+Performs before order.Script after text refused = (after ≡ before) × IsUsage text refused
+Performs before order.Answer after text refused = (after ≡ before) × IsUsage text refused
+Performs before (order.Serve count port log) after text refused =
+    (after ≡ before) × IsUsage text refused
+
+-- and so, whether it is refused or not
 abbrev pub DoesOrder : World → Order → World → Text → Type 0
-DoesOrder before (order.Act c) after text = Acts before c after text
-DoesOrder before (order.Get host target pass) after text = (after ≡ before) × GetsAt before host pass (target_of target) text
-DoesOrder before order.Script after text = (after ≡ before) × (text ≡ codes "usage")
-DoesOrder before order.Answer after text = (after ≡ before) × (text ≡ codes "usage")
+DoesOrder before order after text = (refused : Bool) × Performs before order after text refused
 
+-- a line that names a store of its own is none of a script
+abbrev pub DoesOver : World → Option Text → Order → World → Text → Type 0
+DoesOver before None order after text = DoesOrder before order after text
+DoesOver before (Some file) order after text = (after ≡ before) × (text ≡ codes "usage")
+
+-- what a line of a script does to the world, and prints; what is none prints `usage`, and changes
+-- nothing
 abbrev pub Does : World → Option Line → World → Text → Type 0
 Does before None after text = (after ≡ before) × (text ≡ codes "usage")
-Does before (Some line) after text = DoesOrder before line.order after text
+Does before (Some line) after text = DoesOver before line.store line.order after text
 
 -- a line of this order was done, whatever it prints, or nothing was
 abbrev pub MayDoOrder : World → Order → World → Type 0

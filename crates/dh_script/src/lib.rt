@@ -1,10 +1,12 @@
-//! Scripts over a desk: how one is read, how its lines run, and what a line prints.
+//! Lines over a desk: what one does and prints, and how a whole script is read and run.
 #![tactic(auto)]
 
+mod orders;
 mod outcomes;
 mod reading;
 mod script;
 
+pub use orders::{Printed, is_bad_target, perform};
 pub use outcomes::outcome_text;
 pub use reading::ScriptFault;
 pub use script::run_script;

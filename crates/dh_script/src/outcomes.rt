@@ -5,6 +5,7 @@ ghost use Rattle.std.specs.Fmt.{decimal};
 ghost use Rattle.dh_script.specs.Outcomes.{active_text, hidden_text, private_text};
 ghost use Rattle.dh_script.specs.Outcomes.{text_of_properties, text_of_answer, text_of_refusal};
 ghost use Rattle.dh_script.specs.Outcomes.{text_of_reply, text_of_fault, text_of_outcome};
+ghost use Rattle.dh_script.specs.Outcomes.{is_refusal as refuses};
 
 use dh_paths::{Slug, Text};
 use dh_reply::{Fault, Reply};
@@ -148,5 +149,17 @@ pub fn outcome_text(alloc: Global, outcome: &Outcome) -> Result<String, AllocErr
         Outcome::Refused(refusal) => refusal_text(alloc, *refusal),
         Outcome::Replied(reply) => reply_text(alloc, reply),
         Outcome::Failed(fault) => String::from_str(alloc, fault_text(*fault)),
+    }
+}
+
+/// Whether it is none that was asked for: a refusal or a failure.
+pub fn is_refusal(outcome: &Outcome) -> bool
+    ensures { result ≡ refuses outcome.now }
+{
+    match outcome {
+        Outcome::Applied(_) => false,
+        Outcome::Refused(_) => true,
+        Outcome::Replied(_) => false,
+        Outcome::Failed(_) => true,
     }
 }

@@ -1,8 +1,7 @@
 //! Scripts: lines of commands and reads, one after another.
 
-ghost use Rattle.std.specs.Prelude.{◌≡◌, true, false, map, string_bytes, option_map, IfOk, IfErr};
+ghost use Rattle.std.specs.Prelude.{◌≡◌, true, false, map, string_bytes, Some, IfOk, IfErr};
 ghost use Rattle.std.specs.Prelude.{IfSome, OnOk, OnErr, [], ◌∷◌, ◌++◌};
-ghost use Rattle.dh_paths.specs.Targets.{target_of};
 ghost use Rattle.dh_ports.specs.Ports.{CountsUpTo};
 ghost use Rattle.dh_rows.specs.Calls.{IsHonest};
 ghost use Rattle.dh_desk.specs.Desk.{world};
@@ -11,114 +10,23 @@ ghost use Rattle.dh_lines.specs.App.{docs_app};
 ghost use Rattle.dh_lines.specs.Lines.{line_in};
 ghost use Rattle.dh_script.specs.Reading.{reader_failed, writer_failed, TookAtMost, IsCause};
 ghost use Rattle.dh_script.specs.Reading.{IsScript};
-ghost use Rattle.dh_script.specs.Script.{outcome_of, outcome_of_read, Acts, GetsAt, DoesOrder};
-ghost use Rattle.dh_lines.specs.declared.lines.Order.{Order};
-ghost use Rattle.dh_script.specs.Script.{Does, MayDo, MayDoOrder};
-ghost use Rattle.dh_script.specs.Running.{Ran, RanBut, RunsScript, seen, words_in, worded, lines_in};
+ghost use Rattle.dh_script.specs.Script.{DoesOrder, Does, MayDo, MayDoOrder};
+ghost use Rattle.dh_script.specs.Running.{Ran, RanBut, RunsScript, seen, words_in, worded};
+ghost use Rattle.dh_script.specs.Running.{lines_in};
 ghost use Rattle.dh_script.specs.Script.{is_unread};
 
-use crate::outcomes::outcome_text;
+use crate::orders::perform;
 use crate::reading::{ScriptFault, read_script};
 use dh_desk::Desk;
-use dh_lines::{LineFault, Order, docs_command, line_by};
-use dh_paths::{Target, Text, TextFault};
+use dh_lines::{Line, LineFault, Order, docs_command, line_by};
 use dh_ports::{Sink, Source, put_all};
-use dh_reply::{Fault, Read, Reply};
-use dh_world::{Answer, Command, Outcome, Refusal};
 use sqlite::Alter;
 use std::alloc::{AllocError, Global};
 
 /// The most lines that one program of words reads, since their words live as long as it.
 const BATCH: usize = 1024;
 
-fn commanded(answer: Result<Answer, Refusal>) -> Outcome
-    ensures { result ≡ outcome_of answer }
-{
-    match answer {
-        Ok(answer) => Outcome::Applied(answer),
-        Err(refusal) => Outcome::Refused(refusal),
-    }
-}
-
-fn read_out(reply: Result<Reply, Fault>) -> Outcome
-    ensures { result ≡ outcome_of_read reply }
-{
-    match reply {
-        Ok(reply) => Outcome::Replied(reply),
-        Err(fault) => Outcome::Failed(fault),
-    }
-}
-
-fn act_text<S: Alter>(
-    alloc: Global,
-    desk: &mut Desk<S>,
-    command: &Command,
-) -> Result<String, AllocError>
-    ensures acts { IsHonest S.Store desk.new.tables
-        → IfOk result (λ text. Acts (world S.Store desk.old) command.now
-        (world S.Store desk.new) (string_bytes text)) }
-    ensures acted { IsHonest S.Store desk.new.tables
-        → MayDoOrder (world S.Store desk.old) (Order.Act command.now) (world S.Store desk.new) }
-    ensures was { IsHonest S.Store desk.new.tables → IsHonest S.Store desk.old.tables }
-{
-    let outcome = commanded(desk.apply(alloc, command));
-    outcome_text(alloc, &outcome)
-}
-
-fn pass_text(pass: &Option<Text>) -> Option<&str>
-    ensures { option_map (λ text. text.now) result ≡ pass.now }
-{
-    match pass {
-        Some(pass) => Some(pass.as_str()),
-        None => None,
-    }
-}
-
-fn read_text<S: Alter>(
-    alloc: Global,
-    desk: &mut Desk<S>,
-    host: &Text,
-    pass: &Option<Text>,
-    target: Target,
-) -> Result<String, AllocError>
-    ensures gets { IsHonest S.Store desk.new.tables
-        → IfOk result (λ text. GetsAt (world S.Store desk.old) host.now pass.now (Some target)
-        (string_bytes text)) }
-    ensures same { IsHonest S.Store desk.new.tables
-        → world S.Store desk.new ≡ world S.Store desk.old }
-    ensures was { IsHonest S.Store desk.new.tables → IsHonest S.Store desk.old.tables }
-{
-    let Target {
-        host: _,
-        path,
-        query,
-    } = target;
-    let asked = Read { path, query };
-    let outcome = read_out(desk.read(alloc, host.as_str(), pass_text(pass), &asked));
-    outcome_text(alloc, &outcome)
-}
-
-fn get_text<S: Alter>(
-    alloc: Global,
-    desk: &mut Desk<S>,
-    host: &Text,
-    target: &Text,
-    pass: &Option<Text>,
-) -> Result<String, AllocError>
-    ensures gets { IsHonest S.Store desk.new.tables
-        → IfOk result (λ text. GetsAt (world S.Store desk.old) host.now pass.now
-        (target_of target.now) (string_bytes text)) }
-    ensures same { IsHonest S.Store desk.new.tables
-        → world S.Store desk.new ≡ world S.Store desk.old }
-    ensures was { IsHonest S.Store desk.new.tables → IsHonest S.Store desk.old.tables }
-{
-    match Target::read(alloc, target.as_str().as_bytes()) {
-        Ok(target) => read_text(alloc, desk, host, pass, target),
-        Err(TextFault::Memory) => Err(AllocError),
-        Err(_) => String::from_str(alloc, "bad target"),
-    }
-}
-
+/// What the line of an order prints.
 fn order_text<S: Alter>(
     alloc: Global,
     desk: &mut Desk<S>,
@@ -131,11 +39,22 @@ fn order_text<S: Alter>(
         → OnErr result (MayDoOrder (world S.Store desk.old) order.now (world S.Store desk.new)) }
     ensures was { IsHonest S.Store desk.new.tables → IsHonest S.Store desk.old.tables }
 {
-    match order {
-        Order::Act(command) => act_text(alloc, desk, command),
-        Order::Get { host, target, pass } => get_text(alloc, desk, host, target, pass),
-        Order::Script => String::from_str(alloc, "usage"),
-        Order::Answer => String::from_str(alloc, "usage"),
+    let printed = perform(alloc, desk, order)?;
+    Ok(printed.text)
+}
+
+/// Does what a line orders that names no store of its own.
+fn own_text<S: Alter>(alloc: Global, desk: &mut Desk<S>, line: &Line) -> Result<String, AllocError>
+    ensures does { IsHonest S.Store desk.new.tables
+        → IfOk result (λ text. Does (world S.Store desk.old) (Some line.now)
+        (world S.Store desk.new) (string_bytes text)) }
+    ensures may { IsHonest S.Store desk.new.tables
+        → OnErr result (MayDo (world S.Store desk.old) (Some line.now) (world S.Store desk.new)) }
+    ensures was { IsHonest S.Store desk.new.tables → IsHonest S.Store desk.old.tables }
+{
+    match &line.store {
+        Some(_) => String::from_str(alloc, "usage"),
+        None => order_text(alloc, desk, &line.order),
     }
 }
 
@@ -157,7 +76,7 @@ fn line_text<'a, S: Alter>(
     ensures was { IsHonest S.Store desk.new.tables → IsHonest S.Store desk.old.tables }
 {
     match line_by(alloc, program, words) {
-        Ok(line) => order_text(alloc, desk, &line.order),
+        Ok(line) => own_text(alloc, desk, &line),
         Err(LineFault::Usage) => String::from_str(alloc, "usage"),
         Err(LineFault::Memory) => Err(AllocError),
     }
@@ -301,7 +220,7 @@ fn run_lines<S: Alter, W: Sink>(
 /// bytes in at most 100,000 reads. A line ends with LF or CR LF, and the last may lack its end; its
 /// words stand between spaces and tabs. A line without words is passed over, and so is one that
 /// begins with `#`. Each other line writes one line: what came of its command or read, `bad target`
-/// for a read whose target is none, or `usage`.
+/// for a read whose target is none, or `usage`, also where it names a store.
 pub fn run_script<S: Alter, R: Source, W: Sink>(
     alloc: Global,
     desk: &mut Desk<S>,

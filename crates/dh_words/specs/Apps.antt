@@ -23,6 +23,10 @@ word_rule id = record (new_rule id) { required = true }
 abbrev pub option_rule : Text → Rule
 option_rule id = record (new_rule id) { long = Some id }
 
+-- `--id VALUE`, which has to be there
+abbrev pub required_option_rule : Text → Rule
+required_option_rule id = record (new_rule id) { long = Some id; required = true }
+
 -- `--id`
 abbrev pub flag_rule : Text → Rule
 flag_rule id = record (new_rule id) { long = Some id; action = Some SetTrue }

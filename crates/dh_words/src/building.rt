@@ -3,6 +3,7 @@
 ghost use Rattle.std.specs.Prelude.{IfOk};
 ghost use Rattle.clap.specs.Simple.{app_of, new_app, with_rule, with_subcommand};
 ghost use Rattle.dh_words.specs.Apps.{word_rule, option_rule, flag_rule, IsApp, HasNoGlobals};
+ghost use Rattle.dh_words.specs.Apps.{required_option_rule};
 
 use clap::{Arg, ArgAction, Command};
 use std::alloc::{AllocError, Global};
@@ -39,6 +40,21 @@ pub fn with_option<'a>(
     ensures { IfOk result (IsApp (with_rule (app_of command.entry) (option_rule id.entry.now))) }
 {
     command.arg(Arg::new(alloc, id).long(id).help(help))
+}
+
+/// `--id VALUE`, which has to be there.
+pub fn with_required_option<'a>(
+    alloc: Global,
+    command: Command<'a>,
+    id: &'a str,
+    help: &'a str,
+) -> Result<Command<'a>, AllocError>
+    requires { HasNoGlobals command }
+    ensures { IfOk result
+        (IsApp (with_rule (app_of command.entry) (required_option_rule id.entry.now))) }
+{
+    let option = Arg::new(alloc, id).long(id).required(true);
+    command.arg(option.help(help))
 }
 
 /// `--id`, which may be left out.

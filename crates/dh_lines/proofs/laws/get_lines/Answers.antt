@@ -13,15 +13,15 @@ returns c = record {
       form_line (codes "get")
       (chosen host ∷ chosen target ∷ [])
       get_app (Get host target None)
-      refl refl plain refl refl;
+      refl refl plain (refl, λ file. refl) (refl, λ file. refl);
   pass = λ host target pass plain.
       form_line (codes "get")
       (chosen host ∷ chosen target ∷ written (codes "--pass") ∷ chosen pass ∷ [])
       get_app (Get host target (Some pass))
-      refl refl plain refl refl;
+      refl refl plain (refl, λ file. refl) (refl, λ file. refl);
   pass_first = λ pass host target plain.
       form_line (codes "get")
       (written (codes "--pass") ∷ chosen pass ∷ chosen host ∷ chosen target ∷ [])
       get_app (Get host target (Some pass))
-      refl refl plain refl refl;
+      refl refl plain (refl, λ file. refl) (refl, λ file. refl);
 }

@@ -8,6 +8,8 @@ use Rattle.dh_lines.proofs.laws.program_lines.Goals as goal
 pub returns : goal.returns
 unfolding defaults_fault
 returns c = record {
-  script = form_line (codes "script") [] script_app Script refl refl tt refl refl;
-  answer = form_line (codes "answer") [] answer_app Answer refl refl tt refl refl;
+  script = form_line (codes "script") [] script_app Script refl refl tt (refl, λ file. refl)
+      (refl, λ file. refl);
+  answer = form_line (codes "answer") [] answer_app Answer refl refl tt (refl, λ file. refl)
+      (refl, λ file. refl);
 }

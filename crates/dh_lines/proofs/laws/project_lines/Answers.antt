@@ -16,25 +16,25 @@ returns c = record {
       form_line (codes "new-project")
       (chosen host ∷ chosen lang ∷ chosen branch ∷ written (codes "public") ∷ chosen wkey ∷ [])
       new_project_app (Act (asking host (NewProject lang branch false wkey)))
-      refl refl plain refl refl;
+      refl refl plain (refl, λ file. refl) (refl, λ file. refl);
   new_private = λ host lang branch wkey plain.
       form_line (codes "new-project")
       (chosen host ∷ chosen lang ∷ chosen branch ∷ written (codes "private") ∷ chosen wkey ∷ [])
       new_project_app (Act (asking host (NewProject lang branch true wkey)))
-      refl refl plain refl refl;
+      refl refl plain (refl, λ file. refl) (refl, λ file. refl);
   add_lang = λ host lang plain.
       form_line (codes "add-lang")
       (chosen host ∷ chosen lang ∷ [])
       add_lang_app (Act (asking host (AddLang lang)))
-      refl refl plain refl refl;
+      refl refl plain (refl, λ file. refl) (refl, λ file. refl);
   push_branch = λ host wkey key name plain.
       form_line (codes "push")
       (chosen host ∷ chosen wkey ∷ chosen key ∷ written (codes "branch") ∷ chosen name ∷ [])
       push_app (Act (asking host (Push wkey key Branch name)))
-      refl refl plain refl refl;
+      refl refl plain (refl, λ file. refl) (refl, λ file. refl);
   push_tag = λ host wkey key name plain.
       form_line (codes "push")
       (chosen host ∷ chosen wkey ∷ chosen key ∷ written (codes "tag") ∷ chosen name ∷ [])
       push_app (Act (asking host (Push wkey key Tag name)))
-      refl refl plain refl refl;
+      refl refl plain (refl, λ file. refl) (refl, λ file. refl);
 }

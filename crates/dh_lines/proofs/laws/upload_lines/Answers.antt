@@ -16,17 +16,17 @@ returns c = record {
       (chosen host ∷ chosen wkey ∷ chosen key ∷ chosen slug ∷ chosen lang ∷ chosen path
       ∷ chosen media ∷ chosen body ∷ [])
       upload_app (Act (asking host (Upload wkey key slug lang false (one_page path media body))))
-      refl refl plain refl refl;
+      refl refl plain (refl, λ file. refl) (refl, λ file. refl);
   replace = λ host wkey key slug lang path media body plain.
       form_line (codes "upload")
       (chosen host ∷ chosen wkey ∷ chosen key ∷ chosen slug ∷ chosen lang ∷ chosen path
       ∷ chosen media ∷ chosen body ∷ written (codes "--replace") ∷ [])
       upload_app (Act (asking host (Upload wkey key slug lang true (one_page path media body))))
-      refl refl plain refl refl;
+      refl refl plain (refl, λ file. refl) (refl, λ file. refl);
   replace_first = λ host wkey key slug lang path media body plain.
       form_line (codes "upload")
       (written (codes "--replace") ∷ chosen host ∷ chosen wkey ∷ chosen key ∷ chosen slug
       ∷ chosen lang ∷ chosen path ∷ chosen media ∷ chosen body ∷ [])
       upload_app (Act (asking host (Upload wkey key slug lang true (one_page path media body))))
-      refl refl plain refl refl;
+      refl refl plain (refl, λ file. refl) (refl, λ file. refl);
 }

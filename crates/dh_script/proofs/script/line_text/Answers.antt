@@ -6,4 +6,4 @@ use Rattle.dh_script.proofs.script.line_text.Goals as goal
 
 pub returns-in-Ok-clause-may : goal.returns-in-Ok-clause-may
 returns-in-Ok-clause-may g c = λ honest.
-    subst (λ (l : Option Line). OnErr c.order_text.result (MayDo (world g.S.Store c.args.desk.now) l (world g.S.Store c.order_text.new.desk))) (sym c.in-Ok.ensures.says) (c.order_text.ensures.may honest)
+    subst (λ (l : Option Line). OnErr c.own_text.result (MayDo (world g.S.Store c.args.desk.now) l (world g.S.Store c.own_text.new.desk))) (sym c.in-Ok.ensures.says) (c.own_text.ensures.may honest)

@@ -1,10 +1,8 @@
-use Rattle.std.proofs.Common.{subst, sym}
-use Rattle.dh_desk.specs.Desk.{world}
-use Rattle.dh_lines.specs.declared.lines.Order.{Order}
-use Rattle.dh_script.specs.Script.{MayDoOrder}
 use Rattle.dh_script.proofs.RunLemmas.{on_err}
 use Rattle.dh_script.proofs.script.order_text.Goals as goal
 
-pub returns-in-Act-clause-may : goal.returns-in-Act-clause-may
-returns-in-Act-clause-may g c = λ honest.
-    on_err c.act_text.result (subst (λ (o : Order). MayDoOrder (world g.S.Store c.args.desk.now) o (world g.S.Store c.act_text.new.desk)) (sym c.in-Act.is) (c.act_text.ensures.acted honest))
+pub returns-in_err-printed-clause-may : goal.returns-in_err-printed-clause-may
+returns-in_err-printed-clause-may g c = λ honest. on_err c.from_residual.result (c.in_err-printed.ensures.may honest)
+
+pub returns-clause-does : goal.returns-clause-does
+returns-clause-does g c = λ honest. (c.in_ok-printed.printed.refused, c.in_ok-printed.ensures.performs honest)

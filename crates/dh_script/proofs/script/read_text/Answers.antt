@@ -1,9 +1,0 @@
-use Rattle.std.proofs.Common.{string_bytes}
-use Rattle.dh_desk.specs.Desk.{world}
-use Rattle.dh_script.proofs.ScriptLemmas.{got}
-use Rattle.dh_script.proofs.script.read_text.Goals as goal
-
-pub returns-clause-gets : goal.returns-clause-gets
-returns-clause-gets g c = λ honest.
-    got string_bytes (world g.S.Store c.args.desk.now) c.as_str.result.now c.args.host.now _ c.args.pass.now c.args.target c.read.result c.read_out-outcome.result c.outcome_text.result
-    (c.read.ensures.value honest) c.as_str.ensures c.pass_text.ensures c.read_out-outcome.ensures c.outcome_text.ensures

@@ -1,0 +1,172 @@
+//! What one order does over a desk.
+
+ghost use Rattle.std.specs.Prelude.{◌≡◌, true, Some, string_bytes, option_map, IfOk, OnErr};
+ghost use Rattle.std.specs.Option.{is_none};
+ghost use Rattle.dh_paths.specs.Targets.{target_of};
+ghost use Rattle.dh_rows.specs.Calls.{IsHonest};
+ghost use Rattle.dh_desk.specs.Desk.{world};
+ghost use Rattle.dh_lines.specs.declared.lines.Order.{Order};
+ghost use Rattle.dh_script.specs.Script.{outcome_of, outcome_of_read, Tells, Acts, GetsAt};
+ghost use Rattle.dh_script.specs.Script.{Performs, MayDoOrder};
+
+use crate::outcomes::{is_refusal, outcome_text};
+use dh_desk::Desk;
+use dh_lines::Order;
+use dh_paths::{Target, Text, TextFault};
+use dh_reply::{Fault, Read, Reply};
+use dh_world::{Answer, Command, Outcome, Refusal};
+use sqlite::Alter;
+use std::alloc::{AllocError, Global};
+
+/// What an order prints.
+#[derive(Drop)]
+pub struct Printed {
+    /// Without the end of its line.
+    pub text: String,
+    /// Whether what was asked for was refused, or failed.
+    pub refused: bool,
+}
+
+fn commanded(answer: Result<Answer, Refusal>) -> Outcome
+    ensures { result ≡ outcome_of answer }
+{
+    match answer {
+        Ok(answer) => Outcome::Applied(answer),
+        Err(refusal) => Outcome::Refused(refusal),
+    }
+}
+
+fn read_out(reply: Result<Reply, Fault>) -> Outcome
+    ensures { result ≡ outcome_of_read reply }
+{
+    match reply {
+        Ok(reply) => Outcome::Replied(reply),
+        Err(fault) => Outcome::Failed(fault),
+    }
+}
+
+/// What is told of an outcome.
+fn told(alloc: Global, outcome: &Outcome) -> Result<Printed, AllocError>
+    ensures { IfOk result (λ p. Tells outcome.now (string_bytes p.text) p.refused) }
+{
+    let text = outcome_text(alloc, outcome)?;
+    let refused = is_refusal(outcome);
+    Ok(Printed { text, refused })
+}
+
+/// A refusal in these words.
+fn refusal(alloc: Global, text: &str) -> Result<Printed, AllocError>
+    ensures { IfOk result (λ p. (string_bytes p.text ≡ text.now) × (p.refused ≡ true)) }
+{
+    let text = String::from_str(alloc, text)?;
+    Ok(Printed {
+        text,
+        refused: true,
+    })
+}
+
+fn do_command<S: Alter>(
+    alloc: Global,
+    desk: &mut Desk<S>,
+    command: &Command,
+) -> Result<Printed, AllocError>
+    ensures acts { IsHonest S.Store desk.new.tables
+        → IfOk result (λ p. Acts (world S.Store desk.old) command.now
+        (world S.Store desk.new) (string_bytes p.text) p.refused) }
+    ensures acted { IsHonest S.Store desk.new.tables
+        → MayDoOrder (world S.Store desk.old) (Order.Act command.now) (world S.Store desk.new) }
+    ensures was { IsHonest S.Store desk.new.tables → IsHonest S.Store desk.old.tables }
+{
+    let outcome = commanded(desk.apply(alloc, command));
+    told(alloc, &outcome)
+}
+
+fn pass_text(pass: &Option<Text>) -> Option<&str>
+    ensures { option_map (λ text. text.now) result ≡ pass.now }
+{
+    match pass {
+        Some(pass) => Some(pass.as_str()),
+        None => None,
+    }
+}
+
+fn do_read<S: Alter>(
+    alloc: Global,
+    desk: &mut Desk<S>,
+    host: &Text,
+    pass: &Option<Text>,
+    target: Target,
+) -> Result<Printed, AllocError>
+    ensures gets { IsHonest S.Store desk.new.tables
+        → IfOk result (λ p. GetsAt (world S.Store desk.old) host.now pass.now (Some target)
+        (string_bytes p.text) p.refused) }
+    ensures same { IsHonest S.Store desk.new.tables
+        → world S.Store desk.new ≡ world S.Store desk.old }
+    ensures was { IsHonest S.Store desk.new.tables → IsHonest S.Store desk.old.tables }
+{
+    let Target {
+        host: _,
+        path,
+        query,
+    } = target;
+    let asked = Read { path, query };
+    let outcome = read_out(desk.read(alloc, host.as_str(), pass_text(pass), &asked));
+    told(alloc, &outcome)
+}
+
+fn do_get<S: Alter>(
+    alloc: Global,
+    desk: &mut Desk<S>,
+    host: &Text,
+    target: &Text,
+    pass: &Option<Text>,
+) -> Result<Printed, AllocError>
+    ensures gets { IsHonest S.Store desk.new.tables
+        → IfOk result (λ p. GetsAt (world S.Store desk.old) host.now pass.now
+        (target_of target.now) (string_bytes p.text) p.refused) }
+    ensures same { IsHonest S.Store desk.new.tables
+        → world S.Store desk.new ≡ world S.Store desk.old }
+    ensures was { IsHonest S.Store desk.new.tables → IsHonest S.Store desk.old.tables }
+{
+    match Target::read(alloc, target.as_str().as_bytes()) {
+        Ok(target) => do_read(alloc, desk, host, pass, target),
+        Err(TextFault::Memory) => Err(AllocError),
+        Err(_) => refusal(alloc, "bad target"),
+    }
+}
+
+/// Whether a target is none that can be read.
+pub fn is_bad_target(alloc: Global, target: &Text) -> Result<bool, AllocError>
+    ensures { IfOk result (λ bad. bad ≡ is_none (target_of target.now)) }
+{
+    match Target::read(alloc, target.as_str().as_bytes()) {
+        Ok(_) => Ok(false),
+        Err(TextFault::Memory) => Err(AllocError),
+        Err(_) => Ok(true),
+    }
+}
+
+/// Does what one order says over a desk: a command or a read. It is refused where its outcome is a
+/// refusal or a failure, where the target of a read is none (`bad target`), and where the order is
+/// neither (`usage`).
+pub fn perform<S: Alter>(
+    alloc: Global,
+    desk: &mut Desk<S>,
+    order: &Order,
+) -> Result<Printed, AllocError>
+    ensures performs { IsHonest S.Store desk.new.tables
+        → IfOk result (λ p. Performs (world S.Store desk.old) order.now
+        (world S.Store desk.new) (string_bytes p.text) p.refused) }
+    ensures may { IsHonest S.Store desk.new.tables
+        → OnErr result (MayDoOrder (world S.Store desk.old) order.now (world S.Store desk.new)) }
+    ensures was { IsHonest S.Store desk.new.tables → IsHonest S.Store desk.old.tables }
+{
+    match order {
+        Order::Act(command) => do_command(alloc, desk, command),
+        Order::Get { host, target, pass } => do_get(alloc, desk, host, target, pass),
+        Order::Init { .. } => refusal(alloc, "usage"),
+        Order::Script => refusal(alloc, "usage"),
+        Order::Answer => refusal(alloc, "usage"),
+        Order::Serve { .. } => refusal(alloc, "usage"),
+    }
+}
