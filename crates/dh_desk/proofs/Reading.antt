@@ -1,5 +1,5 @@
 -- A read after what stood open was undone.
-use Rattle.std.proofs.Common.{◌≡◌, ◌⊎◌, false, Result, Ok, Err, inl, inr, sym, ◌∙◌, true≢false}
+use Rattle.std.proofs.Common.{◌≡◌, ◌⊎◌, false, Result, inl, inr, sym, ◌∙◌, true≢false}
 use Rattle.std.proofs.lemmas.Bool.{cases_Bool}
 use Rattle.sqlite_trees.specs.declared.store.Store.{Ghosts}
 use Rattle.sqlite.specs.Held.{Held, state}

@@ -1,5 +1,5 @@
 -- A desk, and the world of its tables.
-use Rattle.std.specs.Prelude.{Bool, true, false, Option, Result, Ok, Err, refl}
+use Rattle.std.specs.Prelude.{Bool, true, false, Option, Result, Err, refl}
 use Rattle.std.specs.Option.{option_and_then}
 use Rattle.std.specs.Coded.{Coded, code_by, coded×, coded_bool}
 use Rattle.sqlite_trees.specs.declared.store.Store.{Ghosts}

@@ -13,6 +13,7 @@ ghost use Rattle.dh_view.specs.View.{Fails, Looks, shown};
 ghost use Rattle.dh_transactions.specs.Going.{last_records};
 ghost use Rattle.dh_world.specs.Reads.{host_named, pass_named};
 ghost use Rattle.dh_world.specs.Seen as caller;
+ghost use Rattle.dh_desk.specs.Desk.{reply_in, veil_of};
 
 use dh_paths::{HostName, TextFault, Token};
 use dh_reply::{Fault, Read, Reply, reply};
@@ -89,6 +90,10 @@ pub fn read<S: Alter>(
         (host_named host.now)
         (option_and_then pass_named (option_map (λ text. text.now) pass.entry)))
         asked.now.path asked.now.query) }
+    ensures veiled { IsHonest S.Store tables.new
+        → IfOk result (λ r. r ≡ reply_in (veil_of (world_of (last_records S.Store tables.old))
+        host.now (option_map (λ text. text.now) pass.entry))
+        host.now (option_map (λ text. text.now) pass.entry) asked.now) }
     ensures same { IsHonest S.Store tables.new
         → last_records S.Store tables.new ≡ last_records S.Store tables.old }
     ensures rests { IsHonest S.Store tables.new

@@ -1,4 +1,4 @@
-use Rattle.std.proofs.Common.{◌≡◌, true, inl, inr, refl}
+use Rattle.std.proofs.Common.{inl, inr, refl}
 use Rattle.sqlite_trees.specs.View.{doubt}
 use Rattle.dh_rows.proofs.Blameless.{blameless}
 use Rattle.dh_schema.proofs.CallLemmas.{on_store}
