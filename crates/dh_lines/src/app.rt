@@ -54,7 +54,7 @@ fn word_help(id: &str) -> &'static str {
         "from" => "The path that is led away, as /old/*, or none",
         "to" => "Where it is led, as /en/latest/:splat, or none",
         "pattern" => "Which names: all, semver, or re: and an expression, as re:^v[0-9]+$",
-        "file" => "The file that is made: none may be there by this name",
+        "file" => "The file that is made, as docs.db: none may be there by this name",
         "action" => "activate, hide, public, private or default: what becomes of a new version",
         "target" => "The path that is read, and its query, as /en/latest/?q=1",
         _ => "",
@@ -149,7 +149,7 @@ fn serve_command<'a>(alloc: Global) -> Result<Command<'a>, AllocError>
     let command = with_required_option(alloc, command, "count", count)?;
     let port = "The port, as 8080; any free one where this is left out, or 0";
     let command = with_option(alloc, command, "port", port)?;
-    with_flag(alloc, command, "log", "Tells each request on standard error")
+    with_flag(alloc, command, "log", "Prints a line for each request")
 }
 
 fn bare_command<'a>(alloc: Global) -> Command<'a>
@@ -329,14 +329,14 @@ const FORMS: [Form<'static>; 23] = [
     },
     Form {
         name: "script",
-        about: "Runs the lines of standard input, over no project where --store is left out",
+        about: "Runs the lines of standard input, over an empty store in memory without --store",
         example: "Example: docs_host script --store docs.db < lines.txt",
         ids: &[],
         more: More::Nothing,
     },
     Form {
         name: "answer",
-        about: "Answers one HTTP request from standard input, over a sample where --store is left out",
+        about: "Answers one HTTP request from standard input, over a sample without --store",
         example: "Example: docs_host answer --store docs.db < request.http",
         ids: &[],
         more: More::Nothing,
