@@ -15,20 +15,8 @@ type FileConnection<S> = Connection<FileStore<FileFrom<S>>>;
 /// A desk over the tables of a file.
 pub type FileDesk<S> = Desk<FileStore<FileFrom<S>>>;
 
-/// A file that was opened.
-#[derive(Drop)]
-pub struct OpenFile<S: Start> {
-    pub desk: FileDesk<S>,
-    /// How many projects it has.
-    pub projects: i64,
-}
-
 /// Connects to a file. A file that is made has a sum on each page.
-fn connect<S: Start>(
-    rt: &HostRuntime,
-    path: &str,
-    start: S,
-) -> Result<FileConnection<S>, FileFault>
+fn connect<S: Start>(rt: &HostRuntime, path: &str, start: S) -> Result<FileConnection<S>, FileFault>
     ensures { IfOk result (λ conn. conn.in_transaction ≡ false) }
 {
     match Connection::open_from(rt, path, true, start) {
@@ -75,31 +63,29 @@ fn count_projects<S: Alter>(conn: &mut Connection<S>) -> i64
     }
 }
 
-/// Opens the tables of a connection.
+/// Opens the tables of a connection, and counts the projects.
 fn open_tables<S: Start>(
     alloc: Global,
     conn: FileConnection<S>,
-) -> Result<OpenFile<S>, FileFault>
+) -> Result<(FileDesk<S>, i64), FileFault>
     requires { conn.in_transaction ≡ false }
 {
     let mut conn = conn;
     let projects = count_projects(&mut conn);
     match Tables::open(alloc, conn) {
-        Ok(tables) => Ok(OpenFile {
-            desk: Desk::over(tables),
-            projects,
-        }),
+        Ok(tables) => Ok((Desk::over(tables), projects)),
         Err((fault, _conn)) => Err(FileFault::from(fault)),
     }
 }
 
-/// Opens a file that `init_file` made. The whole file is read. No other program can open it until it is
-/// closed. It makes no file, and leaves one that it refuses as it is.
+/// Opens a file that `init_file` made, and tells how many projects it has. The whole file is read. No
+/// other program can open it until it is closed. It makes no file, and leaves one that it refuses as it
+/// is.
 pub fn open_desk<S: Start>(
     rt: &HostRuntime,
     path: &str,
     start: S,
-) -> Result<OpenFile<S>, FileFault> {
+) -> Result<(FileDesk<S>, i64), FileFault> {
     match look(rt, path)? {
         Found::Nothing => Err(FileFault::Missing),
         Found::Empty => Err(FileFault::Empty),

@@ -103,15 +103,16 @@ fits_more (chosen text ∷ ts) more first second = (first.0, fits_more ts more f
 pub form_line : (name : Text) (ts : List Token) (a : App) (order : Order)
     → IsCommand name (with_store a) → (stored a).name ≡ name → Fits ts → Passes a ts
     → Reads name a ts order → Orders (name ∷ map text_of ts) order
-form_line name ts a order found is fits passes reads =
-    (one_line name ts (with_store a) found is fits (as_line None order) passes.0 reads.0,
-    λ file plain.
-    let all = ts ++ naming file in
-    let all_fit = fits_more ts (naming file) fits (plain, tt) in
-    subst (λ (words : List Text). line_in (name ∷ words) ≡ Some (as_line (Some file) order))
-    (map-append text_of ts (naming file))
-    (one_line name all (with_store a) found is all_fit (as_line (Some file) order)
-    (passes.1 file) (reads.1 file)))
+form_line name ts a order found is fits passes reads = (
+  one_line name ts (with_store a) found is fits (as_line None order) passes.0 reads.0,
+  λ file plain.
+      let all = ts ++ naming file in
+      let all_fit = fits_more ts (naming file) fits (plain, tt) in
+      subst (λ (words : List Text). line_in (name ∷ words) ≡ Some (as_line (Some file) order))
+      (map-append text_of ts (naming file))
+      (one_line name all (with_store a) found is all_fit (as_line (Some file) order)
+      (passes.1 file) (reads.1 file)),
+)
 
 module _ (name : Text) where
   module _ (change : Text → CommandChange) where

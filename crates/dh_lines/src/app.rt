@@ -103,7 +103,12 @@ fn store_command<'a>(alloc: Global, form: &Form<'a>) -> Result<Command<'a>, Allo
     ensures { IfOk result (IsApp (store_app_of form.now)) }
 {
     let command = form_command(alloc, form)?;
-    with_option(alloc, command, "store", "The file of the records, which init made")
+    with_option(
+        alloc,
+        command,
+        "store",
+        "The file of the records, which init made",
+    )
 }
 
 /// A program that takes more forms, each with `--store`.

@@ -25,7 +25,9 @@ pub enum Order {
         pass: Option<Text>,
     },
     /// To make a store in a file.
-    Init { file: Text },
+    Init {
+        file: Text,
+    },
     /// To run the lines of standard input.
     Script,
     /// To answer the request of standard input.

@@ -35,8 +35,6 @@ fn tell_unread(rt: &HostRuntime, error: &io::Error) -> Status {
     tell_usage(&mut errors, "a word is not UTF-8")
 }
 
-/// The words stand for the whole run, so a torn write of the disk may leave each byte old or new, as
-/// under SQLite's `synchronous=FULL`.
 fn main(rt: HostRuntime) -> ExitCode {
     let words = match words_of(&rt) {
         Ok(words) => words,

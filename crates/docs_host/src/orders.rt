@@ -8,7 +8,7 @@ ghost use Rattle.dh_script.specs.Script.{MayDoOrder};
 ghost use Rattle.docs_host.specs.Single.{RunsSingle, status_of};
 
 use crate::failure::{Failure, Status};
-use crate::serving::serve;
+use crate::serving::{Served, serve};
 use dh_desk::Desk;
 use dh_http::answer;
 use dh_lines::Order;
@@ -31,7 +31,11 @@ pub fn say<W: Sink>(sink: &mut W, text: &str) -> Result<(), Failure>
 fn status_told(refused: bool) -> Status
     ensures { result ≡ status_of refused }
 {
-    if refused { Status::Refused } else { Status::Done }
+    if refused {
+        Status::Refused
+    } else {
+        Status::Done
+    }
 }
 
 /// Does a single command or read, and writes what came of it.
@@ -84,10 +88,11 @@ fn answer_request<S: Alter, R: Source, W: Sink>(
     Ok(Status::Done)
 }
 
-/// Does what is ordered over a desk.
+/// Does what is ordered over the desk of a file.
 pub fn run_order<S: Alter, R: Source, W: Sink, E: Sink>(
     rt: &HostRuntime,
     desk: &mut Desk<S>,
+    served: Served<'_>,
     order: &Order,
     source: &mut R,
     sink: &mut W,
@@ -100,7 +105,9 @@ pub fn run_order<S: Alter, R: Source, W: Sink, E: Sink>(
     match order {
         Order::Script => run_lines(rt.alloc(), desk, source, sink),
         Order::Answer => answer_request(rt.alloc(), desk, source, sink),
-        Order::Serve { count, port, log } => serve(rt, desk, *count, *port, *log, sink, errors),
+        Order::Serve { count, port, log } => {
+            serve(rt, desk, served, *count, *port, *log, sink, errors)
+        }
         Order::Act(_) | Order::Get { .. } | Order::Init { .. } => {
             run_single(rt.alloc(), desk, order, sink)
         }

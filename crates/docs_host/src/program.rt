@@ -2,10 +2,11 @@
 
 ghost use Rattle.std.specs.Prelude.{◌≡◌, ◌≤◌, false};
 
-use crate::failure::{Failure, Status, put, tell, tell_usage};
+use crate::failure::{Failure, Status, tell, tell_usage};
 use crate::orders::{run_lines, run_order, say};
+use crate::serving::Served;
 use crate::usage::{tell_help, tell_mistake};
-use dh_files::{OpenFile, close_desk, init_file, open_desk};
+use dh_files::{close_desk, init_file, open_desk};
 use dh_lines::{Line, LineFault, Order, line_of};
 use dh_ports::{Sink, Source};
 use dh_sample::{answer_sample, empty_desk};
@@ -18,19 +19,6 @@ fn has_bad_target(alloc: Global, order: &Order) -> Result<bool, AllocError> {
     match order {
         Order::Get { target, .. } => is_bad_target(alloc, target),
         _ => Ok(false),
-    }
-}
-
-/// Says which file is served.
-fn tell_served<E: Sink>(alloc: Global, order: &Order, file: &str, projects: i64, errors: &mut E) {
-    if let Order::Serve { .. } = order {
-        if let Ok(count) = format!(in alloc; "{projects}") {
-            put(errors, "docs_host: serving ");
-            put(errors, file);
-            put(errors, ", projects: ");
-            put(errors, count.as_str());
-            put(errors, "\n");
-        }
     }
 }
 
@@ -51,9 +39,9 @@ fn run_over<S: Start, R: Source, W: Sink, E: Sink>(
         say(sink, "bad target")?;
         return Ok(Status::Refused);
     }
-    let OpenFile { mut desk, projects } = open_desk(rt, file, start)?;
-    tell_served(rt.alloc(), order, file, projects, errors);
-    let ran = run_order(rt, &mut desk, order, source, sink, errors);
+    let (mut desk, projects) = open_desk(rt, file, start)?;
+    let served = Served { file, projects };
+    let ran = run_order(rt, &mut desk, served, order, source, sink, errors);
     let closed = close_desk(desk);
     let status = ran?;
     closed?;

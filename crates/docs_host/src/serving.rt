@@ -1,16 +1,34 @@
 //! The server.
 
 ghost use Rattle.std.specs.Prelude.{◌≡◌, false};
-
 ghost use Rattle.dh_rows.specs.Calls.{IsHonest};
 
-use crate::failure::{Failure, Status};
+use crate::failure::{Failure, Status, put};
 use crate::orders::say;
 use dh_desk::Desk;
-use dh_ports::Sink;
-use dh_server::serve_on;
+use dh_ports::{Port, Sink};
+use dh_server::{Log, serve_on};
 use sqlite::Alter;
+use std::alloc::Global;
 use std::net::{SocketAddr, TcpListener};
+
+/// The file that is served.
+#[derive(Clone, Copy)]
+pub struct Served<'a> {
+    pub file: &'a str,
+    pub projects: i64,
+}
+
+/// Says which file is served.
+fn tell_served<E: Sink>(alloc: Global, served: Served<'_>, errors: &mut E) {
+    if let Ok(projects) = format!(in alloc; "{}", served.projects) {
+        put(errors, "docs_host: serving ");
+        put(errors, served.file);
+        put(errors, ", projects: ");
+        put(errors, projects.as_str());
+        put(errors, "\n");
+    }
+}
 
 /// Binds a port of this machine, any free one for 0, and says which.
 fn bind<W: Sink>(rt: &HostRuntime, port: u16, sink: &mut W) -> Result<TcpListener, Failure>
@@ -29,10 +47,11 @@ fn bind<W: Sink>(rt: &HostRuntime, port: u16, sink: &mut W) -> Result<TcpListene
     Ok(listener)
 }
 
-/// Answers so many connections at a port, one request each.
+/// Answers so many connections at a port, one request each. The log goes to standard error itself.
 pub fn serve<S: Alter, W: Sink, E: Sink>(
     rt: &HostRuntime,
     desk: &mut Desk<S>,
+    served: Served<'_>,
     count: u32,
     port: u16,
     log: bool,
@@ -43,6 +62,13 @@ pub fn serve<S: Alter, W: Sink, E: Sink>(
     ensures was { IsHonest S.Store desk.new.tables → IsHonest S.Store desk.old.tables }
 {
     let listener = bind(rt, port, sink)?;
-    let _answered = serve_on(rt.alloc(), desk, &listener, count);
+    tell_served(rt.alloc(), served, errors);
+    let told = Port::new(rt.stderr());
+    let mut log = if log {
+        Log::new(rt, told)
+    } else {
+        Log::off(rt, told)
+    };
+    let _answered = serve_on(rt.alloc(), desk, &listener, count, &mut log);
     Ok(Status::Done)
 }

@@ -14,7 +14,10 @@ const LIMITED: [(&str, &str); 9] = [
     ("privacy", "public or private"),
     ("kind", "branch or tag"),
     ("place", "a number, from 1"),
-    ("redirect-kind", "page, exact, clean-to-html or html-to-clean"),
+    (
+        "redirect-kind",
+        "page, exact, clean-to-html or html-to-clean",
+    ),
     ("status", "301 or 302"),
     ("pattern", "all, semver, or re: and an expression"),
     ("action", "activate, hide, public, private or default"),

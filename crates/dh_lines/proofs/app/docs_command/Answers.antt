@@ -14,6 +14,9 @@ returns c =
     c.in_ok-with_init.ensures.0
     ∙ ap₂ (λ (a s : App). with_subcommand a s.top) lines c.in_ok-init_command.ensures.0 in
     IfOk-weaker c.with_command-2.result _ _
-    (λ r is. (is.0 ∙ ap₂ (λ (a s : App). with_subcommand a s.top) with_init
-    c.in_ok-serve_command.ensures.0, is.1))
+    (λ r is. (
+      is.0 ∙ ap₂ (λ (a s : App). with_subcommand a s.top) with_init
+          c.in_ok-serve_command.ensures.0,
+      is.1,
+    ))
     c.with_command-2.ensures

@@ -1,0 +1,19 @@
+use Rattle.std.proofs.Common.{◌≡◌, ◌+◌, if◌then◌else◌}
+use Rattle.dh_desk.specs.Desk.{world}
+use Rattle.dh_server.proofs.Stepping.{serves_next, steps_next, few_next, one_more, no_more}
+use Rattle.dh_server.proofs.serving.serve_on.Goals as goal
+use Rattle.dh_server.proofs.serving.serve_on.Goals.{then-serve_next, else-serve_next}
+
+pub loop-turn-preserved : goal.loop-turn-preserved
+loop-turn-preserved g c =
+    let done : c.if-serve_next.served ≡ c.loop-turn.served + (if c.serve_next.result then 1 else 0) =
+    elim c.if-serve_next.branch [
+      | then-serve_next w ↦ one_more c.loop-turn.served c.if-serve_next.served c.serve_next.result w.if-serve_next.true w.served-is
+      | else-serve_next w ↦ no_more c.loop-turn.served c.if-serve_next.served c.serve_next.result w.if-serve_next.false w.served-is
+    ] in
+    record {
+      few = few_next c.loop-turn._turn c.loop-turn.served c.if-serve_next.served c.serve_next.result c.loop-turn.invariant.few done;
+      serves = λ honest. serves_next c.loop-turn._turn (world g.S.Store c.args.desk.now) (world g.S.Store c.loop-turn.desk) (world g.S.Store c.serve_next.new.desk) c.loop-turn.served c.if-serve_next.served c.serve_next.result (c.loop-turn.invariant.serves (c.serve_next.ensures.was honest)) (c.serve_next.ensures.turn honest) done;
+      steps = λ honest. steps_next c.loop-turn._turn (world g.S.Store c.args.desk.now) (world g.S.Store c.loop-turn.desk) (world g.S.Store c.serve_next.new.desk) c.serve_next.result (c.loop-turn.invariant.steps (c.serve_next.ensures.was honest)) (c.serve_next.ensures.turn honest);
+      was = λ honest. c.loop-turn.invariant.was (c.serve_next.ensures.was honest);
+    }

@@ -1,0 +1,48 @@
+-- A line of the log.
+use Rattle.std.specs.Prelude.{ℕ, ◌+◌, ◌&&◌, Bool, List, [], ◌++◌, length, take, drop, map, position, Option, Some, None, Result, Ok, Err, codes, nat_eq, nat_le, if◌then◌else◌}
+use Rattle.std.specs.Fmt.{decimal}
+use Rattle.dh_http.specs.declared.fault.Done.{Done}
+use Rattle.dh_http.specs.declared.fault.EngineFault.{EngineFault}
+use Rattle.dh_http.specs.declared.fault.EngineFault.TheVariants as fault
+
+abbrev pub is_space : ℕ → Bool
+is_space byte = nat_eq byte 32
+
+-- visible ASCII stands for itself, and `?` for any other byte
+abbrev pub shown_byte : ℕ → ℕ
+shown_byte byte = if nat_le 33 byte && nat_le byte 126 then byte else 63
+
+-- a word as it is shown, `-` where there is none
+abbrev pub shown_word : List ℕ → List ℕ
+shown_word word = if nat_eq (length word) 0 then codes "-" else map shown_byte word
+
+-- what stands before the first space
+abbrev pub before_space : Option ℕ → List ℕ → List ℕ
+before_space None line = line
+before_space (Some at) line = take at line
+
+-- what stands behind it
+abbrev pub behind_space : Option ℕ → List ℕ → List ℕ
+behind_space None line = []
+behind_space (Some at) line = drop (at + 1) line
+
+abbrev pub first_word : List ℕ → List ℕ
+first_word line = before_space (position is_space line) line
+
+abbrev pub other_words : List ℕ → List ℕ
+other_words line = behind_space (position is_space line) line
+
+-- what came of a connection, the method and the target of its first line, how many bytes it took, and in how many microseconds
+abbrev pub log_line : List ℕ → List ℕ → ℕ → ℕ → List ℕ
+log_line told line bytes micros =
+    told ++ codes " " ++ shown_word (first_word line)
+    ++ codes " " ++ shown_word (first_word (other_words line))
+    ++ codes " " ++ decimal bytes ++ codes " " ++ decimal micros ++ codes "\n"
+
+-- what came of a connection, or of none
+abbrev pub told_as : Option (Result Done EngineFault) → List ℕ
+told_as None = codes "Accept"
+told_as (Some (Ok done)) = decimal done.status
+told_as (Some (Err fault.Read)) = codes "Read"
+told_as (Some (Err (fault.Write n))) = codes "Write"
+told_as (Some (Err fault.TooManyTurns)) = codes "TooManyTurns"

@@ -1,0 +1,98 @@
+//! A line of the log.
+
+ghost use Rattle.std.specs.Prelude.{◌≡◌, ◌++◌, map, position, codes, OnOk, IfOk};
+ghost use Rattle.std.specs.Fmt.{decimal};
+ghost use Rattle.dh_server.specs.Lines as spec;
+
+use std::alloc::{AllocError, Global};
+
+fn space(line: &[u8]) -> Option<usize>
+    ensures { result ≡ position spec.is_space line.now }
+{
+    line.iter().position(|b| *b == b' ')
+}
+
+fn first_word(line: &[u8]) -> &[u8]
+    ensures { result.now ≡ spec.first_word line.now }
+{
+    match space(line) {
+        Some(at) => &line[..at],
+        None => line,
+    }
+}
+
+fn other_words(line: &[u8]) -> &[u8]
+    ensures { result.now ≡ spec.other_words line.now }
+{
+    match space(line) {
+        Some(at) => &line[at + 1..],
+        None => &[],
+    }
+}
+
+fn shown_byte(byte: u8) -> u8
+    ensures { result ≡ spec.shown_byte byte }
+{
+    if matches!(byte, 0x21..=0x7E) {
+        byte
+    } else {
+        b'?'
+    }
+}
+
+fn put_shown(out: &mut Vec<u8>, word: &[u8]) -> Result<(), AllocError>
+    ensures { OnOk result (out.new.items ≡ out.old.items ++ map spec.shown_byte word.now) }
+{
+    for byte in word {
+        out.push(shown_byte(*byte))?;
+    }
+    Ok(())
+}
+
+fn put(out: &mut Vec<u8>, text: &str) -> Result<(), AllocError>
+    ensures { OnOk result (out.new.items ≡ out.old.items ++ text.now) }
+{
+    out.extend_from_slice(text.as_bytes())
+}
+
+/// A space and a word.
+fn put_word(out: &mut Vec<u8>, word: &[u8]) -> Result<(), AllocError>
+    ensures { OnOk result (out.new.items
+        ≡ out.old.items ++ codes " " ++ spec.shown_word word.now) }
+{
+    put(out, " ")?;
+    if word.is_empty() {
+        put(out, "-")
+    } else {
+        put_shown(out, word)
+    }
+}
+
+/// A space and a number.
+fn put_number(alloc: Global, out: &mut Vec<u8>, number: u64) -> Result<(), AllocError>
+    ensures { OnOk result (out.new.items ≡ out.old.items ++ codes " " ++ decimal number) }
+{
+    put(out, " ")?;
+    put(out, format!(in alloc; "{number}")?.as_str())
+}
+
+/// The line for a connection whose request began with that line.
+pub fn log_line(
+    alloc: Global,
+    told: &str,
+    line: &[u8],
+    bytes: u64,
+    micros: u64,
+) -> Result<Vec<u8>, AllocError>
+    ensures { IfOk result (λ text. text.items
+        ≡ spec.log_line told.now line.now bytes micros) }
+{
+    let mut out = Vec::new(alloc);
+    put(&mut out, told)?;
+    put_word(&mut out, first_word(line))?;
+    put_word(&mut out, first_word(other_words(line)))?;
+    put_number(alloc, &mut out, bytes)?;
+    put_number(alloc, &mut out, micros)?;
+    put(&mut out, "\n")?;
+    Ok(out)
+}

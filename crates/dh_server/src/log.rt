@@ -1,0 +1,122 @@
+//! A line for each connection.
+
+ghost use Rattle.std.specs.Prelude.{◌≡◌, IfOk, string_bytes};
+ghost use Rattle.dh_server.specs.Lines.{told_as, log_line};
+
+use crate::first_line::FirstLine;
+use crate::line::log_line;
+use dh_http::{Done, EngineFault};
+use dh_ports::{Sink, put_all};
+use std::alloc::{AllocError, Global};
+use std::time::{Clock, Instant};
+
+/// Where the lines go to, and the clock for their last figure; or nothing is told.
+///
+/// A line is `STATUS METHOD TARGET BYTES MICROSECONDS`. In place of the status stands the fault of a connection without a whole
+/// reply, and `Accept` where there was none to answer. The bytes are those that the connection took. In method and target a byte
+/// that is no visible ASCII is a `?`, and of the request's line only the first 2,048 bytes are looked at. A line for which there
+/// is no memory, or which the sink does not take, is lost, and after that sink's fault each line.
+#[derive(Drop)]
+pub struct Log<T, L> {
+    clock: T,
+    sink: L,
+    is_on: bool,
+}
+
+/// The first word of a line.
+fn told_text(
+    alloc: Global,
+    outcome: Option<Result<Done, EngineFault>>,
+) -> Result<String, AllocError>
+    ensures { IfOk result (λ text. string_bytes text ≡ told_as outcome) }
+{
+    match outcome {
+        Some(Ok(done)) => format!(in alloc; "{}", done.status),
+        Some(Err(EngineFault::Read)) => String::from_str(alloc, "Read"),
+        Some(Err(EngineFault::Write(_))) => String::from_str(alloc, "Write"),
+        Some(Err(EngineFault::TooManyTurns)) => String::from_str(alloc, "TooManyTurns"),
+        None => String::from_str(alloc, "Accept"),
+    }
+}
+
+/// The line for a connection.
+fn line_text(
+    alloc: Global,
+    outcome: Option<Result<Done, EngineFault>>,
+    line: &[u8],
+    bytes: u64,
+    micros: u64,
+) -> Result<Vec<u8>, AllocError>
+    ensures { IfOk result (λ text. text.items
+        ≡ log_line (told_as outcome) line.now bytes micros) }
+{
+    let told = told_text(alloc, outcome)?;
+    log_line(alloc, told.as_str(), line, bytes, micros)
+}
+
+impl<T: Clock + Copy, L: Sink> Log<T, L> {
+    /// A log that tells each connection.
+    pub fn new(clock: T, sink: L) -> Log<T, L> {
+        Log {
+            clock,
+            sink,
+            is_on: true,
+        }
+    }
+
+    /// A log that tells nothing, and asks neither the clock nor the sink.
+    pub fn off(clock: T, sink: L) -> Log<T, L> {
+        Log {
+            clock,
+            sink,
+            is_on: false,
+        }
+    }
+
+    /// Where the lines go to.
+    pub fn sink(&self) -> &L {
+        &self.sink
+    }
+
+    /// The clock.
+    pub fn clock(&self) -> T {
+        self.clock
+    }
+
+    /// The time, where it is wanted and the clock tells it.
+    pub fn start(&self) -> Option<Instant> {
+        if self.is_on {
+            Instant::now(&self.clock).ok()
+        } else {
+            None
+        }
+    }
+
+    fn micros_since(&self, start: Option<Instant>) -> u64 {
+        match start {
+            Some(start) => match start.elapsed(&self.clock) {
+                Ok(time) => u64::try_from(time.as_micros()).unwrap_or(u64::MAX),
+                Err(_) => 0,
+            },
+            None => 0,
+        }
+    }
+
+    /// Tells a connection.
+    pub fn tell(
+        &mut self,
+        alloc: Global,
+        outcome: Option<Result<Done, EngineFault>>,
+        line: &FirstLine,
+        bytes: u64,
+        start: Option<Instant>,
+    ) {
+        if !self.is_on || self.sink.failed() {
+            return;
+        }
+        let micros = self.micros_since(start);
+        if let Ok(text) = line_text(alloc, outcome, line.as_slice(), bytes, micros) {
+            let _ = put_all(&mut self.sink, text.as_slice());
+        }
+    }
+}

@@ -1,0 +1,136 @@
+//! Connections, one after another.
+
+ghost use Rattle.std.specs.Prelude.{◌≡◌, ◌≤◌, true, false, drop, is_ok};
+ghost use Rattle.std.specs.Io.KnownBytes.{append_known};
+ghost use Rattle.dh_rows.specs.Calls.{IsHonest};
+ghost use Rattle.dh_desk.specs.Desk.{world};
+ghost use Rattle.dh_http.specs.Answers as spec;
+ghost use Rattle.dh_server.specs.Serving.{Answers, Turn, Serves, Steps};
+
+use crate::counted::Counted;
+use crate::first_line::{FirstLine, Heard};
+use crate::joined::Joined;
+use crate::log::Log;
+use crate::stream::{next_stream, read_out};
+use crate::timed::Timed;
+use dh_desk::Desk;
+use dh_http::{Done, EngineFault, answer};
+use dh_ports::{Port, Sink, Source};
+use sqlite::Alter;
+use std::alloc::Global;
+use std::net::{TcpListener, TcpStream};
+use std::time::Clock;
+
+/// How many seconds reading and writing may take.
+const MOST_SECONDS: u64 = 60;
+
+/// Answers one request, and hands on what the sink kept. The count of a `Write` is of bytes that the sink took, of which it may
+/// not have handed on all.
+pub fn answer_joined<S: Alter, R: Source, W: Sink>(
+    alloc: Global,
+    desk: &mut Desk<S>,
+    source: &mut R,
+    sink: &mut Joined<W>,
+) -> Result<Done, EngineFault>
+    requires reader { R.broken source.old ≡ false }
+    requires writer { W.broken sink.old.inner ≡ false }
+    ensures answers { IsHonest S.Store desk.new.tables → Answers (R.left source.old)
+        (append_known (W.held sink.old.inner) (drop sink.old.gone sink.old.kept.items))
+        (W.held sink.new.inner)
+        (world S.Store desk.old) (world S.Store desk.new) result }
+    ensures unread { spec.is_unread result ≡ true
+        → (desk.new ≡ desk.old) × (sink.new ≡ sink.old) }
+    ensures was { IsHonest S.Store desk.new.tables → IsHonest S.Store desk.old.tables }
+    ensures reader_fault { R.broken source.new ≡ spec.reader_failed result }
+    ensures writer_fault { W.broken sink.new.inner ≡ spec.writer_failed result }
+{
+    let done = answer(alloc, desk, source, sink)?;
+    match sink.hand_on() {
+        Ok(()) => Ok(done),
+        Err(count) => Err(EngineFault::Write(count)),
+    }
+}
+
+/// Answers the request of a connection, and tells it.
+fn answer_stream<S: Alter, T: Clock + Copy, L: Sink>(
+    alloc: Global,
+    desk: &mut Desk<S>,
+    stream: &TcpStream,
+    log: &mut Log<T, L>,
+) -> Result<Done, EngineFault>
+    ensures turn { IsHonest S.Store desk.new.tables → Turn
+        (world S.Store desk.old) (world S.Store desk.new) (is_ok result) }
+    ensures was { IsHonest S.Store desk.new.tables → IsHonest S.Store desk.old.tables }
+{
+    let start = log.start();
+    let mut source = Heard::new(
+        alloc,
+        Timed::new(log.clock(), MOST_SECONDS, Port::new(stream)),
+    );
+    let port = Timed::new(log.clock(), MOST_SECONDS, Port::new(stream));
+    let mut sink = Joined::new(alloc, Counted::new(port));
+    let result = answer_joined(alloc, desk, &mut source, &mut sink);
+    log.tell(
+        alloc,
+        Some(result),
+        source.line(),
+        sink.inner().count(),
+        start,
+    );
+    result
+}
+
+/// Whether input may be left unread behind a reply: where the request was refused by its head.
+fn leaves_input(answered: Result<Done, EngineFault>) -> bool {
+    match answered {
+        Ok(done) => matches!(done.status, 400 | 405 | 411 | 413 | 431),
+        Err(_) => false,
+    }
+}
+
+/// Answers the next connection, and says whether a whole reply was handed to it.
+fn serve_next<S: Alter, T: Clock + Copy, L: Sink>(
+    alloc: Global,
+    desk: &mut Desk<S>,
+    listener: &TcpListener,
+    log: &mut Log<T, L>,
+) -> bool
+    ensures turn { IsHonest S.Store desk.new.tables → Turn
+        (world S.Store desk.old) (world S.Store desk.new) result }
+    ensures was { IsHonest S.Store desk.new.tables → IsHonest S.Store desk.old.tables }
+{
+    let Some(stream) = next_stream(listener) else {
+        log.tell(alloc, None, &FirstLine::new(alloc), 0, None);
+        return false;
+    };
+    let result = answer_stream(alloc, desk, &stream, log);
+    if leaves_input(result) {
+        read_out(&stream);
+    }
+    result.is_ok()
+}
+
+/// Accepts so many connections, one after another, and answers one request on each. It answers how many of them were handed a
+/// whole reply.
+pub fn serve_on<S: Alter, T: Clock + Copy, L: Sink>(
+    alloc: Global,
+    desk: &mut Desk<S>,
+    listener: &TcpListener,
+    count: u32,
+    log: &mut Log<T, L>,
+) -> u32
+    ensures few { result ≤ count }
+    ensures serves { IsHonest S.Store desk.new.tables → Serves count
+        (world S.Store desk.old) (world S.Store desk.new) result }
+    ensures steps { IsHonest S.Store desk.new.tables → Steps count
+        (world S.Store desk.old) (world S.Store desk.new) }
+    ensures was { IsHonest S.Store desk.new.tables → IsHonest S.Store desk.old.tables }
+{
+    let mut served = 0;
+    for _turn in 0..count {
+        if serve_next(alloc, desk, listener, log) {
+            served += 1;
+        }
+    }
+    served
+}

@@ -1,0 +1,43 @@
+//! Clients in the test's own thread: what they send waits until the server answers it. The helpers have no clause here, so that
+//! their calls stay out of a test's proof.
+
+mod handed;
+mod logs;
+mod streams;
+
+use dh_ports::Port;
+use dh_sample::sample_desk;
+use dh_server::{Log, serve_on};
+use std::io;
+use std::io::Write;
+use std::net::{Ipv4Addr, SocketAddr, TcpListener, TcpStream};
+use std::test::Fail;
+
+/// A request for a page of the sample, and the reply to it.
+const INSTALL: &str = "GET /en/latest/install.html HTTP/1.1\r\nHost: docs.test\r\n\r\n";
+
+const PAGE: &str =
+    "HTTP/1.1 200 OK\r\nContent-Type: text/html; charset=utf-8\r\nContent-Length: 17\r\nConnection: close\r\n\r\n<h1>Install</h1>\n";
+
+fn listen(rt: &HostRuntime) -> Result<TcpListener, Fail> {
+    Ok(TcpListener::bind(rt, SocketAddr::from((Ipv4Addr::LOCALHOST, 0)))?)
+}
+
+/// A client that has sent this much.
+fn client(rt: &HostRuntime, listener: &TcpListener, text: &str) -> Result<TcpStream, Fail> {
+    let mut stream = TcpStream::connect(rt, listener.local_addr()?)?;
+    stream.write_all(text.as_bytes())?;
+    Ok(stream)
+}
+
+/// What came to a client, up to the end of the stream.
+fn received(rt: &HostRuntime, stream: TcpStream) -> Result<String, Fail> {
+    Ok(io::read_to_string(rt.alloc(), stream)?)
+}
+
+/// How many of so many connections were handed a whole reply, by a desk of its own.
+fn serve(rt: &HostRuntime, listener: &TcpListener, count: u32) -> Result<u32, Fail> {
+    let mut desk = sample_desk(rt.alloc())?;
+    let mut log = Log::off(rt, Port::new(rt.stderr()));
+    Ok(serve_on(rt.alloc(), &mut desk, listener, count, &mut log))
+}

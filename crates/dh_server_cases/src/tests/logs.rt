@@ -1,0 +1,101 @@
+//! The line for each connection.
+
+use super::{INSTALL, PAGE, client, listen, received};
+use dh_ports::{Failed, Port, Sink};
+use dh_sample::sample_desk;
+use dh_server::{Log, serve_on};
+use std::io;
+use std::net::Shutdown;
+use std::test::Fail;
+use std::time::{Clock, Duration};
+
+/// A clock that stands still.
+#[derive(Clone, Copy)]
+struct Still;
+
+impl Clock for Still {
+    fn monotonic(&self) -> io::Result<Duration> {
+        Ok(Duration::from_secs(7))
+    }
+
+    fn since_1970(&self) -> io::Result<Duration> {
+        Ok(Duration::from_secs(7))
+    }
+}
+
+/// What is told of a client that sends this much and no more.
+fn told(rt: &HostRuntime, text: &str) -> Result<String, Fail> {
+    let listener = listen(rt)?;
+    let client = client(rt, &listener, text)?;
+    client.shutdown(Shutdown::Write)?;
+    let mut desk = sample_desk(rt.alloc())?;
+    let mut out = Vec::new(rt.alloc());
+    let mut log = Log::new(Still, Port::new(&mut out));
+    let _ = serve_on(rt.alloc(), &mut desk, &listener, 1, &mut log);
+    drop(log);
+    let text = str::from_utf8(out.as_slice()).unwrap_or("no text");
+    Ok(String::from_str(rt.alloc(), text)?)
+}
+
+#[test]
+fn a_line_is_told(rt: HostRuntime) -> Result<(), Fail> {
+    assert_eq!(rt;
+        told(&rt, INSTALL)?.as_str(),
+        "200 GET /en/latest/install.html 115 0\n"
+    );
+    Ok(())
+}
+
+#[test]
+fn a_strange_line_is_shown_as_text(rt: HostRuntime) -> Result<(), Fail> {
+    assert_eq!(rt;
+        told(&rt, "G\u{1b}T /\u{e9}\t HTTP/1.1\r\n\r\n")?.as_str(),
+        "400 G?T /??? 124 0\n"
+    );
+    Ok(())
+}
+
+#[test]
+fn no_line_is_told_by_a_hyphen(rt: HostRuntime) -> Result<(), Fail> {
+    assert_eq!(rt; told(&rt, "")?.as_str(), "400 - - 124 0\n");
+    Ok(())
+}
+
+/// A sink that takes nothing.
+#[derive(Drop)]
+struct Full {
+    stopped: bool,
+}
+
+impl Sink for Full {
+    ghost use Rattle.std.specs.Prelude.{None};
+
+    ghost held = { λ _. None };
+
+    ghost broken = { λ full. full.stopped };
+
+    fn put(&mut self, _piece: &[u8]) -> Result<usize, Failed> {
+        self.stopped = true;
+        Err(Failed)
+    }
+
+    fn failed(&self) -> bool {
+        self.stopped
+    }
+}
+
+fn full_log_does_not_stop_it(rt: &HostRuntime) -> Result<bool, Fail> {
+    let listener = listen(rt)?;
+    let one = client(rt, &listener, INSTALL)?;
+    let other = client(rt, &listener, INSTALL)?;
+    let mut desk = sample_desk(rt.alloc())?;
+    let mut log = Log::new(Still, Full { stopped: false });
+    let served = serve_on(rt.alloc(), &mut desk, &listener, 2, &mut log);
+    Ok(served == 2 && received(rt, one)?.as_str() == PAGE && received(rt, other)?.as_str() == PAGE)
+}
+
+#[test]
+fn a_full_log_does_not_stop_it(rt: HostRuntime) -> Result<(), Fail> {
+    assert!(rt; full_log_does_not_stop_it(&rt)?);
+    Ok(())
+}

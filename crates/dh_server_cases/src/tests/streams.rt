@@ -1,0 +1,67 @@
+//! Good clients and others.
+
+use super::{INSTALL, PAGE, client, listen, received, serve};
+use std::io::Write;
+use std::net::Shutdown;
+use std::test::Fail;
+
+fn page_is_served(rt: &HostRuntime) -> Result<bool, Fail> {
+    let listener = listen(rt)?;
+    let good = client(rt, &listener, INSTALL)?;
+    let served = serve(rt, &listener, 1)?;
+    Ok(served == 1 && received(rt, good)?.as_str() == PAGE)
+}
+
+#[test]
+fn a_page_is_served(rt: HostRuntime) -> Result<(), Fail> {
+    assert!(rt; page_is_served(&rt)?);
+    Ok(())
+}
+
+/// One client closes at once, one stops after half a head, and the third one is good.
+fn others_do_not_stop_it(rt: &HostRuntime) -> Result<bool, Fail> {
+    let listener = listen(rt)?;
+    drop(client(rt, &listener, "")?);
+    let half = client(rt, &listener, "GET /en/latest/install.html HTTP/1.1\r\nHo")?;
+    half.shutdown(Shutdown::Write)?;
+    let good = client(rt, &listener, INSTALL)?;
+    let served = serve(rt, &listener, 3)?;
+    let refused = received(rt, half)?;
+    Ok(
+        served >= 2
+            && refused.as_str().starts_with("HTTP/1.1 400 Bad Request\r\n")
+            && received(rt, good)?.as_str() == PAGE,
+    )
+}
+
+#[test]
+fn bad_clients_do_not_stop_it(rt: HostRuntime) -> Result<(), Fail> {
+    assert!(rt; others_do_not_stop_it(&rt)?);
+    Ok(())
+}
+
+/// The body of a refused request waits unread, and the reply comes whole all the same.
+fn refusal_comes_whole(rt: &HostRuntime) -> Result<bool, Fail> {
+    let listener = listen(rt)?;
+    let head = "POST /_/upload HTTP/1.1\r\nHost: docs.test\r\nContent-Length: 9999999\r\n\r\n";
+    let large = client(rt, &listener, head)?;
+    (&large).write_all(&[b'x'; 9000])?;
+    large.shutdown(Shutdown::Write)?;
+    let served = serve(rt, &listener, 1)?;
+    let refused = received(rt, large)?;
+    Ok(served == 1 && refused.as_str().starts_with("HTTP/1.1 413 "))
+}
+
+#[test]
+fn a_refusal_comes_whole(rt: HostRuntime) -> Result<(), Fail> {
+    assert!(rt; refusal_comes_whole(&rt)?);
+    Ok(())
+}
+
+/// Nobody is waited for.
+#[test]
+fn no_connection_ends_at_once(rt: HostRuntime) -> Result<(), Fail> {
+    let listener = listen(&rt)?;
+    assert_eq!(rt; serve(&rt, &listener, 0)?, 0);
+    Ok(())
+}
