@@ -1,5 +1,5 @@
 -- Runs of lines, one after another.
-use Rattle.std.proofs.Common.{◌≡◌, ◌⊎◌, IfSome, Some, None, is_err, is_ok, Bool, true, false, if◌then◌else◌, length-append, ℕ, ◌+◌, ◌<◌, ◌≤◌, List, [], ◌∷◌, ◌++◌, map, length, take, drop, get_or, refl, sym, ap, subst, ◌∙◌, inl, inr, append_assoc, Option, Result, Ok, Err, OnErr, IfOk, string_bytes, arith, filter}
+use Rattle.std.proofs.Common.{◌≡◌, IfSome, Some, None, is_err, is_ok, Bool, true, false, if◌then◌else◌, length-append, ℕ, ◌+◌, ◌<◌, ◌≤◌, List, [], ◌∷◌, ◌++◌, map, length, take, drop, get_or, refl, sym, ap, subst, ◌∙◌, inl, inr, append_assoc, Option, Result, Ok, Err, OnErr, string_bytes, arith, filter}
 use Rattle.std.proofs.lemmas.List.{append-nil, take-append-drop, take_more, map-append, take_all, length-map}
 use Rattle.std.proofs.lemmas.List.Elements.{filter-append}
 use Rattle.std.proofs.KnownBytes.{Appends-nil, Appends-trans}
@@ -9,7 +9,7 @@ use Rattle.dh_world.specs.World.{Text, World}
 use Rattle.dh_lines.specs.Lines.{line_in}
 use Rattle.dh_ports.specs.Ports.{PutsFirst}
 use Rattle.dh_script.specs.Script.{Does, MayDo}
-use Rattle.dh_script.specs.Running.{Runs, RunsInto, RunsSome, StopsAt, Ran, RunsBut, RanBut, RunsScript, lines_in, seen, worded, words_in, is_filled, is_gap}
+use Rattle.dh_script.specs.Running.{Runs, RunsInto, RunsSome, StopsAt, Ran, RunsBut, RunsScript, lines_in, seen, worded, words_in, is_filled}
 
 -- two runs, one after the other, are a run
 pub runs_on : (before : World) (xs : List (List Text)) (between : World) (text : Text) (ys : List (List Text)) (after : World) (rest : Text)

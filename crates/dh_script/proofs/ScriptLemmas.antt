@@ -1,6 +1,6 @@
 -- Lines of a script.
-use Rattle.std.proofs.Common.{◌≡◌, Option, Some, Result, IfOk, option_and_then, Bool}
-use Rattle.std.proofs.Common.{subst}
+use Rattle.std.proofs.Common.{◌≡◌, inl, inr, Option, Some, None, Result, Ok, Err, IfOk, OnErr}
+use Rattle.std.proofs.Common.{option_and_then, Bool, sym, subst}
 use Rattle.std.proofs.lemmas.Result.{IfOk-weaker}
 use Rattle.dh_paths.specs.declared.target.Target.{Target}
 use Rattle.dh_reply.specs.Replies.{reply_to}
@@ -10,7 +10,8 @@ use Rattle.dh_world.specs.World.{Text, World}
 use Rattle.dh_world.specs.Seen.{seen}
 use Rattle.dh_world.specs.Reads.{host_named, pass_named}
 use Rattle.dh_world.specs.declared.outcome.Outcome.{Outcome}
-use Rattle.dh_script.specs.Script.{outcome_of_read, Tells, GetsAt}
+use Rattle.dh_lines.specs.declared.lines.Line.{Line}
+use Rattle.dh_script.specs.Script.{outcome_of_read, Tells, GetsAt, DoesOver, MayDo, MayDoOrder}
 
 -- what is told of a read's outcome, whose reply is the definition's
 pub got : {P E : Type 0} (text_in : P → Text) (refused_in : P → Bool) (w : World) (named host : Text) (shown pass : Option Text) (t : Target) (reply : Result Reply Fault) (outcome : Outcome) (result : Result P E)
@@ -21,3 +22,11 @@ got text_in refused_in w named host shown pass t reply outcome result value same
     let by_host = subst (λ (h : Text). IfOk reply (λ r. r ≡ reply_to (seen w (host_named h) (option_and_then pass_named shown)) t.path t.query)) same_host value in
     let by_pass = subst (λ (p : Option Text). IfOk reply (λ r. r ≡ reply_to (seen w (host_named host) (option_and_then pass_named p)) t.path t.query)) same_pass by_host in
     IfOk-weaker result _ _ (λ p is. (reply, by_pass, subst (λ (o : Outcome). Tells o (text_in p) (refused_in p)) same is)) told
+
+-- a line that names no store may do what its order may
+pub may_line : {T E : Type 0} (before after : World) (line : Line) (r : Result T E) → line.store ≡ None
+    → OnErr r (MayDoOrder before line.order after) → OnErr r (MayDo before (Some line) after)
+may_line before after line (Ok value) none may = tt
+may_line before after line (Err e) none (inl same) = inl same
+may_line before after line (Err e) none (inr did) =
+    inr (did.0, subst (λ s. DoesOver before s line.order after did.0) (sym none) did.1)

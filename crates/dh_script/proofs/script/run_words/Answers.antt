@@ -1,6 +1,5 @@
-use Rattle.std.proofs.Common.{◌≡◌, ◌∷◌, [], ◌++◌, List, ℕ, inr, subst, map, string_bytes, arith}
+use Rattle.std.proofs.Common.{◌≡◌, ◌∷◌, [], ◌++◌, List, ℕ, inr, subst, string_bytes, arith}
 use Rattle.std.specs.Io.KnownBytes.{Appends}
-use Rattle.dh_desk.specs.Desk.{world}
 use Rattle.dh_ports.specs.Ports.{PutsFirst}
 use Rattle.dh_script.proofs.RunLemmas.{some_lost, some_front, into_one, pushed}
 use Rattle.dh_script.proofs.script.run_words.Goals as goal

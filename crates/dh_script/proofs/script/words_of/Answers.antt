@@ -1,4 +1,4 @@
-use Rattle.std.proofs.Common.{◌≡◌, ◌∙◌, [], ap, sym, map, filter, string_bytes, arith}
+use Rattle.std.proofs.Common.{◌∙◌, ap, sym, map, filter, string_bytes, arith}
 use Rattle.std.proofs.lemmas.Iterator.Consumers.{YieldsList-end}
 use Rattle.dh_script.specs.Running.{is_filled}
 use Rattle.dh_script.proofs.WordLemmas.{comment_words, line_words, YieldsList-from_gaps}
