@@ -53,7 +53,7 @@ def read_reply(data):
 class Server:
     """`docs_host serve`, from when it listens; the lines of its standard error go to a file."""
 
-    def __init__(self, program, store, count, errors, words=()):
+    def __init__(self, program, store, count, errors, words=(), before=None):
         self.errors = Path(errors)
         start = time.monotonic()
         with open(errors, "wb") as told:
@@ -62,6 +62,8 @@ class Server:
                 stdin=subprocess.DEVNULL,
                 stdout=subprocess.PIPE,
                 stderr=told,
+                preexec_fn=before,
+                restore_signals=before is None,
             )
         self.line = self.first_line()
         self.seconds_to_listen = time.monotonic() - start
