@@ -110,11 +110,9 @@ class Server:
         self.kill()
 
 
-def run(program, *words, **more):
-    """One run of the program; its outputs are texts."""
-    return subprocess.run(
-        [program, *words], stdin=subprocess.DEVNULL, capture_output=True, encoding="utf-8", timeout=TIME_LIMIT, **more
-    )
+def run(program, *words, stdin=""):
+    """One run of the program; its input and its outputs are texts."""
+    return subprocess.run([program, *words], input=stdin, capture_output=True, encoding="utf-8", timeout=TIME_LIMIT)
 
 
 def command(program, store, line):
