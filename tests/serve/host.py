@@ -86,6 +86,14 @@ class Server:
     def told(self):
         return self.errors.read_text(errors="replace")
 
+    def told_at_last(self):
+        """What is told once no more comes: the line of a connection is told after its client has its reply."""
+        told, before = self.told(), None
+        while told != before:
+            time.sleep(0.5)
+            told, before = self.told(), told
+        return told
+
     def get(self, target, host):
         return read_reply(ask(self.port, get_bytes(target, host)))
 
