@@ -12,8 +12,8 @@ from pathlib import Path
 ROOT = Path(__file__).resolve().parent.parent.parent
 BUILT = ROOT / "crates" / "docs_host" / "out" / "docs_host"
 
-# Seconds for one command, for a server until it listens, and for one reply.
-TIME_LIMIT = 60
+# Seconds for one command, for a server until it listens, and for one reply, which may have to wait a minute.
+TIME_LIMIT = 90
 
 
 class Broken(Exception):
