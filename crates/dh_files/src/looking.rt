@@ -3,7 +3,7 @@
 
 use crate::fault::FileFault;
 use std::alloc::Global;
-use std::fs::{self, File};
+use std::fs::{self, OpenOptions};
 use std::io::{self, Read};
 
 /// The first bytes of each SQLite database.
@@ -32,9 +32,9 @@ fn has_log(rt: &HostRuntime, path: &str) -> Result<bool, FileFault> {
     }
 }
 
-/// Whether a file begins as a database does.
+/// Whether a file begins as a database does. It has to be one that may be read and written.
 fn begins_as_database(rt: &HostRuntime, path: &str) -> Result<bool, FileFault> {
-    let mut file = File::open(rt, path)?;
+    let mut file = OpenOptions::new().read(true).write(true).open(rt, path)?;
     let mut first = [0u8; 16];
     match file.read_exact(&mut first) {
         Ok(()) => Ok(first == FIRST),
@@ -56,16 +56,13 @@ pub fn look(rt: &HostRuntime, path: &str) -> Result<Found, FileFault> {
     if !about.is_file() {
         return Err(FileFault::Unopened);
     }
-    if has_log(rt, path)? {
+    let is_database = begins_as_database(rt, path)?;
+    if is_database || has_log(rt, path)? {
         return Ok(Found::Database);
     }
     // (the store leaves one byte where it was stopped while it made a file)
     if about.len() < 2 {
         return Ok(Found::Empty);
     }
-    if begins_as_database(rt, path)? {
-        Ok(Found::Database)
-    } else {
-        Ok(Found::Other)
-    }
+    Ok(Found::Other)
 }
