@@ -1,9 +1,7 @@
 /* Preloaded before a program: refuses one allocation of it.
  *
- * FAIL_AT=K    the Kth call of malloc or realloc, counted from 1, gives no memory;
- *              without it, or at 0, none is refused.
- * FAIL_MARK=N  counting starts at a malloc of exactly N bytes, and ends at the next of
- *              that size; the two are not counted. Without it all calls count.
+ * FAIL_AT=K  the Kth call of malloc or realloc, counted from 1, gives no memory;
+ *            without it, or at 0, none is refused.
  *
  * Each refusal is told by a line on standard error. */
 #define _GNU_SOURCE
@@ -15,8 +13,8 @@
 
 static void *(*next_malloc)(size_t);
 static void *(*next_realloc)(void *, size_t);
-static unsigned long fail_at, mark, counted;
-static int ready, counting;
+static unsigned long fail_at, counted;
+static int ready;
 
 static unsigned long number(const char *name) {
     const char *text = getenv(name);
@@ -29,14 +27,12 @@ static void prepare(void) {
     next_malloc = (void *(*)(size_t))dlsym(RTLD_NEXT, "malloc");
     next_realloc = (void *(*)(void *, size_t))dlsym(RTLD_NEXT, "realloc");
     fail_at = number("FAIL_AT");
-    mark = number("FAIL_MARK");
-    counting = mark == 0;
 }
 
 static int refused(size_t size) {
     char line[96];
     int length;
-    if (!counting || ++counted != fail_at) return 0;
+    if (++counted != fail_at) return 0;
     length = snprintf(line, sizeof line, "failing_alloc: refused call %lu, of %zu bytes\n", counted, size);
     if (length > 0 && write(2, line, (size_t)length) < 0) _exit(99);
     return 1;
@@ -44,10 +40,6 @@ static int refused(size_t size) {
 
 void *malloc(size_t size) {
     prepare();
-    if (mark != 0 && size == mark) {
-        counting = !counting;
-        return next_malloc(size);
-    }
     return refused(size) ? NULL : next_malloc(size);
 }
 

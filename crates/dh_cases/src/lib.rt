@@ -1,4 +1,4 @@
-//! Tests of the crates up to the reply, by examples; nothing else stands here.
+//! Tests of what no input of the program shows of the crates below the desk; nothing else stands here.
 #![tactic(auto)]
 
 #[cfg(test)]

@@ -1,4 +1,4 @@
-//! Tests of requests and their bodies, by examples; nothing else stands here.
+//! Requests from sources of our own; nothing else stands here.
 #![tactic(auto)]
 
 #[cfg(test)]

@@ -1,4 +1,130 @@
-//! A file for each crate.
+//! What no input of the program can show: requests that come in pieces, and sources that fail between two of them.
 
-mod bodies;
-mod requests;
+use dh_ports::{Failed, Source};
+use dh_requests::*;
+use dh_world::CommandChange;
+use std::test::Fail;
+
+/// A source over memory, in pieces, which fails after so many calls.
+#[derive(Drop)]
+struct Pieces<'a> {
+    rest: &'a [u8],
+    piece: usize,
+    calls: usize,
+    stopped: bool,
+}
+
+impl<'a> Source for Pieces<'a> {
+    ghost use Rattle.std.specs.Prelude.{Some};
+
+    ghost left = { λ s. Some s.rest.now };
+
+    ghost broken = { λ s. s.stopped };
+
+    fn fill(&mut self, room: &mut [u8]) -> Result<usize, Failed> {
+        if self.calls == 0 {
+            self.stopped = true;
+            return Err(Failed);
+        }
+        self.calls -= 1;
+        let count = self.piece.max(1).min(room.len()).min(self.rest.len());
+        let (front, rest) = self.rest.split_at(count);
+        room[..count].copy_from_slice(front);
+        self.rest = rest;
+        Ok(count)
+    }
+
+    fn failed(&self) -> bool {
+        self.stopped
+    }
+}
+
+/// Whether this path is read, or a branch or a tag of this name is pushed.
+fn is_for(request: &Request, wanted: &str) -> bool {
+    match request {
+        Request::Read { read, .. } => read.path.as_str() == wanted,
+        Request::Apply { command } => match &command.change {
+            CommandChange::Push { name, .. } => name.as_str() == wanted,
+            _ => false,
+        },
+        Request::Refused { .. } => false,
+    }
+}
+
+/// Whether the input asks for this, in pieces of so many bytes, of a source that fails after so many calls.
+fn asks(
+    rt: &HostRuntime,
+    input: &[u8],
+    piece: usize,
+    calls: usize,
+    wanted: &str,
+) -> Result<bool, Stop> {
+    let mut source = Pieces {
+        rest: input,
+        piece,
+        calls,
+        stopped: false,
+    };
+    let request = read_request(rt.alloc(), &mut source)?;
+    Ok(is_for(&request, wanted))
+}
+
+/// A head of 57 bytes, and bytes behind it.
+const READ: &[u8] =
+    b"GET /en/latest/install.html HTTP/1.1\r\nHost: docs.test\r\n\r\nbehind the head";
+
+/// A head of 80 bytes, and a body of 39.
+const PUSH: &[u8] =
+    b"POST /_/push HTTP/1.1\r\nHost: docs.test\r\nDocs-Key: wkey-1\r\nContent-Length: 39\r\n\r\n{\"key\":\"k1\",\"kind\":\"tag\",\"ref\":\"1.0.0\"}";
+
+/// In pieces of any size a request is known after the reads that it needs: one more would fail.
+#[test]
+fn no_read_behind_a_request(rt: HostRuntime) -> Result<(), Fail> {
+    for (piece, reads) in [(1, 57), (7, 9), (16, 4), (19, 3), (56, 2), (57, 1)] {
+        assert!(rt;
+            asks(&rt, READ, piece, reads, "/en/latest/install.html")?,
+            "{piece}"
+        );
+    }
+    for (piece, reads) in [(1, 119), (7, 17), (16, 8), (80, 2), (118, 2), (119, 1)] {
+        assert!(rt; asks(&rt, PUSH, piece, reads, "1.0.0")?, "{piece}");
+    }
+    Ok(())
+}
+
+/// Of the 12 reads of 10 bytes that the push needs, 8 bring its head.
+#[test]
+fn a_read_that_fails(rt: HostRuntime) -> Result<(), Fail> {
+    for reads in 0..12 {
+        assert_eq!(rt;
+            asks(&rt, PUSH, 10, reads, "1.0.0"),
+            Err(Stop::Read),
+            "{reads}"
+        );
+    }
+    Ok(())
+}
+
+/// A head of 83 bytes, for a body of 99,917.
+const LONG_HEAD: &str =
+    "POST /_/push HTTP/1.1\r\nHost: docs.test\r\nDocs-Key: wkey-1\r\nContent-Length: 99917\r\n\r\n";
+
+/// A push of 100,000 bytes, most of them spaces behind the object; and what stands before it.
+fn long_push(rt: &HostRuntime, before: &str) -> Result<String, Fail> {
+    let mut input = String::from_str(rt.alloc(), before)?;
+    input.push_str(LONG_HEAD)?;
+    input.push_str(r#"{"key":"k1","kind":"tag","ref":"1.0.0"}"#)?;
+    input.push_str(" ".repeat(rt.alloc(), 99_878)?.as_str())?;
+    Ok(input)
+}
+
+/// 100,000 reads bring a byte each, and no more are made: an empty line in front is one byte too many.
+#[test]
+fn many_reads(rt: HostRuntime) -> Result<(), Fail> {
+    let most = long_push(&rt, "")?;
+    assert!(rt; asks(&rt, most.as_bytes(), 1, 100_000, "1.0.0")?);
+    let more = long_push(&rt, "\n")?;
+    let asked = asks(&rt, more.as_bytes(), 1, 100_000, "1.0.0");
+    assert_eq!(rt; asked, Err(Stop::TooManyTurns));
+    Ok(())
+}

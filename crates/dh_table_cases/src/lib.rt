@@ -1,4 +1,4 @@
-//! Tests of the tables alone: what is ours when it is opened.
+//! Tests of the tables alone: what is ours when it is opened, and calls that no input of the program makes.
 #![tactic(auto)]
 
 #[cfg(test)]

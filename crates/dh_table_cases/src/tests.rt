@@ -1,1 +1,4 @@
+//! A file for each subject.
+
+mod calls;
 mod opening;

@@ -1,4 +1,4 @@
-//! What 100,000 reads bring, of a source that counts; and a sink that stops.
+//! What 100,000 reads bring, of a source that counts.
 
 use dh_ports::*;
 use std::test::Fail;
