@@ -91,16 +91,24 @@ fn version_of(alloc: Global, push: &CheckedPush, fresh: &Fresh) -> Result<Versio
     })
 }
 
-/// The answer of a push that made this version.
-fn made_answer(alloc: Global, version: &Version) -> Result<Answer, AllocError>
-    ensures { IfOk result (λ answer. answer ≡ made version.now) }
+/// The answer of a push that made a version, as the rules left it.
+fn made_answer(alloc: Global, push: &CheckedPush, fresh: &Fresh) -> Result<Answer, AllocError>
+    ensures { IfOk result (λ answer. answer ≡ made (spec.version_of push.now.slug fresh.now)) }
 {
     Ok(Answer::Made {
-        slug: version.slug.try_copy(alloc)?,
-        active: version.active,
-        hidden: version.hidden,
-        private: version.private,
+        slug: push.slug.try_copy(alloc)?,
+        active: fresh.active,
+        hidden: fresh.hidden,
+        private: fresh.private,
     })
+}
+
+/// The answer of a push whose branch or tag was known.
+fn known_answer(alloc: Global, push: &CheckedPush) -> Result<Answer, AllocError>
+    ensures { IfOk result (λ answer. answer ≡ Answer.Known push.now.slug) }
+{
+    let slug = push.slug.try_copy(alloc)?;
+    Ok(Answer::Known { slug })
 }
 
 /// The answer is the first one to the push's retry key.
@@ -138,6 +146,23 @@ fn choose<'c>(
     Ok(())
 }
 
+/// The edits of a branch or tag that makes this version.
+fn edits_made<'c>(
+    alloc: Global,
+    push: &CheckedPush,
+    fresh: &Fresh,
+    defaults: Vec<Slug>,
+) -> Result<Vec<Edit<'c>>, AllocError>
+    ensures { IfOk result (λ edits.
+        edits.items ≡ (plan_made push.now defaults.items fresh.now).edits) }
+{
+    let mut edits = Vec::new(alloc);
+    edits.push(Edit::PutVersion(version_of(alloc, push, fresh)?))?;
+    choose(alloc, &mut edits, fresh.chosen, &push.slug, defaults)?;
+    edits.push(answer_first(alloc, push, made_answer(alloc, push, fresh)?)?)?;
+    Ok(edits)
+}
+
 /// The branch or tag makes this version.
 fn make<'c>(
     alloc: Global,
@@ -147,13 +172,8 @@ fn make<'c>(
 ) -> Result<Plan<'c>, AllocError>
     ensures { IfOk result (λ plan. plan ≡ plan_made push.now defaults.items fresh.now) }
 {
-    let version = version_of(alloc, push, fresh)?;
-    let first = answer_first(alloc, push, made_answer(alloc, &version)?)?;
-    let answer = made_answer(alloc, &version)?;
-    let mut edits = Vec::new(alloc);
-    edits.push(Edit::PutVersion(version))?;
-    choose(alloc, &mut edits, fresh.chosen, &push.slug, defaults)?;
-    edits.push(first)?;
+    let answer = made_answer(alloc, push, fresh)?;
+    let edits = edits_made(alloc, push, fresh, defaults)?;
     Ok(Plan { edits, answer })
 }
 
@@ -175,10 +195,9 @@ fn make_new<'c>(
 fn know<'c>(alloc: Global, push: &CheckedPush) -> Result<Plan<'c>, Refusal>
     ensures { Makes (plan_known push.now) result }
 {
-    let slug = push.slug.try_copy(alloc)?;
-    let first = answer_first(alloc, push, Answer::Known { slug })?;
-    let slug = push.slug.try_copy(alloc)?;
-    Ok(Plan::one(alloc, first, Answer::Known { slug })?)
+    let answer = known_answer(alloc, push)?;
+    let first = answer_first(alloc, push, known_answer(alloc, push)?)?;
+    Ok(Plan::one(alloc, first, answer)?)
 }
 
 /// A push: a retry key that was used gives its first answer; a branch or tag is known, or makes a
