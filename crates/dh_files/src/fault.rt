@@ -1,5 +1,8 @@
 //! What is wrong with a file.
 
+ghost use Rattle.std.specs.Prelude.{◌≡◌};
+ghost use Rattle.dh_files.specs.Faults.{name_of, fault_of, fault_of_error};
+
 use dh_tables::TablesFault;
 use sqlite::{Error, ErrorCode};
 use std::io;
@@ -36,8 +39,10 @@ pub enum FileFault {
 }
 
 impl FileFault {
-    /// The fault's name for scripts: `NotOurs`, `Store` or `Memory`.
-    pub fn name(self) -> &'static str {
+    /// The name that programs read: `NotOurs`, `Store` or `Memory`.
+    pub fn name(self) -> &'static str
+        ensures { result.now ≡ name_of self }
+    {
         match self {
             FileFault::Taken | FileFault::NotOurs => "NotOurs",
             FileFault::Memory => "Memory",
@@ -79,6 +84,8 @@ impl FileFault {
 }
 
 impl From<Error> for FileFault {
+    ghost from_gives = { λ error file. file ≡ fault_of_error error };
+
     fn from(error: Error) -> FileFault {
         match error {
             Error::SqliteFailure(ErrorCode::NotADatabase) => FileFault::NoDatabase,
@@ -93,6 +100,8 @@ impl From<Error> for FileFault {
 }
 
 impl From<TablesFault> for FileFault {
+    ghost from_gives = { λ fault file. file ≡ fault_of fault };
+
     fn from(fault: TablesFault) -> FileFault {
         match fault {
             TablesFault::NotOurs => FileFault::NotOurs,

@@ -1,1 +1,3 @@
-pub mod Single
+pub mod Ends
+pub mod Failures
+pub mod Orders

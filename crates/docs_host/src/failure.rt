@@ -1,6 +1,10 @@
 //! How the program ends, and how it tells why.
 
-ghost use Rattle.std.specs.Prelude.{◌≤◌};
+ghost use Rattle.std.specs.Prelude.{◌≡◌};
+ghost use Rattle.docs_host.specs.Ends.{exit_code, status_after};
+ghost use Rattle.docs_host.specs.Failures as spec;
+ghost use Rattle.docs_host.specs.Failures.{failure_of, failure_of_sample};
+ghost use Rattle.docs_host.specs.declared.failure.Failure.TheVariants.{File, Memory, Script, Request};
 
 use dh_files::FileFault;
 use dh_http::EngineFault;
@@ -14,11 +18,12 @@ use std::alloc::AllocError;
 #[derive(Clone, Copy, Debug, PartialEq, Eq)]
 pub enum Status {
     Done,
-    /// A single command was refused, or failed.
+    /// A single command was refused, or failed, or its target was bad.
     Refused,
     /// A mistake in the words.
     Usage,
-    /// A fault of a store, a file, a script, a port or an output, or no memory for what no reply tells.
+    /// A fault of a store, a file, a script, a port or an output; or memory was out where no reply and no
+    /// line says so.
     Faulty,
     /// A request got no whole reply.
     Unanswered,
@@ -26,8 +31,8 @@ pub enum Status {
 
 impl Status {
     /// The exit status.
-    pub fn number(self) -> u8
-        ensures { result ≤ 4 }
+    pub fn code(self) -> u8
+        ensures { result ≡ exit_code self }
     {
         match self {
             Status::Done => 0,
@@ -57,8 +62,10 @@ pub enum Failure {
 }
 
 impl Failure {
-    /// The exit status.
-    pub fn status(self) -> Status {
+    /// How the program ends after it.
+    pub fn status(self) -> Status
+        ensures { result ≡ status_after self }
+    {
         match self {
             Failure::Request(_) => Status::Unanswered,
             Failure::File(_)
@@ -70,8 +77,10 @@ impl Failure {
         }
     }
 
-    /// The name for scripts.
-    fn name(self) -> &'static str {
+    /// The name that programs read.
+    fn name(self) -> &'static str
+        ensures { result.now ≡ spec.name_of self }
+    {
         match self {
             Failure::File(fault) => fault.name(),
             Failure::Store => "Store",
@@ -97,7 +106,9 @@ impl Failure {
     }
 }
 
-fn script_name(fault: ScriptFault) -> &'static str {
+fn script_name(fault: ScriptFault) -> &'static str
+    ensures { result.now ≡ spec.script_name fault }
+{
     match fault {
         ScriptFault::Read => "Read",
         ScriptFault::TooLong => "TooLong",
@@ -120,7 +131,9 @@ fn script_cause(fault: ScriptFault) -> &'static str {
     }
 }
 
-fn request_name(fault: EngineFault) -> &'static str {
+fn request_name(fault: EngineFault) -> &'static str
+    ensures { result.now ≡ spec.request_name fault }
+{
     match fault {
         EngineFault::Read => "Read",
         EngineFault::Write(_) => "Write",
@@ -137,30 +150,40 @@ fn request_cause(fault: EngineFault) -> &'static str {
 }
 
 impl From<FileFault> for Failure {
+    ghost from_gives = { λ fault failure. failure ≡ File fault };
+
     fn from(fault: FileFault) -> Failure {
         Failure::File(fault)
     }
 }
 
 impl From<AllocError> for Failure {
+    ghost from_gives = { λ _ failure. failure ≡ Memory };
+
     fn from(_refused: AllocError) -> Failure {
         Failure::Memory
     }
 }
 
 impl From<ScriptFault> for Failure {
+    ghost from_gives = { λ fault failure. failure ≡ Script fault };
+
     fn from(fault: ScriptFault) -> Failure {
         Failure::Script(fault)
     }
 }
 
 impl From<EngineFault> for Failure {
+    ghost from_gives = { λ fault failure. failure ≡ Request fault };
+
     fn from(fault: EngineFault) -> Failure {
         Failure::Request(fault)
     }
 }
 
 impl From<Fault> for Failure {
+    ghost from_gives = { λ fault failure. failure ≡ failure_of fault };
+
     fn from(fault: Fault) -> Failure {
         match fault {
             Fault::Store => Failure::Store,
@@ -170,6 +193,8 @@ impl From<Fault> for Failure {
 }
 
 impl From<SampleFault> for Failure {
+    ghost from_gives = { λ fault failure. failure ≡ failure_of_sample fault };
+
     fn from(fault: SampleFault) -> Failure {
         match fault {
             SampleFault::Read => Failure::Request(EngineFault::Read),
@@ -189,7 +214,9 @@ pub fn put<E: Sink>(errors: &mut E, text: &str) {
 }
 
 /// Tells a fault: its name on the first line, and on the second what is wrong, and with which file.
-pub fn tell<E: Sink>(errors: &mut E, failure: Failure, file: Option<&str>) -> Status {
+pub fn tell<E: Sink>(errors: &mut E, failure: Failure, file: Option<&str>) -> Status
+    ensures { result ≡ status_after failure }
+{
     put(errors, "fault ");
     put(errors, failure.name());
     put(errors, "\ndocs_host: ");
@@ -203,7 +230,9 @@ pub fn tell<E: Sink>(errors: &mut E, failure: Failure, file: Option<&str>) -> St
 }
 
 /// Tells a mistake in the words.
-pub fn tell_usage<E: Sink>(errors: &mut E, mistake: &str) -> Status {
+pub fn tell_usage<E: Sink>(errors: &mut E, mistake: &str) -> Status
+    ensures { result ≡ Status.Usage }
+{
     put(errors, "docs_host: ");
     put(errors, mistake);
     put(errors, "; try 'docs_host --help'\n");

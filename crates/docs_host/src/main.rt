@@ -38,7 +38,7 @@ fn tell_unread(rt: &HostRuntime, error: &io::Error) -> Status {
 fn main(rt: HostRuntime) -> ExitCode {
     let words = match words_of(&rt) {
         Ok(words) => words,
-        Err(error) => return ExitCode::from(tell_unread(&rt, &error).number()),
+        Err(error) => return ExitCode::from(tell_unread(&rt, &error).code()),
     };
     let mut source = Port::new(rt.stdin());
     let mut sink = Port::new(rt.stdout());

@@ -1,11 +1,13 @@
 //! What a line orders, over a desk.
 
-ghost use Rattle.std.specs.Prelude.{◌≡◌, false, [], ◌∷◌, ◌++◌, IfOk, OnOk, OnErr};
+ghost use Rattle.std.specs.Prelude.{◌≡◌, false, [], ◌∷◌, ◌++◌, IfOk, IfErr, OnOk, OnErr, IsTrue};
 ghost use Rattle.std.specs.Io.KnownBytes.{Appends};
 ghost use Rattle.dh_rows.specs.Calls.{IsHonest};
 ghost use Rattle.dh_desk.specs.Desk.{world};
+ghost use Rattle.dh_script.specs.Running.{RunsScript};
 ghost use Rattle.dh_script.specs.Script.{MayDoOrder};
-ghost use Rattle.docs_host.specs.Single.{RunsSingle, status_of};
+ghost use Rattle.docs_host.specs.Ends.{Ended, IsDoneOrFaulty, may_end_request, may_end_single, may_end_order};
+ghost use Rattle.docs_host.specs.Orders.{RunsSingle, RunsRequest, RunsOrder, single_status};
 
 use crate::failure::{Failure, Status};
 use crate::serving::{Served, serve};
@@ -20,7 +22,8 @@ use std::alloc::Global;
 /// Writes a line.
 pub fn say<W: Sink>(sink: &mut W, text: &str) -> Result<(), Failure>
     requires { W.broken sink.old ≡ false }
-    ensures { OnOk result (Appends (W.held sink.old) (W.held sink.new) (text.now ++ 10 ∷ [])) }
+    ensures ok { OnOk result (Appends (W.held sink.old) (W.held sink.new) (text.now ++ 10 ∷ [])) }
+    ensures err { IfErr result (λ failure. failure ≡ Failure.Write) }
 {
     match put_both(sink, text.as_bytes(), b"\n") {
         Ok(()) => Ok(()),
@@ -29,7 +32,7 @@ pub fn say<W: Sink>(sink: &mut W, text: &str) -> Result<(), Failure>
 }
 
 fn status_told(refused: bool) -> Status
-    ensures { result ≡ status_of refused }
+    ensures { result ≡ single_status refused }
 {
     if refused {
         Status::Refused
@@ -52,6 +55,7 @@ fn run_single<S: Alter, W: Sink>(
     ensures may { IsHonest S.Store desk.new.tables
         → OnErr result (MayDoOrder (world S.Store desk.old) order.now (world S.Store desk.new)) }
     ensures was { IsHonest S.Store desk.new.tables → IsHonest S.Store desk.old.tables }
+    ensures ends { Ended (λ status. IsTrue (may_end_single status)) result }
 {
     let printed = perform(alloc, desk, order)?;
     say(sink, printed.text.as_str())?;
@@ -67,7 +71,11 @@ pub fn run_lines<S: Alter, R: Source, W: Sink>(
 ) -> Result<Status, Failure>
     requires reader { R.broken source.old ≡ false }
     requires writer { W.broken sink.old ≡ false }
+    ensures ran { IsHonest S.Store desk.new.tables
+        → RunsScript (R.left source.old) (world S.Store desk.old) (world S.Store desk.new)
+        (W.held sink.old) (W.held sink.new) result }
     ensures was { IsHonest S.Store desk.new.tables → IsHonest S.Store desk.old.tables }
+    ensures ends { IsDoneOrFaulty result }
 {
     run_script(alloc, desk, source, sink)?;
     Ok(Status::Done)
@@ -82,13 +90,17 @@ fn answer_request<S: Alter, R: Source, W: Sink>(
 ) -> Result<Status, Failure>
     requires reader { R.broken source.old ≡ false }
     requires writer { W.broken sink.old ≡ false }
+    ensures answers { IsHonest S.Store desk.new.tables
+        → RunsRequest (world S.Store desk.old) (world S.Store desk.new) (R.left source.old)
+        (W.held sink.old) (W.held sink.new) result }
     ensures was { IsHonest S.Store desk.new.tables → IsHonest S.Store desk.old.tables }
+    ensures ends { Ended (λ status. IsTrue (may_end_request status)) result }
 {
     answer(alloc, desk, source, sink)?;
     Ok(Status::Done)
 }
 
-/// Does what is ordered over the desk of a file.
+/// Does what is ordered over a desk.
 pub fn run_order<S: Alter, R: Source, W: Sink, E: Sink>(
     rt: &HostRuntime,
     desk: &mut Desk<S>,
@@ -100,7 +112,11 @@ pub fn run_order<S: Alter, R: Source, W: Sink, E: Sink>(
 ) -> Result<Status, Failure>
     requires reader { R.broken source.old ≡ false }
     requires writer { W.broken sink.old ≡ false }
+    ensures runs { IsHonest S.Store desk.new.tables
+        → RunsOrder (world S.Store desk.old) order.now (world S.Store desk.new)
+        (R.left source.old) (W.held sink.old) (W.held sink.new) result }
     ensures was { IsHonest S.Store desk.new.tables → IsHonest S.Store desk.old.tables }
+    ensures ends { Ended (λ status. IsTrue (may_end_order order.now status)) result }
 {
     match order {
         Order::Script => run_lines(rt.alloc(), desk, source, sink),

@@ -1,6 +1,9 @@
 //! The program over its words.
 
-ghost use Rattle.std.specs.Prelude.{◌≡◌, ◌≤◌, false};
+ghost use Rattle.std.specs.Prelude.{◌≡◌, ◌⊎◌, true, false, map, drop, string_bytes, IfOk, IfErr, IfSome, IsTrue};
+ghost use Rattle.docs_host.specs.Ends.{Ended, IsDoneOrFaulty, EndsScript, EndsRequest, EndsOver, EndsBy};
+ghost use Rattle.docs_host.specs.Ends.{EndsWords, EndsProgram, asks_help};
+ghost use Rattle.docs_host.specs.Ends as spec;
 
 use crate::failure::{Failure, Status, tell, tell_usage};
 use crate::orders::{run_lines, run_order, say};
@@ -15,7 +18,9 @@ use sqlite::Start;
 use std::alloc::{AllocError, Global};
 
 /// Whether what is ordered is a read whose target is none.
-fn has_bad_target(alloc: Global, order: &Order) -> Result<bool, AllocError> {
+fn has_bad_target(alloc: Global, order: &Order) -> Result<bool, AllocError>
+    ensures { IfOk result (λ bad. bad ≡ spec.has_bad_target order.now) }
+{
     match order {
         Order::Get { target, .. } => is_bad_target(alloc, target),
         _ => Ok(false),
@@ -34,6 +39,9 @@ fn run_over<S: Start, R: Source, W: Sink, E: Sink>(
 ) -> Result<Status, Failure>
     requires reader { R.broken source.old ≡ false }
     requires writer { W.broken sink.old ≡ false }
+    ensures ends { Ended (EndsOver order.now (W.held sink.old) (W.held sink.new)) result }
+    ensures early { spec.has_bad_target order.now ≡ true
+        → IfErr result (λ failure. (failure ≡ Failure.Write) ⊎ (failure ≡ Failure.Memory)) }
 {
     if has_bad_target(rt.alloc(), order)? {
         say(sink, "bad target")?;
@@ -56,26 +64,32 @@ fn run_in_memory<R: Source, W: Sink>(
 ) -> Result<Status, Failure>
     requires reader { R.broken source.old ≡ false }
     requires writer { W.broken sink.old ≡ false }
+    ensures { Ended
+        (EndsScript (R.left source.old) (W.held sink.old) (W.held sink.new)) result }
 {
     let mut desk = empty_desk(alloc)?;
     run_lines(alloc, &mut desk, source, sink)
 }
 
 /// Answers the request of the input, over the sample.
-fn answer_alone<R: Source, W: Sink>(
+fn answer_over_sample<R: Source, W: Sink>(
     alloc: Global,
     source: &mut R,
     sink: &mut W,
 ) -> Result<Status, Failure>
     requires reader { R.broken source.old ≡ false }
     requires writer { W.broken sink.old ≡ false }
+    ensures { Ended
+        (EndsRequest (R.left source.old) (W.held sink.old) (W.held sink.new)) result }
 {
     answer_sample(alloc, source, sink)?;
     Ok(Status::Done)
 }
 
 /// Makes a file.
-fn init<S: Start>(rt: &HostRuntime, start: S, file: &str) -> Result<Status, Failure> {
+fn init<S: Start>(rt: &HostRuntime, start: S, file: &str) -> Result<Status, Failure>
+    ensures { IsDoneOrFaulty result }
+{
     init_file(rt, file, start)?;
     Ok(Status::Done)
 }
@@ -91,11 +105,13 @@ fn run_line<S: Start, R: Source, W: Sink, E: Sink>(
 ) -> Result<Status, Failure>
     requires reader { R.broken source.old ≡ false }
     requires writer { W.broken sink.old ≡ false }
+    ensures { Ended (EndsBy line.now.store line.now.order
+        (R.left source.old) (W.held sink.old) (W.held sink.new)) result }
 {
     match (&line.order, &line.store) {
         (Order::Init { file }, None) => init(rt, start, file.as_str()),
         (Order::Script, None) => run_in_memory(rt.alloc(), source, sink),
-        (Order::Answer, None) => answer_alone(rt.alloc(), source, sink),
+        (Order::Answer, None) => answer_over_sample(rt.alloc(), source, sink),
         (order, Some(file)) => run_over(rt, start, order, file.as_str(), source, sink, errors),
         (Order::Act(_) | Order::Get { .. } | Order::Serve { .. }, None) => Ok(tell_usage(
             errors,
@@ -105,7 +121,10 @@ fn run_line<S: Start, R: Source, W: Sink, E: Sink>(
 }
 
 /// The words that follow `help`, where that is the first.
-fn helped(words: &[String]) -> Option<&[String]> {
+fn helped(words: &[String]) -> Option<&[String]>
+    ensures { IfSome result (λ names. (map string_bytes names.now ≡ drop 1 (map string_bytes words.now))
+        × IsTrue (asks_help (map string_bytes words.now))) }
+{
     match words.split_first() {
         Some((first, rest)) if first.as_str() == "help" => Some(rest),
         _ => None,
@@ -123,6 +142,8 @@ fn run_words<S: Start, R: Source, W: Sink, E: Sink>(
 ) -> Status
     requires reader { R.broken source.old ≡ false }
     requires writer { W.broken sink.old ≡ false }
+    ensures { EndsWords (map string_bytes words.now)
+        (R.left source.old) (W.held sink.old) (W.held sink.new) result }
 {
     let line = match line_of(rt.alloc(), words) {
         Ok(line) => line,
@@ -160,11 +181,12 @@ pub fn run_program<S: Start, R: Source, W: Sink, E: Sink>(
 ) -> u8
     requires reader { R.broken source.old ≡ false }
     requires writer { W.broken sink.old ≡ false }
-    ensures { result ≤ 4 }
+    ensures { EndsProgram (map string_bytes words.now)
+        (R.left source.old) (W.held sink.old) (W.held sink.new) result }
 {
     let status = match helped(words) {
         Some(names) => tell_help(rt.alloc(), names, sink, errors),
         None => run_words(rt, start, words, source, sink, errors),
     };
-    status.number()
+    status.code()
 }

@@ -1,6 +1,8 @@
 //! Help, and what is wrong with words that are no line.
 
-ghost use Rattle.std.specs.Prelude.{◌≡◌, false};
+ghost use Rattle.std.specs.Prelude.{◌≡◌, ◌++◌, [], ◌∷◌, false, map, codes, string_bytes, IfOk};
+ghost use Rattle.clap.specs.Values.{kind_of};
+ghost use Rattle.docs_host.specs.Ends.{Ended, EndsError, EndsHelp};
 
 use crate::failure::{Failure, Status, put, tell, tell_usage};
 use clap::error::ErrorKind;
@@ -42,7 +44,9 @@ fn tell_limits<E: Sink>(matches: &ArgMatches<'_>, errors: &mut E) {
 
 /// Tells what is wrong with words that `clap` takes and that are no line: a word that may have some values
 /// alone has another.
-fn tell_values<E: Sink>(matches: &ArgMatches<'_>, errors: &mut E) -> Status {
+fn tell_values<E: Sink>(matches: &ArgMatches<'_>, errors: &mut E) -> Status
+    ensures { result ≡ Status.Usage }
+{
     match matches.subcommand() {
         Some((name, words)) => {
             put(errors, "docs_host: a word of ");
@@ -66,12 +70,14 @@ fn tell_error<W: Sink, E: Sink>(
     errors: &mut E,
 ) -> Result<Status, Failure>
     requires { W.broken sink.old ≡ false }
+    ensures { EndsError (kind_of error.now) result }
 {
-    if error.kind() == ErrorKind::OutOfMemory {
+    let kind = error.kind();
+    if kind == ErrorKind::OutOfMemory {
         return Err(Failure::Memory);
     }
     let text = format!(in alloc; "{error}")?;
-    if error.exit_code() != 0 {
+    if kind != ErrorKind::DisplayHelp {
         put(errors, text.as_str());
         return Ok(Status::Usage);
     }
@@ -89,6 +95,7 @@ fn tell_words<W: Sink, E: Sink>(
     errors: &mut E,
 ) -> Result<Status, Failure>
     requires { W.broken sink.old ≡ false }
+    ensures { Ended (EndsHelp (map string_bytes words.now)) result }
 {
     let mut program = docs_command(alloc)?;
     match program.try_get_matches_from_mut(words) {
@@ -98,7 +105,10 @@ fn tell_words<W: Sink, E: Sink>(
 }
 
 /// The words that ask `clap` for the help of a command, or of the program.
-fn help_words(alloc: Global, names: &[String]) -> Result<Vec<String>, AllocError> {
+fn help_words(alloc: Global, names: &[String]) -> Result<Vec<String>, AllocError>
+    ensures { IfOk result (λ words. map string_bytes words.items
+        ≡ map string_bytes names.now ++ codes "--help" ∷ []) }
+{
     let mut words = Vec::new(alloc);
     for name in names {
         words.push(String::from_str(alloc, name.as_str())?)?;
@@ -115,13 +125,18 @@ fn write_help<W: Sink, E: Sink>(
     errors: &mut E,
 ) -> Result<Status, Failure>
     requires { W.broken sink.old ≡ false }
+    ensures { Ended
+        (EndsHelp (map string_bytes names.now ++ codes "--help" ∷ [])) result }
 {
     let words = help_words(alloc, names)?;
     tell_words(alloc, words.as_slice(), sink, errors)
 }
 
-fn ended<E: Sink>(ended: Result<Status, Failure>, errors: &mut E) -> Status {
-    match ended {
+/// The status of a run, whose failure is told.
+fn ended<E: Sink>(run: Result<Status, Failure>, errors: &mut E) -> Status
+    ensures { Ended (λ status. result ≡ status) run }
+{
+    match run {
         Ok(status) => status,
         Err(failure) => tell(errors, failure, None),
     }
@@ -135,6 +150,7 @@ pub fn tell_help<W: Sink, E: Sink>(
     errors: &mut E,
 ) -> Status
     requires { W.broken sink.old ≡ false }
+    ensures { EndsHelp (map string_bytes names.now ++ codes "--help" ∷ []) result }
 {
     let written = write_help(alloc, names, sink, errors);
     ended(written, errors)
@@ -148,6 +164,7 @@ pub fn tell_mistake<W: Sink, E: Sink>(
     errors: &mut E,
 ) -> Status
     requires { W.broken sink.old ≡ false }
+    ensures { EndsHelp (map string_bytes words.now) result }
 {
     let told = tell_words(alloc, words, sink, errors);
     ended(told, errors)

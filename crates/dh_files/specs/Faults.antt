@@ -1,0 +1,39 @@
+-- The faults of a file: their names, and what faults of `sqlite` and of the tables are here.
+use Rattle.std.specs.Prelude.{ℕ, List, codes}
+use Rattle.sqlite.specs.declared.error.Error.{Error}
+use Rattle.sqlite.specs.declared.error.Error.TheVariants.{SqliteFailure}
+use Rattle.sqlite.specs.declared.error.ErrorCode.TheVariants as code
+use Rattle.dh_opening.specs.declared.fault.TablesFault.{TablesFault}
+use Rattle.dh_opening.specs.declared.fault.TablesFault.TheVariants as tables
+use Rattle.dh_files.specs.declared.fault.FileFault.{FileFault}
+use Rattle.dh_files.specs.declared.fault.FileFault.TheVariants.{Missing, Empty, Folder, Forbidden, Unopened, NoDatabase}
+use Rattle.dh_files.specs.declared.fault.FileFault.TheVariants.{Damaged, Busy, Taken, NotOurs, Full, Failed, Memory}
+
+abbrev pub name_of : FileFault → List ℕ
+name_of Missing = codes "Store"
+name_of Empty = codes "Store"
+name_of Folder = codes "Store"
+name_of Forbidden = codes "Store"
+name_of Unopened = codes "Store"
+name_of NoDatabase = codes "Store"
+name_of Damaged = codes "Store"
+name_of Busy = codes "Store"
+name_of Taken = codes "NotOurs"
+name_of NotOurs = codes "NotOurs"
+name_of Full = codes "Store"
+name_of Failed = codes "Store"
+name_of Memory = codes "Memory"
+
+abbrev pub fault_of : TablesFault → FileFault
+fault_of tables.NotOurs = NotOurs
+fault_of tables.Store = Failed
+fault_of tables.Memory = Memory
+
+abbrev pub fault_of_error : Error → FileFault
+fault_of_error (SqliteFailure code.NotADatabase) = NoDatabase
+fault_of_error (SqliteFailure code.DatabaseCorrupt) = Damaged
+fault_of_error (SqliteFailure code.DatabaseBusy) = Busy
+fault_of_error (SqliteFailure code.CannotOpen) = Unopened
+fault_of_error (SqliteFailure code.DiskFull) = Full
+fault_of_error (SqliteFailure code.OutOfMemory) = Memory
+fault_of_error _ = Failed

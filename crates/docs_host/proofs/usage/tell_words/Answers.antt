@@ -1,0 +1,10 @@
+use Rattle.std.proofs.Common.{map, string_bytes}
+use Rattle.clap.specs.Simple.{app_of}
+use Rattle.clap.specs.Values.{kind_of}
+use Rattle.docs_host.proofs.Ending.{error_ended}
+use Rattle.docs_host.proofs.usage.tell_words.Goals as goal
+
+pub returns : goal.returns
+returns g c =
+    error_ended (map string_bytes c.args.words.now) (app_of c.in_ok-program.program) (kind_of c.in-Err.error) c.tell_error.result
+    c.in_ok-program.ensures.0 c.in-Err.ensures.kinds c.tell_error.ensures

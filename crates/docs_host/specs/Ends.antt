@@ -1,0 +1,160 @@
+-- How the program ends, by its words. Of a run, `left` is what its source had left, and `held` and
+-- `now` are what its sink held before and holds after it; each is `None` where it does not tell that.
+use Rattle.std.specs.Prelude.{◌≡◌, ◌⊎◌, ⊤, ℕ, Bool, true, false, IsTrue, is_none, List, [], ◌∷◌, ◌++◌, drop, codes}
+use Rattle.std.specs.Prelude.{Option, Some, None, Result, Ok, Err}
+use Rattle.std.specs.FinMap.{empty}
+use Rattle.std.specs.Io.KnownBytes.{Appends}
+use Rattle.std.specs.Str.{bytes_eq}
+use Rattle.clap.specs.Faults.{fault_of}
+use Rattle.clap.specs.Kinds.{IsAmong}
+use Rattle.clap.specs.declared.error.kind.ErrorKind.{ErrorKind}
+use Rattle.clap.specs.declared.error.kind.ErrorKind.TheVariants.{DisplayHelp}
+use Rattle.dh_paths.specs.Targets.{target_of}
+use Rattle.dh_world.specs.World.{Text, World}
+use Rattle.dh_sample.specs.Answer.{AnswersSample, WritesTold, engine_told}
+use Rattle.dh_sample.specs.declared.answer.SampleFault.{SampleFault}
+use Rattle.dh_lines.specs.App.{docs_app}
+use Rattle.dh_lines.specs.Lines.{line_in}
+use Rattle.dh_lines.specs.declared.lines.Line.{Line}
+use Rattle.dh_lines.specs.declared.lines.Order.{Order}
+use Rattle.dh_lines.specs.declared.lines.Order.TheVariants as order
+use Rattle.dh_script.specs.Running.{RunsScript}
+use Rattle.docs_host.specs.declared.failure.Failure.{Failure}
+use Rattle.docs_host.specs.declared.failure.Failure.TheVariants as failure
+use Rattle.docs_host.specs.declared.failure.Status.{Status}
+use Rattle.docs_host.specs.declared.failure.Status.TheVariants.{Done, Refused, Usage, Faulty, Unanswered}
+
+abbrev pub exit_code : Status → ℕ
+exit_code Done = 0
+exit_code Refused = 1
+exit_code Usage = 2
+exit_code Faulty = 3
+exit_code Unanswered = 4
+
+abbrev pub status_after : Failure → Status
+status_after (failure.File fault) = Faulty
+status_after failure.Store = Faulty
+status_after failure.Memory = Faulty
+status_after failure.Bind = Faulty
+status_after failure.Write = Faulty
+status_after (failure.Script fault) = Faulty
+status_after (failure.Request fault) = Unanswered
+
+-- the status of a run, its own or that of its failure, is one of these
+abbrev pub Ended : (Status → Type 0) → Result Status Failure → Type 0
+Ended IsEnd (Ok status) = IsEnd status
+Ended IsEnd (Err failure) = IsEnd (status_after failure)
+
+-- it is done, or a failure ended it whose status is 3
+abbrev pub IsDoneOrFaulty : Result Status Failure → Type 0
+IsDoneOrFaulty (Ok status) = status ≡ Done
+IsDoneOrFaulty (Err failure) = status_after failure ≡ Faulty
+
+-- ---- without a file
+
+-- 0: all lines of the script ran, from no project on, and what they print was written; 3: the first
+-- so many did, and of what the next one prints a front was written, not all of it; or nothing was
+abbrev pub EndsScript : Option Text → Option Text → Option Text → Status → Type 0
+EndsScript left held now Done = (after : World) × RunsScript {T = Status} {E = Status} left empty after held now (Ok Done)
+EndsScript left held now Faulty =
+    (now ≡ held) ⊎ ((after : World) × RunsScript {T = Status} {E = Status} left empty after held now (Err Faulty))
+EndsScript left held now _ = ⊥
+
+-- 0: an answer over the sample, or a 503, was written; 4: not all of it; 3: nothing
+abbrev pub EndsRequest : Option Text → Option Text → Option Text → Status → Type 0
+EndsRequest left held now Done =
+    (code : ℕ) × WritesTold (AnswersSample left) held now (engine_told (Ok code))
+EndsRequest left held now Unanswered =
+    (fault : SampleFault) × WritesTold (AnswersSample left) held now (engine_told (Err fault))
+EndsRequest left held now Faulty = now ≡ held
+EndsRequest left held now _ = ⊥
+
+-- ---- which statuses a run can end with
+
+-- 0 or 3
+abbrev pub may_end : Status → Bool
+may_end Done = true
+may_end Faulty = true
+may_end _ = false
+
+-- a single command or read: 1, too
+abbrev pub may_end_single : Status → Bool
+may_end_single Refused = true
+may_end_single status = may_end status
+
+-- a request: 4, too
+abbrev pub may_end_request : Status → Bool
+may_end_request Unanswered = true
+may_end_request status = may_end status
+
+abbrev pub may_end_order : Order → Status → Bool
+may_end_order order.Script status = may_end status
+may_end_order (order.Serve count port log) status = may_end status
+may_end_order order.Answer status = may_end_request status
+may_end_order _ status = may_end_single status
+
+-- ---- over a file
+
+abbrev pub has_bad_target : Order → Bool
+has_bad_target (order.Get host target pass) = is_none (target_of target)
+has_bad_target order = false
+
+-- a read of a bad target is told and refused
+abbrev pub EndsBadTarget : Option Text → Option Text → Status → Type 0
+EndsBadTarget held now Refused = Appends held now (codes "bad target" ++ 10 ∷ [])
+EndsBadTarget held now status = status ≡ Faulty
+
+abbrev pub EndsChecked : Bool → Order → Option Text → Option Text → Status → Type 0
+EndsChecked true order held now status = EndsBadTarget held now status
+EndsChecked false order held now status = IsTrue (may_end_order order status)
+
+abbrev pub EndsOver : Order → Option Text → Option Text → Status → Type 0
+EndsOver order = EndsChecked (has_bad_target order) order
+
+-- ---- by the words
+
+-- without a file a command, a read and a server are mistakes
+abbrev pub EndsWithoutFile : Order → Option Text → Option Text → Option Text → Status → Type 0
+EndsWithoutFile order.Script left held now status = EndsScript left held now status
+EndsWithoutFile order.Answer left held now status = EndsRequest left held now status
+EndsWithoutFile (order.Init file) left held now status = (now ≡ held) × IsTrue (may_end status)
+EndsWithoutFile _ left held now status = (now ≡ held) × (status ≡ Usage)
+
+abbrev pub EndsBy : Option Text → Order → Option Text → Option Text → Option Text → Status → Type 0
+EndsBy None order left held now status = EndsWithoutFile order left held now status
+EndsBy (Some file) order left held now status = EndsOver order held now status
+
+-- 0 comes only where `clap` finds that the words ask for help; 2, or 3
+abbrev pub EndsHelp : List Text → Status → Type 0
+EndsHelp words Done = IsAmong DisplayHelp (fault_of docs_app words)
+EndsHelp words Usage = ⊤
+EndsHelp words Faulty = ⊤
+EndsHelp words _ = ⊥
+
+-- what `clap` tells of words that are no line: help where its error is that, and else a mistake
+abbrev pub EndsError : ErrorKind → Result Status Failure → Type 0
+EndsError kind (Ok Done) = kind ≡ DisplayHelp
+EndsError kind (Ok Usage) = ⊤
+EndsError kind (Ok status) = ⊥
+EndsError kind (Err failure) = status_after failure ≡ Faulty
+
+-- the run of the words' line; of words that are none, help or a mistake
+abbrev pub EndsLine : Option Line → List Text → Option Text → Option Text → Option Text → Status → Type 0
+EndsLine None words left held now status = EndsHelp words status
+EndsLine (Some line) words left held now status = EndsBy line.store line.order left held now status
+
+abbrev pub asks_help : List Text → Bool
+asks_help [] = false
+asks_help (word ∷ words) = bytes_eq word (codes "help")
+
+-- the first word is `help`, and those behind it with `--help` ask for it; or the words' line ended so;
+-- or 3, and nothing was written
+abbrev pub EndsWords : List Text → Option Text → Option Text → Option Text → Status → Type 0
+EndsWords words left held now status =
+    (IsTrue (asks_help words) × EndsHelp (drop 1 words ++ codes "--help" ∷ []) status)
+    ⊎ (EndsLine (line_in words) words left held now status ⊎ ((now ≡ held) × (status ≡ Faulty)))
+
+pub record EndsProgram (words : List Text) (left held now : Option Text) (code : ℕ) : Type 0 where
+  pub status : Status
+  pub told : code ≡ exit_code status
+  pub ends : EndsWords words left held now status

@@ -1,0 +1,49 @@
+-- The name of each failure, and what the faults of other crates are here.
+use Rattle.std.specs.Prelude.{codes}
+use Rattle.dh_files.specs.Faults as file
+use Rattle.dh_http.specs.declared.fault.EngineFault.{EngineFault}
+use Rattle.dh_http.specs.declared.fault.EngineFault.TheVariants as engine
+use Rattle.dh_lookup.specs.declared.fault.Fault.{Fault}
+use Rattle.dh_lookup.specs.declared.fault.Fault.TheVariants as lookup
+use Rattle.dh_sample.specs.declared.answer.SampleFault.{SampleFault}
+use Rattle.dh_sample.specs.declared.answer.SampleFault.TheVariants as sample
+use Rattle.dh_script.specs.declared.reading.ScriptFault.{ScriptFault}
+use Rattle.dh_script.specs.declared.reading.ScriptFault.TheVariants as script
+use Rattle.dh_world.specs.World.{Text}
+use Rattle.docs_host.specs.declared.failure.Failure.{Failure}
+use Rattle.docs_host.specs.declared.failure.Failure.TheVariants.{File, Store, Memory, Bind, Write, Script, Request}
+
+abbrev pub failure_of : Fault → Failure
+failure_of lookup.Store = Store
+failure_of lookup.Memory = Memory
+
+abbrev pub failure_of_sample : SampleFault → Failure
+failure_of_sample sample.Read = Request engine.Read
+failure_of_sample (sample.Write count) = Request (engine.Write count)
+failure_of_sample sample.TooManyTurns = Request engine.TooManyTurns
+failure_of_sample sample.Store = Store
+
+-- ---- names
+
+abbrev pub script_name : ScriptFault → Text
+script_name script.Read = codes "Read"
+script_name script.TooLong = codes "TooLong"
+script_name script.NotText = codes "NotText"
+script_name script.TooManyTurns = codes "TooManyTurns"
+script_name script.UnreadMemory = codes "Memory"
+script_name script.Write = codes "Write"
+script_name script.Memory = codes "Memory"
+
+abbrev pub request_name : EngineFault → Text
+request_name engine.Read = codes "Read"
+request_name (engine.Write count) = codes "Write"
+request_name engine.TooManyTurns = codes "TooManyTurns"
+
+abbrev pub name_of : Failure → Text
+name_of (File fault) = file.name_of fault
+name_of Store = codes "Store"
+name_of Memory = codes "Memory"
+name_of Bind = codes "Bind"
+name_of Write = codes "Write"
+name_of (Script fault) = script_name fault
+name_of (Request fault) = request_name fault

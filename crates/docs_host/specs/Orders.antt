@@ -1,0 +1,48 @@
+-- What an order does over a desk.
+use Rattle.std.specs.Prelude.{◌≡◌, ℕ, Bool, true, false, List, [], ◌∷◌, ◌++◌, Option, Result, Ok, Err, IfOk}
+use Rattle.std.specs.Io.KnownBytes.{Appends}
+use Rattle.dh_http.specs.Answers.{AnswersSource, Writes}
+use Rattle.dh_http.specs.declared.fault.Done.{Done as Answered}
+use Rattle.dh_http.specs.declared.fault.EngineFault.{EngineFault}
+use Rattle.dh_lines.specs.declared.lines.Order.{Order}
+use Rattle.dh_lines.specs.declared.lines.Order.TheVariants as order
+use Rattle.dh_script.specs.Running.{RunsScript}
+use Rattle.dh_script.specs.Script.{Performs}
+use Rattle.dh_server.specs.Serving.{Steps}
+use Rattle.dh_world.specs.World.{Text, World}
+use Rattle.docs_host.specs.declared.failure.Failure.{Failure}
+use Rattle.docs_host.specs.declared.failure.Status.{Status}
+use Rattle.docs_host.specs.declared.failure.Status.TheVariants.{Done, Refused}
+
+abbrev pub single_status : Bool → Status
+single_status true = Refused
+single_status false = Done
+
+-- an order was performed, what it prints was written, with LF, and the status says whether it was
+-- refused
+pub record RunsSingle (before : World) (order : Order) (after : World) (held now : Option (List ℕ)) (status : Status) : Type 0 where
+  pub text : Text
+  pub refused : Bool
+  pub performed : Performs before order after text refused
+  pub written : Appends held now (text ++ 10 ∷ [])
+  pub told : status ≡ single_status refused
+
+-- the request was answered, and the answer was written, wholly or in part
+abbrev pub RunsRequest : World → World → Option Text → Option Text → Option Text → Result Status Failure → Type 0
+RunsRequest before after left held now (Ok status) =
+    (done : Answered) × Writes (AnswersSource left before after) held now (Ok done)
+RunsRequest before after left held now (Err failure) =
+    (fault : EngineFault) × Writes (AnswersSource left before after) held now (Err fault)
+
+-- an order was run: the lines of a script, whole or in part; a request, which was answered, wholly or
+-- in part; so many connections, each with one command at most; or a single command or read
+abbrev pub RunsOrder : World → Order → World → Option Text → Option Text → Option Text → Result Status Failure → Type 0
+RunsOrder before order.Script after left held now result = RunsScript left before after held now result
+RunsOrder before order.Answer after left held now result = RunsRequest before after left held now result
+RunsOrder before (order.Serve count port log) after left held now result = Steps count before after
+RunsOrder before (order.Act command) after left held now result =
+    IfOk result (RunsSingle before (order.Act command) after held now)
+RunsOrder before (order.Get host target pass) after left held now result =
+    IfOk result (RunsSingle before (order.Get host target pass) after held now)
+RunsOrder before (order.Init file) after left held now result =
+    IfOk result (RunsSingle before (order.Init file) after held now)
