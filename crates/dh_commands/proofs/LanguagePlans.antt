@@ -8,11 +8,11 @@ use Rattle.dh_world.specs.Changes.{Change, add_lang}
 use Rattle.dh_world.specs.World.{Text, Project}
 use Rattle.dh_world.specs.declared.answer.Answer.TheVariants.{Done}
 use Rattle.dh_world.specs.declared.refusal.Refusal.TheVariants.{LangTaken, TooMany}
-use Rattle.dh_commands.specs.Edits.{Plans}
-use Rattle.dh_commands.specs.Knowing.{Knows}
+use Rattle.dh_plans.specs.Edits.{Plans}
+use Rattle.dh_plans.specs.Knowing.{Knows}
 use Rattle.dh_checks.specs.declared.checked.CheckedChange.TheVariants as change
-use Rattle.dh_commands.specs.declared.edits.Edit.TheVariants.{AddLang}
-use Rattle.dh_commands.specs.declared.facts.Facts.{Facts}
+use Rattle.dh_plans.specs.declared.edits.Edit.TheVariants.{AddLang}
+use Rattle.dh_plans.specs.declared.facts.Facts.{Facts}
 
 module _ (lang : Text) (f : Facts) (p : Project) (k : Knows (change.AddLang lang) f p) where
   -- by whether the language is there, and whether there is room

@@ -1,5 +1,3 @@
-pub mod Planning
-pub mod PushPlans
 pub mod UploadPlans
 pub mod LanguagePlans
 pub mod DefaultPlans

@@ -13,16 +13,16 @@ use Rattle.dh_world.specs.Changes.{Change, add_rule, drop_rule, add_redirect, dr
 use Rattle.dh_world.specs.World.{Project}
 use Rattle.dh_world.specs.declared.answer.Answer.TheVariants.{Done}
 use Rattle.dh_world.specs.declared.refusal.Refusal.TheVariants.{BadPlace, TooMany}
-use Rattle.dh_commands.specs.Edits.{edited, all_edited, MayEdit, MayEditAll, Plans}
-use Rattle.dh_commands.specs.Knowing.{Knows}
-use Rattle.dh_commands.specs.Plans.{puts, plan_added, plan_dropped}
+use Rattle.dh_plans.specs.Edits.{edited, all_edited, MayEdit, MayEditAll, Plans}
+use Rattle.dh_plans.specs.Knowing.{Knows}
+use Rattle.dh_plans.specs.Plans.{puts, plan_added, plan_dropped}
 use Rattle.dh_checks.specs.declared.checked.CheckedChange.TheVariants as change
 use Rattle.dh_checks.specs.declared.checked.CheckedRedirect.{CheckedRedirect}
 use Rattle.dh_checks.specs.declared.checked.CheckedRule.{CheckedRule}
-use Rattle.dh_commands.specs.declared.edits.Edit.{Edit}
-use Rattle.dh_commands.specs.declared.edits.Edit.TheVariants.{PutRule, DropLastRule, PutRedirect, DropLastRedirect}
-use Rattle.dh_commands.specs.declared.facts.Facts.{Facts}
-use Rattle.dh_commands.proofs.Planning.{edited_twice, may_twice}
+use Rattle.dh_plans.specs.declared.edits.Edit.{Edit}
+use Rattle.dh_plans.specs.declared.edits.Edit.TheVariants.{PutRule, DropLastRule, PutRedirect, DropLastRedirect}
+use Rattle.dh_plans.specs.declared.facts.Facts.{Facts}
+use Rattle.dh_plans.proofs.Planning.{edited_twice, may_twice}
 
 -- ---- lists
 

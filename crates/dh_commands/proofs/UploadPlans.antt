@@ -12,16 +12,16 @@ use Rattle.dh_world.specs.declared.answer.Answer.{Answer}
 use Rattle.dh_world.specs.declared.answer.Answer.TheVariants.{Stored}
 use Rattle.dh_world.specs.declared.pages.UploadedPage.{UploadedPage}
 use Rattle.dh_world.specs.declared.refusal.Refusal.TheVariants.{WrongKey, NoVersion, Inactive, NoLang}
-use Rattle.dh_commands.specs.Edits.{edited, all_edited, is_active, MayEditAll, Plans}
-use Rattle.dh_commands.specs.Knowing.{Answers, Knows}
-use Rattle.dh_commands.specs.Plans.{pages_put, pages_cleared, upload_answered, plan_stored}
-use Rattle.dh_commands.specs.Asking.{asked_by}
+use Rattle.dh_plans.specs.Edits.{edited, all_edited, is_active, MayEditAll, Plans}
+use Rattle.dh_plans.specs.Knowing.{Answers, Knows}
+use Rattle.dh_plans.specs.Plans.{pages_put, pages_cleared, upload_answered, plan_stored}
+use Rattle.dh_plans.specs.Asking.{asked_by}
 use Rattle.dh_checks.specs.declared.checked.CheckedChange.TheVariants as change
 use Rattle.dh_checks.specs.declared.checked.CheckedUpload.{CheckedUpload}
-use Rattle.dh_commands.specs.declared.edits.Edit.{Edit}
-use Rattle.dh_commands.specs.declared.edits.Edit.TheVariants.{PutPage}
-use Rattle.dh_commands.specs.declared.facts.Facts.{Facts}
-use Rattle.dh_commands.proofs.Planning.{answered, edited_twice, may_twice}
+use Rattle.dh_plans.specs.declared.edits.Edit.{Edit}
+use Rattle.dh_plans.specs.declared.edits.Edit.TheVariants.{PutPage}
+use Rattle.dh_plans.specs.declared.facts.Facts.{Facts}
+use Rattle.dh_plans.proofs.Planning.{answered, edited_twice, may_twice}
 
 -- ---- the edits of the pages
 

@@ -1,11 +1,10 @@
 //! Lists in order, whose places count from 1.
 ghost use Rattle.std.specs.Prelude.{◌≡◌, ◌≤◌, ◌<◌, ◌+◌, ◌^◌, ◌++◌, ℕ, IsTrue, IfOk, OnOk, length};
 ghost use Rattle.dh_world.specs.Changes as spec;
-ghost use Rattle.dh_commands.specs.Plans.{puts, plan_added, plan_dropped};
-ghost use Rattle.dh_commands.specs.declared.edits.Edit.{Edit};
+ghost use Rattle.dh_plans.specs.Plans.{puts, plan_added, plan_dropped};
+ghost use Rattle.dh_plans.specs.declared.edits.Edit.{Edit};
 
-use crate::edits::Edit;
-use crate::plan::Plan;
+use dh_plans::{Edit, Plan};
 use dh_redirects::Redirect;
 use dh_rules::Rule;
 use dh_world::Answer;

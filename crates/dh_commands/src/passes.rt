@@ -1,13 +1,11 @@
 //! Passes, and the versions that they hold.
 ghost use Rattle.std.specs.Prelude.{◌≡◌};
-ghost use Rattle.dh_commands.specs.Knowing.{Decides};
-ghost use Rattle.dh_commands.specs.Plans.{missing_for_grant};
+ghost use Rattle.dh_plans.specs.Knowing.{Decides};
+ghost use Rattle.dh_plans.specs.Plans.{missing_for_grant};
 
-use crate::edits::Edit;
-use crate::facts::Facts;
-use crate::plan::Plan;
 use dh_checks::CheckedChange;
 use dh_paths::{Slug, Token};
+use dh_plans::{Edit, Facts, Plan};
 use dh_world::{Answer, Refusal};
 use std::alloc::Global;
 

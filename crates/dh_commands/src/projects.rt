@@ -2,14 +2,12 @@
 ghost use Rattle.std.specs.Prelude.{◌≡◌};
 ghost use Rattle.std.specs.List.{list_any};
 ghost use Rattle.std.specs.Str.{bytes_eq};
-ghost use Rattle.dh_commands.specs.Knowing.{Decides};
-ghost use Rattle.dh_commands.specs.Plans.{Opens};
+ghost use Rattle.dh_plans.specs.Knowing.{Decides};
+ghost use Rattle.dh_plans.specs.Plans.{Opens};
 
-use crate::edits::Edit;
-use crate::facts::Facts;
-use crate::plan::Plan;
 use dh_checks::{CheckedChange, NewProject};
 use dh_paths::Lang;
+use dh_plans::{Edit, Facts, Plan};
 use dh_world::{Answer, Refusal};
 use std::alloc::Global;
 

@@ -1,10 +1,9 @@
 //! Redirects.
-ghost use Rattle.dh_commands.specs.Knowing.{Decides};
+ghost use Rattle.dh_plans.specs.Knowing.{Decides};
 
-use crate::facts::Facts;
 use crate::lists::{add_at, drop_at, is_place};
-use crate::plan::Plan;
 use dh_checks::{CheckedChange, CheckedRedirect};
+use dh_plans::{Facts, Plan, take_list};
 use dh_world::Refusal;
 use std::alloc::Global;
 
@@ -15,29 +14,32 @@ const MOST_REDIRECTS: usize = 100;
 pub fn add_redirect<'c>(
     alloc: Global,
     added: CheckedRedirect,
-    facts: Facts,
+    facts: &mut Facts,
 ) -> Result<Plan<'c>, Refusal>
-    ensures { Decides (CheckedChange.AddRedirect added) facts result }
+    ensures { Decides (CheckedChange.AddRedirect added) facts.old result }
 {
-    let Facts { redirects, .. } = facts;
     let CheckedRedirect { place, redirect } = added;
-    let count = redirects.as_slice().len();
+    let count = facts.redirects.as_slice().len();
     if !is_place(place, count + 1) {
         return Err(Refusal::BadPlace);
     }
     if count >= MOST_REDIRECTS {
         return Err(Refusal::TooMany);
     }
-    Ok(add_at(alloc, place, redirect, redirects)?)
+    Ok(add_at(
+        alloc,
+        place,
+        redirect,
+        take_list(alloc, &mut facts.redirects),
+    )?)
 }
 
 /// Removes the redirect at a place of the list.
-pub fn drop_redirect<'c>(alloc: Global, place: u32, facts: Facts) -> Result<Plan<'c>, Refusal>
-    ensures { Decides (CheckedChange.DropRedirect place) facts result }
+pub fn drop_redirect<'c>(alloc: Global, place: u32, facts: &mut Facts) -> Result<Plan<'c>, Refusal>
+    ensures { Decides (CheckedChange.DropRedirect place) facts.old result }
 {
-    let Facts { redirects, .. } = facts;
-    if !is_place(place, redirects.as_slice().len()) {
+    if !is_place(place, facts.redirects.as_slice().len()) {
         return Err(Refusal::BadPlace);
     }
-    Ok(drop_at(alloc, place, redirects)?)
+    Ok(drop_at(alloc, place, take_list(alloc, &mut facts.redirects))?)
 }

@@ -1,10 +1,9 @@
 //! Automation rules.
-ghost use Rattle.dh_commands.specs.Knowing.{Decides};
+ghost use Rattle.dh_plans.specs.Knowing.{Decides};
 
-use crate::facts::Facts;
 use crate::lists::{add_at, drop_at, is_place};
-use crate::plan::Plan;
 use dh_checks::{CheckedChange, CheckedRule};
+use dh_plans::{Facts, Plan, take_list};
 use dh_world::Refusal;
 use std::alloc::Global;
 
@@ -12,28 +11,30 @@ use std::alloc::Global;
 const MOST_RULES: usize = 50;
 
 /// Adds a rule at a place of the list or behind the last one, where there is room.
-pub fn add_rule<'c>(alloc: Global, added: CheckedRule, facts: Facts) -> Result<Plan<'c>, Refusal>
-    ensures { Decides (CheckedChange.AddRule added) facts result }
+pub fn add_rule<'c>(
+    alloc: Global,
+    added: CheckedRule,
+    facts: &mut Facts,
+) -> Result<Plan<'c>, Refusal>
+    ensures { Decides (CheckedChange.AddRule added) facts.old result }
 {
-    let Facts { rules, .. } = facts;
     let CheckedRule { place, rule } = added;
-    let count = rules.as_slice().len();
+    let count = facts.rules.as_slice().len();
     if !is_place(place, count + 1) {
         return Err(Refusal::BadPlace);
     }
     if count >= MOST_RULES {
         return Err(Refusal::TooMany);
     }
-    Ok(add_at(alloc, place, rule, rules)?)
+    Ok(add_at(alloc, place, rule, take_list(alloc, &mut facts.rules))?)
 }
 
 /// Removes the rule at a place of the list.
-pub fn drop_rule<'c>(alloc: Global, place: u32, facts: Facts) -> Result<Plan<'c>, Refusal>
-    ensures { Decides (CheckedChange.DropRule place) facts result }
+pub fn drop_rule<'c>(alloc: Global, place: u32, facts: &mut Facts) -> Result<Plan<'c>, Refusal>
+    ensures { Decides (CheckedChange.DropRule place) facts.old result }
 {
-    let Facts { rules, .. } = facts;
-    if !is_place(place, rules.as_slice().len()) {
+    if !is_place(place, facts.rules.as_slice().len()) {
         return Err(Refusal::BadPlace);
     }
-    Ok(drop_at(alloc, place, rules)?)
+    Ok(drop_at(alloc, place, take_list(alloc, &mut facts.rules))?)
 }

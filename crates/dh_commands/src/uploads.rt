@@ -1,15 +1,12 @@
 //! Uploads of pages.
 ghost use Rattle.std.specs.Prelude.{◌≡◌, ◌++◌, IfOk, OnOk};
-ghost use Rattle.dh_commands.specs.Knowing.{Decides};
-ghost use Rattle.dh_commands.specs.Plans.{pages_put, plan_stored};
+ghost use Rattle.dh_plans.specs.Knowing.{Decides};
+ghost use Rattle.dh_plans.specs.Plans.{pages_put, plan_stored};
 
-use crate::edits::{Edit, FirstAnswer};
-use crate::facts::Facts;
-use crate::plan::Plan;
 use crate::projects::is_among;
-use crate::questions::is_write_key;
 use dh_checks::{CheckedChange, CheckedPage, CheckedUpload};
 use dh_paths::{Lang, Slug};
+use dh_plans::{Edit, Facts, FirstAnswer, Plan, is_write_key};
 use dh_world::{Answer, Operation, Refusal};
 use std::alloc::{AllocError, Global};
 
@@ -72,24 +69,17 @@ fn store<'c>(alloc: Global, upload: CheckedUpload<'c>) -> Result<Plan<'c>, Alloc
 pub fn upload<'c>(
     alloc: Global,
     upload: CheckedUpload<'c>,
-    facts: Facts,
+    facts: &mut Facts,
 ) -> Result<Plan<'c>, Refusal>
-    ensures { Decides (CheckedChange.Upload upload.entry) facts result }
+    ensures { Decides (CheckedChange.Upload upload.entry) facts.old result }
 {
-    let Facts {
-        settings,
-        version,
-        first_answer,
-        languages,
-        ..
-    } = facts;
-    if !is_write_key(&settings, &upload.wkey) {
+    if !is_write_key(&facts.settings, &upload.wkey) {
         return Err(Refusal::WrongKey);
     }
-    if let Some(answer) = first_answer {
+    if let Some(answer) = facts.first_answer.take() {
         return Ok(Plan::none(alloc, answer));
     }
-    match version {
+    match &facts.version {
         None => return Err(Refusal::NoVersion),
         Some(version) => {
             if !version.active {
@@ -97,7 +87,7 @@ pub fn upload<'c>(
             }
         }
     }
-    if !is_among(&languages, &upload.lang) {
+    if !is_among(&facts.languages, &upload.lang) {
         return Err(Refusal::NoLang);
     }
     Ok(store(alloc, upload)?)

@@ -9,8 +9,8 @@ use Rattle.dh_lookup.specs.declared.fault.Fault.TheVariants as fault
 use Rattle.dh_rows.specs.Calls.{IsRefused}
 use Rattle.dh_records.specs.Lists.{Lists}
 use Rattle.dh_schema.specs.Tables.{lists_of}
-use Rattle.dh_transactions.specs.Going.{IsOver, last_records}
-use Rattle.dh_transactions.specs.Sound.{Steps}
+use Rattle.dh_tables.specs.Going.{IsOver, last_records}
+use Rattle.dh_transactions.specs.Steps.{Steps}
 use Rattle.dh_world.specs.Checks.{refusal_from, IsFault}
 use Rattle.dh_world.specs.declared.answer.Answer.{Answer}
 use Rattle.dh_world.specs.declared.command.Command.{Command}

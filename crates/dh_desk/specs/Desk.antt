@@ -6,8 +6,8 @@ use Rattle.sqlite_trees.specs.declared.store.Store.{Ghosts}
 use Rattle.sqlite.specs.Held.{Held, held_code}
 use Rattle.dh_rows.specs.Calls.{IsHonest}
 use Rattle.dh_records.specs.Lists.{world_of}
-use Rattle.dh_transactions.specs.Going.{last_records}
-use Rattle.dh_transactions.specs.Sound.{AreSound}
+use Rattle.dh_tables.specs.Going.{last_records}
+use Rattle.dh_tables.specs.Sound.{AreSound}
 use Rattle.dh_reply.specs.Replies.{reply_to}
 use Rattle.dh_wire.specs.declared.answer.Read.{Read}
 use Rattle.dh_wire.specs.declared.answer.Reply.{Reply}

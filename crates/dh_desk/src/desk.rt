@@ -7,8 +7,8 @@ ghost use Rattle.dh_rows.specs.Calls.{IsHonest, IsRefused, LeavesNoMore, LeavesC
 ghost use Rattle.dh_schema.specs.Calling.{Blames};
 ghost use Rattle.dh_schema.specs.Tables.{lists_of};
 ghost use Rattle.dh_transactions.specs.Crashes.{LeavesStep, LeavesEither};
-ghost use Rattle.dh_transactions.specs.Going.{IsOver, last_records};
-ghost use Rattle.dh_transactions.specs.Sound.{Steps};
+ghost use Rattle.dh_tables.specs.Going.{IsOver, last_records};
+ghost use Rattle.dh_transactions.specs.Steps.{Steps};
 ghost use Rattle.dh_world.specs.Checks.{IsFault};
 ghost use Rattle.dh_world.specs.Reads.{is_unanswered};
 ghost use Rattle.dh_world.specs.Step.{IsStep};

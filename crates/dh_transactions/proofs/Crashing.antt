@@ -13,7 +13,7 @@ use Rattle.dh_world.specs.declared.refusal.Refusal.{Refusal}
 use Rattle.dh_world.specs.Texts.{bad_text}
 use Rattle.dh_world.specs.Step.{step}
 use Rattle.dh_world.specs.Checks.{IsFault}
-use Rattle.dh_transactions.specs.Sound.{Turns}
+use Rattle.dh_transactions.specs.Steps.{Turns}
 use Rattle.dh_transactions.specs.Crashes.{spelled, LeavesStep, LeavesEnd}
 use Rattle.dh_transactions.proofs.Turning.{right_texts}
 

@@ -4,9 +4,9 @@ use Rattle.std.specs.Prelude.{option_map, unwrap_or, IsSome, IsTrue}
 use Rattle.std.specs.FinMap.{get, insert}
 use Rattle.std.specs.List.{IsDistinct}
 use Rattle.std.specs.Str.{bytes_eq}
-use Rattle.dh_commands.specs.Edits.{edited, all_edited, MayEdit, MayEditAll}
-use Rattle.dh_commands.specs.declared.edits.Edit.{Edit}
-use Rattle.dh_commands.specs.declared.edits.Edit.TheVariants.{AddLang, PutVersion, PutWithoutPages, RemoveVersion, PutPage, RemovePages, SetDefaults, PutRule, DropLastRule, PutRedirect, DropLastRedirect, AddPass, RemovePass, Grant, Revoke, PutAnswer}
+use Rattle.dh_plans.specs.Edits.{edited, all_edited, MayEdit, MayEditAll}
+use Rattle.dh_plans.specs.declared.edits.Edit.{Edit}
+use Rattle.dh_plans.specs.declared.edits.Edit.TheVariants.{AddLang, PutVersion, PutWithoutPages, RemoveVersion, PutPage, RemovePages, SetDefaults, PutRule, DropLastRule, PutRedirect, DropLastRedirect, AddPass, RemovePass, Grant, Revoke, PutAnswer}
 use Rattle.dh_rows.specs.Keyed.{IsFreeKey}
 use Rattle.dh_records.proofs.AccessChanges.{world_gone, world_with_defaults, world_with_pass, pass_count_in, world_pass_gone, world_with_grant, world_without_grant}
 use Rattle.dh_records.proofs.AccessConstraints.{defaults_distinct, filter_distinct, front_distinct, constraints_gone, constraints_with_front, constraints_with_pass, constraints_pass_gone, constraints_with_grant, constraints_without_grants, order_without_version, order_with_defaults, order_with_pass, order_without_pass, order_with_grant, order_without_grants}
@@ -28,9 +28,9 @@ use Rattle.dh_records.specs.declared.records.RedirectRow.{RedirectRow}
 use Rattle.dh_records.specs.declared.records.RuleRow.{RuleRow}
 use Rattle.dh_records.specs.declared.records.UsedRow.{UsedRow}
 use Rattle.dh_records.specs.declared.records.VersionRow.{VersionRow}
-use Rattle.dh_transactions.specs.RowEdits.{lang_row, version_row, page_row, pass_row, grant_row, answer_row, with_defaults, without_pages, rows_edited, all_rows_edited, RowsMay, RowsMayAll}
-use Rattle.dh_transactions.specs.RowEdits as rows
-use Rattle.dh_transactions.specs.Sound.{AreSound}
+use Rattle.dh_edits.specs.RowEdits.{lang_row, version_row, page_row, pass_row, grant_row, answer_row, with_defaults, without_pages, rows_edited, all_rows_edited, RowsMay, RowsMayAll}
+use Rattle.dh_edits.specs.RowEdits as rows
+use Rattle.dh_tables.specs.Sound.{AreSound}
 use Rattle.dh_world.proofs.AnswerLemmas.{told_again}
 use Rattle.dh_world.proofs.MapLemmas.{put_same, get_back}
 use Rattle.dh_world.specs.Answers.{IsAnswer, json_of, answer_of}

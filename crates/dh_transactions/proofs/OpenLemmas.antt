@@ -4,7 +4,7 @@ use Rattle.std.specs.List.{list_any}
 use Rattle.std.specs.Str.{bytes_eq}
 use Rattle.std.specs.FinMap.{get}
 use Rattle.dh_checks.specs.Commands.{command_of}
-use Rattle.dh_commands.specs.Plans.{Opens}
+use Rattle.dh_plans.specs.Plans.{Opens}
 use Rattle.dh_checks.specs.declared.checked.CheckedChange.{CheckedChange}
 use Rattle.dh_checks.specs.declared.checked.NewProject.{NewProject}
 use Rattle.sqlite_keyed.proofs.ListLemmas.{filter_none}
@@ -21,7 +21,8 @@ use Rattle.dh_records.specs.declared.records.LangRow.{LangRow}
 use Rattle.dh_records.specs.declared.records.ProjectRow.{ProjectRow}
 use Rattle.dh_transactions.proofs.Turning.{turn_at}
 use Rattle.dh_transactions.specs.Opening.{project_row, main_lang, with_row, with_project}
-use Rattle.dh_transactions.specs.Sound.{AreSound, Turns}
+use Rattle.dh_tables.specs.Sound.{AreSound}
+use Rattle.dh_transactions.specs.Steps.{Turns}
 use Rattle.dh_world.specs.Step.{settled}
 use Rattle.dh_world.specs.World.{Text}
 use Rattle.dh_world.specs.declared.answer.Answer.TheVariants.{Done}

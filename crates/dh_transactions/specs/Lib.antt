@@ -1,6 +1,3 @@
-pub mod Sound
-pub mod Going
-pub mod Finding
-pub mod RowEdits
+pub mod Steps
 pub mod Opening
 pub mod Crashes

@@ -2,8 +2,6 @@
 //! the edits that are decided on, and is committed where the command is accepted.
 #![tactic(auto)]
 
-mod edits;
-mod looks;
 mod opening;
 mod transaction;
 

@@ -7,9 +7,10 @@ ghost use Rattle.dh_rows.specs.Keyed.{IsFreeKey};
 ghost use Rattle.dh_records.specs.Codings as coding;
 ghost use Rattle.dh_records.specs.Lists.{world_of};
 ghost use Rattle.dh_records.specs.Constraints.{has_language};
-ghost use Rattle.dh_transactions.specs.Going.{Makes, Stays, records};
+ghost use Rattle.dh_tables.specs.Going.{Makes, Stays, records};
 ghost use Rattle.dh_transactions.specs.Opening.{project_row, main_lang, with_row, with_lang, with_project};
-ghost use Rattle.dh_transactions.specs.Sound.{AreSound, Turns};
+ghost use Rattle.dh_tables.specs.Sound.{AreSound};
+ghost use Rattle.dh_transactions.specs.Steps.{Turns};
 
 use dh_checks::{CheckedChange, NewProject, ProjectSettings};
 use dh_commands::open;

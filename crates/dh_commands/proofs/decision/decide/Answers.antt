@@ -1,10 +1,10 @@
 -- of a version's properties, what is decided holds whatever its slug
 use Rattle.std.proofs.Common.{◌≡◌, Result, sym, subst}
 use Rattle.dh_world.specs.declared.refusal.Refusal.{Refusal}
-use Rattle.dh_commands.specs.Knowing.{Decides}
-use Rattle.dh_commands.specs.Planned.{Planned}
+use Rattle.dh_plans.specs.Knowing.{Decides}
+use Rattle.dh_plans.specs.Planned.{Planned}
 use Rattle.dh_checks.specs.declared.checked.CheckedChange.{CheckedChange}
-use Rattle.dh_commands.specs.declared.facts.Facts.{Facts}
+use Rattle.dh_plans.specs.declared.facts.Facts.{Facts}
 use Rattle.dh_commands.proofs.decision.decide.Goals as goal
 
 -- what is decided of one change is decided of the same one

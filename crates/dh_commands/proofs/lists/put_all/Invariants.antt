@@ -1,6 +1,6 @@
 use Rattle.std.proofs.Common.{◌≡◌, ◌+◌, ◌++◌, length}
 use Rattle.std.specs.Vec.Iter.{into_iter_items}
-use Rattle.dh_commands.specs.Plans.{puts}
+use Rattle.dh_plans.specs.Plans.{puts}
 use Rattle.dh_commands.proofs.lists.put_all.Given as goal
 
 abbrev pub invariant-loop-entry : goal.invariant-loop-entry

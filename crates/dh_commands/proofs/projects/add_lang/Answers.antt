@@ -2,7 +2,7 @@ use Rattle.std.proofs.Common.{◌∙◌, ◌+◌, ◌<◌, ◌≤◌, Ok, sym, a
 use Rattle.std.specs.List.{list_any}
 use Rattle.std.specs.Str.{bytes_eq}
 use Rattle.dh_commands.proofs.LanguagePlans.{taken, full, adds}
-use Rattle.dh_commands.proofs.Planning.{plans_by}
+use Rattle.dh_plans.proofs.Planning.{plans_by}
 use Rattle.dh_commands.proofs.projects.add_lang.Goals as goal
 
 pub returns-then-is_among : goal.returns-then-is_among

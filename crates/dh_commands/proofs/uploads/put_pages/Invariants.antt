@@ -1,6 +1,6 @@
 use Rattle.std.proofs.Common.{◌≡◌, ◌++◌}
 use Rattle.std.specs.Vec.Iter.{into_iter_items}
-use Rattle.dh_commands.specs.Plans.{pages_put}
+use Rattle.dh_plans.specs.Plans.{pages_put}
 use Rattle.dh_commands.proofs.uploads.put_pages.Given as goal
 
 abbrev pub invariant-loop-page : goal.invariant-loop-page

@@ -3,8 +3,9 @@ use Rattle.dh_desk.proofs.Applying.{steps_aside, over_aside, stays}
 use Rattle.dh_desk.proofs.desk.apply.Goals as goal
 use Rattle.dh_records.specs.Lists.{Lists}
 use Rattle.dh_transactions.proofs.Crashing.{step_after}
-use Rattle.dh_transactions.specs.Going.{last_records}
-use Rattle.dh_transactions.specs.Sound.{AreSound, Steps}
+use Rattle.dh_tables.specs.Going.{last_records}
+use Rattle.dh_tables.specs.Sound.{AreSound}
+use Rattle.dh_transactions.specs.Steps.{Steps}
 
 pub returns-in_err-back-clause-steps : goal.returns-in_err-back-clause-steps
 returns-in_err-back-clause-steps g c honest =

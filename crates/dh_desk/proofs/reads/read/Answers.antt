@@ -3,7 +3,7 @@ use Rattle.dh_reply.specs.Replies.{reply_to}
 use Rattle.dh_records.specs.Lists.{Lists, world_of}
 use Rattle.dh_world.specs.Seen as caller
 use Rattle.std.specs.Option.{option_map}
-use Rattle.dh_transactions.specs.Going.{last_records}
+use Rattle.dh_tables.specs.Going.{last_records}
 use Rattle.dh_desk.proofs.Reading.{blamed_on, stays_undone}
 use Rattle.dh_desk.proofs.Veiling.{behind_veil}
 use Rattle.dh_desk.proofs.reads.read.Goals as goal

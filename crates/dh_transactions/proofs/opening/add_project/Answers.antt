@@ -7,8 +7,8 @@ use Rattle.dh_records.specs.declared.records.LangRow.{LangRow}
 use Rattle.dh_records.specs.declared.records.ProjectRow.{ProjectRow}
 use Rattle.dh_transactions.proofs.OpenLemmas.{row_is_free, main_is_free, none_speaks}
 use Rattle.dh_transactions.proofs.opening.add_project.Goals as goal
-use Rattle.dh_transactions.proofs.Together.{makes_on}
-use Rattle.dh_transactions.specs.Going.{Makes, records}
+use Rattle.dh_tables.proofs.Together.{makes_on}
+use Rattle.dh_tables.specs.Going.{Makes, records}
 use Rattle.dh_transactions.specs.Opening.{project_row, main_lang, with_lang, with_row}
 
 pub add_row-requires-clause-free : goal.add_row-requires-clause-free

@@ -3,8 +3,8 @@ use Rattle.dh_checks.specs.Commands.{command_of}
 use Rattle.dh_records.specs.Lists.{Lists}
 use Rattle.dh_transactions.proofs.OpenLemmas.{opened_here}
 use Rattle.dh_transactions.proofs.opening.open_project.Goals as goal
-use Rattle.dh_transactions.specs.Going.{records}
-use Rattle.dh_transactions.specs.Sound.{Turns}
+use Rattle.dh_tables.specs.Going.{records}
+use Rattle.dh_transactions.specs.Steps.{Turns}
 use Rattle.dh_world.specs.declared.answer.Answer.TheVariants.{Done}
 
 pub returns-clause-turns : goal.returns-clause-turns

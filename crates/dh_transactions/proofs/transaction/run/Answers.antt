@@ -4,8 +4,8 @@ use Rattle.dh_rows.specs.Calls.{IsHonest}
 use Rattle.dh_records.specs.Lists.{Lists}
 use Rattle.dh_transactions.proofs.Crashing.{given_ok, ended_leaves, refused_after, worked_no_more}
 use Rattle.dh_transactions.proofs.transaction.run.Goals as goal
-use Rattle.dh_transactions.specs.Going.{records, last_records}
-use Rattle.dh_transactions.specs.Sound.{Turns}
+use Rattle.dh_tables.specs.Going.{records, last_records}
+use Rattle.dh_transactions.specs.Steps.{Turns}
 use Rattle.dh_world.specs.declared.command.Command.{Command}
 
 pub returns-clause-crash : goal.returns-clause-crash

@@ -1,14 +1,14 @@
 use Rattle.std.proofs.Common.{◌∙◌, Ok, sym, ap, subst}
 use Rattle.dh_checks.specs.Commands.{command_of}
-use Rattle.dh_commands.specs.Knowing.{Decides}
-use Rattle.dh_commands.specs.Planned.{Planned}
+use Rattle.dh_plans.specs.Knowing.{Decides}
+use Rattle.dh_plans.specs.Planned.{Planned}
 use Rattle.dh_records.specs.Lists.{Lists}
 use Rattle.dh_transactions.proofs.Working.{turn_refused, edits_may, turn_done}
 use Rattle.dh_transactions.proofs.transaction.work.Goals as goal
-use Rattle.dh_transactions.specs.Finding.{FindsFacts}
-use Rattle.dh_transactions.specs.Going.{records}
-use Rattle.dh_transactions.specs.RowEdits.{RowsMayAll, all_rows_edited}
-use Rattle.dh_transactions.specs.Sound.{Turns}
+use Rattle.dh_looks.specs.Finding.{FindsFacts}
+use Rattle.dh_tables.specs.Going.{records}
+use Rattle.dh_edits.specs.RowEdits.{RowsMayAll, all_rows_edited}
+use Rattle.dh_transactions.specs.Steps.{Turns}
 
 pub returns-in_err-edits-clause-turns : goal.returns-in_err-edits-clause-turns
 returns-in_err-edits-clause-turns g c honest =

@@ -1,0 +1,371 @@
+//! Making the edits of a plan, within a transaction.
+ghost use Rattle.std.specs.Prelude.{◌≡◌, true, IfOk};
+ghost use Rattle.std.specs.List.{IsDistinct};
+ghost use Rattle.std.specs.Str.{bytes_eq};
+ghost use Rattle.dh_rows.specs.Calls.{IsHonest};
+ghost use Rattle.dh_tables.specs.Going.{Makes, records};
+ghost use Rattle.dh_edits.specs.RowEdits.{RowsMay, RowsMayAll, rows_edited, all_rows_edited, with_version, without_version, without_pages, without_grants_on, with_defaults};
+
+use dh_checks::CheckedPage;
+use dh_paths::{Bytes, HostName, Lang, Slug, Text, Token};
+use dh_plans::{Edit, FirstAnswer};
+use dh_redirects::Redirect;
+use dh_reply::Page;
+use dh_rules::Rule;
+use dh_tables::{HeldRow, LangRow, PageRow, PassRow, RedirectRow, RuleRow, Tables, VersionRow};
+use dh_versions::Version;
+use dh_world::Refusal;
+use sqlite::Alter;
+use std::alloc::{AllocError, Global};
+
+fn add_lang<S: Alter>(
+    tables: &mut Tables<S>,
+    alloc: Global,
+    host: &HostName,
+    lang: Lang,
+    place: u32,
+) -> Result<(), Refusal>
+    requires within { IsHonest S.Store tables.old → tables.old.in_transaction ≡ true }
+    requires may { IsHonest S.Store tables.old
+        → RowsMay host.now (Edit.AddLang lang place) (records S.Store tables.old) }
+    ensures makes { Makes S.Store tables.old tables.new result
+        (rows_edited host.now (Edit.AddLang lang place)) }
+{
+    let row = LangRow {
+        host: host.try_copy(alloc)?,
+        lang,
+        place,
+    };
+    Ok(tables.add_lang(&row)?)
+}
+
+fn put_version<S: Alter>(
+    tables: &mut Tables<S>,
+    alloc: Global,
+    host: &HostName,
+    version: Version,
+) -> Result<(), Refusal>
+    requires within { IsHonest S.Store tables.old → tables.old.in_transaction ≡ true }
+    ensures makes { Makes S.Store tables.old tables.new result
+        (with_version host.now version) }
+{
+    let row = VersionRow {
+        host: host.try_copy(alloc)?,
+        version,
+    };
+    Ok(tables.put_version(&row)?)
+}
+
+fn put_without_pages<S: Alter>(
+    tables: &mut Tables<S>,
+    alloc: Global,
+    host: &HostName,
+    version: Version,
+) -> Result<(), Refusal>
+    requires within { IsHonest S.Store tables.old → tables.old.in_transaction ≡ true }
+    ensures makes { Makes S.Store tables.old tables.new result
+        (rows_edited host.now (Edit.PutWithoutPages version)) }
+{
+    tables.drop_pages(host, &version.slug, None)?;
+    put_version(tables, alloc, host, version)
+}
+
+/// The version and the grants on it.
+fn remove_granted<S: Alter>(
+    tables: &mut Tables<S>,
+    host: &HostName,
+    slug: &Slug,
+) -> Result<(), Refusal>
+    requires within { IsHonest S.Store tables.old → tables.old.in_transaction ≡ true }
+    ensures makes { Makes S.Store tables.old tables.new result
+        (λ l. without_version host.now slug.now (without_grants_on host.now slug.now l)) }
+{
+    tables.drop_grants_of(host, slug)?;
+    Ok(tables.drop_version(host, slug)?)
+}
+
+/// The version, the grants on it and its pages.
+fn remove_filled<S: Alter>(
+    tables: &mut Tables<S>,
+    host: &HostName,
+    slug: &Slug,
+) -> Result<(), Refusal>
+    requires within { IsHonest S.Store tables.old → tables.old.in_transaction ≡ true }
+    ensures makes { Makes S.Store tables.old tables.new result
+        (λ l. without_version host.now slug.now (without_grants_on host.now slug.now
+        (without_pages host.now slug.now l))) }
+{
+    tables.drop_pages(host, slug, None)?;
+    remove_granted(tables, host, slug)
+}
+
+fn remove_version<S: Alter>(
+    tables: &mut Tables<S>,
+    host: &HostName,
+    slug: &Slug,
+    defaults: &[Slug],
+) -> Result<(), Refusal>
+    requires within { IsHonest S.Store tables.old → tables.old.in_transaction ≡ true }
+    requires apart { IsHonest S.Store tables.old → IsDistinct bytes_eq defaults.now }
+    ensures makes { Makes S.Store tables.old tables.new result
+        (λ l. without_version host.now slug.now (without_grants_on host.now slug.now
+        (without_pages host.now slug.now (with_defaults host.now defaults.now l)))) }
+{
+    set_defaults(tables, host, defaults)?;
+    remove_filled(tables, host, slug)
+}
+
+/// A page of an upload as it is stored. Its body is copied, once.
+fn page_in(alloc: Global, page: &CheckedPage<'_>) -> Result<Page, AllocError>
+    ensures { IfOk result (λ stored. stored ≡ record { media = page.now.media; body = page.now.body }) }
+{
+    Ok(Page {
+        media: Text::copy_of(alloc, page.page.media.as_str())?,
+        body: Bytes::copy_of(alloc, page.page.body.as_slice())?,
+    })
+}
+
+fn put_page<S: Alter>(
+    tables: &mut Tables<S>,
+    alloc: Global,
+    host: &HostName,
+    slug: Slug,
+    lang: Lang,
+    page: CheckedPage<'_>,
+) -> Result<(), Refusal>
+    requires within { IsHonest S.Store tables.old → tables.old.in_transaction ≡ true }
+    ensures makes { Makes S.Store tables.old tables.new result
+        (rows_edited host.now (Edit.PutPage slug lang page.entry)) }
+{
+    let stored = page_in(alloc, &page)?;
+    let row = PageRow {
+        host: host.try_copy(alloc)?,
+        slug,
+        lang,
+        path: page.path,
+        page: stored,
+    };
+    Ok(tables.put_page(&row)?)
+}
+
+fn remove_pages<S: Alter>(
+    tables: &mut Tables<S>,
+    host: &HostName,
+    slug: &Slug,
+    lang: &Lang,
+) -> Result<(), Refusal>
+    requires within { IsHonest S.Store tables.old → tables.old.in_transaction ≡ true }
+    ensures makes { Makes S.Store tables.old tables.new result
+        (rows_edited host.now (Edit.RemovePages slug.now lang.now)) }
+{
+    Ok(tables.drop_pages(host, slug, Some(lang))?)
+}
+
+fn set_defaults<S: Alter>(
+    tables: &mut Tables<S>,
+    host: &HostName,
+    names: &[Slug],
+) -> Result<(), Refusal>
+    requires within { IsHonest S.Store tables.old → tables.old.in_transaction ≡ true }
+    requires apart { IsHonest S.Store tables.old → IsDistinct bytes_eq names.now }
+    ensures makes { Makes S.Store tables.old tables.new result
+        (with_defaults host.now names.now) }
+{
+    Ok(tables.set_picks(host, names)?)
+}
+
+fn put_rule<S: Alter>(
+    tables: &mut Tables<S>,
+    alloc: Global,
+    host: &HostName,
+    place: u32,
+    rule: Rule,
+) -> Result<(), Refusal>
+    requires within { IsHonest S.Store tables.old → tables.old.in_transaction ≡ true }
+    ensures makes { Makes S.Store tables.old tables.new result
+        (rows_edited host.now (Edit.PutRule place rule)) }
+{
+    let row = RuleRow {
+        host: host.try_copy(alloc)?,
+        place,
+        rule,
+    };
+    Ok(tables.put_rule(alloc, &row)?)
+}
+
+fn drop_rule<S: Alter>(tables: &mut Tables<S>, host: &HostName, place: u32) -> Result<(), Refusal>
+    requires within { IsHonest S.Store tables.old → tables.old.in_transaction ≡ true }
+    ensures makes { Makes S.Store tables.old tables.new result
+        (rows_edited host.now (Edit.DropLastRule place)) }
+{
+    Ok(tables.drop_rule(host, place)?)
+}
+
+fn put_redirect<S: Alter>(
+    tables: &mut Tables<S>,
+    alloc: Global,
+    host: &HostName,
+    place: u32,
+    redirect: Redirect,
+) -> Result<(), Refusal>
+    requires within { IsHonest S.Store tables.old → tables.old.in_transaction ≡ true }
+    ensures makes { Makes S.Store tables.old tables.new result
+        (rows_edited host.now (Edit.PutRedirect place redirect)) }
+{
+    let row = RedirectRow {
+        host: host.try_copy(alloc)?,
+        place,
+        redirect,
+    };
+    Ok(tables.put_redirect(&row)?)
+}
+
+fn drop_redirect<S: Alter>(
+    tables: &mut Tables<S>,
+    host: &HostName,
+    place: u32,
+) -> Result<(), Refusal>
+    requires within { IsHonest S.Store tables.old → tables.old.in_transaction ≡ true }
+    ensures makes { Makes S.Store tables.old tables.new result
+        (rows_edited host.now (Edit.DropLastRedirect place)) }
+{
+    Ok(tables.drop_redirect(host, place)?)
+}
+
+fn add_pass<S: Alter>(
+    tables: &mut Tables<S>,
+    alloc: Global,
+    host: &HostName,
+    pass: Token,
+) -> Result<(), Refusal>
+    requires within { IsHonest S.Store tables.old → tables.old.in_transaction ≡ true }
+    requires may { IsHonest S.Store tables.old
+        → RowsMay host.now (Edit.AddPass pass) (records S.Store tables.old) }
+    ensures makes { Makes S.Store tables.old tables.new result
+        (rows_edited host.now (Edit.AddPass pass)) }
+{
+    let row = PassRow {
+        host: host.try_copy(alloc)?,
+        pass,
+    };
+    Ok(tables.add_pass(&row)?)
+}
+
+fn remove_pass<S: Alter>(
+    tables: &mut Tables<S>,
+    host: &HostName,
+    pass: &Token,
+) -> Result<(), Refusal>
+    requires within { IsHonest S.Store tables.old → tables.old.in_transaction ≡ true }
+    ensures makes { Makes S.Store tables.old tables.new result
+        (rows_edited host.now (Edit.RemovePass pass.now)) }
+{
+    tables.drop_grants_by(host, pass)?;
+    Ok(tables.drop_pass(host, pass)?)
+}
+
+fn grant<S: Alter>(
+    tables: &mut Tables<S>,
+    alloc: Global,
+    host: &HostName,
+    pass: Token,
+    slug: Slug,
+) -> Result<(), Refusal>
+    requires within { IsHonest S.Store tables.old → tables.old.in_transaction ≡ true }
+    ensures makes { Makes S.Store tables.old tables.new result
+        (rows_edited host.now (Edit.Grant pass slug)) }
+{
+    let row = HeldRow {
+        host: host.try_copy(alloc)?,
+        pass,
+        slug,
+    };
+    Ok(tables.grant(&row)?)
+}
+
+fn revoke<S: Alter>(
+    tables: &mut Tables<S>,
+    host: &HostName,
+    pass: &Token,
+    slug: &Slug,
+) -> Result<(), Refusal>
+    requires within { IsHonest S.Store tables.old → tables.old.in_transaction ≡ true }
+    ensures makes { Makes S.Store tables.old tables.new result
+        (rows_edited host.now (Edit.Revoke pass.now slug.now)) }
+{
+    Ok(tables.revoke(host, pass, slug)?)
+}
+
+fn put_answer<S: Alter>(
+    tables: &mut Tables<S>,
+    alloc: Global,
+    host: &HostName,
+    first: FirstAnswer,
+) -> Result<(), Refusal>
+    requires within { IsHonest S.Store tables.old → tables.old.in_transaction ≡ true }
+    requires may { IsHonest S.Store tables.old
+        → RowsMay host.now (Edit.PutAnswer first) (records S.Store tables.old) }
+    ensures makes { Makes S.Store tables.old tables.new result
+        (rows_edited host.now (Edit.PutAnswer first)) }
+{
+    let FirstAnswer {
+        slug,
+        operation,
+        key,
+        answer,
+    } = first;
+    Ok(tables.keep(alloc, host, &slug, operation, &key, &answer)?)
+}
+
+fn make_edit<S: Alter>(
+    tables: &mut Tables<S>,
+    alloc: Global,
+    host: &HostName,
+    edit: Edit<'_>,
+) -> Result<(), Refusal>
+    requires within { IsHonest S.Store tables.old → tables.old.in_transaction ≡ true }
+    requires may { IsHonest S.Store tables.old
+        → RowsMay host.now edit (records S.Store tables.old) }
+    ensures makes { Makes S.Store tables.old tables.new result
+        (rows_edited host.now edit.entry) }
+{
+    match edit {
+        Edit::AddLang { lang, place } => add_lang(tables, alloc, host, lang, place),
+        Edit::PutVersion(version) => put_version(tables, alloc, host, version),
+        Edit::PutWithoutPages(version) => put_without_pages(tables, alloc, host, version),
+        Edit::RemoveVersion { slug, defaults } => {
+            remove_version(tables, host, &slug, defaults.as_slice())
+        }
+        Edit::PutPage { slug, lang, page } => put_page(tables, alloc, host, slug, lang, page),
+        Edit::RemovePages { slug, lang } => remove_pages(tables, host, &slug, &lang),
+        Edit::SetDefaults(names) => set_defaults(tables, host, names.as_slice()),
+        Edit::PutRule { place, rule } => put_rule(tables, alloc, host, place, rule),
+        Edit::DropLastRule { place } => drop_rule(tables, host, place),
+        Edit::PutRedirect { place, redirect } => put_redirect(tables, alloc, host, place, redirect),
+        Edit::DropLastRedirect { place } => drop_redirect(tables, host, place),
+        Edit::AddPass(pass) => add_pass(tables, alloc, host, pass),
+        Edit::RemovePass(pass) => remove_pass(tables, host, &pass),
+        Edit::Grant { pass, slug } => grant(tables, alloc, host, pass, slug),
+        Edit::Revoke { pass, slug } => revoke(tables, host, &pass, &slug),
+        Edit::PutAnswer(first) => put_answer(tables, alloc, host, first),
+    }
+}
+
+/// Makes edits one after the other.
+pub fn make_edits<S: Alter>(
+    tables: &mut Tables<S>,
+    alloc: Global,
+    host: &HostName,
+    edits: Vec<Edit<'_>>,
+) -> Result<(), Refusal>
+    requires within { IsHonest S.Store tables.old → tables.old.in_transaction ≡ true }
+    requires may { IsHonest S.Store tables.old
+        → RowsMayAll host.now edits.items (records S.Store tables.old) }
+    ensures makes { Makes S.Store tables.old tables.new result
+        (all_rows_edited host.now edits.entry.items) }
+{
+    for edit in edits {
+        make_edit(tables, alloc, host, edit)?;
+    }
+    Ok(())
+}

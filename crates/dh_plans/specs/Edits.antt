@@ -1,0 +1,85 @@
+-- What edits make of a project, and when they may be made.
+use Rattle.std.specs.Prelude.{◌≡◌, ◌≤◌, ◌<◌, ◌⊎◌, ◌+◌, ◌-◌, Bool, false, ◌||◌, not, IsTrue, List, [], ◌∷◌, ◌++◌, length, take, drop, Some, None, Result, Ok, Err, IsSome}
+use Rattle.std.specs.Option.{option_map_or}
+use Rattle.std.specs.FinMap.{get, insert, remove, retain_keys, contains_key, len}
+use Rattle.std.specs.Str.{bytes_eq}
+use Rattle.dh_texts.specs.Slugs.{slug_from}
+use Rattle.dh_rules.specs.Rules.{is_allowed}
+use Rattle.dh_redirects.specs.Redirects.{first_fault}
+use Rattle.dh_world.specs.Answers.{IsAnswer, json_of}
+use Rattle.dh_world.specs.Changes.{Change, has_lang, with_version, without_pages, without_name, without_version}
+use Rattle.dh_world.specs.Seen.{is_alias}
+use Rattle.dh_world.specs.World.{Text, Project, op_code, lies_under}
+use Rattle.dh_world.specs.declared.refusal.Refusal.{Refusal}
+use Rattle.dh_world.specs.declared.refusal.Refusal.TheVariants.{OutOfMemory}
+use Rattle.dh_plans.specs.Planned.{Planned}
+use Rattle.dh_plans.specs.declared.edits.Edit.{Edit}
+use Rattle.dh_plans.specs.declared.edits.Edit.TheVariants.{AddLang, PutVersion, PutWithoutPages, RemoveVersion, PutPage, RemovePages, SetDefaults, PutRule, DropLastRule, PutRedirect, DropLastRedirect, AddPass, RemovePass, Grant, Revoke, PutAnswer}
+
+abbrev pub edited : Edit → Project → Project
+edited (AddLang lang place) p = record p { languages = p.languages ++ lang ∷ [] }
+edited (PutVersion v) p = with_version p v.slug v
+edited (PutWithoutPages v) p = without_pages v.slug (with_version p v.slug v)
+edited (RemoveVersion slug defaults) p = record (without_version slug p) { defaults = defaults }
+edited (PutPage slug lang x) p = record p { pages = insert p.pages (slug, (lang, x.path)) (record { media = x.media; body = x.body }) }
+edited (RemovePages slug lang) p = record p { pages = retain_keys p.pages (λ key. not (lies_under slug (Some lang) key)) }
+edited (SetDefaults names) p = record p { defaults = names }
+edited (PutRule place rule) p = record p { rules = take (place - 1) p.rules ++ rule ∷ drop place p.rules }
+edited (DropLastRule place) p = record p { rules = take (place - 1) p.rules }
+edited (PutRedirect place r) p = record p { redirects = take (place - 1) p.redirects ++ r ∷ drop place p.redirects }
+edited (DropLastRedirect place) p = record p { redirects = take (place - 1) p.redirects }
+edited (AddPass pass) p = record p { passes = insert p.passes pass tt }
+edited (RemovePass pass) p = record p { passes = remove p.passes pass; held = retain_keys p.held (λ key. not (bytes_eq key.0 pass)) }
+edited (Grant pass slug) p = record p { held = insert p.held (pass, slug) tt }
+edited (Revoke pass slug) p = record p { held = remove p.held (pass, slug) }
+edited (PutAnswer a) p = record p { used = insert p.used (a.slug, (op_code a.operation, a.key)) a.answer }
+
+-- one after the other
+abbrev pub all_edited : List Edit → Project → Project
+all_edited [] p = p
+all_edited (e ∷ es) p = all_edited es (edited e p)
+
+-- the version is there, and active
+abbrev pub is_active : Project → Text → Bool
+is_active p slug = option_map_or (λ v. v.active) (get p.versions slug) false
+
+-- the project's defaults with one name put to the front, which is an alias or a version that is there
+pub record IsNewFront (p : Project) (names : List Text) : Type 0 where
+  pub name : Text
+  pub names_are : names ≡ name ∷ without_name name p.defaults
+  pub may : IsTrue (is_alias name || contains_key p.versions name)
+
+-- What has to hold of a project before an edit, so that it is one again: a version's slug comes from its name, one that has
+-- pages stays active, pages and grants lead to what is there, places have no gap,
+-- a rule and a redirect pass their checks, and a first answer is one that has a JSON, under a free key.
+abbrev pub MayEdit : Edit → Project → Type 0
+MayEdit (AddLang lang place) p = (has_lang p lang ≡ false) × (place ≡ length p.languages + 1) × (place ≤ 30)
+MayEdit (PutVersion v) p = (slug_from v.name ≡ Some v.slug) × (v.active ≡ false → is_active p v.slug ≡ false)
+MayEdit (PutWithoutPages v) p = slug_from v.name ≡ Some v.slug
+MayEdit (RemoveVersion slug defaults) p = defaults ≡ without_name slug p.defaults
+MayEdit (PutPage slug lang x) p = IsTrue (is_active p slug) × IsTrue (has_lang p lang)
+MayEdit (RemovePages slug lang) p = Unit {0}
+MayEdit (SetDefaults names) p = IsNewFront p names
+MayEdit (PutRule place rule) p = (1 ≤ place) × (place ≤ length p.rules + 1) × (place ≤ 50) × IsTrue (is_allowed rule.pattern)
+MayEdit (DropLastRule place) p = (1 ≤ place) × (place ≡ length p.rules)
+MayEdit (PutRedirect place r) p = (1 ≤ place) × (place ≤ length p.redirects + 1) × (place ≤ 100) × (first_fault r ≡ None)
+MayEdit (DropLastRedirect place) p = (1 ≤ place) × (place ≡ length p.redirects)
+MayEdit (AddPass pass) p = (contains_key p.passes pass ≡ false) × (len p.passes < 1000)
+MayEdit (RemovePass pass) p = Unit {0}
+MayEdit (Grant pass slug) p = IsTrue (contains_key p.passes pass) × IsTrue (contains_key p.versions slug)
+MayEdit (Revoke pass slug) p = Unit {0}
+MayEdit (PutAnswer a) p = (get p.used (a.slug, (op_code a.operation, a.key)) ≡ None) × IsAnswer a.answer × IsSome (json_of a.answer)
+
+abbrev pub MayEditAll : List Edit → Project → Type 0
+MayEditAll [] p = Unit {0}
+MayEditAll (e ∷ es) p = MayEdit e p × MayEditAll es (edited e p)
+
+-- a plan that is the change of this project, or the change's refusal; out of memory may come anywhere
+abbrev pub Plans : Project → Change → Result Planned Refusal → Type 0
+Plans p change (Ok plan) = (change ≡ Ok (all_edited plan.edits p, plan.answer)) × MayEditAll plan.edits p
+Plans p change (Err e) = (e ≡ OutOfMemory) ⊎ (change ≡ Err e)
+
+-- this plan, unless out of memory
+abbrev pub Makes : Planned → Result Planned Refusal → Type 0
+Makes planned (Ok plan) = plan ≡ planned
+Makes planned (Err e) = e ≡ OutOfMemory

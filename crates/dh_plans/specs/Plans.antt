@@ -1,0 +1,130 @@
+-- The parts of plans, and why there is none.
+use Rattle.std.specs.Prelude.{◌≡◌, ◌⊎◌, ℕ, ◌+◌, ◌-◌, Bool, true, false, ◌&&◌, if◌then◌else◌, List, [], ◌∷◌, ◌++◌, map, length, drop, Option, Some, None, Result, Ok, Err}
+use Rattle.std.specs.Str.{bytes_eq}
+use Rattle.dh_versions.specs.declared.version.Kind.TheVariants.{Branch}
+use Rattle.dh_versions.specs.declared.version.Version.{Version}
+use Rattle.dh_versions.specs.Kinds.{same_kind}
+use Rattle.dh_rules.specs.Rules.{after_rules, IsCustomAt}
+use Rattle.dh_rules.specs.declared.rule.Fresh.{Fresh}
+use Rattle.dh_rules.specs.declared.rule.Rule.{Rule}
+use Rattle.dh_world.specs.Changes.{made, new_project, opened, version_of, without_name}
+use Rattle.dh_world.specs.Refusals.{unless}
+use Rattle.dh_world.specs.Seen.{is_alias}
+use Rattle.dh_world.specs.World.{Text}
+use Rattle.dh_world.specs.declared.answer.Answer.{Answer}
+use Rattle.dh_world.specs.declared.answer.Answer.TheVariants.{Done, Known, Stored}
+use Rattle.dh_world.specs.declared.operation.Operation.TheVariants as operation
+use Rattle.dh_world.specs.declared.pages.UploadedPage.{UploadedPage}
+use Rattle.dh_world.specs.declared.refusal.Refusal.{Refusal}
+use Rattle.dh_world.specs.declared.refusal.Refusal.TheVariants.{NoVersion, Inactive, NoPass, PatternRefused, OutOfMemory}
+use Rattle.dh_checks.specs.Commands.{change_of}
+use Rattle.dh_plans.specs.Planned.{Planned}
+use Rattle.dh_checks.specs.declared.checked.CheckedChange.{CheckedChange}
+use Rattle.dh_checks.specs.declared.checked.CheckedPush.{CheckedPush}
+use Rattle.dh_checks.specs.declared.checked.CheckedUpload.{CheckedUpload}
+use Rattle.dh_checks.specs.declared.checked.NewProject.{NewProject}
+use Rattle.dh_plans.specs.declared.edits.Edit.{Edit}
+use Rattle.dh_plans.specs.declared.edits.Edit.TheVariants.{PutVersion, PutWithoutPages, PutPage, RemovePages, SetDefaults, PutAnswer}
+use Rattle.dh_checks.specs.declared.checked.ProjectSettings.{ProjectSettings}
+
+-- ---- where the host has no project
+
+-- the project that the command makes there, or its refusal
+abbrev pub Opens : CheckedChange → Result NewProject Refusal → Type 0
+Opens c (Ok x) = opened (change_of c) ≡ Ok (new_project x.lang x.settings.branch x.settings.new_private x.settings.wkey, Done)
+Opens c (Err e) = opened (change_of c) ≡ Err e
+
+-- ---- pushes
+
+-- what a push makes, before the rules
+abbrev pub pushed_fresh : ProjectSettings → CheckedPush → Fresh
+pushed_fresh s x = record {
+  kind = x.kind;
+  name = x.name;
+  active = same_kind x.kind Branch && bytes_eq x.name s.branch;
+  hidden = false;
+  private = s.new_private;
+  chosen = false;
+}
+
+-- the rules have run; or at a place stands a custom pattern of the kind, and that place is told
+abbrev pub Runs : List Rule → Fresh → Result Fresh Refusal → Type 0
+Runs rules x (Ok after) = after ≡ after_rules rules x
+Runs rules x (Err e) = (e ≡ OutOfMemory) ⊎ ((place : ℕ) × IsCustomAt rules x.kind place × (e ≡ PatternRefused place))
+
+-- where a rule chose the version, its slug is the first default
+abbrev pub chosen_put : Bool → Text → List Text → List Edit
+chosen_put true slug defaults = SetDefaults (slug ∷ without_name slug defaults) ∷ []
+chosen_put false slug defaults = []
+
+-- this is the first answer to the retry key
+abbrev pub push_answered : CheckedPush → Answer → Edit
+push_answered x answer = PutAnswer (record { slug = x.slug; operation = operation.Push; key = x.key; answer = answer })
+
+-- of what the rules made of it
+abbrev pub plan_made : CheckedPush → List Text → Fresh → Planned
+plan_made x defaults after =
+    let v : Version = version_of x.slug after in
+    record { edits = PutVersion v ∷ (chosen_put after.chosen x.slug defaults ++ push_answered x (made v) ∷ []); answer = made v }
+
+-- the plan of what the rules make of it, unless they cannot run
+abbrev pub MakesNew : ProjectSettings → CheckedPush → List Rule → List Text → Result Planned Refusal → Type 0
+MakesNew s x rules defaults (Ok plan) = plan ≡ plan_made x defaults (after_rules rules (pushed_fresh s x))
+MakesNew s x rules defaults (Err e) = Runs rules (pushed_fresh s x) (Err e)
+
+abbrev pub plan_known : CheckedPush → Planned
+plan_known x = record { edits = push_answered x (Known x.slug) ∷ []; answer = Known x.slug }
+
+-- ---- uploads
+
+-- an edit for each page
+abbrev pub pages_put : Text → Text → List UploadedPage → List Edit
+pages_put slug lang pages = map (PutPage slug lang) pages
+
+-- with `replace`, the pages that are there go
+abbrev pub pages_cleared : Bool → Text → Text → List Edit
+pages_cleared true slug lang = RemovePages slug lang ∷ []
+pages_cleared false slug lang = []
+
+abbrev pub upload_answered : CheckedUpload → Edit
+upload_answered x = PutAnswer (record { slug = x.slug; operation = operation.Upload; key = x.key; answer = Stored (length x.pages.items) })
+
+abbrev pub plan_stored : CheckedUpload → Planned
+plan_stored x = record {
+  edits = pages_cleared x.replace x.slug x.lang ++ pages_put x.slug x.lang x.pages.items ++ upload_answered x ∷ [];
+  answer = Stored (length x.pages.items);
+}
+
+-- ---- versions and their defaults
+
+abbrev pub plan_deactivated : Version → Planned
+plan_deactivated v = record { edits = PutWithoutPages (record v { active = false }) ∷ []; answer = Done }
+
+-- of a name that is no alias, the version has to be there and active
+abbrev pub wrong_default_version : Option Version → Option Refusal
+wrong_default_version None = Some NoVersion
+wrong_default_version (Some v) = unless v.active Inactive
+
+-- why a name may be no default, by the version that was found
+abbrev pub wrong_default : Text → Option Version → Option Refusal
+wrong_default name version = if is_alias name then None else wrong_default_version version
+
+-- ---- lists in order: what puts one at a place, and what drops the last one
+
+-- an edit for each, at the places from this one on
+abbrev pub puts : {X : Type 0} → (ℕ → X → Edit) → ℕ → List X → List Edit
+puts put place [] = []
+puts put place (x ∷ xs) = put place x ∷ puts put (place + 1) xs
+
+abbrev pub plan_added : {X : Type 0} → (ℕ → X → Edit) → ℕ → X → List X → Planned
+plan_added put place x xs = record { edits = puts put place (x ∷ drop (place - 1) xs); answer = Done }
+
+abbrev pub plan_dropped : {X : Type 0} → (ℕ → X → Edit) → (ℕ → Edit) → ℕ → List X → Planned
+plan_dropped put drop_last place xs = record { edits = puts put place (drop place xs) ++ drop_last (length xs) ∷ []; answer = Done }
+
+-- ---- grants
+
+-- what a grant lacks: its version, or its pass
+abbrev pub missing_for_grant : Option Version → Bool → Option Refusal
+missing_for_grant None has = Some NoVersion
+missing_for_grant (Some v) has = unless has NoPass

@@ -1,0 +1,62 @@
+//! The properties of a version: active, hidden, private.
+ghost use Rattle.std.specs.Prelude.{◌≡◌, false, [], ◌∷◌};
+ghost use Rattle.dh_world.specs.Changes.{with_property};
+ghost use Rattle.dh_world.specs.World.{Text};
+ghost use Rattle.dh_plans.specs.Edits.{Makes};
+ghost use Rattle.dh_plans.specs.Knowing.{Decides};
+ghost use Rattle.dh_plans.specs.Plans.{plan_deactivated};
+
+use dh_checks::CheckedChange;
+use dh_plans::{Edit, Facts, Plan};
+use dh_versions::Version;
+use dh_world::{Answer, Property, Refusal};
+use std::alloc::Global;
+
+/// Sets a property, and leaves all else.
+fn set(version: &mut Version, property: Property)
+    ensures { version.new ≡ with_property property version.old }
+{
+    match property {
+        Property::Active => version.active = true,
+        Property::Hidden => version.hidden = true,
+        Property::Shown => version.hidden = false,
+        Property::Public => version.private = false,
+        Property::Private => version.private = true,
+    }
+}
+
+/// Sets a property of the version that was found.
+pub fn set_property<'c>(
+    alloc: Global,
+    property: Property,
+    facts: &mut Facts,
+) -> Result<Plan<'c>, Refusal>
+    ensures { (slug : Text) → Decides (CheckedChange.SetProperty slug property) facts.old result }
+{
+    match facts.version.take() {
+        None => Err(Refusal::NoVersion),
+        Some(mut version) => {
+            set(&mut version, property);
+            Ok(Plan::one(alloc, Edit::PutVersion(version), Answer::Done)?)
+        }
+    }
+}
+
+/// The version is inactive, and its pages are gone.
+fn put_inactive<'c>(alloc: Global, version: Version) -> Result<Plan<'c>, Refusal>
+    ensures { Makes (plan_deactivated version) result }
+{
+    let mut version = version;
+    version.active = false;
+    Ok(Plan::one(alloc, Edit::PutWithoutPages(version), Answer::Done)?)
+}
+
+/// Deactivates the version that was found, and removes its pages.
+pub fn deactivate<'c>(alloc: Global, facts: &mut Facts) -> Result<Plan<'c>, Refusal>
+    ensures { (slug : Text) → Decides (CheckedChange.Deactivate slug) facts.old result }
+{
+    match facts.version.take() {
+        None => Err(Refusal::NoVersion),
+        Some(version) => put_inactive(alloc, version),
+    }
+}

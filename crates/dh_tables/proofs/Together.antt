@@ -1,0 +1,34 @@
+-- Edits in turn.
+use Rattle.std.proofs.Common.{◌≡◌, Result, Ok, Err, OnOk, ap, ◌∙◌}
+use Rattle.sqlite_trees.specs.declared.store.Store.{Ghosts}
+use Rattle.sqlite.specs.Held.{Held, state}
+use Rattle.sqlite.specs.State.{HasCleanDisk}
+use Rattle.dh_rows.specs.Calls.{Goes, IsHonest}
+use Rattle.dh_records.specs.Lists.{Lists}
+use Rattle.dh_schema.specs.InTurn.{goes_on}
+use Rattle.dh_tables.specs.Going.{Makes, Sees, records}
+use Rattle.dh_world.specs.declared.refusal.Refusal.{Refusal}
+
+module _ {S : Type 0} (g : Ghosts S) (a b c : Held S) (change next : Lists → Lists) where
+  -- edits after a change that was made
+  pub makes_on
+      : {T : Type 0} (r : Result T Refusal) → Goes g a b
+      → (IsHonest g a → HasCleanDisk (state g b) → IsHonest g b)
+      → (IsHonest g b → records g b ≡ change (records g a))
+      → (IsHonest g b → b.in_transaction ≡ a.in_transaction)
+      → Makes g b c r next → Makes g a c r (λ l. next (change l))
+  makes_on r goes live now mode q = record {
+    goes = goes_on goes live q.goes;
+    sees = both r q.sees;
+    err = q.err;
+  }
+    where
+      both
+          : {T : Type 0} (r : Result T Refusal) → OnOk r (Sees g b c (next (records g b)))
+          → OnOk r (Sees g a c (next (change (records g a))))
+      both (Ok x) it = record {
+        live = λ honest clean. it.live (live honest (q.goes.lasts.clean clean)) clean;
+        now_is = λ honest. it.now_is honest ∙ ap next (now (q.goes.lasts.was honest));
+        mode = λ honest. it.mode honest ∙ mode (q.goes.lasts.was honest);
+      }
+      both (Err e) it = tt
