@@ -1,7 +1,7 @@
 -- The line that words are.
 use Rattle.std.specs.Prelude.{◌≡◌, ◌≢◌, Bool, true, false, if◌then◌else◌, List, [], ◌∷◌, Option}
 use Rattle.std.specs.Prelude.{◌++◌}
-use Rattle.std.specs.Prelude.{Some, None, option_map, option_and_then, codes, Result, Ok, Err, ⊤}
+use Rattle.std.specs.Prelude.{Some, None, is_some, option_map, option_and_then, codes, Result, Ok, Err, ⊤}
 use Rattle.std.specs.Prelude.{ℕ, ◌&&◌, ◌^◌, nat_lt, length, take, drop}
 use Rattle.std.specs.Char.{is_ascii_digit}
 use Rattle.std.specs.List.{list_all}
@@ -109,6 +109,20 @@ count_of text = number_in (2 ^ 32) text
 
 abbrev pub port_of : Text → Option ℕ
 port_of text = number_in (2 ^ 16) text
+
+-- whether this value may be that of the word with this id; of any other word each may be
+abbrev pub reads : Text → Text → Bool
+reads id value =
+    if bytes_eq id (codes "privacy") then is_some (privacy_of value)
+    else if bytes_eq id (codes "kind") then is_some (kind_of value)
+    else if bytes_eq id (codes "redirect-kind") then is_some (redirect_kind_of value)
+    else if bytes_eq id (codes "pattern") then is_some (pattern_of value)
+    else if bytes_eq id (codes "action") then is_some (action_of value)
+    else if bytes_eq id (codes "place") then is_some (place_of value)
+    else if bytes_eq id (codes "count") then is_some (count_of value)
+    else if bytes_eq id (codes "status") then is_some (status_of value)
+    else if bytes_eq id (codes "port") then is_some (port_of value)
+    else true
 
 -- the text that a word stands for: `none` for the empty one, any other for itself
 abbrev pub text_meant : Text → Text

@@ -4,7 +4,7 @@ ghost use Rattle.std.specs.Prelude.{IfOk, map, [], ◌∷◌};
 ghost use Rattle.clap.specs.Simple.{app_of, with_rule};
 ghost use Rattle.dh_words.specs.Apps.{IsApp, HasNoGlobals, option_rule, with_apps};
 ghost use Rattle.dh_words.specs.Apps.{with_words as words_added};
-ghost use Rattle.dh_lines.specs.App.{bare_app, docs_app, init_app, serve_app, with_store};
+ghost use Rattle.dh_lines.specs.App.{bare_app, docs_app, init_app, serve_app, store_apps, with_store};
 ghost use Rattle.dh_lines.specs.Forms.{app_of_form, store_app_of, with_more};
 
 use clap::Command;
@@ -348,11 +348,18 @@ const FORMS: [Form<'static>; 23] = [
     },
 ];
 
+/// The program with the lines of scripts, and with what it does with its input.
+fn lines_command<'a>(alloc: Global) -> Result<Command<'a>, AllocError>
+    ensures { IfOk result (IsApp (with_apps bare_app (map with_store store_apps))) }
+{
+    with_forms(alloc, bare_command(alloc), &FORMS)
+}
+
 /// The program with all that its words may be.
 pub fn docs_command<'a>(alloc: Global) -> Result<Command<'a>, AllocError>
     ensures { IfOk result (IsApp docs_app) }
 {
-    let lines = with_forms(alloc, bare_command(alloc), &FORMS)?;
+    let lines = lines_command(alloc)?;
     let with_init = with_command(lines, init_command(alloc)?)?;
     with_command(with_init, serve_command(alloc)?)
 }

@@ -70,7 +70,7 @@ impl From<AllocError> for LineFault {
     }
 }
 
-ghost use Rattle.std.specs.Prelude.{◌≡◌, ◌^◌, ◌∷◌, [], IfOk, option_map, map, string_bytes};
+ghost use Rattle.std.specs.Prelude.{◌≡◌, ◌^◌, ◌∷◌, [], IfOk, is_some, option_map, map, string_bytes};
 ghost use Rattle.std.specs.Char.{is_ascii_digit};
 ghost use Rattle.std.specs.List.{list_all};
 ghost use Rattle.clap.specs.Walk.{first_of, rows_of};
@@ -83,6 +83,7 @@ ghost use Rattle.dh_lines.specs.Lines.{is_set, privacy_of, kind_of, new_project_
 ghost use Rattle.dh_lines.specs.Lines.{push_in, upload_in, change_on, version_in, add_pass_in};
 ghost use Rattle.dh_lines.specs.Lines.{drop_pass_in, grant_in, revoke_in, access_in, change_in};
 ghost use Rattle.dh_lines.specs.Lines.{redirect_kind_of, number_in, place_in};
+ghost use Rattle.dh_lines.specs.Lines.{reads as spec_reads};
 ghost use Rattle.dh_lines.specs.Lines.{text_meant as meant_by, redirect_in, add_redirect_in};
 ghost use Rattle.dh_lines.specs.Lines.{drop_redirect_in, redirect_change_in, pattern_of, action_of};
 ghost use Rattle.dh_lines.specs.Lines.{rule_in, add_rule_in, drop_rule_in, rule_change_in};
@@ -223,6 +224,28 @@ fn read_u16(text: &str) -> Option<u16>
         Ok(small) => Some(small),
         Err(_) => None,
     }
+}
+
+fn is_pattern(alloc: Global, text: &str) -> Result<bool, AllocError>
+    ensures { IfOk result (λ is. is ≡ is_some (pattern_of text.now)) }
+{
+    Ok(Pattern::read(alloc, text)?.is_some())
+}
+
+/// Whether a line reads this value of the word with this id. Of a word that may have any it reads each.
+pub fn reads(alloc: Global, id: &str, value: &str) -> Result<bool, AllocError>
+    ensures { IfOk result (λ is_read. is_read ≡ spec_reads id.now value.now) }
+{
+    Ok(match id {
+        "privacy" => read_privacy(value).is_some(),
+        "kind" => read_kind(value).is_some(),
+        "redirect-kind" => read_redirect_kind(value).is_some(),
+        "pattern" => is_pattern(alloc, value)?,
+        "action" => read_action(value).is_some(),
+        "place" | "count" => read_u32(value).is_some(),
+        "status" | "port" => read_u16(value).is_some(),
+        _ => true,
+    })
 }
 
 /// The text that a word stands for.
