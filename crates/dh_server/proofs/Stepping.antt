@@ -1,12 +1,13 @@
 -- What connections do to the world, as steps of commands.
-use Rattle.std.proofs.Common.{◌≡◌, ◌⊎◌, ℕ, ◌+◌, ◌≤◌, Bool, true, false, List, Option, inl, inr, arith, add-one, if◌then◌else◌, sym, subst}
+use Rattle.std.proofs.Common.{◌≡◌, ◌⊎◌, ℕ, ◌+◌, ◌≤◌, Bool, true, false, List, Option, Some, None, inl, inr, arith, add-one, if◌then◌else◌, sym, subst}
 use Rattle.dh_wire.specs.declared.answer.Reply.{Reply}
 use Rattle.dh_requests.specs.declared.request.Request.{Request}
 use Rattle.dh_requests.specs.declared.request.Request.TheVariants as request
 use Rattle.dh_world.specs.World.{World}
 use Rattle.dh_http.specs.Commands.{unavailable}
 use Rattle.dh_http.specs.Answers.{IsReplyTo, MayDo, AnswersSource}
-use Rattle.dh_server.specs.Serving.{Turn, Serves, StepsOnce, Steps}
+use Rattle.dh_ports.proofs.Taking.{counts_on, counts_from}
+use Rattle.dh_server.specs.Serving.{Turn, Serves, StepsOnce, Steps, Counts}
 
 may_do : (before after : World) (request : Request) (reply : Reply) → IsReplyTo before after request reply → MayDo before after request
 may_do before after (request.Read host pass read head) reply is = is.0
@@ -30,6 +31,14 @@ turned : (before after : World) (whole : Bool) → Turn before after whole → S
 turned before after true h = answered before after h.0 h.1 h.2 h.3
 turned before after false (inl same) = inl same
 turned before after false (inr h) = answered before after h.0 h.1 h.2 h.3
+
+-- none was asked for, and one more
+pub counts_none : (a : Option ℕ) → Counts a a 0
+counts_none None = (tt, tt)
+counts_none (Some n) = (omega arith, omega arith)
+
+pub counts_next : (a b c : Option ℕ) (n : ℕ) → Counts a b n → Counts b c 1 → Counts a c (n + 1)
+counts_next a b c n p q = (counts_on a b c n 1 (n + 1) p.0 q.0 (omega arith), counts_from a b c n 1 (n + 1) p.1 q.1 (omega arith))
 
 -- one connection more
 pub serves_next : (count : ℕ) (before between after : World) (earlier done : ℕ) (last : Bool) → Serves count before between earlier → Turn between after last → done ≡ earlier + (if last then 1 else 0) → Serves (count + 1) before after done

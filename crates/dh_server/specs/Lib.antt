@@ -1,2 +1,3 @@
 pub mod Serving
 pub mod Lines
+pub mod Telling

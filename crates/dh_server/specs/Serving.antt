@@ -1,6 +1,7 @@
 -- What a server does to the world, one connection after another.
 use Rattle.std.specs.Prelude.{◌≡◌, ◌⊎◌, ℕ, zero, suc, ◌+◌, Bool, true, false, List, Option, Result, Ok, Err, if◌then◌else◌}
 use Rattle.std.specs.Io.KnownBytes.{Appends}
+use Rattle.dh_ports.specs.Ports.{CountsUpTo, CountsAtLeast}
 use Rattle.dh_world.specs.World.{World}
 use Rattle.dh_world.specs.declared.command.Command.{Command}
 use Rattle.dh_http.specs.Answers.{AnswersSource, MayApply}
@@ -39,6 +40,10 @@ Serves (suc count) before after done =
     × Serves count before between earlier
     × Turn between after last
     × (done ≡ earlier + (if last then 1 else 0))
+
+-- it was asked so many times, where that is counted
+abbrev pub Counts : Option ℕ → Option ℕ → ℕ → Type 0
+Counts old new n = CountsUpTo old new n × CountsAtLeast old new n
 
 -- the world stayed, or one command was done, refused or set aside
 abbrev pub StepsOnce : World → World → Type 0

@@ -39,6 +39,7 @@ impl FirstLine {
 
     /// What came.
     pub fn as_slice(&self) -> &[u8]
+        ensures bytes { result.now ≡ self.now.bytes.items }
         ensures few { length result.now ≤ 2048 }
     {
         self.bytes.as_slice()

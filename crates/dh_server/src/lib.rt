@@ -5,14 +5,18 @@ mod counted;
 mod first_line;
 mod joined;
 mod line;
+mod listening;
 mod log;
 mod serving;
 mod stream;
+mod telling;
 mod timed;
 
 pub use counted::Counted;
 pub use first_line::{FirstLine, Heard};
 pub use joined::Joined;
+pub use listening::{Listen, Listening};
 pub use log::Log;
 pub use serving::{answer_joined, serve_on};
+pub use telling::put_or_lose;
 pub use timed::Timed;

@@ -1,25 +1,26 @@
 //! A line for each connection.
 
-ghost use Rattle.std.specs.Prelude.{◌≡◌, IfOk, string_bytes};
+ghost use Rattle.std.specs.Prelude.{◌≡◌, false, IfOk, string_bytes};
 ghost use Rattle.dh_server.specs.Lines.{told_as, log_line};
+ghost use Rattle.dh_server.specs.Telling.{TellsLine};
 
 use crate::first_line::FirstLine;
 use crate::line::log_line;
+use crate::telling::put_or_lose;
 use dh_http::{Done, EngineFault};
-use dh_ports::{Sink, put_all};
+use dh_ports::Sink;
 use std::alloc::{AllocError, Global};
 use std::time::{Clock, Instant};
 
-/// Where the lines go to, and the clock for their last figure; or nothing is told.
+/// Whether connections are told, and the clock for the last figure of their lines.
 ///
 /// A line is `STATUS METHOD TARGET BYTES MICROSECONDS`. In place of the status stands the fault of a connection without a whole
 /// reply, and `Accept` where there was none to answer. The bytes are those that the connection took. In method and target a byte
 /// that is no visible ASCII is a `?`, and of the request's line only the first 2,048 bytes are looked at. A line for which there
 /// is no memory, or which the sink does not take, is lost, and after that sink's fault each line.
 #[derive(Drop)]
-pub struct Log<T, L> {
+pub struct Log<T> {
     clock: T,
-    sink: L,
     is_on: bool,
 }
 
@@ -54,28 +55,12 @@ fn line_text(
     log_line(alloc, told.as_str(), line, bytes, micros)
 }
 
-impl<T: Clock + Copy, L: Sink> Log<T, L> {
-    /// A log that tells each connection.
-    pub fn new(clock: T, sink: L) -> Log<T, L> {
-        Log {
-            clock,
-            sink,
-            is_on: true,
-        }
-    }
-
-    /// A log that tells nothing, and asks neither the clock nor the sink.
-    pub fn off(clock: T, sink: L) -> Log<T, L> {
-        Log {
-            clock,
-            sink,
-            is_on: false,
-        }
-    }
-
-    /// Where the lines go to.
-    pub fn sink(&self) -> &L {
-        &self.sink
+impl<T: Clock + Copy> Log<T> {
+    /// A log that tells each connection; or, where it is off, none, and then it does not ask the clock.
+    pub fn new(clock: T, is_on: bool) -> Log<T>
+        ensures { result.is_on ≡ is_on }
+    {
+        Log { clock, is_on }
     }
 
     /// The clock.
@@ -103,20 +88,25 @@ impl<T: Clock + Copy, L: Sink> Log<T, L> {
     }
 
     /// Tells a connection.
-    pub fn tell(
-        &mut self,
+    pub fn tell<L: Sink>(
+        &self,
         alloc: Global,
+        sink: &mut L,
         outcome: Option<Result<Done, EngineFault>>,
         line: &FirstLine,
         bytes: u64,
         start: Option<Instant>,
-    ) {
-        if !self.is_on || self.sink.failed() {
+    )
+        ensures line { TellsLine L.broken L.held sink.old sink.new
+            outcome line.now.bytes.items bytes }
+        ensures off { self.now.is_on ≡ false → sink.new ≡ sink.old }
+    {
+        if !self.is_on || sink.failed() {
             return;
         }
         let micros = self.micros_since(start);
         if let Ok(text) = line_text(alloc, outcome, line.as_slice(), bytes, micros) {
-            let _ = put_all(&mut self.sink, text.as_slice());
+            put_or_lose(sink, text.as_slice());
         }
     }
 }

@@ -5,20 +5,22 @@ ghost use Rattle.std.specs.Io.KnownBytes.{append_known};
 ghost use Rattle.dh_rows.specs.Calls.{IsHonest};
 ghost use Rattle.dh_desk.specs.Desk.{world};
 ghost use Rattle.dh_http.specs.Answers as spec;
-ghost use Rattle.dh_server.specs.Serving.{Answers, Turn, Serves, Steps};
+ghost use Rattle.dh_server.specs.Serving.{Answers, Turn, Serves, Steps, Counts};
+ghost use Rattle.dh_server.specs.Telling.{TellsSome};
 
 use crate::counted::Counted;
 use crate::first_line::{FirstLine, Heard};
 use crate::joined::Joined;
+use crate::listening::Listen;
 use crate::log::Log;
-use crate::stream::{next_stream, read_out};
+use crate::stream::read_out;
 use crate::timed::Timed;
 use dh_desk::Desk;
 use dh_http::{Done, EngineFault, answer};
 use dh_ports::{Port, Sink, Source};
 use sqlite::Alter;
 use std::alloc::Global;
-use std::net::{TcpListener, TcpStream};
+use std::net::TcpStream;
 use std::time::Clock;
 
 /// How many seconds reading and writing may take.
@@ -56,11 +58,14 @@ fn answer_stream<S: Alter, T: Clock + Copy, L: Sink>(
     alloc: Global,
     desk: &mut Desk<S>,
     stream: &TcpStream,
-    log: &mut Log<T, L>,
+    log: &Log<T>,
+    errors: &mut L,
 ) -> Result<Done, EngineFault>
     ensures turn { IsHonest S.Store desk.new.tables → Turn
         (world S.Store desk.old) (world S.Store desk.new) (is_ok result) }
     ensures was { IsHonest S.Store desk.new.tables → IsHonest S.Store desk.old.tables }
+    ensures tells { TellsSome L.broken L.held errors.old errors.new }
+    ensures off { log.now.is_on ≡ false → errors.new ≡ errors.old }
 {
     let start = log.start();
     let mut source = Heard::new(
@@ -72,6 +77,7 @@ fn answer_stream<S: Alter, T: Clock + Copy, L: Sink>(
     let result = answer_joined(alloc, desk, &mut source, &mut sink);
     log.tell(
         alloc,
+        errors,
         Some(result),
         source.line(),
         sink.inner().count(),
@@ -89,46 +95,54 @@ fn leaves_input(answered: Result<Done, EngineFault>) -> bool {
 }
 
 /// Answers the next connection, and says whether a whole reply was handed to it.
-fn serve_next<S: Alter, T: Clock + Copy, L: Sink>(
+fn serve_next<S: Alter, N: Listen, T: Clock + Copy, L: Sink>(
     alloc: Global,
     desk: &mut Desk<S>,
-    listener: &TcpListener,
-    log: &mut Log<T, L>,
+    listener: &mut N,
+    log: &Log<T>,
+    errors: &mut L,
 ) -> bool
+    ensures asks { Counts (N.asked listener.old) (N.asked listener.new) 1 }
     ensures turn { IsHonest S.Store desk.new.tables → Turn
         (world S.Store desk.old) (world S.Store desk.new) result }
     ensures was { IsHonest S.Store desk.new.tables → IsHonest S.Store desk.old.tables }
+    ensures tells { TellsSome L.broken L.held errors.old errors.new }
+    ensures off { log.now.is_on ≡ false → errors.new ≡ errors.old }
 {
-    let Some(stream) = next_stream(listener) else {
-        log.tell(alloc, None, &FirstLine::new(alloc), 0, None);
+    let Some(stream) = listener.accept() else {
+        log.tell(alloc, errors, None, &FirstLine::new(alloc), 0, None);
         return false;
     };
-    let result = answer_stream(alloc, desk, &stream, log);
+    let result = answer_stream(alloc, desk, &stream, log, errors);
     if leaves_input(result) {
         read_out(&stream);
     }
     result.is_ok()
 }
 
-/// Accepts so many connections, one after another, and answers one request on each. It answers how many of them were handed a
-/// whole reply.
-pub fn serve_on<S: Alter, T: Clock + Copy, L: Sink>(
+/// Accepts so many connections, one after another, and answers one request on each, which the log tells to `errors`. It answers
+/// how many of them were handed a whole reply.
+pub fn serve_on<S: Alter, N: Listen, T: Clock + Copy, L: Sink>(
     alloc: Global,
     desk: &mut Desk<S>,
-    listener: &TcpListener,
+    listener: &mut N,
     count: u32,
-    log: &mut Log<T, L>,
+    log: &Log<T>,
+    errors: &mut L,
 ) -> u32
+    ensures asks { Counts (N.asked listener.old) (N.asked listener.new) count }
     ensures few { result ≤ count }
     ensures serves { IsHonest S.Store desk.new.tables → Serves count
         (world S.Store desk.old) (world S.Store desk.new) result }
     ensures steps { IsHonest S.Store desk.new.tables → Steps count
         (world S.Store desk.old) (world S.Store desk.new) }
     ensures was { IsHonest S.Store desk.new.tables → IsHonest S.Store desk.old.tables }
+    ensures tells { TellsSome L.broken L.held errors.old errors.new }
+    ensures off { log.now.is_on ≡ false → errors.new ≡ errors.old }
 {
     let mut served = 0;
     for _turn in 0..count {
-        if serve_next(alloc, desk, listener, log) {
+        if serve_next(alloc, desk, listener, log, errors) {
             served += 1;
         }
     }

@@ -7,7 +7,7 @@ mod streams;
 
 use dh_ports::Port;
 use dh_sample::sample_desk;
-use dh_server::{Log, serve_on};
+use dh_server::{Listening, Log, serve_on};
 use std::io;
 use std::io::Write;
 use std::net::{Ipv4Addr, SocketAddr, TcpListener, TcpStream};
@@ -38,6 +38,14 @@ fn received(rt: &HostRuntime, stream: TcpStream) -> Result<String, Fail> {
 /// How many of so many connections were handed a whole reply, by a desk of its own.
 fn serve(rt: &HostRuntime, listener: &TcpListener, count: u32) -> Result<u32, Fail> {
     let mut desk = sample_desk(rt.alloc())?;
-    let mut log = Log::off(rt, Port::new(rt.stderr()));
-    Ok(serve_on(rt.alloc(), &mut desk, listener, count, &mut log))
+    let mut listening = Listening::new(listener);
+    let mut errors = Port::new(rt.stderr());
+    Ok(serve_on(
+        rt.alloc(),
+        &mut desk,
+        &mut listening,
+        count,
+        &Log::new(rt, false),
+        &mut errors,
+    ))
 }

@@ -1,5 +1,5 @@
 -- How runs end, by what is ordered and by what came of it.
-use Rattle.std.proofs.Common.{◌≡◌, ◌⊎◌, ◌∙◌, ℕ, zero, suc, Bool, true, false, List, [], ◌∷◌, ◌++◌, Option, Some, None, Result, Ok, Err, refl, sym, ap, subst, inl, inr}
+use Rattle.std.proofs.Common.{◌≡◌, ◌⊎◌, ◌∙◌, ℕ, zero, suc, Bool, true, false, List, [], ◌∷◌, ◌++◌, Option, Result, Ok, Err, refl, sym, ap, subst, inl, inr}
 use Rattle.std.proofs.lemmas.Result.{err_from_is_err_and}
 use Rattle.std.specs.Prelude.{IsTrue, IsErrAnd, codes}
 use Rattle.std.specs.FinMap.{empty}
@@ -23,7 +23,7 @@ use Rattle.dh_lines.specs.App.{docs_app}
 use Rattle.dh_lines.specs.declared.lines.Order.{Order}
 use Rattle.dh_lines.specs.declared.lines.Order.TheVariants as order
 use Rattle.dh_script.specs.Running.{RunsScript}
-use Rattle.docs_host.specs.Ends.{Ended, IsDoneOrFaulty, EndsError, EndsHelp, EndsScript, EndsRequest, EndsChecked, EndsOver, has_bad_target, status_after, may_end_order}
+use Rattle.docs_host.specs.Ends.{Ended, IsDoneOrFaulty, EndsError, EndsHelp, EndsScript, EndsRequest, EndsChecked, EndsOver, has_bad_target, is_fault, status_after, may_end_order}
 use Rattle.docs_host.specs.Failures.{failure_of, failure_of_sample}
 use Rattle.docs_host.specs.Orders.{RunsRequest}
 use Rattle.docs_host.specs.declared.failure.Failure.{Failure}
@@ -33,12 +33,12 @@ use Rattle.docs_host.specs.declared.failure.Status.TheVariants.{Done, Refused, U
 
 -- an end that implies another
 pub ended_as : {P Q : Status → Type 0} → ((s : Status) → P s → Q s) → (r : Result Status Failure) → Ended P r → Ended Q r
-ended_as implies (Ok status) it = implies status it
+ended_as implies (Ok status) it = (implies status it.0, it.1)
 ended_as implies (Err failure) it = implies (status_after failure) it
 
 -- what is so of 0 and of 3 is so of a run that ends with one of them
 pub ended_by : (P : Status → Type 0) → P Done → P Faulty → (r : Result Status Failure) → IsDoneOrFaulty r → Ended P r
-ended_by P done faulty (Ok status) is = subst P (sym is) done
+ended_by P done faulty (Ok status) is = (subst P (sym is) done, ap is_fault is)
 ended_by P done faulty (Err failure) is = subst P (sym is) faulty
 
 store_is_faulty : (f : Fault) → status_after (failure_of f) ≡ Faulty
@@ -59,9 +59,9 @@ pub error_ended
 error_ended words app k (Ok Done) same kinds help =
     elim (subst (λ a. (is_simple_and_free a ≡ true → (k ≡ OutOfMemory) ⊎ IsAmong k (fault_of a words))) same kinds steady.before.free) [
       | inl memory ↦ absurd (cc)
-      | inr among ↦ subst (λ j. IsAmong j (fault_of docs_app words)) help among
+      | inr among ↦ (subst (λ j. IsAmong j (fault_of docs_app words)) help among, refl)
     ]
-error_ended words app k (Ok Usage) same kinds it = tt
+error_ended words app k (Ok Usage) same kinds it = (tt, refl)
 error_ended words app k (Ok Refused) same kinds it = absurd it
 error_ended words app k (Ok Faulty) same kinds it = absurd it
 error_ended words app k (Ok Unanswered) same kinds it = absurd it
@@ -96,9 +96,11 @@ pub script_ended
     : (left held now : Option Text) (before after : World) (r : Result Status Failure)
     → before ≡ empty → Ran left before after held now r → IsDoneOrFaulty r
     → Ended (EndsScript left held now) r
-script_ended left held now before after (Ok status) none ran is =
-    subst (EndsScript left held now) (sym is)
-    (ran_all left held now after status (subst (λ w. Ran left w after held now (Ok status)) none ran))
+script_ended left held now before after (Ok status) none ran is = (
+  subst (EndsScript left held now) (sym is)
+      (ran_all left held now after status (subst (λ w. Ran left w after held now (Ok status)) none ran)),
+  ap is_fault is,
+)
 script_ended left held now before after (Err failure) none ran is =
     subst (EndsScript left held now) (sym is)
     (ran_some left held now after failure (subst (λ w. Ran left w after held now (Err failure)) none ran))

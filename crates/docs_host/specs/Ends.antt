@@ -40,9 +40,15 @@ status_after failure.Write = Faulty
 status_after (failure.Script fault) = Faulty
 status_after (failure.Request fault) = Unanswered
 
--- the status of a run, its own or that of its failure, is one of these
+-- the statuses that a failure alone ends with
+abbrev pub is_fault : Status → Bool
+is_fault Faulty = true
+is_fault Unanswered = true
+is_fault _ = false
+
+-- the status of a run, its own, which is no failure's, or that of its failure, is one of these
 abbrev pub Ended : (Status → Type 0) → Result Status Failure → Type 0
-Ended IsEnd (Ok status) = IsEnd status
+Ended IsEnd (Ok status) = IsEnd status × (is_fault status ≡ false)
 Ended IsEnd (Err failure) = IsEnd (status_after failure)
 
 -- it is done, or a failure ended it whose status is 3
@@ -154,7 +160,9 @@ EndsWords words left held now status =
     (IsTrue (asks_help words) × EndsHelp (drop 1 words ++ codes "--help" ∷ []) status)
     ⊎ (EndsLine (line_in words) words left held now status ⊎ ((now ≡ held) × (status ≡ Faulty)))
 
-pub record EndsProgram (words : List Text) (left held now : Option Text) (code : ℕ) : Type 0 where
+-- the exit status is that of an end that these words may have, and `IsTold` holds of that end
+pub record EndsProgram (words : List Text) (left held now : Option Text) (IsTold : Status → Type 0) (code : ℕ) : Type 0 where
   pub status : Status
   pub told : code ≡ exit_code status
   pub ends : EndsWords words left held now status
+  pub errors : IsTold status

@@ -1,3 +1,4 @@
 pub mod Ends
 pub mod Failures
 pub mod Orders
+pub mod Telling

@@ -1,17 +1,20 @@
 //! How the program ends, and how it tells why.
 
-ghost use Rattle.std.specs.Prelude.{◌≡◌};
+ghost use Rattle.std.specs.Prelude.{◌≡◌, ◌++◌, ◌∷◌, [], codes};
+ghost use Rattle.dh_server.specs.Telling.{Tells, TellsSome};
 ghost use Rattle.docs_host.specs.Ends.{exit_code, status_after};
 ghost use Rattle.docs_host.specs.Failures as spec;
-ghost use Rattle.docs_host.specs.Failures.{failure_of, failure_of_sample};
+ghost use Rattle.docs_host.specs.Failures.{failure_of, failure_of_sample, name_of};
+ghost use Rattle.docs_host.specs.Telling.{TellsFault};
 ghost use Rattle.docs_host.specs.declared.failure.Failure.TheVariants.{File, Memory, Script, Request};
 
 use dh_files::FileFault;
 use dh_http::EngineFault;
-use dh_ports::{Sink, put_all};
+use dh_ports::Sink;
 use dh_reply::Fault;
 use dh_sample::SampleFault;
 use dh_script::ScriptFault;
+use dh_server::put_or_lose;
 use std::alloc::AllocError;
 
 /// How the program ends.
@@ -207,31 +210,65 @@ impl From<SampleFault> for Failure {
 
 /// Writes a text, unless the sink has failed. What standard error does not take is lost: there is nowhere
 /// else to tell it.
-pub fn put<E: Sink>(errors: &mut E, text: &str) {
-    if !errors.failed() {
-        let _ = put_all(errors, text.as_bytes());
+pub fn put<E: Sink>(errors: &mut E, text: &str)
+    ensures { Tells E.broken E.held errors.old errors.new text.now }
+{
+    put_or_lose(errors, text.as_bytes());
+}
+
+/// The line that programs read.
+fn tell_name<E: Sink>(errors: &mut E, failure: Failure)
+    ensures { Tells E.broken E.held errors.old errors.new
+        (codes "fault " ++ name_of failure ++ 10 ∷ []) }
+{
+    put(errors, "fault ");
+    put(errors, failure.name());
+    put(errors, "\n");
+}
+
+/// The file, where the failure is its.
+fn named_file(failure: Failure, file: Option<&str>) -> Option<&str> {
+    match failure {
+        Failure::File(_) => file,
+        _ => None,
     }
+}
+
+/// The file, where there is one to name.
+fn tell_file<E: Sink>(errors: &mut E, file: Option<&str>)
+    ensures { TellsSome E.broken E.held errors.old errors.new }
+{
+    if let Some(file) = file {
+        put(errors, file);
+        put(errors, ": ");
+    }
+}
+
+/// What is wrong, and with which file.
+fn tell_cause<E: Sink>(errors: &mut E, failure: Failure, file: Option<&str>)
+    ensures { TellsSome E.broken E.held errors.old errors.new }
+{
+    put(errors, "docs_host: ");
+    tell_file(errors, named_file(failure, file));
+    put(errors, failure.cause());
+    put(errors, "\n");
 }
 
 /// Tells a fault: its name on the first line, and on the second what is wrong, and with which file.
 pub fn tell<E: Sink>(errors: &mut E, failure: Failure, file: Option<&str>) -> Status
-    ensures { result ≡ status_after failure }
+    ensures status { result ≡ status_after failure }
+    ensures told { TellsFault E.broken E.held errors.old errors.new failure }
 {
-    put(errors, "fault ");
-    put(errors, failure.name());
-    put(errors, "\ndocs_host: ");
-    if let (Failure::File(_), Some(file)) = (failure, file) {
-        put(errors, file);
-        put(errors, ": ");
-    }
-    put(errors, failure.cause());
-    put(errors, "\n");
+    tell_name(errors, failure);
+    tell_cause(errors, failure, file);
     failure.status()
 }
 
 /// Tells a mistake in the words.
 pub fn tell_usage<E: Sink>(errors: &mut E, mistake: &str) -> Status
-    ensures { result ≡ Status.Usage }
+    ensures status { result ≡ Status.Usage }
+    ensures told { Tells E.broken E.held errors.old errors.new
+        (codes "docs_host: " ++ mistake.now ++ codes "; try 'docs_host --help'\n") }
 {
     put(errors, "docs_host: ");
     put(errors, mistake);

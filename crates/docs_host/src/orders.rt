@@ -4,9 +4,11 @@ ghost use Rattle.std.specs.Prelude.{◌≡◌, false, [], ◌∷◌, ◌++◌, I
 ghost use Rattle.std.specs.Io.KnownBytes.{Appends};
 ghost use Rattle.dh_rows.specs.Calls.{IsHonest};
 ghost use Rattle.dh_desk.specs.Desk.{world};
+ghost use Rattle.dh_server.specs.Telling.{TellsSome};
 ghost use Rattle.dh_script.specs.Running.{RunsScript};
 ghost use Rattle.dh_script.specs.Script.{MayDoOrder};
-ghost use Rattle.docs_host.specs.Ends.{Ended, IsDoneOrFaulty, may_end_request, may_end_single, may_end_order};
+ghost use Rattle.docs_host.specs.Ends.{Ended, IsDoneOrFaulty, may_end_request, may_end_single};
+ghost use Rattle.docs_host.specs.Ends.{may_end_order, is_fault};
 ghost use Rattle.docs_host.specs.Orders.{RunsSingle, RunsRequest, RunsOrder, single_status};
 
 use crate::failure::{Failure, Status};
@@ -32,7 +34,8 @@ pub fn say<W: Sink>(sink: &mut W, text: &str) -> Result<(), Failure>
 }
 
 fn status_told(refused: bool) -> Status
-    ensures { result ≡ single_status refused }
+    ensures status { result ≡ single_status refused }
+    ensures fault { is_fault result ≡ false }
 {
     if refused {
         Status::Refused
@@ -117,6 +120,7 @@ pub fn run_order<S: Alter, R: Source, W: Sink, E: Sink>(
         (R.left source.old) (W.held sink.old) (W.held sink.new) result }
     ensures was { IsHonest S.Store desk.new.tables → IsHonest S.Store desk.old.tables }
     ensures ends { Ended (λ status. IsTrue (may_end_order order.now status)) result }
+    ensures tells { TellsSome E.broken E.held errors.old errors.new }
 {
     match order {
         Order::Script => run_lines(rt.alloc(), desk, source, sink),

@@ -1,9 +1,11 @@
 //! The program over its words.
 
 ghost use Rattle.std.specs.Prelude.{◌≡◌, ◌⊎◌, true, false, map, drop, string_bytes, IfOk, IfErr, IfSome, IsTrue};
+ghost use Rattle.dh_server.specs.Telling.{TellsSome};
 ghost use Rattle.docs_host.specs.Ends.{Ended, IsDoneOrFaulty, EndsScript, EndsRequest, EndsOver, EndsBy};
 ghost use Rattle.docs_host.specs.Ends.{EndsWords, EndsProgram, asks_help};
 ghost use Rattle.docs_host.specs.Ends as spec;
+ghost use Rattle.docs_host.specs.Telling.{TellsEnd};
 
 use crate::failure::{Failure, Status, tell, tell_usage};
 use crate::orders::{run_lines, run_order, say};
@@ -42,6 +44,7 @@ fn run_over<S: Start, R: Source, W: Sink, E: Sink>(
     ensures ends { Ended (EndsOver order.now (W.held sink.old) (W.held sink.new)) result }
     ensures early { spec.has_bad_target order.now ≡ true
         → IfErr result (λ failure. (failure ≡ Failure.Write) ⊎ (failure ≡ Failure.Memory)) }
+    ensures tells { TellsSome E.broken E.held errors.old errors.new }
 {
     if has_bad_target(rt.alloc(), order)? {
         say(sink, "bad target")?;
@@ -105,8 +108,9 @@ fn run_line<S: Start, R: Source, W: Sink, E: Sink>(
 ) -> Result<Status, Failure>
     requires reader { R.broken source.old ≡ false }
     requires writer { W.broken sink.old ≡ false }
-    ensures { Ended (EndsBy line.now.store line.now.order
+    ensures ends { Ended (EndsBy line.now.store line.now.order
         (R.left source.old) (W.held sink.old) (W.held sink.new)) result }
+    ensures tells { TellsSome E.broken E.held errors.old errors.new }
 {
     match (&line.order, &line.store) {
         (Order::Init { file }, None) => init(rt, start, file.as_str()),
@@ -122,12 +126,34 @@ fn run_line<S: Start, R: Source, W: Sink, E: Sink>(
 
 /// The words that follow `help`, where that is the first.
 fn helped(words: &[String]) -> Option<&[String]>
-    ensures { IfSome result (λ names. (map string_bytes names.now ≡ drop 1 (map string_bytes words.now))
+    ensures { IfSome result (λ names.
+        (map string_bytes names.now ≡ drop 1 (map string_bytes words.now))
         × IsTrue (asks_help (map string_bytes words.now))) }
 {
     match words.split_first() {
         Some((first, rest)) if first.as_str() == "help" => Some(rest),
         _ => None,
+    }
+}
+
+/// Does a line of the program, and tells the failure that ended it.
+fn run_told<S: Start, R: Source, W: Sink, E: Sink>(
+    rt: &HostRuntime,
+    start: S,
+    line: &Line,
+    source: &mut R,
+    sink: &mut W,
+    errors: &mut E,
+) -> Status
+    requires reader { R.broken source.old ≡ false }
+    requires writer { W.broken sink.old ≡ false }
+    ensures ends { EndsBy line.now.store line.now.order
+        (R.left source.old) (W.held sink.old) (W.held sink.new) result }
+    ensures told { TellsEnd E.broken E.held errors.old errors.new result }
+{
+    match run_line(rt, start, line, source, sink, errors) {
+        Ok(status) => status,
+        Err(failure) => tell(errors, failure, file_of(line)),
     }
 }
 
@@ -142,18 +168,16 @@ fn run_words<S: Start, R: Source, W: Sink, E: Sink>(
 ) -> Status
     requires reader { R.broken source.old ≡ false }
     requires writer { W.broken sink.old ≡ false }
-    ensures { EndsWords (map string_bytes words.now)
+    ensures ends { EndsWords (map string_bytes words.now)
         (R.left source.old) (W.held sink.old) (W.held sink.new) result }
+    ensures told { TellsEnd E.broken E.held errors.old errors.new result }
 {
     let line = match line_of(rt.alloc(), words) {
         Ok(line) => line,
         Err(LineFault::Usage) => return tell_mistake(rt.alloc(), words, sink, errors),
         Err(LineFault::Memory) => return tell(errors, Failure::Memory, None),
     };
-    match run_line(rt, start, &line, source, sink, errors) {
-        Ok(status) => status,
-        Err(failure) => tell(errors, failure, file_of(&line)),
-    }
+    run_told(rt, start, &line, source, sink, errors)
 }
 
 /// The file that a line names.
@@ -182,7 +206,8 @@ pub fn run_program<S: Start, R: Source, W: Sink, E: Sink>(
     requires reader { R.broken source.old ≡ false }
     requires writer { W.broken sink.old ≡ false }
     ensures { EndsProgram (map string_bytes words.now)
-        (R.left source.old) (W.held sink.old) (W.held sink.new) result }
+        (R.left source.old) (W.held sink.old) (W.held sink.new)
+        (TellsEnd E.broken E.held errors.old errors.new) result }
 {
     let status = match helped(words) {
         Some(names) => tell_help(rt.alloc(), names, sink, errors),

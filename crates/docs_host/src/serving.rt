@@ -4,13 +4,14 @@ ghost use Rattle.std.specs.Prelude.{◌≡◌, false, IfErr};
 ghost use Rattle.dh_rows.specs.Calls.{IsHonest};
 ghost use Rattle.dh_desk.specs.Desk.{world};
 ghost use Rattle.dh_server.specs.Serving.{Steps};
+ghost use Rattle.dh_server.specs.Telling.{TellsSome};
 ghost use Rattle.docs_host.specs.Ends.{IsDoneOrFaulty, status_after};
 
 use crate::failure::{Failure, Status, put};
 use crate::orders::say;
 use dh_desk::Desk;
-use dh_ports::{Port, Sink};
-use dh_server::{Log, serve_on};
+use dh_ports::Sink;
+use dh_server::{Listening, Log, serve_on};
 use sqlite::Alter;
 use std::alloc::Global;
 use std::net::{SocketAddr, TcpListener};
@@ -22,14 +23,13 @@ pub struct Served<'a> {
     pub projects: i64,
 }
 
-/// Says which file is served.
-fn tell_served<E: Sink>(alloc: Global, served: Served<'_>, errors: &mut E) {
-    if let Ok(projects) = format!(in alloc; "{}", served.projects) {
-        put(errors, "docs_host: serving ");
-        put(errors, served.file);
-        put(errors, ", projects: ");
-        put(errors, projects.as_str());
-        put(errors, "\n");
+/// Says which file is served, unless memory is out.
+fn tell_served<E: Sink>(alloc: Global, served: Served<'_>, errors: &mut E)
+    ensures { TellsSome E.broken E.held errors.old errors.new }
+{
+    let Served { file, projects } = served;
+    if let Ok(line) = format!(in alloc; "docs_host: serving {file}, projects: {projects}\n") {
+        put(errors, line.as_str());
     }
 }
 
@@ -51,7 +51,7 @@ fn bind<W: Sink>(rt: &HostRuntime, port: u16, sink: &mut W) -> Result<TcpListene
     Ok(listener)
 }
 
-/// Answers so many connections at a port, one request each. The log goes to standard error itself.
+/// Answers so many connections at a port, one request each, which the log tells to `errors`.
 pub fn serve<S: Alter, W: Sink, E: Sink>(
     rt: &HostRuntime,
     desk: &mut Desk<S>,
@@ -67,15 +67,12 @@ pub fn serve<S: Alter, W: Sink, E: Sink>(
         (world S.Store desk.old) (world S.Store desk.new) }
     ensures was { IsHonest S.Store desk.new.tables → IsHonest S.Store desk.old.tables }
     ensures ends { IsDoneOrFaulty result }
+    ensures tells { TellsSome E.broken E.held errors.old errors.new }
 {
     let listener = bind(rt, port, sink)?;
     tell_served(rt.alloc(), served, errors);
-    let told = Port::new(rt.stderr());
-    let mut log = if log {
-        Log::new(rt, told)
-    } else {
-        Log::off(rt, told)
-    };
-    let _answered = serve_on(rt.alloc(), desk, &listener, count, &mut log);
+    let mut listening = Listening::new(&listener);
+    let log = Log::new(rt, log);
+    let _answered = serve_on(rt.alloc(), desk, &mut listening, count, &log, errors);
     Ok(Status::Done)
 }

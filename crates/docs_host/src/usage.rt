@@ -1,13 +1,14 @@
 //! Help, and what is wrong with words that are no line.
 
-ghost use Rattle.std.specs.Prelude.{◌≡◌, ◌++◌, [], ◌∷◌, false, map, codes, string_bytes, IfOk};
+ghost use Rattle.std.specs.Prelude.{◌≡◌, ◌++◌, [], ◌∷◌, false, map, codes, string_bytes, IfOk, OnErr};
 ghost use Rattle.clap.specs.Values.{kind_of};
-ghost use Rattle.docs_host.specs.Ends.{Ended, EndsError, EndsHelp};
+ghost use Rattle.docs_host.specs.Ends.{Ended, EndsError, EndsHelp, is_fault};
+ghost use Rattle.docs_host.specs.Telling.{TellsEnd};
 
 use crate::failure::{Failure, Status, put, tell, tell_usage};
 use clap::error::ErrorKind;
 use clap::{ArgMatches, Error};
-use dh_lines::docs_command;
+use dh_lines::{docs_command, reads};
 use dh_ports::{Sink, put_all};
 use std::alloc::{AllocError, Global};
 
@@ -15,7 +16,7 @@ use std::alloc::{AllocError, Global};
 const LIMITED: [(&str, &str); 9] = [
     ("privacy", "public or private"),
     ("kind", "branch or tag"),
-    ("place", "a number, from 1"),
+    ("place", "a number from 1, below 4,294,967,296"),
     (
         "redirect-kind",
         "page, exact, clean-to-html or html-to-clean",
@@ -27,24 +28,32 @@ const LIMITED: [(&str, &str); 9] = [
     ("port", "a number below 65,536"),
 ];
 
-/// Tells which values the words may have that a line gives for limited ones.
-fn tell_limits<E: Sink>(matches: &ArgMatches<'_>, errors: &mut E) {
+/// Tells what a limited word may be, where it has another value.
+fn tell_limit<E: Sink>(alloc: Global, id: &str, value: &str, values: &str, errors: &mut E) {
+    if !matches!(reads(alloc, id, value), Ok(false)) {
+        return;
+    }
+    put(errors, "  ");
+    put(errors, id);
+    put(errors, " '");
+    put(errors, value);
+    put(errors, "': it may be ");
+    put(errors, values);
+    put(errors, "\n");
+}
+
+/// Tells of each limited word that has another value what it may be.
+fn tell_limits<E: Sink>(alloc: Global, matches: &ArgMatches<'_>, errors: &mut E) {
     for (id, values) in &LIMITED {
         if let Some(value) = matches.get_str(*id) {
-            put(errors, "  ");
-            put(errors, *id);
-            put(errors, " '");
-            put(errors, value);
-            put(errors, "': it may be ");
-            put(errors, *values);
-            put(errors, "\n");
+            tell_limit(alloc, *id, value, *values, errors);
         }
     }
 }
 
 /// Tells what is wrong with words that `clap` takes and that are no line: a word that may have some values
 /// alone has another.
-fn tell_values<E: Sink>(matches: &ArgMatches<'_>, errors: &mut E) -> Status
+fn tell_values<E: Sink>(alloc: Global, matches: &ArgMatches<'_>, errors: &mut E) -> Status
     ensures { result ≡ Status.Usage }
 {
     match matches.subcommand() {
@@ -52,7 +61,7 @@ fn tell_values<E: Sink>(matches: &ArgMatches<'_>, errors: &mut E) -> Status
             put(errors, "docs_host: a word of ");
             put(errors, name);
             put(errors, " is none that may stand there\n");
-            tell_limits(words, errors);
+            tell_limits(alloc, words, errors);
             put(errors, "For more information, try 'docs_host help ");
             put(errors, name);
             put(errors, "'\n");
@@ -70,7 +79,8 @@ fn tell_error<W: Sink, E: Sink>(
     errors: &mut E,
 ) -> Result<Status, Failure>
     requires { W.broken sink.old ≡ false }
-    ensures { EndsError (kind_of error.now) result }
+    ensures ends { EndsError (kind_of error.now) result }
+    ensures silent { OnErr result (errors.new ≡ errors.old) }
 {
     let kind = error.kind();
     if kind == ErrorKind::OutOfMemory {
@@ -95,11 +105,12 @@ fn tell_words<W: Sink, E: Sink>(
     errors: &mut E,
 ) -> Result<Status, Failure>
     requires { W.broken sink.old ≡ false }
-    ensures { Ended (EndsHelp (map string_bytes words.now)) result }
+    ensures ends { Ended (EndsHelp (map string_bytes words.now)) result }
+    ensures silent { OnErr result (errors.new ≡ errors.old) }
 {
     let mut program = docs_command(alloc)?;
     match program.try_get_matches_from_mut(words) {
-        Ok(matches) => Ok(tell_values(&matches, errors)),
+        Ok(matches) => Ok(tell_values(alloc, &matches, errors)),
         Err(error) => tell_error(alloc, &error, sink, errors),
     }
 }
@@ -125,8 +136,9 @@ fn write_help<W: Sink, E: Sink>(
     errors: &mut E,
 ) -> Result<Status, Failure>
     requires { W.broken sink.old ≡ false }
-    ensures { Ended
+    ensures ends { Ended
         (EndsHelp (map string_bytes names.now ++ codes "--help" ∷ [])) result }
+    ensures silent { OnErr result (errors.new ≡ errors.old) }
 {
     let words = help_words(alloc, names)?;
     tell_words(alloc, words.as_slice(), sink, errors)
@@ -134,7 +146,9 @@ fn write_help<W: Sink, E: Sink>(
 
 /// The status of a run, whose failure is told.
 fn ended<E: Sink>(run: Result<Status, Failure>, errors: &mut E) -> Status
-    ensures { Ended (λ status. result ≡ status) run }
+    requires { IfOk run (λ status. is_fault status ≡ false) }
+    ensures ends { Ended (λ status. result ≡ status) run }
+    ensures told { TellsEnd E.broken E.held errors.old errors.new result }
 {
     match run {
         Ok(status) => status,
@@ -150,7 +164,8 @@ pub fn tell_help<W: Sink, E: Sink>(
     errors: &mut E,
 ) -> Status
     requires { W.broken sink.old ≡ false }
-    ensures { EndsHelp (map string_bytes names.now ++ codes "--help" ∷ []) result }
+    ensures ends { EndsHelp (map string_bytes names.now ++ codes "--help" ∷ []) result }
+    ensures told { TellsEnd E.broken E.held errors.old errors.new result }
 {
     let written = write_help(alloc, names, sink, errors);
     ended(written, errors)
@@ -164,7 +179,8 @@ pub fn tell_mistake<W: Sink, E: Sink>(
     errors: &mut E,
 ) -> Status
     requires { W.broken sink.old ≡ false }
-    ensures { EndsHelp (map string_bytes words.now) result }
+    ensures ends { EndsHelp (map string_bytes words.now) result }
+    ensures told { TellsEnd E.broken E.held errors.old errors.new result }
 {
     let told = tell_words(alloc, words, sink, errors);
     ended(told, errors)

@@ -3,7 +3,7 @@
 use super::{INSTALL, PAGE, client, listen, received};
 use dh_ports::{Failed, Port, Sink};
 use dh_sample::sample_desk;
-use dh_server::{Log, serve_on};
+use dh_server::{Listening, Log, serve_on};
 use std::io;
 use std::net::Shutdown;
 use std::test::Fail;
@@ -30,9 +30,11 @@ fn told(rt: &HostRuntime, text: &str) -> Result<String, Fail> {
     client.shutdown(Shutdown::Write)?;
     let mut desk = sample_desk(rt.alloc())?;
     let mut out = Vec::new(rt.alloc());
-    let mut log = Log::new(Still, Port::new(&mut out));
-    let _ = serve_on(rt.alloc(), &mut desk, &listener, 1, &mut log);
-    drop(log);
+    let mut errors = Port::new(&mut out);
+    let log = Log::new(Still, true);
+    let mut listening = Listening::new(&listener);
+    let _ = serve_on(rt.alloc(), &mut desk, &mut listening, 1, &log, &mut errors);
+    drop(errors);
     let text = str::from_utf8(out.as_slice()).unwrap_or("no text");
     Ok(String::from_str(rt.alloc(), text)?)
 }
@@ -89,8 +91,10 @@ fn full_log_does_not_stop_it(rt: &HostRuntime) -> Result<bool, Fail> {
     let one = client(rt, &listener, INSTALL)?;
     let other = client(rt, &listener, INSTALL)?;
     let mut desk = sample_desk(rt.alloc())?;
-    let mut log = Log::new(Still, Full { stopped: false });
-    let served = serve_on(rt.alloc(), &mut desk, &listener, 2, &mut log);
+    let mut errors = Full { stopped: false };
+    let log = Log::new(Still, true);
+    let mut listening = Listening::new(&listener);
+    let served = serve_on(rt.alloc(), &mut desk, &mut listening, 2, &log, &mut errors);
     Ok(served == 2 && received(rt, one)?.as_str() == PAGE && received(rt, other)?.as_str() == PAGE)
 }
 

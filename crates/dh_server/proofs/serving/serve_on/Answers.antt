@@ -1,6 +1,7 @@
-use Rattle.std.proofs.Common.{◌≡◌, ◌+◌, if◌then◌else◌}
+use Rattle.std.proofs.Common.{◌≡◌, ◌∙◌, ◌+◌, if◌then◌else◌}
 use Rattle.dh_desk.specs.Desk.{world}
-use Rattle.dh_server.proofs.Stepping.{serves_next, steps_next, few_next, one_more, no_more}
+use Rattle.dh_server.proofs.Stepping.{counts_next, serves_next, steps_next, few_next, one_more, no_more}
+use Rattle.dh_server.proofs.Told.{some_more}
 use Rattle.dh_server.proofs.serving.serve_on.Goals as goal
 use Rattle.dh_server.proofs.serving.serve_on.Goals.{then-serve_next, else-serve_next}
 
@@ -12,8 +13,11 @@ loop-turn-preserved g c =
       | else-serve_next w ↦ no_more c.loop-turn.served c.if-serve_next.served c.serve_next.result w.if-serve_next.false w.served-is
     ] in
     record {
+      asks = counts_next (g.N.Listen.asked c.args.listener.now) (g.N.Listen.asked c.loop-turn.listener) (g.N.Listen.asked c.serve_next.new.listener) c.loop-turn._turn c.loop-turn.invariant.asks c.serve_next.ensures.asks;
       few = few_next c.loop-turn._turn c.loop-turn.served c.if-serve_next.served c.serve_next.result c.loop-turn.invariant.few done;
       serves = λ honest. serves_next c.loop-turn._turn (world g.S.Store c.args.desk.now) (world g.S.Store c.loop-turn.desk) (world g.S.Store c.serve_next.new.desk) c.loop-turn.served c.if-serve_next.served c.serve_next.result (c.loop-turn.invariant.serves (c.serve_next.ensures.was honest)) (c.serve_next.ensures.turn honest) done;
       steps = λ honest. steps_next c.loop-turn._turn (world g.S.Store c.args.desk.now) (world g.S.Store c.loop-turn.desk) (world g.S.Store c.serve_next.new.desk) c.serve_next.result (c.loop-turn.invariant.steps (c.serve_next.ensures.was honest)) (c.serve_next.ensures.turn honest);
       was = λ honest. c.loop-turn.invariant.was (c.serve_next.ensures.was honest);
+      tells = some_more g.L.Sink.broken g.L.Sink.held c.args.errors.now c.loop-turn.errors c.serve_next.new.errors c.loop-turn.invariant.tells c.serve_next.ensures.tells;
+      off = λ is_off. c.serve_next.ensures.off is_off ∙ c.loop-turn.invariant.off is_off;
     }

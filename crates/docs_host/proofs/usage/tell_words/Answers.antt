@@ -5,6 +5,9 @@ use Rattle.docs_host.proofs.Ending.{error_ended}
 use Rattle.docs_host.proofs.usage.tell_words.Goals as goal
 
 pub returns : goal.returns
-returns g c =
-    error_ended (map string_bytes c.args.words.now) (app_of c.in_ok-program.program) (kind_of c.in-Err.error) c.tell_error.result
-    c.in_ok-program.ensures.0 c.in-Err.ensures.kinds c.tell_error.ensures
+returns g c = record {
+  ends =
+      error_ended (map string_bytes c.args.words.now) (app_of c.in_ok-program.program) (kind_of c.in-Err.error) c.tell_error.result
+      c.in_ok-program.ensures.0 c.in-Err.ensures.kinds c.tell_error.ensures.ends;
+  silent = c.tell_error.ensures.silent;
+}

@@ -1,0 +1,21 @@
+-- What is told where it may be lost: a sink that has failed takes no more.
+use Rattle.std.specs.Prelude.{◌≡◌, ◌⊎◌, ℕ, Bool, false, List, [], Option, Result}
+use Rattle.std.specs.Io.KnownBytes.{Appends}
+use Rattle.dh_http.specs.declared.fault.Done.{Done}
+use Rattle.dh_http.specs.declared.fault.EngineFault.{EngineFault}
+use Rattle.dh_server.specs.Lines.{log_line, told_as}
+
+module _ {S : Type 0} (broken : S → Bool) (held : S → Option (List ℕ)) where
+  -- the text stands behind what the sink held, unless the sink has failed
+  pub record Tells (old new : S) (text : List ℕ) : Type 0 where
+    pub live : broken new ≡ false → broken old ≡ false
+    pub said : broken new ≡ false → Appends (held old) (held new) text
+
+  -- some text
+  abbrev pub TellsSome : S → S → Type 0
+  TellsSome old new = (text : List ℕ) × Tells old new text
+
+  -- the line of a connection, in some microseconds; or none
+  abbrev pub TellsLine : S → S → Option (Result Done EngineFault) → List ℕ → ℕ → Type 0
+  TellsLine old new outcome line bytes =
+      Tells old new [] ⊎ ((micros : ℕ) × Tells old new (log_line (told_as outcome) line bytes micros))
