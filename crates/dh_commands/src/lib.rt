@@ -1,7 +1,7 @@
 //! Commands decided: which edits of its project each asks for, or why it is refused.
 //!
 //! `decide` makes a plan of what was found of the project of a checked command, or `open` where the
-//! host has no project. All are pure: to look up, and to make the edits of a plan, is the work of a store.
+//! host has no project. Both are pure: to look up, and to make the edits of a plan, is the work of a store.
 #![tactic(auto)]
 
 mod decision;

@@ -1,10 +1,10 @@
 //! Redirects.
 ghost use Rattle.dh_plans.specs.Knowing.{Decides};
 
-use crate::lists::{add_at, drop_at, is_place};
+use crate::lists::{is_place, with_one_at, without_place};
 use dh_checks::{CheckedChange, CheckedRedirect};
-use dh_plans::{Facts, Plan, take_list};
-use dh_world::Refusal;
+use dh_plans::{Edit, Facts, Plan, take_list};
+use dh_world::{Answer, Refusal};
 use std::alloc::Global;
 
 /// The most redirects of a project.
@@ -26,12 +26,8 @@ pub fn add_redirect<'c>(
     if count >= MOST_REDIRECTS {
         return Err(Refusal::TooMany);
     }
-    Ok(add_at(
-        alloc,
-        place,
-        redirect,
-        take_list(alloc, &mut facts.redirects),
-    )?)
+    let redirects = with_one_at(place, redirect, take_list(alloc, &mut facts.redirects))?;
+    Ok(Plan::one(alloc, Edit::SetRedirects(redirects), Answer::Done)?)
 }
 
 /// Removes the redirect at a place of the list.
@@ -41,5 +37,6 @@ pub fn drop_redirect<'c>(alloc: Global, place: u32, facts: &mut Facts) -> Result
     if !is_place(place, facts.redirects.as_slice().len()) {
         return Err(Refusal::BadPlace);
     }
-    Ok(drop_at(alloc, place, take_list(alloc, &mut facts.redirects))?)
+    let redirects = without_place(place, take_list(alloc, &mut facts.redirects));
+    Ok(Plan::one(alloc, Edit::SetRedirects(redirects), Answer::Done)?)
 }

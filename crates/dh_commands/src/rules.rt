@@ -1,10 +1,10 @@
 //! Automation rules.
 ghost use Rattle.dh_plans.specs.Knowing.{Decides};
 
-use crate::lists::{add_at, drop_at, is_place};
+use crate::lists::{is_place, with_one_at, without_place};
 use dh_checks::{CheckedChange, CheckedRule};
-use dh_plans::{Facts, Plan, take_list};
-use dh_world::Refusal;
+use dh_plans::{Edit, Facts, Plan, take_list};
+use dh_world::{Answer, Refusal};
 use std::alloc::Global;
 
 /// The most rules of a project.
@@ -26,7 +26,8 @@ pub fn add_rule<'c>(
     if count >= MOST_RULES {
         return Err(Refusal::TooMany);
     }
-    Ok(add_at(alloc, place, rule, take_list(alloc, &mut facts.rules))?)
+    let rules = with_one_at(place, rule, take_list(alloc, &mut facts.rules))?;
+    Ok(Plan::one(alloc, Edit::SetRules(rules), Answer::Done)?)
 }
 
 /// Removes the rule at a place of the list.
@@ -36,5 +37,6 @@ pub fn drop_rule<'c>(alloc: Global, place: u32, facts: &mut Facts) -> Result<Pla
     if !is_place(place, facts.rules.as_slice().len()) {
         return Err(Refusal::BadPlace);
     }
-    Ok(drop_at(alloc, place, take_list(alloc, &mut facts.rules))?)
+    let rules = without_place(place, take_list(alloc, &mut facts.rules));
+    Ok(Plan::one(alloc, Edit::SetRules(rules), Answer::Done)?)
 }

@@ -1,13 +1,13 @@
 -- What edits make of the records, and when they may be made of them.
-use Rattle.std.specs.Prelude.{◌≡◌, false, not, filter, List, [], ◌∷◌, Some, None}
+use Rattle.std.specs.Prelude.{◌≡◌, ℕ, false, not, filter, List, [], ◌∷◌, Some, None}
 use Rattle.std.specs.List.{IsDistinct}
 use Rattle.std.specs.Str.{bytes_eq}
 use Rattle.dh_plans.specs.declared.edits.Edit.{Edit}
-use Rattle.dh_plans.specs.declared.edits.Edit.TheVariants.{AddLang, PutVersion, PutWithoutPages, RemoveVersion, PutPage, RemovePages, SetDefaults, PutRule, DropLastRule, PutRedirect, DropLastRedirect, AddPass, RemovePass, Grant, Revoke, PutAnswer}
+use Rattle.dh_plans.specs.declared.edits.Edit.TheVariants.{AddLang, PutVersion, PutWithoutPages, RemoveVersion, PutPage, RemovePages, SetDefaults, SetRules, SetRedirects, AddPass, RemovePass, Grant, Revoke, PutAnswer}
 use Rattle.dh_plans.specs.KeptAnswer.{KeptAnswer}
 use Rattle.dh_rows.specs.Keyed.{IsFreeKey, added, put}
 use Rattle.dh_records.specs.Codings as coding
-use Rattle.dh_records.specs.Lists.{Lists, is_version, is_page_under, is_pass, is_held, is_held_by, is_held_on, is_rule, rule_row, is_redirect, redirect_row, set_picks, granted, keeping}
+use Rattle.dh_records.specs.Lists.{Lists, is_version, is_page_under, is_pass, is_held, is_held_by, is_held_on, set_picks, set_rules, set_redirects, granted, keeping}
 use Rattle.dh_records.specs.Constraints.{has_language}
 use Rattle.dh_records.specs.declared.records.HeldRow.{HeldRow}
 use Rattle.dh_records.specs.declared.records.LangRow.{LangRow}
@@ -21,7 +21,7 @@ use Rattle.dh_world.specs.declared.pages.UploadedPage.{UploadedPage}
 
 -- ---- the records of a host
 
-abbrev pub lang_row : Text → Text → Rattle.std.specs.Prelude.ℕ → LangRow
+abbrev pub lang_row : Text → Text → ℕ → LangRow
 lang_row host lang place = record { host = host; lang = lang; place = place }
 
 abbrev pub version_row : Text → Version → VersionRow
@@ -108,17 +108,9 @@ rows_edited host (PutPage slug lang x) l = record l {
 }
 rows_edited host (RemovePages slug lang) l = without_pages_in host slug lang l
 rows_edited host (SetDefaults names) l = with_defaults host names l
-rows_edited host (PutRule place rule) l = record l {
-  rules = put coding.rules.key (rule_row host place rule) l.rules;
-}
-rows_edited host (DropLastRule place) l = record l {
-  rules = filter (λ x. not (is_rule host place x)) l.rules;
-}
-rows_edited host (PutRedirect place r) l = record l {
-  redirects = put coding.redirects.key (redirect_row host place r) l.redirects;
-}
-rows_edited host (DropLastRedirect place) l = record l {
-  redirects = filter (λ x. not (is_redirect host place x)) l.redirects;
+rows_edited host (SetRules rules) l = record l { rules = set_rules host rules l.rules }
+rows_edited host (SetRedirects redirects) l = record l {
+  redirects = set_redirects host redirects l.redirects;
 }
 rows_edited host (AddPass pass) l = record l {
   passes = added coding.passes.key (pass_row host pass) l.passes;

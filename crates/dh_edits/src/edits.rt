@@ -12,7 +12,7 @@ use dh_plans::{Edit, FirstAnswer};
 use dh_redirects::Redirect;
 use dh_reply::Page;
 use dh_rules::Rule;
-use dh_tables::{HeldRow, LangRow, PageRow, PassRow, RedirectRow, RuleRow, Tables, VersionRow};
+use dh_tables::{HeldRow, LangRow, PageRow, PassRow, Tables, VersionRow};
 use dh_versions::Version;
 use dh_world::Refusal;
 use sqlite::Alter;
@@ -117,7 +117,8 @@ fn remove_version<S: Alter>(
 
 /// A page of an upload as it is stored. Its body is copied, once.
 fn page_in(alloc: Global, page: &CheckedPage<'_>) -> Result<Page, AllocError>
-    ensures { IfOk result (λ stored. stored ≡ record { media = page.now.media; body = page.now.body }) }
+    ensures { IfOk result
+        (λ stored. stored ≡ record { media = page.now.media; body = page.now.body }) }
 {
     Ok(Page {
         media: Text::copy_of(alloc, page.page.media.as_str())?,
@@ -174,62 +175,30 @@ fn set_defaults<S: Alter>(
     Ok(tables.set_picks(host, names)?)
 }
 
-fn put_rule<S: Alter>(
+fn set_rules<S: Alter>(
     tables: &mut Tables<S>,
     alloc: Global,
     host: &HostName,
-    place: u32,
-    rule: Rule,
+    rules: &[Rule],
 ) -> Result<(), Refusal>
     requires within { IsHonest S.Store tables.old → tables.old.in_transaction ≡ true }
     ensures makes { Makes S.Store tables.old tables.new result
-        (rows_edited host.now (Edit.PutRule place rule)) }
+        (rows_edited host.now (Edit.SetRules rules.now)) }
 {
-    let row = RuleRow {
-        host: host.try_copy(alloc)?,
-        place,
-        rule,
-    };
-    Ok(tables.put_rule(alloc, &row)?)
+    Ok(tables.set_rules(alloc, host, rules)?)
 }
 
-fn drop_rule<S: Alter>(tables: &mut Tables<S>, host: &HostName, place: u32) -> Result<(), Refusal>
-    requires within { IsHonest S.Store tables.old → tables.old.in_transaction ≡ true }
-    ensures makes { Makes S.Store tables.old tables.new result
-        (rows_edited host.now (Edit.DropLastRule place)) }
-{
-    Ok(tables.drop_rule(host, place)?)
-}
-
-fn put_redirect<S: Alter>(
+fn set_redirects<S: Alter>(
     tables: &mut Tables<S>,
     alloc: Global,
     host: &HostName,
-    place: u32,
-    redirect: Redirect,
+    redirects: &[Redirect],
 ) -> Result<(), Refusal>
     requires within { IsHonest S.Store tables.old → tables.old.in_transaction ≡ true }
     ensures makes { Makes S.Store tables.old tables.new result
-        (rows_edited host.now (Edit.PutRedirect place redirect)) }
+        (rows_edited host.now (Edit.SetRedirects redirects.now)) }
 {
-    let row = RedirectRow {
-        host: host.try_copy(alloc)?,
-        place,
-        redirect,
-    };
-    Ok(tables.put_redirect(&row)?)
-}
-
-fn drop_redirect<S: Alter>(
-    tables: &mut Tables<S>,
-    host: &HostName,
-    place: u32,
-) -> Result<(), Refusal>
-    requires within { IsHonest S.Store tables.old → tables.old.in_transaction ≡ true }
-    ensures makes { Makes S.Store tables.old tables.new result
-        (rows_edited host.now (Edit.DropLastRedirect place)) }
-{
-    Ok(tables.drop_redirect(host, place)?)
+    Ok(tables.set_redirects(alloc, host, redirects)?)
 }
 
 fn add_pass<S: Alter>(
@@ -339,10 +308,8 @@ fn make_edit<S: Alter>(
         Edit::PutPage { slug, lang, page } => put_page(tables, alloc, host, slug, lang, page),
         Edit::RemovePages { slug, lang } => remove_pages(tables, host, &slug, &lang),
         Edit::SetDefaults(names) => set_defaults(tables, host, names.as_slice()),
-        Edit::PutRule { place, rule } => put_rule(tables, alloc, host, place, rule),
-        Edit::DropLastRule { place } => drop_rule(tables, host, place),
-        Edit::PutRedirect { place, redirect } => put_redirect(tables, alloc, host, place, redirect),
-        Edit::DropLastRedirect { place } => drop_redirect(tables, host, place),
+        Edit::SetRules(rules) => set_rules(tables, alloc, host, rules.as_slice()),
+        Edit::SetRedirects(redirects) => set_redirects(tables, alloc, host, redirects.as_slice()),
         Edit::AddPass(pass) => add_pass(tables, alloc, host, pass),
         Edit::RemovePass(pass) => remove_pass(tables, host, &pass),
         Edit::Grant { pass, slug } => grant(tables, alloc, host, pass, slug),

@@ -1,5 +1,6 @@
 -- What edits make of a project, and when they may be made.
-use Rattle.std.specs.Prelude.{◌≡◌, ◌≤◌, ◌<◌, ◌⊎◌, ◌+◌, ◌-◌, Bool, false, ◌||◌, not, IsTrue, List, [], ◌∷◌, ◌++◌, length, take, drop, Some, None, Result, Ok, Err, IsSome}
+use Rattle.std.specs.Prelude.{◌≡◌, ◌≤◌, ◌<◌, ◌⊎◌, ◌+◌, Bool, false, ◌||◌, not, IsTrue, List, [], ◌∷◌, ◌++◌, length, Some, None, Result, Ok, Err, IsSome}
+use Rattle.std.specs.List.{AllByRecursion}
 use Rattle.std.specs.Option.{option_map_or}
 use Rattle.std.specs.FinMap.{get, insert, remove, retain_keys, contains_key, len}
 use Rattle.std.specs.Str.{bytes_eq}
@@ -14,7 +15,7 @@ use Rattle.dh_world.specs.declared.refusal.Refusal.{Refusal}
 use Rattle.dh_world.specs.declared.refusal.Refusal.TheVariants.{OutOfMemory}
 use Rattle.dh_plans.specs.Planned.{Planned}
 use Rattle.dh_plans.specs.declared.edits.Edit.{Edit}
-use Rattle.dh_plans.specs.declared.edits.Edit.TheVariants.{AddLang, PutVersion, PutWithoutPages, RemoveVersion, PutPage, RemovePages, SetDefaults, PutRule, DropLastRule, PutRedirect, DropLastRedirect, AddPass, RemovePass, Grant, Revoke, PutAnswer}
+use Rattle.dh_plans.specs.declared.edits.Edit.TheVariants.{AddLang, PutVersion, PutWithoutPages, RemoveVersion, PutPage, RemovePages, SetDefaults, SetRules, SetRedirects, AddPass, RemovePass, Grant, Revoke, PutAnswer}
 
 abbrev pub edited : Edit → Project → Project
 edited (AddLang lang place) p = record p { languages = p.languages ++ lang ∷ [] }
@@ -24,10 +25,8 @@ edited (RemoveVersion slug defaults) p = record (without_version slug p) { defau
 edited (PutPage slug lang x) p = record p { pages = insert p.pages (slug, (lang, x.path)) (record { media = x.media; body = x.body }) }
 edited (RemovePages slug lang) p = record p { pages = retain_keys p.pages (λ key. not (lies_under slug (Some lang) key)) }
 edited (SetDefaults names) p = record p { defaults = names }
-edited (PutRule place rule) p = record p { rules = take (place - 1) p.rules ++ rule ∷ drop place p.rules }
-edited (DropLastRule place) p = record p { rules = take (place - 1) p.rules }
-edited (PutRedirect place r) p = record p { redirects = take (place - 1) p.redirects ++ r ∷ drop place p.redirects }
-edited (DropLastRedirect place) p = record p { redirects = take (place - 1) p.redirects }
+edited (SetRules rules) p = record p { rules = rules }
+edited (SetRedirects redirects) p = record p { redirects = redirects }
 edited (AddPass pass) p = record p { passes = insert p.passes pass tt }
 edited (RemovePass pass) p = record p { passes = remove p.passes pass; held = retain_keys p.held (λ key. not (bytes_eq key.0 pass)) }
 edited (Grant pass slug) p = record p { held = insert p.held (pass, slug) tt }
@@ -50,8 +49,8 @@ pub record IsNewFront (p : Project) (names : List Text) : Type 0 where
   pub may : IsTrue (is_alias name || contains_key p.versions name)
 
 -- What has to hold of a project before an edit, so that it is one again: a version's slug comes from its name, one that has
--- pages stays active, pages and grants lead to what is there, places have no gap,
--- a rule and a redirect pass their checks, and a first answer is one that has a JSON, under a free key.
+-- pages stays active, pages and grants lead to what is there, lists are no longer than they may be,
+-- their rules and redirects pass their checks, and a first answer is one that has a JSON, under a free key.
 abbrev pub MayEdit : Edit → Project → Type 0
 MayEdit (AddLang lang place) p = (has_lang p lang ≡ false) × (place ≡ length p.languages + 1) × (place ≤ 30)
 MayEdit (PutVersion v) p = (slug_from v.name ≡ Some v.slug) × (v.active ≡ false → is_active p v.slug ≡ false)
@@ -60,10 +59,8 @@ MayEdit (RemoveVersion slug defaults) p = defaults ≡ without_name slug p.defau
 MayEdit (PutPage slug lang x) p = IsTrue (is_active p slug) × IsTrue (has_lang p lang)
 MayEdit (RemovePages slug lang) p = Unit {0}
 MayEdit (SetDefaults names) p = IsNewFront p names
-MayEdit (PutRule place rule) p = (1 ≤ place) × (place ≤ length p.rules + 1) × (place ≤ 50) × IsTrue (is_allowed rule.pattern)
-MayEdit (DropLastRule place) p = (1 ≤ place) × (place ≡ length p.rules)
-MayEdit (PutRedirect place r) p = (1 ≤ place) × (place ≤ length p.redirects + 1) × (place ≤ 100) × (first_fault r ≡ None)
-MayEdit (DropLastRedirect place) p = (1 ≤ place) × (place ≡ length p.redirects)
+MayEdit (SetRules rules) p = (length rules ≤ 50) × AllByRecursion (λ r. IsTrue (is_allowed r.pattern)) rules
+MayEdit (SetRedirects redirects) p = (length redirects ≤ 100) × AllByRecursion (λ r. first_fault r ≡ None) redirects
 MayEdit (AddPass pass) p = (contains_key p.passes pass ≡ false) × (len p.passes < 1000)
 MayEdit (RemovePass pass) p = Unit {0}
 MayEdit (Grant pass slug) p = IsTrue (contains_key p.passes pass) × IsTrue (contains_key p.versions slug)

@@ -1,5 +1,5 @@
 -- The parts of plans, and why there is none.
-use Rattle.std.specs.Prelude.{◌≡◌, ◌⊎◌, ℕ, ◌+◌, ◌-◌, Bool, true, false, ◌&&◌, if◌then◌else◌, List, [], ◌∷◌, ◌++◌, map, length, drop, Option, Some, None, Result, Ok, Err}
+use Rattle.std.specs.Prelude.{◌≡◌, ◌⊎◌, ℕ, Bool, true, false, ◌&&◌, if◌then◌else◌, List, [], ◌∷◌, ◌++◌, map, length, Option, Some, None, Result, Ok, Err}
 use Rattle.std.specs.Str.{bytes_eq}
 use Rattle.dh_versions.specs.declared.version.Kind.TheVariants.{Branch}
 use Rattle.dh_versions.specs.declared.version.Version.{Version}
@@ -108,19 +108,6 @@ wrong_default_version (Some v) = unless v.active Inactive
 -- why a name may be no default, by the version that was found
 abbrev pub wrong_default : Text → Option Version → Option Refusal
 wrong_default name version = if is_alias name then None else wrong_default_version version
-
--- ---- lists in order: what puts one at a place, and what drops the last one
-
--- an edit for each, at the places from this one on
-abbrev pub puts : {X : Type 0} → (ℕ → X → Edit) → ℕ → List X → List Edit
-puts put place [] = []
-puts put place (x ∷ xs) = put place x ∷ puts put (place + 1) xs
-
-abbrev pub plan_added : {X : Type 0} → (ℕ → X → Edit) → ℕ → X → List X → Planned
-plan_added put place x xs = record { edits = puts put place (x ∷ drop (place - 1) xs); answer = Done }
-
-abbrev pub plan_dropped : {X : Type 0} → (ℕ → X → Edit) → (ℕ → Edit) → ℕ → List X → Planned
-plan_dropped put drop_last place xs = record { edits = puts put place (drop place xs) ++ drop_last (length xs) ∷ []; answer = Done }
 
 -- ---- grants
 

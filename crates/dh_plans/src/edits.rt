@@ -62,28 +62,10 @@ pub enum Edit<'c> {
     },
     /// These are the defaults, the newest first.
     SetDefaults(Items<Slug>),
-    /// The rule stands at its place, in place of the one that did, or behind the last one.
-    PutRule {
-        /// From 1.
-        place: u32,
-        rule: Rule,
-    },
-    /// The last rule is gone.
-    DropLastRule {
-        /// From 1: how many there were.
-        place: u32,
-    },
-    /// The redirect stands at its place, in place of the one that did, or behind the last one.
-    PutRedirect {
-        /// From 1.
-        place: u32,
-        redirect: Redirect,
-    },
-    /// The last redirect is gone.
-    DropLastRedirect {
-        /// From 1: how many there were.
-        place: u32,
-    },
+    /// These are the rules, in the order in which they run.
+    SetRules(Items<Rule>),
+    /// These are the redirects, in the order in which they are tried.
+    SetRedirects(Items<Redirect>),
     /// There is a pass, which holds nothing.
     AddPass(Token),
     /// The pass is gone, with its grants.

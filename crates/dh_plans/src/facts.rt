@@ -1,5 +1,5 @@
 //! What is known of a project.
-ghost use Rattle.std.specs.Prelude.{◌≡◌};
+ghost use Rattle.std.specs.Prelude.{◌≡◌, []};
 
 use dh_checks::ProjectSettings;
 use dh_paths::{Lang, Slug};
@@ -35,7 +35,8 @@ pub struct Facts {
 
 /// What stands in a list, which is empty then.
 pub fn take_list<T: Drop>(alloc: Global, list: &mut Vec<T>) -> Vec<T>
-    ensures { result.items ≡ list.old.items }
+    ensures taken { result.items ≡ list.old.items }
+    ensures left { list.new.items ≡ [] }
 {
     mem::replace(list, Vec::new(alloc))
 }

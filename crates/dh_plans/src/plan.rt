@@ -41,18 +41,4 @@ impl<'c> Plan<'c> {
             answer,
         })
     }
-
-    pub fn two(
-        alloc: Global,
-        first: Edit<'c>,
-        second: Edit<'c>,
-        answer: Answer,
-    ) -> Result<Plan<'c>, AllocError>
-        ensures { IfOk result (λ plan. plan ≡ planned (first.entry ∷ second.entry ∷ []) answer) }
-    {
-        Ok(Plan {
-            edits: vec![in alloc; first, second]?,
-            answer,
-        })
-    }
 }

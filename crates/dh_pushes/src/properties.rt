@@ -1,5 +1,5 @@
 //! The properties of a version: active, hidden, private.
-ghost use Rattle.std.specs.Prelude.{◌≡◌, false, [], ◌∷◌};
+ghost use Rattle.std.specs.Prelude.{◌≡◌};
 ghost use Rattle.dh_world.specs.Changes.{with_property};
 ghost use Rattle.dh_world.specs.World.{Text};
 ghost use Rattle.dh_plans.specs.Edits.{Makes};

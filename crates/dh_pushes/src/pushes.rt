@@ -207,14 +207,13 @@ pub fn push<'c>(alloc: Global, push: CheckedPush, facts: &mut Facts) -> Result<P
     if let Some(answer) = facts.first_answer.take() {
         return Ok(Plan::none(alloc, answer));
     }
-    let defaults = take_list(alloc, &mut facts.defaults);
     match &facts.version {
         None => make_new(
             alloc,
             &facts.settings,
             &push,
             facts.rules.as_slice(),
-            defaults,
+            take_list(alloc, &mut facts.defaults),
         ),
         Some(version) => {
             if !comes_from(version, push.kind, &push.name) {

@@ -1,10 +1,12 @@
 -- The lists with a record more, or with fewer.
 use Rattle.std.specs.Prelude.{ℕ, not, filter, List, Option}
 use Rattle.dh_rows.specs.Keyed.{added, put}
+use Rattle.dh_rules.specs.declared.rule.Rule.{Rule}
+use Rattle.dh_redirects.specs.declared.redirect.Redirect.{Redirect}
 use Rattle.dh_world.specs.World.{Text}
 use Rattle.dh_records.specs.Codings as coding
 use Rattle.dh_records.specs.Lists as lists
-use Rattle.dh_records.specs.Lists.{Lists, granted, is_version, is_page_under, is_pick_of, is_pass, is_held, is_held_by, is_held_on, is_rule, is_redirect}
+use Rattle.dh_records.specs.Lists.{Lists, granted, is_version, is_page_under, is_pick_of, is_pass, is_held, is_held_by, is_held_on, is_rule, is_rule_behind, is_redirect, is_redirect_behind}
 use Rattle.dh_records.specs.declared.records.ProjectRow.{ProjectRow}
 use Rattle.dh_records.specs.declared.records.LangRow.{LangRow}
 use Rattle.dh_records.specs.declared.records.VersionRow.{VersionRow}
@@ -62,6 +64,15 @@ with_picks rows l = record l { picks = lists.with_picks rows l.picks }
 abbrev pub set_picks : Text → List Text → Lists → Lists
 set_picks host names l = record l { picks = lists.set_picks host names l.picks }
 
+-- the rules of a host, in place of those that it had
+abbrev pub set_rules : Text → List Rule → Lists → Lists
+set_rules host rules l = record l { rules = lists.set_rules host rules l.rules }
+
+abbrev pub set_redirects : Text → List Redirect → Lists → Lists
+set_redirects host redirects l = record l {
+  redirects = lists.set_redirects host redirects l.redirects;
+}
+
 -- ---- fewer records
 
 abbrev pub drop_version : Text → Text → Lists → Lists
@@ -106,4 +117,15 @@ drop_rule host place l = record l { rules = filter (λ x. not (is_rule host plac
 abbrev pub drop_redirect : Text → ℕ → Lists → Lists
 drop_redirect host place l = record l {
   redirects = filter (λ x. not (is_redirect host place x)) l.redirects;
+}
+
+-- those behind the first so many
+abbrev pub drop_rules_behind : Text → ℕ → Lists → Lists
+drop_rules_behind host count l = record l {
+  rules = filter (λ x. not (is_rule_behind host count x)) l.rules;
+}
+
+abbrev pub drop_redirects_behind : Text → ℕ → Lists → Lists
+drop_redirects_behind host count l = record l {
+  redirects = filter (λ x. not (is_redirect_behind host count x)) l.redirects;
 }

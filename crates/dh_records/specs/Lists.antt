@@ -1,9 +1,10 @@
 -- The records of each table, and the world that they spell.
-use Rattle.std.specs.Prelude.{ℕ, ◌+◌, Bool, true, false, not, ◌&&◌, nat_eq, if◌then◌else◌, List, [], ◌∷◌, map, filter, Option, Some, None, unwrap_or}
+use Rattle.std.specs.Prelude.{ℕ, ◌+◌, Bool, true, false, not, ◌&&◌, nat_eq, nat_lt, if◌then◌else◌, List, [], ◌∷◌, length, map, filter, Option, Some, None, unwrap_or}
 use Rattle.std.specs.List.{list_any}
 use Rattle.std.specs.Str.{bytes_eq}
 use Rattle.std.specs.FinMap.{from_entries}
-use Rattle.dh_rows.specs.Keyed.{added}
+use Rattle.sqlite_value.specs.Order.{Row}
+use Rattle.dh_rows.specs.Keyed.{added, put}
 use Rattle.dh_records.specs.Codings as coding
 use Rattle.dh_rules.specs.declared.rule.Rule.{Rule}
 use Rattle.dh_redirects.specs.declared.redirect.Redirect.{Redirect}
@@ -115,6 +116,13 @@ is_redirect host place r = bytes_eq r.host host && nat_eq r.place place
 abbrev pub redirect_row : Text → ℕ → Redirect → RedirectRow
 redirect_row host place redirect = record { host = host; place = place; redirect = redirect }
 
+-- behind the first so many
+abbrev pub is_rule_behind : Text → ℕ → RuleRow → Bool
+is_rule_behind host count r = bytes_eq r.host host && nat_lt count r.place
+
+abbrev pub is_redirect_behind : Text → ℕ → RedirectRow → Bool
+is_redirect_behind host count r = bytes_eq r.host host && nat_lt count r.place
+
 abbrev pub pick_row : Text → Text → ℕ → PickRow
 pick_row host name rank = record { host = host; name = name; rank = rank }
 
@@ -135,6 +143,27 @@ with_picks (x ∷ xs) rows = with_picks xs (added coding.picks.key x rows)
 -- the defaults of a host, in place of those that it had
 abbrev pub set_picks : Text → List Text → List PickRow → List PickRow
 set_picks host names rows = with_picks (ranked host 1 names) (filter (λ r. not (is_pick_of host r)) rows)
+
+-- the records of a list in order, at the places from a number on
+abbrev pub placed : {X V : Type 0} → (ℕ → V → X) → ℕ → List V → List X
+placed row n [] = []
+placed row n (v ∷ vs) = row n v ∷ placed row (n + 1) vs
+
+-- records put one after the other
+abbrev pub put_all : {X : Type 0} → (X → Row) → List X → List X → List X
+put_all key [] rows = rows
+put_all key (x ∷ xs) rows = put_all key xs (put key x rows)
+
+-- the rules of a host: each at its place, and none behind them
+abbrev pub set_rules : Text → List Rule → List RuleRow → List RuleRow
+set_rules host rules rows =
+    put_all coding.rules.key (placed (rule_row host) 1 rules)
+    (filter (λ r. not (is_rule_behind host (length rules) r)) rows)
+
+abbrev pub set_redirects : Text → List Redirect → List RedirectRow → List RedirectRow
+set_redirects host redirects rows =
+    put_all coding.redirects.key (placed (redirect_row host) 1 redirects)
+    (filter (λ r. not (is_redirect_behind host (length redirects) r)) rows)
 
 -- a grant is added, unless it is there
 abbrev pub granted : HeldRow → List HeldRow → List HeldRow

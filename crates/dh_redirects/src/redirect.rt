@@ -1,6 +1,6 @@
 //! Redirects, what a request asks of them, and which of them are refused.
 
-ghost use Rattle.std.specs.Prelude.{◌≡◌, IfOk};
+ghost use Rattle.std.specs.Prelude.{◌≡◌, ◌↔◌, IsTrue, IfOk};
 ghost use Rattle.std.specs.Result.{result_err};
 
 use crate::texts::{absolute, early_star, final_star, holds_splat, path, short_text};
@@ -121,6 +121,17 @@ impl Redirect {
             status: self.status,
             force: self.force,
         })
+    }
+
+    /// Whether both are one redirect.
+    pub fn is_same(&self, other: &Redirect) -> bool
+        ensures { IsTrue result ↔ self.now ≡ other.now }
+    {
+        self.kind == other.kind
+            && self.status == other.status
+            && self.force == other.force
+            && self.source.as_str() == other.source.as_str()
+            && self.target.as_str() == other.target.as_str()
     }
 
     /// Tells the first fault of a redirect.

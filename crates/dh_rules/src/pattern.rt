@@ -66,6 +66,18 @@ impl Pattern {
         }
     }
 
+    /// Whether both are one pattern.
+    pub fn is_same(&self, other: &Pattern) -> bool
+        ensures { IsTrue result ↔ self.now ≡ other.now }
+    {
+        match (self, other) {
+            (Pattern::All, Pattern::All) => true,
+            (Pattern::SemVer, Pattern::SemVer) => true,
+            (Pattern::Custom(one), Pattern::Custom(two)) => one.as_str() == two.as_str(),
+            _ => false,
+        }
+    }
+
     /// Whether the pattern matches a name; none where `regex` refuses it.
     pub fn matches(&self, alloc: Global, name: &RefName) -> Result<Option<bool>, AllocError>
         ensures value { IfOk result (λ o. IfSome o (λ yes. yes ≡ is_match self.now name.now)) }

@@ -1,6 +1,6 @@
 //! Rules, and the new versions that they act on.
 
-ghost use Rattle.std.specs.Prelude.{◌≡◌, IsTrue, IfOk, OnOk};
+ghost use Rattle.std.specs.Prelude.{◌≡◌, ◌↔◌, IsTrue, IfOk, OnOk};
 
 use crate::fault::CheckFault;
 use crate::pattern::{Pattern, compiled};
@@ -59,6 +59,15 @@ impl Rule {
             pattern: self.pattern.try_copy(alloc)?,
             action: self.action,
         })
+    }
+
+    /// Whether both are one rule.
+    pub fn is_same(&self, other: &Rule) -> bool
+        ensures { IsTrue result ↔ self.now ≡ other.now }
+    {
+        self.kind == other.kind
+            && self.action == other.action
+            && self.pattern.is_same(&other.pattern)
     }
 
     /// Whether a command may add the rule.

@@ -7,4 +7,7 @@ pub mod Unrefused
 pub mod Finding
 pub mod Known
 pub mod PickLemmas
+pub mod ListLemmas
+pub mod TurnLemmas
+pub mod SettingLemmas
 pub mod OpenLemmas

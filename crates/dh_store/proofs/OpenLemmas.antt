@@ -1,9 +1,8 @@
 -- Tables that are opened.
-use Rattle.std.proofs.Common.{◌≡◌, false, None, Err, IsTrue, sym, ap, subst, ◌∙◌}
+use Rattle.std.proofs.Common.{◌≡◌, None, Err, IsTrue, sym, ap, subst, ◌∙◌}
 use Rattle.sqlite_trees.specs.declared.store.Store.{Ghosts}
 use Rattle.sqlite.specs.Effect.{Database}
 use Rattle.sqlite.specs.Held.{Held, state}
-use Rattle.sqlite.specs.State.{HasCleanDisk}
 use Rattle.dh_rows.specs.Calls.{IsHonest, IsSame, Keep, Lasts, committed, seen, whole}
 use Rattle.dh_rows.specs.Keyed.{by_key}
 use Rattle.dh_rows.proofs.Lists.{rises-sort, by_key_total}

@@ -222,3 +222,13 @@ impl Tables<MemStore> {
         Ok(Tables { conn })
     }
 }
+
+/// A number as a place. No list in memory is longer than places count.
+fn as_place(number: usize) -> Result<u32, Fault>
+    ensures { IfOk result (λ place. place ≡ number) }
+{
+    match u32::try_from(number) {
+        Ok(place) => Ok(place),
+        Err(_) => Err(Fault::Memory),
+    }
+}

@@ -1,12 +1,12 @@
 -- Edits of the records are edits of the world: once for each kind of edit.
-use Rattle.std.proofs.Common.{◌≡◌, ◌+◌, ◌<◌, ◌≤◌, ℕ, Bool, false, not, ◌||◌, filter, List, [], ◌∷◌, Option, Some, None, length, is_some, refl, sym, ap, ◌∙◌, subst}
+use Rattle.std.proofs.Common.{◌≡◌, ◌+◌, ◌<◌, ℕ, Bool, false, not, ◌||◌, filter, List, [], ◌∷◌, Option, Some, None, length, is_some, refl, sym, ap, ◌∙◌, subst}
 use Rattle.std.specs.Prelude.{option_map, unwrap_or, IsSome, IsTrue}
 use Rattle.std.specs.FinMap.{get, insert}
 use Rattle.std.specs.List.{IsDistinct}
 use Rattle.std.specs.Str.{bytes_eq}
 use Rattle.dh_plans.specs.Edits.{edited, all_edited, MayEdit, MayEditAll}
 use Rattle.dh_plans.specs.declared.edits.Edit.{Edit}
-use Rattle.dh_plans.specs.declared.edits.Edit.TheVariants.{AddLang, PutVersion, PutWithoutPages, RemoveVersion, PutPage, RemovePages, SetDefaults, PutRule, DropLastRule, PutRedirect, DropLastRedirect, AddPass, RemovePass, Grant, Revoke, PutAnswer}
+use Rattle.dh_plans.specs.declared.edits.Edit.TheVariants.{AddLang, PutVersion, PutWithoutPages, RemoveVersion, PutPage, RemovePages, SetDefaults, SetRules, SetRedirects, AddPass, RemovePass, Grant, Revoke, PutAnswer}
 use Rattle.dh_rows.specs.Keyed.{IsFreeKey}
 use Rattle.dh_records.proofs.AccessChanges.{world_gone, world_with_defaults, world_with_pass, pass_count_in, world_pass_gone, world_with_grant, world_without_grant}
 use Rattle.dh_records.proofs.AccessConstraints.{defaults_distinct, filter_distinct, front_distinct, constraints_gone, constraints_with_front, constraints_with_pass, constraints_pass_gone, constraints_with_grant, constraints_without_grants, order_without_version, order_with_defaults, order_with_pass, order_without_pass, order_with_grant, order_without_grants}
@@ -14,18 +14,16 @@ use Rattle.dh_records.proofs.ChangeLemmas.{world_with_lang, world_with_version, 
 use Rattle.dh_records.proofs.KeyLemmas.{used_is_free, pass_is_free}
 use Rattle.dh_records.proofs.OrderLemmas.{order_with_lang, order_with_version, order_with_page, order_without, order_with_used}
 use Rattle.dh_records.proofs.ConstraintLemmas.{lang_is_free, constraints_with_lang, constraints_with_version, constraints_with_page, constraints_without, constraints_with_used, inactive_is_bare, dropped_is_bare}
-use Rattle.dh_records.proofs.RuleLemmas.{order_with_rule, order_without_rule, constraints_with_rule, constraints_without_rule, rule_count_in, world_with_rule, world_without_rule}
-use Rattle.dh_records.proofs.RedirectLemmas.{order_with_redirect, order_without_redirect, constraints_with_redirect, constraints_without_redirect, redirect_count_in, world_with_redirect, world_without_redirect}
+use Rattle.dh_records.proofs.RuleLemmas.{order_with_rules, constraints_with_rules, world_with_rules}
+use Rattle.dh_records.proofs.RedirectLemmas.{order_with_redirects, constraints_with_redirects, world_with_redirects}
 use Rattle.dh_records.proofs.WorldLemmas.{owned_by, count_in, speaks_in, active_in, has_version_in, has_pass_in, used_in, changed_twice}
 use Rattle.dh_records.specs.Codings as coding
-use Rattle.dh_records.specs.Lists.{Lists, world_of, is_page_under, is_pass_of, is_pass, is_held, is_held_by, is_held_on, is_rule_of, rule_row, is_redirect_of, redirect_row, is_version, kept_answer, keeping}
+use Rattle.dh_records.specs.Lists.{Lists, world_of, is_page_under, is_pass_of, is_pass, is_held, is_held_by, is_held_on, is_version, kept_answer, keeping}
 use Rattle.dh_records.specs.Constraints.{has_project, has_version}
 use Rattle.dh_records.specs.declared.records.HeldRow.{HeldRow}
 use Rattle.dh_records.specs.declared.records.LangRow.{LangRow}
 use Rattle.dh_records.specs.declared.records.PageRow.{PageRow}
 use Rattle.dh_records.specs.declared.records.PassRow.{PassRow}
-use Rattle.dh_records.specs.declared.records.RedirectRow.{RedirectRow}
-use Rattle.dh_records.specs.declared.records.RuleRow.{RuleRow}
 use Rattle.dh_records.specs.declared.records.UsedRow.{UsedRow}
 use Rattle.dh_records.specs.declared.records.VersionRow.{VersionRow}
 use Rattle.dh_edits.specs.RowEdits.{lang_row, version_row, page_row, pass_row, grant_row, answer_row, with_defaults, without_pages, rows_edited, all_rows_edited, RowsMay, RowsMayAll}
@@ -89,10 +87,8 @@ module _ (host : Text) (lists : Lists) (p : Project) (sound : AreSound lists) (w
   rows_may (RemovePages slug lang) may = tt
   rows_may (SetDefaults names) may =
       subst (IsDistinct bytes_eq) (sym may.names_are) (front_distinct may.name p.defaults (defaults_distinct lists host p sound.constraints was))
-  rows_may (PutRule place rule) may = tt
-  rows_may (DropLastRule place) may = tt
-  rows_may (PutRedirect place r) may = tt
-  rows_may (DropLastRedirect place) may = tt
+  rows_may (SetRules rules) may = tt
+  rows_may (SetRedirects redirects) may = tt
   rows_may (AddPass pass) may =
       pass_is_free (pass_row host pass) lists.passes (missing _ (sym (has_pass_in lists host p was pass) ∙ may.0))
   rows_may (RemovePass pass) may = tt
@@ -172,42 +168,20 @@ module _ (host : Text) (lists : Lists) (p : Project) (sound : AreSound lists) (w
   edit_spells (SetDefaults names) may =
       let P : List Text → Type 0 = λ ns. Spells host lists (with_defaults host ns lists) (record p { defaults = ns }) in
       subst P (sym may.names_are) (new_front may.name (sym (ap (λ b. is_alias may.name || b) (has_version_in lists host p was may.name)) ∙ may.may))
-  edit_spells (PutRule place rule) may =
-      let row : RuleRow = rule_row host place rule in
-      let last : place ≤ length (filter (is_rule_of host) lists.rules) + 1 =
-      subst (λ n. place ≤ n + 1) (rule_count_in lists host p was) may.1 in record {
-        world_is = world_with_rule lists row p sound.constraints sound.order.rules may.0 last was;
-        sound = record {
-          order = order_with_rule lists sound.order row;
-          constraints = constraints_with_rule lists row sound.constraints sound.order.rules owned may.0 last may.2 may.3;
-        };
-      }
-  edit_spells (DropLastRule place) may =
-      let all = may.1 ∙ rule_count_in lists host p was in record {
-        world_is = world_without_rule lists host place p sound.constraints may.0 all was;
-        sound = record {
-          order = order_without_rule lists sound.order host place;
-          constraints = constraints_without_rule lists host place sound.constraints may.0 all;
-        };
-      }
-  edit_spells (PutRedirect place r) may =
-      let row : RedirectRow = redirect_row host place r in
-      let last : place ≤ length (filter (is_redirect_of host) lists.redirects) + 1 =
-      subst (λ n. place ≤ n + 1) (redirect_count_in lists host p was) may.1 in record {
-        world_is = world_with_redirect lists row p sound.constraints sound.order.redirects may.0 last was;
-        sound = record {
-          order = order_with_redirect lists sound.order row;
-          constraints = constraints_with_redirect lists row sound.constraints sound.order.redirects owned may.0 last may.2 may.3;
-        };
-      }
-  edit_spells (DropLastRedirect place) may =
-      let all = may.1 ∙ redirect_count_in lists host p was in record {
-        world_is = world_without_redirect lists host place p sound.constraints may.0 all was;
-        sound = record {
-          order = order_without_redirect lists sound.order host place;
-          constraints = constraints_without_redirect lists host place sound.constraints may.0 all;
-        };
-      }
+  edit_spells (SetRules rules) may = record {
+    world_is = world_with_rules lists host rules p sound.constraints sound.order.rules was;
+    sound = record {
+      order = order_with_rules lists sound.order host rules;
+      constraints = constraints_with_rules lists host rules sound.constraints sound.order.rules owned may.0 may.1;
+    };
+  }
+  edit_spells (SetRedirects redirects) may = record {
+    world_is = world_with_redirects lists host redirects p sound.constraints sound.order.redirects was;
+    sound = record {
+      order = order_with_redirects lists sound.order host redirects;
+      constraints = constraints_with_redirects lists host redirects sound.constraints sound.order.redirects owned may.0 may.1;
+    };
+  }
   edit_spells (AddPass pass) may =
       let row : PassRow = pass_row host pass in
       let free : IsFreeKey coding.passes.key row lists.passes = rows_may (AddPass pass) may in

@@ -1,17 +1,35 @@
 //! The calls on rules.
 
-ghost use Rattle.std.specs.Prelude.{filter};
-ghost use Rattle.dh_schema.specs.Calling.{Asks, ReadsAll, Writes};
+ghost use Rattle.std.specs.Prelude.{◌≡◌, true, not, filter, length, slice_get, Some, IsTrue};
+ghost use Rattle.std.specs.Option.{option_map};
+ghost use Rattle.dh_rows.specs.Calls.{IsHonest, seen};
+ghost use Rattle.dh_schema.specs.Calling.{Asks, ReadsAll, Writes, WritesWithin};
+ghost use Rattle.dh_schema.specs.Tables.{lists_of};
 ghost use Rattle.dh_records.specs.Changes as change;
+ghost use Rattle.dh_records.specs.Codings as coding;
 ghost use Rattle.dh_records.specs.Lists as spec;
 
-use super::{Tables, show_number};
+use super::{Tables, as_place, show_number};
 use dh_paths::HostName;
 use dh_records::{RuleRow, action_number, is_tag};
 use dh_reply::Fault;
+use dh_rules::Rule;
 use dh_schema::{all_records, write};
 use sqlite::{Alter, params};
 use std::alloc::Global;
+
+/// Whether the record at an index is this rule at this place.
+fn stands_at(rows: &[RuleRow], index: usize, place: u32, rule: &Rule) -> bool
+    ensures place { IsTrue result
+        → option_map (λ r. r.place) (slice_get rows.now index) ≡ Some place }
+    ensures rule { IsTrue result
+        → option_map (λ r. r.rule) (slice_get rows.now index) ≡ Some rule.now }
+{
+    match rows.get(index) {
+        Some(row) => row.place == place && row.rule.is_same(rule),
+        None => false,
+    }
+}
 
 impl<S: Alter> Tables<S> {
     /// The rules of a project, in the order of their places.
@@ -25,30 +43,99 @@ impl<S: Alter> Tables<S> {
         all_records(&mut self.conn, alloc, sql, params![host.as_str()])
     }
 
-    /// Adds a rule, or puts it in place of the one with its place.
-    pub fn put_rule(&mut self, alloc: Global, row: &RuleRow) -> Result<(), Fault>
-        ensures writes { Writes S.Store self.old self.new result (change.put_rule row.now) }
+    /// Puts a rule at a place, instead of the one that stands there.
+    fn put_rule(
+        &mut self,
+        alloc: Global,
+        host: &HostName,
+        place: u32,
+        rule: &Rule,
+    ) -> Result<(), Fault>
+        ensures writes { Writes S.Store self.old self.new result
+            (change.put_rule (spec.rule_row host.now place rule.now)) }
     {
-        show_number(row.place);
-        let pattern = row.rule.pattern.text(alloc)?;
+        show_number(place);
+        let pattern = rule.pattern.text(alloc)?;
         write(
             &mut self.conn,
             "INSERT INTO rule VALUES (?1, ?2, ?3, ?4, ?5) ON CONFLICT (host, place) DO UPDATE SET kind = ?3, action = ?4, pattern = ?5",
             params![
-                row.host.as_str(),
-                row.place,
-                is_tag(row.rule.kind),
-                action_number(row.rule.action),
+                host.as_str(),
+                place,
+                is_tag(rule.kind),
+                action_number(rule.action),
                 pattern.as_str()
             ],
         )
     }
 
     /// Removes the rule at a place. The others keep their places.
-    pub fn drop_rule(&mut self, host: &HostName, place: u32) -> Result<(), Fault>
-        ensures writes { Writes S.Store self.old self.new result (change.drop_rule host.now place) }
+    fn drop_rule(&mut self, host: &HostName, place: u32) -> Result<(), Fault>
+        ensures writes { Writes S.Store self.old self.new result
+            (change.drop_rule host.now place) }
     {
         let sql = "DELETE FROM rule WHERE host = ?1 AND place = ?2";
         write(&mut self.conn, sql, params![host.as_str(), place])
+    }
+
+    /// Removes those of the rules that a project has which stand behind the first so many.
+    fn drop_rules_behind(
+        &mut self,
+        host: &HostName,
+        count: usize,
+        rows: &[RuleRow],
+    ) -> Result<(), Fault>
+        requires within { IsHonest S.Store self.old → self.old.in_transaction ≡ true }
+        requires all { IsHonest S.Store self.old → rows.now
+            ≡ filter (spec.is_rule_of host.now) (seen S.Store lists_of self.old).rules }
+        ensures writes { WritesWithin S.Store self.old self.new result
+            (change.drop_rules_behind host.now count) }
+    {
+        for row in rows {
+            if row.place as usize > count {
+                self.drop_rule(host, row.place)?;
+            }
+        }
+        Ok(())
+    }
+
+    /// Puts rules at their places, but for those that stand there: the project's are the first so many of these records.
+    fn put_rules(
+        &mut self,
+        alloc: Global,
+        host: &HostName,
+        rules: &[Rule],
+        rows: &[RuleRow],
+    ) -> Result<(), Fault>
+        requires within { IsHonest S.Store self.old → self.old.in_transaction ≡ true }
+        requires all { IsHonest S.Store self.old
+            → filter (λ r. not (spec.is_rule_behind host.now (length rules.now) r)) rows.now
+            ≡ filter (spec.is_rule_of host.now) (seen S.Store lists_of self.old).rules }
+        ensures writes { WritesWithin S.Store self.old self.new result
+            (λ l. record l {
+              rules = spec.put_all coding.rules.key
+                  (spec.placed (spec.rule_row host.now) 1 rules.now) l.rules;
+            }) }
+    {
+        // The proof learns by it that the records stand in order.
+        let _ = &self.conn;
+        for (i, rule) in rules.iter().enumerate() {
+            let place = as_place(i + 1)?;
+            if !stands_at(rows, i, place, rule) {
+                self.put_rule(alloc, host, place, rule)?;
+            }
+        }
+        Ok(())
+    }
+
+    /// Sets the rules of a project, in the order in which they run, within a transaction. Only places that change are written. A call that is refused may leave some of them until the transaction ends.
+    pub fn set_rules(&mut self, alloc: Global, host: &HostName, rules: &[Rule]) -> Result<(), Fault>
+        requires within { IsHonest S.Store self.old → self.old.in_transaction ≡ true }
+        ensures writes { WritesWithin S.Store self.old self.new result
+            (change.set_rules host.now rules.now) }
+    {
+        let rows = self.rules(alloc, host)?;
+        self.drop_rules_behind(host, rules.len(), rows.as_slice())?;
+        self.put_rules(alloc, host, rules, rows.as_slice())
     }
 }

@@ -12,8 +12,8 @@ returns-in-Some c p k =
 pub returns-in-None : goal.returns-in-None
 returns-in-None c =
     decides_new c.args.push c.args.facts.now (sym c.is_write_key.ensures ∙ c.if-not-is_write_key.false) (sym c.take.ensures.value ∙ c.in_default.is) c.in-None.is c.make_new.result
-    (subst (λ ds. MakesNew c.args.facts.now.settings c.args.push c.args.facts.now.rules.items ds c.make_new.result) c.take_list-defaults.ensures
-    (subst (λ rs. MakesNew c.args.facts.now.settings c.args.push rs c.take_list-defaults.result.items c.make_new.result) c.as_slice.ensures.value c.make_new.ensures))
+    (subst (λ ds. MakesNew c.args.facts.now.settings c.args.push c.args.facts.now.rules.items ds c.make_new.result) c.take_list.ensures.taken
+    (subst (λ rs. MakesNew c.args.facts.now.settings c.args.push rs c.take_list.result.items c.make_new.result) c.as_slice.ensures.value c.make_new.ensures))
 
 pub returns-then-not-comes_from : goal.returns-then-not-comes_from
 returns-then-not-comes_from c p k =
