@@ -1,9 +1,10 @@
 -- A desk, and the world of its tables.
-use Rattle.std.specs.Prelude.{Bool, true, false, Option, Result, Err, refl}
+use Rattle.std.specs.Prelude.{◌≡◌, Bool, true, false, Option, Result, Err, IfErr, refl}
 use Rattle.std.specs.Option.{option_and_then}
 use Rattle.std.specs.Coded.{Coded, code_by, coded×, coded_bool}
 use Rattle.sqlite_trees.specs.declared.store.Store.{Ghosts}
-use Rattle.sqlite.specs.Held.{Held, held_code}
+use Rattle.sqlite.specs.Held.{Held, held_code, state}
+use Rattle.sqlite.specs.State.{HasCleanDisk}
 use Rattle.dh_rows.specs.Calls.{IsHonest}
 use Rattle.dh_records.specs.Lists.{world_of}
 use Rattle.dh_tables.specs.Going.{last_records}
@@ -16,7 +17,7 @@ use Rattle.dh_world.specs.Reads.{host_named, pass_named}
 use Rattle.dh_world.specs.Seen.{seen, veil}
 use Rattle.dh_world.specs.declared.answer.Answer.{Answer}
 use Rattle.dh_world.specs.declared.refusal.Refusal.{Refusal}
-use Rattle.dh_world.specs.declared.refusal.Refusal.TheVariants.{Store}
+use Rattle.dh_world.specs.declared.refusal.Refusal.TheVariants.{Store, OutOfMemory}
 
 -- a desk: its tables, and whether a fault of the store has closed it
 pub record Standing (S : Type 0) : Type 0 where
@@ -51,3 +52,8 @@ module _ {S : Type 0} (g : Ghosts S) where
   -- while the store is honest, what is committed is sound
   abbrev pub IsKept : Held S → Type 0
   IsKept h = IsHonest g h → AreSound (last_records g h)
+
+  -- out of memory is told of an open store alone
+  abbrev pub TellsMemory : Held S → Result Answer Refusal → Type 0
+  TellsMemory h result =
+      HasCleanDisk (state g h) → IfErr result (λ e. e ≡ OutOfMemory → IsHonest g h)

@@ -3,7 +3,7 @@ ghost use Rattle.std.specs.Prelude.{◌≡◌, ◌⊎◌, true, false, Err, IfOk
 ghost use Rattle.std.specs.Option.{option_map};
 ghost use Rattle.sqlite.specs.Held.{state};
 ghost use Rattle.sqlite.specs.State.{HasCleanDisk};
-ghost use Rattle.dh_rows.specs.Calls.{IsHonest, IsRefused, LeavesNoMore, LeavesCommitted};
+ghost use Rattle.dh_rows.specs.Calls.{IsHonest, IsRefused, KeepsCommitted, Lasts, LeavesNoMore, LeavesCommitted};
 ghost use Rattle.dh_schema.specs.Calling.{Blames};
 ghost use Rattle.dh_schema.specs.Tables.{lists_of};
 ghost use Rattle.dh_transactions.specs.Crashes.{LeavesStep, LeavesEither};
@@ -12,7 +12,7 @@ ghost use Rattle.dh_transactions.specs.Steps.{Steps};
 ghost use Rattle.dh_world.specs.Checks.{IsFault};
 ghost use Rattle.dh_world.specs.Reads.{is_unanswered};
 ghost use Rattle.dh_world.specs.Step.{IsStep};
-ghost use Rattle.dh_desk.specs.Desk.{IsKept, is_fault, world, reply_in, veil_of};
+ghost use Rattle.dh_desk.specs.Desk.{IsKept, TellsMemory, is_fault, world, reply_in, veil_of};
 
 use crate::reads::read;
 use dh_reply::{Fault, Read, Reply};
@@ -51,8 +51,25 @@ impl<S: Alter> Model for Desk<S> {
     ghost invariant = { λ d. IsKept S.Store d.tables };
 }
 
+/// Asks the store, after memory was out: what stands open is undone, and a transaction begins, which is left
+/// open. Out of memory is told where the store answers, and else its fault.
+fn ask_store<S: Alter>(tables: &mut Tables<S>) -> Refusal
+    ensures fault { IsFault result }
+    ensures lasts { Lasts S.Store tables.old tables.new }
+    ensures kept { KeepsCommitted S.Store tables.old tables.new }
+    ensures quiet { LeavesNoMore S.Store tables.old tables.new }
+    ensures open { HasCleanDisk (state S.Store tables.new)
+        → result ≡ Refusal.OutOfMemory → IsHonest S.Store tables.new }
+{
+    let _undone = tables.back();
+    match tables.begin() {
+        Ok(()) => Refusal::OutOfMemory,
+        Err(_) => Refusal::Store,
+    }
+}
+
 /// Does a command on tables that may have a transaction open, which is undone first.
-fn apply<S: Alter>(
+fn act<S: Alter>(
     tables: &mut Tables<S>,
     alloc: Global,
     command: &Command,
@@ -73,6 +90,33 @@ fn apply<S: Alter>(
 {
     tables.back()?;
     run(tables, alloc, command)
+}
+
+/// Does a command, and tells out of memory of an open store alone.
+fn apply<S: Alter>(
+    tables: &mut Tables<S>,
+    alloc: Global,
+    command: &Command,
+) -> Result<Answer, Refusal>
+    requires { IsKept S.Store tables.old }
+    ensures steps { IsHonest S.Store tables.new
+        → Steps (last_records S.Store tables.old) (last_records S.Store tables.new) command.now
+        result }
+    ensures outside { IsHonest S.Store tables.new → IsOver S.Store tables.new result }
+    ensures crash { LeavesStep S.Store tables.old tables.new command.now }
+    ensures refused { IfErr result
+        (λ e. IsFault e ⊎ LeavesNoMore S.Store tables.old tables.new) }
+    ensures live { HasCleanDisk (state S.Store tables.new)
+        → OnOk result (IsHonest S.Store tables.new) }
+    ensures open { TellsMemory S.Store tables.new result }
+    ensures clean { HasCleanDisk (state S.Store tables.new)
+        → HasCleanDisk (state S.Store tables.old) }
+    ensures was { IsHonest S.Store tables.new → IsHonest S.Store tables.old }
+{
+    match act(tables, alloc, command) {
+        Err(Refusal::OutOfMemory) => Err(ask_store(tables)),
+        answer => answer,
+    }
 }
 
 /// Whether the store has failed.
@@ -111,7 +155,8 @@ impl<S: Alter> Desk<S> {
     }
 
     /// Does a command, as one transaction. An accepted one has changed the world; a refused one has
-    /// left it as it was. After a fault of the store the desk answers it to each command.
+    /// left it as it was. After a fault of the store the desk answers it to each command. Out of memory
+    /// is told where the store answers after it: one that is out of memory too is told as a fault.
     pub fn apply(&mut self, alloc: Global, command: &Command) -> Result<Answer, Refusal>
         ensures step { IsHonest S.Store self.new.tables
             → IsStep (world S.Store self.old) (world S.Store self.new) command.now result }
@@ -126,6 +171,7 @@ impl<S: Alter> Desk<S> {
             → LeavesNoMore S.Store self.old.tables self.new.tables }
         ensures live { HasCleanDisk (state S.Store self.new.tables)
             → OnOk result (IsHonest S.Store self.new.tables) }
+        ensures open { TellsMemory S.Store self.new.tables result }
         ensures closed { self.old.closed ≡ true
             → (result ≡ Err Refusal.Store) × (self.new ≡ self.old) }
         ensures closes { self.new.closed ≡ is_fault result }

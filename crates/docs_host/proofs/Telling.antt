@@ -1,40 +1,66 @@
 -- What the error output was told of a failure.
-use Rattle.std.proofs.Common.{◌≡◌, ◌∙◌, Bool, true, false, true≢false, [], Option, Result, Ok, Err, OnErr, ap, subst}
+use Rattle.std.proofs.Common.{◌≡◌, ◌∙◌, Bool, false, true≢false, [], Option, None, Result, Ok, Err, OnErr, refl, sym, ap, subst}
+use Rattle.std.specs.Prelude.{IsTrue, option_and_then}
 use Rattle.dh_server.proofs.Told.{tells_both}
 use Rattle.dh_server.specs.Telling.{TellsSome}
+use Rattle.dh_lines.specs.declared.lines.Line.{Line}
 use Rattle.dh_world.specs.World.{Text}
 use Rattle.docs_host.specs.Ends.{Ended, is_fault, status_after}
-use Rattle.docs_host.specs.Telling.{fault_text, TellsFault, TellsLast, TellsEnd}
+use Rattle.docs_host.specs.Failing.{may_fail, is_of_line}
+use Rattle.docs_host.specs.Telling.{fault_text, file_of, TellsFault, TellsLast, TellsEnd}
 use Rattle.docs_host.specs.declared.failure.Failure.{Failure}
+use Rattle.docs_host.specs.declared.failure.Failure.TheVariants.{Memory}
 use Rattle.docs_host.specs.declared.failure.Status.{Status}
 use Rattle.docs_host.specs.declared.failure.Status.TheVariants.{Done, Refused, Usage, Faulty, Unanswered}
 
 module _ {S : Type 0} (broken : S → Bool) (held : S → Option Text) where
-  end_is_last : (a b : S) (s : Status) → TellsLast broken held a b s → TellsEnd broken held a b s
-  end_is_last a b Done it = tt
-  end_is_last a b Refused it = tt
-  end_is_last a b Usage it = tt
-  end_is_last a b Faulty it = it
-  end_is_last a b Unanswered it = it
+  module _ (line : Option Line) where
+    end_is_last : (a b : S) (s : Status) → TellsLast broken held line a b s → TellsEnd broken held line a b s
+    end_is_last a b Done it = tt
+    end_is_last a b Refused it = tt
+    end_is_last a b Usage it = tt
+    end_is_last a b Faulty it = it
+    end_is_last a b Unanswered it = it
 
-  -- what is no fault wants nothing
-  pub no_fault : (a b : S) (s : Status) → is_fault s ≡ false → TellsEnd broken held a b s
-  no_fault a b Done own = tt
-  no_fault a b Refused own = tt
-  no_fault a b Usage own = tt
-  no_fault a b Faulty own = absurd (true≢false own)
-  no_fault a b Unanswered own = absurd (true≢false own)
+    -- what is no fault wants nothing
+    pub no_fault : (a b : S) (s : Status) → is_fault s ≡ false → TellsEnd broken held line a b s
+    no_fault a b Done own = tt
+    no_fault a b Refused own = tt
+    no_fault a b Usage own = tt
+    no_fault a b Faulty own = absurd (true≢false own)
+    no_fault a b Unanswered own = absurd (true≢false own)
 
-  -- behind what was told before
-  pub told_last : (a b c : S) (failure : Failure) (s : Status) → s ≡ status_after failure → TellsSome broken held a b → TellsFault broken held b c failure → TellsEnd broken held a c s
-  told_last a b c failure s is some told =
-      end_is_last a c s (some.0, failure, told.0, is, tells_both broken held a b c some.0 (fault_text failure told.0) some.1 told.1)
+    -- behind what was told before
+    pub told_last
+        : (a b c : S) (failure : Failure) (s : Status) → IsTrue (may_fail (is_of_line line) failure) → s ≡ status_after failure
+        → TellsSome broken held a b → TellsFault broken held b c failure (option_and_then file_of line) → TellsEnd broken held line a c s
+    told_last a b c failure s may is some told =
+        end_is_last a c s (
+          some.0,
+          failure,
+          told.0,
+          is,
+          may,
+          tells_both broken held a b c some.0 (fault_text failure (option_and_then file_of line) told.0) some.1 told.1,
+        )
 
-  -- with nothing before it
-  pub told_alone : (a b : S) (failure : Failure) (s : Status) → s ≡ status_after failure → TellsFault broken held a b failure → TellsEnd broken held a b s
-  told_alone a b failure s is told = end_is_last a b s ([], failure, told.0, is, told.1)
+    -- with nothing before it
+    pub told_alone
+        : (a b : S) (failure : Failure) (s : Status) → IsTrue (may_fail (is_of_line line) failure) → s ≡ status_after failure
+        → TellsFault broken held a b failure (option_and_then file_of line) → TellsEnd broken held line a b s
+    told_alone a b failure s may is told = end_is_last a b s ([], failure, told.0, is, may, told.1)
+
+    -- no file is named where memory is out
+    pub told_memory : (a b : S) (s : Status) → s ≡ Faulty → TellsFault broken held a b Memory None → TellsEnd broken held line a b s
+    told_memory a b s is told = told_alone a b Memory s refl is told
 
   -- a run that told nothing before its failure
-  pub ended_told : (a b c : S) (r : Result Status Failure) (s : Status) → OnErr r (b ≡ a) → Ended (λ x. s ≡ x) r → TellsEnd broken held b c s → TellsEnd broken held a c s
-  ended_told a b c (Ok x) s same is told = no_fault a c s (ap is_fault is.0 ∙ is.1)
-  ended_told a b c (Err failure) s same is told = subst (λ x. TellsEnd broken held x c s) same told
+  pub ended_told
+      : (is_of : Failure → Bool) (line : Option Line) (a b c : S) (r : Result Status Failure) (s : Status) → OnErr r (b ≡ a)
+      → Ended (λ x. s ≡ x) is_of r → TellsEnd broken held line b c s → TellsEnd broken held line a c s
+  ended_told is_of line a b c (Ok x) s same is told = no_fault line a c s (ap is_fault is.0 ∙ is.1)
+  ended_told is_of line a b c (Err failure) s same is told = subst (λ x. TellsEnd broken held line x c s) same told
+
+  -- of the same line
+  pub told_of : (a b : S) (s : Status) (line other : Option Line) → line ≡ other → TellsEnd broken held other a b s → TellsEnd broken held line a b s
+  told_of a b s line other same told = subst (λ l. TellsEnd broken held l a b s) (sym same) told

@@ -1,6 +1,6 @@
 -- How the program ends, by its words. Of a run, `left` is what its source had left, and `held` and
 -- `now` are what its sink held before and holds after it; each is `None` where it does not tell that.
-use Rattle.std.specs.Prelude.{◌≡◌, ◌⊎◌, ⊤, ℕ, Bool, true, false, IsTrue, is_none, List, [], ◌∷◌, ◌++◌, drop, codes}
+use Rattle.std.specs.Prelude.{◌≡◌, ◌⊎◌, ⊤, ℕ, Bool, true, false, IsTrue, List, [], ◌∷◌, ◌++◌, drop, codes}
 use Rattle.std.specs.Prelude.{Option, Some, None, Result, Ok, Err}
 use Rattle.std.specs.FinMap.{empty}
 use Rattle.std.specs.Io.KnownBytes.{Appends}
@@ -9,7 +9,6 @@ use Rattle.clap.specs.Faults.{fault_of}
 use Rattle.clap.specs.Kinds.{IsAmong}
 use Rattle.clap.specs.declared.error.kind.ErrorKind.{ErrorKind}
 use Rattle.clap.specs.declared.error.kind.ErrorKind.TheVariants.{DisplayHelp}
-use Rattle.dh_paths.specs.Targets.{target_of}
 use Rattle.dh_world.specs.World.{Text, World}
 use Rattle.dh_sample.specs.Answer.{AnswersSample, WritesTold, engine_told}
 use Rattle.dh_sample.specs.declared.answer.SampleFault.{SampleFault}
@@ -19,6 +18,8 @@ use Rattle.dh_lines.specs.declared.lines.Line.{Line}
 use Rattle.dh_lines.specs.declared.lines.Order.{Order}
 use Rattle.dh_lines.specs.declared.lines.Order.TheVariants as order
 use Rattle.dh_script.specs.Running.{RunsScript}
+use Rattle.docs_host.specs.Failing.{may_fail, is_of_output}
+use Rattle.docs_host.specs.Orders.{has_bad_target}
 use Rattle.docs_host.specs.declared.failure.Failure.{Failure}
 use Rattle.docs_host.specs.declared.failure.Failure.TheVariants as failure
 use Rattle.docs_host.specs.declared.failure.Status.{Status}
@@ -46,15 +47,11 @@ is_fault Faulty = true
 is_fault Unanswered = true
 is_fault _ = false
 
--- the status of a run, its own, which is no failure's, or that of its failure, is one of these
-abbrev pub Ended : (Status → Type 0) → Result Status Failure → Type 0
-Ended IsEnd (Ok status) = IsEnd status × (is_fault status ≡ false)
-Ended IsEnd (Err failure) = IsEnd (status_after failure)
-
--- it is done, or a failure ended it whose status is 3
-abbrev pub IsDoneOrFaulty : Result Status Failure → Type 0
-IsDoneOrFaulty (Ok status) = status ≡ Done
-IsDoneOrFaulty (Err failure) = status_after failure ≡ Faulty
+-- the status of a run, its own, which is no failure's, or that of its failure, is one of these, and
+-- its failure is of these
+abbrev pub Ended : (Status → Type 0) → (Failure → Bool) → Result Status Failure → Type 0
+Ended IsEnd is_of (Ok status) = IsEnd status × (is_fault status ≡ false)
+Ended IsEnd is_of (Err failure) = IsEnd (status_after failure) × IsTrue (may_fail is_of failure)
 
 -- ---- without a file
 
@@ -101,10 +98,6 @@ may_end_order _ status = may_end_single status
 
 -- ---- over a file
 
-abbrev pub has_bad_target : Order → Bool
-has_bad_target (order.Get host target pass) = is_none (target_of target)
-has_bad_target order = false
-
 -- a read of a bad target is told and refused
 abbrev pub EndsBadTarget : Option Text → Option Text → Status → Type 0
 EndsBadTarget held now Refused = Appends held now (codes "bad target" ++ 10 ∷ [])
@@ -142,7 +135,7 @@ abbrev pub EndsError : ErrorKind → Result Status Failure → Type 0
 EndsError kind (Ok Done) = kind ≡ DisplayHelp
 EndsError kind (Ok Usage) = ⊤
 EndsError kind (Ok status) = ⊥
-EndsError kind (Err failure) = status_after failure ≡ Faulty
+EndsError kind (Err failure) = IsTrue (may_fail is_of_output failure)
 
 -- the run of the words' line; of words that are none, help or a mistake
 abbrev pub EndsLine : Option Line → List Text → Option Text → Option Text → Option Text → Status → Type 0
@@ -153,12 +146,23 @@ abbrev pub asks_help : List Text → Bool
 asks_help [] = false
 asks_help (word ∷ words) = bytes_eq word (codes "help")
 
--- the first word is `help`, and those behind it with `--help` ask for it; or the words' line ended so;
+-- the line that is run: none where the first word is `help`
+abbrev pub line_asked : Bool → List Text → Option Line
+line_asked true words = None
+line_asked false words = line_in words
+
+abbrev pub line_run : List Text → Option Line
+line_run words = line_asked (asks_help words) words
+
+-- the first word is `help`, and those behind it with `--help` ask for it; or the words' line ended so,
 -- or 3, and nothing was written
+abbrev pub EndsAsked : Bool → List Text → Option Text → Option Text → Option Text → Status → Type 0
+EndsAsked true words left held now status = EndsHelp (drop 1 words ++ codes "--help" ∷ []) status
+EndsAsked false words left held now status =
+    EndsLine (line_in words) words left held now status ⊎ ((now ≡ held) × (status ≡ Faulty))
+
 abbrev pub EndsWords : List Text → Option Text → Option Text → Option Text → Status → Type 0
-EndsWords words left held now status =
-    (IsTrue (asks_help words) × EndsHelp (drop 1 words ++ codes "--help" ∷ []) status)
-    ⊎ (EndsLine (line_in words) words left held now status ⊎ ((now ≡ held) × (status ≡ Faulty)))
+EndsWords words = EndsAsked (asks_help words) words
 
 -- the exit status is that of an end that these words may have, and `IsTold` holds of that end
 pub record EndsProgram (words : List Text) (left held now : Option Text) (IsTold : Status → Type 0) (code : ℕ) : Type 0 where

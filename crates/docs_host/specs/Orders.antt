@@ -1,18 +1,24 @@
 -- What an order does over a desk.
-use Rattle.std.specs.Prelude.{◌≡◌, ℕ, Bool, true, false, List, [], ◌∷◌, ◌++◌, Option, Result, Ok, Err, IfOk}
+use Rattle.std.specs.Prelude.{◌≡◌, ℕ, Bool, true, false, is_none, List, [], ◌∷◌, ◌++◌, Option, Result, Ok, Err, IfOk}
 use Rattle.std.specs.Io.KnownBytes.{Appends}
 use Rattle.dh_http.specs.Answers.{AnswersSource, Writes}
 use Rattle.dh_http.specs.declared.fault.Done.{Done as Answered}
-use Rattle.dh_http.specs.declared.fault.EngineFault.{EngineFault}
 use Rattle.dh_lines.specs.declared.lines.Order.{Order}
 use Rattle.dh_lines.specs.declared.lines.Order.TheVariants as order
+use Rattle.dh_paths.specs.Targets.{target_of}
 use Rattle.dh_script.specs.Running.{RunsScript}
 use Rattle.dh_script.specs.Script.{Performs}
 use Rattle.dh_server.specs.Serving.{Steps}
 use Rattle.dh_world.specs.World.{Text, World}
 use Rattle.docs_host.specs.declared.failure.Failure.{Failure}
+use Rattle.docs_host.specs.declared.failure.Failure.TheVariants.{Request}
 use Rattle.docs_host.specs.declared.failure.Status.{Status}
 use Rattle.docs_host.specs.declared.failure.Status.TheVariants.{Done, Refused}
+
+-- a read whose target is none
+abbrev pub has_bad_target : Order → Bool
+has_bad_target (order.Get host target pass) = is_none (target_of target)
+has_bad_target order = false
 
 abbrev pub single_status : Bool → Status
 single_status true = Refused
@@ -31,8 +37,9 @@ pub record RunsSingle (before : World) (order : Order) (after : World) (held now
 abbrev pub RunsRequest : World → World → Option Text → Option Text → Option Text → Result Status Failure → Type 0
 RunsRequest before after left held now (Ok status) =
     (done : Answered) × Writes (AnswersSource left before after) held now (Ok done)
-RunsRequest before after left held now (Err failure) =
-    (fault : EngineFault) × Writes (AnswersSource left before after) held now (Err fault)
+RunsRequest before after left held now (Err (Request fault)) =
+    Writes (AnswersSource left before after) held now (Err fault)
+RunsRequest before after left held now (Err failure) = ⊥
 
 -- an order was run: the lines of a script, whole or in part; a request, which was answered, wholly or
 -- in part; so many connections, each with one command at most; or a single command or read

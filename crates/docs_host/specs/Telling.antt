@@ -1,29 +1,68 @@
 -- What the error output is told.
-use Rattle.std.specs.Prelude.{◌≡◌, ⊤, Bool, ◌∷◌, ◌++◌, codes, Option}
+use Rattle.std.specs.Prelude.{◌≡◌, ⊤, Bool, IsTrue, [], ◌∷◌, ◌++◌, codes, Option, Some, None, option_and_then}
 use Rattle.dh_server.specs.Telling.{Tells}
+use Rattle.dh_lines.specs.declared.lines.Line.{Line}
+use Rattle.dh_lines.specs.declared.lines.Order.{Order}
+use Rattle.dh_lines.specs.declared.lines.Order.TheVariants.{Init}
 use Rattle.dh_world.specs.World.{Text}
 use Rattle.docs_host.specs.Ends.{status_after}
+use Rattle.docs_host.specs.Failing.{may_fail, is_of_line}
 use Rattle.docs_host.specs.Failures.{name_of}
 use Rattle.docs_host.specs.declared.failure.Failure.{Failure}
+use Rattle.docs_host.specs.declared.failure.Failure.TheVariants.{File}
 use Rattle.docs_host.specs.declared.failure.Status.{Status}
 use Rattle.docs_host.specs.declared.failure.Status.TheVariants.{Faulty, Unanswered}
 
--- `fault` and the name on a line, and behind it any text: what is wrong, for people
-abbrev pub fault_text : Failure → Text → Text
-fault_text failure cause = codes "fault " ++ name_of failure ++ 10 ∷ cause
+-- ---- the file that is named beside a failure
+
+abbrev pub file_in : Order → Option Text → Option Text
+file_in (Init file) store = Some file
+file_in order store = store
+
+abbrev pub file_of : Line → Option Text
+file_of line = file_in line.order line.store
+
+-- where the failure is the file's
+abbrev pub file_named : Failure → Option Text → Option Text
+file_named (File fault) file = file
+file_named failure file = None
+
+-- ---- texts
+
+-- for programs
+abbrev pub name_text : Failure → Text
+name_text failure = codes "fault " ++ name_of failure ++ 10 ∷ []
+
+abbrev pub file_text : Option Text → Text
+file_text None = []
+file_text (Some file) = file ++ codes ": "
+
+-- for people
+abbrev pub cause_text : Option Text → Text → Text
+cause_text file cause = codes "docs_host: " ++ file_text file ++ cause ++ 10 ∷ []
+
+-- two lines
+abbrev pub fault_text : Failure → Option Text → Text → Text
+fault_text failure file cause = name_text failure ++ cause_text (file_named failure file) cause
 
 module _ {S : Type 0} (broken : S → Bool) (held : S → Option Text) where
-  abbrev pub TellsFault : S → S → Failure → Type 0
-  TellsFault old new failure = (cause : Text) × Tells broken held old new (fault_text failure cause)
+  -- some cause, and which file it is of
+  abbrev pub TellsCause : S → S → Option Text → Type 0
+  TellsCause old new file = (cause : Text) × Tells broken held old new (cause_text file cause)
 
-  -- a failure that ends the program so was told, with any text before and behind it
-  abbrev pub TellsLast : S → S → Status → Type 0
-  TellsLast old new status =
+  abbrev pub TellsFault : S → S → Failure → Option Text → Type 0
+  TellsFault old new failure file =
+      (cause : Text) × Tells broken held old new (fault_text failure file cause)
+
+  -- last of all a failure was told that ends the program so, and that may end the run of this line
+  abbrev pub TellsLast : Option Line → S → S → Status → Type 0
+  TellsLast line old new status =
       (front : Text) × (failure : Failure) × (cause : Text)
-      × (status ≡ status_after failure) × Tells broken held old new (front ++ fault_text failure cause)
+      × (status ≡ status_after failure) × IsTrue (may_fail (is_of_line line) failure)
+      × Tells broken held old new (front ++ fault_text failure (option_and_then file_of line) cause)
 
   -- and of another end nothing is said here
-  abbrev pub TellsEnd : S → S → Status → Type 0
-  TellsEnd old new Faulty = TellsLast old new Faulty
-  TellsEnd old new Unanswered = TellsLast old new Unanswered
-  TellsEnd old new _ = ⊤
+  abbrev pub TellsEnd : Option Line → S → S → Status → Type 0
+  TellsEnd line old new Faulty = TellsLast line old new Faulty
+  TellsEnd line old new Unanswered = TellsLast line old new Unanswered
+  TellsEnd line old new _ = ⊤

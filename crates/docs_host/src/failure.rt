@@ -1,11 +1,11 @@
 //! How the program ends, and how it tells why.
 
-ghost use Rattle.std.specs.Prelude.{◌≡◌, ◌++◌, ◌∷◌, [], codes};
-ghost use Rattle.dh_server.specs.Telling.{Tells, TellsSome};
+ghost use Rattle.std.specs.Prelude.{◌≡◌, ◌++◌, codes, option_map};
+ghost use Rattle.dh_server.specs.Telling.{Tells};
 ghost use Rattle.docs_host.specs.Ends.{exit_code, status_after};
 ghost use Rattle.docs_host.specs.Failures as spec;
-ghost use Rattle.docs_host.specs.Failures.{failure_of, failure_of_sample, name_of};
-ghost use Rattle.docs_host.specs.Telling.{TellsFault};
+ghost use Rattle.docs_host.specs.Failures.{failure_of, failure_of_sample};
+ghost use Rattle.docs_host.specs.Telling.{TellsCause, TellsFault, file_named, file_text, name_text};
 ghost use Rattle.docs_host.specs.declared.failure.Failure.TheVariants.{File, Memory, Script, Request};
 
 use dh_files::FileFault;
@@ -218,8 +218,7 @@ pub fn put<E: Sink>(errors: &mut E, text: &str)
 
 /// The line that programs read.
 fn tell_name<E: Sink>(errors: &mut E, failure: Failure)
-    ensures { Tells E.broken E.held errors.old errors.new
-        (codes "fault " ++ name_of failure ++ 10 ∷ []) }
+    ensures { Tells E.broken E.held errors.old errors.new (name_text failure) }
 {
     put(errors, "fault ");
     put(errors, failure.name());
@@ -227,7 +226,10 @@ fn tell_name<E: Sink>(errors: &mut E, failure: Failure)
 }
 
 /// The file, where the failure is its.
-fn named_file(failure: Failure, file: Option<&str>) -> Option<&str> {
+fn named_file(failure: Failure, file: Option<&str>) -> Option<&str>
+    ensures { option_map (λ name. name.now) result
+        ≡ file_named failure (option_map (λ name. name.now) file.entry) }
+{
     match failure {
         Failure::File(_) => file,
         _ => None,
@@ -236,7 +238,8 @@ fn named_file(failure: Failure, file: Option<&str>) -> Option<&str> {
 
 /// The file, where there is one to name.
 fn tell_file<E: Sink>(errors: &mut E, file: Option<&str>)
-    ensures { TellsSome E.broken E.held errors.old errors.new }
+    ensures { Tells E.broken E.held errors.old errors.new
+        (file_text (option_map (λ name. name.now) file.entry)) }
 {
     if let Some(file) = file {
         put(errors, file);
@@ -246,7 +249,8 @@ fn tell_file<E: Sink>(errors: &mut E, file: Option<&str>)
 
 /// What is wrong, and with which file.
 fn tell_cause<E: Sink>(errors: &mut E, failure: Failure, file: Option<&str>)
-    ensures { TellsSome E.broken E.held errors.old errors.new }
+    ensures { TellsCause E.broken E.held errors.old errors.new
+        (file_named failure (option_map (λ name. name.now) file.entry)) }
 {
     put(errors, "docs_host: ");
     tell_file(errors, named_file(failure, file));
@@ -257,7 +261,8 @@ fn tell_cause<E: Sink>(errors: &mut E, failure: Failure, file: Option<&str>)
 /// Tells a fault: its name on the first line, and on the second what is wrong, and with which file.
 pub fn tell<E: Sink>(errors: &mut E, failure: Failure, file: Option<&str>) -> Status
     ensures status { result ≡ status_after failure }
-    ensures told { TellsFault E.broken E.held errors.old errors.new failure }
+    ensures told { TellsFault E.broken E.held errors.old errors.new failure
+        (option_map (λ name. name.now) file.entry) }
 {
     tell_name(errors, failure);
     tell_cause(errors, failure, file);

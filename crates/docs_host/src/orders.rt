@@ -7,8 +7,10 @@ ghost use Rattle.dh_desk.specs.Desk.{world};
 ghost use Rattle.dh_server.specs.Telling.{TellsSome};
 ghost use Rattle.dh_script.specs.Running.{RunsScript};
 ghost use Rattle.dh_script.specs.Script.{MayDoOrder};
-ghost use Rattle.docs_host.specs.Ends.{Ended, IsDoneOrFaulty, may_end_request, may_end_single};
+ghost use Rattle.docs_host.specs.Ends.{Ended, may_end_request, may_end_single};
 ghost use Rattle.docs_host.specs.Ends.{may_end_order, is_fault};
+ghost use Rattle.docs_host.specs.Failing.{IsDoneOr, is_of_output, is_of_script, is_of_request};
+ghost use Rattle.docs_host.specs.Failing.{is_of_order};
 ghost use Rattle.docs_host.specs.Orders.{RunsSingle, RunsRequest, RunsOrder, single_status};
 
 use crate::failure::{Failure, Status};
@@ -58,7 +60,7 @@ fn run_single<S: Alter, W: Sink>(
     ensures may { IsHonest S.Store desk.new.tables
         → OnErr result (MayDoOrder (world S.Store desk.old) order.now (world S.Store desk.new)) }
     ensures was { IsHonest S.Store desk.new.tables → IsHonest S.Store desk.old.tables }
-    ensures ends { Ended (λ status. IsTrue (may_end_single status)) result }
+    ensures ends { Ended (λ status. IsTrue (may_end_single status)) is_of_output result }
 {
     let printed = perform(alloc, desk, order)?;
     say(sink, printed.text.as_str())?;
@@ -78,7 +80,7 @@ pub fn run_lines<S: Alter, R: Source, W: Sink>(
         → RunsScript (R.left source.old) (world S.Store desk.old) (world S.Store desk.new)
         (W.held sink.old) (W.held sink.new) result }
     ensures was { IsHonest S.Store desk.new.tables → IsHonest S.Store desk.old.tables }
-    ensures ends { IsDoneOrFaulty result }
+    ensures ends { IsDoneOr is_of_script result }
 {
     run_script(alloc, desk, source, sink)?;
     Ok(Status::Done)
@@ -97,7 +99,7 @@ fn answer_request<S: Alter, R: Source, W: Sink>(
         → RunsRequest (world S.Store desk.old) (world S.Store desk.new) (R.left source.old)
         (W.held sink.old) (W.held sink.new) result }
     ensures was { IsHonest S.Store desk.new.tables → IsHonest S.Store desk.old.tables }
-    ensures ends { Ended (λ status. IsTrue (may_end_request status)) result }
+    ensures ends { Ended (λ status. IsTrue (may_end_request status)) is_of_request result }
 {
     answer(alloc, desk, source, sink)?;
     Ok(Status::Done)
@@ -119,7 +121,8 @@ pub fn run_order<S: Alter, R: Source, W: Sink, E: Sink>(
         → RunsOrder (world S.Store desk.old) order.now (world S.Store desk.new)
         (R.left source.old) (W.held sink.old) (W.held sink.new) result }
     ensures was { IsHonest S.Store desk.new.tables → IsHonest S.Store desk.old.tables }
-    ensures ends { Ended (λ status. IsTrue (may_end_order order.now status)) result }
+    ensures ends { Ended (λ status. IsTrue (may_end_order order.now status))
+        (is_of_order order.now) result }
     ensures tells { TellsSome E.broken E.held errors.old errors.new }
 {
     match order {

@@ -1,11 +1,14 @@
 //! The program over its words.
 
-ghost use Rattle.std.specs.Prelude.{◌≡◌, ◌⊎◌, true, false, map, drop, string_bytes, IfOk, IfErr, IfSome, IsTrue};
+ghost use Rattle.std.specs.Prelude.{◌≡◌, true, false, map, drop, string_bytes, option_map, IfOk, MatchOption, Some};
 ghost use Rattle.dh_server.specs.Telling.{TellsSome};
-ghost use Rattle.docs_host.specs.Ends.{Ended, IsDoneOrFaulty, EndsScript, EndsRequest, EndsOver, EndsBy};
-ghost use Rattle.docs_host.specs.Ends.{EndsWords, EndsProgram, asks_help};
-ghost use Rattle.docs_host.specs.Ends as spec;
+ghost use Rattle.dh_lines.specs.Lines.{line_in};
+ghost use Rattle.docs_host.specs.Ends.{Ended, EndsScript, EndsRequest, EndsOver, EndsBy};
+ghost use Rattle.docs_host.specs.Ends.{EndsAsked, EndsWords, EndsProgram, asks_help, line_run};
+ghost use Rattle.docs_host.specs.Failing.{IsDoneOr, is_of_init, is_of_file, is_of_memory, is_of_run};
+ghost use Rattle.docs_host.specs.Orders as spec;
 ghost use Rattle.docs_host.specs.Telling.{TellsEnd};
+ghost use Rattle.docs_host.specs.Telling as telling;
 
 use crate::failure::{Failure, Status, tell, tell_usage};
 use crate::orders::{run_lines, run_order, say};
@@ -41,9 +44,8 @@ fn run_over<S: Start, R: Source, W: Sink, E: Sink>(
 ) -> Result<Status, Failure>
     requires reader { R.broken source.old ≡ false }
     requires writer { W.broken sink.old ≡ false }
-    ensures ends { Ended (EndsOver order.now (W.held sink.old) (W.held sink.new)) result }
-    ensures early { spec.has_bad_target order.now ≡ true
-        → IfErr result (λ failure. (failure ≡ Failure.Write) ⊎ (failure ≡ Failure.Memory)) }
+    ensures ends { Ended (EndsOver order.now (W.held sink.old) (W.held sink.new))
+        (is_of_file order.now) result }
     ensures tells { TellsSome E.broken E.held errors.old errors.new }
 {
     if has_bad_target(rt.alloc(), order)? {
@@ -67,8 +69,8 @@ fn run_in_memory<R: Source, W: Sink>(
 ) -> Result<Status, Failure>
     requires reader { R.broken source.old ≡ false }
     requires writer { W.broken sink.old ≡ false }
-    ensures { Ended
-        (EndsScript (R.left source.old) (W.held sink.old) (W.held sink.new)) result }
+    ensures { Ended (EndsScript (R.left source.old) (W.held sink.old) (W.held sink.new))
+        (is_of_memory Order.Script) result }
 {
     let mut desk = empty_desk(alloc)?;
     run_lines(alloc, &mut desk, source, sink)
@@ -82,8 +84,8 @@ fn answer_over_sample<R: Source, W: Sink>(
 ) -> Result<Status, Failure>
     requires reader { R.broken source.old ≡ false }
     requires writer { W.broken sink.old ≡ false }
-    ensures { Ended
-        (EndsRequest (R.left source.old) (W.held sink.old) (W.held sink.new)) result }
+    ensures { Ended (EndsRequest (R.left source.old) (W.held sink.old) (W.held sink.new))
+        (is_of_memory Order.Answer) result }
 {
     answer_sample(alloc, source, sink)?;
     Ok(Status::Done)
@@ -91,7 +93,7 @@ fn answer_over_sample<R: Source, W: Sink>(
 
 /// Makes a file.
 fn init<S: Start>(rt: &HostRuntime, start: S, file: &str) -> Result<Status, Failure>
-    ensures { IsDoneOrFaulty result }
+    ensures { IsDoneOr is_of_init result }
 {
     init_file(rt, file, start)?;
     Ok(Status::Done)
@@ -109,7 +111,8 @@ fn run_line<S: Start, R: Source, W: Sink, E: Sink>(
     requires reader { R.broken source.old ≡ false }
     requires writer { W.broken sink.old ≡ false }
     ensures ends { Ended (EndsBy line.now.store line.now.order
-        (R.left source.old) (W.held sink.old) (W.held sink.new)) result }
+        (R.left source.old) (W.held sink.old) (W.held sink.new))
+        (is_of_run line.now.store line.now.order) result }
     ensures tells { TellsSome E.broken E.held errors.old errors.new }
 {
     match (&line.order, &line.store) {
@@ -126,9 +129,9 @@ fn run_line<S: Start, R: Source, W: Sink, E: Sink>(
 
 /// The words that follow `help`, where that is the first.
 fn helped(words: &[String]) -> Option<&[String]>
-    ensures { IfSome result (λ names.
-        (map string_bytes names.now ≡ drop 1 (map string_bytes words.now))
-        × IsTrue (asks_help (map string_bytes words.now))) }
+    ensures { MatchOption result (asks_help (map string_bytes words.now) ≡ false)
+        (λ names. (asks_help (map string_bytes words.now) ≡ true)
+        × (map string_bytes names.now ≡ drop 1 (map string_bytes words.now))) }
 {
     match words.split_first() {
         Some((first, rest)) if first.as_str() == "help" => Some(rest),
@@ -149,7 +152,7 @@ fn run_told<S: Start, R: Source, W: Sink, E: Sink>(
     requires writer { W.broken sink.old ≡ false }
     ensures ends { EndsBy line.now.store line.now.order
         (R.left source.old) (W.held sink.old) (W.held sink.new) result }
-    ensures told { TellsEnd E.broken E.held errors.old errors.new result }
+    ensures told { TellsEnd E.broken E.held (Some line.now) errors.old errors.new result }
 {
     match run_line(rt, start, line, source, sink, errors) {
         Ok(status) => status,
@@ -168,9 +171,10 @@ fn run_words<S: Start, R: Source, W: Sink, E: Sink>(
 ) -> Status
     requires reader { R.broken source.old ≡ false }
     requires writer { W.broken sink.old ≡ false }
-    ensures ends { EndsWords (map string_bytes words.now)
+    ensures ends { EndsAsked false (map string_bytes words.now)
         (R.left source.old) (W.held sink.old) (W.held sink.new) result }
-    ensures told { TellsEnd E.broken E.held errors.old errors.new result }
+    ensures told { TellsEnd E.broken E.held (line_in (map string_bytes words.now))
+        errors.old errors.new result }
 {
     let line = match line_of(rt.alloc(), words) {
         Ok(line) => line,
@@ -181,11 +185,35 @@ fn run_words<S: Start, R: Source, W: Sink, E: Sink>(
 }
 
 /// The file that a line names.
-fn file_of(line: &Line) -> Option<&str> {
+fn file_of(line: &Line) -> Option<&str>
+    ensures { option_map (λ file. file.now) result ≡ telling.file_of line.now }
+{
     match (&line.order, &line.store) {
         (Order::Init { file }, _) => Some(file.as_str()),
         (_, Some(file)) => Some(file.as_str()),
         (_, None) => None,
+    }
+}
+
+/// Gives the help that the words ask for, or does what they order.
+fn run_asked<S: Start, R: Source, W: Sink, E: Sink>(
+    rt: &HostRuntime,
+    start: S,
+    words: &[String],
+    source: &mut R,
+    sink: &mut W,
+    errors: &mut E,
+) -> Status
+    requires reader { R.broken source.old ≡ false }
+    requires writer { W.broken sink.old ≡ false }
+    ensures ends { EndsWords (map string_bytes words.now)
+        (R.left source.old) (W.held sink.old) (W.held sink.new) result }
+    ensures told { TellsEnd E.broken E.held (line_run (map string_bytes words.now))
+        errors.old errors.new result }
+{
+    match helped(words) {
+        Some(names) => tell_help(rt.alloc(), names, sink, errors),
+        None => run_words(rt, start, words, source, sink, errors),
     }
 }
 
@@ -207,11 +235,8 @@ pub fn run_program<S: Start, R: Source, W: Sink, E: Sink>(
     requires writer { W.broken sink.old ≡ false }
     ensures { EndsProgram (map string_bytes words.now)
         (R.left source.old) (W.held sink.old) (W.held sink.new)
-        (TellsEnd E.broken E.held errors.old errors.new) result }
+        (TellsEnd E.broken E.held (line_run (map string_bytes words.now)) errors.old errors.new)
+        result }
 {
-    let status = match helped(words) {
-        Some(names) => tell_help(rt.alloc(), names, sink, errors),
-        None => run_words(rt, start, words, source, sink, errors),
-    };
-    status.code()
+    run_asked(rt, start, words, source, sink, errors).code()
 }

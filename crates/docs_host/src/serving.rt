@@ -1,11 +1,11 @@
 //! The server.
 
-ghost use Rattle.std.specs.Prelude.{◌≡◌, false, IfErr};
+ghost use Rattle.std.specs.Prelude.{◌≡◌, false, IfErr, IsTrue};
 ghost use Rattle.dh_rows.specs.Calls.{IsHonest};
 ghost use Rattle.dh_desk.specs.Desk.{world};
 ghost use Rattle.dh_server.specs.Serving.{Steps};
 ghost use Rattle.dh_server.specs.Telling.{TellsSome};
-ghost use Rattle.docs_host.specs.Ends.{IsDoneOrFaulty, status_after};
+ghost use Rattle.docs_host.specs.Failing.{IsDoneOr, is_of_server, may_fail};
 
 use crate::failure::{Failure, Status, put};
 use crate::orders::say;
@@ -36,7 +36,7 @@ fn tell_served<E: Sink>(alloc: Global, served: Served<'_>, errors: &mut E)
 /// Binds a port of this machine, any free one for 0, and says which.
 fn bind<W: Sink>(rt: &HostRuntime, port: u16, sink: &mut W) -> Result<TcpListener, Failure>
     requires { W.broken sink.old ≡ false }
-    ensures { IfErr result (λ failure. status_after failure ≡ Status.Faulty) }
+    ensures { IfErr result (λ failure. IsTrue (may_fail is_of_server failure)) }
 {
     let listener = match TcpListener::bind(rt, SocketAddr::from(([127, 0, 0, 1], port))) {
         Ok(listener) => listener,
@@ -66,7 +66,7 @@ pub fn serve<S: Alter, W: Sink, E: Sink>(
     ensures steps { IsHonest S.Store desk.new.tables → Steps count
         (world S.Store desk.old) (world S.Store desk.new) }
     ensures was { IsHonest S.Store desk.new.tables → IsHonest S.Store desk.old.tables }
-    ensures ends { IsDoneOrFaulty result }
+    ensures ends { IsDoneOr is_of_server result }
     ensures tells { TellsSome E.broken E.held errors.old errors.new }
 {
     let listener = bind(rt, port, sink)?;

@@ -1,8 +1,9 @@
 //! Help, and what is wrong with words that are no line.
 
-ghost use Rattle.std.specs.Prelude.{◌≡◌, ◌++◌, [], ◌∷◌, false, map, codes, string_bytes, IfOk, OnErr};
+ghost use Rattle.std.specs.Prelude.{◌≡◌, ◌++◌, [], ◌∷◌, false, map, codes, string_bytes, IfOk, OnErr, ⊤, None};
 ghost use Rattle.clap.specs.Values.{kind_of};
-ghost use Rattle.docs_host.specs.Ends.{Ended, EndsError, EndsHelp, is_fault};
+ghost use Rattle.docs_host.specs.Ends.{Ended, EndsError, EndsHelp};
+ghost use Rattle.docs_host.specs.Failing.{is_of_output};
 ghost use Rattle.docs_host.specs.Telling.{TellsEnd};
 
 use crate::failure::{Failure, Status, put, tell, tell_usage};
@@ -105,7 +106,7 @@ fn tell_words<W: Sink, E: Sink>(
     errors: &mut E,
 ) -> Result<Status, Failure>
     requires { W.broken sink.old ≡ false }
-    ensures ends { Ended (EndsHelp (map string_bytes words.now)) result }
+    ensures ends { Ended (EndsHelp (map string_bytes words.now)) is_of_output result }
     ensures silent { OnErr result (errors.new ≡ errors.old) }
 {
     let mut program = docs_command(alloc)?;
@@ -137,18 +138,18 @@ fn write_help<W: Sink, E: Sink>(
 ) -> Result<Status, Failure>
     requires { W.broken sink.old ≡ false }
     ensures ends { Ended
-        (EndsHelp (map string_bytes names.now ++ codes "--help" ∷ [])) result }
+        (EndsHelp (map string_bytes names.now ++ codes "--help" ∷ [])) is_of_output result }
     ensures silent { OnErr result (errors.new ≡ errors.old) }
 {
     let words = help_words(alloc, names)?;
     tell_words(alloc, words.as_slice(), sink, errors)
 }
 
-/// The status of a run, whose failure is told.
+/// The status of a run that writes help, whose failure is told.
 fn ended<E: Sink>(run: Result<Status, Failure>, errors: &mut E) -> Status
-    requires { IfOk run (λ status. is_fault status ≡ false) }
-    ensures ends { Ended (λ status. result ≡ status) run }
-    ensures told { TellsEnd E.broken E.held errors.old errors.new result }
+    requires { Ended (λ status. ⊤) is_of_output run }
+    ensures ends { Ended (λ status. result ≡ status) is_of_output run }
+    ensures told { TellsEnd E.broken E.held None errors.old errors.new result }
 {
     match run {
         Ok(status) => status,
@@ -165,7 +166,7 @@ pub fn tell_help<W: Sink, E: Sink>(
 ) -> Status
     requires { W.broken sink.old ≡ false }
     ensures ends { EndsHelp (map string_bytes names.now ++ codes "--help" ∷ []) result }
-    ensures told { TellsEnd E.broken E.held errors.old errors.new result }
+    ensures told { TellsEnd E.broken E.held None errors.old errors.new result }
 {
     let written = write_help(alloc, names, sink, errors);
     ended(written, errors)
@@ -180,7 +181,7 @@ pub fn tell_mistake<W: Sink, E: Sink>(
 ) -> Status
     requires { W.broken sink.old ≡ false }
     ensures ends { EndsHelp (map string_bytes words.now) result }
-    ensures told { TellsEnd E.broken E.held errors.old errors.new result }
+    ensures told { TellsEnd E.broken E.held None errors.old errors.new result }
 {
     let told = tell_words(alloc, words, sink, errors);
     ended(told, errors)

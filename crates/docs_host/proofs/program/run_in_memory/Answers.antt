@@ -2,14 +2,16 @@ use Rattle.std.proofs.Common.{refl, inl}
 use Rattle.sqlite.proofs.Callers.{memory_is_clean}
 use Rattle.sqlite.specs.Steps.{over_memory}
 use Rattle.dh_desk.specs.Desk.{world}
+use Rattle.dh_lines.specs.declared.lines.Order.TheVariants.{Script}
 use Rattle.docs_host.specs.Ends.{EndsScript}
+use Rattle.docs_host.specs.Failing.{is_of_memory}
 use Rattle.docs_host.proofs.Ending.{no_desk, script_ended}
 use Rattle.docs_host.proofs.program.run_in_memory.Goals as goal
 
 pub returns-in_err-desk : goal.returns-in_err-desk
 returns-in_err-desk g c =
     no_desk (EndsScript (g.R.Source.left c.args.source.now) (g.W.Sink.held c.args.sink.now) (g.W.Sink.held c.args.sink.now))
-    (inl refl) c.in_err-desk.field-0.0 c.from_residual.result c.from_residual.ensures.1
+    (inl refl) (is_of_memory Script) refl c.in_err-desk.field-0.0 c.from_residual.result c.from_residual.ensures.1
 
 pub returns : goal.returns
 returns g c =

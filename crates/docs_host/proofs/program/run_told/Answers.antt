@@ -1,12 +1,17 @@
+use Rattle.std.proofs.Common.{subst}
+use Rattle.std.specs.Prelude.{Some}
+use Rattle.docs_host.specs.Telling.{TellsFault}
 use Rattle.docs_host.proofs.Telling.{no_fault, told_last}
 use Rattle.docs_host.proofs.program.run_told.Goals as goal
 
 pub returns-in-Ok-clause-told : goal.returns-in-Ok-clause-told
 returns-in-Ok-clause-told g c =
-    no_fault g.E.Sink.broken g.E.Sink.held c.args.errors.now c.run_line.new.errors c.in-Ok.status
+    no_fault g.E.Sink.broken g.E.Sink.held (Some c.args.line.now) c.args.errors.now c.run_line.new.errors c.in-Ok.status
     c.in-Ok.ensures.ends.1
 
 pub returns-in-Err-clause-told : goal.returns-in-Err-clause-told
 returns-in-Err-clause-told g c =
-    told_last g.E.Sink.broken g.E.Sink.held c.args.errors.now c.run_line.new.errors c.tell.new.errors
-    c.in-Err.failure c.tell.result c.tell.ensures.status c.in-Err.ensures.tells c.tell.ensures.told
+    told_last g.E.Sink.broken g.E.Sink.held (Some c.args.line.now) c.args.errors.now c.run_line.new.errors c.tell.new.errors
+    c.in-Err.failure c.tell.result c.in-Err.ensures.ends.1 c.tell.ensures.status c.in-Err.ensures.tells
+    (subst (TellsFault g.E.Sink.broken g.E.Sink.held c.run_line.new.errors c.tell.new.errors c.in-Err.failure)
+    c.file_of.ensures c.tell.ensures.told)

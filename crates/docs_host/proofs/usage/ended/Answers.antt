@@ -1,7 +1,11 @@
+use Rattle.std.proofs.Common.{subst}
+use Rattle.std.specs.Prelude.{None, ⊤}
+use Rattle.docs_host.specs.Ends.{Ended}
+use Rattle.docs_host.specs.Failing.{is_of_output}
 use Rattle.docs_host.proofs.Telling.{told_alone}
 use Rattle.docs_host.proofs.usage.ended.Goals as goal
 
 pub returns-in-Err-clause-told : goal.returns-in-Err-clause-told
 returns-in-Err-clause-told g c =
-    told_alone g.E.Sink.broken g.E.Sink.held c.args.errors.now c.tell.new.errors c.in-Err.failure
-    c.tell.result c.tell.ensures.status c.tell.ensures.told
+    told_alone g.E.Sink.broken g.E.Sink.held None c.args.errors.now c.tell.new.errors c.in-Err.failure
+    c.tell.result (subst (Ended (λ s. ⊤) is_of_output) c.in-Err.is c.requires).1 c.tell.ensures.status c.tell.ensures.told

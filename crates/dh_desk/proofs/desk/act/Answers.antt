@@ -1,6 +1,6 @@
 use Rattle.std.proofs.Common.{◌∙◌, sym, subst}
 use Rattle.dh_desk.proofs.Applying.{steps_aside, over_aside, stays}
-use Rattle.dh_desk.proofs.desk.apply.Goals as goal
+use Rattle.dh_desk.proofs.desk.act.Goals as goal
 use Rattle.dh_records.specs.Lists.{Lists}
 use Rattle.dh_transactions.proofs.Crashing.{step_after}
 use Rattle.dh_tables.specs.Going.{last_records}

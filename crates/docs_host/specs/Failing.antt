@@ -1,0 +1,77 @@
+-- Which failures may end a run, by what is ordered: memory may be out in each, and it may fail of these.
+use Rattle.std.specs.Prelude.{◌≡◌, Bool, true, false, IsTrue, Option, Some, None, Result, Ok, Err}
+use Rattle.dh_lines.specs.declared.lines.Line.{Line}
+use Rattle.dh_lines.specs.declared.lines.Order.{Order}
+use Rattle.dh_lines.specs.declared.lines.Order.TheVariants as order
+use Rattle.dh_world.specs.World.{Text}
+use Rattle.docs_host.specs.Orders.{has_bad_target}
+use Rattle.docs_host.specs.declared.failure.Failure.{Failure}
+use Rattle.docs_host.specs.declared.failure.Failure.TheVariants.{File, Store, Memory, Bind, Write, Script, Request}
+use Rattle.docs_host.specs.declared.failure.Status.{Status}
+use Rattle.docs_host.specs.declared.failure.Status.TheVariants.{Done}
+
+abbrev pub may_fail : (Failure → Bool) → Failure → Bool
+may_fail is_of Memory = true
+may_fail is_of failure = is_of failure
+
+-- it is done, or such a failure ended it
+abbrev pub IsDoneOr : (Failure → Bool) → Result Status Failure → Type 0
+IsDoneOr is_of (Ok status) = status ≡ Done
+IsDoneOr is_of (Err failure) = IsTrue (may_fail is_of failure)
+
+-- ---- of which failures
+
+abbrev pub is_of_output : Failure → Bool
+is_of_output Write = true
+is_of_output failure = false
+
+abbrev pub is_of_script : Failure → Bool
+is_of_script (Script fault) = true
+is_of_script failure = false
+
+abbrev pub is_of_request : Failure → Bool
+is_of_request (Request fault) = true
+is_of_request failure = false
+
+abbrev pub is_of_server : Failure → Bool
+is_of_server Bind = true
+is_of_server failure = is_of_output failure
+
+-- the file alone
+abbrev pub is_of_init : Failure → Bool
+is_of_init (File fault) = true
+is_of_init failure = false
+
+-- over a desk
+abbrev pub is_of_order : Order → Failure → Bool
+is_of_order order.Script failure = is_of_script failure
+is_of_order order.Answer failure = is_of_request failure
+is_of_order (order.Serve count port log) failure = is_of_server failure
+is_of_order order failure = is_of_output failure
+
+-- over a file, which is not opened for a read of a bad target
+abbrev pub is_of_checked : Bool → Order → Failure → Bool
+is_of_checked true order failure = is_of_output failure
+is_of_checked false order (File fault) = true
+is_of_checked false order failure = is_of_order order failure
+
+abbrev pub is_of_file : Order → Failure → Bool
+is_of_file order = is_of_checked (has_bad_target order) order
+
+-- without a file
+abbrev pub is_of_memory : Order → Failure → Bool
+is_of_memory order.Script Store = true
+is_of_memory order.Script failure = is_of_script failure
+is_of_memory order.Answer Store = true
+is_of_memory order.Answer failure = is_of_request failure
+is_of_memory (order.Init file) failure = is_of_init failure
+is_of_memory order failure = false
+
+abbrev pub is_of_run : Option Text → Order → Failure → Bool
+is_of_run None = is_of_memory
+is_of_run (Some file) = is_of_file
+
+-- of words that are no line, what is told of them may not be written
+abbrev pub is_of_line : Option Line → Failure → Bool
+is_of_line None = is_of_output
+is_of_line (Some line) = is_of_run line.store line.order
