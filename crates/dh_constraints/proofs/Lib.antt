@@ -2,4 +2,3 @@ pub mod ListLemmas
 pub mod OrderLemmas
 pub mod RunLemmas
 pub mod PlaceLemmas
-pub mod PatternLemmas

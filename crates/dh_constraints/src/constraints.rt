@@ -13,18 +13,17 @@ ghost use Rattle.dh_records.specs.Constraints.{AreInOrder, AreLanguages, AreDefa
 ghost use Rattle.dh_constraints.specs.Lists.{lists_in};
 ghost use Rattle.dh_constraints.specs.Parts.{HaveProjects, KeepProjects, KeepRecords, KeepTexts};
 
-use crate::answers::tells_answer;
 use crate::lookups::{
     has_active, has_language, has_pass, has_project, has_version, langs_of, passes_of, picks_of,
     redirects_of, rules_of,
 };
-use crate::patterns::is_allowed;
 use crate::places::{are_defaults, are_languages, have_places};
 use crate::records::Records;
 use crate::rows::Hosted;
 use dh_paths::{Slug, TextFault, slug_of};
 use dh_records::ProjectRow;
 use dh_redirects::Redirect;
+use dh_stored_texts::{is_allowed, tells_answer};
 use dh_versions::Version;
 use std::alloc::{AllocError, Global};
 

@@ -40,6 +40,10 @@ commuted p q (y ∷ rows) = go (p y) (q y) refl refl (commuted p q rows)
     go false true e f more = rw e more
     go false false e f more = more
 
+pub count_placed : {X V : Type 0} (row : ℕ → V → X) (n : ℕ) (vs : List V) → length (placed row n vs) ≡ length vs
+count_placed row n [] = refl
+count_placed row n (v ∷ vs) = let more = count_placed row (n + 1) vs in omega arith
+
 module _ {A : Type 0} (cmp : A → A → Ordering) (total : IsTotalOrder cmp) (x : A) where
   -- what is above none stands in front
   front : (rows : List A) → AllByRecursion (λ z. is_gt (cmp x z) ≡ false) rows → insert_sorted cmp x rows ≡ x ∷ rows
@@ -141,10 +145,6 @@ module _ {X : Type 0} (host_of : X → List ℕ) (place_of : X → ℕ) where
 
     pub all_set : (P : X → Type 0) (Q : V → Type 0) → ((n : ℕ) (v : V) → Q v → P (row n v)) → (vs : List V) (rows : List X) → AllByRecursion Q vs → AllByRecursion P rows → AllByRecursion P (set_all vs rows)
     all_set P Q each vs rows new old = all_put_all P Q each 1 vs _ new (all-filter P (λ r. not (is_behind (length vs) r)) rows old)
-
-    count_placed : (n : ℕ) (vs : List V) → length (placed row n vs) ≡ length vs
-    count_placed n [] = refl
-    count_placed n (v ∷ vs) = let more = count_placed (n + 1) vs in omega arith
 
     module _ (hosts : (n : ℕ) (v : V) → host_of (row n v) ≡ host) (places : (n : ℕ) (v : V) → place_of (row n v) ≡ n) where
       places_placed : (n : ℕ) (vs : List V) → Counts n (placed row n vs)
@@ -256,7 +256,7 @@ module _ {X : Type 0} (host_of : X → List ℕ) (place_of : X → ℕ) where
         places_set lists vs rows all up has few = all_weaker _ (λ r. Have r.host (set_all vs rows)) still lists.projects all
           where
             here : Have host (set_all vs rows)
-            here = subst (HavePlaces place_of most) (sym (set_here vs rows up (places_at lists rows all has).places)) (record { places = places_placed 1 vs; few = subst (λ n. n ≤ most) (sym (count_placed 1 vs)) few })
+            here = subst (HavePlaces place_of most) (sym (set_here vs rows up (places_at lists rows all has).places)) (record { places = places_placed 1 vs; few = subst (λ n. n ≤ most) (sym (count_placed row 1 vs)) few })
 
             still : (r : ProjectRow) → Have r.host rows → Have r.host (set_all vs rows)
             still r old = go (bytes_eq host r.host) refl

@@ -6,7 +6,7 @@ use Rattle.dh_redirects.specs.declared.redirect.Redirect.{Redirect}
 use Rattle.dh_world.specs.World.{Text}
 use Rattle.dh_records.specs.Codings as coding
 use Rattle.dh_records.specs.Lists as lists
-use Rattle.dh_records.specs.Lists.{Lists, granted, is_version, is_page_under, is_pick_of, is_pass, is_held, is_held_by, is_held_on, is_rule, is_rule_behind, is_redirect, is_redirect_behind}
+use Rattle.dh_records.specs.Lists.{Lists, granted, is_version, is_page_under, is_pick_of, is_pass, is_held, is_held_by, is_held_on, is_rule_behind, is_redirect_behind}
 use Rattle.dh_records.specs.declared.records.ProjectRow.{ProjectRow}
 use Rattle.dh_records.specs.declared.records.LangRow.{LangRow}
 use Rattle.dh_records.specs.declared.records.VersionRow.{VersionRow}
@@ -109,14 +109,6 @@ drop_grants_of host slug l = record l {
 abbrev pub drop_grants_by : Text → Text → Lists → Lists
 drop_grants_by host pass l = record l {
   held = filter (λ x. not (is_held_by host pass x)) l.held;
-}
-
-abbrev pub drop_rule : Text → ℕ → Lists → Lists
-drop_rule host place l = record l { rules = filter (λ x. not (is_rule host place x)) l.rules }
-
-abbrev pub drop_redirect : Text → ℕ → Lists → Lists
-drop_redirect host place l = record l {
-  redirects = filter (λ x. not (is_redirect host place x)) l.redirects;
 }
 
 -- those behind the first so many

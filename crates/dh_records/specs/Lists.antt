@@ -1,5 +1,5 @@
 -- The records of each table, and the world that they spell.
-use Rattle.std.specs.Prelude.{ℕ, ◌+◌, Bool, true, false, not, ◌&&◌, nat_eq, nat_lt, if◌then◌else◌, List, [], ◌∷◌, length, map, filter, Option, Some, None, unwrap_or}
+use Rattle.std.specs.Prelude.{ℕ, ◌+◌, Bool, true, false, not, ◌&&◌, nat_lt, if◌then◌else◌, List, [], ◌∷◌, length, map, filter, Option, Some, None, unwrap_or}
 use Rattle.std.specs.List.{list_any}
 use Rattle.std.specs.Str.{bytes_eq}
 use Rattle.std.specs.FinMap.{from_entries}
@@ -101,17 +101,11 @@ is_held_on host slug r = bytes_eq r.host host && bytes_eq r.slug slug
 abbrev pub is_rule_of : Text → RuleRow → Bool
 is_rule_of host r = bytes_eq r.host host
 
-abbrev pub is_rule : Text → ℕ → RuleRow → Bool
-is_rule host place r = bytes_eq r.host host && nat_eq r.place place
-
 abbrev pub rule_row : Text → ℕ → Rule → RuleRow
 rule_row host place rule = record { host = host; place = place; rule = rule }
 
 abbrev pub is_redirect_of : Text → RedirectRow → Bool
 is_redirect_of host r = bytes_eq r.host host
-
-abbrev pub is_redirect : Text → ℕ → RedirectRow → Bool
-is_redirect host place r = bytes_eq r.host host && nat_eq r.place place
 
 abbrev pub redirect_row : Text → ℕ → Redirect → RedirectRow
 redirect_row host place redirect = record { host = host; place = place; redirect = redirect }

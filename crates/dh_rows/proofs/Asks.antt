@@ -3,12 +3,12 @@ use Rattle.std.proofs.Common.{◌≡◌, inl, inr, ℕ, ℤ, List, [], ◌∷◌
 use Rattle.sqlite_value.specs.declared.value.Value.TheVariants.{Null, Int}
 use Rattle.sqlite_value.specs.declared.keys.Key.{Key}
 use Rattle.sqlite_value.specs.Order.{Row}
-use Rattle.sqlite_sql.specs.Term.{Term}
+use Rattle.sqlite_sql.specs.Term.{Term, col}
 use Rattle.sqlite_sql.specs.Query.{key_cmp}
 use Rattle.sqlite_schema.specs.declared.schema.Table.{Table}
 use Rattle.sqlite_schema.specs.declared.schema.Schema.{Schema}
 use Rattle.sqlite_typing.specs.Types.{row_classes, are_typed, accepts_program}
-use Rattle.sqlite_schema.specs.declared.command.Command.TheVariants.{Select}
+use Rattle.sqlite_schema.specs.declared.command.Command.TheVariants.{Delete, Select}
 use Rattle.sqlite_syntax.specs.declared.statement.Parsed.{Parsed}
 use Rattle.sqlite.specs.Effect.{Database, Reads, RefusesToRead, value_rows}
 use Rattle.sqlite.specs.Given.{IsPlain}
@@ -19,12 +19,12 @@ use Rattle.dh_rows.specs.Calls.{command_of, statement_of, IsEdit, IsUnfit, Edits
 use Rattle.dh_rows.proofs.Calls.{tail_of, parameters_of}
 use Rattle.dh_rows.specs.Keyed.{Coding, by_key, IsFreeKey, added, put}
 use Rattle.dh_rows.specs.Places.{tree_of, table_in, Keeps, records_of}
-use Rattle.dh_rows.proofs.Terms.{wanted, rising, from_table, columns_at}
+use Rattle.dh_rows.proofs.Terms.{wanted, wanted_above, rising, from_table, columns_at}
 use Rattle.dh_rows.proofs.Shapes.{matching, outp}
 use Rattle.dh_rows.proofs.Effects.{IsSimple, AreOfKinds, Turns, delete_turns, insert_turns, select_reads}
-use Rattle.dh_rows.proofs.Texts.{ArePlain, Chooses, all_suit, name_at, delete_is, select_is, select_accepts, insert_is}
+use Rattle.dh_rows.proofs.Texts.{ArePlain, Chooses, Means, all_suit, name_at, delete_is, delete_above_is, select_is, select_accepts, insert_is}
 use Rattle.dh_rows.proofs.Upsert.{IsUpsert, IsKeyOf, Fits, upsert_is, put_turns}
-use Rattle.dh_rows.proofs.Read.{delete_of, is_delete, select_of, is_select, parameters_in, Counts, are_counted, insert_of, is_insert}
+use Rattle.dh_rows.proofs.Read.{delete_of, is_delete, delete_above_of, is_delete_above, select_of, is_select, parameters_in, Counts, are_counted, insert_of, is_insert}
 
 -- what `change` asks of a text, and what it then does to one table
 pub record Writes (s : State) (text : List ℕ) (params : Row) (t : Table) {X : Type 0} (c : Coding X) (change : List X → List X) : Type 0 where
@@ -71,16 +71,24 @@ fitting s text params {tree = tree} it counts accepts (e, inr refuses) = elim (s
 ]
 
 module _ (t : Table) (simple : IsSimple t) (plain : ArePlain t.columns) {X : Type 0} (c : Coding X) (s : State) (keeps : Keeps t c s.now) where
-  -- DELETE FROM t WHERE ..
-  pub delete : (text : List ℕ) (ws : List (ℕ × ℕ)) → delete_of t text ≡ Some ws → (params : Row) (test : X → Bool) → ((n : ℤ) (x : X) → matching (wanted ws) params (Int n ∷ c.encode x) ≡ test x)
+  deletes_by : (text : List ℕ) (terms : List Term) → Means s.now.schema text (Delete keeps.stands.at (record { lets = []; body = from_table (tree_of s.now.schema t.name) terms (col 1 0 ∷ []) [] })) → (params : Row) (test : X → Bool) → ((n : ℤ) (x : X) → matching terms params (Int n ∷ c.encode x) ≡ test x)
       → Writes s text params t c (filter (λ x. not (test x)))
-  delete text ws read params test sees =
-      let means = delete_is s.now.schema t keeps.stands simple plain text ws (is_delete t text ws read) in
+  deletes_by text terms means params test sees =
       record {
         plain = means.plain;
         edits = subst IsEdit (sym means.is) tt;
-        turns = λ after it. delete_turns s.step_limit (mode_of s) s.now after t c keeps params (statement_of text (understood s.now.schema text)) it.0 (wanted ws) test sees (subst (λ k. Does s.step_limit (mode_of s) params s.now (statement_of text (understood s.now.schema text)) None k (Ok (it.0, after))) means.is it.1);
+        turns = λ after it. delete_turns s.step_limit (mode_of s) s.now after t c keeps params (statement_of text (understood s.now.schema text)) it.0 terms test sees (subst (λ k. Does s.step_limit (mode_of s) params s.now (statement_of text (understood s.now.schema text)) None k (Ok (it.0, after))) means.is it.1);
       }
+
+  -- DELETE FROM t WHERE ..
+  pub delete : (text : List ℕ) (ws : List (ℕ × ℕ)) → delete_of t text ≡ Some ws → (params : Row) (test : X → Bool) → ((n : ℤ) (x : X) → matching (wanted ws) params (Int n ∷ c.encode x) ≡ test x)
+      → Writes s text params t c (filter (λ x. not (test x)))
+  delete text ws read = deletes_by text (wanted ws) (delete_is s.now.schema t keeps.stands simple plain text ws (is_delete t text ws read))
+
+  -- DELETE FROM t WHERE .. AND column > ?n
+  pub delete_above : (text : List ℕ) (ws : List (ℕ × ℕ)) (w : ℕ × ℕ) → delete_above_of t text ≡ Some (ws, w) → (params : Row) (test : X → Bool) → ((n : ℤ) (x : X) → matching (wanted_above ws w) params (Int n ∷ c.encode x) ≡ test x)
+      → Writes s text params t c (filter (λ x. not (test x)))
+  delete_above text ws w read = deletes_by text (wanted_above ws w) (delete_above_is s.now.schema t keeps.stands simple plain text ws w (is_delete_above t text ws w read))
 
   -- INSERT INTO t VALUES (..), whose parameters are the columns of the record
   pub insert : (text : List ℕ) (terms : List Term) (width : ℕ) → insert_of s.now.schema (table_in s.now.schema t) text ≡ Some (terms, width) → (x : X) → ((n : ℤ) → c.decode (Int n ∷ c.encode x) ≡ x) → AreOfKinds t.columns (c.encode x)

@@ -11,7 +11,8 @@ use Rattle.sqlite_ast.specs.declared.Select.{Select, out-Select}
 use Rattle.sqlite_ast.specs.declared.Sort.{Sort, out-Sort}
 use Rattle.sqlite_ast.specs.declared.Origin.{Origin}
 use Rattle.sqlite_ast.specs.declared.Origin.TheVariants as origin
-use Rattle.sqlite_ast.specs.declared.Binary.TheVariants.{Eq, And}
+use Rattle.sqlite_ast.specs.declared.Binary.{Binary as Operator}
+use Rattle.sqlite_ast.specs.declared.Binary.TheVariants.{Eq, Gt, And}
 use Rattle.sqlite_ast.specs.declared.Statement.{Statement}
 use Rattle.sqlite_ast.specs.declared.Statement.TheVariants as written
 use Rattle.sqlite_ast.specs.declared.Conflict.TheVariants as conflict
@@ -25,7 +26,7 @@ use Rattle.sqlite_schema.specs.declared.command.Source.TheVariants.{Values, Quer
 use Rattle.sqlite_schema.specs.Names.{column_named}
 use Rattle.sqlite_resolve.specs.Lowering.{Checked}
 use Rattle.sqlite_resolve.specs.Compile.{first, new_rows, small}
-use Rattle.dh_rows.proofs.Texts.{IsColumn, named, IsEqual, equal, IsTest, one, both, IsWhere, all, only, AreShown, none, next, AreSorts, rowid_name, IsRowidOf, unnamed, IsFrame, IsChoice, chooses, IsDelete, deletes, IsSelect, selects, IsIds, rowids, IsInsert, adds}
+use Rattle.dh_rows.proofs.Texts.{IsColumn, named, IsCompared, compares, IsEqual, IsTest, one, both, IsTestAbove, ends, IsWhere, all, only, AreShown, none, next, AreSorts, rowid_name, IsRowidOf, unnamed, IsFrame, IsChoice, chooses, IsDelete, IsDeleteAbove, deletes, IsSelect, selects, IsIds, rowids, IsInsert, adds}
 
 -- ---- tests on the way
 
@@ -117,20 +118,38 @@ is_parameter e n h = go (out-Expr e) refl h
     go (Expr-F.Parameter m) out h = (m, out, cc)
     go _ out h = absurd (cc)
 
+-- the column and the parameter of a comparison
+abbrev sides_of : Table → Expr → Expr → Option (ℕ × ℕ)
+sides_of t a b = option_and_then (λ k. option_and_then (λ n. Some (k, n)) (parameter_by (out-Expr b))) (column_of t a)
+
+are_sides : (t : Table) (op : Operator) (e a b : Expr) (w : ℕ × ℕ) → out-Expr e ≡ Expr-F.Binary op a b → sides_of t a b ≡ Some w → IsCompared t op e w
+are_sides t op e a b w out h =
+    let k = got (λ k. option_and_then (λ n. Some (k, n)) (parameter_by (out-Expr b))) (column_of t a) w h in
+    let n = got (λ n. Some (k.0, n)) (parameter_by (out-Expr b)) w k.2 in
+    let m = is_parameter b n.0 n.1 in
+    let same : (k.0, n.0) ≡ w = let x = n.2 in cc in
+    Rattle.std.proofs.Common.subst (IsCompared t op e) same (compares out (is_column t a k.0 k.1) m.1 m.2)
+
 abbrev equal_by : Table → Layer → Option (ℕ × ℕ)
-equal_by t (Expr-F.Binary Eq a b) = option_and_then (λ k. option_and_then (λ n. Some (k, n)) (parameter_by (out-Expr b))) (column_of t a)
+equal_by t (Expr-F.Binary Eq a b) = sides_of t a b
 equal_by t _ = None
 
 is_equal : (t : Table) (e : Expr) (w : ℕ × ℕ) → equal_by t (out-Expr e) ≡ Some w → IsEqual t e w
 is_equal t e w h = go (out-Expr e) refl h
   where
     go : (o : Layer) → out-Expr e ≡ o → equal_by t o ≡ Some w → IsEqual t e w
-    go (Expr-F.Binary Eq a b) out h =
-        let k = got (λ k. option_and_then (λ n. Some (k, n)) (parameter_by (out-Expr b))) (column_of t a) w h in
-        let n = got (λ n. Some (k.0, n)) (parameter_by (out-Expr b)) w k.2 in
-        let m = is_parameter b n.0 n.1 in
-        let same : (k.0, n.0) ≡ w = let x = n.2 in cc in
-        Rattle.std.proofs.Common.subst (IsEqual t e) same (equal out (is_column t a k.0 k.1) m.1 m.2)
+    go (Expr-F.Binary Eq a b) out h = are_sides t Eq e a b w out h
+    go _ out h = absurd (cc)
+
+abbrev above_by : Table → Layer → Option (ℕ × ℕ)
+above_by t (Expr-F.Binary Gt a b) = sides_of t a b
+above_by t _ = None
+
+is_above : (t : Table) (e : Expr) (w : ℕ × ℕ) → above_by t (out-Expr e) ≡ Some w → IsCompared t Gt e w
+is_above t e w h = go (out-Expr e) refl h
+  where
+    go : (o : Layer) → out-Expr e ≡ o → above_by t o ≡ Some w → IsCompared t Gt e w
+    go (Expr-F.Binary Gt a b) out h = are_sides t Gt e a b w out h
     go _ out h = absurd (cc)
 
 abbrev test_by : (Expr → Option (List (ℕ × ℕ))) → Table → Expr → Layer → Option (List (ℕ × ℕ))
@@ -158,6 +177,24 @@ is_test (suc n) t e ws h = go (out-Expr e) refl h (λ l vs. is_test n t l vs)
         let same : vs.0 ++ w.0 ∷ [] ≡ ws = let x = w.2 in cc in
         Rattle.std.proofs.Common.subst (IsTest t e) same (both out (again l vs.0 vs.1) (is_equal t r w.0 w.1))
     go _ out h again = lone refl (rw out h)
+
+abbrev Bounded : Type 0
+Bounded = List (ℕ × ℕ) × (ℕ × ℕ)
+
+abbrev test_above_by : Table → Layer → Option Bounded
+test_above_by t (Expr-F.Binary And l r) = option_and_then (λ ws. option_and_then (λ w. Some (ws, w)) (above_by t (out-Expr r))) (test_of 100 t l)
+test_above_by t _ = None
+
+is_test_above : (t : Table) (e : Expr) (ws : List (ℕ × ℕ)) (w : ℕ × ℕ) → test_above_by t (out-Expr e) ≡ Some (ws, w) → IsTestAbove t e ws w
+is_test_above t e ws w h = go (out-Expr e) refl h
+  where
+    go : (o : Layer) → out-Expr e ≡ o → test_above_by t o ≡ Some (ws, w) → IsTestAbove t e ws w
+    go (Expr-F.Binary And l r) out h =
+        let vs = got (λ ws. option_and_then (λ w. Some (ws, w)) (above_by t (out-Expr r))) (test_of 100 t l) (ws, w) h in
+        let v = got (λ w. Some (vs.0, w)) (above_by t (out-Expr r)) (ws, w) vs.2 in
+        let same : (vs.0, v.0) ≡ (ws, w) = some_same v.2 in
+        Rattle.std.proofs.Common.subst (λ (z : Bounded). IsTestAbove t e z.0 z.1) same (ends out (is_test 100 t l vs.0 vs.1) (is_above t r v.0 v.1))
+    go _ out h = absurd (cc)
 
 abbrev where_of : Table → Option Expr → Option (List (ℕ × ℕ))
 where_of t None = Some []
@@ -231,6 +268,34 @@ is_delete t text ws h = go (first text) refl h
 
     go : (r : Checked Parsed) → first text ≡ r → delete_in t r ≡ Some ws → IsDelete t text ws
     go (Ok p) read h = let formats = nil _ _ ws h in by p read formats.0 p.statement refl formats.1
+    go (Err e) read h = absurd (cc)
+
+abbrev delete_above_by : Table → Statement → Option Bounded
+delete_above_by t (written.Delete name (Some e) []) = if_true (bytes_eq name t.name) (option_and_then (λ z. if_true (nat_le (length z.0) 100) (Some z)) (test_above_by t (out-Expr e)))
+delete_above_by t _ = None
+
+abbrev delete_above_in : Table → Checked Parsed → Option Bounded
+delete_above_in t (Ok p) = if_nil p.formats (delete_above_by t p.statement)
+delete_above_in t (Err e) = None
+
+-- the same of one whose WHERE ends with a column that is above its parameter, and these two
+abbrev pub delete_above_of : Table → List ℕ → Option Bounded
+delete_above_of t text = delete_above_in t (first text)
+
+pub is_delete_above : (t : Table) (text : List ℕ) (ws : List (ℕ × ℕ)) (w : ℕ × ℕ) → delete_above_of t text ≡ Some (ws, w) → IsDeleteAbove t text ws w
+is_delete_above t text ws w h = go (first text) refl h
+  where
+    by : (p : Parsed) → first text ≡ Ok p → p.formats ≡ [] → (s : Statement) → p.statement ≡ s → delete_above_by t s ≡ Some (ws, w) → IsDeleteAbove t text ws w
+    by p read formats (written.Delete name (Some e) []) is h =
+        let name_is = so _ _ (ws, w) h in
+        let z = got (λ z. if_true (nat_le (length z.0) 100) (Some z)) (test_above_by t (out-Expr e)) (ws, w) name_is.1 in
+        let small = so _ _ (ws, w) z.2 in
+        let same : z.0 ≡ (ws, w) = some_same small.1 in
+        deletes read (is ∙ ap (λ n. written.Delete n (Some e) []) (same_bytes name t.name name_is.0)) formats (is_test_above t e ws w (z.1 ∙ ap Some same)) (few ws (ap (λ (l : Bounded). nat_le (length l.0) 100) (sym same) ∙ small.0))
+    by p read formats _ is h = absurd (cc)
+
+    go : (r : Checked Parsed) → first text ≡ r → delete_above_in t r ≡ Some (ws, w) → IsDeleteAbove t text ws w
+    go (Ok p) read h = let formats = nil _ _ (ws, w) h in by p read formats.0 p.statement refl formats.1
     go (Err e) read h = absurd (cc)
 
 -- the columns that a SELECT shows, those of its WHERE with their parameters, and those that it sorts by

@@ -12,7 +12,7 @@ use Rattle.sqlite_resolve.specs.Lowering.{Lowering, nothing, chosen, finish, beg
 use Rattle.sqlite_resolve.specs.Scope.{Context, find, column_at, column, term_of}
 use Rattle.sqlite_resolve.specs.Body.{tests}
 use Rattle.sqlite_resolve.specs.Terms.{conjuncts}
-use Rattle.sqlite_resolve.specs.Expr.{opened, node, passes, both, operation, combine, tests_truth, tests_alias, wanted_truth, lower_to}
+use Rattle.sqlite_resolve.specs.Expr.{opened, node, passes, both, operation, combine, is_identity, tests_truth, tests_alias, wanted_truth, lower_to}
 use Rattle.sqlite_resolve.specs.Lowering.{fresh, max_budget}
 use Rattle.sqlite_resolve.specs.Scope.{in_level, only, hit, column_in, is_among}
 use Rattle.sqlite_resolve.specs.Expr.{lower}
@@ -25,11 +25,9 @@ use Rattle.sqlite_schema.specs.declared.schema.Table.{Table}
 use Rattle.sqlite_schema.specs.declared.schema.Schema.{Schema}
 use Rattle.sqlite_schema.specs.Names.{column_named}
 use Rattle.std.proofs.Common.{subst}
-use Rattle.sqlite_ast.specs.declared.Binary.TheVariants.{Eq}
 use Rattle.sqlite_resolve.specs.declared.state.Passes.TheVariants as hands
 use Rattle.sqlite_resolve.specs.declared.state.Passes.TheVariants.{All}
 use Rattle.sqlite_resolve.specs.Lowering.{alone, first_found}
-use Rattle.dh_rows.proofs.Terms.{equals}
 
 abbrev pub begun : State → State
 begun s = record s { budget = s.budget - 1; written = None; last = nothing }
@@ -92,21 +90,21 @@ rowid_end s = ended s All (begun s)
 abbrev pub parameter_end : State → State
 parameter_end s = ended s hands.Nothing (begun s)
 
-abbrev pub equal_end : State → State
-equal_end s = ended s hands.Nothing (parameter_end (column_end (begun s)))
+abbrev pub compared_end : State → State
+compared_end s = ended s hands.Nothing (parameter_end (column_end (begun s)))
 
-module _ (cx : Context) (at : ℕ) where
-  -- `column = ?n`
-  pub equal_as : (d : ℕ) (e a b : Expr) (s : State) (name : List ℕ) (k n m : ℕ) → m - 1 ≡ n → nat_lt 1 s.budget ≡ true → nat_lt 1 (s.budget - 1) ≡ true → nat_lt 1 (s.budget - 1 - 1) ≡ true
-      → out-Expr e ≡ Expr-F.Binary Eq a b → out-Expr a ≡ Expr-F.Column None name → out-Expr b ≡ Expr-F.Parameter m
+module _ (cx : Context) (at : ℕ) (op : Operator) (plain : is_identity op ≡ false) where
+  -- `column op ?n`, of an operator that is no IS
+  pub compared_as : (d : ℕ) (e a b : Expr) (s : State) (name : List ℕ) (k n m : ℕ) (t : Term) → m - 1 ≡ n → nat_lt 1 s.budget ≡ true → nat_lt 1 (s.budget - 1) ≡ true → nat_lt 1 (s.budget - 1 - 1) ≡ true
+      → out-Expr e ≡ Expr-F.Binary op a b → out-Expr a ≡ Expr-F.Column None name → out-Expr b ≡ Expr-F.Parameter m
       → find cx None name ≡ Ok (Column 1 at k) → column_at cx.schema 1 at k ≡ Ok (col 1 (suc k), binary)
-      → ((s : State) → combine cx Eq Binary (col 1 (suc k)) (col 0 n) s ≡ Ok (equals k n, s))
-      → lower_to (suc (suc d)) cx e s ≡ Ok (equals k n, equal_end s)
+      → ((s : State) → combine cx op Binary (col 1 (suc k)) (col 0 n) s ≡ Ok (t, s))
+      → lower_to (suc (suc d)) cx e s ≡ Ok (t, compared_end s)
   unfolding lower_to passes tests_truth tests_alias wanted_truth chosen alone first_found
-  equal_as d e a b s name k n m less one two three out left right found has made =
+  compared_as d e a b s name k n m t less one two three out left right found has made =
       let x : lower_to (suc d) cx a (begun s) ≡ Ok (col 1 (suc k), column_end (begun s)) =
       node_as (lower_to d) cx a (begun s) (record (begun (begun s)) { last = binary }) (col 1 (suc k)) All two (rw left refl) (column_as (lower_to d) cx a (begun (begun s)) name 1 at k (col 1 (suc k)) binary left found has) in
       let y : lower_to (suc d) cx b (column_end (begun s)) ≡ Ok (col 0 n, parameter_end (column_end (begun s))) =
       node_as (lower_to d) cx b (column_end (begun s)) (begun (column_end (begun s))) (col 0 n) hands.Nothing three (rw right refl) (subst (λ (j : ℕ). Rattle.sqlite_resolve.specs.Expr.opened (lower_to d) cx b (begun (column_end (begun s))) ≡ Ok (col 0 j, begun (column_end (begun s)))) less (parameter_as (lower_to d) cx b (begun (column_end (begun s))) m right)) in
-      node_as (lower_to (suc d)) cx e s (parameter_end (column_end (begun s))) (equals k n) hands.Nothing one (rw out refl)
-      (both_as (lower_to (suc d)) cx e (begun s) (column_end (begun s)) (parameter_end (column_end (begun s))) (parameter_end (column_end (begun s))) Eq a b (col 1 (suc k)) (col 0 n) (equals k n) out refl refl refl x y (made _))
+      node_as (lower_to (suc d)) cx e s (parameter_end (column_end (begun s))) t hands.Nothing one (rw out refl)
+      (both_as (lower_to (suc d)) cx e (begun s) (column_end (begun s)) (parameter_end (column_end (begun s))) (parameter_end (column_end (begun s))) op a b (col 1 (suc k)) (col 0 n) t out (rw plain refl) (rw plain refl) (rw plain refl) x y (made _))

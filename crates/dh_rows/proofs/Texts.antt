@@ -18,11 +18,15 @@ use Rattle.sqlite_ast.specs.declared.Select.{Select, out-Select}
 use Rattle.sqlite_ast.specs.declared.Sort.{Sort, out-Sort}
 use Rattle.sqlite_ast.specs.declared.Rows.{Rows}
 use Rattle.sqlite_ast.specs.declared.Origin.TheVariants as origin
-use Rattle.sqlite_ast.specs.declared.Binary.TheVariants.{Eq, And}
+use Rattle.sqlite_ast.specs.declared.Binary.{Binary as Operator}
+use Rattle.sqlite_ast.specs.declared.Binary.TheVariants.{Eq, Gt, And}
 use Rattle.sqlite_ast.specs.declared.Statement.TheVariants as written
 use Rattle.sqlite_ast.specs.declared.Conflict.TheVariants as conflict
 use Rattle.sqlite_syntax.specs.declared.statement.Parsed.{Parsed}
+use Rattle.sqlite_sql.specs.declared.ops.BinaryOp.{BinaryOp}
 use Rattle.sqlite_sql.specs.declared.ops.BinaryOp.TheVariants as by
+use Rattle.sqlite_sql.specs.declared.ops.CompareOp.{CompareOp}
+use Rattle.sqlite_sql.specs.declared.ops.CompareOp.TheVariants as compare
 use Rattle.sqlite_sql.specs.Term.{Term, lit, col, op2}
 use Rattle.sqlite_schema.specs.declared.schema.Kind.{Kind}
 use Rattle.sqlite_schema.specs.declared.schema.Kind.TheVariants as kind
@@ -50,7 +54,7 @@ use Rattle.sqlite_resolve.specs.Select.{ungrouped, named as named_to}
 use Rattle.sqlite_resolve.specs.Write.{simple as drafted, deleted}
 use Rattle.sqlite_resolve.specs.Program.{program}
 use Rattle.sqlite_resolve.specs.Compare.{compared, affinity_of, of_column, of_kind, converted, converted_by, spelled, may_be_text, is_parameter}
-use Rattle.sqlite_resolve.specs.Expr.{lower, lower_to, passes, combine, tests_truth, tests_alias, wanted_truth}
+use Rattle.sqlite_resolve.specs.Expr.{lower, lower_to, passes, combine, is_identity, tests_truth, tests_alias, wanted_truth}
 use Rattle.sqlite_resolve.specs.Compile.{first, new_rows, small, read as resolve_read}
 use Rattle.sqlite_tied.specs.Compute.{everything}
 use Rattle.sqlite.specs.Listing.{understood, reads_listing}
@@ -58,9 +62,9 @@ use Rattle.sqlite.specs.Given.{IsPlain}
 use Rattle.dh_rows.specs.Calls.{command_of}
 use Rattle.dh_rows.proofs.Calls.{tail_of, parameters_of}
 use Rattle.dh_rows.specs.Places.{tree_of, table_in, Stands}
-use Rattle.dh_rows.proofs.Terms.{equals, wanted, rising, by_rowid, from_table, columns_at}
+use Rattle.dh_rows.proofs.Terms.{equals, above, wanted, wanted_above, rising, by_rowid, from_table, columns_at}
 use Rattle.dh_rows.proofs.Effects.{IsSimple}
-use Rattle.dh_rows.proofs.Steps.{begun, ended, binary, column_end, rowid_end, equal_end, node_as, column_as, rowid_as, both_as, tests_as, columned_as, deleted_as, equal_as}
+use Rattle.dh_rows.proofs.Steps.{begun, ended, binary, column_end, rowid_end, compared_end, node_as, column_as, rowid_as, both_as, tests_as, columned_as, deleted_as, compared_as}
 use Rattle.dh_rows.proofs.Choose.{seen, bound_at, seen_as, heading_as, rowid_seen, rowid_heading, bounds_as, joins_as, shown_as, sort_as, body_as, named_as, read_as, select_means}
 use Rattle.dh_rows.proofs.Meaning.{delete_means, insert_means}
 
@@ -74,14 +78,21 @@ ArePlain = AllByRecursion (λ c. (c.is_strict ≡ true) × (c.collation ≡ Bina
 pub data IsColumn (t : Table) : Expr → ℕ → Type 0 where
   named : {e : Expr} {name : List ℕ} {k : ℕ} {c : Declared} → out-Expr e ≡ Expr-F.Column None name → column_named t name ≡ Some k → slice_get t.columns k ≡ Some c → IsColumn t e k
 
--- `column = ?n`: the column and the parameter, each counted from 0
-pub data IsEqual (t : Table) : Expr → ℕ × ℕ → Type 0 where
-  equal : {e a b : Expr} {k m n : ℕ} → out-Expr e ≡ Expr-F.Binary Eq a b → IsColumn t a k → out-Expr b ≡ Expr-F.Parameter m → m - 1 ≡ n → IsEqual t e (k, n)
+-- `column op ?n`: the column and the parameter, each counted from 0
+pub data IsCompared (t : Table) (op : Operator) : Expr → ℕ × ℕ → Type 0 where
+  compares : {e a b : Expr} {k m n : ℕ} → out-Expr e ≡ Expr-F.Binary op a b → IsColumn t a k → out-Expr b ≡ Expr-F.Parameter m → m - 1 ≡ n → IsCompared t op e (k, n)
+
+abbrev pub IsEqual : Table → Expr → ℕ × ℕ → Type 0
+IsEqual t = IsCompared t Eq
 
 -- equalities joined by AND
 pub data IsTest (t : Table) : Expr → List (ℕ × ℕ) → Type 0 where
   one : {e : Expr} {w : ℕ × ℕ} → IsEqual t e w → IsTest t e (w ∷ [])
   both : {e l r : Expr} {ws : List (ℕ × ℕ)} {w : ℕ × ℕ} → out-Expr e ≡ Expr-F.Binary And l r → IsTest t l ws → IsEqual t r w → IsTest t e (ws ++ w ∷ [])
+
+-- equalities joined by AND, and behind them `column > ?n`
+pub data IsTestAbove (t : Table) : Expr → List (ℕ × ℕ) → ℕ × ℕ → Type 0 where
+  ends : {e l r : Expr} {ws : List (ℕ × ℕ)} {w : ℕ × ℕ} → out-Expr e ≡ Expr-F.Binary And l r → IsTest t l ws → IsCompared t Gt r w → IsTestAbove t e ws w
 
 -- a WHERE, or none
 pub data IsWhere (t : Table) : Option Expr → List (ℕ × ℕ) → Type 0 where
@@ -165,6 +176,10 @@ suited _ _ e = absurd (cc)
 -- a text of this shape, with these columns and parameters in its WHERE
 pub data IsDelete (t : Table) (text : List ℕ) (ws : List (ℕ × ℕ)) : Type 0 where
   deletes : {p : Parsed} {test : Option Expr} → first text ≡ Ok p → p.statement ≡ written.Delete t.name test [] → p.formats ≡ [] → IsWhere t test ws → length ws ≤ 100 → IsDelete t text ws
+
+-- the same, with a column that is above its parameter
+pub data IsDeleteAbove (t : Table) (text : List ℕ) (ws : List (ℕ × ℕ)) (w : ℕ × ℕ) : Type 0 where
+  deletes : {p : Parsed} {e : Expr} → first text ≡ Ok p → p.statement ≡ written.Delete t.name (Some e) [] → p.formats ≡ [] → IsTestAbove t e ws w → length ws ≤ 100 → IsDeleteAbove t text ws w
 
 -- the parts of a SELECT of this shape
 pub data IsChoice (t : Table) (q : Select) (ks : List ℕ) (ws : List (ℕ × ℕ)) (os : List ℕ) : Type 0 where
@@ -280,59 +295,89 @@ module _ (schema : Schema) (t : Table) (stands : Stands schema t) (simple : IsSi
   lowers_rowid shows may e (unnamed out free) d s h =
       node_as (lower_to d) (cx shows may) e s (begun s) (col 1 0) hands.All (enough s.budget h) (rw out refl) (rowid_as (lower_to d) (cx shows may) e (begun s) rowid_name 1 at out (finds_rowid shows may free))
 
-  made : (shows : List Output) (may : Bool) (k n : ℕ) (c : Declared) → slice_get t.columns k ≡ Some c → (s : State) → combine (cx shows may) Eq Binary (col 1 (suc k)) (col 0 n) s ≡ Ok (equals k n, s)
-  unfolding combine compared affinity_of of_column converted is_parameter
-  made shows may k n c has s =
+  sides_same : (shows : List Output) (may : Bool) (how : BinaryOp) (k n : ℕ) (c : Declared) → slice_get t.columns k ≡ Some c → compared (cx shows may) how (col 1 (suc k)) (col 0 n) ≡ op2 how (col 1 (suc k)) (col 0 n)
+  unfolding compared affinity_of of_column converted is_parameter
+  sides_same shows may how k n c has =
       let strict = (all-slice_get _ t.columns k c has plain).0 in
-      rw (there, has, strict, flat (n == 0)) (ap₂ (λ x y. Ok (op2 (by.Compare Rattle.sqlite_sql.specs.declared.ops.CompareOp.TheVariants.Eq Binary) x y, s)) (left_same _ c.kind (col 1 (suc k))) (right_same _ c.kind n))
+      rw (there, has, strict, flat (n == 0)) (ap₂ (λ x y. op2 how x y) (left_same _ c.kind (col 1 (suc k))) (right_same _ c.kind n))
 
-  lowers_equal : (shows : List Output) (may : Bool) (e : Expr) (w : ℕ × ℕ) → IsEqual t e w → (d : ℕ) (s : State) → 2 ≤ d → 4 ≤ s.budget → lower_to d (cx shows may) e s ≡ Ok (equals w.0 w.1, equal_end s)
-  lowers_equal shows may e w it zero s deep h = absurd (omega arith)
-  lowers_equal shows may e w it (suc zero) s deep h = absurd (omega arith)
-  lowers_equal shows may e w (equal {a = a} {b = b} {k = k} {m = m} {n = n} out (named {name = name} {c = c} left is has) right less) (suc (suc d)) s deep h =
-      equal_as (cx shows may) at d e a b s name k n m less (enough s.budget (omega arith)) (enough (s.budget - 1) (omega arith)) (enough (s.budget - 1 - 1) (omega arith)) out left right
-      (seen_as schema t.name at its stands.has.named there shows may name k is) (has_column k c has) (made shows may k n c has)
+  -- what the operator makes of a column and a parameter
+  abbrev Makes : Operator → (ℕ → ℕ → Term) → Type 0
+  Makes op term = (shows : List Output) (may : Bool) (k n : ℕ) (c : Declared) → slice_get t.columns k ≡ Some c → (s : State) → combine (cx shows may) op Binary (col 1 (suc k)) (col 0 n) s ≡ Ok (term k n, s)
 
-  equal_follows : (s : State) → Follows s (equal_end s) 3
-  equal_follows s = record { next = refl; steps = refl; aggregates = refl; budget = omega arith }
+  made : Makes Eq equals
+  unfolding combine
+  made shows may k n c has s = ap (λ x. Ok (x, s)) (sides_same shows may (by.Compare compare.Eq Binary) k n c has)
 
-  record Lowered (shows : List Output) (may : Bool) (e : Expr) (ws : List (ℕ × ℕ)) (d : ℕ) (s : State) : Type 0 where
+  made_above : Makes Gt above
+  unfolding combine
+  made_above shows may k n c has s = ap (λ x. Ok (x, s)) (sides_same shows may (by.Compare compare.Gt Binary) k n c has)
+
+  lowers_compared : (op : Operator) → is_identity op ≡ false → (term : ℕ → ℕ → Term) → Makes op term
+      → (shows : List Output) (may : Bool) (e : Expr) (w : ℕ × ℕ) → IsCompared t op e w → (d : ℕ) (s : State) → 2 ≤ d → 4 ≤ s.budget → lower_to d (cx shows may) e s ≡ Ok (term w.0 w.1, compared_end s)
+  lowers_compared op free term makes shows may e w it zero s deep h = absurd (omega arith)
+  lowers_compared op free term makes shows may e w it (suc zero) s deep h = absurd (omega arith)
+  lowers_compared op free term makes shows may e w (compares {a = a} {b = b} {k = k} {m = m} {n = n} out (named {name = name} {c = c} left is has) right less) (suc (suc d)) s deep h =
+      compared_as (cx shows may) at op free d e a b s name k n m (term k n) less (enough s.budget (omega arith)) (enough (s.budget - 1) (omega arith)) (enough (s.budget - 1 - 1) (omega arith)) out left right
+      (seen_as schema t.name at its stands.has.named there shows may name k is) (has_column k c has) (makes shows may k n c has)
+
+  -- a test as it is read: its terms, and what it costs
+  record Lowered (shows : List Output) (may : Bool) (e : Expr) (terms : List Term) (cost d : ℕ) (s : State) : Type 0 where
     term : Term
     after : State
     is : lower_to d (cx shows may) e s ≡ Ok (term, after)
-    parts : conjuncts term ≡ wanted ws
-    follows : Follows s after (5 * length ws)
+    parts : conjuncts term ≡ terms
+    follows : Follows s after cost
 
-  lowers : (shows : List Output) (may : Bool) (e : Expr) (ws : List (ℕ × ℕ)) → IsTest t e ws → (d : ℕ) (s : State) → length ws < d → 5 * length ws ≤ s.budget → Lowered shows may e ws d s
+  -- a test AND a comparison
+  joined : (shows : List Output) (may : Bool) (e l r : Expr) (terms : List Term) (cost d : ℕ) (s : State) (op : Operator) → is_identity op ≡ false → (term : ℕ → ℕ → Term) → Makes op term → (w : ℕ × ℕ)
+      → conjuncts (term w.0 w.1) ≡ term w.0 w.1 ∷ [] → out-Expr e ≡ Expr-F.Binary And l r → IsCompared t op r w → 2 ≤ d → cost + 5 ≤ s.budget → Lowered shows may l terms cost d (begun s)
+      → Lowered shows may e (terms ++ term w.0 w.1 ∷ []) (cost + 5) (suc d) s
   unfolding lower_to passes tests_truth tests_alias wanted_truth combine
+  joined shows may e l r terms cost d s op free term makes w alone out right deep h x =
+      let y = lowers_compared op free term makes shows may r w right d x.after deep (omega (arith, x.follows.budget)) in
+      record {
+        term = op2 by.And x.term (term w.0 w.1);
+        after = ended s hands.Nothing (compared_end x.after);
+        is = node_as (lower_to d) (cx shows may) e s (compared_end x.after) (op2 by.And x.term (term w.0 w.1)) hands.Nothing (enough s.budget (omega arith)) (rw out refl)
+            (both_as (lower_to d) (cx shows may) e (begun s) x.after (compared_end x.after) (compared_end x.after) And l r x.term (term w.0 w.1) (op2 by.And x.term (term w.0 w.1)) out refl refl refl x.is y refl);
+        parts = ap₂ ◌++◌ x.parts alone;
+        follows = record { next = x.follows.next; steps = x.follows.steps; aggregates = x.follows.aggregates; budget = omega (arith, x.follows.budget) };
+      }
+
+  lowers : (shows : List Output) (may : Bool) (e : Expr) (ws : List (ℕ × ℕ)) → IsTest t e ws → (d : ℕ) (s : State) → length ws < d → 5 * length ws ≤ s.budget → Lowered shows may e (wanted ws) (5 * length ws) d s
   lowers shows may e ws (one {w = w} it) d s deep h =
-      record { term = equals w.0 w.1; after = equal_end s; is = lowers_equal shows may e w it d s (omega arith) (omega arith); parts = refl; follows = record { next = refl; steps = refl; aggregates = refl; budget = omega arith } }
+      record { term = equals w.0 w.1; after = compared_end s; is = lowers_compared Eq refl equals made shows may e w it d s (omega arith) (omega arith); parts = refl; follows = record { next = refl; steps = refl; aggregates = refl; budget = omega arith } }
   lowers shows may e ws (both out left right) zero s deep h = absurd (omega arith)
   lowers shows may e vs (both {l = l} {r = r} {ws = ws} {w = w} out left right) (suc d) s deep h =
       let size : length (ws ++ w ∷ []) ≡ length ws + 1 = length-append ws (w ∷ []) in
       let some = nonempty left in
-      let x = lowers shows may l ws left d (begun s) (omega arith) (omega arith) in
-      let y = lowers_equal shows may r w right d x.after (omega arith) (omega (arith, x.follows.budget)) in
+      let it = joined shows may e l r (wanted ws) (5 * length ws) d s Eq refl equals made w refl out right (omega arith) (omega arith) (lowers shows may l ws left d (begun s) (omega arith) (omega arith)) in
       record {
-        term = op2 by.And x.term (equals w.0 w.1);
-        after = ended s hands.Nothing (equal_end x.after);
-        is = node_as (lower_to d) (cx shows may) e s (equal_end x.after) (op2 by.And x.term (equals w.0 w.1)) hands.Nothing (enough s.budget (omega arith)) (rw out refl)
-            (both_as (lower_to d) (cx shows may) e (begun s) x.after (equal_end x.after) (equal_end x.after) And l r x.term (equals w.0 w.1) (op2 by.And x.term (equals w.0 w.1)) out refl refl refl x.is y refl);
-        parts = ap (λ l. l ++ equals w.0 w.1 ∷ []) x.parts ∙ sym (map-append _ ws (w ∷ []));
-        follows = record { next = x.follows.next; steps = x.follows.steps; aggregates = x.follows.aggregates; budget = omega (arith, x.follows.budget) };
+        term = it.term;
+        after = it.after;
+        is = it.is;
+        parts = it.parts ∙ sym (map-append _ ws (w ∷ []));
+        follows = record { next = it.follows.next; steps = it.follows.steps; aggregates = it.follows.aggregates; budget = omega (arith, it.follows.budget) };
       }
 
-  record Tested (shows : List Output) (may : Bool) (test : Option Expr) (ws : List (ℕ × ℕ)) (s : State) : Type 0 where
+  record Tested (shows : List Output) (may : Bool) (test : Option Expr) (terms : List Term) (cost : ℕ) (s : State) : Type 0 where
     after : State
-    is : tests lower (cx shows may) [] test s ≡ Ok (wanted ws, after)
-    follows : Follows s after (5 * length ws)
+    is : tests lower (cx shows may) [] test s ≡ Ok (terms, after)
+    follows : Follows s after cost
 
-  tested : (shows : List Output) (may : Bool) (test : Option Expr) (ws : List (ℕ × ℕ)) → IsWhere t test ws → length ws ≤ 100 → (s : State) → 1000 ≤ s.budget → Tested shows may test ws s
+  tests_of : (shows : List Output) (may : Bool) (e : Expr) (terms : List Term) (cost : ℕ) (s : State) → Lowered shows may e terms cost 700 s → Tested shows may (Some e) terms cost s
+  tests_of shows may e terms cost s x = record { after = x.after; is = tests_as lower (cx shows may) e s x.after [] x.term x.is ∙ ap (λ l. Ok (l, x.after)) x.parts; follows = x.follows }
+
+  tested : (shows : List Output) (may : Bool) (test : Option Expr) (ws : List (ℕ × ℕ)) → IsWhere t test ws → length ws ≤ 100 → (s : State) → 1000 ≤ s.budget → Tested shows may test (wanted ws) (5 * length ws) s
   unfolding tests
   tested shows may test ws all few s h = record { after = s; is = refl; follows = record { next = refl; steps = refl; aggregates = refl; budget = omega arith } }
-  tested shows may test ws (only {e = e} it) few s h =
-      let x = lowers shows may e ws it 700 s (omega arith) (omega arith) in
-      record { after = x.after; is = tests_as lower (cx shows may) e s x.after [] x.term x.is ∙ ap (λ l. Ok (l, x.after)) x.parts; follows = x.follows }
+  tested shows may test ws (only {e = e} it) few s h = tests_of shows may e (wanted ws) (5 * length ws) s (lowers shows may e ws it 700 s (omega arith) (omega arith))
+
+  tested_above : (shows : List Output) (may : Bool) (e : Expr) (ws : List (ℕ × ℕ)) (w : ℕ × ℕ) → IsTestAbove t e ws w → length ws ≤ 100 → (s : State) → 1000 ≤ s.budget → Tested shows may (Some e) (wanted_above ws w) (5 * length ws + 5) s
+  tested_above shows may e ws w (ends {l = l} {r = r} out left right) few s h =
+      tests_of shows may e (wanted_above ws w) (5 * length ws + 5) s
+      (joined shows may e l r (wanted ws) (5 * length ws) 699 s Gt refl above made_above w refl out right (omega arith) (omega arith) (lowers shows may l ws left 699 (begun s) (omega arith) (omega arith)))
 
   -- ---- SELECT's columns
 
@@ -398,21 +443,25 @@ module _ (schema : Schema) (t : Table) (stands : Stands schema t) (simple : IsSi
   column_typed : (params : Row) (k : ℕ) → Within k → is_some (term_class params slots (col 1 (suc k))) ≡ true
   column_typed params k h = rw (class_at t.columns k h.0 h.1) refl
 
-  compares : (k : Kind) → is_some (Rattle.sqlite_typing.specs.Types.compared (Rattle.sqlite_typing.specs.Types.column_class k) Rattle.sqlite_typing.specs.Types.no_class) ≡ true
-  compares kind.Integer = refl
-  compares kind.Real = refl
-  compares kind.Text = refl
-  compares kind.Blob = refl
-  compares kind.Any = refl
+  is_comparable : (k : Kind) → is_some (Rattle.sqlite_typing.specs.Types.compared (Rattle.sqlite_typing.specs.Types.column_class k) Rattle.sqlite_typing.specs.Types.no_class) ≡ true
+  is_comparable kind.Integer = refl
+  is_comparable kind.Real = refl
+  is_comparable kind.Text = refl
+  is_comparable kind.Blob = refl
+  is_comparable kind.Any = refl
 
-  test_typed : (w : ℕ × ℕ) → Within w.0 → is_some (term_class [] slots (equals w.0 w.1)) ≡ true
-  test_typed w h =
+  test_typed : (w : ℕ × ℕ) → Within w.0 → (op : CompareOp) → is_some (term_class [] slots (op2 (by.Compare op Binary) (col 1 (suc w.0)) (col 0 w.1))) ≡ true
+  test_typed w h op =
       let strict = (all-slice_get _ t.columns w.0 h.0 h.1 plain).0 in
-      rw (class_at t.columns w.0 h.0 h.1, strict_class h.0 strict) (compares h.0.kind)
+      rw (class_at t.columns w.0 h.0 h.1, strict_class h.0 strict) (is_comparable h.0.kind)
 
   all_tests : (ws : List (ℕ × ℕ)) → AllByRecursion (λ w. Within w.0) ws → are_tests [] slots (wanted ws) ≡ true
   all_tests [] h = refl
-  all_tests (w ∷ ws) h = rw (test_typed w h.0) (all_tests ws h.1)
+  all_tests (w ∷ ws) h = rw (test_typed w h.0 compare.Eq) (all_tests ws h.1)
+
+  all_above : (ws : List (ℕ × ℕ)) (w : ℕ × ℕ) → AllByRecursion (λ w. Within w.0) ws → Within w.0 → are_tests [] slots (wanted_above ws w) ≡ true
+  all_above [] w h last = rw (test_typed w last compare.Gt) refl
+  all_above (v ∷ ws) w h last = rw (test_typed v h.0 compare.Eq) (all_above ws w h.1 last)
 
   all_shown : (params : Row) (ks : List ℕ) → AllByRecursion Within ks → are_typed params slots (columns_at ks) ≡ true
   all_shown params [] h = refl
@@ -435,8 +484,8 @@ module _ (schema : Schema) (t : Table) (stands : Stands schema t) (simple : IsSi
       rw (bound_typed params w h.0 both.0) (all_bound params ws h.1 both.1)
 
   tests_within : (e : Expr) (ws : List (ℕ × ℕ)) → IsTest t e ws → AllByRecursion (λ w. Within w.0) ws
-  tests_within e ws (one (equal out (named names is has) right less)) = ((_, has), tt)
-  tests_within e vs (both {l = l} {ws = ws} out left (equal o (named names is has) right less)) = all-append (λ w. Within w.0) ws _ (tests_within l ws left) ((_, has), tt)
+  tests_within e ws (one (compares out (named names is has) right less)) = ((_, has), tt)
+  tests_within e vs (both {l = l} {ws = ws} out left (compares o (named names is has) right less)) = all-append (λ w. Within w.0) ws _ (tests_within l ws left) ((_, has), tt)
 
   where_within : (test : Option Expr) (ws : List (ℕ × ℕ)) → IsWhere t test ws → AllByRecursion (λ w. Within w.0) ws
   where_within test ws all = tt
@@ -453,11 +502,11 @@ module _ (schema : Schema) (t : Table) (stands : Stands schema t) (simple : IsSi
   small' : nat_le (2 ^ 31) (tree_of schema t.name) ≡ false
   small' = lt-leb (2 ^ 31) (tree_of schema t.name) stands.stored
 
-  accepts : (d : Draft) (ws : List (ℕ × ℕ)) (shown : List Term) (order : List (Term × Key)) → d ≡ record (drafted (Inner (tree_of schema t.name) ∷ []) (wanted ws) shown) { order = order }
-      → are_tests [] slots (wanted ws) ≡ true → are_typed [] slots shown ≡ true → are_typed [] slots (map (λ (x : Term × Key). x.0) order) ≡ true
-      → program schema [] d ≡ Ok (record { lets = []; body = from_table (tree_of schema t.name) (wanted ws) shown order })
+  accepts : (d : Draft) (terms shown : List Term) (order : List (Term × Key)) → d ≡ record (drafted (Inner (tree_of schema t.name) ∷ []) terms shown) { order = order }
+      → are_tests [] slots terms ≡ true → are_typed [] slots shown ≡ true → are_typed [] slots (map (λ (x : Term × Key). x.0) order) ≡ true
+      → program schema [] d ≡ Ok (record { lets = []; body = from_table (tree_of schema t.name) terms shown order })
   unfolding program
-  accepts d ws shown order is a b c = rw is (rw (small', stands.has.found, a, b, c) refl)
+  accepts d terms shown order is a b c = rw is (rw (small', stands.has.found, a, b, c) refl)
 
   columns_same : (ks : List ℕ) → map (λ (o : Output). o.term) (map (out_at t) ks) ≡ columns_at ks
   columns_same [] = refl
@@ -469,14 +518,25 @@ module _ (schema : Schema) (t : Table) (stands : Stands schema t) (simple : IsSi
 
   -- ---- DELETE FROM t WHERE ..
 
-  pub delete_is : (text : List ℕ) (ws : List (ℕ × ℕ)) → IsDelete t text ws → Means schema text (command.Delete at (record { lets = []; body = from_table (tree_of schema t.name) (wanted ws) (col 1 0 ∷ []) [] }))
-  delete_is text ws (deletes {p = p} {test = test} parse is formats filter few) =
-      let x = tested [] false test ws filter few (fresh 2 max_budget) (lit≤ tt) in
-      let gone = deleted_as schema at its there no_key test x.after (wanted ws) x.is in
-      let none : deleted schema at its test ≡ Ok (drafted (Inner its.tree ∷ []) (wanted ws) (col 1 0 ∷ [])) = gone ∙ ap (λ steps. Ok (drafted (Inner its.tree ∷ steps) (wanted ws) (col 1 0 ∷ []))) x.follows.steps in
-      let typed = accepts _ ws (col 1 0 ∷ []) [] refl (all_tests ws (where_within test ws filter)) refl refl in
+  deletes_as : (text : List ℕ) (p : Parsed) (test : Option Expr) (terms : List Term) (cost : ℕ) → first text ≡ Ok p → p.statement ≡ written.Delete t.name test [] → p.formats ≡ [] → Tested [] false test terms cost (fresh 2 max_budget) → are_tests [] slots terms ≡ true
+      → Means schema text (command.Delete at (record { lets = []; body = from_table (tree_of schema t.name) terms (col 1 0 ∷ []) [] }))
+  deletes_as text p test terms cost parse is formats x typed_tests =
+      let gone = deleted_as schema at its there no_key test x.after terms x.is in
+      let none : deleted schema at its test ≡ Ok (drafted (Inner its.tree ∷ []) terms (col 1 0 ∷ [])) = gone ∙ ap (λ steps. Ok (drafted (Inner its.tree ∷ steps) terms (col 1 0 ∷ []))) x.follows.steps in
+      let typed = accepts _ terms (col 1 0 ∷ []) [] refl typed_tests refl refl in
       let means = delete_means schema p t.name test is formats at its _ _ stands.has.named there none typed text parse in
       record { is = ap command_of means; plain = subst IsPlain (sym means) (refl, refl) }
+
+  pub delete_is : (text : List ℕ) (ws : List (ℕ × ℕ)) → IsDelete t text ws → Means schema text (command.Delete at (record { lets = []; body = from_table (tree_of schema t.name) (wanted ws) (col 1 0 ∷ []) [] }))
+  delete_is text ws (deletes {p = p} {test = test} parse is formats filter few) =
+      deletes_as text p test (wanted ws) _ parse is formats (tested [] false test ws filter few (fresh 2 max_budget) (lit≤ tt)) (all_tests ws (where_within test ws filter))
+
+  pub delete_above_is : (text : List ℕ) (ws : List (ℕ × ℕ)) (w : ℕ × ℕ) → IsDeleteAbove t text ws w → Means schema text (command.Delete at (record { lets = []; body = from_table (tree_of schema t.name) (wanted_above ws w) (col 1 0 ∷ []) [] }))
+  delete_above_is text ws w (deletes {p = p} {e = e} parse is formats filter few) =
+      deletes_as text p (Some e) (wanted_above ws w) _ parse is formats (tested_above [] false e ws w filter few (fresh 2 max_budget) (lit≤ tt)) (typed filter)
+    where
+      typed : IsTestAbove t e ws w → are_tests [] slots (wanted_above ws w) ≡ true
+      typed (ends {l = l} out left (compares o (named names is has) right less)) = all_above ws w (tests_within l ws left) (_, has)
 
   -- ---- SELECT .. FROM t
 
@@ -502,7 +562,7 @@ module _ (schema : Schema) (t : Table) (stands : Stands schema t) (simple : IsSi
       let one : named_to schema core (out-Select q).order page ≡ Ok (draft, map (λ (o : Output). o.name) columns, map (λ (o : Output). o.carried.collation) columns) =
       named_as schema core (out-Select q).order page _ s3 s4 order whole frame.group frame.having frame.distinct aggregates z in
       let is_drafted : draft ≡ record (drafted (Inner (tree_of schema t.name) ∷ []) (wanted ws) shown) { order = order } = rw (idle, shown_is) refl in
-      let typed = accepts draft ws shown order is_drafted typed_tests typed_shown typed_order in
+      let typed = accepts draft (wanted ws) shown order is_drafted typed_tests typed_shown typed_order in
       let read : resolve_read schema q ≡ Ok (command.Select (record { lets = []; body = from_table (tree_of schema t.name) (wanted ws) shown order }) names) =
       read_as schema q core src t.name draft _ _ _ frame.bare frame.others frame.limit frame.offset frame.first_is frame.from frame.origin_is one typed
       ∙ ap (λ l. Ok (command.Select (record { lets = []; body = from_table (tree_of schema t.name) (wanted ws) shown order }) l)) names_are in

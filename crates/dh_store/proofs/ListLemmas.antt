@@ -1,15 +1,11 @@
--- Lists of records that stand at places under their hosts: what is put where it stands changes nothing, and what is dropped one by one.
-use Rattle.std.proofs.Common.{◌≡◌, ℕ, zero, suc, ◌+◌, ◌<◌, ◌⊎◌, inl, inr, Bool, true, false, not, ◌&&◌, ◌||◌, cond, true≢false, List, [], ◌∷◌, filter, drop, length, get_or, slice_get, Some, nat_eq, refl, sym, ap, ◌∙◌, subst, arith, Ordering, Less, Greater, is_eq, is_gt}
-use Rattle.std.specs.Prelude.{nat_lt}
-use Rattle.std.specs.List.{AllByRecursion, list_any}
+-- Lists of records that stand at places under their hosts: what is put where it stands changes nothing.
+use Rattle.std.proofs.Common.{◌≡◌, ℕ, zero, suc, ◌+◌, ◌<◌, ◌⊎◌, inl, inr, Bool, true, false, not, cond, true≢false, List, [], ◌∷◌, filter, drop, length, get_or, slice_get, Some, refl, sym, ap, ◌∙◌, subst, arith, Ordering, Less, Greater, is_eq, is_gt}
+use Rattle.std.specs.List.{AllByRecursion}
 use Rattle.std.specs.Ordering.{ordering_reverse}
-use Rattle.std.specs.Str.{bytes_eq}
-use Rattle.std.proofs.lemmas.Bool.{and_right}
-use Rattle.std.proofs.lemmas.Bool.Decides.{Decides-eqb}
 use Rattle.std.proofs.lemmas.Cmp.{tied_itself}
 use Rattle.sqlite_value.specs.Order.{Row}
 use Rattle.sqlite_keyed.specs.Lists.{insert_sorted}
-use Rattle.sqlite_keyed.proofs.ListLemmas.{all_weaker, filter_all, all_of}
+use Rattle.sqlite_keyed.proofs.ListLemmas.{all_weaker, filter_all}
 use Rattle.dh_rows.specs.Keyed.{by_key, same_key, added, put}
 use Rattle.dh_rows.proofs.Lists.{by_key_total}
 use Rattle.dh_records.specs.Constraints.{InOrder}
@@ -32,16 +28,11 @@ module _ {X : Type 0} where
   has_at (y ∷ ys) zero x e = inl (cc)
   has_at (y ∷ ys) (suc i) x e = inr (has_at ys i x e)
 
-  -- the one at an index that the list has, and what stands from there on
+  -- the one at an index that the list has
   pub got : (xs : List X) (i : ℕ) (x : X) → i < length xs → x ≡ get_or xs i x → slice_get xs i ≡ Some x
   got [] i x low e = absurd (omega arith)
   got (y ∷ xs) zero x low e = ap Some (sym e)
   got (y ∷ xs) (suc i) x low e = got xs i x (omega arith) e
-
-  pub left_from : (xs : List X) (i : ℕ) (x : X) → slice_get xs i ≡ Some x → drop i xs ≡ x ∷ drop (suc i) xs
-  left_from [] i x e = absurd (cc)
-  left_from (y ∷ xs) zero x e = let same : y ≡ x = cc in ap (λ z. z ∷ xs) same
-  left_from (y ∷ xs) (suc i) x e = left_from xs i x e
 
   pub has_kept : (p : X → Bool) (x : X) (xs : List X) → p x ≡ true → Has x xs → Has x (filter p xs)
   has_kept p x [] here has = absurd has
@@ -70,48 +61,6 @@ module _ {X : Type 0} where
       go true (inl same) more = inl same
       go true (inr has) more = inr (more has)
       go false has more = inr has
-
-  -- ---- tests
-
-  -- tests that agree on what stands in the list leave the same
-  same_kept : (p q : X → Bool) (xs : List X) → ((x : X) → Has x xs → p x ≡ q x) → filter p xs ≡ filter q xs
-  same_kept p q [] same = refl
-  same_kept p q (x ∷ xs) same =
-      ap (λ b. cond b (x ∷ filter p xs) (filter p xs)) (same x (inl refl))
-      ∙ ap (λ l. cond (q x) (x ∷ l) l) (same_kept p q xs (λ y has. same y (inr has)))
-
-  any_has : (p : X → Bool) (x : X) (xs : List X) → Has x xs → p x ≡ true → list_any p xs ≡ true
-  any_has p x [] has it = absurd has
-  any_has p x (y ∷ ys) has it = go (p y) refl has (λ more. any_has p x ys more it)
-    where
-      go : (b : Bool) → p y ≡ b → (y ≡ x) ⊎ Has x ys → (Has x ys → list_any p ys ≡ true) → (b || list_any p ys) ≡ true
-      go true e has more = refl
-      go false e (inl same) more = absurd (true≢false (sym it ∙ ap p (sym same) ∙ e))
-      go false e (inr has) more = more has
-
-  any_none : (p : X → Bool) (xs : List X) → ((x : X) → p x ≡ false) → list_any p xs ≡ false
-  any_none p [] none = refl
-  any_none p (x ∷ xs) none = ap (λ b. b || list_any p xs) (none x) ∙ any_none p xs none
-
-  -- what is dropped with each of a list
-  abbrev pub dropped_with : (X → X → Bool) → List X → List X → List X
-  dropped_with p [] xs = xs
-  dropped_with p (o ∷ os) xs = dropped_with p os (filter (λ x. not (p o x)) xs)
-
-  both_kept : (a b : X → Bool) (xs : List X) → filter (λ x. not (b x)) (filter (λ x. not (a x)) xs) ≡ filter (λ x. not (a x || b x)) xs
-  both_kept a b [] = refl
-  both_kept a b (x ∷ xs) = go (a x) (b x) refl (both_kept a b xs)
-    where
-      go : (m n : Bool) → b x ≡ n → filter (λ y. not (b y)) (filter (λ y. not (a y)) xs) ≡ filter (λ y. not (a y || b y)) xs
-          → filter (λ y. not (b y)) (cond (not m) (x ∷ filter (λ y. not (a y)) xs) (filter (λ y. not (a y)) xs))
-          ≡ cond (not (m || n)) (x ∷ filter (λ y. not (a y || b y)) xs) (filter (λ y. not (a y || b y)) xs)
-      go true n e more = more
-      go false true e more = rw e more
-      go false false e more = rw e (ap (λ l. x ∷ l) more)
-
-  with_any : (p : X → X → Bool) (os xs : List X) → dropped_with p os xs ≡ filter (λ x. not (list_any (λ o. p o x) os)) xs
-  with_any p [] xs = sym (filter_all (λ x. true) xs (all_of (λ x. true ≡ true) (λ x. refl) xs))
-  with_any p (o ∷ os) xs = with_any p os (filter (λ x. not (p o x)) xs) ∙ both_kept (p o) (λ x. list_any (λ o. p o x) os) xs
 
 -- ---- records in the order of their keys
 
@@ -150,55 +99,6 @@ module _ {X : Type 0} (host_of : X → List ℕ) (place_of : X → ℕ) where
   places_apart x o same low =
       ap is_eq ((by_key_total (place_key host_of place_of)).antisymm x o ∙ ap ordering_reverse (later_above host_of place_of o x same low))
 
-  module _ (host : List ℕ) (count : ℕ) where
-    abbrev is_own : X → Bool
-    is_own r = bytes_eq (host_of r) host
-
-    abbrev is_behind : X → Bool
-    is_behind r = is_own r && nat_lt count (place_of r)
-
-    -- what stands at the place of one that is behind
-    abbrev pub goes_with : X → X → Bool
-    goes_with o r = nat_lt count (place_of o) && (is_own r && nat_eq (place_of r) (place_of o))
-
-    none_there : (r o : X) → is_behind r ≡ false → goes_with o r ≡ false
-    none_there r o out = go (nat_eq (place_of r) (place_of o)) refl
-      where
-        go : (b : Bool) → nat_eq (place_of r) (place_of o) ≡ b → (nat_lt count (place_of o) && (is_own r && b)) ≡ false
-        go false e = ap (λ b. nat_lt count (place_of o) && b) (and_right (is_own r) false refl) ∙ and_right (nat_lt count (place_of o)) false refl
-        go true e =
-            let same : place_of r ≡ place_of o = (Decides-eqb (place_of r) (place_of o)).0 e in
-            turn (is_own r) (nat_lt count (place_of o)) (ap (λ n. is_own r && nat_lt count n) (sym same) ∙ out)
-          where
-            turn : (a b : Bool) → (a && b) ≡ false → (b && (a && true)) ≡ false
-            turn true true e = e
-            turn true false e = refl
-            turn false true e = refl
-            turn false false e = refl
-
-    itself : (r : X) → is_behind r ≡ true → goes_with r r ≡ true
-    itself r it = turn (is_own r) (nat_lt count (place_of r)) it
-      where
-        turn : (a b : Bool) → (a && b) ≡ true → (b && (a && nat_eq (place_of r) (place_of r))) ≡ true
-        turn true true e = (Decides-eqb (place_of r) (place_of r)).1 refl
-        turn true false e = e
-        turn false b e = absurd (true≢false (sym e))
-
-    own : (r : X) → is_behind r ≡ true → is_own r ≡ true
-    own r it = turn (is_own r) (nat_lt count (place_of r)) it
-      where
-        turn : (a b : Bool) → (a && b) ≡ true → a ≡ true
-        turn true b e = refl
-        turn false b e = e
-
-    -- with each record of the host that is behind goes what stands at its place: those that are behind
-    pub all_behind : (rows : List X) → dropped_with goes_with (filter is_own rows) rows ≡ filter (λ r. not (is_behind r)) rows
-    all_behind rows = with_any goes_with (filter is_own rows) rows ∙ same_kept _ _ rows (λ r has. ap not (any r has (is_behind r) refl))
-      where
-        any : (r : X) → Has r rows → (b : Bool) → is_behind r ≡ b → list_any (λ o. goes_with o r) (filter is_own rows) ≡ is_behind r
-        any r has true e = any_has (λ o. goes_with o r) r (filter is_own rows) (has_kept is_own r rows (own r e) has) (itself r e) ∙ sym e
-        any r has false e = any_none (λ o. goes_with o r) (filter is_own rows) (λ o. none_there r o e) ∙ sym e
-
 -- ---- the next of a list at places
 
 pub next_placed : {X V : Type 0} (row : ℕ → V → X) (n i : ℕ) (vs : List V) (v : V) → slice_get vs i ≡ Some v → drop i (placed row n vs) ≡ row (n + i) v ∷ drop (suc i) (placed row n vs)
@@ -206,7 +106,3 @@ next_placed row n i [] v e = absurd (cc)
 next_placed row n zero (w ∷ vs) v e = let same : w ≡ v = cc in ap (λ z. row n z ∷ placed row (n + 1) vs) same ∙ ap (λ m. row m v ∷ placed row (n + 1) vs) (omega arith)
 next_placed {X} {V} row n (suc i) (w ∷ vs) v e =
     next_placed row (n + 1) i vs v e ∙ ap (λ m. row m v ∷ drop (suc i) (placed row (n + 1) vs)) (omega arith)
-
-pub length_placed : {X V : Type 0} (row : ℕ → V → X) (n : ℕ) (vs : List V) → length (placed row n vs) ≡ length vs
-length_placed row n [] = refl
-length_placed row n (v ∷ vs) = ap suc (length_placed row (n + 1) vs)

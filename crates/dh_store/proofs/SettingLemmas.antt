@@ -1,18 +1,16 @@
 -- Lists in order that are set: those behind the last are dropped, and the others put where they do not stand.
-use Rattle.std.proofs.Common.{◌≡◌, ℕ, suc, ◌+◌, ◌<◌, ◌≤◌, Bool, true, false, not, ◌&&◌, Result, Ok, List, [], ◌∷◌, filter, drop, length, slice_get, nat_eq, Option, Some, None, refl, sym, ap, ap₂, ◌∙◌, subst, arith, ltb-true}
+use Rattle.std.proofs.Common.{◌≡◌, ℕ, suc, ◌+◌, ◌<◌, ◌≤◌, Bool, true, not, ◌&&◌, Result, Ok, List, [], ◌∷◌, filter, drop, length, slice_get, Option, Some, None, refl, sym, ap, ap₂, ◌∙◌, subst, arith}
 use Rattle.std.specs.Prelude.{nat_lt}
 use Rattle.std.specs.Option.{option_map}
 use Rattle.std.specs.Str.{bytes_eq}
-use Rattle.std.proofs.lemmas.Bool.{and_right, false_from_ne_true, lt-ltb, le-ltb}
 use Rattle.std.proofs.lemmas.Slice.Eq.{bytes_eq-Decides}
-use Rattle.sqlite_keyed.proofs.ListLemmas.{filter_all, all_of}
 use Rattle.sqlite_trees.specs.declared.store.Store.{Ghosts}
 use Rattle.sqlite.specs.Held.{Held}
 use Rattle.sqlite_value.specs.Order.{Row}
 use Rattle.dh_lookup.specs.declared.fault.Fault.{Fault}
 use Rattle.dh_rules.specs.declared.rule.Rule.{Rule}
 use Rattle.dh_redirects.specs.declared.redirect.Redirect.{Redirect}
-use Rattle.dh_rows.specs.Calls.{IsHonest, Goes, seen}
+use Rattle.dh_rows.specs.Calls.{IsHonest, seen}
 use Rattle.dh_rows.specs.Keyed.{put}
 use Rattle.dh_records.specs.Constraints.{InOrder}
 use Rattle.dh_records.specs.Lists.{Lists, placed, put_all, rule_row, redirect_row}
@@ -20,11 +18,11 @@ use Rattle.dh_records.specs.declared.records.RuleRow.{RuleRow}
 use Rattle.dh_records.specs.declared.records.RedirectRow.{RedirectRow}
 use Rattle.dh_records.proofs.KeyLemmas.{place_key}
 use Rattle.dh_records.proofs.OrderLemmas.{put_in_order}
-use Rattle.dh_records.proofs.PlaceLemmas.{commuted}
+use Rattle.dh_records.proofs.PlaceLemmas.{count_placed}
 use Rattle.dh_schema.specs.Calling.{Asks, Writes, WritesWithin}
 use Rattle.dh_schema.specs.Tables.{lists_of}
-use Rattle.dh_store.proofs.ListLemmas.{Has, has_at, has_back, has_kept, has_put, put_there, places_apart, goes_with, dropped_with, all_behind, next_placed, length_placed}
-use Rattle.dh_store.proofs.TurnLemmas.{AreMade, made_of, none_made, one_made, more_goes, still_within, all_made, within_one, makes_nothing, same_change, after_look, in_turn}
+use Rattle.dh_store.proofs.ListLemmas.{Has, has_at, has_back, has_put, put_there, places_apart, next_placed}
+use Rattle.dh_store.proofs.TurnLemmas.{AreMade, made_of, none_made, one_made, still_within, all_made, within_one, makes_nothing, same_change, after_look, in_turn}
 
 -- a list in order of each host: where its records stand among the lists, and what each is
 pub record Listing (X V : Type 0) : Type 0 where
@@ -83,61 +81,6 @@ module _ {S : Type 0} (g : Ghosts S) {X V : Type 0} (l : Listing X V) (host : Li
   abbrev is_behind : ℕ → X → Bool
   is_behind count r = is_own r && nat_lt count (l.place_of r)
 
-  -- ---- those behind are dropped
-
-  module _ (count : ℕ) where
-    abbrev pub drop_one : X → Lists → Lists
-    drop_one o lists = l.with (filter (λ r. not (goes_with l.host_of l.place_of host count o r)) (l.part lists)) lists
-
-    all_dropped : (os : List X) (lists : Lists) → made_of drop_one os lists ≡ l.with (dropped_with (goes_with l.host_of l.place_of host count) os (l.part lists)) lists
-    all_dropped [] lists = sym (l.as_it_is lists)
-    all_dropped (o ∷ os) lists =
-        let rest : List X = filter (λ r. not (goes_with l.host_of l.place_of host count o r)) (l.part lists) in
-        all_dropped os (drop_one o lists)
-        ∙ ap (λ rows. l.with (dropped_with (goes_with l.host_of l.place_of host count) os rows) (drop_one o lists)) (l.part_is rest lists)
-        ∙ l.twice rest _ lists
-
-    -- those of the first i records that are behind are dropped
-    abbrev pub AreDropped : List X → Held S → Held S → ℕ → Type 0
-    AreDropped rows old = AreMade g drop_one rows old
-
-    pub none_dropped : (rows : List X) (old : Held S) → AreDropped rows old old 0
-    none_dropped rows old = none_made g drop_one rows old
-
-    pub dropping_goes : (rows : List X) (old now next : Held S) (i : ℕ) → AreDropped rows old now i → Goes g now next → Goes g old next
-    dropping_goes rows old now next i had = more_goes g drop_one rows old now next i had
-
-    pub within_drops : (rows : List X) (old : Held S) → (IsHonest g old → old.in_transaction ≡ true) → (now : Held S) (i : ℕ) → AreDropped rows old now i → IsHonest g now → now.in_transaction ≡ true
-    within_drops rows old within = still_within g drop_one rows old within
-
-    module _ (rows : List X) (old : Held S) (within : IsHonest g old → old.in_transaction ≡ true) where
-      module _ (now next : Held S) (i : ℕ) (had : AreDropped rows old now i) (o : X) (at : drop i rows ≡ o ∷ drop (suc i) rows) where
-        pub one_dropped : count < l.place_of o → Writes g now next (Ok (tt {0})) (λ lists. l.with (filter (λ r. not (is_own r && nat_eq (l.place_of r) (l.place_of o))) (l.part lists)) lists) → AreDropped rows old next (i + 1)
-        one_dropped behind it =
-            one_made g drop_one rows old now next i had o at
-            (subst (λ (b : Bool). WritesWithin g now next (Ok (tt {0})) (λ lists. l.with (filter (λ r. not (b && (is_own r && nat_eq (l.place_of r) (l.place_of o)))) (l.part lists)) lists)) (sym (lt-ltb _ _ behind))
-            (within_one g it (still_within g drop_one rows old within now i had)))
-
-      pub one_left : (now : Held S) (i : ℕ) → AreDropped rows old now i → (o : X) → drop i rows ≡ o ∷ drop (suc i) rows → l.place_of o ≤ count → AreDropped rows old now (i + 1)
-      one_left now i had o at front =
-          one_made g drop_one rows old now now i had o at
-          (makes_nothing g now (drop_one o) (still_within g drop_one rows old within now i had) (λ honest. stays (seen g lists_of now)))
-        where
-          stays : (lists : Lists) → drop_one o lists ≡ lists
-          stays lists =
-              ap (λ b. l.with (filter (λ r. not (b && (is_own r && nat_eq (l.place_of r) (l.place_of o)))) (l.part lists)) lists) (le-ltb _ _ front)
-              ∙ ap (λ rs. l.with rs lists) (filter_all (λ r. true) (l.part lists) (all_of (λ r. true ≡ true) (λ r. refl) (l.part lists)))
-              ∙ l.as_it_is lists
-
-      pub all_gone : (IsHonest g old → rows ≡ filter is_own (l.part (seen g lists_of old))) → (now : Held S) (i : ℕ) → length rows ≤ i → AreDropped rows old now i
-          → WritesWithin g old now (Ok (tt {0})) (λ lists. l.with (filter (λ r. not (is_behind count r)) (l.part lists)) lists)
-      all_gone all now i past had =
-          same_change g (λ honest.
-          all_dropped rows (seen g lists_of old)
-          ∙ ap (λ os. l.with (dropped_with (goes_with l.host_of l.place_of host count) os (l.part (seen g lists_of old))) (seen g lists_of old)) (all honest)
-          ∙ ap (λ rs. l.with rs (seen g lists_of old)) (all_behind l.host_of l.place_of host count (l.part (seen g lists_of old))))
-          (all_made g drop_one rows old within now i past had)
-
   -- ---- the others are put
 
   abbrev pub put_one : X → Lists → Lists
@@ -156,14 +99,12 @@ module _ {S : Type 0} (g : Ghosts S) {X V : Type 0} (l : Listing X V) (host : Li
       pub order : IsHonest g now → InOrder key (l.part (seen g lists_of now))
       pub there : IsHonest g now → (j : ℕ) → i ≤ j → j < length vs → (o : X) → slice_get rows j ≡ Some o → l.place_of o ≡ j + 1 → (l.host_of o ≡ host) × Has o (l.part (seen g lists_of now))
 
-    pub none_set : (IsHonest g old → InOrder key (l.part (seen g lists_of old))) → (IsHonest g old → filter (λ r. not (is_behind (length vs) r)) rows ≡ filter is_own (l.part (seen g lists_of old))) → AreSet old 0
+    pub none_set : (IsHonest g old → InOrder key (l.part (seen g lists_of old))) → (IsHonest g old → rows ≡ filter is_own (l.part (seen g lists_of old))) → AreSet old 0
     none_set order all = record {
       made = none_made g put_one (placed (l.row host) 1 vs) old;
       order = order;
       there = λ honest j from low o at place.
-          let near : nat_lt (length vs) (l.place_of o) ≡ false = false_from_ne_true _ (λ e. let far = ltb-true _ _ e in omega arith) in
-          let front : not (is_behind (length vs) o) ≡ true = ap (λ b. not (is_own o && b)) near ∙ ap not (and_right (is_own o) false refl) in
-          let mine = has_back is_own o (l.part (seen g lists_of old)) (subst (Has o) (all honest) (has_kept (λ r. not (is_behind (length vs) r)) o rows front (has_at rows j o at))) in
+          let mine = has_back is_own o (l.part (seen g lists_of old)) (subst (Has o) (all honest) (has_at rows j o at)) in
           ((bytes_eq-Decides (l.host_of o) host).0 mine.1, mine.0);
     }
 
@@ -206,28 +147,19 @@ module _ {S : Type 0} (g : Ghosts S) {X V : Type 0} (l : Listing X V) (host : Li
     pub all_set : (IsHonest g old → old.in_transaction ≡ true) → (now : Held S) (i : ℕ) → length vs ≤ i → AreSet now i
         → WritesWithin g old now (Ok (tt {0})) (λ lists. l.with (put_all key (placed (l.row host) 1 vs) (l.part lists)) lists)
     all_set within now i past had =
-        let many = length_placed (l.row host) 1 vs in
+        let many = count_placed (l.row host) 1 vs in
         same_change g (λ honest. all_put (placed (l.row host) 1 vs) (seen g lists_of old))
         (all_made g put_one (placed (l.row host) 1 vs) old within now i (omega (arith, many, past)) had.made)
 
-  -- ---- both, after a look
+  -- ---- those behind are dropped, and after a look the others are put
 
-  module _ (vs : List V) (rows : List X) (old middle dropped : Held S) where
-    -- the records that are left of those that were read
-    pub left_over : (IsHonest g middle → rows ≡ filter is_own (l.part (seen g lists_of middle)))
-        → WritesWithin g middle dropped (Ok (tt {0})) (λ lists. l.with (filter (λ r. not (is_behind (length vs) r)) (l.part lists)) lists)
-        → IsHonest g dropped → filter (λ r. not (is_behind (length vs) r)) rows ≡ filter is_own (l.part (seen g lists_of dropped))
-    left_over all it honest =
-        let was = it.goes.lasts.was honest in
-        let rest = filter (λ r. not (is_behind (length vs) r)) (l.part (seen g lists_of middle)) in
-        ap (filter (λ r. not (is_behind (length vs) r))) (all was)
-        ∙ commuted (λ r. not (is_behind (length vs) r)) is_own (l.part (seen g lists_of middle))
-        ∙ ap (filter is_own) (sym (ap l.part (it.sees.now_is honest) ∙ l.part_is rest (seen g lists_of middle)))
+  module _ (vs : List V) (old dropped middle new : Held S) (r : Result (Unit {0}) Fault) where
+    abbrev kept : Lists → List X
+    kept lists = filter (λ r. not (is_behind (length vs) r)) (l.part lists)
 
-    pub set_after : (new : Held S) (r : Result (Unit {0}) Fault) {T : Type 0} (read : T) → Asks g old middle (Ok read)
-        → WritesWithin g middle dropped (Ok (tt {0})) (λ lists. l.with (filter (λ r. not (is_behind (length vs) r)) (l.part lists)) lists)
-        → WritesWithin g dropped new r (λ lists. l.with (put_all key (placed (l.row host) 1 vs) (l.part lists)) lists)
-        → WritesWithin g old new r (λ lists. l.with (put_all key (placed (l.row host) 1 vs) (l.part (l.with (filter (λ r. not (is_behind (length vs) r)) (l.part lists)) lists))) (l.with (filter (λ r. not (is_behind (length vs) r)) (l.part lists)) lists))
-    set_after new r read look gone it =
-        after_look g old middle new r read _ look
-        (in_turn g middle dropped new r (λ lists. l.with (filter (λ r. not (is_behind (length vs) r)) (l.part lists)) lists) (λ lists. l.with (put_all key (placed (l.row host) 1 vs) (l.part lists)) lists) gone it)
+    pub set_after : (IsHonest g old → old.in_transaction ≡ true) → {T : Type 0} (read : T) → Writes g old dropped (Ok (tt {0})) (λ lists. l.with (kept lists) lists) → Asks g dropped middle (Ok read)
+        → WritesWithin g middle new r (λ lists. l.with (put_all key (placed (l.row host) 1 vs) (l.part lists)) lists)
+        → WritesWithin g old new r (λ lists. l.with (put_all key (placed (l.row host) 1 vs) (l.part (l.with (kept lists) lists))) (l.with (kept lists) lists))
+    set_after within read gone look it =
+        in_turn g old dropped new r (λ lists. l.with (kept lists) lists) (λ lists. l.with (put_all key (placed (l.row host) 1 vs) (l.part lists)) lists)
+        (within_one g gone within) (after_look g dropped middle new r read _ look it)

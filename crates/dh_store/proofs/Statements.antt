@@ -1,5 +1,5 @@
 -- What our statements ask and do.
-use Rattle.std.proofs.Common.{◌≡◌, ℕ, ℤ, pos, List, [], ◌∷◌, map, filter, nat_eq, not, codes, Some, refl, subst, ◌∙◌}
+use Rattle.std.proofs.Common.{◌≡◌, ℕ, ℤ, pos, List, [], ◌∷◌, map, filter, nat_lt, not, codes, Some, refl, subst, ◌∙◌}
 use Rattle.std.specs.List.{AllByRecursion}
 use Rattle.std.specs.Str.{bytes_eq}
 use Rattle.sqlite_value.specs.declared.value.Value.TheVariants.{Null, Int, Text}
@@ -12,8 +12,8 @@ use Rattle.sqlite.specs.Effect.{Database}
 use Rattle.sqlite.specs.State.{State}
 use Rattle.dh_rows.specs.Keyed.{IsFreeKey, added, put, flag}
 use Rattle.dh_rows.proofs.Effects.{Turns}
-use Rattle.dh_rows.proofs.Read.{delete_of, select_of, parameters_in, insert_of}
-use Rattle.dh_rows.proofs.Asks.{Writes, Answers, delete, insert, upsert, select}
+use Rattle.dh_rows.proofs.Read.{delete_of, delete_above_of, select_of, parameters_in, insert_of}
+use Rattle.dh_rows.proofs.Asks.{Writes, Answers, delete, delete_above, insert, upsert, select}
 use Rattle.dh_rows.proofs.Equal.{tied_is, alike_text, alike_int, equal_text as same_text, equal_int as same_int}
 use Rattle.dh_rows.proofs.Upsert.{IsUpsert, puts, IsKeyOf, Fits}
 use Rattle.dh_records.specs.declared.records.ProjectRow.{ProjectRow}
@@ -31,9 +31,9 @@ use Rattle.dh_world.specs.World.{is_upload}
 use Rattle.dh_records.specs.Typed.{IsProject, IsLanguage, IsVersion, IsPage, IsUsed, IsPick, IsPass, IsHeld, IsRule, IsRedirect}
 use Rattle.dh_records.specs.Codings.{projects, langs, versions, pages, used, picks, passes, held, rules, redirects}
 use Rattle.dh_schema.specs.Tables.{Holds, lists_of, project_table, lang_table, version_table, page_table, used_table, pick_table, pass_table, holds_table, rule_table, redirect_table}
-use Rattle.dh_records.specs.Lists.{is_project, is_lang_of, is_version_of, is_version, is_page_of, is_page_in, is_page, is_used, same_op, is_pick_of, is_pass_of, is_pass, is_held, is_held_by, is_held_on, is_rule_of, is_rule, is_redirect_of, is_redirect}
+use Rattle.dh_records.specs.Lists.{is_project, is_lang_of, is_version_of, is_version, is_page_of, is_page_in, is_page, is_used, same_op, is_pick_of, is_pass_of, is_pass, is_held, is_held_by, is_held_on, is_rule_of, is_rule_behind, is_redirect_of, is_redirect_behind}
 use Rattle.dh_store.proofs.Kept.{all_kept, all_added, all_put}
-use Rattle.dh_store.proofs.Matching.{equal_text, equal_place, equal_op}
+use Rattle.dh_store.proofs.Matching.{equal_text, above_place, equal_op}
 use Rattle.dh_opening.specs.Columns.{project_simple, project_plain, project_back, lang_simple, lang_plain, lang_back, version_simple, version_plain, version_back, page_simple, page_plain, page_back, used_simple, used_plain, used_back, pick_simple, pick_plain, pick_back, pass_simple, pass_plain, pass_back, holds_simple, holds_plain, holds_back, rule_simple, rule_plain, rule_back, redirect_simple, redirect_plain, redirect_back}
 use Rattle.dh_records.proofs.Keys.{one, two, three, four}
 use Rattle.dh_schema.proofs.CallLemmas.{Changed}
@@ -610,19 +610,19 @@ pub put_rule_changes : (s : State) → Holds s.now → (x : RuleRow) → IsRule 
     → Changed s.now after (λ l. record l { rules = put rules.key x l.rules })
 put_rule_changes s had x typed after it = rule_changed s.now after (put rules.key x) (all_put IsRule rules.key x typed) had ((put_rule_writes s had x).turns after it)
 
-abbrev pub drop_rule_text : List ℕ
-drop_rule_text = codes "DELETE FROM rule WHERE host = ?1 AND place = ?2"
+abbrev pub drop_rules_behind_text : List ℕ
+drop_rules_behind_text = codes "DELETE FROM rule WHERE host = ?1 AND place > ?2"
 
-drop_rule_read : delete_of rule_table drop_rule_text ≡ Some ((0, 0) ∷ (1, 1) ∷ [])
+drop_rules_behind_read : delete_above_of rule_table drop_rules_behind_text ≡ Some ((0, 0) ∷ [], (1, 1))
 unfolding everything
-drop_rule_read = refl
+drop_rules_behind_read = refl
 
-pub drop_rule_writes : (s : State) → Holds s.now → (host : List ℕ) (place : ℕ) → Writes s drop_rule_text (Text host ∷ Int (pos place) ∷ []) rule_table rules (filter (λ x. not (is_rule host place x)))
-drop_rule_writes s had host place = delete rule_table rule_simple rule_plain rules s had.rules drop_rule_text _ drop_rule_read _ (is_rule host place) (λ n x. rw (equal_text x.host host, equal_place x.place place) (two (bytes_eq x.host host) (nat_eq x.place place)))
+pub drop_rules_behind_writes : (s : State) → Holds s.now → (host : List ℕ) (count : ℕ) → Writes s drop_rules_behind_text (Text host ∷ Int (pos count) ∷ []) rule_table rules (filter (λ x. not (is_rule_behind host count x)))
+drop_rules_behind_writes s had host count = delete_above rule_table rule_simple rule_plain rules s had.rules drop_rules_behind_text _ _ drop_rules_behind_read _ (is_rule_behind host count) (λ n x. rw (equal_text x.host host, above_place x.place count) (two (bytes_eq x.host host) (nat_lt count x.place)))
 
-pub drop_rule_changes : (s : State) → Holds s.now → (host : List ℕ) (place : ℕ) → (after : Database) → Rattle.dh_rows.specs.Calls.Edits s drop_rule_text (Text host ∷ Int (pos place) ∷ []) after
-    → Changed s.now after (λ l. record l { rules = filter (λ x. not (is_rule host place x)) l.rules })
-drop_rule_changes s had host place after it = rule_changed s.now after (filter (λ x. not (is_rule host place x))) (all_kept IsRule _) had ((drop_rule_writes s had host place).turns after it)
+pub drop_rules_behind_changes : (s : State) → Holds s.now → (host : List ℕ) (count : ℕ) → (after : Database) → Rattle.dh_rows.specs.Calls.Edits s drop_rules_behind_text (Text host ∷ Int (pos count) ∷ []) after
+    → Changed s.now after (λ l. record l { rules = filter (λ x. not (is_rule_behind host count x)) l.rules })
+drop_rules_behind_changes s had host count after it = rule_changed s.now after (filter (λ x. not (is_rule_behind host count x))) (all_kept IsRule _) had ((drop_rules_behind_writes s had host count).turns after it)
 
 -- ---- redirects
 
@@ -675,16 +675,16 @@ pub put_redirect_changes : (s : State) → Holds s.now → (x : RedirectRow) →
     → Changed s.now after (λ l. record l { redirects = put redirects.key x l.redirects })
 put_redirect_changes s had x typed after it = redirect_changed s.now after (put redirects.key x) (all_put IsRedirect redirects.key x typed) had ((put_redirect_writes s had x).turns after it)
 
-abbrev pub drop_redirect_text : List ℕ
-drop_redirect_text = codes "DELETE FROM redirect WHERE host = ?1 AND place = ?2"
+abbrev pub drop_redirects_behind_text : List ℕ
+drop_redirects_behind_text = codes "DELETE FROM redirect WHERE host = ?1 AND place > ?2"
 
-drop_redirect_read : delete_of redirect_table drop_redirect_text ≡ Some ((0, 0) ∷ (1, 1) ∷ [])
+drop_redirects_behind_read : delete_above_of redirect_table drop_redirects_behind_text ≡ Some ((0, 0) ∷ [], (1, 1))
 unfolding everything
-drop_redirect_read = refl
+drop_redirects_behind_read = refl
 
-pub drop_redirect_writes : (s : State) → Holds s.now → (host : List ℕ) (place : ℕ) → Writes s drop_redirect_text (Text host ∷ Int (pos place) ∷ []) redirect_table redirects (filter (λ x. not (is_redirect host place x)))
-drop_redirect_writes s had host place = delete redirect_table redirect_simple redirect_plain redirects s had.redirects drop_redirect_text _ drop_redirect_read _ (is_redirect host place) (λ n x. rw (equal_text x.host host, equal_place x.place place) (two (bytes_eq x.host host) (nat_eq x.place place)))
+pub drop_redirects_behind_writes : (s : State) → Holds s.now → (host : List ℕ) (count : ℕ) → Writes s drop_redirects_behind_text (Text host ∷ Int (pos count) ∷ []) redirect_table redirects (filter (λ x. not (is_redirect_behind host count x)))
+drop_redirects_behind_writes s had host count = delete_above redirect_table redirect_simple redirect_plain redirects s had.redirects drop_redirects_behind_text _ _ drop_redirects_behind_read _ (is_redirect_behind host count) (λ n x. rw (equal_text x.host host, above_place x.place count) (two (bytes_eq x.host host) (nat_lt count x.place)))
 
-pub drop_redirect_changes : (s : State) → Holds s.now → (host : List ℕ) (place : ℕ) → (after : Database) → Rattle.dh_rows.specs.Calls.Edits s drop_redirect_text (Text host ∷ Int (pos place) ∷ []) after
-    → Changed s.now after (λ l. record l { redirects = filter (λ x. not (is_redirect host place x)) l.redirects })
-drop_redirect_changes s had host place after it = redirect_changed s.now after (filter (λ x. not (is_redirect host place x))) (all_kept IsRedirect _) had ((drop_redirect_writes s had host place).turns after it)
+pub drop_redirects_behind_changes : (s : State) → Holds s.now → (host : List ℕ) (count : ℕ) → (after : Database) → Rattle.dh_rows.specs.Calls.Edits s drop_redirects_behind_text (Text host ∷ Int (pos count) ∷ []) after
+    → Changed s.now after (λ l. record l { redirects = filter (λ x. not (is_redirect_behind host count x)) l.redirects })
+drop_redirects_behind_changes s had host count after it = redirect_changed s.now after (filter (λ x. not (is_redirect_behind host count x))) (all_kept IsRedirect _) had ((drop_redirects_behind_writes s had host count).turns after it)

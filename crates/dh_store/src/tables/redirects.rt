@@ -77,37 +77,17 @@ impl<S: Alter> Tables<S> {
         )
     }
 
-    /// Removes the redirect at a place. The others keep their places.
-    fn drop_redirect(&mut self, host: &HostName, place: u32) -> Result<(), Fault>
+    /// Removes the redirects of a project that stand behind the first so many.
+    fn drop_redirects_behind(&mut self, host: &HostName, count: usize) -> Result<(), Fault>
         ensures writes { Writes S.Store self.old self.new result
-            (change.drop_redirect host.now place) }
-    {
-        let sql = "DELETE FROM redirect WHERE host = ?1 AND place = ?2";
-        write(&mut self.conn, sql, params![host.as_str(), place])
-    }
-
-    /// Removes those of the redirects that a project has which stand behind the first so many.
-    fn drop_redirects_behind(
-        &mut self,
-        host: &HostName,
-        count: usize,
-        rows: &[RedirectRow],
-    ) -> Result<(), Fault>
-        requires within { IsHonest S.Store self.old → self.old.in_transaction ≡ true }
-        requires all { IsHonest S.Store self.old → rows.now
-            ≡ filter (spec.is_redirect_of host.now) (seen S.Store lists_of self.old).redirects }
-        ensures writes { WritesWithin S.Store self.old self.new result
             (change.drop_redirects_behind host.now count) }
     {
-        for row in rows {
-            if row.place as usize > count {
-                self.drop_redirect(host, row.place)?;
-            }
-        }
-        Ok(())
+        let count = as_place(count)?;
+        let sql = "DELETE FROM redirect WHERE host = ?1 AND place > ?2";
+        write(&mut self.conn, sql, params![host.as_str(), count])
     }
 
-    /// Puts redirects at their places, but for those that stand there: the project's are the first so many of these records.
+    /// Puts redirects at their places, but for those that stand there, of these records of the project.
     fn put_redirects(
         &mut self,
         alloc: Global,
@@ -116,8 +96,7 @@ impl<S: Alter> Tables<S> {
         rows: &[RedirectRow],
     ) -> Result<(), Fault>
         requires within { IsHonest S.Store self.old → self.old.in_transaction ≡ true }
-        requires all { IsHonest S.Store self.old
-            → filter (λ r. not (spec.is_redirect_behind host.now (length redirects.now) r)) rows.now
+        requires all { IsHonest S.Store self.old → rows.now
             ≡ filter (spec.is_redirect_of host.now) (seen S.Store lists_of self.old).redirects }
         ensures writes { WritesWithin S.Store self.old self.new result
             (λ l. record l {
@@ -147,8 +126,8 @@ impl<S: Alter> Tables<S> {
         ensures writes { WritesWithin S.Store self.old self.new result
             (change.set_redirects host.now redirects.now) }
     {
+        self.drop_redirects_behind(host, redirects.len())?;
         let rows = self.redirects(alloc, host)?;
-        self.drop_redirects_behind(host, redirects.len(), rows.as_slice())?;
         self.put_redirects(alloc, host, redirects, rows.as_slice())
     }
 }

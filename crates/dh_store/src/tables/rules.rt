@@ -69,37 +69,17 @@ impl<S: Alter> Tables<S> {
         )
     }
 
-    /// Removes the rule at a place. The others keep their places.
-    fn drop_rule(&mut self, host: &HostName, place: u32) -> Result<(), Fault>
+    /// Removes the rules of a project that stand behind the first so many.
+    fn drop_rules_behind(&mut self, host: &HostName, count: usize) -> Result<(), Fault>
         ensures writes { Writes S.Store self.old self.new result
-            (change.drop_rule host.now place) }
-    {
-        let sql = "DELETE FROM rule WHERE host = ?1 AND place = ?2";
-        write(&mut self.conn, sql, params![host.as_str(), place])
-    }
-
-    /// Removes those of the rules that a project has which stand behind the first so many.
-    fn drop_rules_behind(
-        &mut self,
-        host: &HostName,
-        count: usize,
-        rows: &[RuleRow],
-    ) -> Result<(), Fault>
-        requires within { IsHonest S.Store self.old → self.old.in_transaction ≡ true }
-        requires all { IsHonest S.Store self.old → rows.now
-            ≡ filter (spec.is_rule_of host.now) (seen S.Store lists_of self.old).rules }
-        ensures writes { WritesWithin S.Store self.old self.new result
             (change.drop_rules_behind host.now count) }
     {
-        for row in rows {
-            if row.place as usize > count {
-                self.drop_rule(host, row.place)?;
-            }
-        }
-        Ok(())
+        let count = as_place(count)?;
+        let sql = "DELETE FROM rule WHERE host = ?1 AND place > ?2";
+        write(&mut self.conn, sql, params![host.as_str(), count])
     }
 
-    /// Puts rules at their places, but for those that stand there: the project's are the first so many of these records.
+    /// Puts rules at their places, but for those that stand there, of these records of the project.
     fn put_rules(
         &mut self,
         alloc: Global,
@@ -108,8 +88,7 @@ impl<S: Alter> Tables<S> {
         rows: &[RuleRow],
     ) -> Result<(), Fault>
         requires within { IsHonest S.Store self.old → self.old.in_transaction ≡ true }
-        requires all { IsHonest S.Store self.old
-            → filter (λ r. not (spec.is_rule_behind host.now (length rules.now) r)) rows.now
+        requires all { IsHonest S.Store self.old → rows.now
             ≡ filter (spec.is_rule_of host.now) (seen S.Store lists_of self.old).rules }
         ensures writes { WritesWithin S.Store self.old self.new result
             (λ l. record l {
@@ -134,8 +113,8 @@ impl<S: Alter> Tables<S> {
         ensures writes { WritesWithin S.Store self.old self.new result
             (change.set_rules host.now rules.now) }
     {
+        self.drop_rules_behind(host, rules.len())?;
         let rows = self.rules(alloc, host)?;
-        self.drop_rules_behind(host, rules.len(), rows.as_slice())?;
         self.put_rules(alloc, host, rules, rows.as_slice())
     }
 }

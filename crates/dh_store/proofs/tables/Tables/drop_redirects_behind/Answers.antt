@@ -1,20 +1,19 @@
-use Rattle.std.proofs.Common.{arith}
-use Rattle.dh_store.proofs.ListLemmas.{got, left_from}
-use Rattle.dh_store.proofs.SettingLemmas.{of_redirects, one_dropped, one_left, all_gone}
+use Rattle.sqlite.specs.Held.{state}
+use Rattle.dh_schema.proofs.CallLemmas.{wrote, written_ours}
+use Rattle.std.proofs.Common.{pos, filter, not, [], ◌∷◌}
+use Rattle.sqlite_value.specs.declared.value.Value.TheVariants.{Int, Text}
+use Rattle.dh_records.specs.Lists.{is_redirect_behind}
+use Rattle.dh_store.proofs.Statements.{drop_redirects_behind_text, drop_redirects_behind_writes, drop_redirects_behind_changes}
 use Rattle.dh_store.proofs.tables.Tables.drop_redirects_behind.Goals as goal
-use Rattle.dh_store.proofs.tables.Tables.drop_redirects_behind.Goals.{then-row-count+in_ok-drop_redirect, else-row-count}
 
-pub loop-row-preserved : goal.loop-row-preserved
-loop-row-preserved g c =
-    let at = left_from c.args.rows.now c.loop-row.row-index c.row-item.result (got c.args.rows.now c.loop-row.row-index c.row-item.result c.loop-row-test.true c.row-item.is) in
-    elim c.if-row-count.branch [
-      | then-row-count+in_ok-drop_redirect w ↦
-          rw w.self-is (one_dropped g.S.Store of_redirects c.args.host.now c.args.count c.args.rows.now c.args.self.now c.requires.within c.loop-row.self w.drop_redirect.new.self c.loop-row.row-index c.loop-row.invariant c.row-item.result at w.if-row-count.true w.in_ok-drop_redirect.ensures.writes)
-      | else-row-count w ↦
-          rw w.self-is (one_left g.S.Store of_redirects c.args.host.now c.args.count c.args.rows.now c.args.self.now c.requires.within c.loop-row.self c.loop-row.row-index c.loop-row.invariant c.row-item.result at (let near = w.if-row-count.false in omega arith))
-    ]
+pub write-requires-clause-plain : goal.write-requires-clause-plain
+write-requires-clause-plain g c honest = (drop_redirects_behind_writes (state g.S.Store c.self.inside.conn) (c.self.invariant honest.0 honest.1).now c.args.host.now c.args.count).plain
+
+pub write-requires-clause-edits : goal.write-requires-clause-edits
+write-requires-clause-edits g c honest = (drop_redirects_behind_writes (state g.S.Store c.self.inside.conn) (c.self.invariant honest.0 honest.1).now c.args.host.now c.args.count).edits
+
+pub invariant_of-self : goal.invariant_of-self
+invariant_of-self g c = written_ours g.S.Store c.self.inside.conn c.write.new.conn c.self.invariant drop_redirects_behind_text (Text c.args.host.now ∷ Int (pos c.args.count) ∷ []) (λ l. record l { redirects = filter (λ x. not (is_redirect_behind c.args.host.now c.args.count x)) l.redirects }) (λ honest. drop_redirects_behind_changes (state g.S.Store c.self.inside.conn) (c.self.invariant honest.0 honest.1).now c.args.host.now c.args.count) c.write.result c.write.ensures.goes c.write.ensures.sees (rw (c.params-to_sql.ensures, c.params-to_sql-2.ensures, c.as_str.ensures.text, c.in_ok-count.ensures) at c.write.ensures.made) c.write.ensures.err
 
 pub returns : goal.returns
-returns g c = record {
-  writes = all_gone g.S.Store of_redirects c.args.host.now c.args.count c.args.rows.now c.args.self.now c.requires.within c.requires.all c.loop-row.self c.loop-row.row-index (let past = c.loop-row-test.false in omega arith) c.loop-row.invariant;
-}
+returns g c = record { writes = rw (← c.self.view_is) (wrote g.S.Store c.self.inside.conn c.write.new.conn c.self.invariant drop_redirects_behind_text (Text c.args.host.now ∷ Int (pos c.args.count) ∷ []) (λ l. record l { redirects = filter (λ x. not (is_redirect_behind c.args.host.now c.args.count x)) l.redirects }) (λ honest. drop_redirects_behind_changes (state g.S.Store c.self.inside.conn) (c.self.invariant honest.0 honest.1).now c.args.host.now c.args.count) c.write.result c.write.ensures.goes c.write.ensures.sees (rw (c.params-to_sql.ensures, c.params-to_sql-2.ensures, c.as_str.ensures.text, c.in_ok-count.ensures) at c.write.ensures.made) c.write.ensures.err (rw (c.params-to_sql.ensures, c.params-to_sql-2.ensures, c.as_str.ensures.text, c.in_ok-count.ensures) at c.write.ensures.crash)) }

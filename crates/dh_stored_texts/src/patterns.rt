@@ -22,6 +22,7 @@ fn is_expression(alloc: Global, text: &str) -> Result<bool, AllocError>
     }
 }
 
+/// Whether a rule's pattern may be added: one of the named kinds, or an expression that is not too long and that `regex` reads.
 pub fn is_allowed(alloc: Global, pattern: &Pattern) -> Result<bool, AllocError>
     ensures { IfOk result (λ b. b ≡ rules.is_allowed pattern.now) }
 {

@@ -73,6 +73,7 @@ fn is_answer(alloc: Global, value: &Value) -> Result<bool, AllocError>
     }
 }
 
+/// Whether the text is read as an answer, in whatever spelling of its JSON.
 pub fn tells_answer(alloc: Global, text: &str) -> Result<bool, AllocError>
     ensures { IfOk result (λ b. b ≡ is_some (spec.answer_of text.now)) }
 {

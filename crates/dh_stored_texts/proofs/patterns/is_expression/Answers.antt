@@ -1,7 +1,7 @@
 use Rattle.std.proofs.Common.{sym}
-use Rattle.dh_constraints.proofs.PatternLemmas.{read_is_expression, refused_is_none}
-use Rattle.dh_constraints.proofs.patterns.is_expression.Goals as goal
-use Rattle.dh_constraints.proofs.patterns.is_expression.Goals.{in-Ok, in-Err+in-OutOfMemory, in-Err+in_default}
+use Rattle.dh_stored_texts.proofs.PatternLemmas.{read_is_expression, refused_is_none}
+use Rattle.dh_stored_texts.proofs.patterns.is_expression.Goals as goal
+use Rattle.dh_stored_texts.proofs.patterns.is_expression.Goals.{in-Ok, in-Err+in-OutOfMemory, in-Err+in_default}
 
 pub returns : goal.returns
 returns c = elim c.match-parse.branch [
