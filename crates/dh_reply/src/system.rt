@@ -1,6 +1,6 @@
 //! `/robots.txt`, and what stands below `/_/`.
 
-ghost use Rattle.std.specs.Prelude.{false};
+ghost use Rattle.std.specs.Prelude.{◌≡◌, false, IfOk, IfSome};
 ghost use Rattle.std.specs.Option.{option_map_or};
 ghost use Rattle.dh_lookup.specs.Lookup.{Asks, Tells, TellsAll, TellsOf};
 ghost use Rattle.dh_reply.specs.System as spec;
@@ -8,17 +8,29 @@ ghost use Rattle.dh_reply.specs.System as spec;
 use crate::listing::{names_where, versions_reply};
 use crate::robots::robots_text;
 use dh_lookup::{Fault, Lookup};
-use dh_paths::Text;
+use dh_paths::{Lang, Text};
+use dh_versions::Version;
 use dh_wire::{Reply, fault_reply, text_reply};
 use std::alloc::Global;
+
+/// The languages, and the visible versions.
+fn listed<L: Lookup>(alloc: Global, lookup: &mut L) -> Result<(Vec<Lang>, Vec<Version>), Fault>
+    ensures asks { Asks L.meaning lookup.old lookup.new result }
+    ensures value { L.meaning.doubt lookup.new ≡ 0 → IfOk result
+        (λ told. IfSome (L.meaning.content lookup.old)
+        (λ p. (told.0.items ≡ p.langs) × (told.1.items ≡ p.versions))) }
+{
+    let langs = lookup.langs(alloc)?;
+    let versions = lookup.listing(alloc)?;
+    Ok((langs, versions))
+}
 
 /// `/robots.txt`.
 pub fn robots<L: Lookup>(alloc: Global, lookup: &mut L) -> Result<Reply, Fault>
     ensures asks { Asks L.meaning lookup.old lookup.new result }
     ensures value { TellsOf L.meaning lookup.old lookup.new result spec.robots }
 {
-    let langs = lookup.langs(alloc)?;
-    let versions = lookup.listing(alloc)?;
+    let (langs, versions) = listed(alloc, lookup)?;
     let text = robots_text(alloc, &langs, &versions)?;
     Ok(text_reply(alloc, 200, "text/plain; charset=utf-8", text)?)
 }
@@ -52,8 +64,7 @@ fn versions<L: Lookup>(alloc: Global, lookup: &mut L) -> Result<Reply, Fault>
 {
     let aliases = aliases(alloc, lookup)?;
     let default = lookup.default(alloc)?;
-    let langs = lookup.langs(alloc)?;
-    let versions = lookup.listing(alloc)?;
+    let (langs, versions) = listed(alloc, lookup)?;
     Ok(versions_reply(alloc, &aliases, &default, &langs, &versions)?)
 }
 
