@@ -9,7 +9,7 @@ ghost use Rattle.dh_world.specs.Answers.{answer_of};
 ghost use Rattle.dh_world.specs.Seen as names;
 ghost use Rattle.dh_records.specs.Lists.{is_lang_of, is_pass_of, is_pick_of, is_rule_of, is_redirect_of};
 ghost use Rattle.dh_records.specs.Constraints as kept;
-ghost use Rattle.dh_records.specs.Constraints.{AreInOrder, AreLanguages, AreDefaults, AreRules, AreRedirects, KeepsConstraints};
+ghost use Rattle.dh_records.specs.Constraints.{AreLanguages, AreDefaults, AreRules, AreRedirects, KeepsConstraints};
 ghost use Rattle.dh_constraints.specs.Lists.{lists_in};
 ghost use Rattle.dh_constraints.specs.Parts.{HaveProjects, KeepProjects, KeepRecords, KeepTexts};
 
@@ -39,88 +39,21 @@ const MOST_REDIRECTS: usize = 100;
 // ---- every host has its project
 
 fn has_own_project<R: Hosted>(records: &Records, row: &R) -> bool
-    requires { AreInOrder (lists_in records.now) }
     ensures { result ≡ kept.has_project (lists_in records.now) (R.host_of row.now) }
 {
     has_project(records, row.host())
 }
 
 fn have_projects<R: Hosted>(records: &Records, rows: &[R]) -> bool
-    requires { AreInOrder (lists_in records.now) }
     ensures { IsTrue result ↔ AllByRecursion
         (λ r. IsTrue (kept.has_project (lists_in records.now) (R.host_of r))) rows.now }
 {
     rows.iter().all(|r| has_own_project(records, r))
 }
 
-fn langs_have_projects(records: &Records) -> bool
-    requires { AreInOrder (lists_in records.now) }
-    ensures { let lists = lists_in records.now in
-        IsTrue result ↔ AllByRecursion (λ l. IsTrue (kept.has_project lists l.host)) lists.langs }
-{
-    have_projects(records, records.langs.as_slice())
-}
-
-fn versions_have_projects(records: &Records) -> bool
-    requires { AreInOrder (lists_in records.now) }
-    ensures { let lists = lists_in records.now in IsTrue result
-        ↔ AllByRecursion (λ v. IsTrue (kept.has_project lists v.host)) lists.versions }
-{
-    have_projects(records, records.versions.as_slice())
-}
-
-fn pages_have_projects(records: &Records) -> bool
-    requires { AreInOrder (lists_in records.now) }
-    ensures { let lists = lists_in records.now in
-        IsTrue result ↔ AllByRecursion (λ x. IsTrue (kept.has_project lists x.host)) lists.pages }
-{
-    have_projects(records, records.pages.as_slice())
-}
-
-fn used_have_projects(records: &Records) -> bool
-    requires { AreInOrder (lists_in records.now) }
-    ensures { let lists = lists_in records.now in
-        IsTrue result ↔ AllByRecursion (λ u. IsTrue (kept.has_project lists u.host)) lists.used }
-{
-    have_projects(records, records.used.as_slice())
-}
-
-fn picks_have_projects(records: &Records) -> bool
-    requires { AreInOrder (lists_in records.now) }
-    ensures { let lists = lists_in records.now in
-        IsTrue result ↔ AllByRecursion (λ d. IsTrue (kept.has_project lists d.host)) lists.picks }
-{
-    have_projects(records, records.picks.as_slice())
-}
-
-fn passes_have_projects(records: &Records) -> bool
-    requires { AreInOrder (lists_in records.now) }
-    ensures { let lists = lists_in records.now in IsTrue result
-        ↔ AllByRecursion (λ x. IsTrue (kept.has_project lists x.host)) lists.passes }
-{
-    have_projects(records, records.passes.as_slice())
-}
-
-fn rules_have_projects(records: &Records) -> bool
-    requires { AreInOrder (lists_in records.now) }
-    ensures { let lists = lists_in records.now in
-        IsTrue result ↔ AllByRecursion (λ r. IsTrue (kept.has_project lists r.host)) lists.rules }
-{
-    have_projects(records, records.rules.as_slice())
-}
-
-fn redirects_have_projects(records: &Records) -> bool
-    requires { AreInOrder (lists_in records.now) }
-    ensures { let lists = lists_in records.now in IsTrue result
-        ↔ AllByRecursion (λ r. IsTrue (kept.has_project lists r.host)) lists.redirects }
-{
-    have_projects(records, records.redirects.as_slice())
-}
-
 // ---- what each project has
 
 fn has_languages(records: &Records, project: &ProjectRow) -> bool
-    requires { AreInOrder (lists_in records.now) }
     ensures { IsTrue result ↔ AreLanguages project.now.main
         (filter (is_lang_of project.now.host) (lists_in records.now).langs) }
 {
@@ -128,7 +61,6 @@ fn has_languages(records: &Records, project: &ProjectRow) -> bool
 }
 
 fn projects_have_languages(records: &Records) -> bool
-    requires { AreInOrder (lists_in records.now) }
     ensures { let lists = lists_in records.now in IsTrue result ↔ AllByRecursion
         (λ r. AreLanguages r.main (filter (is_lang_of r.host) lists.langs)) lists.projects }
 {
@@ -140,7 +72,6 @@ fn projects_have_languages(records: &Records) -> bool
 }
 
 fn projects_have_few_passes(records: &Records) -> bool
-    requires { AreInOrder (lists_in records.now) }
     ensures { let lists = lists_in records.now in IsTrue result ↔ AllByRecursion
         (λ r. length (filter (is_pass_of r.host) lists.passes) ≤ 1000) lists.projects }
 {
@@ -152,7 +83,6 @@ fn projects_have_few_passes(records: &Records) -> bool
 }
 
 fn projects_have_defaults(records: &Records) -> bool
-    requires { AreInOrder (lists_in records.now) }
     ensures { let lists = lists_in records.now in IsTrue result ↔ AllByRecursion
         (λ r. AreDefaults (filter (is_pick_of r.host) lists.picks)) lists.projects }
 {
@@ -164,7 +94,6 @@ fn projects_have_defaults(records: &Records) -> bool
 }
 
 fn projects_have_rules(records: &Records) -> bool
-    requires { AreInOrder (lists_in records.now) }
     ensures { let lists = lists_in records.now in IsTrue result ↔ AllByRecursion
         (λ r. AreRules (filter (is_rule_of r.host) lists.rules)) lists.projects }
 {
@@ -176,7 +105,6 @@ fn projects_have_rules(records: &Records) -> bool
 }
 
 fn projects_have_redirects(records: &Records) -> bool
-    requires { AreInOrder (lists_in records.now) }
     ensures { let lists = lists_in records.now in IsTrue result ↔ AllByRecursion
         (λ r. AreRedirects (filter (is_redirect_of r.host) lists.redirects)) lists.projects }
 {
@@ -189,7 +117,6 @@ fn projects_have_redirects(records: &Records) -> bool
 // ---- what a record stands on
 
 fn pages_have_versions(records: &Records) -> bool
-    requires { AreInOrder (lists_in records.now) }
     ensures { let lists = lists_in records.now in IsTrue result
         ↔ AllByRecursion (λ x. IsTrue (kept.has_active lists x.host x.slug)) lists.pages }
 {
@@ -201,7 +128,6 @@ fn pages_have_versions(records: &Records) -> bool
 }
 
 fn pages_have_languages(records: &Records) -> bool
-    requires { AreInOrder (lists_in records.now) }
     ensures { let lists = lists_in records.now in IsTrue result
         ↔ AllByRecursion (λ x. IsTrue (kept.has_language lists x.host x.lang)) lists.pages }
 {
@@ -219,7 +145,6 @@ fn is_alias(name: &Slug) -> bool
 }
 
 fn defaults_have_versions(records: &Records) -> bool
-    requires { AreInOrder (lists_in records.now) }
     ensures { let lists = lists_in records.now in IsTrue result ↔ AllByRecursion
         (λ d. IsTrue (names.is_alias d.name || kept.has_version lists d.host d.name)) lists.picks }
 {
@@ -228,7 +153,6 @@ fn defaults_have_versions(records: &Records) -> bool
 }
 
 fn grants_have_parts(records: &Records) -> bool
-    requires { AreInOrder (lists_in records.now) }
     ensures { let lists = lists_in records.now in IsTrue result ↔ AllByRecursion
         (λ x. IsTrue (kept.has_pass lists x.host x.pass && kept.has_version lists x.host x.slug))
         lists.held }
@@ -308,21 +232,19 @@ fn rules_are_allowed(alloc: Global, records: &Records) -> Result<bool, AllocErro
 // ---- all of them
 
 fn all_have_projects(records: &Records) -> bool
-    requires { AreInOrder (lists_in records.now) }
     ensures { IsTrue result ↔ HaveProjects (lists_in records.now) }
 {
-    langs_have_projects(records)
-        && versions_have_projects(records)
-        && pages_have_projects(records)
-        && used_have_projects(records)
-        && picks_have_projects(records)
-        && passes_have_projects(records)
-        && rules_have_projects(records)
-        && redirects_have_projects(records)
+    have_projects(records, records.langs.as_slice())
+        && have_projects(records, records.versions.as_slice())
+        && have_projects(records, records.pages.as_slice())
+        && have_projects(records, records.used.as_slice())
+        && have_projects(records, records.picks.as_slice())
+        && have_projects(records, records.passes.as_slice())
+        && have_projects(records, records.rules.as_slice())
+        && have_projects(records, records.redirects.as_slice())
 }
 
 fn projects_are_kept(records: &Records) -> bool
-    requires { AreInOrder (lists_in records.now) }
     ensures { IsTrue result ↔ KeepProjects (lists_in records.now) }
 {
     projects_have_languages(records)
@@ -333,7 +255,6 @@ fn projects_are_kept(records: &Records) -> bool
 }
 
 fn records_are_kept(records: &Records) -> bool
-    requires { AreInOrder (lists_in records.now) }
     ensures { IsTrue result ↔ KeepRecords (lists_in records.now) }
 {
     pages_have_versions(records)
@@ -355,7 +276,6 @@ fn texts_are_kept(alloc: Global, records: &Records) -> Result<bool, AllocError>
 
 /// Whether the records keep the constraints. Out of memory it says nothing.
 pub fn keep_constraints(alloc: Global, records: &Records) -> Result<bool, AllocError>
-    requires { AreInOrder (lists_in records.now) }
     ensures { IfOk result (λ b. IsTrue b ↔ KeepsConstraints (lists_in records.now)) }
 {
     if all_have_projects(records) && projects_are_kept(records) && records_are_kept(records) {

@@ -3,7 +3,6 @@
 ghost use Rattle.std.specs.Prelude.{◌≡◌, filter, find, option_map};
 ghost use Rattle.dh_records.specs.Lists.{is_lang_of, is_version, is_pick_of, is_pass_of, is_rule_of, is_redirect_of};
 ghost use Rattle.dh_records.specs.Constraints as kept;
-ghost use Rattle.dh_records.specs.Constraints.{AreInOrder};
 ghost use Rattle.dh_constraints.specs.Lists.{lists_in};
 
 use crate::places::is_among;
@@ -13,49 +12,42 @@ use dh_paths::{HostName, Lang, Slug, Token};
 use dh_records::{LangRow, PassRow, PickRow, RedirectRow, RuleRow, VersionRow};
 
 pub fn has_project(records: &Records, host: &HostName) -> bool
-    requires { AreInOrder (lists_in records.now) }
     ensures { result ≡ kept.has_project (lists_in records.now) host.now }
 {
     !run_of(records.projects.as_slice(), host).is_empty()
 }
 
 pub fn langs_of<'a>(records: &'a Records, host: &HostName) -> &'a [LangRow]
-    requires { AreInOrder (lists_in records.now) }
     ensures { result.now ≡ filter (is_lang_of host.now) (lists_in records.now).langs }
 {
     run_of(records.langs.as_slice(), host)
 }
 
 pub fn picks_of<'a>(records: &'a Records, host: &HostName) -> &'a [PickRow]
-    requires { AreInOrder (lists_in records.now) }
     ensures { result.now ≡ filter (is_pick_of host.now) (lists_in records.now).picks }
 {
     run_of(records.picks.as_slice(), host)
 }
 
 pub fn passes_of<'a>(records: &'a Records, host: &HostName) -> &'a [PassRow]
-    requires { AreInOrder (lists_in records.now) }
     ensures { result.now ≡ filter (is_pass_of host.now) (lists_in records.now).passes }
 {
     run_of(records.passes.as_slice(), host)
 }
 
 pub fn rules_of<'a>(records: &'a Records, host: &HostName) -> &'a [RuleRow]
-    requires { AreInOrder (lists_in records.now) }
     ensures { result.now ≡ filter (is_rule_of host.now) (lists_in records.now).rules }
 {
     run_of(records.rules.as_slice(), host)
 }
 
 pub fn redirects_of<'a>(records: &'a Records, host: &HostName) -> &'a [RedirectRow]
-    requires { AreInOrder (lists_in records.now) }
     ensures { result.now ≡ filter (is_redirect_of host.now) (lists_in records.now).redirects }
 {
     run_of(records.redirects.as_slice(), host)
 }
 
 fn version_of<'a>(records: &'a Records, host: &HostName, slug: &Slug) -> Option<&'a VersionRow>
-    requires { AreInOrder (lists_in records.now) }
     ensures { option_map (λ v. v.now) result
         ≡ find (is_version host.now slug.now) (lists_in records.now).versions }
 {
@@ -63,14 +55,12 @@ fn version_of<'a>(records: &'a Records, host: &HostName, slug: &Slug) -> Option<
 }
 
 pub fn has_version(records: &Records, host: &HostName, slug: &Slug) -> bool
-    requires { AreInOrder (lists_in records.now) }
     ensures { result ≡ kept.has_version (lists_in records.now) host.now slug.now }
 {
     version_of(records, host, slug).is_some()
 }
 
 pub fn has_active(records: &Records, host: &HostName, slug: &Slug) -> bool
-    requires { AreInOrder (lists_in records.now) }
     ensures { result ≡ kept.has_active (lists_in records.now) host.now slug.now }
 {
     match version_of(records, host, slug) {
@@ -80,14 +70,12 @@ pub fn has_active(records: &Records, host: &HostName, slug: &Slug) -> bool
 }
 
 pub fn has_pass(records: &Records, host: &HostName, pass: &Token) -> bool
-    requires { AreInOrder (lists_in records.now) }
     ensures { result ≡ kept.has_pass (lists_in records.now) host.now pass.now }
 {
     named_in(records.passes.as_slice(), host, pass.as_str()).is_some()
 }
 
 pub fn has_language(records: &Records, host: &HostName, lang: &Lang) -> bool
-    requires { AreInOrder (lists_in records.now) }
     ensures { result ≡ kept.has_language (lists_in records.now) host.now lang.now }
 {
     is_among(langs_of(records, host), lang.as_str())

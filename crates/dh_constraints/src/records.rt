@@ -1,5 +1,8 @@
 //! All records of a database.
 
+ghost use Rattle.dh_records.specs.Constraints.{AreInOrder};
+ghost use Rattle.dh_constraints.specs.Order.{AreInOrder-prop};
+
 use dh_records::{
     HeldRow, LangRow, PageRow, PassRow, PickRow, ProjectRow, RedirectRow, RuleRow, UsedRow,
     VersionRow,
@@ -18,4 +21,16 @@ pub struct Records {
     pub held: Vec<HeldRow>,
     pub rules: Vec<RuleRow>,
     pub redirects: Vec<RedirectRow>,
+    pub ghost in_order: { AreInOrder (record {
+      projects = projects.items;
+      langs = langs.items;
+      versions = versions.items;
+      pages = pages.items;
+      used = used.items;
+      picks = picks.items;
+      passes = passes.items;
+      held = held.items;
+      rules = rules.items;
+      redirects = redirects.items;
+    }) } by { AreInOrder-prop _ },
 }

@@ -3,7 +3,7 @@
 ghost use Rattle.std.specs.Prelude.{◌≡◌, List, None, IfOk, IfSome};
 ghost use Rattle.sqlite.specs.Held.{state};
 ghost use Rattle.dh_rows.specs.Calls.{IsHonest};
-ghost use Rattle.dh_records.specs.Constraints.{AreInOrder, InOrder};
+ghost use Rattle.dh_records.specs.Constraints.{InOrder};
 ghost use Rattle.dh_records.specs.Lists.{Lists};
 ghost use Rattle.dh_constraints.specs.Lists.{lists_in};
 ghost use Rattle.dh_opening.specs.Opening.{Answers, AreSpelled, AreTold, IsLaid, IsNumbered, IsWhole, Opens, StandFor};
@@ -107,7 +107,6 @@ pub fn all_records<S: Alter>(
     requires laid { IsHonest S.Store conn.old → IsLaid (state S.Store conn.old) }
     ensures opens { Opens S.Store conn.old conn.new result
         (λ db records. AreSpelled db (lists_in records)) (λ db. (l : Lists) → ¬ AreSpelled db l) }
-    ensures order { IfOk result (λ records. AreInOrder (lists_in records)) }
 {
     let (projects, langs) = read_two(conn, alloc)?;
     let (versions, pages) = read_two(conn, alloc)?;

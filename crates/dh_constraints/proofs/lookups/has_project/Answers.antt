@@ -6,7 +6,7 @@ use Rattle.dh_constraints.proofs.OrderLemmas.{by_host}
 use Rattle.dh_constraints.proofs.lookups.has_project.Goals as goal
 
 pub run_of-requires : goal.run_of-requires
-run_of-requires c = by_host (λ r. r.host) (λ r. []) _ _ c.as_slice.ensures.value c.requires.projects
+run_of-requires c = by_host (λ r. r.host) (λ r. []) _ _ c.as_slice.ensures.value c.args.records.now.in_order.projects
 
 pub returns : goal.returns
 returns c =

@@ -4,4 +4,4 @@ use Rattle.dh_constraints.proofs.OrderLemmas.{by_host}
 use Rattle.dh_constraints.proofs.lookups.rules_of.Goals as goal
 
 pub run_of-requires : goal.run_of-requires
-run_of-requires c = by_host (λ r. r.host) (λ r. Int (pos r.place) ∷ []) _ _ c.as_slice.ensures.value c.requires.rules
+run_of-requires c = by_host (λ r. r.host) (λ r. Int (pos r.place) ∷ []) _ _ c.as_slice.ensures.value c.args.records.now.in_order.rules

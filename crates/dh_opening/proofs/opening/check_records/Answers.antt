@@ -21,9 +21,6 @@ returns-in_err-records g c = record {
       (opens_on c.in_ok-check_number.field-0 (Err c.in_err-records.field-0.0) c.in_ok-check_number.ensures.opens c.in_err-records.ensures.opens);
 }
 
-pub keep_constraints-requires : goal.keep_constraints-requires
-keep_constraints-requires g c = c.in_ok-records.ensures.order
-
 pub returns-in_err-keep_constraints : goal.returns-in_err-keep_constraints
 returns-in_err-keep_constraints g c = record {
   opens = out_of_memory c.from_residual-in_err-keep_constraints.result c.from_residual-in_err-keep_constraints.ensures.1 c.in_ok-records.records
