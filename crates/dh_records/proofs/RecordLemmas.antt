@@ -48,6 +48,13 @@ all_that P p h (y ∷ rows) = go (p y) refl (all_that P p h rows)
     go true e more = (h y e, more)
     go false e more = more
 
+pub each_passes : {A : Type 0} (p : A → Bool) (rows : List A) → AllByRecursion (λ y. p y ≡ true) (filter p rows)
+each_passes p rows = all_that _ p (λ y e. e) rows
+
+-- of those that pass a test none is left once they are taken out
+pub taken_out : {A : Type 0} (t : A → Bool) (rows : List A) → AllByRecursion (λ y. t y ≡ false) (filter (λ y. not (t y)) rows)
+taken_out t rows = all_that (λ y. t y ≡ false) (λ y. not (t y)) (λ y out. false_from_ne_true _ (λ e. true≢false (sym out ∙ ap not e))) rows
+
 -- ---- a record is added
 
 pub all_added : {A : Type 0} (P : A → Type 0) (cmp : A → A → Ordering) (x : A) (rows : List A) → P x → AllByRecursion P rows → AllByRecursion P (insert_sorted cmp x rows)
@@ -158,7 +165,7 @@ module _ {A : Type 0} (code : A → Row) where
 
   module _ (t : A → Bool) (x : A) (alike : (y : A) → same_key code x y ≡ true → t y ≡ t x) (only : (y : A) → t x ≡ true → t y ≡ true → same_key code x y ≡ true) where
     none_left : (rows : List A) → t x ≡ true → AllByRecursion (λ y. t y ≡ false) (filter (λ y. not (same_key code x y)) rows)
-    none_left rows here = all_that (λ y. t y ≡ false) (λ y. not (same_key code x y)) (λ y out. false_from_ne_true (t y) (λ e. true≢false (sym out ∙ ap not (only y here e)))) rows
+    none_left rows here = all_weaker _ (λ y. t y ≡ false) (λ y apart. false_from_ne_true (t y) (λ e. true≢false (sym (only y here e) ∙ apart))) _ (taken_out (same_key code x) rows)
 
     passed : t x ≡ false → (y : A) → (not (same_key code x y) && t y) ≡ t y
     passed out y = go (same_key code x y) refl
@@ -174,6 +181,16 @@ module _ {A : Type 0} (code : A → Row) where
         go true e = refl
         go false e = find_in_filter (λ y. not (same_key code x y)) t rows ∙ find_same _ t (passed e) rows
 
+-- ---- one host and the others
+
+-- what holds of one host, and of each other
+pub of_each_host : (P : Text → Type 0) (host : Text) → P host → ((name : Text) → bytes_eq host name ≡ false → P name) → (name : Text) → P name
+of_each_host P host here there name = go (bytes_eq host name) refl
+  where
+    go : (b : Bool) → bytes_eq host name ≡ b → P name
+    go true e = subst P ((bytes_eq-Decides host name).0 e) here
+    go false e = there name e
+
 -- ---- the map of the records of a host
 
 mapped : {A X : Type 0} (f : A → X) (b : Bool) (x : A) (o : Option A) → option_map f (cond b (Some x) o) ≡ cond b (Some (f x)) (option_map f o)
@@ -187,13 +204,17 @@ module _ {A K X : Type 0} {R : K → K → Ordering} (total : IsTotalOrder R) (e
   pub kept_none : (host : Text) (rows : List A) → AllByRecursion (λ a. bytes_eq (host_of a) host ≡ false) rows → kept_of host rows ≡ empty
   kept_none host rows none = ap (λ l. from_entries (map (λ a. (key a, value a)) l)) (filter_none _ rows none)
 
-  abbrev is_at : Text → K → A → Bool
+  abbrev pub is_at : Text → K → A → Bool
   is_at host q a = bytes_eq (host_of a) host && eq_by_cmp R q (key a)
 
   get_kept : (host : Text) (rows : List A) (q : K) → get (kept_of host rows) q ≡ option_map value (find (is_at host q) rows)
   get_kept host rows q =
       get-from_entries total _ q ∙ found_in R key value q (λ a. eq_by_cmp R q (key a)) (λ a. refl) (of_host host_of host rows)
       ∙ ap (option_map value) (find_in_filter (λ a. bytes_eq (host_of a) host) (λ a. eq_by_cmp R q (key a)) rows)
+
+  -- by a test that is of the host and of the key
+  pub get_by : (host : Text) (q : K) (test : A → Bool) → ((a : A) → is_at host q a ≡ test a) → (rows : List A) → get (kept_of host rows) q ≡ option_map value (find test rows)
+  get_by host q test same rows = get_kept host rows q ∙ ap (option_map value) (find_same _ _ same rows)
 
   tied : (x y : K) → eq_by_cmp R x y ≡ true → x ≡ y
   tied x y e = exact x y ((Rattle.std.specs.Cmp.Equal-is (R x y)).0 e)
@@ -232,37 +253,24 @@ module _ {A K X : Type 0} {R : K → K → Ordering} (total : IsTotalOrder R) (e
 
   -- the records of one host whose keys pass a test are dropped
   module _ (home : Text) (test : A → Bool) (p : K → Bool) (same : (a : A) → test a ≡ (bytes_eq (host_of a) home && p (key a))) where
-    still : (host : Text) (q : K) (a : A) → (bytes_eq host home && p q) ≡ false → (not (test a) && is_at host q a) ≡ is_at host q a
-    still host q a out = go (is_at host q a) refl
+    -- what is at a key is dropped or kept as the key says
+    at_key : (host : Text) (q : K) (a : A) → (not (test a) && is_at host q a) ≡ (not (bytes_eq host home && p q) && is_at host q a)
+    at_key host q a = go (is_at host q a) refl
       where
-        go : (b : Bool) → is_at host q a ≡ b → (not (test a) && b) ≡ b
-        go false e = and_right (not (test a)) false refl
+        go : (b : Bool) → is_at host q a ≡ b → (not (test a) && b) ≡ (not (bytes_eq host home && p q) && b)
+        go false e = and_right (not (test a)) false refl ∙ sym (and_right (not (bytes_eq host home && p q)) false refl)
         go true e =
             let both = and_parts _ _ e in
-            let hosts = (bytes_eq-Decides (host_of a) host).0 both.0 in
-            let keys = tied q (key a) both.1 in
-            let kept : test a ≡ false = same a ∙ ap₂ (λ h k. bytes_eq h home && p k) hosts (sym keys) ∙ out in
-            rw kept refl
-
-    gone : (host : Text) (q : K) (a : A) → (bytes_eq host home && p q) ≡ true → (not (test a) && is_at host q a) ≡ false
-    gone host q a out = go (is_at host q a) refl
-      where
-        go : (b : Bool) → is_at host q a ≡ b → (not (test a) && b) ≡ false
-        go false e = and_right (not (test a)) false refl
-        go true e =
-            let both = and_parts _ _ e in
-            let hosts = (bytes_eq-Decides (host_of a) host).0 both.0 in
-            let keys = tied q (key a) both.1 in
-            let kept : test a ≡ true = same a ∙ ap₂ (λ h k. bytes_eq h home && p k) hosts (sym keys) ∙ out in
-            rw kept refl
+            ap (λ t. not t && true) (same a ∙ ap₂ (λ h k. bytes_eq h home && p k) ((bytes_eq-Decides (host_of a) host).0 both.0) (sym (tied q (key a) both.1)))
 
     get_dropped : (host : Text) (rows : List A) (q : K) → get (kept_of host (filter (λ a. not (test a)) rows)) q ≡ cond (bytes_eq host home && p q) None (get (kept_of host rows) q)
     get_dropped host rows q =
-        get_kept host _ q ∙ ap (option_map value) (find_in_filter (λ a. not (test a)) (is_at host q) rows) ∙ go (bytes_eq host home && p q) refl ∙ ap (cond (bytes_eq host home && p q) None) (sym (get_kept host rows q))
+        get_kept host _ q ∙ ap (option_map value) (find_in_filter (λ a. not (test a)) (is_at host q) rows ∙ find_same _ _ (at_key host q) rows)
+        ∙ go (bytes_eq host home && p q) ∙ ap (cond (bytes_eq host home && p q) None) (sym (get_kept host rows q))
       where
-        go : (b : Bool) → (bytes_eq host home && p q) ≡ b → option_map value (find (λ a. not (test a) && is_at host q a) rows) ≡ cond b None (option_map value (find (is_at host q) rows))
-        go true e = ap (option_map value) (found_none _ rows (Rattle.sqlite_keyed.proofs.ListLemmas.all_of _ (λ a. gone host q a e) rows))
-        go false e = ap (option_map value) (find_same _ _ (λ a. still host q a e) rows)
+        go : (b : Bool) → option_map value (find (λ a. not b && is_at host q a) rows) ≡ cond b None (option_map value (find (is_at host q) rows))
+        go true = ap (option_map value) (found_none _ rows (Rattle.sqlite_keyed.proofs.ListLemmas.all_of _ (λ a. refl) rows))
+        go false = refl
 
     pub dropped_here : (host : Text) (rows : List A) → host ≡ home → kept_of host (filter (λ a. not (test a)) rows) ≡ retain_keys (kept_of host rows) (λ k. not (p k))
     dropped_here host rows e = same_map total exact _ _ (λ q. get_dropped host rows q

@@ -4,75 +4,39 @@ use Rattle.std.specs.List.{AllByRecursion}
 use Rattle.std.specs.FinMap.{get, insert}
 use Rattle.dh_rules.specs.Rules.{is_allowed}
 use Rattle.dh_rules.specs.declared.rule.Rule.{Rule}
-use Rattle.dh_records.specs.declared.records.ProjectRow.{ProjectRow}
 use Rattle.dh_records.specs.declared.records.RuleRow.{RuleRow}
 use Rattle.dh_records.specs.Codings as coding
 use Rattle.dh_world.specs.World.{Project}
-use Rattle.dh_records.specs.Lists.{Lists, project_of, world_of, is_rule_of, rule_row}
+use Rattle.dh_records.specs.Lists.{Lists, world_of, is_rule_of, rule_row}
 use Rattle.dh_records.specs.Constraints.{InOrder, AreInOrder, has_project, KeepsConstraints}
 use Rattle.dh_records.specs.Changes.{set_rules}
-use Rattle.dh_records.proofs.PlaceLemmas.{set_in_order, all_set, places_set, told_in, world_set}
+use Rattle.dh_records.proofs.Parts as parts
+use Rattle.dh_records.proofs.PartLemmas.{part_in}
+use Rattle.dh_records.proofs.PlaceLemmas.{set_in_order, all_set, places_set, world_set}
 
 pub order_with_rules : (lists : Lists) → AreInOrder lists → (host : List ℕ) (rules : List Rule) → AreInOrder (set_rules host rules lists)
-order_with_rules lists up host rules = record {
-  projects = up.projects;
-  langs = up.langs;
-  versions = up.versions;
-  pages = up.pages;
-  used = up.used;
-  picks = up.picks;
-  passes = up.passes;
-  held = up.held;
-  rules = set_in_order (λ r. r.host) (λ r. r.place) host (rule_row host) rules lists.rules up.rules;
-  redirects = up.redirects;
-}
+order_with_rules lists up host rules = assumption (set_in_order (λ r. r.host) (λ r. r.place) host (rule_row host) rules lists.rules up.rules)
 
 -- at most 50 rules, each of which may be added, are set in a project
 pub constraints_with_rules : (lists : Lists) (host : List ℕ) (rules : List Rule) → KeepsConstraints lists → InOrder coding.rules.key lists.rules → IsTrue (has_project lists host) → length rules ≤ 50
     → AllByRecursion (λ r. IsTrue (is_allowed r.pattern)) rules → KeepsConstraints (set_rules host rules lists)
-constraints_with_rules lists host rules constraints up has few good = record {
-  langs = constraints.langs;
-  versions = constraints.versions;
-  pages = constraints.pages;
-  used = constraints.used;
-  picks = constraints.picks;
-  passes = constraints.passes;
-  languages = constraints.languages;
-  few_passes = constraints.few_passes;
-  answers = constraints.answers;
-  slugs = constraints.slugs;
-  active = constraints.active;
-  spoken = constraints.spoken;
-  defaults = constraints.defaults;
-  default_names = constraints.default_names;
-  granted = constraints.granted;
-  rules = all (λ r. IsTrue (has_project lists r.host)) (λ n r may. has) constraints.rules;
-  rule_places = places_set (λ r. r.host) (λ r. r.place) host (rule_row host) (λ n r. refl) (λ n r. refl) 50 lists rules lists.rules constraints.rule_places up has few;
-  allowed = all (λ r. IsTrue (is_allowed r.rule.pattern)) (λ n r may. may) constraints.allowed;
-  redirects = constraints.redirects;
-  places = constraints.places;
-  good = constraints.good;
-}
+constraints_with_rules lists host rules constraints up has few good =
+    assumption (
+      all (λ r. IsTrue (has_project lists r.host)) (λ n r may. has) constraints.rules,
+      places_set (λ r. r.host) (λ r. r.place) host (rule_row host) (λ n r. refl) (λ n r. refl) 50 lists rules lists.rules constraints.rule_places up has few,
+      all (λ r. IsTrue (is_allowed r.rule.pattern)) (λ n r may. may) constraints.allowed
+    )
   where
     all : (P : RuleRow → Type 0) → ((n : ℕ) (r : Rule) → IsTrue (is_allowed r.pattern) → P (rule_row host n r)) → AllByRecursion P lists.rules → AllByRecursion P (set_rules host rules lists).rules
     all P each = all_set (λ r. r.host) (λ r. r.place) host (rule_row host) P (λ r. IsTrue (is_allowed r.pattern)) each rules lists.rules good
 
 -- ---- the world
 
-with_rules : (lists : Lists) (rows : List RuleRow) (r : ProjectRow) → project_of (record lists { rules = rows }) r ≡ record (project_of lists r) { rules = map (λ x. x.rule) (filter (is_rule_of r.host) rows) }
-unfolding project_of
-with_rules lists rows r = refl
-
-rules_are : (lists : Lists) (r : ProjectRow) → (project_of lists r).rules ≡ map (λ x. x.rule) (filter (is_rule_of r.host) lists.rules)
-unfolding project_of
-rules_are lists r = refl
-
 pub rules_in : (lists : Lists) (host : List ℕ) (p : Project) → get (world_of lists) host ≡ Some p → p.rules ≡ map (λ r. r.rule) (filter (is_rule_of host) lists.rules)
-rules_in lists = told_in (λ r. r.host) (λ r. r.place) (λ r. r.rule) (λ x. x.rules) lists lists.rules (rules_are lists)
+rules_in = part_in parts.rules
 
 -- the rules of a project are set
 pub world_with_rules : (lists : Lists) (host : List ℕ) (rules : List Rule) (p : Project) → KeepsConstraints lists → InOrder coding.rules.key lists.rules → get (world_of lists) host ≡ Some p
     → world_of (set_rules host rules lists) ≡ insert (world_of lists) host (record p { rules = rules })
-world_with_rules lists host rules p constraints =
-    world_set (λ r. r.host) (λ r. r.place) (λ r. r.rule) host (rule_row host) (λ n r. refl) (λ n r. refl) (λ n r. refl) 50 (λ x. x.rules) (λ x l. record x { rules = l }) (λ x. refl)
-    lists (set_rules host rules lists) rules lists.rules refl (rules_are lists) (with_rules lists _) p constraints.rule_places
+world_with_rules lists host new p constraints up =
+    world_set (λ r. r.host) (λ r. r.place) (λ r. r.rule) host (rule_row host) (λ n r. refl) (λ n r. refl) (λ n r. refl) parts.rules 50 lists new constraints.rule_places up p

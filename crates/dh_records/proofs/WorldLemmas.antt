@@ -1,22 +1,21 @@
 -- What the project of a host says of the lists that spell it, and projects put back one after the other.
-use Rattle.std.proofs.Common.{◌≡◌, Bool, true, false, ◌&&◌, map, filter, find, length, is_some, Option, Some, None, IsTrue, refl, sym, ap, ◌∙◌}
+use Rattle.std.proofs.Common.{◌≡◌, false, map, filter, find, length, is_some, Option, Some, None, IsTrue, refl, sym, ap, ◌∙◌}
 use Rattle.std.specs.Prelude.{option_map}
 use Rattle.std.specs.Option.{option_map_or}
 use Rattle.std.specs.List.{list_any}
 use Rattle.std.specs.Str.{bytes_eq}
-use Rattle.std.specs.FinMap.{get, contains_key, insert, get-from_entries}
+use Rattle.std.specs.FinMap.{get, contains_key, insert}
 use Rattle.std.proofs.lemmas.List.{length-map}
 use Rattle.std.proofs.lemmas.Slice.Eq.{bytes_eq-Decides}
 use Rattle.dh_records.specs.declared.records.ProjectRow.{ProjectRow}
 use Rattle.dh_records.specs.declared.records.VersionRow.{VersionRow}
 use Rattle.dh_world.specs.declared.operation.Operation.{Operation}
-use Rattle.dh_world.specs.World.{Text, used_cmp, op_code, Project}
-use Rattle.dh_records.specs.Lists.{Lists, of_host, project_of, world_of, kept_answer, is_project, is_version, is_page, is_used, is_lang_of, is_pick_of, is_pass, is_held}
+use Rattle.dh_world.specs.World.{Text, op_code, Project}
+use Rattle.dh_records.specs.Lists.{Lists, project_of, world_of, kept_answer, is_project, is_version, is_page, is_used, is_lang_of, is_pick_of, is_pass, is_held}
 use Rattle.dh_records.specs.Constraints.{has_project, languages_of, has_language, has_active, has_version, has_pass}
-use Rattle.dh_records.proofs.KeyLemmas.{used_place, tied_used_key}
-use Rattle.dh_world.proofs.MapLemmas.{used_total, found_in, find_in_filter, find_same, get_back, put_twice}
+use Rattle.dh_world.proofs.MapLemmas.{get_back, put_twice}
 use Rattle.dh_records.proofs.RecordLemmas.{found_passes}
-use Rattle.dh_records.proofs.SeenLemmas.{get_project, get_version, get_page, get_pass, get_held}
+use Rattle.dh_records.proofs.SeenLemmas.{get_project, get_version, get_page, get_used, get_pass, get_held, mapped_some}
 
 -- ---- the row of a project
 
@@ -60,37 +59,21 @@ pub languages_are : (lists : Lists) (row : ProjectRow) → (project_of lists row
 unfolding project_of
 languages_are lists row = refl
 
-pub get_used : (lists : Lists) (row : ProjectRow) (slug : Text) (op : Operation) (retry : Text) → get (project_of lists row).used (slug, (op_code op, retry)) ≡ option_map kept_answer (find (is_used row.host slug op retry) lists.used)
-unfolding project_of
-get_used lists row slug op retry =
-    get-from_entries used_total _ (slug, (op_code op, retry))
-    ∙ found_in used_cmp used_place kept_answer (slug, (op_code op, retry)) _ (λ u. tied_used_key slug op retry u) (of_host (λ u. u.host) row.host lists.used)
-    ∙ ap (option_map kept_answer) (find_in_filter (λ u. bytes_eq u.host row.host) _ lists.used ∙ find_same _ _ (λ u. grouped (bytes_eq u.host row.host) (bytes_eq u.slug slug) (Rattle.dh_records.specs.Lists.same_op u.op op) (bytes_eq u.retry retry)) lists.used)
-  where
-    grouped : (a b c d : Bool) → (a && (b && (c && d))) ≡ (a && b && c && d)
-    grouped true true c d = refl
-    grouped true false c d = refl
-    grouped false b c d = refl
-
 pub defaults_are : (lists : Lists) (row : ProjectRow) → (project_of lists row).defaults ≡ map (λ d. d.name) (filter (is_pick_of row.host) lists.picks)
 unfolding project_of
 defaults_are lists row = refl
 
-mapped_some : {A X : Type 0} (f : A → X) (o : Option A) → is_some (option_map f o) ≡ is_some o
-mapped_some f None = refl
-mapped_some f (Some x) = refl
-
 -- ---- what the lists have of a project of the world
 
 module _ (lists : Lists) (host : Text) (p : Project) (was : get (world_of lists) host ≡ Some p) where
-  abbrev row : ProjectRow
-  row = (row_of lists host p was).0
-
-  spelt : IsRowOf lists host p row
-  spelt = (row_of lists host p was).1
+  -- what each row says of its host, of this one
+  pub told_of : {M : Type 0} (part : Project → M) (says : Text → M) → ((r : ProjectRow) → part (project_of lists r) ≡ says r.host) → part p ≡ says host
+  told_of part says each =
+      let it = row_of lists host p was in
+      ap part (sym it.1.spells) ∙ each it.0 ∙ ap says it.1.host_is
 
   pub languages_in : p.languages ≡ languages_of lists host
-  languages_in = ap (λ (x : Project). x.languages) (sym spelt.spells) ∙ languages_are lists row ∙ ap (languages_of lists) spelt.host_is
+  languages_in = told_of (λ x. x.languages) (languages_of lists) (languages_are lists)
 
   pub speaks_in : (lang : Text) → list_any (λ l. bytes_eq l lang) p.languages ≡ has_language lists host lang
   speaks_in lang = ap (list_any (λ l. bytes_eq l lang)) languages_in
@@ -99,8 +82,7 @@ module _ (lists : Lists) (host : Text) (p : Project) (was : get (world_of lists)
   count_in = ap length languages_in ∙ length-map (filter (is_lang_of host) lists.langs) (λ l. l.lang)
 
   pub version_in : (slug : Text) → get p.versions slug ≡ option_map (λ v. v.version) (find (is_version host slug) lists.versions)
-  version_in slug =
-      ap (λ (x : Project). get x.versions slug) (sym spelt.spells) ∙ get_version lists row slug ∙ ap (λ h. option_map (λ v. v.version) (find (is_version h slug) lists.versions)) spelt.host_is
+  version_in slug = told_of (λ x. get x.versions slug) (λ h. option_map (λ v. v.version) (find (is_version h slug) lists.versions)) (λ r. get_version lists r slug)
 
   pub active_in : (slug : Text) → option_map_or (λ v. v.active) (get p.versions slug) false ≡ has_active lists host slug
   active_in slug = ap (λ o. option_map_or (λ v. v.active) o false) (version_in slug) ∙ go (find (is_version host slug) lists.versions)
@@ -110,27 +92,25 @@ module _ (lists : Lists) (host : Text) (p : Project) (was : get (world_of lists)
       go (Some r) = refl
 
   pub page_in : (slug lang path : Text) → get p.pages (slug, (lang, path)) ≡ option_map (λ x. x.page) (find (is_page host slug lang path) lists.pages)
-  page_in slug lang path =
-      ap (λ (x : Project). get x.pages (slug, (lang, path))) (sym spelt.spells) ∙ get_page lists row slug lang path ∙ ap (λ h. option_map (λ x. x.page) (find (is_page h slug lang path) lists.pages)) spelt.host_is
+  page_in slug lang path = told_of (λ x. get x.pages (slug, (lang, path))) (λ h. option_map (λ x. x.page) (find (is_page h slug lang path) lists.pages)) (λ r. get_page lists r slug lang path)
 
   pub used_in : (slug : Text) (op : Operation) (retry : Text) → get p.used (slug, (op_code op, retry)) ≡ option_map kept_answer (find (is_used host slug op retry) lists.used)
-  used_in slug op retry =
-      ap (λ (x : Project). get x.used (slug, (op_code op, retry))) (sym spelt.spells) ∙ get_used lists row slug op retry ∙ ap (λ h. option_map kept_answer (find (is_used h slug op retry) lists.used)) spelt.host_is
+  used_in slug op retry = told_of (λ x. get x.used (slug, (op_code op, retry))) (λ h. option_map kept_answer (find (is_used h slug op retry) lists.used)) (λ r. get_used lists r slug op retry)
 
   pub has_version_in : (slug : Text) → contains_key p.versions slug ≡ has_version lists host slug
   has_version_in slug = ap is_some (version_in slug) ∙ mapped_some (λ v. v.version) (find (is_version host slug) lists.versions)
 
   pub defaults_in : p.defaults ≡ map (λ d. d.name) (filter (is_pick_of host) lists.picks)
-  defaults_in = ap (λ (x : Project). x.defaults) (sym spelt.spells) ∙ defaults_are lists row ∙ ap (λ h. map (λ d. d.name) (filter (is_pick_of h) lists.picks)) spelt.host_is
+  defaults_in = told_of (λ x. x.defaults) (λ h. map (λ d. d.name) (filter (is_pick_of h) lists.picks)) (defaults_are lists)
 
   pub pass_in : (pass : Text) → get p.passes pass ≡ option_map (λ x. tt) (find (is_pass host pass) lists.passes)
-  pass_in pass = ap (λ (x : Project). get x.passes pass) (sym spelt.spells) ∙ get_pass lists row pass ∙ ap (λ h. option_map (λ x. tt) (find (is_pass h pass) lists.passes)) spelt.host_is
+  pass_in pass = told_of (λ x. get x.passes pass) (λ h. option_map (λ x. tt) (find (is_pass h pass) lists.passes)) (λ r. get_pass lists r pass)
 
   pub has_pass_in : (pass : Text) → contains_key p.passes pass ≡ has_pass lists host pass
   has_pass_in pass = ap is_some (pass_in pass) ∙ mapped_some (λ x. tt) (find (is_pass host pass) lists.passes)
 
   pub held_in : (pass slug : Text) → get p.held (pass, slug) ≡ option_map (λ x. tt) (find (is_held host pass slug) lists.held)
-  held_in pass slug = ap (λ (x : Project). get x.held (pass, slug)) (sym spelt.spells) ∙ get_held lists row pass slug ∙ ap (λ h. option_map (λ x. tt) (find (is_held h pass slug) lists.held)) spelt.host_is
+  held_in pass slug = told_of (λ x. get x.held (pass, slug)) (λ h. option_map (λ x. tt) (find (is_held h pass slug) lists.held)) (λ r. get_held lists r pass slug)
 
 -- ---- one project put back after the other
 
