@@ -88,7 +88,7 @@ constraints_with_pass lists row constraints host few =
       all_added (λ x. IsTrue (has_project lists x.host)) (by_key coding.passes.key) row lists.passes host constraints.passes,
       all_weaker _ (λ r. length (filter (is_pass_of r.host) next.passes) ≤ 1000) still lists.projects constraints.few_passes,
       all_weaker _ (λ x. IsTrue (has_pass next x.host x.pass && has_version lists x.host x.slug))
-          (λ x. and_first _ _ _ (found_still (by_key coding.passes.key) (is_pass x.host x.pass) row lists.passes)) lists.held constraints.granted
+          (λ x. and_first _ _ _ (found_still (by_key coding.passes.key) (is_pass x.host x.pass) row lists.passes)) lists.held constraints.granted,
     )
   where
     next : Lists
@@ -107,7 +107,7 @@ constraints_without_pass lists host pass constraints none =
       all-filter _ (λ x. not (is_pass host pass x)) lists.passes constraints.passes,
       all_weaker _ (λ r. length (filter (is_pass_of r.host) (filter (λ x. not (is_pass host pass x)) lists.passes)) ≤ 1000)
           (λ r were. omega (arith, were, count_kept (is_pass_of r.host) (λ x. not (is_pass host pass x)) lists.passes)) lists.projects constraints.few_passes,
-      all_both _ _ (λ x. IsTrue (has_pass next x.host x.pass && has_version lists x.host x.slug)) (λ x was out. and_first _ _ _ (kept x out) was) lists.held constraints.granted none
+      all_both _ _ (λ x. IsTrue (has_pass next x.host x.pass && has_version lists x.host x.slug)) (λ x was out. and_first _ _ _ (kept x out) was) lists.held constraints.granted none,
     )
   where
     next : Lists
@@ -130,7 +130,7 @@ constraints_with_defaults lists host names constraints up has apart may =
       all_set host (λ d. IsTrue (has_project lists d.host)) names lists.picks (all_ranked host (λ d. IsTrue (has_project lists d.host)) 1 names (all_of _ (λ name rank. has) names)) constraints.picks,
       all_weaker _ (λ r. AreDefaults (filter (is_pick_of r.host) (set_picks host names lists.picks))) still lists.projects constraints.defaults,
       all_set host (λ d. MayBeDefault lists d.host d.name) names lists.picks
-          (all_ranked host (λ d. MayBeDefault lists d.host d.name) 1 names (all_weaker _ (λ name. (rank : ℕ) → MayBeDefault lists host name) (λ name h rank. h) names may)) constraints.default_names
+          (all_ranked host (λ d. MayBeDefault lists d.host d.name) 1 names (all_weaker _ (λ name. (rank : ℕ) → MayBeDefault lists host name) (λ name h rank. h) names may)) constraints.default_names,
     )
   where
     are : AreDefaults (ranked host 1 names)
@@ -196,7 +196,7 @@ constraints_without_version lists host slug constraints bare unheld unnamed =
       all-filter _ (λ v. not (is_version host slug v)) lists.versions constraints.slugs,
       all_both _ _ (λ x. IsTrue (has_active next x.host x.slug)) (λ x was out. ap (λ o. option_map_or (λ (v : VersionRow). v.version.active) o false) (stays x.host x.slug out) ∙ was) lists.pages constraints.active bare,
       all_both _ _ (λ d. MayBeDefault next d.host d.name) (λ d was out. or_later _ _ _ (λ h. ap is_some (stays d.host d.name out) ∙ h) was) lists.picks constraints.default_names unnamed,
-      all_both _ _ (λ x. IsTrue (has_pass lists x.host x.pass && has_version next x.host x.slug)) (λ x was out. and_later _ _ _ (λ h. ap is_some (stays x.host x.slug out) ∙ h) was) lists.held constraints.granted unheld
+      all_both _ _ (λ x. IsTrue (has_pass lists x.host x.pass && has_version next x.host x.slug)) (λ x was out. and_later _ _ _ (λ h. ap is_some (stays x.host x.slug out) ∙ h) was) lists.held constraints.granted unheld,
     )
   where
     next : Lists

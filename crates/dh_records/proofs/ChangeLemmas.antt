@@ -5,7 +5,6 @@ use Rattle.std.specs.List.{AllByRecursion}
 use Rattle.std.specs.Str.{bytes_eq}
 use Rattle.std.specs.FinMap.{empty, get, insert, remove, retain_keys}
 use Rattle.std.proofs.lemmas.List.{map-append}
-use Rattle.std.proofs.lemmas.Map.Lookups.{exact_bytes}
 use Rattle.std.proofs.lemmas.Slice.Eq.{bytes_eq-Decides}
 use Rattle.sqlite_keyed.proofs.ListLemmas.{filter_none}
 use Rattle.dh_rows.specs.Keyed.{by_key, IsFreeKey, added, put}
@@ -19,8 +18,8 @@ use Rattle.dh_world.specs.World.{Text, op_code, Project, lies_under}
 use Rattle.dh_records.specs.Lists.{Lists, project_of, world_of, kept_answer, is_project, is_lang_of, is_version, is_page_under}
 use Rattle.dh_records.specs.Constraints.{InOrder, has_project, KeepsConstraints}
 use Rattle.dh_records.proofs.Keys.{host_first}
-use Rattle.dh_records.proofs.KeyLemmas.{page_place, used_place, held_place}
-use Rattle.dh_world.proofs.MapLemmas.{used_total, used_exact, tied_text, text_total, page_total, page_exact, held_total, held_exact}
+use Rattle.dh_records.proofs.KeyLemmas.{page_place}
+use Rattle.dh_world.proofs.MapLemmas.{tied_text}
 use Rattle.dh_records.proofs.WorldLemmas.{owned_by, languages_are}
 use Rattle.dh_records.proofs.ConstraintLemmas.{places_below, langs_with, find_project, none_of_new, grants_owned}
 use Rattle.dh_records.proofs.RecordLemmas.{found_passes, none_but_added, added_elsewhere, kept_none}
@@ -110,12 +109,12 @@ module _ (lists : Lists) (row : ProjectRow) (lang : LangRow) (constraints : Keep
     branch = row.branch;
     new_private = row.new_private;
     wkey = row.wkey;
-    versions = kept_none text_total exact_bytes (λ v. v.host) (λ v. v.version.slug) (λ v. v.version) row.host lists.versions (none (λ v. v.host) lists.versions constraints.versions) i;
-    pages = kept_none page_total page_exact (λ x. x.host) page_place (λ x. x.page) row.host lists.pages (none (λ x. x.host) lists.pages constraints.pages) i;
+    versions = kept_none parts.version_maps row.host lists.versions (none (λ v. v.host) lists.versions constraints.versions) i;
+    pages = kept_none parts.page_maps row.host lists.pages (none (λ x. x.host) lists.pages constraints.pages) i;
     defaults = none_told (λ d. d.host) (λ d. d.name) lists.picks constraints.picks i;
-    passes = kept_none text_total exact_bytes (λ x. x.host) (λ x. x.pass) (λ x. tt) row.host lists.passes (none (λ x. x.host) lists.passes constraints.passes) i;
-    held = kept_none held_total held_exact (λ x. x.host) held_place (λ x. tt) row.host lists.held (none (λ x. x.host) lists.held (grants_owned lists constraints)) i;
-    used = kept_none used_total used_exact (λ u. u.host) used_place kept_answer row.host lists.used (none (λ u. u.host) lists.used constraints.used) i;
+    passes = kept_none parts.pass_maps row.host lists.passes (none (λ x. x.host) lists.passes constraints.passes) i;
+    held = kept_none parts.held_maps row.host lists.held (none (λ x. x.host) lists.held (grants_owned lists constraints)) i;
+    used = kept_none parts.used_maps row.host lists.used (none (λ u. u.host) lists.used constraints.used) i;
     rules = none_told (λ r. r.host) (λ r. r.rule) lists.rules constraints.rules i;
     redirects = none_told (λ r. r.host) (λ r. r.redirect) lists.redirects constraints.redirects i;
   }

@@ -78,7 +78,7 @@ constraints_with_version lists row constraints host named bare =
       all_put coding.versions.key (λ v. slug_from v.version.name ≡ Some v.version.slug) row lists.versions named constraints.slugs,
       all_both _ _ (λ x. IsTrue (has_active next x.host x.slug)) still lists.pages constraints.active (each row.version.active refl),
       all_weaker _ (λ d. IsTrue (is_alias d.name || has_version next d.host d.name)) (λ d. or_later _ _ _ (kept d.host d.name)) lists.picks constraints.default_names,
-      all_weaker _ (λ x. IsTrue (has_pass lists x.host x.pass && has_version next x.host x.slug)) (λ x. and_later _ _ _ (kept x.host x.slug)) lists.held constraints.granted
+      all_weaker _ (λ x. IsTrue (has_pass lists x.host x.pass && has_version next x.host x.slug)) (λ x. and_later _ _ _ (kept x.host x.slug)) lists.held constraints.granted,
     )
   where
     next : Lists
@@ -113,7 +113,7 @@ constraints_with_page lists row constraints host shown spoken =
     assumption (
       all_put coding.pages.key (λ x. IsTrue (has_project lists x.host)) row lists.pages host constraints.pages,
       all_put coding.pages.key (λ x. IsTrue (has_active lists x.host x.slug)) row lists.pages shown constraints.active,
-      all_put coding.pages.key (λ x. IsTrue (has_language lists x.host x.lang)) row lists.pages spoken constraints.spoken
+      all_put coding.pages.key (λ x. IsTrue (has_language lists x.host x.lang)) row lists.pages spoken constraints.spoken,
     )
 
 -- some pages less
@@ -122,7 +122,7 @@ constraints_without lists p constraints =
     assumption (
       all-filter _ p lists.pages constraints.pages,
       all-filter _ p lists.pages constraints.active,
-      all-filter _ p lists.pages constraints.spoken
+      all-filter _ p lists.pages constraints.spoken,
     )
 
 -- ---- used keys
@@ -132,7 +132,7 @@ pub constraints_with_used : (lists : Lists) (row : UsedRow) → KeepsConstraints
 constraints_with_used lists row constraints host read =
     assumption (
       all_added (λ u. IsTrue (has_project lists u.host)) (by_key coding.used.key) row lists.used host constraints.used,
-      all_added (λ u. IsSome (answer_of u.answer)) (by_key coding.used.key) row lists.used read constraints.answers
+      all_added (λ u. IsSome (answer_of u.answer)) (by_key coding.used.key) row lists.used read constraints.answers,
     )
 
 -- ---- languages
@@ -212,7 +212,7 @@ constraints_with_lang lists row constraints up host next few new =
     assumption (
       all_added (λ l. IsTrue (has_project lists l.host)) (by_key coding.langs.key) row lists.langs host constraints.langs,
       all_weaker _ (λ r. AreLanguages r.main (filter (is_lang_of r.host) after)) still lists.projects constraints.languages,
-      all_weaker _ (λ x. list_any (λ t. bytes_eq t x.lang) (map (λ l. l.lang) (filter (is_lang_of x.host) after)) ≡ true) spoken lists.pages constraints.spoken
+      all_weaker _ (λ x. list_any (λ t. bytes_eq t x.lang) (map (λ l. l.lang) (filter (is_lang_of x.host) after)) ≡ true) spoken lists.pages constraints.spoken,
     )
   where
     after : List LangRow
@@ -290,7 +290,7 @@ constraints_with_project lists row lang constraints new home main place =
       begun (λ d. d.host) AreDefaults lists.picks constraints.picks none_are_defaults constraints.defaults,
       begun (λ r. r.host) AreRules lists.rules constraints.rules (none_have_places (λ r. r.place) 50) constraints.rule_places,
       begun (λ r. r.host) AreRedirects lists.redirects constraints.redirects (none_have_places (λ r. r.place) 100) constraints.places,
-      all_both _ _ (λ x. IsTrue (has_language next x.host x.lang)) spoken lists.pages constraints.pages constraints.spoken
+      all_both _ _ (λ x. IsTrue (has_language next x.host x.lang)) spoken lists.pages constraints.pages constraints.spoken,
     )
   where
     after : List LangRow

@@ -1,14 +1,14 @@
 pub mod ReadingLemmas
-pub mod SeenLemmas
 pub mod RecordLemmas
 pub mod Keys
 pub mod KeyLemmas
+pub mod Parts
+pub mod SeenLemmas
 pub mod PickLists
 pub mod GrantLemmas
 pub mod OrderLemmas
 pub mod ConstraintLemmas
 pub mod WorldLemmas
-pub mod Parts
 pub mod PartLemmas
 pub mod ChangeLemmas
 pub mod AccessChanges

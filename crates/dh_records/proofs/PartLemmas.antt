@@ -13,8 +13,8 @@ use Rattle.dh_world.specs.World.{Text, Project}
 use Rattle.dh_records.specs.Lists.{Lists, project_of, world_of, is_project}
 use Rattle.dh_world.proofs.MapLemmas.{tied_text, text_total}
 use Rattle.dh_records.proofs.KeyLemmas.{turned}
-use Rattle.dh_records.proofs.Parts.{MapOf, map_of, spelled, Part}
-use Rattle.dh_records.proofs.RecordLemmas.{found_passes, of_each_host, put_here, put_there, put_free, dropped_here, dropped_there}
+use Rattle.dh_records.proofs.Parts.{spelled, Part}
+use Rattle.dh_records.proofs.RecordLemmas.{MapOf, map_of, found_passes, of_each_host, put_here, put_there, put_free, dropped_here, dropped_there}
 use Rattle.dh_records.proofs.SeenLemmas.{get_project}
 use Rattle.dh_records.proofs.WorldLemmas.{told_of}
 
@@ -92,8 +92,8 @@ module _ {A K X : Type 0} {R : K → K → Ordering} (k : MapOf A X R) (t : Part
       → world_of (t.replaced (put k.code row (t.rows lists)) lists) ≡ insert (world_of lists) (k.host_of row) (t.set (insert (t.of p) (k.place row) (k.value row)) p)
   world_put row p =
       part_changed t lists (put k.code row (t.rows lists)) (k.host_of row) p (λ m. insert m (k.place row) (k.value row))
-      (λ name. put_there k.total k.exact k.host_of k.place k.value k.code k.same row name (t.rows lists))
-      (put_here k.total k.exact k.host_of k.place k.value k.code k.same row (k.host_of row) (t.rows lists) refl)
+      (λ name. put_there k row name (t.rows lists))
+      (put_here k row (k.host_of row) (t.rows lists) refl)
 
   -- a record is added whose key was free
   pub world_added : (row : A) (p : Project) → IsFreeKey k.code row (t.rows lists) → get (world_of lists) (k.host_of row) ≡ Some p
@@ -105,8 +105,8 @@ module _ {A K X : Type 0} {R : K → K → Ordering} (k : MapOf A X R) (t : Part
     pub world_dropped : world_of (t.replaced (filter (λ x. not (test x)) (t.rows lists)) lists) ≡ insert (world_of lists) host (t.set (retain_keys (t.of p) (λ x. not (q x))) p)
     world_dropped =
         part_changed t lists (filter (λ x. not (test x)) (t.rows lists)) host p (λ m. retain_keys m (λ x. not (q x)))
-        (λ name apart. dropped_there k.total k.exact k.host_of k.place k.value host test q same name (t.rows lists) (turned name host ∙ apart))
-        (dropped_here k.total k.exact k.host_of k.place k.value host test q same host (t.rows lists) refl) was
+        (λ name apart. dropped_there k host test q same name (t.rows lists) (turned name host ∙ apart))
+        (dropped_here k host test q same host (t.rows lists) refl) was
 
     -- the record of one key is dropped
     pub world_removed : (place : K) → ((x : K) → eq_by_cmp R place x ≡ q x) → world_of (t.replaced (filter (λ x. not (test x)) (t.rows lists)) lists) ≡ insert (world_of lists) host (t.set (remove (t.of p) place) p)

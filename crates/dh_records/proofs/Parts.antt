@@ -1,12 +1,6 @@
 -- The lists of the tables, each with the part of a project that its records make.
-use Rattle.std.proofs.Common.{◌≡◌, ◌&&◌, List, map, filter, refl, Ordering}
-use Rattle.std.specs.Str.{bytes_eq}
-use Rattle.std.specs.Ordering.{eq_by_cmp}
-use Rattle.std.specs.Cmp.{IsTotalOrder}
-use Rattle.std.specs.FinMap.{FinMap, IsAntisymmetric}
+use Rattle.std.proofs.Common.{◌≡◌, List, map, filter, refl}
 use Rattle.std.proofs.lemmas.Map.Lookups.{exact_bytes}
-use Rattle.sqlite_value.specs.Order.{Row}
-use Rattle.dh_rows.specs.Keyed.{same_key}
 use Rattle.dh_versions.specs.declared.version.Version.{Version}
 use Rattle.dh_rules.specs.declared.rule.Rule.{Rule}
 use Rattle.dh_redirects.specs.declared.redirect.Redirect.{Redirect}
@@ -27,22 +21,9 @@ use Rattle.dh_world.specs.World.{Text, Project, text_cmp, page_cmp, held_cmp, us
 use Rattle.dh_records.specs.Lists.{Lists, project_of, kept_answer, is_lang_of, is_pick_of, is_rule_of, is_redirect_of}
 use Rattle.dh_world.proofs.MapLemmas.{text_total, page_total, page_exact, held_total, held_exact, used_total, used_exact}
 use Rattle.dh_records.proofs.KeyLemmas.{same_version, page_place, same_page, used_place, same_used, held_place, same_pass, same_held}
-use Rattle.dh_records.proofs.RecordLemmas.{kept_of}
+use Rattle.dh_records.proofs.RecordLemmas.{MapOf, map_of}
 
 -- ---- lists of which a project makes maps
-
--- How the records of one host make a map: where each stands in it, and its value there.
-pub record MapOf {K : Type 0} (A X : Type 0) (R : K → K → Ordering) : Type 0 where
-  pub total : IsTotalOrder R
-  pub exact : IsAntisymmetric R
-  pub code : A → Row
-  pub host_of : A → Text
-  pub place : A → K
-  pub value : A → X
-  pub same : (x y : A) → same_key code x y ≡ (bytes_eq (host_of y) (host_of x) && eq_by_cmp R (place x) (place y))
-
-abbrev pub map_of : {A K X : Type 0} {R : K → K → Ordering} → MapOf A X R → List A → Text → FinMap R X
-map_of k rows host = kept_of k.total k.exact k.host_of k.place k.value host rows
 
 abbrev pub version_maps : MapOf VersionRow Version text_cmp
 version_maps = record { total = text_total; exact = exact_bytes; code = coding.versions.key; host_of = λ x. x.host; place = λ v. v.version.slug; value = λ v. v.version; same = same_version }
@@ -108,54 +89,108 @@ pub record Part {A M : Type 0} (told : List A → Text → M) : Type 0 where
 
 abbrev pub versions : Part (map_of version_maps)
 versions = record {
-  rows = λ l. l.versions; replaced = λ rows l. record l { versions = rows }; of = λ x. x.versions; set = λ m x. record x { versions = m };
-  projects_stay = λ rows l. refl; project_stays = λ x. refl; is_told = λ l r. refl; turns = λ rows l r. refl;
+  rows = λ l. l.versions;
+  replaced = λ rows l. record l { versions = rows };
+  of = λ x. x.versions;
+  set = λ m x. record x { versions = m };
+  projects_stay = λ rows l. refl;
+  project_stays = λ x. refl;
+  is_told = λ l r. refl;
+  turns = λ rows l r. refl;
 }
 
 abbrev pub pages : Part (map_of page_maps)
 pages = record {
-  rows = λ l. l.pages; replaced = λ rows l. record l { pages = rows }; of = λ x. x.pages; set = λ m x. record x { pages = m };
-  projects_stay = λ rows l. refl; project_stays = λ x. refl; is_told = λ l r. refl; turns = λ rows l r. refl;
+  rows = λ l. l.pages;
+  replaced = λ rows l. record l { pages = rows };
+  of = λ x. x.pages;
+  set = λ m x. record x { pages = m };
+  projects_stay = λ rows l. refl;
+  project_stays = λ x. refl;
+  is_told = λ l r. refl;
+  turns = λ rows l r. refl;
 }
 
 abbrev pub used : Part (map_of used_maps)
 used = record {
-  rows = λ l. l.used; replaced = λ rows l. record l { used = rows }; of = λ x. x.used; set = λ m x. record x { used = m };
-  projects_stay = λ rows l. refl; project_stays = λ x. refl; is_told = λ l r. refl; turns = λ rows l r. refl;
+  rows = λ l. l.used;
+  replaced = λ rows l. record l { used = rows };
+  of = λ x. x.used;
+  set = λ m x. record x { used = m };
+  projects_stay = λ rows l. refl;
+  project_stays = λ x. refl;
+  is_told = λ l r. refl;
+  turns = λ rows l r. refl;
 }
 
 abbrev pub passes : Part (map_of pass_maps)
 passes = record {
-  rows = λ l. l.passes; replaced = λ rows l. record l { passes = rows }; of = λ x. x.passes; set = λ m x. record x { passes = m };
-  projects_stay = λ rows l. refl; project_stays = λ x. refl; is_told = λ l r. refl; turns = λ rows l r. refl;
+  rows = λ l. l.passes;
+  replaced = λ rows l. record l { passes = rows };
+  of = λ x. x.passes;
+  set = λ m x. record x { passes = m };
+  projects_stay = λ rows l. refl;
+  project_stays = λ x. refl;
+  is_told = λ l r. refl;
+  turns = λ rows l r. refl;
 }
 
 abbrev pub held : Part (map_of held_maps)
 held = record {
-  rows = λ l. l.held; replaced = λ rows l. record l { held = rows }; of = λ x. x.held; set = λ m x. record x { held = m };
-  projects_stay = λ rows l. refl; project_stays = λ x. refl; is_told = λ l r. refl; turns = λ rows l r. refl;
+  rows = λ l. l.held;
+  replaced = λ rows l. record l { held = rows };
+  of = λ x. x.held;
+  set = λ m x. record x { held = m };
+  projects_stay = λ rows l. refl;
+  project_stays = λ x. refl;
+  is_told = λ l r. refl;
+  turns = λ rows l r. refl;
 }
 
 abbrev pub langs : Part langs_of
 langs = record {
-  rows = λ l. l.langs; replaced = λ rows l. record l { langs = rows }; of = λ x. x.languages; set = λ m x. record x { languages = m };
-  projects_stay = λ rows l. refl; project_stays = λ x. refl; is_told = λ l r. refl; turns = λ rows l r. refl;
+  rows = λ l. l.langs;
+  replaced = λ rows l. record l { langs = rows };
+  of = λ x. x.languages;
+  set = λ m x. record x { languages = m };
+  projects_stay = λ rows l. refl;
+  project_stays = λ x. refl;
+  is_told = λ l r. refl;
+  turns = λ rows l r. refl;
 }
 
 abbrev pub picks : Part names_of
 picks = record {
-  rows = λ l. l.picks; replaced = λ rows l. record l { picks = rows }; of = λ x. x.defaults; set = λ m x. record x { defaults = m };
-  projects_stay = λ rows l. refl; project_stays = λ x. refl; is_told = λ l r. refl; turns = λ rows l r. refl;
+  rows = λ l. l.picks;
+  replaced = λ rows l. record l { picks = rows };
+  of = λ x. x.defaults;
+  set = λ m x. record x { defaults = m };
+  projects_stay = λ rows l. refl;
+  project_stays = λ x. refl;
+  is_told = λ l r. refl;
+  turns = λ rows l r. refl;
 }
 
 abbrev pub rules : Part rules_of
 rules = record {
-  rows = λ l. l.rules; replaced = λ rows l. record l { rules = rows }; of = λ x. x.rules; set = λ m x. record x { rules = m };
-  projects_stay = λ rows l. refl; project_stays = λ x. refl; is_told = λ l r. refl; turns = λ rows l r. refl;
+  rows = λ l. l.rules;
+  replaced = λ rows l. record l { rules = rows };
+  of = λ x. x.rules;
+  set = λ m x. record x { rules = m };
+  projects_stay = λ rows l. refl;
+  project_stays = λ x. refl;
+  is_told = λ l r. refl;
+  turns = λ rows l r. refl;
 }
 
 abbrev pub redirects : Part redirects_of
 redirects = record {
-  rows = λ l. l.redirects; replaced = λ rows l. record l { redirects = rows }; of = λ x. x.redirects; set = λ m x. record x { redirects = m };
-  projects_stay = λ rows l. refl; project_stays = λ x. refl; is_told = λ l r. refl; turns = λ rows l r. refl;
+  rows = λ l. l.redirects;
+  replaced = λ rows l. record l { redirects = rows };
+  of = λ x. x.redirects;
+  set = λ m x. record x { redirects = m };
+  projects_stay = λ rows l. refl;
+  project_stays = λ x. refl;
+  is_told = λ l r. refl;
+  turns = λ rows l r. refl;
 }

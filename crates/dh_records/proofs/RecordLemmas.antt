@@ -197,62 +197,73 @@ mapped : {A X : Type 0} (f : A → X) (b : Bool) (x : A) (o : Option A) → opti
 mapped f true x o = refl
 mapped f false x o = refl
 
-module _ {A K X : Type 0} {R : K → K → Ordering} (total : IsTotalOrder R) (exact : IsAntisymmetric R) (host_of : A → Text) (key : A → K) (value : A → X) where
-  abbrev pub kept_of : Text → List A → FinMap R X
-  kept_of host rows = from_entries (map (λ a. (key a, value a)) (of_host host_of host rows))
+-- How the records of one host make a map: where each stands in it, and its value there.
+pub record MapOf {K : Type 0} (A X : Type 0) (R : K → K → Ordering) : Type 0 where
+  pub total : IsTotalOrder R
+  pub exact : IsAntisymmetric R
+  pub code : A → Row
+  pub host_of : A → Text
+  pub place : A → K
+  pub value : A → X
+  pub same : (x y : A) → same_key code x y ≡ (bytes_eq (host_of y) (host_of x) && eq_by_cmp R (place x) (place y))
 
-  pub kept_none : (host : Text) (rows : List A) → AllByRecursion (λ a. bytes_eq (host_of a) host ≡ false) rows → kept_of host rows ≡ empty
+module _ {A K X : Type 0} {R : K → K → Ordering} (k : MapOf A X R) where
+  open k use {total, exact, code, host_of, place as key, value, same}
+
+  abbrev pub map_of : List A → Text → FinMap R X
+  map_of rows host = from_entries (map (λ a. (key a, value a)) (of_host host_of host rows))
+
+  pub kept_none : (host : Text) (rows : List A) → AllByRecursion (λ a. bytes_eq (host_of a) host ≡ false) rows → map_of rows host ≡ empty
   kept_none host rows none = ap (λ l. from_entries (map (λ a. (key a, value a)) l)) (filter_none _ rows none)
 
   abbrev pub is_at : Text → K → A → Bool
   is_at host q a = bytes_eq (host_of a) host && eq_by_cmp R q (key a)
 
-  get_kept : (host : Text) (rows : List A) (q : K) → get (kept_of host rows) q ≡ option_map value (find (is_at host q) rows)
+  get_kept : (host : Text) (rows : List A) (q : K) → get (map_of rows host) q ≡ option_map value (find (is_at host q) rows)
   get_kept host rows q =
       get-from_entries total _ q ∙ found_in R key value q (λ a. eq_by_cmp R q (key a)) (λ a. refl) (of_host host_of host rows)
       ∙ ap (option_map value) (find_in_filter (λ a. bytes_eq (host_of a) host) (λ a. eq_by_cmp R q (key a)) rows)
 
   -- by a test that is of the host and of the key
-  pub get_by : (host : Text) (q : K) (test : A → Bool) → ((a : A) → is_at host q a ≡ test a) → (rows : List A) → get (kept_of host rows) q ≡ option_map value (find test rows)
+  pub get_by : (host : Text) (q : K) (test : A → Bool) → ((a : A) → is_at host q a ≡ test a) → (rows : List A) → get (map_of rows host) q ≡ option_map value (find test rows)
   get_by host q test same rows = get_kept host rows q ∙ ap (option_map value) (find_same _ _ same rows)
 
   tied : (x y : K) → eq_by_cmp R x y ≡ true → x ≡ y
   tied x y e = exact x y ((Rattle.std.specs.Cmp.Equal-is (R x y)).0 e)
 
-  module _ (code : A → Row) (same : (x y : A) → same_key code x y ≡ (bytes_eq (host_of y) (host_of x) && eq_by_cmp R (key x) (key y))) where
-    alike : (x y : A) (host : Text) (q : K) → same_key code x y ≡ true → is_at host q y ≡ is_at host q x
-    alike x y host q e =
-        let both = and_parts _ _ (sym (same x y) ∙ e) in
-        let hosts = (bytes_eq-Decides (host_of y) (host_of x)).0 both.0 in
-        let keys = tied (key x) (key y) both.1 in
-        ap₂ (λ h k. bytes_eq h host && eq_by_cmp R q k) hosts (sym keys)
+  alike : (x y : A) (host : Text) (q : K) → same_key code x y ≡ true → is_at host q y ≡ is_at host q x
+  alike x y host q e =
+      let both = and_parts _ _ (sym (same x y) ∙ e) in
+      let hosts = (bytes_eq-Decides (host_of y) (host_of x)).0 both.0 in
+      let keys = tied (key x) (key y) both.1 in
+      ap₂ (λ h k. bytes_eq h host && eq_by_cmp R q k) hosts (sym keys)
 
-    only : (x y : A) (host : Text) (q : K) → is_at host q x ≡ true → is_at host q y ≡ true → same_key code x y ≡ true
-    only x y host q here there =
-        let one = and_parts _ _ here in
-        let two = and_parts _ _ there in
-        let hosts = (bytes_eq-Decides (host_of y) host).0 two.0 ∙ sym ((bytes_eq-Decides (host_of x) host).0 one.0) in
-        let keys = sym (tied q (key x) one.1) ∙ tied q (key y) two.1 in
-        same x y ∙ and_from _ _ ((bytes_eq-Decides (host_of y) (host_of x)).1 hosts) (subst (λ k. eq_by_cmp R (key x) k ≡ true) keys (ap is_eq (tied_itself total (key x))))
+  only : (x y : A) (host : Text) (q : K) → is_at host q x ≡ true → is_at host q y ≡ true → same_key code x y ≡ true
+  only x y host q here there =
+      let one = and_parts _ _ here in
+      let two = and_parts _ _ there in
+      let hosts = (bytes_eq-Decides (host_of y) host).0 two.0 ∙ sym ((bytes_eq-Decides (host_of x) host).0 one.0) in
+      let keys = sym (tied q (key x) one.1) ∙ tied q (key y) two.1 in
+      same x y ∙ and_from _ _ ((bytes_eq-Decides (host_of y) (host_of x)).1 hosts) (subst (λ k. eq_by_cmp R (key x) k ≡ true) keys (ap is_eq (tied_itself total (key x))))
 
-    get_put : (x : A) (host : Text) (rows : List A) (q : K) → get (kept_of host (put code x rows)) q ≡ cond (is_at host q x) (Some (value x)) (get (kept_of host rows) q)
-    get_put x host rows q =
-        get_kept host (put code x rows) q ∙ ap (option_map value) (find_put code (is_at host q) x (λ y. alike x y host q) (λ y. only x y host q) rows)
-        ∙ mapped value (is_at host q x) x _ ∙ ap (cond (is_at host q x) (Some (value x))) (sym (get_kept host rows q))
+  get_put : (x : A) (host : Text) (rows : List A) (q : K) → get (map_of (put code x rows) host) q ≡ cond (is_at host q x) (Some (value x)) (get (map_of rows host) q)
+  get_put x host rows q =
+      get_kept host (put code x rows) q ∙ ap (option_map value) (find_put code (is_at host q) x (λ y. alike x y host q) (λ y. only x y host q) rows)
+      ∙ mapped value (is_at host q x) x _ ∙ ap (cond (is_at host q x) (Some (value x))) (sym (get_kept host rows q))
 
-    -- a record of this host is put
-    pub put_here : (x : A) (host : Text) (rows : List A) → host_of x ≡ host → kept_of host (put code x rows) ≡ insert (kept_of host rows) (key x) (value x)
-    put_here x host rows e = same_map total exact _ _ (λ q. get_put x host rows q
-        ∙ ap (λ b. cond (b && eq_by_cmp R q (key x)) (Some (value x)) (get (kept_of host rows) q)) ((bytes_eq-Decides (host_of x) host).1 e)
-        ∙ sym (get-insert total (kept_of host rows) (key x) (value x) q))
+  -- a record of this host is put
+  pub put_here : (x : A) (host : Text) (rows : List A) → host_of x ≡ host → map_of (put code x rows) host ≡ insert (map_of rows host) (key x) (value x)
+  put_here x host rows e = same_map total exact _ _ (λ q. get_put x host rows q
+      ∙ ap (λ b. cond (b && eq_by_cmp R q (key x)) (Some (value x)) (get (map_of rows host) q)) ((bytes_eq-Decides (host_of x) host).1 e)
+      ∙ sym (get-insert total (map_of rows host) (key x) (value x) q))
 
-    -- a record of another host is put
-    pub put_there : (x : A) (host : Text) (rows : List A) → bytes_eq (host_of x) host ≡ false → kept_of host (put code x rows) ≡ kept_of host rows
-    put_there x host rows e = same_map total exact _ _ (λ q. get_put x host rows q
-        ∙ ap (λ b. cond (b && eq_by_cmp R q (key x)) (Some (value x)) (get (kept_of host rows) q)) e)
+  -- a record of another host is put
+  pub put_there : (x : A) (host : Text) (rows : List A) → bytes_eq (host_of x) host ≡ false → map_of (put code x rows) host ≡ map_of rows host
+  put_there x host rows e = same_map total exact _ _ (λ q. get_put x host rows q
+      ∙ ap (λ b. cond (b && eq_by_cmp R q (key x)) (Some (value x)) (get (map_of rows host) q)) e)
 
   -- the records of one host whose keys pass a test are dropped
-  module _ (home : Text) (test : A → Bool) (p : K → Bool) (same : (a : A) → test a ≡ (bytes_eq (host_of a) home && p (key a))) where
+  module _ (home : Text) (test : A → Bool) (p : K → Bool) (as_key : (a : A) → test a ≡ (bytes_eq (host_of a) home && p (key a))) where
     -- what is at a key is dropped or kept as the key says
     at_key : (host : Text) (q : K) (a : A) → (not (test a) && is_at host q a) ≡ (not (bytes_eq host home && p q) && is_at host q a)
     at_key host q a = go (is_at host q a) refl
@@ -261,9 +272,9 @@ module _ {A K X : Type 0} {R : K → K → Ordering} (total : IsTotalOrder R) (e
         go false e = and_right (not (test a)) false refl ∙ sym (and_right (not (bytes_eq host home && p q)) false refl)
         go true e =
             let both = and_parts _ _ e in
-            ap (λ t. not t && true) (same a ∙ ap₂ (λ h k. bytes_eq h home && p k) ((bytes_eq-Decides (host_of a) host).0 both.0) (sym (tied q (key a) both.1)))
+            ap (λ t. not t && true) (as_key a ∙ ap₂ (λ h k. bytes_eq h home && p k) ((bytes_eq-Decides (host_of a) host).0 both.0) (sym (tied q (key a) both.1)))
 
-    get_dropped : (host : Text) (rows : List A) (q : K) → get (kept_of host (filter (λ a. not (test a)) rows)) q ≡ cond (bytes_eq host home && p q) None (get (kept_of host rows) q)
+    get_dropped : (host : Text) (rows : List A) (q : K) → get (map_of (filter (λ a. not (test a)) rows) host) q ≡ cond (bytes_eq host home && p q) None (get (map_of rows host) q)
     get_dropped host rows q =
         get_kept host _ q ∙ ap (option_map value) (find_in_filter (λ a. not (test a)) (is_at host q) rows ∙ find_same _ _ (at_key host q) rows)
         ∙ go (bytes_eq host home && p q) ∙ ap (cond (bytes_eq host home && p q) None) (sym (get_kept host rows q))
@@ -272,15 +283,15 @@ module _ {A K X : Type 0} {R : K → K → Ordering} (total : IsTotalOrder R) (e
         go true = ap (option_map value) (found_none _ rows (Rattle.sqlite_keyed.proofs.ListLemmas.all_of _ (λ a. refl) rows))
         go false = refl
 
-    pub dropped_here : (host : Text) (rows : List A) → host ≡ home → kept_of host (filter (λ a. not (test a)) rows) ≡ retain_keys (kept_of host rows) (λ k. not (p k))
+    pub dropped_here : (host : Text) (rows : List A) → host ≡ home → map_of (filter (λ a. not (test a)) rows) host ≡ retain_keys (map_of rows host) (λ k. not (p k))
     dropped_here host rows e = same_map total exact _ _ (λ q. get_dropped host rows q
-        ∙ ap (λ b. cond (b && p q) None (get (kept_of host rows) q)) ((bytes_eq-Decides host home).1 e)
-        ∙ turned (p q) None (get (kept_of host rows) q)
-        ∙ sym (get-retain_keys (kept_of host rows) (λ k. not (p k)) q (λ k t. ap (λ x. not (p x)) (sym (exact q k t)))))
+        ∙ ap (λ b. cond (b && p q) None (get (map_of rows host) q)) ((bytes_eq-Decides host home).1 e)
+        ∙ turned (p q) None (get (map_of rows host) q)
+        ∙ sym (get-retain_keys (map_of rows host) (λ k. not (p k)) q (λ k t. ap (λ x. not (p x)) (sym (exact q k t)))))
       where
         turned : (b : Bool) (x y : Option X) → cond b x y ≡ cond (not b) y x
         turned true x y = refl
         turned false x y = refl
 
-    pub dropped_there : (host : Text) (rows : List A) → bytes_eq host home ≡ false → kept_of host (filter (λ a. not (test a)) rows) ≡ kept_of host rows
-    dropped_there host rows e = same_map total exact _ _ (λ q. get_dropped host rows q ∙ ap (λ b. cond (b && p q) None (get (kept_of host rows) q)) e)
+    pub dropped_there : (host : Text) (rows : List A) → bytes_eq host home ≡ false → map_of (filter (λ a. not (test a)) rows) host ≡ map_of rows host
+    dropped_there host rows e = same_map total exact _ _ (λ q. get_dropped host rows q ∙ ap (λ b. cond (b && p q) None (get (map_of rows host) q)) e)

@@ -24,7 +24,7 @@ constraints_with_redirects lists host redirects constraints up has few good =
     assumption (
       all (λ r. IsTrue (has_project lists r.host)) (λ n r fine. has) constraints.redirects,
       places_set (λ r. r.host) (λ r. r.place) host (redirect_row host) (λ n r. refl) (λ n r. refl) 100 lists redirects lists.redirects constraints.places up has few,
-      all (λ r. first_fault r.redirect ≡ None) (λ n r fine. fine) constraints.good
+      all (λ r. first_fault r.redirect ≡ None) (λ n r fine. fine) constraints.good,
     )
   where
     all : (P : RedirectRow → Type 0) → ((n : ℕ) (r : Redirect) → first_fault r ≡ None → P (redirect_row host n r)) → AllByRecursion P lists.redirects → AllByRecursion P (set_redirects host redirects lists).redirects

@@ -24,7 +24,7 @@ constraints_with_rules lists host rules constraints up has few good =
     assumption (
       all (λ r. IsTrue (has_project lists r.host)) (λ n r may. has) constraints.rules,
       places_set (λ r. r.host) (λ r. r.place) host (rule_row host) (λ n r. refl) (λ n r. refl) 50 lists rules lists.rules constraints.rule_places up has few,
-      all (λ r. IsTrue (is_allowed r.rule.pattern)) (λ n r may. may) constraints.allowed
+      all (λ r. IsTrue (is_allowed r.rule.pattern)) (λ n r may. may) constraints.allowed,
     )
   where
     all : (P : RuleRow → Type 0) → ((n : ℕ) (r : Rule) → IsTrue (is_allowed r.pattern) → P (rule_row host n r)) → AllByRecursion P lists.rules → AllByRecursion P (set_rules host rules lists).rules

@@ -23,6 +23,7 @@ use Rattle.dh_records.specs.Lists.{Lists, project_of, is_version_of}
 use Rattle.dh_world.specs.Seen.{visible_versions}
 use Rattle.dh_records.specs.Constraints.{RiseBySlug}
 use Rattle.dh_world.proofs.MapLemmas.{text_total}
+use Rattle.dh_records.proofs.Parts.{spelled}
 
 abbrev pub by_slug : VersionRow → world.Text × Version
 by_slug r = (r.version.slug, r.version)
@@ -141,8 +142,7 @@ seen_entries held (r ∷ rows) = go (may_see r.version (held r.version.slug)) (s
 -- ---- what a caller sees
 
 versions_are : (lists : Lists) (row : ProjectRow) → (project_of lists row).versions ≡ from_entries (map by_slug (filter (is_version_of row.host) lists.versions))
-unfolding project_of
-versions_are lists row = refl
+versions_are lists row = ap (λ x. x.versions) (spelled lists row)
 
 pub visible_entries : (lists : Lists) (row : ProjectRow) (pass : Option world.Text) → RiseBySlug (filter (is_version_of row.host) lists.versions)
     → entries (visible_versions (project_of lists row) pass) ≡ map by_slug (filter (λ r. may_see r.version (holds (project_of lists row) pass r.version.slug)) (filter (is_version_of row.host) lists.versions))

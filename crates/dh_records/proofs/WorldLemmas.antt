@@ -15,6 +15,7 @@ use Rattle.dh_records.specs.Lists.{Lists, project_of, world_of, kept_answer, is_
 use Rattle.dh_records.specs.Constraints.{has_project, languages_of, has_language, has_active, has_version, has_pass}
 use Rattle.dh_world.proofs.MapLemmas.{get_back, put_twice}
 use Rattle.dh_records.proofs.RecordLemmas.{found_passes}
+use Rattle.dh_records.proofs.Parts.{spelled}
 use Rattle.dh_records.proofs.SeenLemmas.{get_project, get_version, get_page, get_used, get_pass, get_held, mapped_some}
 
 -- ---- the row of a project
@@ -44,24 +45,19 @@ no_row lists host none = go (find (is_project host) lists.projects) (sym (get_pr
 
 -- what a row says of its project
 pub branch_of : (lists : Lists) (row : ProjectRow) → (project_of lists row).branch ≡ row.branch
-unfolding project_of
-branch_of lists row = refl
+branch_of lists row = ap (λ x. x.branch) (spelled lists row)
 
 pub new_private_of : (lists : Lists) (row : ProjectRow) → (project_of lists row).new_private ≡ row.new_private
-unfolding project_of
-new_private_of lists row = refl
+new_private_of lists row = ap (λ x. x.new_private) (spelled lists row)
 
 pub wkey_of : (lists : Lists) (row : ProjectRow) → (project_of lists row).wkey ≡ row.wkey
-unfolding project_of
-wkey_of lists row = refl
+wkey_of lists row = ap (λ x. x.wkey) (spelled lists row)
 
 pub languages_are : (lists : Lists) (row : ProjectRow) → (project_of lists row).languages ≡ languages_of lists row.host
-unfolding project_of
-languages_are lists row = refl
+languages_are lists row = ap (λ x. x.languages) (spelled lists row)
 
 pub defaults_are : (lists : Lists) (row : ProjectRow) → (project_of lists row).defaults ≡ map (λ d. d.name) (filter (is_pick_of row.host) lists.picks)
-unfolding project_of
-defaults_are lists row = refl
+defaults_are lists row = ap (λ x. x.defaults) (spelled lists row)
 
 -- ---- what the lists have of a project of the world
 

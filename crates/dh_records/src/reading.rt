@@ -6,6 +6,7 @@ ghost use Rattle.dh_texts.specs.Texts.{is_host_name, is_lang, is_page_path, is_r
 ghost use Rattle.dh_lookup.specs.Faults.{OnStore};
 ghost use Rattle.sqlite_value.specs.declared.value.Value.TheVariants.{Int, Text as SqlText, Blob};
 ghost use Rattle.sqlite_value.specs.Order.{column};
+ghost use Rattle.dh_rows.specs.Faults as rows;
 ghost use Rattle.dh_rows.specs.Keyed.{Coding, flag};
 ghost use Rattle.dh_world.specs.Answers.{answer_of};
 ghost use Rattle.dh_records.specs.Codings as spec;
@@ -22,7 +23,7 @@ use dh_reply::{Fault, Page};
 use dh_rules::{Action, Pattern, Rule};
 use dh_versions::{Kind, Version};
 use dh_world::{Answer, Operation};
-use sqlite::Row;
+use sqlite::{Error, Row};
 use std::alloc::Global;
 
 /// The same refusal, as the layers above tell it.
@@ -33,6 +34,13 @@ pub fn fault_of(fault: dh_rows::Fault) -> Fault
         dh_rows::Fault::Store => Fault::Store,
         dh_rows::Fault::Memory => Fault::Memory,
     }
+}
+
+/// Why a column was not read.
+fn fault_of_column(error: Error) -> Fault
+    ensures { result ≡ told_as (rows.fault_of error) }
+{
+    fault_of(error.into())
 }
 
 /// A text that is no value of its type breaks a constraint of the rows, so it is a fault of the store.
@@ -62,40 +70,28 @@ fn text_at(row: &Row, at: usize) -> Result<String, Fault>
     ensures value { IfOk result (λ s. column row.now at ≡ SqlText (string_bytes s)) }
     ensures told { OnStore result (¬ typed.IsText row.now at) }
 {
-    match row.get(at) {
-        Ok(text) => Ok(text),
-        Err(error) => Err(fault_of(error.into())),
-    }
+    row.get(at).map_err(fault_of_column)
 }
 
 fn flag_at(row: &Row, at: usize) -> Result<bool, Fault>
     ensures value { IfOk result (λ b. spec.flag_in row.now at ≡ b) }
     ensures told { OnStore result (¬ typed.IsFlag row.now at) }
 {
-    match row.get(at) {
-        Ok(flag) => Ok(flag),
-        Err(error) => Err(fault_of(error.into())),
-    }
+    row.get(at).map_err(fault_of_column)
 }
 
 fn number_at(row: &Row, at: usize) -> Result<u32, Fault>
     ensures value { IfOk result (λ n. spec.number_in (column row.now at) ≡ n) }
     ensures told { OnStore result (¬ typed.IsNumber row.now at) }
 {
-    match row.get(at) {
-        Ok(number) => Ok(number),
-        Err(error) => Err(fault_of(error.into())),
-    }
+    row.get(at).map_err(fault_of_column)
 }
 
 fn status_at(row: &Row, at: usize) -> Result<u16, Fault>
     ensures value { IfOk result (λ n. spec.number_in (column row.now at) ≡ n) }
     ensures told { OnStore result (¬ typed.IsStatus row.now at) }
 {
-    match u16::try_from(number_at(row, at)?) {
-        Ok(status) => Ok(status),
-        Err(_) => Err(Fault::Store),
-    }
+    u16::try_from(number_at(row, at)?).map_err(|_| Fault::Store)
 }
 
 /// The kind whose number this is.
@@ -127,80 +123,56 @@ fn rank_at(row: &Row, at: usize) -> Result<u64, Fault>
     ensures value { IfOk result (λ n. spec.number_in (column row.now at) ≡ n) }
     ensures told { OnStore result (¬ typed.IsRank row.now at) }
 {
-    match row.get(at) {
-        Ok(rank) => Ok(rank),
-        Err(error) => Err(fault_of(error.into())),
-    }
+    row.get(at).map_err(fault_of_column)
 }
 
 fn body_at(row: &Row, at: usize) -> Result<Bytes, Fault>
     ensures value { IfOk result (λ b. spec.text_in row.now at ≡ b) }
     ensures told { OnStore result (¬ typed.IsBody row.now at) }
 {
-    match row.get(at) {
-        Ok(body) => Ok(Bytes::wrap(body)),
-        Err(error) => Err(fault_of(error.into())),
-    }
+    Ok(Bytes::wrap(row.get(at).map_err(fault_of_column)?))
 }
 
 fn host_at(alloc: Global, row: &Row, at: usize) -> Result<HostName, Fault>
     ensures value { IfOk result (λ t. spec.text_in row.now at ≡ t) }
     ensures told { OnStore result (¬ typed.IsOf is_host_name row.now at) }
 {
-    match HostName::parse(alloc, text_at(row, at)?.as_str()) {
-        Ok(host) => Ok(host),
-        Err(fault) => Err(fault_of_text(fault)),
-    }
+    HostName::parse(alloc, text_at(row, at)?.as_str()).map_err(fault_of_text)
 }
 
 fn lang_at(alloc: Global, row: &Row, at: usize) -> Result<Lang, Fault>
     ensures value { IfOk result (λ t. spec.text_in row.now at ≡ t) }
     ensures told { OnStore result (¬ typed.IsOf is_lang row.now at) }
 {
-    match Lang::parse(alloc, text_at(row, at)?.as_str()) {
-        Ok(lang) => Ok(lang),
-        Err(fault) => Err(fault_of_text(fault)),
-    }
+    Lang::parse(alloc, text_at(row, at)?.as_str()).map_err(fault_of_text)
 }
 
 fn slug_at(alloc: Global, row: &Row, at: usize) -> Result<Slug, Fault>
     ensures value { IfOk result (λ t. spec.text_in row.now at ≡ t) }
     ensures told { OnStore result (¬ typed.IsOf is_slug row.now at) }
 {
-    match Slug::parse(alloc, text_at(row, at)?.as_str()) {
-        Ok(slug) => Ok(slug),
-        Err(fault) => Err(fault_of_text(fault)),
-    }
+    Slug::parse(alloc, text_at(row, at)?.as_str()).map_err(fault_of_text)
 }
 
 fn ref_at(alloc: Global, row: &Row, at: usize) -> Result<RefName, Fault>
     ensures value { IfOk result (λ t. spec.text_in row.now at ≡ t) }
     ensures told { OnStore result (¬ typed.IsOf is_ref_name row.now at) }
 {
-    match RefName::parse(alloc, text_at(row, at)?.as_str()) {
-        Ok(name) => Ok(name),
-        Err(fault) => Err(fault_of_text(fault)),
-    }
+    RefName::parse(alloc, text_at(row, at)?.as_str()).map_err(fault_of_text)
 }
 
 fn path_at(alloc: Global, row: &Row, at: usize) -> Result<PagePath, Fault>
     ensures value { IfOk result (λ t. spec.text_in row.now at ≡ t) }
     ensures told { OnStore result (¬ typed.IsOf is_page_path row.now at) }
 {
-    match PagePath::parse(alloc, text_at(row, at)?.as_str()) {
-        Ok(path) => Ok(path),
-        Err(fault) => Err(fault_of_text(fault)),
-    }
+    PagePath::parse(alloc, text_at(row, at)?.as_str()).map_err(fault_of_text)
 }
 
 fn token_at(alloc: Global, row: &Row, at: usize) -> Result<Token, Fault>
     ensures value { IfOk result (λ t. spec.text_in row.now at ≡ t) }
     ensures told { OnStore result (¬ typed.IsOf is_token row.now at) }
 {
-    match Token::parse(alloc, text_at(row, at)?.as_str()) {
-        Ok(token) => Ok(token),
-        Err(fault) => Err(fault_of_text(fault)),
-    }
+    Token::parse(alloc, text_at(row, at)?.as_str()).map_err(fault_of_text)
 }
 
 fn pattern_at(alloc: Global, row: &Row, at: usize) -> Result<Pattern, Fault>
