@@ -1,9 +1,7 @@
 -- The lists of the tables, each with the part of a project that its records make.
-use Rattle.std.proofs.Common.{◌≡◌, List, map, filter, refl}
+use Rattle.std.proofs.Common.{◌≡◌, List, map, refl}
 use Rattle.std.proofs.lemmas.Map.Lookups.{exact_bytes}
 use Rattle.dh_versions.specs.declared.version.Version.{Version}
-use Rattle.dh_rules.specs.declared.rule.Rule.{Rule}
-use Rattle.dh_redirects.specs.declared.redirect.Redirect.{Redirect}
 use Rattle.dh_lookup.specs.declared.found.Page.{Page}
 use Rattle.dh_world.specs.declared.answer.Answer.{Answer}
 use Rattle.dh_records.specs.declared.records.ProjectRow.{ProjectRow}
@@ -18,7 +16,7 @@ use Rattle.dh_records.specs.declared.records.RuleRow.{RuleRow}
 use Rattle.dh_records.specs.declared.records.RedirectRow.{RedirectRow}
 use Rattle.dh_records.specs.Codings as coding
 use Rattle.dh_world.specs.World.{Text, Project, text_cmp, page_cmp, held_cmp, used_cmp}
-use Rattle.dh_records.specs.Lists.{Lists, project_of, kept_answer, is_lang_of, is_pick_of, is_rule_of, is_redirect_of}
+use Rattle.dh_records.specs.Lists.{Lists, project_of, kept_answer, of_host}
 use Rattle.dh_world.proofs.MapLemmas.{text_total, page_total, page_exact, held_total, held_exact, used_total, used_exact}
 use Rattle.dh_records.proofs.KeyLemmas.{same_version, page_place, same_page, used_place, same_used, held_place, same_pass, same_held}
 use Rattle.dh_records.proofs.RecordLemmas.{MapOf, map_of}
@@ -42,17 +40,8 @@ held_maps = record { total = held_total; exact = held_exact; code = coding.held.
 
 -- ---- lists of which it makes lists
 
-abbrev pub langs_of : List LangRow → Text → List Text
-langs_of rows host = map (λ l. l.lang) (filter (is_lang_of host) rows)
-
-abbrev pub names_of : List PickRow → Text → List Text
-names_of rows host = map (λ d. d.name) (filter (is_pick_of host) rows)
-
-abbrev pub rules_of : List RuleRow → Text → List Rule
-rules_of rows host = map (λ r. r.rule) (filter (is_rule_of host) rows)
-
-abbrev pub redirects_of : List RedirectRow → Text → List Redirect
-redirects_of rows host = map (λ r. r.redirect) (filter (is_redirect_of host) rows)
+abbrev pub list_of : {A V : Type 0} → (A → Text) → (A → V) → List A → Text → List V
+list_of host_of value rows host = map value (of_host host_of host rows)
 
 -- ---- a project, part by part
 
@@ -66,10 +55,10 @@ spelled_by l r = record {
   used = map_of used_maps l.used r.host;
   passes = map_of pass_maps l.passes r.host;
   held = map_of held_maps l.held r.host;
-  languages = langs_of l.langs r.host;
-  defaults = names_of l.picks r.host;
-  rules = rules_of l.rules r.host;
-  redirects = redirects_of l.redirects r.host;
+  languages = list_of (λ l. l.host) (λ l. l.lang) l.langs r.host;
+  defaults = list_of (λ d. d.host) (λ d. d.name) l.picks r.host;
+  rules = list_of (λ r. r.host) (λ r. r.rule) l.rules r.host;
+  redirects = list_of (λ r. r.host) (λ r. r.redirect) l.redirects r.host;
 }
 
 pub spelled : (l : Lists) (r : ProjectRow) → project_of l r ≡ spelled_by l r
@@ -88,109 +77,28 @@ pub record Part {A M : Type 0} (told : List A → Text → M) : Type 0 where
   pub turns : (rows : List A) (l : Lists) (r : ProjectRow) → spelled_by (replaced rows l) r ≡ set (told rows r.host) (spelled_by l r)
 
 abbrev pub versions : Part (map_of version_maps)
-versions = record {
-  rows = λ l. l.versions;
-  replaced = λ rows l. record l { versions = rows };
-  of = λ x. x.versions;
-  set = λ m x. record x { versions = m };
-  projects_stay = λ rows l. refl;
-  project_stays = λ x. refl;
-  is_told = λ l r. refl;
-  turns = λ rows l r. refl;
-}
+versions = record { rows = λ l. l.versions; replaced = λ rows l. record l { versions = rows }; of = λ x. x.versions; set = λ m x. record x { versions = m }; projects_stay = λ rows l. refl; project_stays = λ x. refl; is_told = λ l r. refl; turns = λ rows l r. refl }
 
 abbrev pub pages : Part (map_of page_maps)
-pages = record {
-  rows = λ l. l.pages;
-  replaced = λ rows l. record l { pages = rows };
-  of = λ x. x.pages;
-  set = λ m x. record x { pages = m };
-  projects_stay = λ rows l. refl;
-  project_stays = λ x. refl;
-  is_told = λ l r. refl;
-  turns = λ rows l r. refl;
-}
+pages = record { rows = λ l. l.pages; replaced = λ rows l. record l { pages = rows }; of = λ x. x.pages; set = λ m x. record x { pages = m }; projects_stay = λ rows l. refl; project_stays = λ x. refl; is_told = λ l r. refl; turns = λ rows l r. refl }
 
 abbrev pub used : Part (map_of used_maps)
-used = record {
-  rows = λ l. l.used;
-  replaced = λ rows l. record l { used = rows };
-  of = λ x. x.used;
-  set = λ m x. record x { used = m };
-  projects_stay = λ rows l. refl;
-  project_stays = λ x. refl;
-  is_told = λ l r. refl;
-  turns = λ rows l r. refl;
-}
+used = record { rows = λ l. l.used; replaced = λ rows l. record l { used = rows }; of = λ x. x.used; set = λ m x. record x { used = m }; projects_stay = λ rows l. refl; project_stays = λ x. refl; is_told = λ l r. refl; turns = λ rows l r. refl }
 
 abbrev pub passes : Part (map_of pass_maps)
-passes = record {
-  rows = λ l. l.passes;
-  replaced = λ rows l. record l { passes = rows };
-  of = λ x. x.passes;
-  set = λ m x. record x { passes = m };
-  projects_stay = λ rows l. refl;
-  project_stays = λ x. refl;
-  is_told = λ l r. refl;
-  turns = λ rows l r. refl;
-}
+passes = record { rows = λ l. l.passes; replaced = λ rows l. record l { passes = rows }; of = λ x. x.passes; set = λ m x. record x { passes = m }; projects_stay = λ rows l. refl; project_stays = λ x. refl; is_told = λ l r. refl; turns = λ rows l r. refl }
 
 abbrev pub held : Part (map_of held_maps)
-held = record {
-  rows = λ l. l.held;
-  replaced = λ rows l. record l { held = rows };
-  of = λ x. x.held;
-  set = λ m x. record x { held = m };
-  projects_stay = λ rows l. refl;
-  project_stays = λ x. refl;
-  is_told = λ l r. refl;
-  turns = λ rows l r. refl;
-}
+held = record { rows = λ l. l.held; replaced = λ rows l. record l { held = rows }; of = λ x. x.held; set = λ m x. record x { held = m }; projects_stay = λ rows l. refl; project_stays = λ x. refl; is_told = λ l r. refl; turns = λ rows l r. refl }
 
-abbrev pub langs : Part langs_of
-langs = record {
-  rows = λ l. l.langs;
-  replaced = λ rows l. record l { langs = rows };
-  of = λ x. x.languages;
-  set = λ m x. record x { languages = m };
-  projects_stay = λ rows l. refl;
-  project_stays = λ x. refl;
-  is_told = λ l r. refl;
-  turns = λ rows l r. refl;
-}
+abbrev pub langs : Part (list_of (λ (l : LangRow). l.host) (λ l. l.lang))
+langs = record { rows = λ l. l.langs; replaced = λ rows l. record l { langs = rows }; of = λ x. x.languages; set = λ m x. record x { languages = m }; projects_stay = λ rows l. refl; project_stays = λ x. refl; is_told = λ l r. refl; turns = λ rows l r. refl }
 
-abbrev pub picks : Part names_of
-picks = record {
-  rows = λ l. l.picks;
-  replaced = λ rows l. record l { picks = rows };
-  of = λ x. x.defaults;
-  set = λ m x. record x { defaults = m };
-  projects_stay = λ rows l. refl;
-  project_stays = λ x. refl;
-  is_told = λ l r. refl;
-  turns = λ rows l r. refl;
-}
+abbrev pub picks : Part (list_of (λ (d : PickRow). d.host) (λ d. d.name))
+picks = record { rows = λ l. l.picks; replaced = λ rows l. record l { picks = rows }; of = λ x. x.defaults; set = λ m x. record x { defaults = m }; projects_stay = λ rows l. refl; project_stays = λ x. refl; is_told = λ l r. refl; turns = λ rows l r. refl }
 
-abbrev pub rules : Part rules_of
-rules = record {
-  rows = λ l. l.rules;
-  replaced = λ rows l. record l { rules = rows };
-  of = λ x. x.rules;
-  set = λ m x. record x { rules = m };
-  projects_stay = λ rows l. refl;
-  project_stays = λ x. refl;
-  is_told = λ l r. refl;
-  turns = λ rows l r. refl;
-}
+abbrev pub rules : Part (list_of (λ (r : RuleRow). r.host) (λ r. r.rule))
+rules = record { rows = λ l. l.rules; replaced = λ rows l. record l { rules = rows }; of = λ x. x.rules; set = λ m x. record x { rules = m }; projects_stay = λ rows l. refl; project_stays = λ x. refl; is_told = λ l r. refl; turns = λ rows l r. refl }
 
-abbrev pub redirects : Part redirects_of
-redirects = record {
-  rows = λ l. l.redirects;
-  replaced = λ rows l. record l { redirects = rows };
-  of = λ x. x.redirects;
-  set = λ m x. record x { redirects = m };
-  projects_stay = λ rows l. refl;
-  project_stays = λ x. refl;
-  is_told = λ l r. refl;
-  turns = λ rows l r. refl;
-}
+abbrev pub redirects : Part (list_of (λ (r : RedirectRow). r.host) (λ r. r.redirect))
+redirects = record { rows = λ l. l.redirects; replaced = λ rows l. record l { redirects = rows }; of = λ x. x.redirects; set = λ m x. record x { redirects = m }; projects_stay = λ rows l. refl; project_stays = λ x. refl; is_told = λ l r. refl; turns = λ rows l r. refl }

@@ -26,7 +26,7 @@ use Rattle.dh_records.proofs.RecordLemmas.{each_passes, all_put, added_elsewhere
 use Rattle.dh_records.proofs.OrderLemmas.{filtered_in_order, put_in_order}
 use Rattle.dh_records.proofs.ConstraintLemmas.{of_project}
 use Rattle.dh_records.proofs.WorldLemmas.{owned_by}
-use Rattle.dh_records.proofs.Parts.{Part}
+use Rattle.dh_records.proofs.Parts.{list_of, Part}
 use Rattle.dh_records.proofs.PartLemmas.{part_changed}
 
 -- ---- lists in order
@@ -263,10 +263,6 @@ module _ {X : Type 0} (host_of : X → List ℕ) (place_of : X → ℕ) where
   -- ---- the world
 
   module _ {V : Type 0} (value : X → V) where
-    -- what the project of a host has of the records
-    abbrev told : List X → List ℕ → List V
-    told rows host = map value (filter (is_own host) rows)
-
     module _ (host : List ℕ) (row : ℕ → V → X) (hosts : (n : ℕ) (v : V) → host_of (row n v) ≡ host) (places : (n : ℕ) (v : V) → place_of (row n v) ≡ n) (values : (n : ℕ) (v : V) → value (row n v) ≡ v) where
       values_placed : (n : ℕ) (vs : List V) → map value (placed row n vs) ≡ vs
       values_placed n [] = refl
@@ -274,7 +270,7 @@ module _ {X : Type 0} (host_of : X → List ℕ) (place_of : X → ℕ) where
 
       -- the list of a project is set
       pub world_set
-          : (t : Part told) (most : ℕ) (lists : Lists) (vs : List V)
+          : (t : Part (list_of host_of value)) (most : ℕ) (lists : Lists) (vs : List V)
           → AllByRecursion (λ r. HavePlaces place_of most (filter (is_own r.host) (t.rows lists))) lists.projects → InOrder key (t.rows lists) → (p : Project) → get (world_of lists) host ≡ Some p
           → world_of (t.replaced (set_all host row vs (t.rows lists)) lists) ≡ insert (world_of lists) host (t.set vs p)
       world_set t most lists vs all up p was =
