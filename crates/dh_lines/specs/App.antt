@@ -1,8 +1,9 @@
 -- The words of the program and of a script's line, as `clap` sees them.
-use Rattle.std.specs.Prelude.{true, List, [], ◌∷◌, ◌++◌, codes, map}
+use Rattle.std.specs.Prelude.{List, [], ◌∷◌, ◌++◌, codes, map}
 use Rattle.clap.specs.Walk.{Text}
 use Rattle.clap.specs.Simple.{App, new_app, with_rule}
-use Rattle.dh_words.specs.Apps.{option_rule, required_option_rule, flag_rule, form, with_apps}
+use Rattle.dh_words.specs.Apps.{option_rule, required_option_rule, flag_rule, form, program_of}
+use Rattle.dh_words.specs.Apps.{with_apps}
 
 abbrev pub new_project_app : App
 new_project_app = form (codes "new-project")
@@ -107,17 +108,9 @@ serve_app =
     (required_option_rule (codes "store"))) (required_option_rule (codes "count")))
     (option_rule (codes "port"))) (flag_rule (codes "log"))
 
--- the program without its subcommands, one of which has to be named; its words come without the
--- program's own name
+-- the program without its subcommands
 abbrev pub bare_app : App
-bare_app = record (new_app (codes "docs_host")) {
-  top = record (new_app (codes "docs_host")).top {
-    no_binary_name = true;
-    disable_help_subcommand = true;
-    arg_required_else_help = true;
-    subcommand_required = true;
-  };
-}
+bare_app = program_of (new_app (codes "docs_host"))
 
 -- the program: the lines of scripts, and what it does with a file or with its input
 abbrev pub docs_app : App

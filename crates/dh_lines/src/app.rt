@@ -1,14 +1,13 @@
 //! The words of the program and of a script's line, as `clap` sees them.
 
-ghost use Rattle.std.specs.Prelude.{IfOk, map, [], ◌∷◌};
-ghost use Rattle.clap.specs.Simple.{app_of, with_rule};
-ghost use Rattle.dh_words.specs.Apps.{IsApp, HasNoGlobals, option_rule, with_apps};
+ghost use Rattle.std.specs.Prelude.{◌≡◌, IfOk, map, [], ◌∷◌};
+ghost use Rattle.dh_words.specs.Apps.{IsApp, with_apps};
 ghost use Rattle.dh_words.specs.Apps.{with_words as words_added};
 ghost use Rattle.dh_lines.specs.App.{bare_app, docs_app, init_app, serve_app, store_apps, with_store};
 ghost use Rattle.dh_lines.specs.Forms.{app_of_form, store_app_of, with_more};
 
 use clap::Command;
-use dh_words::{named, with_command, with_flag, with_option, with_required_option, with_word};
+use dh_words::Syntax;
 use std::alloc::{AllocError, Global};
 
 /// What a form may take beside its words.
@@ -61,115 +60,83 @@ fn word_help(id: &str) -> &'static str {
     }
 }
 
-fn with_words<'a>(
-    alloc: Global,
-    command: Command<'a>,
-    ids: &[&'a str],
-) -> Result<Command<'a>, AllocError>
-    requires { HasNoGlobals command }
-    ensures { IfOk result (IsApp (words_added (app_of command.entry) (map (λ s. s.now) ids.now))) }
+fn with_words<'a>(syntax: Syntax<'a>, ids: &[&'a str]) -> Result<Syntax<'a>, AllocError>
+    ensures { IfOk result (λ new. new ≡ words_added syntax.entry (map (λ s. s.now) ids.now)) }
 {
-    let mut command = command;
+    let mut syntax = syntax;
     for id in ids {
-        command = with_word(alloc, command, *id, word_help(*id))?;
+        syntax = syntax.with_word(*id, word_help(*id))?;
     }
-    Ok(command)
+    Ok(syntax)
 }
 
-fn with_more_words<'a>(
-    alloc: Global,
-    command: Command<'a>,
-    more: &More<'a>,
-) -> Result<Command<'a>, AllocError>
-    requires { HasNoGlobals command }
-    ensures { IfOk result (IsApp (with_more (app_of command.entry) more.now)) }
+fn with_more_words<'a>(syntax: Syntax<'a>, more: &More<'a>) -> Result<Syntax<'a>, AllocError>
+    ensures { IfOk result (λ new. new ≡ with_more syntax.entry more.now) }
 {
     match more {
-        More::Nothing => Ok(command),
-        More::Flag { id, help } => with_flag(alloc, command, *id, *help),
-        More::Value { id, help } => with_option(alloc, command, *id, *help),
+        More::Nothing => Ok(syntax),
+        More::Flag { id, help } => syntax.with_flag(*id, *help),
+        More::Value { id, help } => syntax.with_option(*id, *help),
     }
 }
 
-fn form_command<'a>(alloc: Global, form: &Form<'a>) -> Result<Command<'a>, AllocError>
-    ensures { IfOk result (IsApp (app_of_form form.now)) }
+fn form_command<'a>(alloc: Global, form: &Form<'a>) -> Result<Syntax<'a>, AllocError>
+    ensures { IfOk result (λ syntax. syntax ≡ app_of_form form.now) }
 {
-    let command = named(alloc, form.name, form.about, form.example);
-    with_more_words(alloc, with_words(alloc, command, form.ids)?, &form.more)
+    let syntax = Syntax::named(alloc, form.name, form.about, form.example);
+    with_more_words(with_words(syntax, form.ids)?, &form.more)
 }
 
 /// A command that may name the file of its records, as each may that reads or changes them.
-fn store_command<'a>(alloc: Global, form: &Form<'a>) -> Result<Command<'a>, AllocError>
-    ensures { IfOk result (IsApp (store_app_of form.now)) }
+fn store_command<'a>(alloc: Global, form: &Form<'a>) -> Result<Syntax<'a>, AllocError>
+    ensures { IfOk result (λ syntax. syntax ≡ store_app_of form.now) }
 {
-    let command = form_command(alloc, form)?;
-    with_option(
-        alloc,
-        command,
-        "store",
-        "The file of the records, which init made",
-    )
+    form_command(alloc, form)?.with_option("store", "The file of the records, which init made")
 }
 
 /// A program that takes more forms, each with `--store`.
 fn with_forms<'a>(
     alloc: Global,
-    program: Command<'a>,
+    program: Syntax<'a>,
     forms: &[Form<'a>],
-) -> Result<Command<'a>, AllocError>
-    requires { HasNoGlobals program }
-    ensures { IfOk result (IsApp (with_apps (app_of program.entry) (map store_app_of forms.now))) }
+) -> Result<Syntax<'a>, AllocError>
+    ensures { IfOk result (λ new. new ≡ with_apps program.entry (map store_app_of forms.now)) }
 {
     let mut program = program;
     for form in forms {
-        program = with_command(program, store_command(alloc, form)?)?;
+        program = program.with_command(store_command(alloc, form)?)?;
     }
     Ok(program)
 }
 
-fn init_command<'a>(alloc: Global) -> Result<Command<'a>, AllocError>
-    ensures { IfOk result (IsApp init_app) }
+fn serve_command<'a>(alloc: Global) -> Result<Syntax<'a>, AllocError>
+    ensures { IfOk result (λ syntax. syntax ≡ serve_app) }
 {
-    let command = named(
-        alloc,
-        "init",
-        "Makes a file of records, with no project",
-        "Example: docs_host init docs.db",
-    );
-    with_word(alloc, command, "file", word_help("file"))
-}
-
-fn serve_command<'a>(alloc: Global) -> Result<Command<'a>, AllocError>
-    ensures { IfOk result (IsApp serve_app) }
-{
-    let command = named(
+    let syntax = Syntax::named(
         alloc,
         "serve",
         "Answers HTTP requests at a port of 127.0.0.1, over the records in a file",
         "Example: docs_host serve --store docs.db --count 100 --port 8080 --log",
     );
     let store = "The file of the records, which init made";
-    let command = with_required_option(alloc, command, "store", store)?;
+    let syntax = syntax.with_required_option("store", store)?;
     let count = "How many connections are answered before it ends, as 100";
-    let command = with_required_option(alloc, command, "count", count)?;
+    let syntax = syntax.with_required_option("count", count)?;
     let port = "The port, as 8080; any free one where this is left out, or 0";
-    let command = with_option(alloc, command, "port", port)?;
-    with_flag(alloc, command, "log", "Prints a line for each request")
+    let syntax = syntax.with_option("port", port)?;
+    syntax.with_flag("log", "Prints a line for each request")
 }
 
-fn bare_command<'a>(alloc: Global) -> Command<'a>
-    ensures { IsApp bare_app result }
+fn bare_command<'a>(alloc: Global) -> Syntax<'a>
+    ensures { result ≡ bare_app }
 {
-    named(
+    let syntax = Syntax::named(
         alloc,
         "docs_host",
         "A host of versioned documentation",
         "The records of projects live in a file, which init makes and --store names:\n  docs_host init docs.db\n  docs_host new-project docs.test en main public wkey-1 --store docs.db\n  docs_host get docs.test / --store docs.db\n  docs_host serve --store docs.db --count 100 --port 8080\nThe commands from new-project to get are lines of a script as well, without --store:\n  echo 'get docs.test /' | docs_host script --store docs.db",
-    )
-    .no_binary_name(true)
-    .disable_help_subcommand(true)
-    .arg_required_else_help(true)
-    .subcommand_required(true)
+    );
+    syntax.as_program()
 }
 
 /// The lines of scripts, and what the program does with its input.
@@ -348,9 +315,24 @@ const FORMS: [Form<'static>; 23] = [
     },
 ];
 
+/// What makes a file of records: it takes no `--store`.
+const INIT: Form<'static> = Form {
+    name: "init",
+    about: "Makes a file of records, with no project",
+    example: "Example: docs_host init docs.db",
+    ids: &["file"],
+    more: More::Nothing,
+};
+
+fn init_command<'a>(alloc: Global) -> Result<Syntax<'a>, AllocError>
+    ensures { IfOk result (λ syntax. syntax ≡ init_app) }
+{
+    form_command(alloc, &INIT)
+}
+
 /// The program with the lines of scripts, and with what it does with its input.
-fn lines_command<'a>(alloc: Global) -> Result<Command<'a>, AllocError>
-    ensures { IfOk result (IsApp (with_apps bare_app (map with_store store_apps))) }
+fn lines_command<'a>(alloc: Global) -> Result<Syntax<'a>, AllocError>
+    ensures { IfOk result (λ syntax. syntax ≡ with_apps bare_app (map with_store store_apps)) }
 {
     with_forms(alloc, bare_command(alloc), &FORMS)
 }
@@ -360,6 +342,7 @@ pub fn docs_command<'a>(alloc: Global) -> Result<Command<'a>, AllocError>
     ensures { IfOk result (IsApp docs_app) }
 {
     let lines = lines_command(alloc)?;
-    let with_init = with_command(lines, init_command(alloc)?)?;
-    with_command(with_init, serve_command(alloc)?)
+    let with_init = lines.with_command(init_command(alloc)?)?;
+    let with_all = with_init.with_command(serve_command(alloc)?)?;
+    Ok(with_all.into_command())
 }

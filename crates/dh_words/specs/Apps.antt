@@ -31,6 +31,18 @@ required_option_rule id = record (new_rule id) { long = Some id; required = true
 abbrev pub flag_rule : Text → Rule
 flag_rule id = record (new_rule id) { long = Some id; action = Some SetTrue }
 
+-- the app of a whole program: one of its subcommands has to be named, and its words come without
+-- its own name
+abbrev pub program_of : App → App
+program_of app = record app {
+  top = record app.top {
+    no_binary_name = true;
+    disable_help_subcommand = true;
+    arg_required_else_help = true;
+    subcommand_required = true;
+  };
+}
+
 -- a command that takes these words too, behind those that it has
 abbrev pub with_words : App → List Text → App
 with_words app ids = fold (λ a id. with_rule a (word_rule id)) app ids

@@ -4,4 +4,4 @@
 
 mod building;
 
-pub use building::{named, with_command, with_flag, with_option, with_required_option, with_word};
+pub use building::Syntax;

@@ -1,15 +1,13 @@
 use Rattle.std.proofs.Common.{◌∙◌, ap}
-use Rattle.clap.specs.Simple.{App, app_of, with_subcommand}
+use Rattle.clap.specs.Simple.{App, with_subcommand}
 use Rattle.dh_words.proofs.AppLemmas.{one_more}
 use Rattle.dh_lines.specs.Forms.{store_app_of}
 use Rattle.dh_lines.proofs.app.with_forms.Goals as goal
 
 pub loop-form-preserved : goal.loop-form-preserved
 loop-form-preserved c =
-    let form = c.in_ok-store_command.ensures.0 in
-    let with_one = ap (λ (s : App). with_subcommand (app_of c.loop-form.program) s.top) form in (
-      one_more (λ (a s : App). with_subcommand a s.top) store_app_of _ _ _ c.args.forms.now
-          c.loop-form.form-index _ c.loop-form-test.true (c.in_ok-program.ensures.0 ∙ with_one)
-          c.loop-form.invariant.0,
-      c.in_ok-program.ensures.1,
-    )
+    let with_one = ap (λ (s : App). with_subcommand c.loop-form.program s.top)
+    c.in_ok-store_command.ensures in
+    one_more (λ (a s : App). with_subcommand a s.top) store_app_of _ _ _ c.args.forms.now
+    c.loop-form.form-index _ c.loop-form-test.true (c.in_ok-program.ensures ∙ with_one)
+    c.loop-form.invariant
