@@ -339,22 +339,19 @@ pub some_shown : (pass : Option Text) (o : Option Project) → is_some o ≡ is_
 some_shown pass None = refl
 some_shown pass (Some p) = refl
 
-pub langs_shown : (pass : Option Text) (o : Option Project) → option_map_or (λ p. p.languages) o [] ≡ option_map_or (λ p. p.langs) (option_map (λ p. seen_project p pass) o) []
+pub langs_shown : (p : Project) (pass : Option Text) → p.languages ≡ (seen_project p pass).langs
 unfolding seen_project without_default
-langs_shown pass None = refl
-langs_shown pass (Some p) = refl
+langs_shown p pass = refl
 
-pub versions_shown : (pass : Option Text) (o : Option Project) → option_map_or (λ (p : Project). values (visible_versions p pass)) o [] ≡ option_map_or (λ (p : SeenProject). p.versions) (option_map (λ p. seen_project p pass) o) []
+pub versions_shown : (p : Project) (pass : Option Text) → values (visible_versions p pass) ≡ (seen_project p pass).versions
 unfolding seen_project without_default
-versions_shown pass None = refl
-versions_shown pass (Some p) = refl
+versions_shown p pass = refl
 
 pub redirects_are : (lists : Lists) (row : ProjectRow) → map (λ r. r.redirect) (filter (is_redirect_of row.host) lists.redirects) ≡ (project_of lists row).redirects
 unfolding project_of
 redirects_are lists row = refl
 
 -- every caller sees all redirects
-pub redirects_shown : {A : Type 0} (lead : List Redirect → Option A) (pass : Option Text) (o : Option Project) → option_and_then (λ p. lead p.redirects) o ≡ option_and_then (λ p. lead p.redirects) (option_map (λ p. seen_project p pass) o)
+pub redirects_shown : (p : Project) (pass : Option Text) → p.redirects ≡ (seen_project p pass).redirects
 unfolding seen_project without_default
-redirects_shown lead pass None = refl
-redirects_shown lead pass (Some p) = refl
+redirects_shown p pass = refl

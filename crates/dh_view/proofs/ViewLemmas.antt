@@ -1,21 +1,25 @@
 -- What looks leave, one after the other.
-use Rattle.std.proofs.Common.{◌≡◌, ◌≤◌, ℕ, Bool, true, false, ◌&&◌, Option, Result, Ok, Err, IsTrue, IfOk, inl, inr, refl, sym, ap, ◌∙◌, arith, zero, suc, true≢false}
-use Rattle.std.specs.Prelude.{IsErrAnd}
+use Rattle.std.proofs.Common.{◌≡◌, ◌≤◌, ℕ, Bool, true, false, ◌&&◌, Option, None, Some, Result, Ok, Err, IsTrue, IfOk, OnOk, OnErr, inl, inr, refl, ◌⊎◌, subst, sym, ap, ◌∙◌, arith, zero, suc, true≢false}
+use Rattle.std.specs.Prelude.{IsErrAnd, option_map}
 use Rattle.sqlite_trees.specs.View.{doubt}
 use Rattle.sqlite_trees.specs.declared.store.Store.{Ghosts}
+use Rattle.sqlite.specs.State.{HasCleanDisk}
 use Rattle.sqlite.specs.Held.{Held, state}
 use Rattle.dh_lookup.specs.declared.fault.Fault.{Fault}
 use Rattle.dh_lookup.specs.declared.fault.Fault.TheVariants.{Store, Memory}
 use Rattle.dh_lookup.specs.Faults.{OnStore, UnlessStore}
 use Rattle.dh_lookup.specs.Lookup as lookup
-use Rattle.dh_rows.specs.Calls.{IsHonest, IsSame, Lasts, seen}
+use Rattle.dh_rows.specs.Calls.{IsBlamed, IsHonest, IsSame, Lasts, seen}
 use Rattle.dh_schema.specs.Tables.{lists_of}
 use Rattle.dh_world.specs.World.{Text}
-use Rattle.dh_records.specs.Lists.{world_of}
+use Rattle.dh_records.specs.Lists.{project_of}
+use Rattle.dh_records.specs.declared.records.ProjectRow.{ProjectRow}
 use Rattle.dh_world.specs.Seen as caller
-use Rattle.dh_records.proofs.ReadingLemmas.{handed_on}
-use Rattle.dh_schema.specs.Calling.{Asks, Blames, IsSettled}
-use Rattle.dh_view.specs.View.{doubt_of, meaning_of, shown, fails_on, looks_on, Fails, Looks, Queries}
+use Rattle.dh_schema.proofs.CallLemmas.{on_store}
+use Rattle.dh_schema.specs.Calling as call
+use Rattle.dh_schema.specs.Calling.{Blames, IsSettled}
+use Rattle.dh_schema.specs.InTurn.{blamed_before, goes_none, goes_on, lasts_none, refused_on, same_none, same_on}
+use Rattle.dh_view.specs.View.{doubt_of, meaning_of, project_in, shown, shown_in, shown_under, fails_on, looks_none, looks_on, Asks, Fails, Looks}
 use Rattle.dh_view.specs.declared.view.View.{View}
 
 -- ---- doubt
@@ -61,7 +65,7 @@ module _ {S : Type 0} (g : Ghosts S) where
 
   -- ---- looks in turn
 
-  pub was_honest : (a b : Held S) → Looks g a b → IsHonest g b → IsHonest g a
+  was_honest : (a b : Held S) → Looks g a b → IsHonest g b → IsHonest g a
   was_honest a b it h = (it.unmoved h).same.was_honest
 
   pub looks_grow : (a b : Held S) → Looks g a b → doubt_of g a ≤ doubt_of g b
@@ -71,40 +75,94 @@ module _ {S : Type 0} (g : Ghosts S) where
       go zero e = let z = undoubted a (was_honest a b it (honest b e)) in omega arith
       go (suc n) e = let m = most a in omega arith
 
-  pub still_settled : (a b : Held S) → Looks g a b → (IsHonest g a → IsSettled g a) → IsHonest g b → IsSettled g b
-  still_settled a b it was h =
-      let same = (it.unmoved h).same in
-      let before = was same.was_honest in
-      record { outside = same.mode ∙ before.outside; same = same.now_is ∙ before.same ∙ sym same.last_is }
-
   pub shown_same : (a b : Held S) (host pass : Option Text) → Looks g a b → IsHonest g b → shown g b host pass ≡ shown g a host pass
-  shown_same a b host pass it h = ap (λ l. caller.seen (world_of l) host pass) (it.unmoved h).same.now_is
+  shown_same a b host pass it h = ap (λ l. shown_under l host pass) (it.unmoved h).same.now_is
 
-  -- what a call on the tables of a view leaves of the view
-  pub view_asks : {T : Type 0} (old new : View S) (r : Result T Fault) → (new.tables.ghost_name ≡ old.tables.ghost_name) × (new.host ≡ old.host) × (new.pass ≡ old.pass) → Queries g old.tables.now new.tables.now r → lookup.Asks (meaning_of g) old new r
-  view_asks old new r stay it = record {
-    leads = (stay.0, stay.1, stay.2, it.looks);
-    doubt = looks_grow old.tables.now new.tables.now it.looks;
-    told = it.told;
-    keeps = unless_store r it.looks.unmoved;
-    kept = λ d. unless_store r (ap (λ h. shown g new.tables.now h new.pass) stay.1 ∙ ap (shown g new.tables.now old.host) stay.2 ∙ shown_same old.tables.now new.tables.now old.host old.pass it.looks (honest new.tables.now d));
+  -- what looks at the tables of a view leave of the view
+  view_looks
+      : {T : Type 0} (old new : View S) (r : Result T Fault)
+      → (new.tables.ghost_name ≡ old.tables.ghost_name) × (new.host ≡ old.host) × (new.pass ≡ old.pass)
+      → Looks g old.tables.now new.tables.now → OnStore r (Fails g old.tables.now new.tables.now)
+      → lookup.Asks (meaning_of g) old new r
+  view_looks old new r stay it told = record {
+    leads = (stay.0, stay.1, stay.2, it);
+    doubt = looks_grow old.tables.now new.tables.now it;
+    told = told;
+    keeps = unless_store r it.unmoved;
+    kept = λ d. unless_store r (ap (λ h. shown g new.tables.now h new.pass) stay.1 ∙ ap (shown g new.tables.now old.host) stay.2 ∙ shown_same old.tables.now new.tables.now old.host old.pass it (honest new.tables.now d));
   }
 
-  pub lists_same : (a b : Held S) → Looks g a b → IsHonest g b → seen g lists_of b ≡ seen g lists_of a
-  lists_same a b it h = (it.unmoved h).same.now_is
+-- ---- looks at the tables, one after the other
 
--- ---- why looks answer `Store`
+-- what is said of an answer, or of a refusal, as what follows from it
+on_ok : {T E P Q : Type 0} (r : Result T E) → (P → Q) → OnOk r P → OnOk r Q
+on_ok (Ok x) f h = f h
+on_ok (Err e) f h = tt
 
--- what follows from the cause of such an answer
-weakens : {T : Type 0} {P Q : Type 0} (r : Result T Fault) → (P → Q) → OnStore r P → OnStore r Q
-weakens (Ok x) f h = tt
-weakens (Err Memory) f h = tt
-weakens (Err Store) f h = f h
+on_err : {T E P Q : Type 0} (r : Result T E) → (P → Q) → OnErr r P → OnErr r Q
+on_err (Ok x) f h = tt
+on_err (Err e) f h = f h
+
+-- a fault says the same in a result of any type
+same_fault : (T U P : Type 0) (fault : Fault) → OnStore {T = T} (Err fault) P → OnStore {T = U} (Err fault) P
+same_fault T U P Memory h = tt
+same_fault T U P Store h = h
 
 module _ {S : Type 0} {g : Ghosts S} where
-  -- outside a transaction a look leaves all as it was, also one that is refused
+  blamed_on : {a b c : Held S} → Lasts g a b → Lasts g b c → HasCleanDisk (state g c) → IsBlamed g b c ⊎ ⊥ → IsBlamed g a c ⊎ ⊥
+  blamed_on p q clean (inl blamed) = inl (blamed_before p q clean blamed)
+  blamed_on p q clean (inr never) = absurd never
+
+  -- one call of the tables
+  pub asked : {T : Type 0} {a b : Held S} {r : Result T Fault} → call.Asks g a b r → Asks g a b r
+  asked p = record { goes = p.goes; same = λ _. p.same; err = p.err; told = p.told }
+
+  -- none
+  pub asks_none : {T : Type 0} (h : Held S) (x : T) → Asks g h h (Ok x)
+  asks_none h x = record { goes = goes_none h; same = λ was _. same_none h was; err = λ _. tt; told = λ _. tt }
+
+  -- looks after others that were answered
+  pub asks_on : {T U : Type 0} {a b c : Held S} {x : T} {r : Result U Fault} → Asks g a b (Ok x) → Asks g b c r → Asks g a c r
+  asks_on {a = a} {b = b} {r = r} p q = record {
+    goes = goes_on p.goes (λ was clean. (clean, (p.same was clean).is_open)) q.goes;
+    same = λ was clean.
+        let back = q.goes.lasts.clean clean in
+        let first = p.same was back in
+        on_ok r (same_on first) (q.same (back, first.is_open) clean);
+    err = λ it.
+        let before : IsHonest g b = q.goes.lasts.was it in
+        on_err r (refused_on (p.same (p.goes.lasts.was before) before.0)) (q.err it);
+    told = λ clean. on_store r (blamed_on p.goes.lasts q.goes.lasts clean) (q.told clean);
+  }
+
+  -- what is made of the answers, unless memory is out
+  pub asks_then : {T U : Type 0} {a b : Held S} {x : T} (r : Result U Fault) → OnStore r ⊥ → Asks g a b (Ok x) → Asks g a b r
+  asks_then (Ok y) made p = record { goes = p.goes; same = p.same; err = λ _. tt; told = λ _. tt }
+  asks_then (Err Memory) made p = record {
+    goes = p.goes;
+    same = λ _ _. tt;
+    err = λ it. inl (p.same (p.goes.lasts.was it) it.0);
+    told = λ _. tt;
+  }
+  asks_then (Err Store) made p = absurd made
+
+  -- a fault that is handed on, as a result of any type
+  pub asks_handed : {T U : Type 0} {a b : Held S} (r : Result U Fault) {from : Result T Fault} (fault : Fault) → from ≡ Err fault → IsErrAnd r (λ f. f ≡ fault) → Asks g a b from → Asks g a b r
+  asks_handed (Ok y) fault was same p = absurd same
+  asks_handed {T = T} {U = U} {a = a} {b = b} (Err f) fault was same p =
+      let q : Asks g {T = T} a b (Err f) = subst (Asks g a b) (was ∙ ap Err (sym same)) p in
+      record { goes = q.goes; same = λ _ _. tt; err = q.err; told = λ clean. same_fault T U (IsBlamed g a b ⊎ ⊥) f (q.told clean) }
+
+  -- answered looks leave the records as they were
+  pub still : {T : Type 0} {a b : Held S} {x : T} → Asks g a b (Ok x) → IsHonest g b → seen g lists_of b ≡ seen g lists_of a
+  still p it = (p.same (p.goes.lasts.was it) it.0).now_is
+
+-- ---- the same outside a transaction
+
+module _ {S : Type 0} {g : Ghosts S} where
+  -- there looks leave all as it was, also where one was refused
   same_from_asks : {T : Type 0} (a b : Held S) (r : Result T Fault) → IsSettled g a → IsHonest g b → Asks g a b r → IsSame g lists_of a b
-  same_from_asks a b (Ok x) was it p = p.same it.0
+  same_from_asks a b (Ok x) was it p = p.same (p.goes.lasts.was it) it.0
   same_from_asks a b (Err fault) was it p =
       elim (p.err it) [
         | inl same ↦ same
@@ -117,34 +175,74 @@ module _ {S : Type 0} {g : Ghosts S} where
         }
       ]
 
-  -- what a call of the tables leaves, as one look
-  pub queries_from_asks : {T : Type 0} {a b : Held S} {r : Result T Fault} → (IsHonest g a → IsSettled g a) → Asks g a b r → Queries g a b r
-  queries_from_asks {a = a} {b = b} {r = r} settled p = record {
-    looks = record {
-      lasts = p.goes.lasts;
-      unmoved = λ it. record {
-        same = same_from_asks a b r (settled (p.goes.lasts.was it)) it p;
-        left = λ was clean db may. inl (p.goes.quiet was clean db may);
-      };
+  -- answered looks leave what is seen committed
+  pub still_settled : {T : Type 0} {a b : Held S} {x : T} → (IsHonest g a → IsSettled g a) → Asks g a b (Ok x) → IsHonest g b → IsSettled g b
+  still_settled settled p it =
+      let was = p.goes.lasts.was it in
+      let same = p.same was it.0 in
+      let before = settled was in
+      record { outside = same.mode ∙ before.outside; same = same.now_is ∙ before.same ∙ sym same.last_is }
+
+  looks_from : {T : Type 0} {a b : Held S} {r : Result T Fault} → (IsHonest g a → IsSettled g a) → Asks g a b r → Looks g a b
+  looks_from {a = a} {b = b} {r = r} settled p = record {
+    lasts = p.goes.lasts;
+    unmoved = λ it. record {
+      same = same_from_asks a b r (settled (p.goes.lasts.was it)) it p;
+      left = λ was clean db may. inl (p.goes.quiet was clean db may);
     };
-    told = from_told a b r p.goes.lasts p.told;
   }
-    where
-      from_told : {T : Type 0} (a b : Held S) (r : Result T Fault) → Lasts g a b → Blames g a b r ⊥ → OnStore r (Fails g a b)
-      from_told a b (Ok x) lasts told = tt
-      from_told a b (Err Memory) lasts told = tt
-      from_told a b (Err Store) lasts told = record {
-        lasts = lasts;
-        cause = λ clean. elim (told clean) [ inl blamed ↦ inl blamed | inr never ↦ absurd never ];
-      }
 
-  -- a look after others
-  pub queries_on : {T : Type 0} {a b c : Held S} {r : Result T Fault} → Looks g a b → Queries g b c r → Queries g a c r
-  queries_on {r = r} p q = record { looks = looks_on p q.looks; told = weakens r (fails_on p) q.told }
+  fails_from : {T : Type 0} {a b : Held S} (r : Result T Fault) → Asks g a b r → OnStore r (Fails g a b)
+  fails_from (Ok x) p = tt
+  fails_from (Err Memory) p = tt
+  fails_from (Err Store) p = record {
+    lasts = p.goes.lasts;
+    cause = λ clean. elim (p.told clean) [ inl blamed ↦ inl blamed | inr never ↦ absurd never ];
+  }
 
-  -- a fault that is handed on, as a result of any type
-  pub queries_handed : {T U : Type 0} {a b : Held S} (r : Result U Fault) {from : Result T Fault} (fault : Fault) → from ≡ Err fault → IsErrAnd r (λ f. f ≡ fault) → Queries g a b from → Queries g a b r
-  queries_handed r {from = from} fault was same q = record { looks = q.looks; told = handed_on r from fault was same (λ p. p) q.told }
+module _ {S : Type 0} (g : Ghosts S) where
+  -- `Store` where a transaction is open
+  pub view_within : {T : Type 0} (a : View S) → a.tables.now.in_transaction ≡ true → lookup.Asks {T = T} (meaning_of g) a a (Err Store)
+  view_within a within = view_looks g a a (Err Store) (refl, refl, refl) (looks_none g a.tables.now) (record { lasts = lasts_none a.tables.now; cause = λ _. inr within })
+
+  -- looks at the tables of a view outside a transaction
+  pub view_asks
+      : {T : Type 0} {a b : View S} {r : Result T Fault}
+      → (b.tables.ghost_name ≡ a.tables.ghost_name) × (b.host ≡ a.host) × (b.pass ≡ a.pass)
+      → (IsHonest g a.tables.now → IsSettled g a.tables.now) → Asks g a.tables.now b.tables.now r
+      → lookup.Asks (meaning_of g) a b r
+  view_asks {a = a} {b = b} {r = r} stay settled p = view_looks g a b r stay (looks_from settled p) (fails_from r p)
+
+  -- the same after a call on the view
+  pub view_on
+      : {T U : Type 0} {a b c : View S} {x : T} {r : Result U Fault}
+      → lookup.Asks (meaning_of g) a b (Ok x)
+      → (c.tables.ghost_name ≡ b.tables.ghost_name) × (c.host ≡ b.host) × (c.pass ≡ b.pass)
+      → (IsHonest g b.tables.now → IsSettled g b.tables.now) → Asks g b.tables.now c.tables.now r
+      → lookup.Asks (meaning_of g) a c r
+  view_on {a = a} {b = b} {c = c} {r = r} p stay settled q =
+      let led : Looks g a.tables.now b.tables.now = p.leads.3 in
+      view_looks g a c r (stay.0 ∙ p.leads.0, stay.1 ∙ p.leads.1, stay.2 ∙ p.leads.2)
+      (looks_on led (looks_from settled q)) (on_store r (fails_on led) (fails_from r q))
+
+  -- the project whose record was found, as the caller sees it
+  module _ {a b : View S} {o : Option ProjectRow} (p : lookup.Asks (meaning_of g) a b (Ok o))
+      (value : IsHonest g b.tables.now → option_map (project_of (seen g lists_of a.tables.now)) o ≡ project_in (seen g lists_of a.tables.now) a.host) where
+    pub shown_found
+        : (row : ProjectRow) → o ≡ Some row → IsHonest g b.tables.now
+        → Some (shown_in (seen g lists_of b.tables.now) row b.pass) ≡ shown g a.tables.now a.host a.pass
+    shown_found row is it =
+        let lists = seen g lists_of a.tables.now in
+        ap (λ l. Some (shown_in l row b.pass)) (p.leads.3.unmoved it).same.now_is
+        ∙ ap (λ pass. Some (shown_in lists row pass)) p.leads.2
+        ∙ ap (λ o. option_map (λ q. caller.seen_project q a.pass) (option_map (project_of lists) o)) (sym is)
+        ∙ ap (option_map (λ q. caller.seen_project q a.pass)) (value it)
+
+    pub none_shown : o ≡ None → IsHonest g b.tables.now → None ≡ shown g a.tables.now a.host a.pass
+    none_shown is it =
+        let lists = seen g lists_of a.tables.now in
+        ap (λ o. option_map (λ q. caller.seen_project q a.pass) (option_map (project_of lists) o)) (sym is)
+        ∙ ap (option_map (λ q. caller.seen_project q a.pass)) (value it)
 
 -- ---- answers
 

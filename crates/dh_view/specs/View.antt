@@ -9,9 +9,8 @@ use Rattle.sqlite_trees.specs.View.{doubt}
 use Rattle.sqlite_trees.specs.declared.store.Store.{Ghosts}
 use Rattle.sqlite.specs.State.{HasCleanDisk}
 use Rattle.sqlite.specs.Held.{Held, state}
-use Rattle.dh_rows.specs.Calls.{IsBlamed, IsHonest, IsSame, Lasts, Leaves, seen}
+use Rattle.dh_rows.specs.Calls.{Goes, IsBlamed, IsHonest, IsSame, Lasts, Leaves, Refuses, Stays, seen}
 use Rattle.dh_versions.specs.declared.version.Version.{Version}
-use Rattle.dh_lookup.specs.Faults.{OnStore}
 use Rattle.dh_lookup.specs.Lookup.{Meaning}
 use Rattle.dh_lookup.specs.SeenProject.{resolved}
 use Rattle.dh_lookup.specs.declared.fault.Fault.{Fault}
@@ -21,6 +20,7 @@ use Rattle.dh_records.specs.declared.records.HeldRow.{HeldRow}
 use Rattle.dh_records.specs.declared.records.ProjectRow.{ProjectRow}
 use Rattle.dh_world.specs.World.{Text, text_cmp, Project, holds, may_see}
 use Rattle.dh_world.specs.Seen as caller
+use Rattle.dh_schema.specs.Calling.{Blames}
 use Rattle.dh_schema.specs.InTurn.{blamed_before, lasts_none, lasts_on, same_none, same_on, shut_before}
 use Rattle.dh_records.specs.Lists.{Lists, project_of, world_of}
 use Rattle.dh_schema.specs.Tables.{lists_of}
@@ -97,12 +97,16 @@ module _ {S : Type 0} (g : Ghosts S) where
     pub cause : HasCleanDisk (state g new) → IsBlamed g old new ⊎ (old.in_transaction ≡ true)
 
   module _ {T : Type 0} (old new : Held S) (result : Result T Fault) where
-    -- One look, or several in turn.
-    pub record Queries : Type 0 where
-      -- whatever was answered
-      pub looks : Looks old new
-      -- `Store` is answered with a cause alone
-      pub told : OnStore result (Fails old new)
+    -- What looks at the tables leave, one or several in turn, or none.
+    pub record Asks : Type 0 where
+      -- nothing is committed, and a crash leaves nothing more
+      pub goes : Goes g old new
+      -- those that were answered left all as it was, at a store that was honest
+      pub same : IsHonest g old → Stays g lists_of old new result
+      -- one that was refused did too, or within a transaction undid all since its begin
+      pub err : Refuses g lists_of old new result
+      -- `Store` is told for a fault of the store alone
+      pub told : Blames g old new result ⊥
 
   -- How a view is read: by what its tables show under its host and pass, which stay.
   abbrev pub meaning_of : Meaning (View S)

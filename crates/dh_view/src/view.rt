@@ -1,20 +1,18 @@
 //! What a caller sees of the tables, as a `Lookup`.
 
-ghost use Rattle.std.specs.Prelude.{◌≡◌, ◌↔◌, is_some, [], OnOk};
-ghost use Rattle.std.specs.Option.{option_map, option_and_then, option_map_or};
-ghost use Rattle.std.specs.FinMap.{values};
+ghost use Rattle.std.specs.Prelude.{◌≡◌, ◌↔◌, OnOk};
+ghost use Rattle.std.specs.Option.{option_map};
 ghost use Rattle.std.proofs.Common.{◌∙◌, refl};
 ghost use Rattle.sqlite.specs.Held.{Held};
 ghost use Rattle.dh_rows.specs.Calls.{IsHonest};
-ghost use Rattle.dh_lookup.specs.SeenProject.{first_result, resolved, page_at};
+ghost use Rattle.dh_lookup.specs.Lookup.{Asks, TellsMaybe};
+ghost use Rattle.dh_lookup.specs.SeenProject.{first_result};
 ghost use Rattle.dh_records.specs.Lists.{project_of};
-ghost use Rattle.dh_world.specs.Seen.{visible_versions};
-ghost use Rattle.dh_schema.specs.Calling.{IsSettled, Learns, Reads, ReadsAll};
-ghost use Rattle.dh_view.specs.View.{Queries, doubt_of, fails_on, looks_none, looks_on, meaning_of, project_in, shown_under, unmoved_none, unmoved_on};
+ghost use Rattle.dh_schema.specs.Calling.{IsSettled, Learns};
+ghost use Rattle.dh_view.specs.View.{doubt_of, fails_on, looks_none, looks_on, meaning_of, project_in, unmoved_none, unmoved_on};
 
 mod aliases;
 mod defaults;
-mod looks;
 mod pages;
 mod redirects;
 mod versions;
@@ -27,148 +25,11 @@ use dh_redirects::{Asked, Location};
 use dh_reply::{Fault, Lookup, Named, Page};
 use dh_store::Tables;
 use dh_versions::Version;
-use looks::{look_known, look_project};
 use pages::{all_langs, visible_page};
 use redirects::redirected;
 use sqlite::Alter;
 use std::alloc::Global;
 use versions::all_visible;
-
-fn known_under<S: Alter>(tables: &mut Tables<S>, host: &Option<HostName>) -> Result<bool, Fault>
-    ensures asks { Queries S.Store tables.old tables.new result }
-    ensures value { Reads S.Store tables.old tables.new result
-        (λ l. is_some (project_in l host.now)) }
-{
-    if !tables.is_settled() {
-        return Err(Fault::Store);
-    }
-    match host {
-        Some(host) => look_known(tables, host),
-        None => Ok(false),
-    }
-}
-
-fn project_under<S: Alter>(
-    tables: &mut Tables<S>,
-    alloc: Global,
-    host: &Option<HostName>,
-) -> Result<Option<ProjectRow>, Fault>
-    ensures asks { Queries S.Store tables.old tables.new result }
-    ensures settled { OnOk result (IsHonest S.Store tables.new → IsSettled S.Store tables.new) }
-    ensures value { Learns S.Store tables.old tables.new result
-        (λ l o. option_map (project_of l) o ≡ project_in l host.now) }
-{
-    if !tables.is_settled() {
-        return Err(Fault::Store);
-    }
-    match host {
-        Some(host) => look_project(tables, alloc, host),
-        None => Ok(None),
-    }
-}
-
-fn name_under<S: Alter>(
-    tables: &mut Tables<S>,
-    alloc: Global,
-    host: &Option<HostName>,
-    pass: &Option<Token>,
-    name: &str,
-) -> Result<Option<Named>, Fault>
-    ensures asks { Queries S.Store tables.old tables.new result }
-    ensures value { Reads S.Store tables.old tables.new result
-        (λ l. option_and_then (λ p. resolved p name.now) (shown_under l host.now pass.now)) }
-{
-    match project_under(tables, alloc, host)? {
-        Some(project) => version_for(tables, alloc, &project, pass, name),
-        None => Ok(None),
-    }
-}
-
-fn default_under<S: Alter>(
-    tables: &mut Tables<S>,
-    alloc: Global,
-    host: &Option<HostName>,
-    pass: &Option<Token>,
-) -> Result<Option<Text>, Fault>
-    ensures asks { Queries S.Store tables.old tables.new result }
-    ensures value { Reads S.Store tables.old tables.new result
-        (λ l. option_and_then (λ p. p.default) (shown_under l host.now pass.now)) }
-{
-    match project_under(tables, alloc, host)? {
-        Some(project) => default_name(tables, alloc, &project, pass),
-        None => Ok(None),
-    }
-}
-
-fn langs_under<S: Alter>(
-    tables: &mut Tables<S>,
-    alloc: Global,
-    host: &Option<HostName>,
-) -> Result<Vec<Lang>, Fault>
-    ensures asks { Queries S.Store tables.old tables.new result }
-    ensures value { ReadsAll S.Store tables.old tables.new result
-        (λ l. option_map_or (λ p. p.languages) (project_in l host.now) []) }
-{
-    match project_under(tables, alloc, host)? {
-        Some(project) => all_langs(tables, alloc, &project),
-        None => Ok(Vec::new(alloc)),
-    }
-}
-
-fn listing_under<S: Alter>(
-    tables: &mut Tables<S>,
-    alloc: Global,
-    host: &Option<HostName>,
-    pass: &Option<Token>,
-) -> Result<Vec<Version>, Fault>
-    ensures asks { Queries S.Store tables.old tables.new result }
-    ensures value { ReadsAll S.Store tables.old tables.new result
-        (λ l. option_map_or (λ p. values (visible_versions p pass.now))
-        (project_in l host.now) []) }
-{
-    match project_under(tables, alloc, host)? {
-        Some(project) => all_visible(tables, alloc, &project, pass),
-        None => Ok(Vec::new(alloc)),
-    }
-}
-
-fn page_under<S: Alter>(
-    tables: &mut Tables<S>,
-    alloc: Global,
-    host: &Option<HostName>,
-    pass: &Option<Token>,
-    lang: &Lang,
-    slug: &Slug,
-    path: &str,
-) -> Result<Option<Page>, Fault>
-    ensures asks { Queries S.Store tables.old tables.new result }
-    ensures value { Reads S.Store tables.old tables.new result
-        (λ l. option_and_then (λ p. page_at p lang.now slug.now path.now)
-        (shown_under l host.now pass.now)) }
-{
-    match project_under(tables, alloc, host)? {
-        Some(project) => visible_page(tables, alloc, &project, pass, lang, slug, path),
-        None => Ok(None),
-    }
-}
-
-fn redirected_under<S: Alter>(
-    tables: &mut Tables<S>,
-    alloc: Global,
-    host: &Option<HostName>,
-    forced: bool,
-    asked: &Asked,
-) -> Result<Option<Location>, Fault>
-    ensures asks { Queries S.Store tables.old tables.new result }
-    ensures value { Reads S.Store tables.old tables.new result
-        (λ l. option_and_then (λ p. first_result forced p.redirects asked.now)
-        (project_in l host.now)) }
-{
-    match project_under(tables, alloc, host)? {
-        Some(project) => redirected(tables, alloc, &project, forced, asked),
-        None => Ok(None),
-    }
-}
 
 /// The project under a host, as the holder of a pass sees it, or a caller with none. Within a
 /// transaction each look answers `Store`. Outside one a look does so only where the store counted a
@@ -206,6 +67,40 @@ impl<'a, S: Alter> View<'a, S> {
         } = self;
         tables
     }
+
+    /// The record of the project, where there is one under the host.
+    fn project(&mut self, alloc: Global) -> Result<Option<ProjectRow>, Fault>
+        ensures asks { Asks (meaning_of S.Store) self.old self.new result }
+        ensures settled { OnOk result
+            (IsHonest S.Store self.new.tables.now → IsSettled S.Store self.new.tables.now) }
+        ensures value { Learns S.Store self.old.tables.now self.new.tables.now result
+            (λ l o. option_map (project_of l) o ≡ project_in l self.old.host) }
+    {
+        if !self.tables.is_settled() {
+            return Err(Fault::Store);
+        }
+        match &self.host {
+            Some(host) => self.tables.project(alloc, host),
+            None => Ok(None),
+        }
+    }
+
+    /// Where the first redirect leads that has a result: of all, or of those with force alone.
+    fn redirect(
+        &mut self,
+        alloc: Global,
+        forced: bool,
+        asked: &Asked,
+    ) -> Result<Option<Location>, Fault>
+        ensures asks { Asks (meaning_of S.Store) self.old self.new result }
+        ensures value { TellsMaybe (meaning_of S.Store) self.old self.new result
+            (λ p. first_result forced p.redirects asked.now) }
+    {
+        match self.project(alloc)? {
+            Some(project) => redirected(self.tables, alloc, &project, forced, asked),
+            None => Ok(None),
+        }
+    }
 }
 
 /// The doubt of a view is 0 exactly while its store is honest: its disk has returned what was
@@ -229,19 +124,34 @@ impl<'a, S: Alter> Lookup for View<'a, S> {
     ghost fails_on = { λ a b c p it. fails_on p.3 it };
 
     fn known(&mut self) -> Result<bool, Fault> {
-        known_under(self.tables, &self.host)
+        if !self.tables.is_settled() {
+            return Err(Fault::Store);
+        }
+        match &self.host {
+            Some(host) => self.tables.has_project(host),
+            None => Ok(false),
+        }
     }
 
     fn name(&mut self, alloc: Global, name: &str) -> Result<Option<Named>, Fault> {
-        name_under(self.tables, alloc, &self.host, &self.pass, name)
+        match self.project(alloc)? {
+            Some(project) => version_for(self.tables, alloc, &project, &self.pass, name),
+            None => Ok(None),
+        }
     }
 
     fn default(&mut self, alloc: Global) -> Result<Option<Text>, Fault> {
-        default_under(self.tables, alloc, &self.host, &self.pass)
+        match self.project(alloc)? {
+            Some(project) => default_name(self.tables, alloc, &project, &self.pass),
+            None => Ok(None),
+        }
     }
 
     fn langs(&mut self, alloc: Global) -> Result<Vec<Lang>, Fault> {
-        langs_under(self.tables, alloc, &self.host)
+        match self.project(alloc)? {
+            Some(project) => all_langs(self.tables, alloc, &project),
+            None => Ok(Vec::new(alloc)),
+        }
     }
 
     fn page(
@@ -251,11 +161,16 @@ impl<'a, S: Alter> Lookup for View<'a, S> {
         slug: &Slug,
         path: &str,
     ) -> Result<Option<Page>, Fault> {
-        page_under(self.tables, alloc, &self.host, &self.pass, lang, slug, path)
+        match self.project(alloc)? {
+            Some(project) => {
+                visible_page(self.tables, alloc, &project, &self.pass, lang, slug, path)
+            }
+            None => Ok(None),
+        }
     }
 
     fn forced_redirect(&mut self, alloc: Global, asked: &Asked) -> Result<Option<Location>, Fault> {
-        redirected_under(self.tables, alloc, &self.host, true, asked)
+        self.redirect(alloc, true, asked)
     }
 
     fn not_found_redirect(
@@ -263,10 +178,13 @@ impl<'a, S: Alter> Lookup for View<'a, S> {
         alloc: Global,
         asked: &Asked,
     ) -> Result<Option<Location>, Fault> {
-        redirected_under(self.tables, alloc, &self.host, false, asked)
+        self.redirect(alloc, false, asked)
     }
 
     fn listing(&mut self, alloc: Global) -> Result<Vec<Version>, Fault> {
-        listing_under(self.tables, alloc, &self.host, &self.pass)
+        match self.project(alloc)? {
+            Some(project) => all_visible(self.tables, alloc, &project, &self.pass),
+            None => Ok(Vec::new(alloc)),
+        }
     }
 }

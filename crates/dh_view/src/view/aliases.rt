@@ -2,10 +2,9 @@
 
 ghost use Rattle.std.specs.Prelude.{◌≡◌, map, slice_get};
 ghost use Rattle.std.specs.Option.{option_and_then};
-ghost use Rattle.dh_rows.specs.Calls.{IsHonest};
 ghost use Rattle.dh_lookup.specs.SeenProject.{alias_of, alias_to, resolved};
-ghost use Rattle.dh_schema.specs.Calling.{IsSettled, Reads};
-ghost use Rattle.dh_view.specs.View.{Queries, shown_in};
+ghost use Rattle.dh_schema.specs.Calling.{Reads};
+ghost use Rattle.dh_view.specs.View.{Asks, shown_in};
 
 use crate::view::versions::{all_visible, visible_version};
 use dh_paths::Token;
@@ -36,8 +35,7 @@ fn latest_named<S: Alter>(
     project: &ProjectRow,
     pass: &Option<Token>,
 ) -> Result<Option<Named>, Fault>
-    requires settled { IsHonest S.Store tables.old → IsSettled S.Store tables.old }
-    ensures asks { Queries S.Store tables.old tables.new result }
+    ensures asks { Asks S.Store tables.old tables.new result }
     ensures value { Reads S.Store tables.old tables.new result
         (λ l. alias_to (shown_in l project.now pass.now).latest) }
 {
@@ -52,8 +50,7 @@ fn stable_named<S: Alter>(
     project: &ProjectRow,
     pass: &Option<Token>,
 ) -> Result<Option<Named>, Fault>
-    requires settled { IsHonest S.Store tables.old → IsSettled S.Store tables.old }
-    ensures asks { Queries S.Store tables.old tables.new result }
+    ensures asks { Asks S.Store tables.old tables.new result }
     ensures value { Reads S.Store tables.old tables.new result
         (λ l. alias_to (shown_in l project.now pass.now).stable) }
 {
@@ -69,8 +66,7 @@ fn alias_named<S: Alter>(
     pass: &Option<Token>,
     name: &str,
 ) -> Result<Option<Named>, Fault>
-    requires settled { IsHonest S.Store tables.old → IsSettled S.Store tables.old }
-    ensures asks { Queries S.Store tables.old tables.new result }
+    ensures asks { Asks S.Store tables.old tables.new result }
     ensures value { Reads S.Store tables.old tables.new result
         (λ l. alias_of (shown_in l project.now pass.now) name.now) }
 {
@@ -89,8 +85,7 @@ pub fn version_for<S: Alter>(
     pass: &Option<Token>,
     name: &str,
 ) -> Result<Option<Named>, Fault>
-    requires settled { IsHonest S.Store tables.old → IsSettled S.Store tables.old }
-    ensures asks { Queries S.Store tables.old tables.new result }
+    ensures asks { Asks S.Store tables.old tables.new result }
     ensures value { Reads S.Store tables.old tables.new result
         (λ l. resolved (shown_in l project.now pass.now) name.now) }
 {

@@ -2,14 +2,12 @@
 
 ghost use Rattle.std.specs.Prelude.{map, find, []};
 ghost use Rattle.std.specs.Option.{option_map};
-ghost use Rattle.dh_rows.specs.Calls.{IsHonest};
 ghost use Rattle.dh_lookup.specs.SeenProject.{resolved};
 ghost use Rattle.dh_world.specs.Seen.{default_of};
-ghost use Rattle.dh_schema.specs.Calling.{IsSettled, Reads};
-ghost use Rattle.dh_view.specs.View.{Queries, resolves, shown_in};
+ghost use Rattle.dh_schema.specs.Calling.{Reads};
+ghost use Rattle.dh_view.specs.View.{Asks, resolves, shown_in};
 
 use crate::view::aliases::version_for;
-use crate::view::looks::look_picks;
 use dh_paths::{Text, Token};
 use dh_records::{PickRow, ProjectRow};
 use dh_reply::Fault;
@@ -26,8 +24,7 @@ fn if_resolved<S: Alter>(
     pass: &Option<Token>,
     name: &str,
 ) -> Result<Option<Text>, Fault>
-    requires settled { IsHonest S.Store tables.old → IsSettled S.Store tables.old }
-    ensures asks { Queries S.Store tables.old tables.new result }
+    ensures asks { Asks S.Store tables.old tables.new result }
     ensures value { Reads S.Store tables.old tables.new result
         (λ l. option_map (λ _. name.now) (resolved (shown_in l project.now pass.now) name.now)) }
 {
@@ -44,8 +41,7 @@ fn default_alias<S: Alter>(
     project: &ProjectRow,
     pass: &Option<Token>,
 ) -> Result<Option<Text>, Fault>
-    requires settled { IsHonest S.Store tables.old → IsSettled S.Store tables.old }
-    ensures asks { Queries S.Store tables.old tables.new result }
+    ensures asks { Asks S.Store tables.old tables.new result }
     ensures value { Reads S.Store tables.old tables.new result
         (λ l. default_of (resolves l project.now pass.now) []) }
 {
@@ -63,8 +59,7 @@ fn first_resolved<S: Alter>(
     pass: &Option<Token>,
     picks: &[PickRow],
 ) -> Result<Option<Text>, Fault>
-    requires settled { IsHonest S.Store tables.old → IsSettled S.Store tables.old }
-    ensures asks { Queries S.Store tables.old tables.new result }
+    ensures asks { Asks S.Store tables.old tables.new result }
     ensures value { Reads S.Store tables.old tables.new result
         (λ l. find (resolves l project.now pass.now) (map (λ d. d.name) picks.now)) }
 {
@@ -84,12 +79,11 @@ pub fn default_name<S: Alter>(
     project: &ProjectRow,
     pass: &Option<Token>,
 ) -> Result<Option<Text>, Fault>
-    requires settled { IsHonest S.Store tables.old → IsSettled S.Store tables.old }
-    ensures asks { Queries S.Store tables.old tables.new result }
+    ensures asks { Asks S.Store tables.old tables.new result }
     ensures value { Reads S.Store tables.old tables.new result
         (λ l. (shown_in l project.now pass.now).default) }
 {
-    let picks = look_picks(tables, alloc, &project.host)?;
+    let picks = tables.picks(alloc, &project.host)?;
     match first_resolved(tables, alloc, project, pass, picks.as_slice())? {
         Some(name) => Ok(Some(name)),
         None => default_alias(tables, alloc, project, pass),

@@ -2,14 +2,12 @@
 
 ghost use Rattle.std.specs.Prelude.{◌≡◌, map, find, IfOk};
 ghost use Rattle.std.specs.Option.{option_map};
-ghost use Rattle.dh_rows.specs.Calls.{IsHonest};
 ghost use Rattle.dh_records.specs.Lists as spec;
 ghost use Rattle.dh_lookup.specs.SeenProject.{page_at};
 ghost use Rattle.dh_records.specs.Lists.{project_of};
-ghost use Rattle.dh_schema.specs.Calling.{IsSettled, Reads, ReadsAll};
-ghost use Rattle.dh_view.specs.View.{Queries, shown_in};
+ghost use Rattle.dh_schema.specs.Calling.{Reads, ReadsAll};
+ghost use Rattle.dh_view.specs.View.{Asks, shown_in};
 
-use crate::view::looks::{look_langs, look_page};
 use crate::view::versions::visible_version;
 use dh_paths::{Lang, Slug, Token};
 use dh_records::{LangRow, ProjectRow};
@@ -29,12 +27,11 @@ pub fn all_langs<S: Alter>(
     alloc: Global,
     project: &ProjectRow,
 ) -> Result<Vec<Lang>, Fault>
-    requires settled { IsHonest S.Store tables.old → IsSettled S.Store tables.old }
-    ensures asks { Queries S.Store tables.old tables.new result }
+    ensures asks { Asks S.Store tables.old tables.new result }
     ensures value { ReadsAll S.Store tables.old tables.new result
         (λ l. (project_of l project.now).languages) }
 {
-    let rows = look_langs(tables, alloc, &project.host)?;
+    let rows = tables.langs(alloc, &project.host)?;
     Ok(names_of(alloc, rows)?)
 }
 
@@ -47,13 +44,12 @@ fn any_page<S: Alter>(
     slug: &Slug,
     path: &str,
 ) -> Result<Option<Page>, Fault>
-    requires settled { IsHonest S.Store tables.old → IsSettled S.Store tables.old }
-    ensures asks { Queries S.Store tables.old tables.new result }
+    ensures asks { Asks S.Store tables.old tables.new result }
     ensures value { Reads S.Store tables.old tables.new result
         (λ l. option_map (λ row. row.page)
         (find (spec.is_page project.now.host slug.now lang.now path.now) l.pages)) }
 {
-    match look_page(tables, alloc, &project.host, slug, lang, path)? {
+    match tables.page(alloc, &project.host, slug, lang, path)? {
         Some(row) => Ok(Some(row.page)),
         None => Ok(None),
     }
@@ -69,8 +65,7 @@ pub fn visible_page<S: Alter>(
     slug: &Slug,
     path: &str,
 ) -> Result<Option<Page>, Fault>
-    requires settled { IsHonest S.Store tables.old → IsSettled S.Store tables.old }
-    ensures asks { Queries S.Store tables.old tables.new result }
+    ensures asks { Asks S.Store tables.old tables.new result }
     ensures value { Reads S.Store tables.old tables.new result
         (λ l. page_at (shown_in l project.now pass.now) lang.now slug.now path.now) }
 {

@@ -1,13 +1,11 @@
 //! Where the redirects of a project lead.
 
 ghost use Rattle.std.specs.Prelude.{◌≡◌, map, IfOk};
-ghost use Rattle.dh_rows.specs.Calls.{IsHonest};
 ghost use Rattle.dh_records.specs.Lists.{project_of};
 ghost use Rattle.dh_lookup.specs.SeenProject as spec;
-ghost use Rattle.dh_schema.specs.Calling.{IsSettled, Reads};
-ghost use Rattle.dh_view.specs.View.{Queries};
+ghost use Rattle.dh_schema.specs.Calling.{Reads};
+ghost use Rattle.dh_view.specs.View.{Asks};
 
-use crate::view::looks::look_redirects;
 use dh_records::{ProjectRow, RedirectRow};
 use dh_redirects::{Asked, Location, Redirect};
 use dh_reply::{Fault, first_result};
@@ -29,12 +27,11 @@ pub fn redirected<S: Alter>(
     forced: bool,
     asked: &Asked,
 ) -> Result<Option<Location>, Fault>
-    requires settled { IsHonest S.Store tables.old → IsSettled S.Store tables.old }
-    ensures asks { Queries S.Store tables.old tables.new result }
+    ensures asks { Asks S.Store tables.old tables.new result }
     ensures value { Reads S.Store tables.old tables.new result
         (λ l. spec.first_result forced (project_of l project.now).redirects asked.now) }
 {
-    let rows = look_redirects(tables, alloc, &project.host)?;
+    let rows = tables.redirects(alloc, &project.host)?;
     let redirects = redirects_of(alloc, rows)?;
     Ok(first_result(alloc, forced, redirects.as_slice(), asked)?)
 }

@@ -3,13 +3,11 @@
 ghost use Rattle.std.specs.Prelude.{◌≡◌, map, filter, [], IfOk};
 ghost use Rattle.std.specs.List.{list_any};
 ghost use Rattle.std.specs.FinMap.{get, keys, values};
-ghost use Rattle.dh_rows.specs.Calls.{IsHonest};
 ghost use Rattle.dh_view.specs.View as view;
-ghost use Rattle.dh_schema.specs.Calling.{IsSettled, Learns, Reads, ReadsAll};
-ghost use Rattle.dh_view.specs.View.{OpensAs, Queries, ShowsAs, held_in, is_shown, visible_in};
+ghost use Rattle.dh_schema.specs.Calling.{Learns, Reads, ReadsAll};
+ghost use Rattle.dh_view.specs.View.{Asks, OpensAs, ShowsAs, held_in, is_shown, visible_in};
 ghost use Rattle.dh_world.specs.World as world;
 
-use crate::view::looks::{look_grants, look_held, look_pass, look_version, look_versions};
 use dh_paths::{Slug, Token};
 use dh_records::{HeldRow, ProjectRow, VersionRow};
 use dh_reply::Fault;
@@ -72,14 +70,13 @@ fn is_held<S: Alter>(
     pass: &Option<Token>,
     slug: &Slug,
 ) -> Result<bool, Fault>
-    requires settled { IsHonest S.Store tables.old → IsSettled S.Store tables.old }
-    ensures asks { Queries S.Store tables.old tables.new result }
+    ensures asks { Asks S.Store tables.old tables.new result }
     ensures value { Reads S.Store tables.old tables.new result
         (λ l. held_in l project.now pass.now slug.now) }
 {
     match pass {
-        Some(pass) => match look_pass(tables, alloc, &project.host, pass)? {
-            Some(_row) => look_held(tables, &project.host, pass, slug),
+        Some(pass) => match tables.pass(alloc, &project.host, pass)? {
+            Some(_row) => tables.held(&project.host, pass, slug),
             None => Ok(false),
         },
         None => Ok(false),
@@ -94,8 +91,7 @@ fn is_seen<S: Alter>(
     pass: &Option<Token>,
     version: &Version,
 ) -> Result<bool, Fault>
-    requires settled { IsHonest S.Store tables.old → IsSettled S.Store tables.old }
-    ensures asks { Queries S.Store tables.old tables.new result }
+    ensures asks { Asks S.Store tables.old tables.new result }
     ensures value { Reads S.Store tables.old tables.new result
         (λ l. world.may_see version.now (held_in l project.now pass.now version.now.slug)) }
 {
@@ -114,12 +110,11 @@ pub fn visible_version<S: Alter>(
     pass: &Option<Token>,
     name: &str,
 ) -> Result<Option<Version>, Fault>
-    requires settled { IsHonest S.Store tables.old → IsSettled S.Store tables.old }
-    ensures asks { Queries S.Store tables.old tables.new result }
+    ensures asks { Asks S.Store tables.old tables.new result }
     ensures value { Reads S.Store tables.old tables.new result
         (λ l. get (visible_in l project.now pass.now) name.now) }
 {
-    match look_version(tables, alloc, &project.host, name)? {
+    match tables.version_named(alloc, &project.host, name)? {
         Some(row) => {
             let seen = is_seen(tables, alloc, project, pass, &row.version)?;
             if seen {
@@ -139,14 +134,13 @@ fn grants_of<S: Alter>(
     project: &ProjectRow,
     pass: &Option<Token>,
 ) -> Result<Vec<HeldRow>, Fault>
-    requires settled { IsHonest S.Store tables.old → IsSettled S.Store tables.old }
-    ensures asks { Queries S.Store tables.old tables.new result }
+    ensures asks { Asks S.Store tables.old tables.new result }
     ensures value { Learns S.Store tables.old tables.new result
         (λ l grants. OpensAs grants.items (held_in l project.now pass.now)) }
 {
     match pass {
-        Some(pass) => match look_pass(tables, alloc, &project.host, pass)? {
-            Some(_row) => look_grants(tables, alloc, &project.host, pass),
+        Some(pass) => match tables.pass(alloc, &project.host, pass)? {
+            Some(_row) => tables.held_by(alloc, &project.host, pass),
             None => Ok(no_grants(alloc)),
         },
         None => Ok(no_grants(alloc)),
@@ -162,8 +156,7 @@ fn grants_for<S: Alter>(
     pass: &Option<Token>,
     rows: &[VersionRow],
 ) -> Result<Vec<HeldRow>, Fault>
-    requires settled { IsHonest S.Store tables.old → IsSettled S.Store tables.old }
-    ensures asks { Queries S.Store tables.old tables.new result }
+    ensures asks { Asks S.Store tables.old tables.new result }
     ensures value { Learns S.Store tables.old tables.new result
         (λ l grants. ShowsAs rows.now grants.items (held_in l project.now pass.now)) }
 {
@@ -181,14 +174,13 @@ pub fn all_visible<S: Alter>(
     project: &ProjectRow,
     pass: &Option<Token>,
 ) -> Result<Vec<Version>, Fault>
-    requires settled { IsHonest S.Store tables.old → IsSettled S.Store tables.old }
-    ensures asks { Queries S.Store tables.old tables.new result }
+    ensures asks { Asks S.Store tables.old tables.new result }
     ensures versions { ReadsAll S.Store tables.old tables.new result
         (λ l. values (visible_in l project.now pass.now)) }
     ensures slugs { Learns S.Store tables.old tables.new result
         (λ l v. map (λ x. x.slug) v.items ≡ keys (visible_in l project.now pass.now)) }
 {
-    let rows = look_versions(tables, alloc, &project.host)?;
+    let rows = tables.versions(alloc, &project.host)?;
     let grants = grants_for(tables, alloc, project, pass, rows.as_slice())?;
     Ok(versions_of(alloc, only_visible(rows, grants.as_slice()))?)
 }

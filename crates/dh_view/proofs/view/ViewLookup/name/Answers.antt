@@ -1,9 +1,20 @@
-use Rattle.std.proofs.Common.{refl}
-use Rattle.dh_view.proofs.ViewLemmas.{view_asks, honest}
+use Rattle.std.proofs.Common.{refl, ap}
+use Rattle.std.specs.Option.{option_and_then}
+use Rattle.dh_lookup.specs.SeenProject.{resolved}
+use Rattle.dh_view.proofs.ViewLemmas.{honest, none_shown, same_answer, shown_found, view_on}
 use Rattle.dh_view.proofs.view.ViewLookup.name.Goals as goal
 
-pub returns-clause-asks : goal.returns-clause-asks
-returns-clause-asks g c = view_asks g.S.Store _ _ c.name_under.result (refl, refl, refl) c.name_under.ensures.asks
+pub returns-in-Some-clause-asks : goal.returns-in-Some-clause-asks
+returns-in-Some-clause-asks g c = view_on g.S.Store c.in_ok-project.ensures.asks (refl, refl, refl) c.in_ok-project.ensures.settled c.version_for.ensures.asks
 
-pub returns-clause-value : goal.returns-clause-value
-returns-clause-value g c d = c.name_under.ensures.value (honest g.S.Store _ d)
+pub returns-in-Some-clause-value : goal.returns-in-Some-clause-value
+returns-in-Some-clause-value g c d =
+    let it = honest g.S.Store _ d in
+    let before = c.version_for.ensures.asks.goes.lasts.was it in
+    same_answer (λ x. x) c.version_for.result _ _
+    (ap (option_and_then (λ p. resolved p c.args.name.now)) (shown_found g.S.Store c.in_ok-project.ensures.asks c.in_ok-project.ensures.value c.in-Some.project c.in-Some.is before))
+    (c.version_for.ensures.value it)
+
+pub returns-in-None-clause-value : goal.returns-in-None-clause-value
+returns-in-None-clause-value g c d =
+    ap (option_and_then (λ p. resolved p c.args.name.now)) (none_shown g.S.Store c.in_ok-project.ensures.asks c.in_ok-project.ensures.value c.in-None.is (honest g.S.Store _ d))

@@ -5,11 +5,11 @@ use Rattle.dh_world.specs.Seen.{seen_project}
 use Rattle.dh_rows.specs.Calls.{seen}
 use Rattle.dh_schema.specs.Tables.{lists_of}
 use Rattle.dh_view.proofs.Shown.{own_slug, no_slug}
-use Rattle.dh_view.proofs.ViewLemmas.{was_honest, lists_same, same_answer, queries_on}
+use Rattle.dh_view.proofs.ViewLemmas.{asks_on, same_answer, still}
 use Rattle.dh_view.proofs.view.aliases.version_for.Goals as goal
 
 pub returns-in-None-clause-asks : goal.returns-in-None-clause-asks
-returns-in-None-clause-asks g c = queries_on c.visible_version.ensures.asks.looks c.alias_named.ensures.asks
+returns-in-None-clause-asks g c = asks_on c.in_ok-version.ensures.asks c.alias_named.ensures.asks
 
 pub returns-in-Some-clause-value : goal.returns-in-Some-clause-value
 returns-in-Some-clause-value g c honest =
@@ -17,8 +17,8 @@ returns-in-Some-clause-value g c honest =
 
 pub returns-in-None-clause-value : goal.returns-in-None-clause-value
 returns-in-None-clause-value g c honest =
-    let before = was_honest g.S.Store _ _ c.alias_named.ensures.asks.looks honest in
+    let before = c.alias_named.ensures.asks.goes.lasts.was honest in
     same_answer (λ n. n) c.alias_named.result _ _
-    (ap (λ l. alias_of (seen_project (project_of l c.args.project.now) c.args.pass.now) c.args.name.now) (lists_same g.S.Store _ _ c.in_ok-version.ensures.asks.looks before)
+    (ap (λ l. alias_of (seen_project (project_of l c.args.project.now) c.args.pass.now) c.args.name.now) (still c.in_ok-version.ensures.asks before)
     ∙ no_slug (seen g.S.Store lists_of c.args.tables.now) c.args.project.now c.args.pass.now c.args.name.now c.in_ok-version.field-0 (c.in_ok-version.ensures.value before) c.in-None.is)
     (c.alias_named.ensures.value honest)

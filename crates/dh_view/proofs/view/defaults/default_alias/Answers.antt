@@ -6,11 +6,11 @@ use Rattle.dh_world.specs.Seen.{seen_project}
 use Rattle.dh_rows.specs.Calls.{seen}
 use Rattle.dh_schema.specs.Tables.{lists_of}
 use Rattle.dh_view.proofs.Shown.{alias_first, alias_second}
-use Rattle.dh_view.proofs.ViewLemmas.{was_honest, lists_same, same_answer, queries_on}
+use Rattle.dh_view.proofs.ViewLemmas.{asks_on, same_answer, still}
 use Rattle.dh_view.proofs.view.defaults.default_alias.Goals as goal
 
 pub returns-in-None-clause-asks : goal.returns-in-None-clause-asks
-returns-in-None-clause-asks g c = queries_on c.in_ok-name.ensures.asks.looks c.if_resolved-in-None.ensures.asks
+returns-in-None-clause-asks g c = asks_on c.in_ok-name.ensures.asks c.if_resolved-in-None.ensures.asks
 
 pub returns-in-Some-clause-value : goal.returns-in-Some-clause-value
 returns-in-Some-clause-value g c honest =
@@ -18,8 +18,8 @@ returns-in-Some-clause-value g c honest =
 
 pub returns-in-None-clause-value : goal.returns-in-None-clause-value
 returns-in-None-clause-value g c honest =
-    let before = was_honest g.S.Store _ _ c.if_resolved-in-None.ensures.asks.looks honest in
+    let before = c.if_resolved-in-None.ensures.asks.goes.lasts.was honest in
     same_answer (λ n. n) c.if_resolved-in-None.result _ _
-    (ap (λ l. option_map (λ n. codes "stable") (resolved (seen_project (project_of l c.args.project.now) c.args.pass.now) (codes "stable"))) (lists_same g.S.Store _ _ c.in_ok-name.ensures.asks.looks before)
+    (ap (λ l. option_map (λ n. codes "stable") (resolved (seen_project (project_of l c.args.project.now) c.args.pass.now) (codes "stable"))) (still c.in_ok-name.ensures.asks before)
     ∙ alias_second (seen g.S.Store lists_of c.args.tables.now) c.args.project.now c.args.pass.now c.in_ok-name.field-0 (c.in_ok-name.ensures.value before) c.in-None.is)
     (c.if_resolved-in-None.ensures.value honest)

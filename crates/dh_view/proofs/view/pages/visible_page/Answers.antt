@@ -7,17 +7,17 @@ use Rattle.dh_records.specs.Lists.{project_of, is_page}
 use Rattle.dh_world.specs.Seen.{visible_versions}
 use Rattle.dh_schema.specs.Tables.{lists_of}
 use Rattle.dh_view.proofs.Shown.{page_when, no_page}
-use Rattle.dh_view.proofs.ViewLemmas.{was_honest, lists_same, same_answer, queries_on}
+use Rattle.dh_view.proofs.ViewLemmas.{asks_on, same_answer, still}
 use Rattle.dh_view.proofs.view.pages.visible_page.Goals as goal
 
 pub returns-in-Some-clause-asks : goal.returns-in-Some-clause-asks
-returns-in-Some-clause-asks g c = queries_on c.in_ok-_version.ensures.asks.looks c.any_page.ensures.asks
+returns-in-Some-clause-asks g c = asks_on c.in_ok-_version.ensures.asks c.any_page.ensures.asks
 
 pub returns-in-Some-clause-value : goal.returns-in-Some-clause-value
 returns-in-Some-clause-value g c honest =
-    let before = was_honest g.S.Store _ _ c.any_page.ensures.asks.looks honest in
+    let before = c.any_page.ensures.asks.goes.lasts.was honest in
     same_answer (λ o. o) c.any_page.result _ _
-    (ap (λ l. option_map (λ x. x.page) (find (is_page c.args.project.now.host c.args.slug.now c.args.lang.now c.args.path.now) l.pages)) (lists_same g.S.Store _ _ c.in_ok-_version.ensures.asks.looks before)
+    (ap (λ l. option_map (λ x. x.page) (find (is_page c.args.project.now.host c.args.slug.now c.args.lang.now c.args.path.now) l.pages)) (still c.in_ok-_version.ensures.asks before)
     ∙ page_when (seen g.S.Store lists_of c.args.tables.now) c.args.project.now c.args.pass.now c.args.lang.now c.args.slug.now c.args.path.now c.in_ok-_version.field-0
     (c.in_ok-_version.ensures.value before ∙ ap (get (visible_versions (project_of (seen g.S.Store lists_of c.args.tables.now) c.args.project.now) c.args.pass.now)) c.as_str.ensures.text)
     c.in-Some._version c.in-Some.is)

@@ -3,28 +3,28 @@ use Rattle.dh_rows.specs.Calls.{seen}
 use Rattle.dh_schema.specs.Tables.{lists_of}
 use Rattle.dh_records.specs.Constraints.{RiseBySlug}
 use Rattle.dh_view.proofs.Shown.{kept_are, values_are, keys_are}
-use Rattle.dh_view.proofs.ViewLemmas.{was_honest, lists_same, queries_handed, queries_on}
+use Rattle.dh_view.proofs.ViewLemmas.{asked, asks_handed, asks_on, still}
 use Rattle.dh_view.proofs.view.versions.all_visible.Goals as goal
 
 pub returns-in_err-grants-clause-asks : goal.returns-in_err-grants-clause-asks
 returns-in_err-grants-clause-asks g c =
-    queries_handed c.from_residual-in_err-grants.result c.in_err-grants.field-0.0 c.in_err-grants.was c.from_residual-in_err-grants.ensures.1
-    (queries_on c.look_versions.ensures.asks.looks c.grants_for.ensures.asks)
+    asks_handed c.from_residual-in_err-grants.result c.in_err-grants.field-0.0 c.in_err-grants.was c.from_residual-in_err-grants.ensures.1
+    (asks_on (asked c.in_ok-rows.ensures.asks) c.grants_for.ensures.asks)
 
 pub returns-clause-versions : goal.returns-clause-versions
 returns-clause-versions g c honest =
-    let before = was_honest g.S.Store _ _ c.grants_for.ensures.asks.looks honest in
+    let before = c.grants_for.ensures.asks.goes.lasts.was honest in
     let lists = seen g.S.Store lists_of c.args.tables.now in
     c.in_ok-versions_of.ensures
     ∙ values_are lists c.args.project.now c.args.pass.now c.only_visible.result.items (subst RiseBySlug (c.in_ok-rows.ensures.value before) (c.in_ok-rows.ensures.order before))
-    (kept_are lists c.args.project.now c.args.pass.now (seen g.S.Store lists_of c.look_versions.new.tables) c.in_ok-grants.grants.items c.as_slice-2.result.now c.in_ok-rows.rows.items c.as_slice.result.now c.only_visible.result.items
-    (lists_same g.S.Store _ _ c.look_versions.ensures.asks.looks before) (c.in_ok-rows.ensures.value before) c.as_slice.ensures.value c.as_slice-2.ensures.value c.only_visible.ensures (c.in_ok-grants.ensures.value honest))
+    (kept_are lists c.args.project.now c.args.pass.now (seen g.S.Store lists_of c.versions.new.self) c.in_ok-grants.grants.items c.as_slice-2.result.now c.in_ok-rows.rows.items c.as_slice.result.now c.only_visible.result.items
+    (still (asked c.in_ok-rows.ensures.asks) before) (c.in_ok-rows.ensures.value before) c.as_slice.ensures.value c.as_slice-2.ensures.value c.only_visible.ensures (c.in_ok-grants.ensures.value honest))
 
 pub returns-clause-slugs : goal.returns-clause-slugs
 returns-clause-slugs g c honest =
-    let before = was_honest g.S.Store _ _ c.grants_for.ensures.asks.looks honest in
+    let before = c.grants_for.ensures.asks.goes.lasts.was honest in
     let lists = seen g.S.Store lists_of c.args.tables.now in
     ap (map (λ v. v.slug)) c.in_ok-versions_of.ensures
     ∙ keys_are lists c.args.project.now c.args.pass.now c.only_visible.result.items (subst RiseBySlug (c.in_ok-rows.ensures.value before) (c.in_ok-rows.ensures.order before))
-    (kept_are lists c.args.project.now c.args.pass.now (seen g.S.Store lists_of c.look_versions.new.tables) c.in_ok-grants.grants.items c.as_slice-2.result.now c.in_ok-rows.rows.items c.as_slice.result.now c.only_visible.result.items
-    (lists_same g.S.Store _ _ c.look_versions.ensures.asks.looks before) (c.in_ok-rows.ensures.value before) c.as_slice.ensures.value c.as_slice-2.ensures.value c.only_visible.ensures (c.in_ok-grants.ensures.value honest))
+    (kept_are lists c.args.project.now c.args.pass.now (seen g.S.Store lists_of c.versions.new.self) c.in_ok-grants.grants.items c.as_slice-2.result.now c.in_ok-rows.rows.items c.as_slice.result.now c.only_visible.result.items
+    (still (asked c.in_ok-rows.ensures.asks) before) (c.in_ok-rows.ensures.value before) c.as_slice.ensures.value c.as_slice-2.ensures.value c.only_visible.ensures (c.in_ok-grants.ensures.value honest))

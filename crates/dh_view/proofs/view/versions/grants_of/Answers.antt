@@ -3,19 +3,19 @@ use Rattle.dh_rows.specs.Calls.{seen}
 use Rattle.dh_records.specs.Lists.{is_held_by}
 use Rattle.dh_schema.specs.Tables.{lists_of}
 use Rattle.dh_view.proofs.PassLemmas.{held_unknown, grants_open, none_open}
-use Rattle.dh_view.proofs.ViewLemmas.{was_honest, lists_same, from_answer, queries_on}
+use Rattle.dh_view.proofs.ViewLemmas.{asked, asks_on, from_answer, still}
 use Rattle.dh_view.proofs.view.versions.grants_of.Goals as goal
 
 pub returns-in-Some-2-clause-asks : goal.returns-in-Some-2-clause-asks
-returns-in-Some-2-clause-asks g c = queries_on c.look_pass.ensures.asks.looks c.look_grants.ensures.asks
+returns-in-Some-2-clause-asks g c = asks_on (asked c.in_ok-_row-in-Some.ensures.asks) (asked c.held_by.ensures.asks)
 
 pub returns-in-Some-2-clause-value : goal.returns-in-Some-2-clause-value
 returns-in-Some-2-clause-value g c honest =
-    let before = was_honest g.S.Store _ _ c.look_grants.ensures.asks.looks honest in
-    from_answer c.look_grants.result
+    let before = c.held_by.ensures.asks.goes.lasts.was honest in
+    from_answer c.held_by.result
     (λ o e. grants_open (seen g.S.Store lists_of c.args.tables.now) c.args.project.now c.args.pass.now c.in-Some.pass c.in-Some.is c.in_ok-_row-in-Some.field-0 c.in-Some-2._row (c.in_ok-_row-in-Some.ensures.value before) c.in-Some-2.is
-    o.items (e ∙ ap (λ l. filter (is_held_by c.args.project.now.host c.in-Some.pass) l.held) (lists_same g.S.Store _ _ c.look_pass.ensures.asks.looks before)))
-    (c.look_grants.ensures.value honest)
+    o.items (e ∙ ap (λ l. filter (is_held_by c.args.project.now.host c.in-Some.pass) l.held) (still (asked c.in_ok-_row-in-Some.ensures.asks) before)))
+    (c.held_by.ensures.value honest)
 
 pub returns-in-None-2-clause-value : goal.returns-in-None-2-clause-value
 returns-in-None-2-clause-value g c honest slug =

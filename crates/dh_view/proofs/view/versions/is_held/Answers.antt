@@ -5,19 +5,19 @@ use Rattle.dh_rows.specs.Calls.{seen}
 use Rattle.dh_records.specs.Lists.{is_held}
 use Rattle.dh_schema.specs.Tables.{lists_of}
 use Rattle.dh_view.proofs.PassLemmas.{held_known, held_unknown}
-use Rattle.dh_view.proofs.ViewLemmas.{was_honest, lists_same, same_answer, queries_on}
+use Rattle.dh_view.proofs.ViewLemmas.{asked, asks_on, same_answer, still}
 use Rattle.dh_view.proofs.view.versions.is_held.Goals as goal
 
 pub returns-in-Some-2-clause-asks : goal.returns-in-Some-2-clause-asks
-returns-in-Some-2-clause-asks g c = queries_on c.look_pass.ensures.asks.looks c.look_held.ensures.asks
+returns-in-Some-2-clause-asks g c = asks_on (asked c.in_ok-_row-in-Some.ensures.asks) (asked c.held.ensures.asks)
 
 pub returns-in-Some-2-clause-value : goal.returns-in-Some-2-clause-value
 returns-in-Some-2-clause-value g c honest =
-    let before = was_honest g.S.Store _ _ c.look_held.ensures.asks.looks honest in
-    same_answer (λ b. b) c.look_held.result _ _
-    (ap (λ l. is_some (find (is_held c.args.project.now.host c.in-Some.pass c.args.slug.now) l.held)) (lists_same g.S.Store _ _ c.look_pass.ensures.asks.looks before)
+    let before = c.held.ensures.asks.goes.lasts.was honest in
+    same_answer (λ b. b) c.held.result _ _
+    (ap (λ l. is_some (find (is_held c.args.project.now.host c.in-Some.pass c.args.slug.now) l.held)) (still (asked c.in_ok-_row-in-Some.ensures.asks) before)
     ∙ held_known (seen g.S.Store lists_of c.args.tables.now) c.args.project.now c.args.pass.now c.in-Some.pass c.in-Some.is c.in_ok-_row-in-Some.field-0 c.in-Some-2._row (c.in_ok-_row-in-Some.ensures.value before) c.in-Some-2.is c.args.slug.now)
-    (c.look_held.ensures.value honest)
+    (c.held.ensures.value honest)
 
 pub returns-in-None-2-clause-value : goal.returns-in-None-2-clause-value
 returns-in-None-2-clause-value g c honest =

@@ -1,5 +1,0 @@
-use Rattle.dh_view.proofs.ViewLemmas.{queries_on}
-use Rattle.dh_view.proofs.view.listing_under.Goals as goal
-
-pub returns-in-Some-clause-asks : goal.returns-in-Some-clause-asks
-returns-in-Some-clause-asks g c = queries_on c.project_under.ensures.asks.looks c.all_visible.ensures.asks
