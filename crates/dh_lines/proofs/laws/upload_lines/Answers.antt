@@ -32,10 +32,11 @@ uploading : (ts : List Token) (order : Order) → Fits ts
     × ((file : Text) → Reads (ts ++ naming file) (as_line (Some file) order)))
     → Orders (codes "upload" ∷ map text_of ts) order
 uploading ts order fits passes reads =
-    form_line (codes "upload") ts order fits
-    (upload_by ts (as_line None order) passes.0 reads.0,
-    λ file.
-    upload_by (ts ++ naming file) (as_line (Some file) order) (passes.1 file) (reads.1 file))
+    form_line (codes "upload") ts order fits (
+      upload_by ts (as_line None order) passes.0 reads.0,
+      λ file.
+          upload_by (ts ++ naming file) (as_line (Some file) order) (passes.1 file) (reads.1 file),
+    )
 
 -- `--replace`
 abbrev replacing : List Token
