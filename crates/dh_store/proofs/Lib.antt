@@ -1,9 +1,10 @@
 pub mod Matching
-pub mod SameText
 pub mod Others
-pub mod Statements
 pub mod Kept
-pub mod Unrefused
+pub mod OneTable
+pub mod OurTables
+pub mod Statements
+pub mod Asking
 pub mod Finding
 pub mod Known
 pub mod PickLemmas

@@ -21,6 +21,7 @@ mod projects;
 mod redirects;
 mod retry_keys;
 mod rules;
+mod statement;
 mod versions;
 
 pub use dh_opening::TablesFault;

@@ -15,7 +15,6 @@ use super::Tables;
 use dh_paths::{HostName, Slug};
 use dh_records::PickRow;
 use dh_reply::Fault;
-use dh_schema::{all_records, write};
 use sqlite::{Alter, params};
 use std::alloc::Global;
 
@@ -37,7 +36,7 @@ impl<S: Alter> Tables<S> {
             (λ l. filter (spec.is_pick_of host.now) l.picks) }
     {
         let sql = "SELECT host, name, rank FROM pick WHERE host = ?1 ORDER BY host, rank";
-        all_records(&mut self.conn, alloc, sql, params![host.as_str()])
+        self.all_records(alloc, sql, params![host.as_str()])
     }
 
     /// Adds a default, whose rank is free.
@@ -49,8 +48,7 @@ impl<S: Alter> Tables<S> {
             (change.add_pick (spec.pick_row host.now name.now rank)) }
     {
         let rank = signed(rank)?;
-        write(
-            &mut self.conn,
+        self.write(
             "INSERT INTO pick VALUES (?1, ?2, ?3)",
             params![host.as_str(), name.as_str(), rank],
         )
@@ -60,11 +58,7 @@ impl<S: Alter> Tables<S> {
     fn drop_picks(&mut self, host: &HostName) -> Result<(), Fault>
         ensures writes { Writes S.Store self.old self.new result (change.drop_picks host.now) }
     {
-        write(
-            &mut self.conn,
-            "DELETE FROM pick WHERE host = ?1",
-            params![host.as_str()],
-        )
+        self.write("DELETE FROM pick WHERE host = ?1", params![host.as_str()])
     }
 
     /// Adds the defaults of a project that has none.

@@ -14,7 +14,6 @@ use super::{Tables, show_number};
 use dh_paths::HostName;
 use dh_records::LangRow;
 use dh_reply::Fault;
-use dh_schema::{all_records, write};
 use sqlite::{Alter, params};
 use std::alloc::Global;
 
@@ -25,8 +24,7 @@ impl<S: Alter> Tables<S> {
         ensures value { ReadsAll S.Store self.old self.new result
             (λ l. filter (spec.is_lang_of host.now) l.langs) }
     {
-        all_records(
-            &mut self.conn,
+        self.all_records(
             alloc,
             "SELECT host, lang, place FROM lang WHERE host = ?1 ORDER BY host, place",
             params![host.as_str()],
@@ -42,8 +40,7 @@ impl<S: Alter> Tables<S> {
         ensures writes { Writes S.Store self.old self.new result (change.add_lang lang.now) }
     {
         show_number(lang.place);
-        write(
-            &mut self.conn,
+        self.write(
             "INSERT INTO lang VALUES (?1, ?2, ?3)",
             params![lang.host.as_str(), lang.lang.as_str(), lang.place],
         )

@@ -9,7 +9,6 @@ use super::Tables;
 use dh_paths::{HostName, Lang, Slug};
 use dh_records::PageRow;
 use dh_reply::Fault;
-use dh_schema::{first_record, write};
 use sqlite::{Alter, params};
 use std::alloc::Global;
 
@@ -27,8 +26,7 @@ impl<S: Alter> Tables<S> {
         ensures value { Reads S.Store self.old self.new result
             (λ l. find (spec.is_page host.now slug.now lang.now path.now) l.pages) }
     {
-        first_record(
-            &mut self.conn,
+        self.first_record(
             alloc,
             "SELECT host, slug, lang, path, media, body FROM page WHERE host = ?1 AND slug = ?2 AND lang = ?3 AND path = ?4 ORDER BY host, slug, lang, path",
             params![host.as_str(), slug.as_str(), lang.as_str(), path],
@@ -39,8 +37,7 @@ impl<S: Alter> Tables<S> {
     pub fn put_page(&mut self, row: &PageRow) -> Result<(), Fault>
         ensures writes { Writes S.Store self.old self.new result (change.put_page row.now) }
     {
-        write(
-            &mut self.conn,
+        self.write(
             "INSERT INTO page VALUES (?1, ?2, ?3, ?4, ?5, ?6) ON CONFLICT (host, slug, lang, path) DO UPDATE SET media = ?5, body = ?6",
             params![
                 row.host.as_str(),
@@ -58,8 +55,7 @@ impl<S: Alter> Tables<S> {
         ensures writes { Writes S.Store self.old self.new result
             (change.drop_pages host.now slug.now None) }
     {
-        write(
-            &mut self.conn,
+        self.write(
             "DELETE FROM page WHERE host = ?1 AND slug = ?2",
             params![host.as_str(), slug.as_str()],
         )
@@ -70,8 +66,7 @@ impl<S: Alter> Tables<S> {
         ensures writes { Writes S.Store self.old self.new result
             (change.drop_pages host.now slug.now (Some lang.now)) }
     {
-        write(
-            &mut self.conn,
+        self.write(
             "DELETE FROM page WHERE host = ?1 AND slug = ?2 AND lang = ?3",
             params![host.as_str(), slug.as_str(), lang.as_str()],
         )

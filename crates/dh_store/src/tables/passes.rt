@@ -13,7 +13,6 @@ use super::Tables;
 use dh_paths::{HostName, Slug, Token};
 use dh_records::{HeldRow, PassRow};
 use dh_reply::Fault;
-use dh_schema::{all_records, count_records, first_record, has_record, write};
 use sqlite::{Alter, params};
 use std::alloc::Global;
 
@@ -30,12 +29,7 @@ impl<S: Alter> Tables<S> {
             (λ l. find (spec.is_pass host.now token.now) l.passes) }
     {
         let sql = "SELECT host, pass FROM pass WHERE host = ?1 AND pass = ?2 ORDER BY host, pass";
-        first_record(
-            &mut self.conn,
-            alloc,
-            sql,
-            params![host.as_str(), token.as_str()],
-        )
+        self.first_record(alloc, sql, params![host.as_str(), token.as_str()])
     }
 
     /// How many passes a project has.
@@ -45,7 +39,7 @@ impl<S: Alter> Tables<S> {
             (λ l. length (filter (spec.is_pass_of host.now) l.passes)) }
     {
         let sql = "SELECT host, pass FROM pass WHERE host = ?1 ORDER BY host, pass";
-        count_records(&mut self.conn, sql, params![host.as_str()])
+        self.count_records::<PassRow>(sql, params![host.as_str()])
     }
 
     /// Adds a pass, which the project has not.
@@ -54,8 +48,7 @@ impl<S: Alter> Tables<S> {
             → IsFreeKey coding.passes.key row.now (seen S.Store lists_of self.old).passes }
         ensures writes { Writes S.Store self.old self.new result (change.add_pass row.now) }
     {
-        write(
-            &mut self.conn,
+        self.write(
             "INSERT INTO pass VALUES (?1, ?2)",
             params![row.host.as_str(), row.pass.as_str()],
         )
@@ -66,8 +59,7 @@ impl<S: Alter> Tables<S> {
         ensures writes { Writes S.Store self.old self.new result
             (change.drop_pass host.now pass.now) }
     {
-        write(
-            &mut self.conn,
+        self.write(
             "DELETE FROM pass WHERE host = ?1 AND pass = ?2",
             params![host.as_str(), pass.as_str()],
         )
@@ -81,11 +73,7 @@ impl<S: Alter> Tables<S> {
     {
         let sql =
             "SELECT host, pass, slug FROM holds WHERE host = ?1 AND pass = ?2 AND slug = ?3 ORDER BY host, pass, slug";
-        has_record(
-            &mut self.conn,
-            sql,
-            params![host.as_str(), pass.as_str(), slug.as_str()],
-        )
+        self.has_record::<HeldRow>(sql, params![host.as_str(), pass.as_str(), slug.as_str()])
     }
 
     /// Adds a grant, which is not there.
@@ -94,8 +82,7 @@ impl<S: Alter> Tables<S> {
             → IsFreeKey coding.held.key row.now (seen S.Store lists_of self.old).held }
         ensures writes { Writes S.Store self.old self.new result (change.add_grant row.now) }
     {
-        write(
-            &mut self.conn,
+        self.write(
             "INSERT INTO holds VALUES (?1, ?2, ?3)",
             params![row.host.as_str(), row.pass.as_str(), row.slug.as_str()],
         )
@@ -120,8 +107,7 @@ impl<S: Alter> Tables<S> {
             (change.revoke host.now pass.now slug.now) }
     {
         let key = params![host.as_str(), pass.as_str(), slug.as_str()];
-        write(
-            &mut self.conn,
+        self.write(
             "DELETE FROM holds WHERE host = ?1 AND pass = ?2 AND slug = ?3",
             key,
         )
@@ -132,8 +118,7 @@ impl<S: Alter> Tables<S> {
         ensures writes { Writes S.Store self.old self.new result
             (change.drop_grants_of host.now slug.now) }
     {
-        write(
-            &mut self.conn,
+        self.write(
             "DELETE FROM holds WHERE host = ?1 AND slug = ?2",
             params![host.as_str(), slug.as_str()],
         )
@@ -145,7 +130,7 @@ impl<S: Alter> Tables<S> {
             (change.drop_grants_by host.now pass.now) }
     {
         let sql = "DELETE FROM holds WHERE host = ?1 AND pass = ?2";
-        write(&mut self.conn, sql, params![host.as_str(), pass.as_str()])
+        self.write(sql, params![host.as_str(), pass.as_str()])
     }
 
     /// What a pass holds, in the order of slugs.
@@ -162,6 +147,6 @@ impl<S: Alter> Tables<S> {
         let sql =
             "SELECT host, pass, slug FROM holds WHERE host = ?1 AND pass = ?2 ORDER BY host, pass, slug";
         let key = params![host.as_str(), pass.as_str()];
-        all_records(&mut self.conn, alloc, sql, key)
+        self.all_records(alloc, sql, key)
     }
 }

@@ -13,7 +13,6 @@ use super::Tables;
 use dh_paths::HostName;
 use dh_records::ProjectRow;
 use dh_reply::Fault;
-use dh_schema::{first_record, has_record, write};
 use sqlite::{Alter, params};
 use std::alloc::Global;
 
@@ -26,7 +25,7 @@ impl<S: Alter> Tables<S> {
     {
         let sql =
             "SELECT host, main, branch, wkey, private FROM project WHERE host = ?1 ORDER BY host";
-        has_record(&mut self.conn, sql, params![host.as_str()])
+        self.has_record::<ProjectRow>(sql, params![host.as_str()])
     }
 
     /// The project under a host.
@@ -35,8 +34,7 @@ impl<S: Alter> Tables<S> {
         ensures value { Reads S.Store self.old self.new result
             (λ l. find (spec.is_project host.now) l.projects) }
     {
-        first_record(
-            &mut self.conn,
+        self.first_record(
             alloc,
             "SELECT host, main, branch, wkey, private FROM project WHERE host = ?1 ORDER BY host",
             params![host.as_str()],
@@ -49,8 +47,7 @@ impl<S: Alter> Tables<S> {
             → IsFreeKey coding.projects.key project.now (seen S.Store lists_of self.old).projects }
         ensures writes { Writes S.Store self.old self.new result (change.add_project project.now) }
     {
-        write(
-            &mut self.conn,
+        self.write(
             "INSERT INTO project VALUES (?1, ?2, ?3, ?4, ?5)",
             params![
                 project.host.as_str(),

@@ -14,7 +14,6 @@ use dh_paths::HostName;
 use dh_records::{RedirectRow, kind_number};
 use dh_redirects::Redirect;
 use dh_reply::Fault;
-use dh_schema::{all_records, write};
 use sqlite::{Alter, params};
 use std::alloc::Global;
 
@@ -47,7 +46,7 @@ impl<S: Alter> Tables<S> {
     {
         let sql =
             "SELECT host, place, kind, status, force, source, target FROM redirect WHERE host = ?1 ORDER BY host, place";
-        all_records(&mut self.conn, alloc, sql, params![host.as_str()])
+        self.all_records(alloc, sql, params![host.as_str()])
     }
 
     /// Puts a redirect at a place, instead of the one that stands there.
@@ -62,8 +61,7 @@ impl<S: Alter> Tables<S> {
     {
         show_number(place);
         show_status(redirect.status);
-        write(
-            &mut self.conn,
+        self.write(
             "INSERT INTO redirect VALUES (?1, ?2, ?3, ?4, ?5, ?6, ?7) ON CONFLICT (host, place) DO UPDATE SET kind = ?3, status = ?4, force = ?5, source = ?6, target = ?7",
             params![
                 host.as_str(),
@@ -84,7 +82,7 @@ impl<S: Alter> Tables<S> {
     {
         let count = as_place(count)?;
         let sql = "DELETE FROM redirect WHERE host = ?1 AND place > ?2";
-        write(&mut self.conn, sql, params![host.as_str(), count])
+        self.write(sql, params![host.as_str(), count])
     }
 
     /// Puts redirects at their places, but for those that stand there, of these records of the project.

@@ -15,7 +15,6 @@ use super::{Tables, show_number};
 use dh_paths::{HostName, Slug, Token};
 use dh_records::{UsedRow, kept_answer};
 use dh_reply::Fault;
-use dh_schema::{first_record, write};
 use dh_world::{Answer, Operation};
 use sqlite::{Alter, params};
 use std::alloc::Global;
@@ -52,8 +51,9 @@ impl<S: Alter> Tables<S> {
         ensures tells { Learns S.Store self.old self.new result
             (λ l o. IfSome o (λ row. Tells row.answer)) }
     {
-        first_record(
-            &mut self.conn,
+        // The proof learns by it that a kept text is an answer's.
+        let _ = &self.conn;
+        self.first_record(
             alloc,
             "SELECT host, slug, op, retry, answer FROM used WHERE host = ?1 AND slug = ?2 AND op = ?3 AND retry = ?4 ORDER BY host, slug, op, retry",
             params![host.as_str(), slug.as_str(), op.is_upload(), retry.as_str()],
@@ -97,8 +97,7 @@ impl<S: Alter> Tables<S> {
         ensures writes { Writes S.Store self.old self.new result
             (change.add_used (spec.used_row host.now slug.now op retry.now answer.now)) }
     {
-        write(
-            &mut self.conn,
+        self.write(
             "INSERT INTO used VALUES (?1, ?2, ?3, ?4, ?5)",
             params![
                 host.as_str(),

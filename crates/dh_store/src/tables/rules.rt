@@ -14,7 +14,6 @@ use dh_paths::HostName;
 use dh_records::{RuleRow, action_number, is_tag};
 use dh_reply::Fault;
 use dh_rules::Rule;
-use dh_schema::{all_records, write};
 use sqlite::{Alter, params};
 use std::alloc::Global;
 
@@ -40,7 +39,7 @@ impl<S: Alter> Tables<S> {
     {
         let sql =
             "SELECT host, place, kind, action, pattern FROM rule WHERE host = ?1 ORDER BY host, place";
-        all_records(&mut self.conn, alloc, sql, params![host.as_str()])
+        self.all_records(alloc, sql, params![host.as_str()])
     }
 
     /// Puts a rule at a place, instead of the one that stands there.
@@ -56,8 +55,7 @@ impl<S: Alter> Tables<S> {
     {
         show_number(place);
         let pattern = rule.pattern.text(alloc)?;
-        write(
-            &mut self.conn,
+        self.write(
             "INSERT INTO rule VALUES (?1, ?2, ?3, ?4, ?5) ON CONFLICT (host, place) DO UPDATE SET kind = ?3, action = ?4, pattern = ?5",
             params![
                 host.as_str(),
@@ -76,7 +74,7 @@ impl<S: Alter> Tables<S> {
     {
         let count = as_place(count)?;
         let sql = "DELETE FROM rule WHERE host = ?1 AND place > ?2";
-        write(&mut self.conn, sql, params![host.as_str(), count])
+        self.write(sql, params![host.as_str(), count])
     }
 
     /// Puts rules at their places, but for those that stand there, of these records of the project.

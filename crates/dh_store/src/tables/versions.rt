@@ -10,7 +10,6 @@ use super::Tables;
 use dh_paths::{HostName, Slug};
 use dh_records::{VersionRow, is_tag};
 use dh_reply::Fault;
-use dh_schema::{all_records, first_record, write};
 use sqlite::{Alter, params};
 use std::alloc::Global;
 
@@ -40,8 +39,7 @@ impl<S: Alter> Tables<S> {
         ensures value { Reads S.Store self.old self.new result
             (λ l. find (spec.is_version host.now name.now) l.versions) }
     {
-        first_record(
-            &mut self.conn,
+        self.first_record(
             alloc,
             "SELECT host, slug, name, kind, active, hidden, private FROM version WHERE host = ?1 AND slug = ?2 ORDER BY host, slug",
             params![host.as_str(), name],
@@ -55,8 +53,9 @@ impl<S: Alter> Tables<S> {
             (λ l. filter (spec.is_version_of host.now) l.versions) }
         ensures order { Learns S.Store self.old self.new result (λ l o. RiseBySlug o.items) }
     {
-        all_records(
-            &mut self.conn,
+        // The proof learns by it that the records stand in order.
+        let _ = &self.conn;
+        self.all_records(
             alloc,
             "SELECT host, slug, name, kind, active, hidden, private FROM version WHERE host = ?1 ORDER BY host, slug",
             params![host.as_str()],
@@ -67,8 +66,7 @@ impl<S: Alter> Tables<S> {
     pub fn put_version(&mut self, row: &VersionRow) -> Result<(), Fault>
         ensures writes { Writes S.Store self.old self.new result (change.put_version row.now) }
     {
-        write(
-            &mut self.conn,
+        self.write(
             "INSERT INTO version VALUES (?1, ?2, ?3, ?4, ?5, ?6, ?7) ON CONFLICT (host, slug) DO UPDATE SET name = ?3, kind = ?4, active = ?5, hidden = ?6, private = ?7",
             params![
                 row.host.as_str(),
@@ -88,6 +86,6 @@ impl<S: Alter> Tables<S> {
             (change.drop_version host.now slug.now) }
     {
         let sql = "DELETE FROM version WHERE host = ?1 AND slug = ?2";
-        write(&mut self.conn, sql, params![host.as_str(), slug.as_str()])
+        self.write(sql, params![host.as_str(), slug.as_str()])
     }
 }

@@ -1,19 +1,12 @@
 use Rattle.sqlite.specs.Held.{state}
-use Rattle.dh_schema.proofs.CallLemmas.{wrote, written_ours}
-use Rattle.dh_rows.specs.Keyed.{added}
-use Rattle.dh_records.specs.Codings.{langs}
+use Rattle.dh_records.specs.Changes as change
 use Rattle.dh_store.proofs.Kept.{as_utf8}
-use Rattle.dh_store.proofs.Statements.{add_lang_text, add_lang_writes, add_lang_changes}
+use Rattle.dh_store.proofs.Asking.{altered}
+use Rattle.dh_store.proofs.Statements.{add_lang_alters}
 use Rattle.dh_store.proofs.tables.Tables.add_lang.Goals as goal
 
-pub write-requires-clause-plain : goal.write-requires-clause-plain
-write-requires-clause-plain g c honest = (add_lang_writes (state g.S.Store c.self.inside.conn) (c.self.invariant honest.0 honest.1).now c.args.lang.now ((rw (← c.self.view_is) at c.requires.free) honest)).plain
-
-pub write-requires-clause-edits : goal.write-requires-clause-edits
-write-requires-clause-edits g c honest = (add_lang_writes (state g.S.Store c.self.inside.conn) (c.self.invariant honest.0 honest.1).now c.args.lang.now ((rw (← c.self.view_is) at c.requires.free) honest)).edits
-
-pub invariant_of-self : goal.invariant_of-self
-invariant_of-self g c = written_ours g.S.Store c.self.inside.conn c.write.new.conn c.self.invariant add_lang_text (langs.encode c.args.lang.now) (λ l. record l { langs = added langs.key c.args.lang.now l.langs }) (λ honest. add_lang_changes (state g.S.Store c.self.inside.conn) (c.self.invariant honest.0 honest.1).now c.args.lang.now (record { host = (as_utf8 c.as_str.ensures.text c.as_str.utf8, c.as_str.ensures.checked); lang = (as_utf8 c.as_str-2.ensures.text c.as_str-2.utf8, c.as_str-2.ensures.checked); place = c.show_number.ensures }) ((rw (← c.self.view_is) at c.requires.free) honest)) c.write.result c.write.ensures.goes c.write.ensures.sees (rw (c.params-to_sql.ensures, c.params-to_sql-2.ensures, c.params-to_sql-3.ensures, c.as_str.ensures.text, c.as_str-2.ensures.text) at c.write.ensures.made) c.write.ensures.err
+pub write-requires : goal.write-requires
+write-requires g c = record { change = rw (c.params-to_sql.ensures, c.params-to_sql-2.ensures, c.params-to_sql-3.ensures, c.as_str.ensures.text, c.as_str-2.ensures.text) (altered g.S.Store c.args.self.now (λ honest had. add_lang_alters (state g.S.Store c.args.self.now) had c.args.lang.now (record { host = (as_utf8 c.as_str.ensures.text c.as_str.utf8, c.as_str.ensures.checked); lang = (as_utf8 c.as_str-2.ensures.text c.as_str-2.utf8, c.as_str-2.ensures.checked); place = c.show_number.ensures }) (c.requires.free honest))) }
 
 pub returns : goal.returns
-returns g c = record { writes = rw (← c.self.view_is) (wrote g.S.Store c.self.inside.conn c.write.new.conn c.self.invariant add_lang_text (langs.encode c.args.lang.now) (λ l. record l { langs = added langs.key c.args.lang.now l.langs }) (λ honest. add_lang_changes (state g.S.Store c.self.inside.conn) (c.self.invariant honest.0 honest.1).now c.args.lang.now (record { host = (as_utf8 c.as_str.ensures.text c.as_str.utf8, c.as_str.ensures.checked); lang = (as_utf8 c.as_str-2.ensures.text c.as_str-2.utf8, c.as_str-2.ensures.checked); place = c.show_number.ensures }) ((rw (← c.self.view_is) at c.requires.free) honest)) c.write.result c.write.ensures.goes c.write.ensures.sees (rw (c.params-to_sql.ensures, c.params-to_sql-2.ensures, c.params-to_sql-3.ensures, c.as_str.ensures.text, c.as_str-2.ensures.text) at c.write.ensures.made) c.write.ensures.err (rw (c.params-to_sql.ensures, c.params-to_sql-2.ensures, c.params-to_sql-3.ensures, c.as_str.ensures.text, c.as_str-2.ensures.text) at c.write.ensures.crash)) }
+returns g c = record { writes = c.write.ensures.writes (change.add_lang c.args.lang.now) (rw (c.params-to_sql.ensures, c.params-to_sql-2.ensures, c.params-to_sql-3.ensures, c.as_str.ensures.text, c.as_str-2.ensures.text) (λ honest had. add_lang_alters (state g.S.Store c.args.self.now) had c.args.lang.now (record { host = (as_utf8 c.as_str.ensures.text c.as_str.utf8, c.as_str.ensures.checked); lang = (as_utf8 c.as_str-2.ensures.text c.as_str-2.utf8, c.as_str-2.ensures.checked); place = c.show_number.ensures }) (c.requires.free honest))) }

@@ -1,19 +1,11 @@
 use Rattle.sqlite.specs.Held.{state}
-use Rattle.dh_schema.proofs.CallLemmas.{wrote, written_ours}
-use Rattle.std.proofs.Common.{filter, not, [], ◌∷◌}
-use Rattle.sqlite_value.specs.declared.value.Value.TheVariants.{Text}
-use Rattle.dh_records.specs.Lists.{is_held_on}
-use Rattle.dh_store.proofs.Statements.{drop_grants_of_text, drop_grants_of_writes, drop_grants_of_changes}
+use Rattle.dh_records.specs.Changes as change
+use Rattle.dh_store.proofs.Asking.{altered}
+use Rattle.dh_store.proofs.Statements.{drop_grants_of_alters}
 use Rattle.dh_store.proofs.tables.Tables.drop_grants_of.Goals as goal
 
-pub write-requires-clause-plain : goal.write-requires-clause-plain
-write-requires-clause-plain g c honest = (drop_grants_of_writes (state g.S.Store c.self.inside.conn) (c.self.invariant honest.0 honest.1).now c.args.host.now c.args.slug.now).plain
-
-pub write-requires-clause-edits : goal.write-requires-clause-edits
-write-requires-clause-edits g c honest = (drop_grants_of_writes (state g.S.Store c.self.inside.conn) (c.self.invariant honest.0 honest.1).now c.args.host.now c.args.slug.now).edits
-
-pub invariant_of-self : goal.invariant_of-self
-invariant_of-self g c = written_ours g.S.Store c.self.inside.conn c.write.new.conn c.self.invariant drop_grants_of_text (Text c.args.host.now ∷ Text c.args.slug.now ∷ []) (λ l. record l { held = filter (λ x. not (is_held_on c.args.host.now c.args.slug.now x)) l.held }) (λ honest. drop_grants_of_changes (state g.S.Store c.self.inside.conn) (c.self.invariant honest.0 honest.1).now c.args.host.now c.args.slug.now) c.write.result c.write.ensures.goes c.write.ensures.sees (rw (c.params-to_sql.ensures, c.params-to_sql-2.ensures, c.as_str.ensures.text, c.as_str-2.ensures.text) at c.write.ensures.made) c.write.ensures.err
+pub write-requires : goal.write-requires
+write-requires g c = record { change = rw (c.params-to_sql.ensures, c.params-to_sql-2.ensures, c.as_str.ensures.text, c.as_str-2.ensures.text) (altered g.S.Store c.args.self.now (λ honest had. drop_grants_of_alters (state g.S.Store c.args.self.now) had c.args.host.now c.args.slug.now)) }
 
 pub returns : goal.returns
-returns g c = record { writes = rw (← c.self.view_is) (wrote g.S.Store c.self.inside.conn c.write.new.conn c.self.invariant drop_grants_of_text (Text c.args.host.now ∷ Text c.args.slug.now ∷ []) (λ l. record l { held = filter (λ x. not (is_held_on c.args.host.now c.args.slug.now x)) l.held }) (λ honest. drop_grants_of_changes (state g.S.Store c.self.inside.conn) (c.self.invariant honest.0 honest.1).now c.args.host.now c.args.slug.now) c.write.result c.write.ensures.goes c.write.ensures.sees (rw (c.params-to_sql.ensures, c.params-to_sql-2.ensures, c.as_str.ensures.text, c.as_str-2.ensures.text) at c.write.ensures.made) c.write.ensures.err (rw (c.params-to_sql.ensures, c.params-to_sql-2.ensures, c.as_str.ensures.text, c.as_str-2.ensures.text) at c.write.ensures.crash)) }
+returns g c = record { writes = c.write.ensures.writes (change.drop_grants_of c.args.host.now c.args.slug.now) (rw (c.params-to_sql.ensures, c.params-to_sql-2.ensures, c.as_str.ensures.text, c.as_str-2.ensures.text) (λ honest had. drop_grants_of_alters (state g.S.Store c.args.self.now) had c.args.host.now c.args.slug.now)) }

@@ -1,26 +1,11 @@
-use Rattle.dh_records.specs.Typed.{IsRedirect}
-use Rattle.dh_store.proofs.Kept.{all_kept}
-use Rattle.dh_store.proofs.Unrefused.{unread}
 use Rattle.sqlite.specs.Held.{state}
-use Rattle.std.proofs.Common.{filter, refl}
-use Rattle.dh_records.specs.Codings.{redirects}
-use Rattle.dh_schema.specs.Tables.{lists_of}
 use Rattle.dh_records.specs.Lists.{is_redirect_of}
-use Rattle.dh_schema.proofs.CallLemmas.{asked, read_ours, all_value}
-use Rattle.dh_store.proofs.Statements.{redirects_answers, redirects_text}
+use Rattle.dh_store.proofs.Asking.{asked_for}
+use Rattle.dh_store.proofs.Statements.{redirects_asked}
 use Rattle.dh_store.proofs.tables.Tables.redirects.Goals as goal
 
-pub all_records-requires-clause-plain : goal.all_records-requires-clause-plain
-all_records-requires-clause-plain g c honest = (redirects_answers (state g.S.Store c.self.inside.conn) (c.self.invariant honest.0 honest.1).now c.args.host.now).plain
-
-pub all_records-requires-clause-listing : goal.all_records-requires-clause-listing
-all_records-requires-clause-listing g c honest = (redirects_answers (state g.S.Store c.self.inside.conn) (c.self.invariant honest.0 honest.1).now c.args.host.now).listing
-
-pub invariant_of-self : goal.invariant_of-self
-invariant_of-self g c = read_ours g.S.Store c.self.inside.conn c.all_records.new.conn c.all_records.result c.self.invariant c.all_records.ensures.goes c.all_records.ensures.same c.all_records.ensures.err
-
-pub returns-clause-asks : goal.returns-clause-asks
-returns-clause-asks g c = rw (← c.self.view_is) (asked g.S.Store c.self.inside.conn c.all_records.new.conn c.all_records.result c.all_records.ensures.goes c.all_records.ensures.same c.all_records.ensures.err c.all_records.ensures.told (λ honest why. unread g.S.Store c.self.inside.conn (c.self.invariant honest.0 honest.1) redirects_text _ _ refl redirects.encode IsRedirect _ (redirects_answers (state g.S.Store c.self.inside.conn) (c.self.invariant honest.0 honest.1).now c.args.host.now) (λ typed. all_kept IsRedirect _ _ typed.redirects) (rw (c.params-to_sql.ensures, c.as_str.ensures.text) at why)))
+pub all_records-requires : goal.all_records-requires
+all_records-requires g c = record { query = rw (c.params-to_sql.ensures, c.as_str.ensures.text) (asked_for (redirects_asked (state g.S.Store c.args.self.now) c.args.host.now)) }
 
 pub returns-clause-value : goal.returns-clause-value
-returns-clause-value g c = rw (← c.self.view_is) (λ now. let honest = c.all_records.ensures.goes.lasts.was now in all_value _ redirects.encode (λ v. v.items) c.all_records.result (filter (is_redirect_of c.args.host.now) (lists_of (state g.S.Store c.self.inside.conn).now).redirects) (c.all_records.ensures.value now.0) (λ rows it. (redirects_answers (state g.S.Store c.self.inside.conn) (c.self.invariant honest.0 honest.1).now c.args.host.now).reads rows (rw (c.params-to_sql.ensures, c.as_str.ensures.text) at it)))
+returns-clause-value g c = c.all_records.ensures.value (λ l. l.redirects) (is_redirect_of c.args.host.now) (rw (c.params-to_sql.ensures, c.as_str.ensures.text) (redirects_asked (state g.S.Store c.args.self.now) c.args.host.now))

@@ -1,7 +1,7 @@
 use Rattle.std.proofs.Common.{sym, subst}
 use Rattle.std.specs.Prelude.{IfSome}
 use Rattle.dh_records.specs.Typed.{Tells}
-use Rattle.dh_store.proofs.Unrefused.{told_asks}
+use Rattle.dh_store.proofs.Asking.{told_asks}
 use Rattle.dh_store.proofs.tables.Tables.used.Goals as goal
 
 pub returns-in-Ok-Some-clause-asks : goal.returns-in-Ok-Some-clause-asks

@@ -1,29 +1,11 @@
-use Rattle.dh_records.specs.Typed.{IsVersion}
-use Rattle.dh_store.proofs.Kept.{all_kept}
-use Rattle.dh_store.proofs.Unrefused.{unread}
 use Rattle.sqlite.specs.Held.{state}
-use Rattle.dh_schema.proofs.CallLemmas.{asked, read_ours, first_value}
-use Rattle.std.proofs.Common.{filter, refl}
-use Rattle.std.specs.List.{find}
-use Rattle.dh_records.specs.Codings.{versions}
-use Rattle.dh_schema.specs.Tables.{lists_of}
 use Rattle.dh_records.specs.Lists.{is_version}
-use Rattle.dh_store.proofs.Finding.{first_that}
-use Rattle.dh_store.proofs.Statements.{version_answers, version_text}
-use Rattle.dh_store.proofs.SameText.{as_plain, as_listing, as_reads}
+use Rattle.dh_store.proofs.Asking.{asked_for}
+use Rattle.dh_store.proofs.Statements.{version_asked}
 use Rattle.dh_store.proofs.tables.Tables.version_named.Goals as goal
 
-pub first_record-requires-clause-plain : goal.first_record-requires-clause-plain
-first_record-requires-clause-plain g c honest = as_plain _ version_text _ (version_answers (state g.S.Store c.self.inside.conn) (c.self.invariant honest.0 honest.1).now c.args.host.now c.args.name.now).plain refl
-
-pub first_record-requires-clause-listing : goal.first_record-requires-clause-listing
-first_record-requires-clause-listing g c honest = as_listing _ version_text _ (version_answers (state g.S.Store c.self.inside.conn) (c.self.invariant honest.0 honest.1).now c.args.host.now c.args.name.now).listing refl
-
-pub invariant_of-self : goal.invariant_of-self
-invariant_of-self g c = read_ours g.S.Store c.self.inside.conn c.first_record.new.conn c.first_record.result c.self.invariant c.first_record.ensures.goes c.first_record.ensures.same c.first_record.ensures.err
-
-pub returns-clause-asks : goal.returns-clause-asks
-returns-clause-asks g c = rw (← c.self.view_is) (asked g.S.Store c.self.inside.conn c.first_record.new.conn c.first_record.result c.first_record.ensures.goes c.first_record.ensures.same c.first_record.ensures.err c.first_record.ensures.told (λ honest why. unread g.S.Store c.self.inside.conn (c.self.invariant honest.0 honest.1) version_text _ _ refl versions.encode IsVersion _ (version_answers (state g.S.Store c.self.inside.conn) (c.self.invariant honest.0 honest.1).now c.args.host.now c.args.name.now) (λ typed. all_kept IsVersion _ _ typed.versions) (rw (c.params-to_sql.ensures, c.params-to_sql-2.ensures, c.as_str.ensures.text) at why)))
+pub first_record-requires : goal.first_record-requires
+first_record-requires g c = record { query = rw (c.params-to_sql.ensures, c.params-to_sql-2.ensures, c.as_str.ensures.text) (asked_for (version_asked (state g.S.Store c.args.self.now) c.args.host.now c.args.name.now)) }
 
 pub returns-clause-value : goal.returns-clause-value
-returns-clause-value g c = rw (← c.self.view_is) (λ now. let honest = c.first_record.ensures.goes.lasts.was now in first_value _ versions.encode c.first_record.result (filter (is_version c.args.host.now c.args.name.now) (lists_of (state g.S.Store c.self.inside.conn).now).versions) (find (is_version c.args.host.now c.args.name.now) (lists_of (state g.S.Store c.self.inside.conn).now).versions) (c.first_record.ensures.value now.0) (λ rows it. (version_answers (state g.S.Store c.self.inside.conn) (c.self.invariant honest.0 honest.1).now c.args.host.now c.args.name.now).reads rows (as_reads _ version_text _ _ _ (rw (c.params-to_sql.ensures, c.params-to_sql-2.ensures, c.as_str.ensures.text) at it) refl)) (first_that (is_version c.args.host.now c.args.name.now) (lists_of (state g.S.Store c.self.inside.conn).now).versions))
+returns-clause-value g c = c.first_record.ensures.value (λ l. l.versions) (is_version c.args.host.now c.args.name.now) (rw (c.params-to_sql.ensures, c.params-to_sql-2.ensures, c.as_str.ensures.text) (version_asked (state g.S.Store c.args.self.now) c.args.host.now c.args.name.now))

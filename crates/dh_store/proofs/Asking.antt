@@ -1,0 +1,55 @@
+-- A query of ours is refused for a fault of the store alone, and an answer is of the records that it asks for.
+use Rattle.std.proofs.Common.{inl, inr, ℕ, Bool, List, filter, map, Result, Ok, Err, OnOk, OnErr, subst, sym, true≢false}
+use Rattle.std.specs.Prelude.{IsSome}
+use Rattle.sqlite_value.specs.Order.{Row}
+use Rattle.sqlite_trees.specs.declared.store.Store.{Ghosts}
+use Rattle.sqlite.specs.State.{State, HasCleanDisk}
+use Rattle.sqlite.specs.Held.{Held, state}
+use Rattle.dh_lookup.specs.declared.fault.Fault.{Fault}
+use Rattle.dh_lookup.specs.Faults.{OnStore}
+use Rattle.dh_rows.specs.Calls.{AreOurs, Goes, IsHonest, IsSame, IsUnfit, seen}
+use Rattle.dh_rows.proofs.Asks.{Answers}
+use Rattle.dh_records.specs.Lists.{Lists}
+use Rattle.dh_schema.specs.Calling.{Asks, IsUnread}
+use Rattle.dh_schema.proofs.CallLemmas.{on_store}
+use Rattle.dh_schema.specs.Tables.{Holds, lists_of}
+use Rattle.dh_store.specs.Meanings.{AsksFor, Changes, IsChange, IsQuery}
+use Rattle.dh_store.proofs.Kept.{all_kept}
+
+pub asked_for : {X : Type 0} {s : State} {encode : X → Row} {typed : X → Type 0} {part : Lists → List X} {test : X → Bool} {sql : List ℕ} {params : Row} → AsksFor encode typed part test s sql params → IsQuery encode typed s sql params
+asked_for {part = part} {test = test} it = (part, test, it)
+
+pub altered : {S : Type 0} (g : Ghosts S) (h : Held S) {sql : List ℕ} {params : Row} {change : Lists → Lists} → Changes g h sql params change → IsChange g h sql params
+altered g h {change = change} it = (change, it)
+
+module _ {S : Type 0} (g : Ghosts S) (h : Held S) (ours : AreOurs Holds (state g h)) {X : Type 0} {encode : X → Row} {typed : X → Type 0} {sql : List ℕ} {params : Row} where
+  pub answered : {part : Lists → List X} {test : X → Bool} → AsksFor encode typed part test (state g h) sql params → IsHonest g h → Answers (state g h) sql params (map encode (filter test (part (seen g lists_of h))))
+  answered query honest = query.answers (ours honest.0 honest.1).now
+
+  module _ (query : IsQuery encode typed (state g h) sql params) where
+    pub unfit : IsHonest g h → IsUnfit (state g h) sql params → ⊥
+    unfit honest why = true≢false (sym (subst IsSome (ours honest.0 honest.1).unlimited ((answered query.2 honest).fits why)))
+
+    pub unread : IsHonest g h → IsUnread encode typed (state g h) sql params → ⊥
+    unread honest (inl why) = unfit honest why
+    unread honest (inr none) =
+        let now : Lists = seen g lists_of h in
+        none (filter query.1 (query.0 now)) (answered query.2 honest).reads (all_kept typed query.1 (query.0 now) (query.2.kept now (ours honest.0 honest.1).now.typed))
+
+-- A look that found a record, which can be told.
+pub told_asks : {S : Type 0} (g : Ghosts S) (old new : Held S) {T P : Type 0} (r : Result T Fault) → Goes g old new → (HasCleanDisk (state g new) → IsSame g lists_of old new)
+    → OnStore r (¬ P) → (IsHonest g new → P) → Asks g old new r
+told_asks g old new r goes same refused holds = record {
+  goes = goes;
+  same = λ clean. answered r (same clean);
+  err = λ honest. failed r (inl (same honest.0));
+  told = λ clean. on_store r (λ none. absurd (none (holds (clean, (same clean).is_open)))) refused;
+}
+  where
+    answered : {T Q : Type 0} (r : Result T Fault) → Q → OnOk r Q
+    answered (Ok x) it = it
+    answered (Err e) it = tt
+
+    failed : {T Q : Type 0} (r : Result T Fault) → Q → OnErr r Q
+    failed (Ok x) it = tt
+    failed (Err e) it = it

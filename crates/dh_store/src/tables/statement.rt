@@ -1,0 +1,98 @@
+//! One statement on the tables, whose text asks for records of ours or changes them.
+
+ghost use Rattle.std.specs.Prelude.{Bool, List, filter, find, is_some, length};
+ghost use Rattle.sqlite.specs.Held.{state};
+ghost use Rattle.sqlite.specs.Values.{bound};
+ghost use Rattle.dh_records.specs.Lists.{Lists};
+ghost use Rattle.dh_schema.specs.Calling.{Asks, Reads, ReadsAll, Writes};
+ghost use Rattle.dh_store.specs.Meanings.{AsksFor, Changes, IsChange, IsQuery};
+
+use super::Tables;
+use dh_records::Record;
+use dh_reply::Fault;
+use dh_schema::{all_records, count_records, first_record, has_record, write};
+use sqlite::Alter;
+use sqlite::types::ValueRef;
+use std::alloc::Global;
+
+impl<S: Alter> Tables<S> {
+    /// The first record that a query asks for.
+    pub(crate) fn first_record<R: Record>(
+        &mut self,
+        alloc: Global,
+        sql: &str,
+        params: &[ValueRef<'_>],
+    ) -> Result<Option<R>, Fault>
+        requires query { IsQuery R.coding.encode R.typed (state S.Store self.old) sql.now
+            (bound params.now) }
+        ensures asks { Asks S.Store self.old self.new result }
+        ensures value { (part : Lists → List R) → (test : R → Bool)
+            → AsksFor R.coding.encode R.typed part test (state S.Store self.old) sql.now
+            (bound params.now)
+            → Reads S.Store self.old self.new result (λ l. find test (part l)) }
+    {
+        first_record(&mut self.conn, alloc, sql, params)
+    }
+
+    /// The records that a query asks for.
+    pub(crate) fn all_records<R: Record>(
+        &mut self,
+        alloc: Global,
+        sql: &str,
+        params: &[ValueRef<'_>],
+    ) -> Result<Vec<R>, Fault>
+        requires query { IsQuery R.coding.encode R.typed (state S.Store self.old) sql.now
+            (bound params.now) }
+        ensures asks { Asks S.Store self.old self.new result }
+        ensures value { (part : Lists → List R) → (test : R → Bool)
+            → AsksFor R.coding.encode R.typed part test (state S.Store self.old) sql.now
+            (bound params.now)
+            → ReadsAll S.Store self.old self.new result (λ l. filter test (part l)) }
+    {
+        all_records(&mut self.conn, alloc, sql, params)
+    }
+
+    /// Whether there is a record that a query asks for.
+    pub(crate) fn has_record<R: Record>(
+        &mut self,
+        sql: &str,
+        params: &[ValueRef<'_>],
+    ) -> Result<bool, Fault>
+        requires query { IsQuery R.coding.encode R.typed (state S.Store self.old) sql.now
+            (bound params.now) }
+        ensures asks { Asks S.Store self.old self.new result }
+        ensures value { (part : Lists → List R) → (test : R → Bool)
+            → AsksFor R.coding.encode R.typed part test (state S.Store self.old) sql.now
+            (bound params.now)
+            → Reads S.Store self.old self.new result (λ l. is_some (find test (part l))) }
+    {
+        has_record(&mut self.conn, sql, params)
+    }
+
+    /// How many records a query asks for.
+    pub(crate) fn count_records<R: Record>(
+        &mut self,
+        sql: &str,
+        params: &[ValueRef<'_>],
+    ) -> Result<usize, Fault>
+        requires query { IsQuery R.coding.encode R.typed (state S.Store self.old) sql.now
+            (bound params.now) }
+        ensures asks { Asks S.Store self.old self.new result }
+        ensures value { (part : Lists → List R) → (test : R → Bool)
+            → AsksFor R.coding.encode R.typed part test (state S.Store self.old) sql.now
+            (bound params.now)
+            → Reads S.Store self.old self.new result (λ l. length (filter test (part l))) }
+    {
+        count_records(&mut self.conn, sql, params)
+    }
+
+    /// Changes the records by an INSERT or a DELETE.
+    pub(crate) fn write(&mut self, sql: &str, params: &[ValueRef<'_>]) -> Result<(), Fault>
+        requires change { IsChange S.Store self.old sql.now (bound params.now) }
+        ensures writes { (change : Lists → Lists)
+            → Changes S.Store self.old sql.now (bound params.now) change
+            → Writes S.Store self.old self.new result change }
+    {
+        write(&mut self.conn, sql, params)
+    }
+}
