@@ -1,3 +1,4 @@
 pub mod Applying
+pub mod Moving
 pub mod Reading
 pub mod Veiling

@@ -49,6 +49,11 @@ module _ {S : Type 0} (g : Ghosts S) where
   abbrev pub world : Standing S → World
   world d = world_of (last_records g d.tables)
 
+  -- where the store is honest it was so before, and the worlds before and after stand so to each other
+  pub record Moves (old new : Standing S) (Relates : World → World → Type 0) : Type 0 where
+    pub was : IsHonest g new.tables → IsHonest g old.tables
+    pub moves : IsHonest g new.tables → Relates (world old) (world new)
+
   -- while the store is honest, what is committed is sound
   abbrev pub IsKept : Held S → Type 0
   IsKept h = IsHonest g h → AreSound (last_records g h)

@@ -4,9 +4,10 @@ ghost use Rattle.std.specs.Prelude.{◌≡◌, true, false, IfSome, IsErrOf, opt
 ghost use Rattle.dh_ports.specs.Ports.{CountsUpTo, CountsAtLeast};
 ghost use Rattle.dh_requests.specs.Needs.{IsNeeded};
 ghost use Rattle.dh_requests.specs.Takes.{TookAtLeast};
+ghost use Rattle.dh_requests.specs.declared.request.Request.{Request};
 ghost use Rattle.dh_wire.specs.Wire.{head_of};
 ghost use Rattle.dh_rows.specs.Calls.{IsHonest};
-ghost use Rattle.dh_desk.specs.Desk.{world};
+ghost use Rattle.dh_desk.specs.Desk.{world, Moves};
 ghost use Rattle.dh_http.specs.Answers as spec;
 ghost use Rattle.dh_http.specs.Headline.{Headline};
 
@@ -31,11 +32,9 @@ fn read_reply<S: Alter>(
     pass: &Option<Bytes>,
     read: &Read,
 ) -> Option<Reply>
-    ensures reply { IsHonest S.Store desk.new.tables → IfSome result (λ r. r
-        ≡ spec.read_reply (world S.Store desk.old) host.now pass.now read.now) }
-    ensures same { IsHonest S.Store desk.new.tables
-        → world S.Store desk.new ≡ world S.Store desk.old }
-    ensures was { IsHonest S.Store desk.new.tables → IsHonest S.Store desk.old.tables }
+    ensures reads { Moves S.Store desk.old desk.new
+        (λ before after. (after ≡ before) × IfSome result
+        (λ r. r ≡ spec.read_reply before host.now pass.now read.now)) }
 {
     desk.read(alloc, host_text(host), pass_text(pass), read)
         .ok()
@@ -43,11 +42,8 @@ fn read_reply<S: Alter>(
 
 /// Does a command, and gives its reply, unless memory is out.
 fn apply_reply<S: Alter>(alloc: Global, desk: &mut Desk<S>, command: &Command) -> Option<Reply>
-    ensures reply { IsHonest S.Store desk.new.tables → IfSome result
-        (spec.IsAppliedAs (world S.Store desk.old) (world S.Store desk.new) command.now) }
-    ensures done { IsHonest S.Store desk.new.tables → spec.MayApply
-        (world S.Store desk.old) (world S.Store desk.new) command.now }
-    ensures was { IsHonest S.Store desk.new.tables → IsHonest S.Store desk.old.tables }
+    ensures makes { Moves S.Store desk.old desk.new
+        (λ before after. spec.Makes before after (Request.Apply command.now) result) }
 {
     command_reply(alloc, desk.apply(alloc, command)).ok()
 }
@@ -55,10 +51,9 @@ fn apply_reply<S: Alter>(alloc: Global, desk: &mut Desk<S>, command: &Command) -
 /// Does what a request asks for, and gives the reply, unless memory is out or the store fails in a
 /// read.
 fn request_reply<S: Alter>(alloc: Global, desk: &mut Desk<S>, request: &Request) -> Option<Reply>
-    ensures makes { IsHonest S.Store desk.new.tables → spec.Makes
-        (world S.Store desk.old) (world S.Store desk.new) request.now result }
+    ensures makes { Moves S.Store desk.old desk.new
+        (λ before after. spec.Makes before after request.now result) }
     ensures refused { spec.IsRefusal request.now → desk.new ≡ desk.old }
-    ensures was { IsHonest S.Store desk.new.tables → IsHonest S.Store desk.old.tables }
 {
     match request {
         Request::Read {
@@ -89,12 +84,10 @@ fn make_answer<S: Alter>(
     desk: &mut Desk<S>,
     request: &Request,
 ) -> Option<(Reply, Vec<u8>)>
-    ensures makes { IsHonest S.Store desk.new.tables → spec.Makes
-        (world S.Store desk.old) (world S.Store desk.new) request.now
-        (option_map (λ made. made.0) result) }
+    ensures makes { Moves S.Store desk.old desk.new
+        (λ before after. spec.Makes before after request.now (option_map (λ made. made.0) result)) }
     ensures head { IfSome result (λ made. made.1.items ≡ head_of made.0) }
     ensures refused { spec.IsRefusal request.now → desk.new ≡ desk.old }
-    ensures was { IsHonest S.Store desk.new.tables → IsHonest S.Store desk.old.tables }
 {
     let reply = request_reply(alloc, desk, request)?;
     let head = head_bytes(alloc, &reply).ok()?;
@@ -109,13 +102,12 @@ fn answer_request<S: Alter, W: Sink>(
     sink: &mut W,
 ) -> Result<Done, EngineFault>
     requires { W.broken sink.old ≡ false }
-    ensures writes { IsHonest S.Store desk.new.tables → spec.Writes
-        (spec.AnswersRequest (world S.Store desk.old) (world S.Store desk.new) request.now)
-        (W.held sink.old) (W.held sink.new) result }
+    ensures writes { Moves S.Store desk.old desk.new
+        (λ before after. spec.Writes (spec.AnswersRequest before after request.now)
+        (W.held sink.old) (W.held sink.new) result) }
     ensures refused { spec.IsRefusal request.now → desk.new ≡ desk.old }
     ensures writer_fault { W.broken sink.new ≡ spec.writer_failed result }
     ensures read { spec.is_unread result ≡ false }
-    ensures was { IsHonest S.Store desk.new.tables → IsHonest S.Store desk.old.tables }
 {
     match make_answer(alloc, desk, request) {
         Some((reply, head)) => send_reply(sink, &reply, head.as_slice(), is_bodiless(request)),
@@ -136,16 +128,15 @@ pub fn answer<S: Alter, R: Source, W: Sink>(
 ) -> Result<Done, EngineFault>
     requires reader { R.broken source.old ≡ false }
     requires writer { W.broken sink.old ≡ false }
-    ensures answers { IsHonest S.Store desk.new.tables → spec.Writes
-        (spec.AnswersSource (R.left source.old) (world S.Store desk.old) (world S.Store desk.new))
-        (W.held sink.old) (W.held sink.new) result }
+    ensures answers { Moves S.Store desk.old desk.new
+        (λ before after. spec.Writes (spec.AnswersSource (R.left source.old) before after)
+        (W.held sink.old) (W.held sink.new) result) }
     ensures headline { IsHonest S.Store desk.new.tables → Headline
         (world S.Store desk.old) (R.left source.old) (W.held sink.old) (W.held sink.new) result }
     ensures unread { spec.is_unread result ≡ true
         → (desk.new ≡ desk.old) × (sink.new ≡ sink.old) }
     ensures refused { IfSome (R.left source.old)
         (λ input. spec.AsksInVain input → desk.new ≡ desk.old) }
-    ensures was { IsHonest S.Store desk.new.tables → IsHonest S.Store desk.old.tables }
     ensures reader_fault { R.broken source.new ≡ spec.reader_failed result }
     ensures writer_fault { W.broken sink.new ≡ spec.writer_failed result }
     ensures needed { IsNeeded (R.left source.old) (R.left source.new)

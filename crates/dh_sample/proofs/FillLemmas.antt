@@ -1,5 +1,5 @@
 -- Commands in turn, up to the first that is refused.
-use Rattle.std.proofs.Common.{◌≡◌, ◌⊎◌, ℕ, ◌+◌, List, [], ◌∷◌, take, slice_get, Result, Ok, Err, refl, sym, ap, ◌∙◌, subst, add-one}
+use Rattle.std.proofs.Common.{◌≡◌, ◌⊎◌, ℕ, ◌+◌, List, ◌∷◌, take, slice_get, Result, Ok, Err, refl, sym, ap, ◌∙◌, subst, add-one}
 use Rattle.std.specs.Result.{IsErrAnd, result_unwrap_or}
 use Rattle.std.specs.FinMap.{empty}
 use Rattle.std.proofs.lemmas.Result.{err_from_is_err_and}
@@ -9,10 +9,6 @@ use Rattle.dh_world.specs.declared.command.Command.{Command}
 use Rattle.dh_world.specs.declared.refusal.Refusal.{Refusal}
 use Rattle.dh_world.specs.Step.{step, IsStep, IsSetAside}
 use Rattle.dh_sample.specs.SampleWorld.{on_step, after_all, sample_commands, sample_world, DoesAll}
-
--- a step of a command is that of an equal one
-pub step_of : (w : World) (c d : Command) (r : Result (World × Answer) Refusal) → c ≡ d → step w c ≡ r → step w d ≡ r
-step_of w c d r same is = ap (step w) (sym same) ∙ is
 
 -- an accepted command, and then the others
 after_step : (c : Command) (cs : List Command) (w next : World) (answer : Answer) (r : Result World Refusal) → step w c ≡ Ok (next, answer) → after_all cs next ≡ r → after_all (c ∷ cs) w ≡ r

@@ -1,9 +1,8 @@
 //! The sample project in a desk.
 
 ghost use Rattle.std.specs.Prelude.{◌≡◌, ◌∷◌, ◌++◌, [], IfOk};
-ghost use Rattle.dh_rows.specs.Calls.{IsHonest};
 ghost use Rattle.dh_world.specs.Step.{IsStep};
-ghost use Rattle.dh_desk.specs.Desk.{world};
+ghost use Rattle.dh_desk.specs.Desk.{world, Moves};
 ghost use Rattle.dh_sample.specs.SampleWorld.{uploaded_page, sample_uploads, of_sample, make_sample, push_sample, upload_sample, sample_world, Fills};
 ghost use Rattle.std.specs.FinMap.{empty};
 ghost use Rattle.sqlite.specs.Steps.{over_memory};
@@ -100,36 +99,32 @@ fn upload_command(alloc: Global) -> Result<Command, AllocError>
 
 /// Does a command of the sample, and lets it go.
 fn perform<S: Alter>(alloc: Global, desk: &mut Desk<S>, command: Command) -> Result<Answer, Refusal>
-    ensures step { IsHonest S.Store desk.new.tables
-        → IsStep (world S.Store desk.old) (world S.Store desk.new) command result }
-    ensures was { IsHonest S.Store desk.new.tables → IsHonest S.Store desk.old.tables }
+    ensures step { Moves S.Store desk.old desk.new
+        (λ before after. IsStep before after command result) }
 {
     desk.apply(alloc, &command)
 }
 
 /// Makes the sample project.
 fn make_project<S: Alter>(alloc: Global, desk: &mut Desk<S>) -> Result<Answer, Refusal>
-    ensures step { IsHonest S.Store desk.new.tables
-        → IsStep (world S.Store desk.old) (world S.Store desk.new) make_sample result }
-    ensures was { IsHonest S.Store desk.new.tables → IsHonest S.Store desk.old.tables }
+    ensures step { Moves S.Store desk.old desk.new
+        (λ before after. IsStep before after make_sample result) }
 {
     perform(alloc, desk, make_command(alloc)?)
 }
 
 /// Pushes its branch.
 fn push_branch<S: Alter>(alloc: Global, desk: &mut Desk<S>) -> Result<Answer, Refusal>
-    ensures step { IsHonest S.Store desk.new.tables
-        → IsStep (world S.Store desk.old) (world S.Store desk.new) push_sample result }
-    ensures was { IsHonest S.Store desk.new.tables → IsHonest S.Store desk.old.tables }
+    ensures step { Moves S.Store desk.old desk.new
+        (λ before after. IsStep before after push_sample result) }
 {
     perform(alloc, desk, push_command(alloc)?)
 }
 
 /// Stores its pages.
 fn store_pages<S: Alter>(alloc: Global, desk: &mut Desk<S>) -> Result<Answer, Refusal>
-    ensures step { IsHonest S.Store desk.new.tables
-        → IsStep (world S.Store desk.old) (world S.Store desk.new) upload_sample result }
-    ensures was { IsHonest S.Store desk.new.tables → IsHonest S.Store desk.old.tables }
+    ensures step { Moves S.Store desk.old desk.new
+        (λ before after. IsStep before after upload_sample result) }
 {
     perform(alloc, desk, upload_command(alloc)?)
 }
@@ -137,9 +132,7 @@ fn store_pages<S: Alter>(alloc: Global, desk: &mut Desk<S>) -> Result<Answer, Re
 /// Makes the sample project, pushes its branch and stores its pages: three commands. The first refusal is answered: what was done
 /// before it stays, and the rest is not done.
 pub fn fill_sample<S: Alter>(alloc: Global, desk: &mut Desk<S>) -> Result<(), Refusal>
-    ensures fills { IsHonest S.Store desk.new.tables
-        → Fills (world S.Store desk.old) (world S.Store desk.new) result }
-    ensures was { IsHonest S.Store desk.new.tables → IsHonest S.Store desk.old.tables }
+    ensures fills { Moves S.Store desk.old desk.new (λ before after. Fills before after result) }
 {
     make_project(alloc, desk)?;
     push_branch(alloc, desk)?;

@@ -3,8 +3,7 @@
 ghost use Rattle.std.specs.Prelude.{◌≡◌, true, Some, string_bytes, option_map, IfOk, OnErr};
 ghost use Rattle.std.specs.Option.{is_none};
 ghost use Rattle.dh_paths.specs.Targets.{target_of};
-ghost use Rattle.dh_rows.specs.Calls.{IsHonest};
-ghost use Rattle.dh_desk.specs.Desk.{world};
+ghost use Rattle.dh_desk.specs.Desk.{Moves};
 ghost use Rattle.dh_lines.specs.declared.lines.Order.{Order};
 ghost use Rattle.dh_script.specs.Script.{outcome_of, outcome_of_read, Tells, Acts, GetsAt};
 ghost use Rattle.dh_script.specs.Script.{Performs, MayDoOrder};
@@ -70,12 +69,10 @@ fn do_command<S: Alter>(
     desk: &mut Desk<S>,
     command: &Command,
 ) -> Result<Printed, AllocError>
-    ensures acts { IsHonest S.Store desk.new.tables
-        → IfOk result (λ p. Acts (world S.Store desk.old) command.now
-        (world S.Store desk.new) (string_bytes p.text) p.refused) }
-    ensures acted { IsHonest S.Store desk.new.tables
-        → MayDoOrder (world S.Store desk.old) (Order.Act command.now) (world S.Store desk.new) }
-    ensures was { IsHonest S.Store desk.new.tables → IsHonest S.Store desk.old.tables }
+    ensures acts { Moves S.Store desk.old desk.new (λ before after. IfOk result
+        (λ p. Acts before command.now after (string_bytes p.text) p.refused)) }
+    ensures acted { Moves S.Store desk.old desk.new
+        (λ before after. MayDoOrder before (Order.Act command.now) after) }
 {
     let outcome = commanded(desk.apply(alloc, command));
     told(alloc, &outcome)
@@ -97,12 +94,9 @@ fn do_read<S: Alter>(
     pass: &Option<Text>,
     target: Target,
 ) -> Result<Printed, AllocError>
-    ensures gets { IsHonest S.Store desk.new.tables
-        → IfOk result (λ p. GetsAt (world S.Store desk.old) host.now pass.now (Some target)
-        (string_bytes p.text) p.refused) }
-    ensures same { IsHonest S.Store desk.new.tables
-        → world S.Store desk.new ≡ world S.Store desk.old }
-    ensures was { IsHonest S.Store desk.new.tables → IsHonest S.Store desk.old.tables }
+    ensures gets { Moves S.Store desk.old desk.new
+        (λ before after. (after ≡ before) × IfOk result
+        (λ p. GetsAt before host.now pass.now (Some target) (string_bytes p.text) p.refused)) }
 {
     let Target {
         host: _,
@@ -121,12 +115,10 @@ fn do_get<S: Alter>(
     target: &Text,
     pass: &Option<Text>,
 ) -> Result<Printed, AllocError>
-    ensures gets { IsHonest S.Store desk.new.tables
-        → IfOk result (λ p. GetsAt (world S.Store desk.old) host.now pass.now
-        (target_of target.now) (string_bytes p.text) p.refused) }
-    ensures same { IsHonest S.Store desk.new.tables
-        → world S.Store desk.new ≡ world S.Store desk.old }
-    ensures was { IsHonest S.Store desk.new.tables → IsHonest S.Store desk.old.tables }
+    ensures gets { Moves S.Store desk.old desk.new
+        (λ before after. (after ≡ before) × IfOk result
+        (λ p. GetsAt before host.now pass.now (target_of target.now)
+        (string_bytes p.text) p.refused)) }
 {
     match Target::read(alloc, target.as_str().as_bytes()) {
         Ok(target) => do_read(alloc, desk, host, pass, target),
@@ -154,12 +146,10 @@ pub fn perform<S: Alter>(
     desk: &mut Desk<S>,
     order: &Order,
 ) -> Result<Printed, AllocError>
-    ensures performs { IsHonest S.Store desk.new.tables
-        → IfOk result (λ p. Performs (world S.Store desk.old) order.now
-        (world S.Store desk.new) (string_bytes p.text) p.refused) }
-    ensures may { IsHonest S.Store desk.new.tables
-        → OnErr result (MayDoOrder (world S.Store desk.old) order.now (world S.Store desk.new)) }
-    ensures was { IsHonest S.Store desk.new.tables → IsHonest S.Store desk.old.tables }
+    ensures performs { Moves S.Store desk.old desk.new (λ before after. IfOk result
+        (λ p. Performs before order.now after (string_bytes p.text) p.refused)) }
+    ensures may { Moves S.Store desk.old desk.new
+        (λ before after. OnErr result (MayDoOrder before order.now after)) }
 {
     match order {
         Order::Act(command) => do_command(alloc, desk, command),

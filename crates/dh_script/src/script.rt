@@ -3,8 +3,7 @@
 ghost use Rattle.std.specs.Prelude.{◌≡◌, true, false, map, string_bytes, Some, IfOk, IfErr};
 ghost use Rattle.std.specs.Prelude.{IfSome, OnOk, OnErr, [], ◌∷◌, ◌++◌};
 ghost use Rattle.dh_ports.specs.Ports.{CountsUpTo};
-ghost use Rattle.dh_rows.specs.Calls.{IsHonest};
-ghost use Rattle.dh_desk.specs.Desk.{world};
+ghost use Rattle.dh_desk.specs.Desk.{Moves};
 ghost use Rattle.dh_words.specs.Apps.{StandsFor};
 ghost use Rattle.dh_lines.specs.App.{docs_app};
 ghost use Rattle.dh_lines.specs.Lines.{line_in};
@@ -32,12 +31,10 @@ fn order_text<S: Alter>(
     desk: &mut Desk<S>,
     order: &Order,
 ) -> Result<String, AllocError>
-    ensures does { IsHonest S.Store desk.new.tables
-        → IfOk result (λ text. DoesOrder (world S.Store desk.old) order.now
-        (world S.Store desk.new) (string_bytes text)) }
-    ensures may { IsHonest S.Store desk.new.tables
-        → OnErr result (MayDoOrder (world S.Store desk.old) order.now (world S.Store desk.new)) }
-    ensures was { IsHonest S.Store desk.new.tables → IsHonest S.Store desk.old.tables }
+    ensures does { Moves S.Store desk.old desk.new (λ before after. IfOk result
+        (λ text. DoesOrder before order.now after (string_bytes text))) }
+    ensures may { Moves S.Store desk.old desk.new
+        (λ before after. OnErr result (MayDoOrder before order.now after)) }
 {
     let printed = perform(alloc, desk, order)?;
     Ok(printed.text)
@@ -45,12 +42,10 @@ fn order_text<S: Alter>(
 
 /// Does what a line orders that names no store of its own.
 fn own_text<S: Alter>(alloc: Global, desk: &mut Desk<S>, line: &Line) -> Result<String, AllocError>
-    ensures does { IsHonest S.Store desk.new.tables
-        → IfOk result (λ text. Does (world S.Store desk.old) (Some line.now)
-        (world S.Store desk.new) (string_bytes text)) }
-    ensures may { IsHonest S.Store desk.new.tables
-        → OnErr result (MayDo (world S.Store desk.old) (Some line.now) (world S.Store desk.new)) }
-    ensures was { IsHonest S.Store desk.new.tables → IsHonest S.Store desk.old.tables }
+    ensures does { Moves S.Store desk.old desk.new (λ before after. IfOk result
+        (λ text. Does before (Some line.now) after (string_bytes text))) }
+    ensures may { Moves S.Store desk.old desk.new
+        (λ before after. OnErr result (MayDo before (Some line.now) after)) }
 {
     match &line.store {
         Some(_) => String::from_str(alloc, "usage"),
@@ -67,13 +62,10 @@ fn line_text<'a, S: Alter>(
 ) -> Result<String, AllocError>
     requires { StandsFor docs_app program.old }
     ensures stands { StandsFor docs_app program.new }
-    ensures does { IsHonest S.Store desk.new.tables
-        → IfOk result (λ text. Does (world S.Store desk.old)
-        (line_in (map string_bytes words.now)) (world S.Store desk.new) (string_bytes text)) }
-    ensures may { IsHonest S.Store desk.new.tables
-        → OnErr result (MayDo (world S.Store desk.old)
-        (line_in (map string_bytes words.now)) (world S.Store desk.new)) }
-    ensures was { IsHonest S.Store desk.new.tables → IsHonest S.Store desk.old.tables }
+    ensures does { Moves S.Store desk.old desk.new (λ before after. IfOk result
+        (λ text. Does before (line_in (map string_bytes words.now)) after (string_bytes text))) }
+    ensures may { Moves S.Store desk.old desk.new
+        (λ before after. OnErr result (MayDo before (line_in (map string_bytes words.now)) after)) }
 {
     match line_by(alloc, program, words) {
         Ok(line) => own_text(alloc, desk, &line),
@@ -95,10 +87,9 @@ fn run_words<'a, S: Alter, W: Sink>(
     ensures stays { StandsFor docs_app program.new }
     ensures broken { W.broken sink.new ≡ writer_failed result }
     ensures read { is_unread result ≡ false }
-    ensures ran { IsHonest S.Store desk.new.tables
-        → Ran (world S.Store desk.old) (map string_bytes words.now ∷ [])
-        (world S.Store desk.new) (W.held sink.old) (W.held sink.new) result }
-    ensures was { IsHonest S.Store desk.new.tables → IsHonest S.Store desk.old.tables }
+    ensures ran { Moves S.Store desk.old desk.new
+        (λ before after. Ran before (map string_bytes words.now ∷ []) after
+        (W.held sink.old) (W.held sink.new) result) }
 {
     let mut text = match line_text(alloc, desk, program, words) {
         Ok(text) => text,
@@ -123,10 +114,9 @@ fn run_batch<'a, S: Alter, W: Sink>(
     requires { W.broken sink.old ≡ false }
     ensures broken { W.broken sink.new ≡ writer_failed result }
     ensures read { is_unread result ≡ false }
-    ensures ran { IsHonest S.Store desk.new.tables
-        → Ran (world S.Store desk.old) (seen lines.now) (world S.Store desk.new)
-        (W.held sink.old) (W.held sink.new) result }
-    ensures was { IsHonest S.Store desk.new.tables → IsHonest S.Store desk.old.tables }
+    ensures ran { Moves S.Store desk.old desk.new
+        (λ before after. Ran before (seen lines.now) after
+        (W.held sink.old) (W.held sink.new) result) }
 {
     let mut program = match docs_command(alloc) {
         Ok(program) => program,
@@ -177,11 +167,9 @@ fn take_line<S: Alter, W: Sink>(
     requires { W.broken sink.old ≡ false }
     ensures broken { W.broken sink.new ≡ writer_failed result }
     ensures read { is_unread result ≡ false }
-    ensures ran { IsHonest S.Store desk.new.tables
-        → RanBut (world S.Store desk.old) (seen batch.old.items ++ worded (line.now ∷ []))
-        (world S.Store desk.new) (W.held sink.old) (W.held sink.new)
-        (seen batch.new.items) result }
-    ensures was { IsHonest S.Store desk.new.tables → IsHonest S.Store desk.old.tables }
+    ensures ran { Moves S.Store desk.old desk.new
+        (λ before after. RanBut before (seen batch.old.items ++ worded (line.now ∷ [])) after
+        (W.held sink.old) (W.held sink.new) (seen batch.new.items) result) }
 {
     if add_line(alloc, batch, line).is_err() {
         return Err(ScriptFault::Memory);
@@ -204,10 +192,9 @@ fn run_lines<S: Alter, W: Sink>(
     requires { W.broken sink.old ≡ false }
     ensures broken { W.broken sink.new ≡ writer_failed result }
     ensures read { is_unread result ≡ false }
-    ensures ran { IsHonest S.Store desk.new.tables
-        → Ran (world S.Store desk.old) (lines_in text.now) (world S.Store desk.new)
-        (W.held sink.old) (W.held sink.new) result }
-    ensures was { IsHonest S.Store desk.new.tables → IsHonest S.Store desk.old.tables }
+    ensures ran { Moves S.Store desk.old desk.new
+        (λ before after. Ran before (lines_in text.now) after
+        (W.held sink.old) (W.held sink.new) result) }
 {
     let mut batch = Vec::new(alloc);
     for line in text.lines() {
@@ -235,10 +222,9 @@ pub fn run_script<S: Alter, R: Source, W: Sink>(
         → (desk.new ≡ desk.old) × (W.held sink.new ≡ W.held sink.old) }
     ensures cause { IfErr result (λ fault. IfSome (R.left source.old) (IsCause fault)) }
     ensures script { OnOk result (IfSome (R.left source.old) IsScript) }
-    ensures ran { IsHonest S.Store desk.new.tables
-        → RunsScript (R.left source.old) (world S.Store desk.old) (world S.Store desk.new)
-        (W.held sink.old) (W.held sink.new) result }
-    ensures was { IsHonest S.Store desk.new.tables → IsHonest S.Store desk.old.tables }
+    ensures ran { Moves S.Store desk.old desk.new
+        (λ before after. RunsScript (R.left source.old) before after
+        (W.held sink.old) (W.held sink.new) result) }
     ensures taken { TookAtMost (R.left source.old) (R.left source.new) 1052672 }
     ensures reads { CountsUpTo (R.fills source.old) (R.fills source.new) 100000 }
 {

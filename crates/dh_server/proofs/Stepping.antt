@@ -1,5 +1,5 @@
 -- What connections do to the world, as steps of commands.
-use Rattle.std.proofs.Common.{◌≡◌, ◌⊎◌, ℕ, ◌+◌, ◌≤◌, Bool, true, false, List, Option, Some, None, inl, inr, arith, add-one, if◌then◌else◌, sym, subst}
+use Rattle.std.proofs.Common.{◌≡◌, ◌⊎◌, ℕ, ◌+◌, ◌≤◌, Bool, true, false, List, Option, inl, inr, arith, add-one, if◌then◌else◌, sym, subst}
 use Rattle.dh_wire.specs.declared.answer.Reply.{Reply}
 use Rattle.dh_requests.specs.declared.request.Request.{Request}
 use Rattle.dh_requests.specs.declared.request.Request.TheVariants as request
@@ -31,11 +31,6 @@ turned : (before after : World) (whole : Bool) → Turn before after whole → S
 turned before after true h = answered before after h.0 h.1 h.2 h.3
 turned before after false (inl same) = inl same
 turned before after false (inr h) = answered before after h.0 h.1 h.2 h.3
-
--- none was asked for, and one more
-pub counts_none : (a : Option ℕ) → Counts a a 0
-counts_none None = (tt, tt)
-counts_none (Some n) = (omega arith, omega arith)
 
 pub counts_next : (a b c : Option ℕ) (n : ℕ) → Counts a b n → Counts b c 1 → Counts a c (n + 1)
 counts_next a b c n p q = (counts_on a b c n 1 (n + 1) p.0 q.0 (omega arith), counts_from a b c n 1 (n + 1) p.1 q.1 (omega arith))

@@ -2,8 +2,7 @@
 
 ghost use Rattle.std.specs.Prelude.{◌≡◌, ◌≤◌, true, false, drop, is_ok};
 ghost use Rattle.std.specs.Io.KnownBytes.{append_known};
-ghost use Rattle.dh_rows.specs.Calls.{IsHonest};
-ghost use Rattle.dh_desk.specs.Desk.{world};
+ghost use Rattle.dh_desk.specs.Desk.{Moves};
 ghost use Rattle.dh_http.specs.Answers as spec;
 ghost use Rattle.dh_server.specs.Serving.{Answers, Turn, Serves, Steps, Counts};
 ghost use Rattle.dh_server.specs.Telling.{TellsSome};
@@ -36,13 +35,12 @@ pub fn answer_joined<S: Alter, R: Source, W: Sink>(
 ) -> Result<Done, EngineFault>
     requires reader { R.broken source.old ≡ false }
     requires writer { W.broken sink.old.inner ≡ false }
-    ensures answers { IsHonest S.Store desk.new.tables → Answers (R.left source.old)
+    ensures answers { Moves S.Store desk.old desk.new
+        (λ before after. Answers (R.left source.old)
         (append_known (W.held sink.old.inner) (drop sink.old.gone sink.old.kept.items))
-        (W.held sink.new.inner)
-        (world S.Store desk.old) (world S.Store desk.new) result }
+        (W.held sink.new.inner) before after result) }
     ensures unread { spec.is_unread result ≡ true
         → (desk.new ≡ desk.old) × (sink.new ≡ sink.old) }
-    ensures was { IsHonest S.Store desk.new.tables → IsHonest S.Store desk.old.tables }
     ensures reader_fault { R.broken source.new ≡ spec.reader_failed result }
     ensures writer_fault { W.broken sink.new.inner ≡ spec.writer_failed result }
 {
@@ -61,9 +59,8 @@ fn answer_stream<S: Alter, T: Clock + Copy, L: Sink>(
     log: &Log<T>,
     errors: &mut L,
 ) -> Result<Done, EngineFault>
-    ensures turn { IsHonest S.Store desk.new.tables → Turn
-        (world S.Store desk.old) (world S.Store desk.new) (is_ok result) }
-    ensures was { IsHonest S.Store desk.new.tables → IsHonest S.Store desk.old.tables }
+    ensures turn { Moves S.Store desk.old desk.new
+        (λ before after. Turn before after (is_ok result)) }
     ensures tells { TellsSome L.broken L.held errors.old errors.new }
     ensures off { log.now.is_on ≡ false → errors.new ≡ errors.old }
 {
@@ -103,9 +100,7 @@ fn serve_next<S: Alter, N: Listen, T: Clock + Copy, L: Sink>(
     errors: &mut L,
 ) -> bool
     ensures asks { Counts (N.asked listener.old) (N.asked listener.new) 1 }
-    ensures turn { IsHonest S.Store desk.new.tables → Turn
-        (world S.Store desk.old) (world S.Store desk.new) result }
-    ensures was { IsHonest S.Store desk.new.tables → IsHonest S.Store desk.old.tables }
+    ensures turn { Moves S.Store desk.old desk.new (λ before after. Turn before after result) }
     ensures tells { TellsSome L.broken L.held errors.old errors.new }
     ensures off { log.now.is_on ≡ false → errors.new ≡ errors.old }
 {
@@ -132,11 +127,9 @@ pub fn serve_on<S: Alter, N: Listen, T: Clock + Copy, L: Sink>(
 ) -> u32
     ensures asks { Counts (N.asked listener.old) (N.asked listener.new) count }
     ensures few { result ≤ count }
-    ensures serves { IsHonest S.Store desk.new.tables → Serves count
-        (world S.Store desk.old) (world S.Store desk.new) result }
-    ensures steps { IsHonest S.Store desk.new.tables → Steps count
-        (world S.Store desk.old) (world S.Store desk.new) }
-    ensures was { IsHonest S.Store desk.new.tables → IsHonest S.Store desk.old.tables }
+    ensures serves { Moves S.Store desk.old desk.new
+        (λ before after. Serves count before after result) }
+    ensures steps { Moves S.Store desk.old desk.new (Steps count) }
     ensures tells { TellsSome L.broken L.held errors.old errors.new }
     ensures off { log.now.is_on ≡ false → errors.new ≡ errors.old }
 {

@@ -10,7 +10,7 @@ use Rattle.dh_sample.proofs.answer.answer_sample.Goals as goal
 pub returns-in-Ok-clause-writes : goal.returns-in-Ok-clause-writes
 returns-in-Ok-clause-writes g c =
     sample_answered (world over_memory c.in-Ok.desk) (world over_memory c.answer.new.desk) (g.R.Source.left c.args.source.now) _ _ c.answer.result _ c.told.ensures.told c.in-Ok.ensures
-    (c.answer.ensures.answers (memory_is_clean c.answer.new.desk.tables, refl))
+    (c.answer.ensures.answers.moves (memory_is_clean c.answer.new.desk.tables, refl))
 
 pub returns-in-Err-OutOfMemory-clause-writes : goal.returns-in-Err-OutOfMemory-clause-writes
 returns-in-Err-OutOfMemory-clause-writes g c =

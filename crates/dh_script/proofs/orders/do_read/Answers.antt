@@ -3,7 +3,14 @@ use Rattle.dh_desk.specs.Desk.{world}
 use Rattle.dh_script.proofs.ScriptLemmas.{got}
 use Rattle.dh_script.proofs.orders.do_read.Goals as goal
 
-pub returns-clause-gets : goal.returns-clause-gets
-returns-clause-gets g c = λ honest.
-    got (λ p. string_bytes p.text) (λ p. p.refused) (world g.S.Store c.args.desk.now) c.as_str.result.now c.args.host.now _ c.args.pass.now c.args.target c.read.result c.read_out-outcome.result c.told.result
-    (c.read.ensures.value honest) c.as_str.ensures c.pass_text.ensures c.read_out-outcome.ensures c.told.ensures
+pub returns : goal.returns
+returns g c = record {
+  gets = record {
+    was = c.read.ensures.was;
+    moves = λ honest. (
+      c.read.ensures.same honest,
+      got (λ p. string_bytes p.text) (λ p. p.refused) (world g.S.Store c.args.desk.now) c.as_str.result.now c.args.host.now _ c.args.pass.now c.args.target c.read.result c.read_out-outcome.result c.told.result
+          (c.read.ensures.value honest) c.as_str.ensures c.pass_text.ensures c.read_out-outcome.ensures c.told.ensures,
+    );
+  };
+}

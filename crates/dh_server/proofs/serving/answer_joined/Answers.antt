@@ -1,23 +1,29 @@
 use Rattle.std.proofs.Common.{drop, ap}
 use Rattle.std.specs.Io.KnownBytes.{append_known}
 use Rattle.dh_desk.specs.Desk.{world}
+use Rattle.dh_desk.proofs.Moving.{Moves-weaker}
 use Rattle.dh_server.proofs.Joining.{joined, cut, told_on}
 use Rattle.dh_server.proofs.serving.answer_joined.Goals as goal
 
 pub returns-in_err-done-clause-answers : goal.returns-in_err-done-clause-answers
-returns-in_err-done-clause-answers g c honest =
-    let held = append_known (g.W.Sink.held c.args.sink.now.inner) (drop c.args.sink.now.gone c.args.sink.now.kept.items) in
-    let kept = append_known (g.W.Sink.held c.answer.new.sink.inner) (drop c.answer.new.sink.gone c.answer.new.sink.kept.items) in
-    told_on (g.R.Source.left c.args.source.now) held kept (g.W.Sink.held c.answer.new.sink.inner) (world g.S.Store c.args.desk.now) (world g.S.Store c.answer.new.desk) c.in_err-done.field-0.0 c.from_residual.result c.from_residual.ensures.1 (c.in_err-done.ensures.answers honest) (λ is. ap (world g.S.Store) (c.in_err-done.ensures.unread is).0)
+returns-in_err-done-clause-answers g c = record {
+  was = c.answer.ensures.answers.was;
+  moves = λ honest.
+      let held = append_known (g.W.Sink.held c.args.sink.now.inner) (drop c.args.sink.now.gone c.args.sink.now.kept.items) in
+      let kept = append_known (g.W.Sink.held c.answer.new.sink.inner) (drop c.answer.new.sink.gone c.answer.new.sink.kept.items) in
+      told_on (g.R.Source.left c.args.source.now) held kept (g.W.Sink.held c.answer.new.sink.inner) (world g.S.Store c.args.desk.now) (world g.S.Store c.answer.new.desk) c.in_err-done.field-0.0 c.from_residual.result c.from_residual.ensures.1 (c.in_err-done.ensures.answers.moves honest) (λ is. ap (world g.S.Store) (c.in_err-done.ensures.unread is).0);
+}
 
 pub returns-in-Ok-clause-answers : goal.returns-in-Ok-clause-answers
-returns-in-Ok-clause-answers g c honest =
+returns-in-Ok-clause-answers g c =
     let held = append_known (g.W.Sink.held c.args.sink.now.inner) (drop c.args.sink.now.gone c.args.sink.now.kept.items) in
     let kept = append_known (g.W.Sink.held c.answer.new.sink.inner) (drop c.answer.new.sink.gone c.answer.new.sink.kept.items) in
-    joined (g.R.Source.left c.args.source.now) held kept (g.W.Sink.held c.hand_on.new.self.inner) (world g.S.Store c.args.desk.now) (world g.S.Store c.answer.new.desk) c.in_ok-done.done (c.in_ok-done.ensures.answers honest) c.in-Ok.ensures.ok
+    Moves-weaker c.in_ok-done.ensures.answers
+    (λ u v answers. joined (g.R.Source.left c.args.source.now) held kept (g.W.Sink.held c.hand_on.new.self.inner) u v c.in_ok-done.done answers c.in-Ok.ensures.ok)
 
 pub returns-in-Err-clause-answers : goal.returns-in-Err-clause-answers
-returns-in-Err-clause-answers g c honest =
+returns-in-Err-clause-answers g c =
     let held = append_known (g.W.Sink.held c.args.sink.now.inner) (drop c.args.sink.now.gone c.args.sink.now.kept.items) in
     let kept = append_known (g.W.Sink.held c.answer.new.sink.inner) (drop c.answer.new.sink.gone c.answer.new.sink.kept.items) in
-    cut (g.R.Source.left c.args.source.now) held kept (g.W.Sink.held c.hand_on.new.self.inner) (world g.S.Store c.args.desk.now) (world g.S.Store c.answer.new.desk) c.in_ok-done.done c.in-Err.count (c.in_ok-done.ensures.answers honest)
+    Moves-weaker c.in_ok-done.ensures.answers
+    (λ u v. cut (g.R.Source.left c.args.source.now) held kept (g.W.Sink.held c.hand_on.new.self.inner) u v c.in_ok-done.done c.in-Err.count)

@@ -1,5 +1,5 @@
 use Rattle.std.proofs.Common.{◌≡◌, ◌∙◌, ◌+◌, if◌then◌else◌}
-use Rattle.dh_desk.specs.Desk.{world}
+use Rattle.dh_desk.proofs.Moving.{Moves-trans}
 use Rattle.dh_server.proofs.Stepping.{counts_next, serves_next, steps_next, few_next, one_more, no_more}
 use Rattle.dh_server.proofs.Told.{some_more}
 use Rattle.dh_server.proofs.serving.serve_on.Goals as goal
@@ -15,9 +15,10 @@ loop-turn-preserved g c =
     record {
       asks = counts_next (g.N.Listen.asked c.args.listener.now) (g.N.Listen.asked c.loop-turn.listener) (g.N.Listen.asked c.serve_next.new.listener) c.loop-turn._turn c.loop-turn.invariant.asks c.serve_next.ensures.asks;
       few = few_next c.loop-turn._turn c.loop-turn.served c.if-serve_next.served c.serve_next.result c.loop-turn.invariant.few done;
-      serves = λ honest. serves_next c.loop-turn._turn (world g.S.Store c.args.desk.now) (world g.S.Store c.loop-turn.desk) (world g.S.Store c.serve_next.new.desk) c.loop-turn.served c.if-serve_next.served c.serve_next.result (c.loop-turn.invariant.serves (c.serve_next.ensures.was honest)) (c.serve_next.ensures.turn honest) done;
-      steps = λ honest. steps_next c.loop-turn._turn (world g.S.Store c.args.desk.now) (world g.S.Store c.loop-turn.desk) (world g.S.Store c.serve_next.new.desk) c.serve_next.result (c.loop-turn.invariant.steps (c.serve_next.ensures.was honest)) (c.serve_next.ensures.turn honest);
-      was = λ honest. c.loop-turn.invariant.was (c.serve_next.ensures.was honest);
+      serves =
+          Moves-trans c.loop-turn.invariant.serves c.serve_next.ensures.turn
+          (λ u v w served turn. serves_next c.loop-turn._turn u v w c.loop-turn.served c.if-serve_next.served c.serve_next.result served turn done);
+      steps = Moves-trans c.loop-turn.invariant.steps c.serve_next.ensures.turn (λ u v w. steps_next c.loop-turn._turn u v w c.serve_next.result);
       tells = some_more g.L.Sink.broken g.L.Sink.held c.args.errors.now c.loop-turn.errors c.serve_next.new.errors c.loop-turn.invariant.tells c.serve_next.ensures.tells;
       off = λ is_off. c.serve_next.ensures.off is_off ∙ c.loop-turn.invariant.off is_off;
     }
