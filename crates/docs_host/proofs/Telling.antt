@@ -1,11 +1,11 @@
 -- What the error output was told of a failure.
-use Rattle.std.proofs.Common.{◌≡◌, ◌∙◌, Bool, false, true≢false, [], Option, None, Result, Ok, Err, OnErr, refl, sym, ap, subst}
+use Rattle.std.proofs.Common.{◌≡◌, Bool, false, true≢false, [], Option, None, refl, sym, subst}
 use Rattle.std.specs.Prelude.{IsTrue, option_and_then}
 use Rattle.dh_server.proofs.Told.{tells_both}
 use Rattle.dh_server.specs.Telling.{TellsSome}
 use Rattle.dh_lines.specs.declared.lines.Line.{Line}
 use Rattle.dh_world.specs.World.{Text}
-use Rattle.docs_host.specs.Ends.{Ended, is_fault, status_after}
+use Rattle.docs_host.specs.Ends.{is_fault, status_after}
 use Rattle.docs_host.specs.Failing.{may_fail, is_of_line}
 use Rattle.docs_host.specs.Telling.{fault_text, file_of, TellsFault, TellsLast, TellsEnd}
 use Rattle.docs_host.specs.declared.failure.Failure.{Failure}
@@ -53,13 +53,6 @@ module _ {S : Type 0} (broken : S → Bool) (held : S → Option Text) where
     -- no file is named where memory is out
     pub told_memory : (a b : S) (s : Status) → s ≡ Faulty → TellsFault broken held a b Memory None → TellsEnd broken held line a b s
     told_memory a b s is told = told_alone a b Memory s refl is told
-
-  -- a run that told nothing before its failure
-  pub ended_told
-      : (is_of : Failure → Bool) (line : Option Line) (a b c : S) (r : Result Status Failure) (s : Status) → OnErr r (b ≡ a)
-      → Ended (λ x. s ≡ x) is_of r → TellsEnd broken held line b c s → TellsEnd broken held line a c s
-  ended_told is_of line a b c (Ok x) s same is told = no_fault line a c s (ap is_fault is.0 ∙ is.1)
-  ended_told is_of line a b c (Err failure) s same is told = subst (λ x. TellsEnd broken held line x c s) same told
 
   -- of the same line
   pub told_of : (a b : S) (s : Status) (line other : Option Line) → line ≡ other → TellsEnd broken held other a b s → TellsEnd broken held line a b s

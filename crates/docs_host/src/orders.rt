@@ -2,8 +2,7 @@
 
 ghost use Rattle.std.specs.Prelude.{◌≡◌, false, [], ◌∷◌, ◌++◌, IfOk, IfErr, OnOk, OnErr, IsTrue};
 ghost use Rattle.std.specs.Io.KnownBytes.{Appends};
-ghost use Rattle.dh_rows.specs.Calls.{IsHonest};
-ghost use Rattle.dh_desk.specs.Desk.{world};
+ghost use Rattle.dh_desk.specs.Desk.{Moves};
 ghost use Rattle.dh_server.specs.Telling.{TellsSome};
 ghost use Rattle.dh_script.specs.Running.{RunsScript};
 ghost use Rattle.dh_script.specs.Script.{MayDoOrder};
@@ -54,12 +53,10 @@ fn run_single<S: Alter, W: Sink>(
     sink: &mut W,
 ) -> Result<Status, Failure>
     requires { W.broken sink.old ≡ false }
-    ensures runs { IsHonest S.Store desk.new.tables
-        → IfOk result (RunsSingle (world S.Store desk.old) order.now (world S.Store desk.new)
-        (W.held sink.old) (W.held sink.new)) }
-    ensures may { IsHonest S.Store desk.new.tables
-        → OnErr result (MayDoOrder (world S.Store desk.old) order.now (world S.Store desk.new)) }
-    ensures was { IsHonest S.Store desk.new.tables → IsHonest S.Store desk.old.tables }
+    ensures runs { Moves S.Store desk.old desk.new (λ before after. IfOk result
+        (RunsSingle before order.now after (W.held sink.old) (W.held sink.new))) }
+    ensures may { Moves S.Store desk.old desk.new
+        (λ before after. OnErr result (MayDoOrder before order.now after)) }
     ensures ends { Ended (λ status. IsTrue (may_end_single status)) is_of_output result }
 {
     let printed = perform(alloc, desk, order)?;
@@ -76,10 +73,9 @@ pub fn run_lines<S: Alter, R: Source, W: Sink>(
 ) -> Result<Status, Failure>
     requires reader { R.broken source.old ≡ false }
     requires writer { W.broken sink.old ≡ false }
-    ensures ran { IsHonest S.Store desk.new.tables
-        → RunsScript (R.left source.old) (world S.Store desk.old) (world S.Store desk.new)
-        (W.held sink.old) (W.held sink.new) result }
-    ensures was { IsHonest S.Store desk.new.tables → IsHonest S.Store desk.old.tables }
+    ensures ran { Moves S.Store desk.old desk.new
+        (λ before after. RunsScript (R.left source.old) before after
+        (W.held sink.old) (W.held sink.new) result) }
     ensures ends { IsDoneOr is_of_script result }
 {
     run_script(alloc, desk, source, sink)?;
@@ -95,10 +91,9 @@ fn answer_request<S: Alter, R: Source, W: Sink>(
 ) -> Result<Status, Failure>
     requires reader { R.broken source.old ≡ false }
     requires writer { W.broken sink.old ≡ false }
-    ensures answers { IsHonest S.Store desk.new.tables
-        → RunsRequest (world S.Store desk.old) (world S.Store desk.new) (R.left source.old)
-        (W.held sink.old) (W.held sink.new) result }
-    ensures was { IsHonest S.Store desk.new.tables → IsHonest S.Store desk.old.tables }
+    ensures answers { Moves S.Store desk.old desk.new
+        (λ before after. RunsRequest before after (R.left source.old)
+        (W.held sink.old) (W.held sink.new) result) }
     ensures ends { Ended (λ status. IsTrue (may_end_request status)) is_of_request result }
 {
     answer(alloc, desk, source, sink)?;
@@ -117,10 +112,9 @@ pub fn run_order<S: Alter, R: Source, W: Sink, E: Sink>(
 ) -> Result<Status, Failure>
     requires reader { R.broken source.old ≡ false }
     requires writer { W.broken sink.old ≡ false }
-    ensures runs { IsHonest S.Store desk.new.tables
-        → RunsOrder (world S.Store desk.old) order.now (world S.Store desk.new)
-        (R.left source.old) (W.held sink.old) (W.held sink.new) result }
-    ensures was { IsHonest S.Store desk.new.tables → IsHonest S.Store desk.old.tables }
+    ensures runs { Moves S.Store desk.old desk.new
+        (λ before after. RunsOrder before order.now after
+        (R.left source.old) (W.held sink.old) (W.held sink.new) result) }
     ensures ends { Ended (λ status. IsTrue (may_end_order order.now status))
         (is_of_order order.now) result }
     ensures tells { TellsSome E.broken E.held errors.old errors.new }

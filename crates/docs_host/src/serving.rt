@@ -1,8 +1,7 @@
 //! The server.
 
 ghost use Rattle.std.specs.Prelude.{◌≡◌, false, IfErr, IsTrue};
-ghost use Rattle.dh_rows.specs.Calls.{IsHonest};
-ghost use Rattle.dh_desk.specs.Desk.{world};
+ghost use Rattle.dh_desk.specs.Desk.{Moves};
 ghost use Rattle.dh_server.specs.Serving.{Steps};
 ghost use Rattle.dh_server.specs.Telling.{TellsSome};
 ghost use Rattle.docs_host.specs.Failing.{IsDoneOr, is_of_server, may_fail};
@@ -63,9 +62,7 @@ pub fn serve<S: Alter, W: Sink, E: Sink>(
     errors: &mut E,
 ) -> Result<Status, Failure>
     requires { W.broken sink.old ≡ false }
-    ensures steps { IsHonest S.Store desk.new.tables → Steps count
-        (world S.Store desk.old) (world S.Store desk.new) }
-    ensures was { IsHonest S.Store desk.new.tables → IsHonest S.Store desk.old.tables }
+    ensures steps { Moves S.Store desk.old desk.new (Steps count) }
     ensures ends { IsDoneOr is_of_server result }
     ensures tells { TellsSome E.broken E.held errors.old errors.new }
 {

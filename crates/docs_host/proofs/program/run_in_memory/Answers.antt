@@ -17,4 +17,4 @@ pub returns : goal.returns
 returns g c =
     script_ended (g.R.Source.left c.args.source.now) (g.W.Sink.held c.args.sink.now) (g.W.Sink.held c.run_lines.new.sink)
     (world over_memory c.in_ok-desk.desk) (world over_memory c.run_lines.new.desk) c.run_lines.result c.in_ok-desk.ensures
-    (c.run_lines.ensures.ran (memory_is_clean c.run_lines.new.desk.tables, refl)) c.run_lines.ensures.ends
+    (c.run_lines.ensures.ran.moves (memory_is_clean c.run_lines.new.desk.tables, refl)) c.run_lines.ensures.ends

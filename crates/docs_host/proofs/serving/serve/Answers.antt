@@ -1,10 +1,10 @@
-use Rattle.dh_desk.specs.Desk.{world}
+use Rattle.dh_desk.proofs.Moving.{Moves-refl}
 use Rattle.dh_server.proofs.Told.{some_more}
 use Rattle.docs_host.proofs.Ending.{no_steps}
 use Rattle.docs_host.proofs.serving.serve.Goals as goal
 
 pub returns-in_err-listener-clause-steps : goal.returns-in_err-listener-clause-steps
-returns-in_err-listener-clause-steps g c honest = no_steps c.args.count (world g.S.Store c.args.desk.now)
+returns-in_err-listener-clause-steps g c = Moves-refl (no_steps c.args.count)
 
 pub returns-clause-tells : goal.returns-clause-tells
 returns-clause-tells g c =
