@@ -9,7 +9,7 @@ ghost use Rattle.dh_reply.specs.Replies.{reply_to};
 ghost use Rattle.dh_records.specs.Lists.{world_of};
 ghost use Rattle.dh_schema.specs.Calling.{Blames};
 ghost use Rattle.dh_schema.specs.Tables.{lists_of};
-ghost use Rattle.dh_view.specs.View.{Fails, Looks, shown};
+ghost use Rattle.dh_tables.specs.View.{Fails, Looks, shown};
 ghost use Rattle.dh_tables.specs.Going.{last_records};
 ghost use Rattle.dh_world.specs.Reads.{host_named, pass_named};
 ghost use Rattle.dh_world.specs.Seen as caller;

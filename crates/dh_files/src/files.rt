@@ -4,8 +4,7 @@ ghost use Rattle.std.specs.Prelude.{◌≡◌, false, IfOk};
 
 use crate::fault::FileFault;
 use crate::looking::{Found, look};
-use dh_desk::Desk;
-use dh_tables::Tables;
+use dh_desk::{Desk, Tables};
 use sqlite::{Alter, Connection, FileFrom, FileStore, Start};
 use std::alloc::Global;
 

@@ -1,8 +1,7 @@
 //! One request over the sample.
 
 use crate::filling::sample_desk;
-use dh_desk::Refusal;
-use dh_http::{Done, EngineFault, answer, answer_unavailable};
+use dh_http::{Done, EngineFault, Refusal, answer, answer_unavailable};
 use dh_ports::{Sink, Source};
 use std::alloc::Global;
 use thiserror::Error;

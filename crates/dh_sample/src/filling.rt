@@ -2,12 +2,12 @@
 
 ghost use Rattle.std.specs.Prelude.{◌≡◌, ◌∷◌, ◌++◌, [], IfOk};
 ghost use Rattle.dh_world.specs.Step.{IsStep};
-ghost use Rattle.dh_desk.specs.Desk.{world, Moves};
+ghost use Rattle.dh_http.specs.Desk.{world, Moves};
 ghost use Rattle.dh_sample.specs.SampleWorld.{uploaded_page, sample_uploads, of_sample, make_sample, push_sample, upload_sample, sample_world, Fills};
 ghost use Rattle.std.specs.FinMap.{empty};
 ghost use Rattle.sqlite.specs.Steps.{over_memory};
 
-use dh_desk::{Answer, Command, CommandChange, Desk, Pages, Refusal, UploadedPage};
+use dh_http::{Answer, Command, CommandChange, Desk, Pages, Refusal, UploadedPage};
 use dh_paths::{Bytes, Text};
 use dh_reply::Fault;
 use dh_tables::Tables;

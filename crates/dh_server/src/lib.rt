@@ -13,6 +13,7 @@ mod telling;
 mod timed;
 
 pub use counted::Counted;
+pub use dh_http::{Done, EngineFault};
 pub use first_line::{FirstLine, Heard};
 pub use joined::Joined;
 pub use listening::{Listen, Listening};

@@ -2,7 +2,7 @@
 
 ghost use Rattle.std.specs.Prelude.{◌≡◌, ◌≤◌, true, false, drop, is_ok};
 ghost use Rattle.std.specs.Io.KnownBytes.{append_known};
-ghost use Rattle.dh_desk.specs.Desk.{Moves};
+ghost use Rattle.dh_http.specs.Desk.{Moves};
 ghost use Rattle.dh_http.specs.Answers as spec;
 ghost use Rattle.dh_server.specs.Serving.{Answers, Turn, Serves, Steps, Counts};
 ghost use Rattle.dh_server.specs.Telling.{TellsSome};
@@ -14,8 +14,7 @@ use crate::listening::Listen;
 use crate::log::Log;
 use crate::stream::read_out;
 use crate::timed::Timed;
-use dh_desk::Desk;
-use dh_http::{Done, EngineFault, answer};
+use dh_http::{Desk, Done, EngineFault, answer};
 use dh_ports::{Port, Sink, Source};
 use sqlite::Alter;
 use std::alloc::Global;

@@ -1,1 +1,2 @@
 pub mod Together
+pub use Rattle.dh_view.proofs.ViewLemmas

@@ -3,4 +3,5 @@
 
 pub mod view;
 
+pub use dh_store::{Tables, TablesFault};
 pub use view::{View, doubt_is_of_the_store};

@@ -2,7 +2,7 @@
 
 ghost use Rattle.std.specs.Prelude.{◌≡◌, false, [], ◌∷◌, ◌++◌, IfOk, IfErr, OnOk, OnErr, IsTrue};
 ghost use Rattle.std.specs.Io.KnownBytes.{Appends};
-ghost use Rattle.dh_desk.specs.Desk.{Moves};
+ghost use Rattle.dh_http.specs.Desk.{Moves};
 ghost use Rattle.dh_server.specs.Telling.{TellsSome};
 ghost use Rattle.dh_script.specs.Running.{RunsScript};
 ghost use Rattle.dh_script.specs.Script.{MayDoOrder};
@@ -14,8 +14,7 @@ ghost use Rattle.docs_host.specs.Orders.{RunsSingle, RunsRequest, RunsOrder, sin
 
 use crate::failure::{Failure, Status};
 use crate::serving::{Served, serve};
-use dh_desk::Desk;
-use dh_http::answer;
+use dh_http::{Desk, answer};
 use dh_lines::Order;
 use dh_ports::{Sink, Source, put_both};
 use dh_script::{perform, run_script};

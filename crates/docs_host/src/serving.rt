@@ -1,14 +1,14 @@
 //! The server.
 
 ghost use Rattle.std.specs.Prelude.{◌≡◌, false, IfErr, IsTrue};
-ghost use Rattle.dh_desk.specs.Desk.{Moves};
+ghost use Rattle.dh_http.specs.Desk.{Moves};
 ghost use Rattle.dh_server.specs.Serving.{Steps};
 ghost use Rattle.dh_server.specs.Telling.{TellsSome};
 ghost use Rattle.docs_host.specs.Failing.{IsDoneOr, is_of_server, may_fail};
 
 use crate::failure::{Failure, Status, put};
 use crate::orders::say;
-use dh_desk::Desk;
+use dh_http::Desk;
 use dh_ports::Sink;
 use dh_server::{Listening, Log, serve_on};
 use sqlite::Alter;

@@ -1,10 +1,9 @@
 //! How replies are handed on.
 
 use super::INSTALL;
-use dh_http::{Done, EngineFault};
 use dh_ports::{Failed, Port, Sink};
 use dh_sample::sample_desk;
-use dh_server::{Joined, answer_joined};
+use dh_server::{Done, EngineFault, Joined, answer_joined};
 use std::alloc::Global;
 use std::test::Fail;
 

@@ -1,7 +1,7 @@
 use Rattle.std.proofs.Common.{refl}
 use Rattle.sqlite.proofs.Callers.{memory_is_clean}
 use Rattle.sqlite.specs.Steps.{over_memory}
-use Rattle.dh_desk.specs.Desk.{world}
+use Rattle.dh_http.specs.Desk.{world}
 use Rattle.dh_requests.proofs.Bodies.{head_needed}
 use Rattle.dh_requests.proofs.Needs.{none_yet}
 use Rattle.dh_sample.proofs.AnswerLemmas.{sample_answered, unmade_answered}

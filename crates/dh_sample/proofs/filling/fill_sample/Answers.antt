@@ -1,5 +1,5 @@
 use Rattle.std.proofs.Common.{◌∷◌, [], Ok, refl}
-use Rattle.dh_desk.proofs.Moving.{Moves-weaker, Moves-trans}
+use Rattle.dh_http.proofs.Moving.{Moves-weaker, Moves-trans}
 use Rattle.dh_sample.specs.SampleWorld.{make_sample, push_sample, upload_sample}
 use Rattle.dh_sample.proofs.FillLemmas.{does_next, does_refused}
 use Rattle.dh_sample.proofs.filling.fill_sample.Goals as goal

@@ -1,7 +1,7 @@
 use Rattle.std.proofs.Common.{drop, ap}
 use Rattle.std.specs.Io.KnownBytes.{append_known}
-use Rattle.dh_desk.specs.Desk.{world}
-use Rattle.dh_desk.proofs.Moving.{Moves-weaker}
+use Rattle.dh_http.specs.Desk.{world}
+use Rattle.dh_http.proofs.Moving.{Moves-weaker}
 use Rattle.dh_server.proofs.Joining.{joined, cut, told_on}
 use Rattle.dh_server.proofs.serving.answer_joined.Goals as goal
 

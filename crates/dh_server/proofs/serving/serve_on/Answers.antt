@@ -1,5 +1,5 @@
 use Rattle.std.proofs.Common.{◌≡◌, ◌∙◌, ◌+◌, if◌then◌else◌}
-use Rattle.dh_desk.proofs.Moving.{Moves-trans}
+use Rattle.dh_http.proofs.Moving.{Moves-trans}
 use Rattle.dh_server.proofs.Stepping.{counts_next, serves_next, steps_next, few_next, one_more, no_more}
 use Rattle.dh_server.proofs.Told.{some_more}
 use Rattle.dh_server.proofs.serving.serve_on.Goals as goal

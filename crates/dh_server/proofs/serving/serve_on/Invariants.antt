@@ -1,5 +1,5 @@
 use Rattle.std.proofs.Common.{◌≡◌, ◌≤◌, false}
-use Rattle.dh_desk.specs.Desk.{Moves}
+use Rattle.dh_http.specs.Desk.{Moves}
 use Rattle.dh_server.specs.Serving.{Serves, Steps, Counts}
 use Rattle.dh_server.specs.Telling.{TellsSome}
 use Rattle.dh_server.proofs.serving.serve_on.Given as goal

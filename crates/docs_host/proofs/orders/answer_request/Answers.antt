@@ -1,4 +1,4 @@
-use Rattle.dh_desk.proofs.Moving.{Moves-weaker}
+use Rattle.dh_http.proofs.Moving.{Moves-weaker}
 use Rattle.docs_host.proofs.Ending.{request_failed}
 use Rattle.docs_host.proofs.orders.answer_request.Goals as goal
 

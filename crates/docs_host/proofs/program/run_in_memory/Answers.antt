@@ -1,7 +1,7 @@
 use Rattle.std.proofs.Common.{refl, inl}
 use Rattle.sqlite.proofs.Callers.{memory_is_clean}
 use Rattle.sqlite.specs.Steps.{over_memory}
-use Rattle.dh_desk.specs.Desk.{world}
+use Rattle.dh_http.specs.Desk.{world}
 use Rattle.dh_lines.specs.declared.lines.Order.TheVariants.{Script}
 use Rattle.docs_host.specs.Ends.{EndsScript}
 use Rattle.docs_host.specs.Failing.{is_of_memory}

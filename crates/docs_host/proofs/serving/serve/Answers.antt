@@ -1,4 +1,4 @@
-use Rattle.dh_desk.proofs.Moving.{Moves-refl}
+use Rattle.dh_http.proofs.Moving.{Moves-refl}
 use Rattle.dh_server.proofs.Told.{some_more}
 use Rattle.docs_host.proofs.Ending.{no_steps}
 use Rattle.docs_host.proofs.serving.serve.Goals as goal
