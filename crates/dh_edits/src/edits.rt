@@ -9,9 +9,7 @@ ghost use Rattle.dh_edits.specs.RowEdits.{RowsMay, RowsMayAll, rows_edited, all_
 use dh_checks::CheckedPage;
 use dh_paths::{Bytes, HostName, Lang, Slug, Text, Token};
 use dh_plans::{Edit, FirstAnswer};
-use dh_redirects::Redirect;
 use dh_reply::Page;
-use dh_rules::Rule;
 use dh_tables::{HeldRow, LangRow, PageRow, PassRow, Tables, VersionRow};
 use dh_versions::Version;
 use dh_world::Refusal;
@@ -25,7 +23,6 @@ fn add_lang<S: Alter>(
     lang: Lang,
     place: u32,
 ) -> Result<(), Refusal>
-    requires within { IsHonest S.Store tables.old → tables.old.in_transaction ≡ true }
     requires may { IsHonest S.Store tables.old
         → RowsMay host.now (Edit.AddLang lang place) (records S.Store tables.old) }
     ensures makes { Makes S.Store tables.old tables.new result
@@ -45,7 +42,6 @@ fn put_version<S: Alter>(
     host: &HostName,
     version: Version,
 ) -> Result<(), Refusal>
-    requires within { IsHonest S.Store tables.old → tables.old.in_transaction ≡ true }
     ensures makes { Makes S.Store tables.old tables.new result
         (with_version host.now version) }
 {
@@ -62,7 +58,6 @@ fn put_without_pages<S: Alter>(
     host: &HostName,
     version: Version,
 ) -> Result<(), Refusal>
-    requires within { IsHonest S.Store tables.old → tables.old.in_transaction ≡ true }
     ensures makes { Makes S.Store tables.old tables.new result
         (rows_edited host.now (Edit.PutWithoutPages version)) }
 {
@@ -76,7 +71,6 @@ fn remove_granted<S: Alter>(
     host: &HostName,
     slug: &Slug,
 ) -> Result<(), Refusal>
-    requires within { IsHonest S.Store tables.old → tables.old.in_transaction ≡ true }
     ensures makes { Makes S.Store tables.old tables.new result
         (λ l. without_version host.now slug.now (without_grants_on host.now slug.now l)) }
 {
@@ -90,7 +84,6 @@ fn remove_filled<S: Alter>(
     host: &HostName,
     slug: &Slug,
 ) -> Result<(), Refusal>
-    requires within { IsHonest S.Store tables.old → tables.old.in_transaction ≡ true }
     ensures makes { Makes S.Store tables.old tables.new result
         (λ l. without_version host.now slug.now (without_grants_on host.now slug.now
         (without_pages host.now slug.now l))) }
@@ -134,7 +127,6 @@ fn put_page<S: Alter>(
     lang: Lang,
     page: CheckedPage<'_>,
 ) -> Result<(), Refusal>
-    requires within { IsHonest S.Store tables.old → tables.old.in_transaction ≡ true }
     ensures makes { Makes S.Store tables.old tables.new result
         (rows_edited host.now (Edit.PutPage slug lang page.entry)) }
 {
@@ -155,7 +147,6 @@ fn remove_pages<S: Alter>(
     slug: &Slug,
     lang: &Lang,
 ) -> Result<(), Refusal>
-    requires within { IsHonest S.Store tables.old → tables.old.in_transaction ≡ true }
     ensures makes { Makes S.Store tables.old tables.new result
         (rows_edited host.now (Edit.RemovePages slug.now lang.now)) }
 {
@@ -175,39 +166,12 @@ fn set_defaults<S: Alter>(
     Ok(tables.set_picks(host, names)?)
 }
 
-fn set_rules<S: Alter>(
-    tables: &mut Tables<S>,
-    alloc: Global,
-    host: &HostName,
-    rules: &[Rule],
-) -> Result<(), Refusal>
-    requires within { IsHonest S.Store tables.old → tables.old.in_transaction ≡ true }
-    ensures makes { Makes S.Store tables.old tables.new result
-        (rows_edited host.now (Edit.SetRules rules.now)) }
-{
-    Ok(tables.set_rules(alloc, host, rules)?)
-}
-
-fn set_redirects<S: Alter>(
-    tables: &mut Tables<S>,
-    alloc: Global,
-    host: &HostName,
-    redirects: &[Redirect],
-) -> Result<(), Refusal>
-    requires within { IsHonest S.Store tables.old → tables.old.in_transaction ≡ true }
-    ensures makes { Makes S.Store tables.old tables.new result
-        (rows_edited host.now (Edit.SetRedirects redirects.now)) }
-{
-    Ok(tables.set_redirects(alloc, host, redirects)?)
-}
-
 fn add_pass<S: Alter>(
     tables: &mut Tables<S>,
     alloc: Global,
     host: &HostName,
     pass: Token,
 ) -> Result<(), Refusal>
-    requires within { IsHonest S.Store tables.old → tables.old.in_transaction ≡ true }
     requires may { IsHonest S.Store tables.old
         → RowsMay host.now (Edit.AddPass pass) (records S.Store tables.old) }
     ensures makes { Makes S.Store tables.old tables.new result
@@ -225,7 +189,6 @@ fn remove_pass<S: Alter>(
     host: &HostName,
     pass: &Token,
 ) -> Result<(), Refusal>
-    requires within { IsHonest S.Store tables.old → tables.old.in_transaction ≡ true }
     ensures makes { Makes S.Store tables.old tables.new result
         (rows_edited host.now (Edit.RemovePass pass.now)) }
 {
@@ -240,7 +203,6 @@ fn grant<S: Alter>(
     pass: Token,
     slug: Slug,
 ) -> Result<(), Refusal>
-    requires within { IsHonest S.Store tables.old → tables.old.in_transaction ≡ true }
     ensures makes { Makes S.Store tables.old tables.new result
         (rows_edited host.now (Edit.Grant pass slug)) }
 {
@@ -258,7 +220,6 @@ fn revoke<S: Alter>(
     pass: &Token,
     slug: &Slug,
 ) -> Result<(), Refusal>
-    requires within { IsHonest S.Store tables.old → tables.old.in_transaction ≡ true }
     ensures makes { Makes S.Store tables.old tables.new result
         (rows_edited host.now (Edit.Revoke pass.now slug.now)) }
 {
@@ -271,7 +232,6 @@ fn put_answer<S: Alter>(
     host: &HostName,
     first: FirstAnswer,
 ) -> Result<(), Refusal>
-    requires within { IsHonest S.Store tables.old → tables.old.in_transaction ≡ true }
     requires may { IsHonest S.Store tables.old
         → RowsMay host.now (Edit.PutAnswer first) (records S.Store tables.old) }
     ensures makes { Makes S.Store tables.old tables.new result
@@ -308,8 +268,10 @@ fn make_edit<S: Alter>(
         Edit::PutPage { slug, lang, page } => put_page(tables, alloc, host, slug, lang, page),
         Edit::RemovePages { slug, lang } => remove_pages(tables, host, &slug, &lang),
         Edit::SetDefaults(names) => set_defaults(tables, host, names.as_slice()),
-        Edit::SetRules(rules) => set_rules(tables, alloc, host, rules.as_slice()),
-        Edit::SetRedirects(redirects) => set_redirects(tables, alloc, host, redirects.as_slice()),
+        Edit::SetRules(rules) => Ok(tables.set_rules(alloc, host, rules.as_slice())?),
+        Edit::SetRedirects(redirects) => {
+            Ok(tables.set_redirects(alloc, host, redirects.as_slice())?)
+        }
         Edit::AddPass(pass) => add_pass(tables, alloc, host, pass),
         Edit::RemovePass(pass) => remove_pass(tables, host, &pass),
         Edit::Grant { pass, slug } => grant(tables, alloc, host, pass, slug),

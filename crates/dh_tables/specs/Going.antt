@@ -3,7 +3,7 @@ use Rattle.std.specs.Prelude.{◌≡◌, ◌⊎◌, false, Result, Ok, Err, OnOk
 use Rattle.sqlite_trees.specs.declared.store.Store.{Ghosts}
 use Rattle.sqlite.specs.Held.{Held, state}
 use Rattle.sqlite.specs.State.{HasCleanDisk}
-use Rattle.dh_rows.specs.Calls.{IsHonest, Goes, seen, committed}
+use Rattle.dh_rows.specs.Calls.{IsHonest, Goes, GoesWithin, seen, committed}
 use Rattle.dh_records.specs.Lists.{Lists}
 use Rattle.dh_schema.specs.Tables.{lists_of}
 use Rattle.dh_world.specs.Checks.{IsFault}
@@ -42,9 +42,10 @@ module _ {S : Type 0} (g : Ghosts S) where
       -- a refusal is a fault of the store, or out of memory
       pub err : IfErr result IsFault
 
-    -- What edits within a transaction leave, whatever they answer.
+    -- What edits leave, whatever they answer.
     pub record Makes (change : Lists → Lists) : Type 0 where
-      pub goes : Goes g old new
+      -- within a transaction nothing is committed, and a crash leaves nothing more
+      pub goes : GoesWithin g old new
       -- those that were made changed the records so
       pub sees : OnOk result (Sees old new (change (records old)))
       pub err : IfErr result IsFault

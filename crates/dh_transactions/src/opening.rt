@@ -1,8 +1,8 @@
 //! Making a project where the host has none.
-ghost use Rattle.std.specs.Prelude.{◌≡◌, true, false, None, IfOk, OnOk};
+ghost use Rattle.std.specs.Prelude.{◌≡◌, false, None, IfOk, OnOk};
 ghost use Rattle.std.specs.FinMap.{get};
 ghost use Rattle.dh_checks.specs.Commands.{command_of};
-ghost use Rattle.dh_rows.specs.Calls.{IsHonest, Goes};
+ghost use Rattle.dh_rows.specs.Calls.{IsHonest, GoesWithin};
 ghost use Rattle.dh_rows.specs.Keyed.{IsFreeKey};
 ghost use Rattle.dh_records.specs.Codings as coding;
 ghost use Rattle.dh_records.specs.Lists.{world_of};
@@ -51,7 +51,6 @@ fn rows_of(
 }
 
 fn add_row<S: Alter>(tables: &mut Tables<S>, row: &ProjectRow) -> Result<(), Refusal>
-    requires within { IsHonest S.Store tables.old → tables.old.in_transaction ≡ true }
     requires free { IsHonest S.Store tables.old
         → IsFreeKey coding.projects.key row.now (records S.Store tables.old).projects }
     ensures makes { Makes S.Store tables.old tables.new result
@@ -61,7 +60,6 @@ fn add_row<S: Alter>(tables: &mut Tables<S>, row: &ProjectRow) -> Result<(), Ref
 }
 
 fn add_main<S: Alter>(tables: &mut Tables<S>, lang: &LangRow) -> Result<(), Refusal>
-    requires within { IsHonest S.Store tables.old → tables.old.in_transaction ≡ true }
     requires free { IsHonest S.Store tables.old
         → IsFreeKey coding.langs.key lang.now (records S.Store tables.old).langs }
     requires new { IsHonest S.Store tables.old
@@ -79,7 +77,6 @@ fn add_project<S: Alter>(
     host: &HostName,
     project: NewProject,
 ) -> Result<(), Refusal>
-    requires within { IsHonest S.Store tables.old → tables.old.in_transaction ≡ true }
     requires sound { IsHonest S.Store tables.old → AreSound (records S.Store tables.old) }
     requires none { IsHonest S.Store tables.old
         → get (world_of (records S.Store tables.old)) host.now ≡ None }
@@ -98,11 +95,10 @@ pub fn open_project<S: Alter>(
     host: &HostName,
     change: CheckedChange<'_>,
 ) -> Result<Answer, Refusal>
-    requires within { IsHonest S.Store tables.old → tables.old.in_transaction ≡ true }
     requires sound { IsHonest S.Store tables.old → AreSound (records S.Store tables.old) }
     requires none { IsHonest S.Store tables.old
         → get (world_of (records S.Store tables.old)) host.now ≡ None }
-    ensures goes { Goes S.Store tables.old tables.new }
+    ensures goes { GoesWithin S.Store tables.old tables.new }
     ensures live { OnOk result (Stays S.Store tables.old tables.new) }
     ensures turns { IsHonest S.Store tables.new
         → Turns (records S.Store tables.old) (records S.Store tables.new)

@@ -1,6 +1,6 @@
 use Rattle.std.proofs.Common.{◌≡◌}
 use Rattle.std.specs.Vec.Iter.{into_iter_items}
-use Rattle.dh_rows.specs.Calls.{IsHonest, Goes}
+use Rattle.dh_rows.specs.Calls.{IsHonest, GoesWithin}
 use Rattle.dh_edits.proofs.edits.make_edits.Given as goal
 use Rattle.dh_tables.specs.Going.{Sees, records}
 use Rattle.dh_edits.specs.RowEdits.{RowsMayAll, all_rows_edited}
@@ -9,7 +9,7 @@ abbrev pub invariant-loop-edit : goal.invariant-loop-edit
 invariant-loop-edit g l = record {
   can : (goal.iterator-loop-edit g).can_next l.edit-iterator;
   finite : (goal.iterator-loop-edit g).is_finite l.edit-iterator;
-  goes : Goes g.S.Store l.initial.tables l.tables;
+  goes : GoesWithin g.S.Store l.initial.tables l.tables;
   sees : Sees g.S.Store l.initial.tables l.tables (records g.S.Store l.tables);
   may : IsHonest g.S.Store l.tables → RowsMayAll l.host (into_iter_items l.edit-iterator) (records g.S.Store l.tables);
   is : IsHonest g.S.Store l.tables → all_rows_edited l.host (into_iter_items l.edit-iterator) (records g.S.Store l.tables) ≡ all_rows_edited l.host l.fn.edits.items (records g.S.Store l.initial.tables);

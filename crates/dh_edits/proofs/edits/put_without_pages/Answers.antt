@@ -1,4 +1,3 @@
-use Rattle.dh_schema.specs.InTurn.{goes_within}
 use Rattle.dh_tables.proofs.Together.{makes_on}
 use Rattle.dh_edits.proofs.edits.put_without_pages.Goals as goal
 use Rattle.dh_edits.specs.RowEdits.{with_version, without_pages}
@@ -9,6 +8,5 @@ returns g c = record {
       let it = c.in_ok-drop_pages.ensures.writes in
       makes_on g.S.Store c.args.tables.now c.drop_pages.new.self c.put_version.new.tables
       (without_pages c.args.host.now c.args.version.slug) (with_version c.args.host.now c.args.version)
-      c.put_version.result (goes_within it.goes c.requires.within) it.sees.live it.sees.now_is it.sees.mode
-      c.put_version.ensures.makes;
+      c.put_version.result it.goes it.sees.live it.sees.now_is it.sees.mode c.put_version.ensures.makes;
 }

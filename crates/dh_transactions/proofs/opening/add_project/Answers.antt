@@ -11,12 +11,14 @@ use Rattle.dh_tables.proofs.Together.{makes_on}
 use Rattle.dh_tables.specs.Going.{Makes, records}
 use Rattle.dh_transactions.specs.Opening.{project_row, main_lang, with_lang, with_row}
 
-pub add_row-requires-clause-free : goal.add_row-requires-clause-free
-add_row-requires-clause-free g c honest =
-    let lists : Lists = records g.S.Store c.args.tables.now in
-    let P : ProjectRow → Type 0 = λ r. IsFreeKey coding.projects.key r lists.projects in
-    subst P (sym c.in_ok-row.ensures.0)
-    (row_is_free c.args.host.now lists (c.requires.none honest) (project_row c.args.host.now c.args.project) refl)
+pub add_row-requires : goal.add_row-requires
+add_row-requires g c = record {
+  free = λ honest.
+      let lists : Lists = records g.S.Store c.args.tables.now in
+      let P : ProjectRow → Type 0 = λ r. IsFreeKey coding.projects.key r lists.projects in
+      subst P (sym c.in_ok-row.ensures.0)
+      (row_is_free c.args.host.now lists (c.requires.none honest) (project_row c.args.host.now c.args.project) refl);
+}
 
 pub add_main-requires-clause-free : goal.add_main-requires-clause-free
 add_main-requires-clause-free g c honest =
