@@ -1,5 +1,5 @@
 -- What reading a script takes, and the fault that it hands on.
-use Rattle.std.proofs.Common.{◌≡◌, ℕ, ◌≤◌, Bool, false, List, length, Option, Result, Err, IsErrAnd, arith, ap, sym, ◌∙◌}
+use Rattle.std.proofs.Common.{◌≡◌, ℕ, ◌≤◌, Bool, List, length, Option, Result, Err, IsErrAnd, arith, ap, sym, ◌∙◌}
 use Rattle.std.proofs.lemmas.Result.{err_from_is_err_and}
 use Rattle.std.specs.Io.KnownBytes.{Consumes}
 use Rattle.dh_ports.specs.declared.stop.Stop.{Stop}
@@ -21,7 +21,7 @@ stop_took left now next before stop taken within lost =
     (all.0, all.1, omega (arith, all.2, most_lost-little stop))
 
 -- a fault that is handed on
-pub failed_on : {T : Type 0} (b : Bool) (e : ScriptFault) (r : Result T ScriptFault) → b ≡ false → is_write e ≡ false → IsErrAnd r (λ x. x ≡ e) → b ≡ writer_failed r
-failed_on b e r fine reading is =
+pub failed_on : {T : Type 0} (b : Bool) (e : ScriptFault) (r : Result T ScriptFault) → b ≡ is_write e → IsErrAnd r (λ x. x ≡ e) → b ≡ writer_failed r
+failed_on b e r same is =
     let at = err_from_is_err_and r is in
-    fine ∙ sym (ap (λ (x : Result _ ScriptFault). writer_failed x) (at.1 ∙ ap Err at.2) ∙ reading)
+    same ∙ sym (ap (λ (x : Result _ ScriptFault). writer_failed x) (at.1 ∙ ap Err at.2))

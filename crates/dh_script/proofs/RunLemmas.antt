@@ -1,5 +1,5 @@
 -- Runs of lines, one after another.
-use Rattle.std.proofs.Common.{◌≡◌, IfSome, Some, None, is_err, is_ok, Bool, true, false, if◌then◌else◌, length-append, ℕ, ◌+◌, ◌<◌, ◌≤◌, List, [], ◌∷◌, ◌++◌, map, length, take, drop, get_or, refl, sym, ap, subst, ◌∙◌, inl, inr, append_assoc, Option, Result, Ok, Err, OnErr, string_bytes, arith, filter}
+use Rattle.std.proofs.Common.{◌≡◌, IfSome, Some, None, is_err, is_ok, true, length-append, ℕ, ◌+◌, ◌<◌, ◌≤◌, List, [], ◌∷◌, ◌++◌, map, length, take, drop, get_or, refl, sym, ap, subst, ◌∙◌, inl, inr, append_assoc, Option, Result, Ok, Err, OnOk, IfErr, OnErr, string_bytes, arith, filter}
 use Rattle.std.proofs.lemmas.List.{append-nil, take-append-drop, take_more, map-append, take_all, length-map}
 use Rattle.std.proofs.lemmas.List.Elements.{filter-append}
 use Rattle.std.proofs.KnownBytes.{Appends-nil, Appends-trans}
@@ -9,7 +9,8 @@ use Rattle.dh_world.specs.World.{Text, World}
 use Rattle.dh_lines.specs.Lines.{line_in}
 use Rattle.dh_ports.specs.Ports.{PutsFirst}
 use Rattle.dh_script.specs.Script.{Does, MayDo}
-use Rattle.dh_script.specs.Running.{Runs, RunsInto, RunsSome, StopsAt, Ran, RunsBut, RunsScript, lines_in, seen, worded, words_in, is_filled}
+use Rattle.dh_script.specs.declared.script.RunFault.{RunFault}
+use Rattle.dh_script.specs.Running.{Runs, RunsInto, RunsSome, StopsAt, Ran, RunsBut, RanBut, RunsScript, lines_in, seen, worded, words_in, is_filled}
 
 -- two runs, one after the other, are a run
 pub runs_on : (before : World) (xs : List (List Text)) (between : World) (text : Text) (ys : List (List Text)) (after : World) (rest : Text)
@@ -27,10 +28,6 @@ runs_on before (x ∷ xs) between text ys after rest first second =
 pub into_none : (w : World) (held : Option Text) → RunsInto w [] w held held
 into_none w held = record { text = []; ran = (refl, refl); written = Appends-nil held }
 
--- one line, whose text and LF were written
-pub into_one : (before : World) (words : List Text) (after : World) (line : Text) (held now : Option Text) → Does before (line_in words) after line → Appends held now (line ++ 10 ∷ []) → RunsInto before (words ∷ []) after held now
-into_one before words after line held now does wrote = record { text = line ++ 10 ∷ []; ran = (after, line, [], does, (refl, refl), refl); written = wrote }
-
 pub into_on : (a : World) (xs : List (List Text)) (b : World) (ys : List (List Text)) (c : World) (h i j : Option Text) → RunsInto a xs b h i → RunsInto b ys c i j → RunsInto a (xs ++ ys) c h j
 into_on a xs b ys c h i j first second = record {
   text = first.text ++ second.text;
@@ -45,58 +42,43 @@ stops_none w (x ∷ xs) = inl (refl, refl)
 longer : (line : Text) → 0 < length (line ++ 10 ∷ [])
 longer line = omega (arith, length-append line (10 ∷ []))
 
--- nothing was done of these lines
-pub some_none : (w : World) (lines : List (List Text)) (held : Option Text) → RunsSome w lines w held held
-some_none w lines held = record {
+-- of these lines none ran to its end
+some_first : (before : World) (lines : List (List Text)) (after : World) (front : Text) (held now : Option Text) → StopsAt before lines after front → Appends held now front → RunsSome before lines after held now
+some_first before lines after front held now stops wrote = record {
   done = [];
   more = lines;
-  between = w;
+  between = before;
   text = [];
-  front = [];
+  front = front;
   parts = refl;
   ran = (refl, refl);
-  stops = stops_none w lines;
-  written = Appends-nil held;
+  stops = stops;
+  written = wrote;
 }
+
+-- nothing was done of these lines
+pub some_none : (w : World) (lines : List (List Text)) (held : Option Text) → RunsSome w lines w held held
+some_none w lines held = some_first w lines w [] held held (stops_none w lines) (Appends-nil held)
+
+stops_lost : (before : World) (words : List Text) (after : World) → MayDo before (line_in words) after → StopsAt before (words ∷ []) after []
+stops_lost before words after (inl same) = inl (same, refl)
+stops_lost before words after (inr did) = inr (did.0, 0, did.1, longer did.0, refl)
 
 -- of one line nothing was written, done or not
 pub some_lost : (before : World) (words : List Text) (after : World) (held : Option Text) → MayDo before (line_in words) after → RunsSome before (words ∷ []) after held held
-some_lost before words after held (inl same) = record {
-  done = [];
-  more = words ∷ [];
-  between = before;
-  text = [];
-  front = [];
-  parts = refl;
-  ran = (refl, refl);
-  stops = inl (same, refl);
-  written = Appends-nil held;
-}
-some_lost before words after held (inr did) = record {
-  done = [];
-  more = words ∷ [];
-  between = before;
-  text = [];
-  front = [];
-  parts = refl;
-  ran = (refl, refl);
-  stops = inr (did.0, 0, did.1, longer did.0, refl);
-  written = Appends-nil held;
-}
+some_lost before words after held may = some_first before (words ∷ []) after [] held held (stops_lost before words after may) (Appends-nil held)
 
--- a front of what one line prints was written
-pub some_front : (before : World) (words : List Text) (after : World) (line : Text) (n : ℕ) (held now : Option Text) → Does before (line_in words) after line → PutsFirst held now (line ++ 10 ∷ []) n → RunsSome before (words ∷ []) after held now
-some_front before words after line n held now does put = record {
-  done = [];
-  more = words ∷ [];
-  between = before;
-  text = [];
-  front = take n (line ++ 10 ∷ []);
-  parts = refl;
-  ran = (refl, refl);
-  stops = inr (line, n, does, put.0, refl);
-  written = put.1;
-}
+-- one line was done: it was written, or a front of what it prints
+pub line_put : {T E : Type 0} (before : World) (words : List Text) (after : World) (line bytes : Text) (held now : Option Text) (wrote : Result T ℕ) (r : Result T E)
+    → Does before (line_in words) after line → bytes ≡ line ++ 10 ∷ [] → OnOk wrote (Appends held now bytes) → IfErr wrote (PutsFirst held now bytes)
+    → is_ok r ≡ is_ok wrote → Ran before (words ∷ []) after held now r
+line_put before words after line bytes held now (Ok value) (Ok same) does is ok err told =
+    record { text = bytes; ran = (after, line, [], does, (refl, refl), is); written = ok }
+line_put before words after line bytes held now (Err n) (Err fault) does is ok err told =
+    some_first before (words ∷ []) after (take n bytes) held now
+    (inr (line, n, does, subst (λ (bs : Text). n < length bs) is err.0, ap (take n) is)) err.1
+line_put before words after line bytes held now (Ok value) (Err fault) does is ok err told = let no : ⊥ = cc in absurd no
+line_put before words after line bytes held now (Err n) (Ok value) does is ok err told = let no : ⊥ = cc in absurd no
 
 -- what ran before it
 pub some_on : (a : World) (xs : List (List Text)) (b : World) (ys : List (List Text)) (c : World) (h i j : Option Text) → RunsInto a xs b h i → RunsSome b ys c i j → RunsSome a (xs ++ ys) c h j
@@ -140,14 +122,13 @@ pub ran_err : {T E : Type 0} (a : World) (xs : List (List Text)) (b : World) (h 
 ran_err a xs b h i (Ok value) is some = let no : ⊥ = cc in absurd no
 ran_err a xs b h i (Err fault) is some = some
 
+pub but_err : {T : Type 0} (a : World) (xs : List (List Text)) (b : World) (h i : Option Text) (waiting : List (List Text)) (r : Result T RunFault) → is_err r ≡ true → RunsSome a xs b h i → RanBut a xs b h i waiting r
+but_err a xs b h i waiting (Ok value) is some = let no : ⊥ = cc in absurd no
+but_err a xs b h i waiting (Err fault) is some = some
+
 pub on_err : {T E P : Type 0} (r : Result T E) → P → OnErr r P
 on_err (Ok value) p = tt
 on_err (Err fault) p = p
-
--- the bytes that are shown, once one more was pushed
-pub pushed : {T E : Type 0} (r : Result T E) (b : Bool) (old new shown last : Text) → b ≡ is_err r → b ≡ false → new ≡ (if is_ok r then old ++ last else old) → last ≡ 10 ∷ [] → shown ≡ new → shown ≡ old ++ 10 ∷ []
-pushed (Ok value) b old new shown last is not grown byte same = same ∙ grown ∙ ap (λ t. old ++ t) byte
-pushed (Err fault) b old new shown last is not grown byte same = cc
 
 -- one line more of a list
 pub seen_more : {Y Z : Type 0} (lines : List (Vec (String Y) Z)) (i : ℕ) (words : Vec (String Y) Z) → i < length lines → seen (take (i + 1) lines) ≡ seen (take i lines) ++ map string_bytes (get_or lines i words).items ∷ []

@@ -1,5 +1,5 @@
 -- Lines of a script.
-use Rattle.std.proofs.Common.{◌≡◌, inl, inr, Option, Some, None, Result, Ok, Err, IfOk, OnErr}
+use Rattle.std.proofs.Common.{◌≡◌, inl, inr, Option, Some, None, Result, IfOk}
 use Rattle.std.proofs.Common.{option_and_then, Bool, sym, subst}
 use Rattle.std.proofs.lemmas.Result.{IfOk-weaker}
 use Rattle.dh_paths.specs.declared.target.Target.{Target}
@@ -24,9 +24,7 @@ got text_in refused_in w named host shown pass t reply outcome result value same
     IfOk-weaker result _ _ (λ p is. (reply, by_pass, subst (λ (o : Outcome). Tells o (text_in p) (refused_in p)) same is)) told
 
 -- a line that names no store may do what its order may
-pub may_line : {T E : Type 0} (before after : World) (line : Line) (r : Result T E) → line.store ≡ None
-    → OnErr r (MayDoOrder before line.order after) → OnErr r (MayDo before (Some line) after)
-may_line before after line (Ok value) none may = tt
-may_line before after line (Err e) none (inl same) = inl same
-may_line before after line (Err e) none (inr did) =
+pub may_line : (before after : World) (line : Line) → line.store ≡ None → MayDoOrder before line.order after → MayDo before (Some line) after
+may_line before after line none (inl same) = inl same
+may_line before after line none (inr did) =
     inr (did.0, subst (λ s. DoesOver before s line.order after did.0) (sym none) did.1)

@@ -8,6 +8,20 @@ use Rattle.std.specs.Io.KnownBytes.{Appends}
 use Rattle.dh_world.specs.World.{Text, World}
 use Rattle.dh_lines.specs.Lines.{line_in}
 use Rattle.dh_script.specs.Script.{Does}
+use Rattle.dh_script.specs.declared.reading.ScriptFault.{ScriptFault}
+use Rattle.dh_script.specs.declared.reading.ScriptFault.TheVariants as script
+use Rattle.dh_script.specs.declared.script.RunFault.{RunFault}
+use Rattle.dh_script.specs.declared.script.RunFault.TheVariants.{Memory, Write}
+
+-- the fault of a script by why its lines did not all run
+abbrev pub fault_of_run : RunFault → ScriptFault
+fault_of_run Memory = script.Memory
+fault_of_run Write = script.Write
+
+-- whether the answer is that the writer failed
+abbrev pub stopped_by_writer : {T : Type 0} → Result T RunFault → Bool
+stopped_by_writer (Err Write) = true
+stopped_by_writer _ = false
 
 -- whether a byte is a space or a tab
 abbrev pub is_gap : ℕ → Bool
@@ -83,7 +97,7 @@ pub record RunsBut (before : World) (lines : List (List Text)) (after : World) (
   pub parts : lines ≡ done ++ waiting
   pub into : RunsInto before done after held now
 
-abbrev pub RanBut : {T E : Type 0} → World → List (List Text) → World → Option Text → Option Text → List (List Text) → Result T E → Type 0
+abbrev pub RanBut : {T : Type 0} → World → List (List Text) → World → Option Text → Option Text → List (List Text) → Result T RunFault → Type 0
 RanBut before lines after held now waiting (Ok value) = RunsBut before lines after held now waiting
 RanBut before lines after held now waiting (Err fault) = RunsSome before lines after held now
 

@@ -4,8 +4,7 @@ ghost use Rattle.std.specs.Prelude.{◌≡◌, true, Some, string_bytes, option_
 ghost use Rattle.std.specs.Option.{is_none};
 ghost use Rattle.dh_paths.specs.Targets.{target_of};
 ghost use Rattle.dh_desk.specs.Desk.{Moves};
-ghost use Rattle.dh_lines.specs.declared.lines.Order.{Order};
-ghost use Rattle.dh_script.specs.Script.{outcome_of, outcome_of_read, Tells, Acts, GetsAt};
+ghost use Rattle.dh_script.specs.Script.{outcome_of, outcome_of_read, Tells, GetsAt};
 ghost use Rattle.dh_script.specs.Script.{Performs, MayDoOrder};
 
 use crate::outcomes::{is_refusal, outcome_text};
@@ -13,7 +12,7 @@ use dh_desk::Desk;
 use dh_lines::Order;
 use dh_paths::{Target, Text, TextFault};
 use dh_reply::{Fault, Read, Reply};
-use dh_world::{Answer, Command, Outcome, Refusal};
+use dh_world::{Answer, Outcome, Refusal};
 use sqlite::Alter;
 use std::alloc::{AllocError, Global};
 
@@ -62,20 +61,6 @@ fn refusal(alloc: Global, text: &str) -> Result<Printed, AllocError>
         text,
         refused: true,
     })
-}
-
-fn do_command<S: Alter>(
-    alloc: Global,
-    desk: &mut Desk<S>,
-    command: &Command,
-) -> Result<Printed, AllocError>
-    ensures acts { Moves S.Store desk.old desk.new (λ before after. IfOk result
-        (λ p. Acts before command.now after (string_bytes p.text) p.refused)) }
-    ensures acted { Moves S.Store desk.old desk.new
-        (λ before after. MayDoOrder before (Order.Act command.now) after) }
-{
-    let outcome = commanded(desk.apply(alloc, command));
-    told(alloc, &outcome)
 }
 
 fn pass_text(pass: &Option<Text>) -> Option<&str>
@@ -152,7 +137,7 @@ pub fn perform<S: Alter>(
         (λ before after. OnErr result (MayDoOrder before order.now after)) }
 {
     match order {
-        Order::Act(command) => do_command(alloc, desk, command),
+        Order::Act(command) => told(alloc, &commanded(desk.apply(alloc, command))),
         Order::Get { host, target, pass } => do_get(alloc, desk, host, target, pass),
         Order::Init { .. } => refusal(alloc, "usage"),
         Order::Script => refusal(alloc, "usage"),

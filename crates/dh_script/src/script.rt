@@ -9,15 +9,14 @@ ghost use Rattle.dh_lines.specs.App.{docs_app};
 ghost use Rattle.dh_lines.specs.Lines.{line_in};
 ghost use Rattle.dh_script.specs.Reading.{reader_failed, writer_failed, TookAtMost, IsCause};
 ghost use Rattle.dh_script.specs.Reading.{IsScript};
-ghost use Rattle.dh_script.specs.Script.{DoesOrder, Does, MayDo, MayDoOrder};
+ghost use Rattle.dh_script.specs.Script.{Does, MayDo, is_unread};
 ghost use Rattle.dh_script.specs.Running.{Ran, RanBut, RunsScript, seen, words_in, worded};
-ghost use Rattle.dh_script.specs.Running.{lines_in};
-ghost use Rattle.dh_script.specs.Script.{is_unread};
+ghost use Rattle.dh_script.specs.Running.{lines_in, fault_of_run, stopped_by_writer};
 
 use crate::orders::perform;
 use crate::reading::{ScriptFault, read_script};
 use dh_desk::Desk;
-use dh_lines::{Line, LineFault, Order, docs_command, line_by};
+use dh_lines::{Line, LineFault, docs_command, line_by};
 use dh_ports::{Sink, Source, put_all};
 use sqlite::Alter;
 use std::alloc::{AllocError, Global};
@@ -25,19 +24,35 @@ use std::alloc::{AllocError, Global};
 /// The most lines that one program of words reads, since their words live as long as it.
 const BATCH: usize = 1024;
 
-/// What the line of an order prints.
-fn order_text<S: Alter>(
-    alloc: Global,
-    desk: &mut Desk<S>,
-    order: &Order,
-) -> Result<String, AllocError>
-    ensures does { Moves S.Store desk.old desk.new (λ before after. IfOk result
-        (λ text. DoesOrder before order.now after (string_bytes text))) }
-    ensures may { Moves S.Store desk.old desk.new
-        (λ before after. OnErr result (MayDoOrder before order.now after)) }
-{
-    let printed = perform(alloc, desk, order)?;
-    Ok(printed.text)
+/// Why the lines of a script did not all run. They were read before the first of them ran, so
+/// nothing else can be the cause.
+#[derive(Clone, Copy)]
+enum RunFault {
+    /// Out of memory in a line.
+    Memory,
+    /// The writer failed or took no byte.
+    Write,
+}
+
+impl From<AllocError> for RunFault {
+    ghost use Rattle.dh_script.specs.declared.script.RunFault.TheVariants.{Memory};
+
+    ghost from_gives = { λ _ fault. fault ≡ Memory };
+
+    fn from(_refused: AllocError) -> RunFault {
+        RunFault::Memory
+    }
+}
+
+impl From<RunFault> for ScriptFault {
+    ghost from_gives = { λ run fault. fault ≡ fault_of_run run };
+
+    fn from(run: RunFault) -> ScriptFault {
+        match run {
+            RunFault::Memory => ScriptFault::Memory,
+            RunFault::Write => ScriptFault::Write,
+        }
+    }
 }
 
 /// Does what a line orders that names no store of its own.
@@ -49,7 +64,7 @@ fn own_text<S: Alter>(alloc: Global, desk: &mut Desk<S>, line: &Line) -> Result<
 {
     match &line.store {
         Some(_) => String::from_str(alloc, "usage"),
-        None => order_text(alloc, desk, &line.order),
+        None => Ok(perform(alloc, desk, &line.order)?.text),
     }
 }
 
@@ -81,27 +96,18 @@ fn run_words<'a, S: Alter, W: Sink>(
     program: &mut clap::Command<'a>,
     words: &'a [String],
     sink: &mut W,
-) -> Result<(), ScriptFault>
+) -> Result<(), RunFault>
     requires writes { W.broken sink.old ≡ false }
     requires stands { StandsFor docs_app program.old }
     ensures stays { StandsFor docs_app program.new }
-    ensures broken { W.broken sink.new ≡ writer_failed result }
-    ensures read { is_unread result ≡ false }
+    ensures broken { W.broken sink.new ≡ stopped_by_writer result }
     ensures ran { Moves S.Store desk.old desk.new
         (λ before after. Ran before (map string_bytes words.now ∷ []) after
         (W.held sink.old) (W.held sink.new) result) }
 {
-    let mut text = match line_text(alloc, desk, program, words) {
-        Ok(text) => text,
-        Err(_) => return Err(ScriptFault::Memory),
-    };
-    if text.push('\n').is_err() {
-        return Err(ScriptFault::Memory);
-    }
-    match put_all(sink, text.as_bytes()) {
-        Ok(()) => Ok(()),
-        Err(_) => Err(ScriptFault::Write),
-    }
+    let mut text = line_text(alloc, desk, program, words)?;
+    text.push('\n')?;
+    put_all(sink, text.as_bytes()).map_err(|_| RunFault::Write)
 }
 
 /// Runs lines by one program of words.
@@ -110,18 +116,14 @@ fn run_batch<'a, S: Alter, W: Sink>(
     desk: &mut Desk<S>,
     lines: &'a [Vec<String>],
     sink: &mut W,
-) -> Result<(), ScriptFault>
+) -> Result<(), RunFault>
     requires { W.broken sink.old ≡ false }
-    ensures broken { W.broken sink.new ≡ writer_failed result }
-    ensures read { is_unread result ≡ false }
+    ensures broken { W.broken sink.new ≡ stopped_by_writer result }
     ensures ran { Moves S.Store desk.old desk.new
         (λ before after. Ran before (seen lines.now) after
         (W.held sink.old) (W.held sink.new) result) }
 {
-    let mut program = match docs_command(alloc) {
-        Ok(program) => program,
-        Err(_) => return Err(ScriptFault::Memory),
-    };
+    let mut program = docs_command(alloc)?;
     for words in lines {
         run_words(alloc, desk, &mut program, words.as_slice(), sink)?;
     }
@@ -163,17 +165,14 @@ fn take_line<S: Alter, W: Sink>(
     batch: &mut Vec<Vec<String>>,
     line: &str,
     sink: &mut W,
-) -> Result<(), ScriptFault>
+) -> Result<(), RunFault>
     requires { W.broken sink.old ≡ false }
-    ensures broken { W.broken sink.new ≡ writer_failed result }
-    ensures read { is_unread result ≡ false }
+    ensures broken { W.broken sink.new ≡ stopped_by_writer result }
     ensures ran { Moves S.Store desk.old desk.new
         (λ before after. RanBut before (seen batch.old.items ++ worded (line.now ∷ [])) after
         (W.held sink.old) (W.held sink.new) (seen batch.new.items) result) }
 {
-    if add_line(alloc, batch, line).is_err() {
-        return Err(ScriptFault::Memory);
-    }
+    add_line(alloc, batch, line)?;
     if batch.len() < BATCH {
         return Ok(());
     }
@@ -188,10 +187,9 @@ fn run_lines<S: Alter, W: Sink>(
     desk: &mut Desk<S>,
     text: &str,
     sink: &mut W,
-) -> Result<(), ScriptFault>
+) -> Result<(), RunFault>
     requires { W.broken sink.old ≡ false }
-    ensures broken { W.broken sink.new ≡ writer_failed result }
-    ensures read { is_unread result ≡ false }
+    ensures broken { W.broken sink.new ≡ stopped_by_writer result }
     ensures ran { Moves S.Store desk.old desk.new
         (λ before after. Ran before (lines_in text.now) after
         (W.held sink.old) (W.held sink.new) result) }
@@ -230,7 +228,7 @@ pub fn run_script<S: Alter, R: Source, W: Sink>(
 {
     let bytes = read_script(alloc, source)?;
     match str::from_utf8(bytes.as_slice()) {
-        Ok(text) => run_lines(alloc, desk, text, sink),
+        Ok(text) => Ok(run_lines(alloc, desk, text, sink)?),
         Err(_) => Err(ScriptFault::NotText),
     }
 }

@@ -1,11 +1,17 @@
-use Rattle.std.proofs.Common.{subst, sym}
-use Rattle.dh_desk.proofs.Moving.{Moves-weaker}
+use Rattle.std.proofs.Common.{inr, refl, subst, sym}
+use Rattle.dh_desk.specs.Desk.{world}
 use Rattle.dh_lines.specs.declared.lines.Order.{Order}
-use Rattle.dh_script.specs.Script.{MayDoOrder}
+use Rattle.dh_script.specs.Outcomes.{text_of_outcome, is_refusal}
+use Rattle.dh_script.specs.Script.{outcome_of, MayDoOrder}
 use Rattle.dh_script.proofs.RunLemmas.{on_err}
 use Rattle.dh_script.proofs.orders.perform.Goals as goal
 
 pub returns-in-Act-clause-may : goal.returns-in-Act-clause-may
-returns-in-Act-clause-may g c =
-    Moves-weaker c.do_command.ensures.acted
-    (λ u v may. on_err c.do_command.result (subst (λ (o : Order). MayDoOrder u o v) (sym c.in-Act.is) may))
+returns-in-Act-clause-may g c = record {
+  was = c.apply.ensures.was;
+  moves = λ honest.
+      let outcome = outcome_of c.apply.result in
+      on_err c.told.result
+      (subst (λ (o : Order). MayDoOrder (world g.S.Store c.args.desk.now) o (world g.S.Store c.apply.new.self)) (sym c.in-Act.is)
+      (inr (text_of_outcome outcome, (is_refusal outcome, (c.apply.result, c.apply.ensures.step honest, (refl, refl))))));
+}

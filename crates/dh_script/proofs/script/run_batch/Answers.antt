@@ -2,14 +2,15 @@ use Rattle.dh_desk.proofs.Moving.{Moves-refl, Moves-weaker, Moves-trans}
 use Rattle.dh_script.proofs.RunLemmas.{some_none, ran_err, batch_on, batch_some, batch_ends}
 use Rattle.dh_script.proofs.script.run_batch.Goals as goal
 
+pub returns-in_err-program-clause-ran : goal.returns-in_err-program-clause-ran
+returns-in_err-program-clause-ran g c =
+    Moves-refl (λ w. ran_err w _ w _ _ c.from_residual.result c.from_residual.ensures.0 (some_none w _ _))
+
 pub returns-in_err-run_words-clause-ran : goal.returns-in_err-run_words-clause-ran
 returns-in_err-run_words-clause-ran g c =
     Moves-trans c.loop-words.invariant.ran c.in_err-run_words.ensures.ran
-    (λ u v w ran some. ran_err u _ w _ _ c.from_residual.result c.from_residual.ensures.0
+    (λ u v w ran some. ran_err u _ w _ _ c.from_residual-in_err-run_words.result c.from_residual-in_err-run_words.ensures.0
     (batch_some c.args.lines.now c.loop-words.words-index c.words-item.result c.as_slice.result.now u v w _ _ _ ran some c.as_slice.ensures.value c.words-item.is c.loop-words-test.true))
-
-pub returns-in-Err-clause-ran : goal.returns-in-Err-clause-ran
-returns-in-Err-clause-ran g c = Moves-refl (λ w. some_none w _ _)
 
 pub loop-words-preserved : goal.loop-words-preserved
 loop-words-preserved g c = record {

@@ -1,27 +1,21 @@
-use Rattle.std.proofs.Common.{◌≡◌, ◌∷◌, [], ◌++◌, List, ℕ, inr, subst, string_bytes, arith}
-use Rattle.std.specs.Io.KnownBytes.{Appends}
-use Rattle.dh_ports.specs.Ports.{PutsFirst}
+use Rattle.std.proofs.Common.{◌++◌, ◌∙◌, ap, inr, string_bytes, arith}
 use Rattle.dh_desk.proofs.Moving.{Moves-weaker}
-use Rattle.dh_script.proofs.RunLemmas.{some_lost, some_front, into_one, pushed}
+use Rattle.dh_script.proofs.RunLemmas.{some_lost, line_put, ran_err}
 use Rattle.dh_script.proofs.script.run_words.Goals as goal
 
-pub returns-in-Err-clause-ran : goal.returns-in-Err-clause-ran
-returns-in-Err-clause-ran g c = Moves-weaker c.in-Err.ensures.may (λ u v. some_lost u _ v _)
+pub returns-in_err-text-clause-ran : goal.returns-in_err-text-clause-ran
+returns-in_err-text-clause-ran g c =
+    Moves-weaker c.in_err-text.ensures.may
+    (λ u v may. ran_err u _ v _ _ c.from_residual.result c.from_residual.ensures.0 (some_lost u _ v _ may))
 
-pub returns-then-is_err-clause-ran : goal.returns-then-is_err-clause-ran
-returns-then-is_err-clause-ran g c = Moves-weaker c.in-Ok.ensures.does (λ u v did. some_lost u _ v _ (inr (string_bytes c.in-Ok.text, did)))
-
-pub returns-in-Ok-put_all-clause-ran : goal.returns-in-Ok-put_all-clause-ran
-returns-in-Ok-put_all-clause-ran g c =
-    let bytes : c.as_bytes.result.now ≡ string_bytes c.in-Ok.text ++ 10 ∷ [] =
-    pushed c.push.result c.is_err.result _ _ _ _ c.is_err.ensures.value c.if-is_err.false c.push.ensures.bytes (c.push.ensures.ascii (omega arith)) c.as_bytes.ensures.value in
-    Moves-weaker c.in-Ok.ensures.does
-    (λ u v did. into_one u _ v (string_bytes c.in-Ok.text) _ _ did (subst (Appends (g.W.Sink.held c.args.sink.now) (g.W.Sink.held c.put_all.new.out)) bytes c.in-Ok-put_all.ensures.ok))
+pub returns-in_err-push-clause-ran : goal.returns-in_err-push-clause-ran
+returns-in_err-push-clause-ran g c =
+    Moves-weaker c.in_ok-text.ensures.does
+    (λ u v did. ran_err u _ v _ _ c.from_residual-in_err-push.result c.from_residual-in_err-push.ensures.0 (some_lost u _ v _ (inr (string_bytes c.in_ok-text.text, did))))
 
 pub returns-clause-ran : goal.returns-clause-ran
 returns-clause-ran g c =
-    let bytes : c.as_bytes.result.now ≡ string_bytes c.in-Ok.text ++ 10 ∷ [] =
-    pushed c.push.result c.is_err.result _ _ _ _ c.is_err.ensures.value c.if-is_err.false c.push.ensures.bytes (c.push.ensures.ascii (omega arith)) c.as_bytes.ensures.value in
-    Moves-weaker c.in-Ok.ensures.does
-    (λ u v did. some_front u _ v (string_bytes c.in-Ok.text) c.in-Err-put_all.field-0 _ _ did
-    (subst (λ (bs : List ℕ). PutsFirst (g.W.Sink.held c.args.sink.now) (g.W.Sink.held c.put_all.new.out) bs c.in-Err-put_all.field-0) bytes c.in-Err-put_all.ensures.err))
+    Moves-weaker c.in_ok-text.ensures.does
+    (λ u v did. line_put u _ v (string_bytes c.in_ok-text.text) c.as_bytes.result.now _ _ c.put_all.result c.map_err.result did
+    (c.as_bytes.ensures.value ∙ c.in_ok-push.ensures.bytes ∙ ap (λ t. string_bytes c.in_ok-text.text ++ t) (c.in_ok-push.ensures.ascii (omega arith)))
+    c.put_all.ensures.ok c.put_all.ensures.err c.map_err.ensures.variant)
