@@ -1,9 +1,10 @@
 -- Reading up to the end of a body.
-use Rattle.std.proofs.Common.{◌≡◌, ℕ, ◌+◌, ◌-◌, ◌<◌, ◌≤◌, min, Bool, true, false, cond, leb, List, [], ◌++◌, length, length-append, take, Option, Some, None, Result, IsErrAnd, inl, inr, refl, arith, append_assoc, append-nil, ap, sym, subst, ◌∙◌}
+use Rattle.std.proofs.Common.{◌≡◌, ℕ, ◌+◌, ◌-◌, ◌<◌, ◌≤◌, min, Bool, true, false, cond, leb, List, [], ◌++◌, length, length-append, take, Option, Some, None, Err, inl, inr, refl, arith, append_assoc, append-nil, ap, sym, subst, ◌∙◌}
 use Rattle.std.proofs.lemmas.Bool.{leb-true, leb-false}
 use Rattle.std.proofs.lemmas.List.{take-append-le, take_min}
 use Rattle.std.specs.Io.KnownBytes.{Consumes}
 use Rattle.dh_ports.specs.declared.stop.Stop.{Stop}
+use Rattle.dh_ports.specs.Ports.{CountsAtLeast}
 use Rattle.dh_ports.specs.Reading.{reader_failed, TookAtMost, AddsSome, most_lost}
 use Rattle.dh_requests.specs.declared.asked.Asked.TheVariants.{Command}
 use Rattle.dh_requests.specs.declared.asked.Posted.{Posted}
@@ -16,7 +17,7 @@ use Rattle.dh_requests.specs.Takes.{AddsBytes, FillsUpTo, TookWhile, TookAtLeast
 use Rattle.dh_requests.specs.Needs.{OpenBody, IsNeeded, StaysNeeded}
 use Rattle.dh_requests.proofs.Ends.{window, end_stays, head_end_of-search}
 use Rattle.dh_requests.proofs.Little.{no_end}
-use Rattle.dh_requests.proofs.Takes.{consumes_on, consumes_none, needed_on, needed_stop}
+use Rattle.dh_requests.proofs.Takes.{consumes_on, consumes_none, needed_on, stopped}
 
 -- before any read
 pub adds_none : (left : Option (List ℕ)) (bytes : List ℕ) → AddsBytes left left bytes bytes
@@ -31,14 +32,23 @@ too_few : (old mid : Option (List ℕ)) (before bytes : List ℕ) (count : ℕ) 
 too_few old mid before bytes count h lt = omega (arith, ap length h.2 ∙ length-append before h.0)
 
 -- a read was needed
-pub fills_on : (old mid new : Option (List ℕ)) (before bytes after : List ℕ) (count : ℕ) (came : Bool) → AddsBytes old mid before bytes → length bytes < count → AddsSome mid new bytes after came → FillsUpTo old new (length before) count 4096
-fills_on old mid new before bytes after count came h lt k =
+pub fills_on : (old mid new : Option (List ℕ)) (before bytes after : List ℕ) (count : ℕ) (came : Bool) → AddsBytes old mid before bytes → length bytes < count → AddsSome mid new bytes after came → FillsUpTo (length before) count old new 4096
+fills_on old mid new before bytes after count came h lt k few =
     needed_on (λ part. length before + length part < count) old mid new h.0 bytes after came h.1 (too_few old mid before bytes count h lt) k
 
 -- and one that stopped
-pub fills_stop : {A : Type 0} (old mid new : Option (List ℕ)) (before bytes : List ℕ) (count : ℕ) (stop : Stop) (r : Result A Stop) → AddsBytes old mid before bytes → length bytes < count → TookAtMost mid new (most_lost stop) → IsErrAnd r (λ e. e ≡ stop) → FillsUpTo old new (length before) count (cond (reader_failed r) 0 4096)
-fills_stop old mid new before bytes count stop r h lt k is =
-    needed_stop (λ part. length before + length part < count) old mid new h.0 stop r h.1 (too_few old mid before bytes count h lt) k is
+pub fills_stop : (A : Type 0) (old mid new : Option (List ℕ)) (before bytes : List ℕ) (count : ℕ) (stop : Stop) → AddsBytes old mid before bytes → length bytes < count → TookAtMost mid new (most_lost stop) → FillsUpTo (length before) count old new (cond (reader_failed {A = A} (Err stop)) 0 4096)
+fills_stop A old mid new before bytes count stop h lt k few =
+    stopped A (λ part. length before + length part < count) old mid new h.0 stop h.1 (too_few old mid before bytes count h lt) k
+
+-- one that was not made, since too many were, left the source as it was
+pub full_bytes : (old mid new : Option (List ℕ)) (before bytes : List ℕ) → AddsBytes old mid before bytes → 100000 ≤ length bytes → new ≡ mid → TookAtLeast old new (100000 - length before)
+full_bytes old mid new before bytes h le same =
+    (h.0, subst (λ w. Consumes old w h.0) (sym same) h.1, omega (arith, ap length h.2 ∙ length-append before h.0, le))
+
+pub full_reads : (old mid new : Option ℕ) (before reads : ℕ) → CountsAtLeast old mid (reads - before) → reads ≡ 100000 → new ≡ mid → CountsAtLeast old new (100000 - before)
+full_reads old mid new before reads h made same =
+    subst (λ w. CountsAtLeast old w (100000 - before)) (sym same) (subst (λ n. CountsAtLeast old mid (n - before)) made h)
 
 -- there were too few bytes before, too
 pub not_yet : (old mid : Option (List ℕ)) (before bytes : List ℕ) (count : ℕ) → AddsBytes old mid before bytes → length bytes < count → length before < count
@@ -75,7 +85,7 @@ open_body bytes part start posted e le asks lt = record {
   short = omega (arith, length-append bytes part, lt);
 }
 
-body_needed : (old now new : Option (List ℕ)) (bytes : List ℕ) (start most : ℕ) (posted : Posted) → At start ≡ head_end_of bytes → start ≤ length bytes → AsksFor (take start bytes) (Command posted) → Consumes old now bytes → FillsUpTo now new (length bytes) (start + posted.length) most → IsNeeded old new most
+body_needed : (old now new : Option (List ℕ)) (bytes : List ℕ) (start most : ℕ) (posted : Posted) → At start ≡ head_end_of bytes → start ≤ length bytes → AsksFor (take start bytes) (Command posted) → Consumes old now bytes → TookWhile (λ part. length bytes + length part < start + posted.length) now new most → IsNeeded old new most
 body_needed old now new bytes start most posted e le asks taken h = (
   bytes ++ h.0,
   h.1,
@@ -88,7 +98,7 @@ unread_needed : (old now new : Option (List ℕ)) (failed : Bool) → new ≡ no
 unread_needed old now new failed same fine n = subst (λ b. IsNeeded old new (cond b 0 4096)) (sym fine) (subst (λ w. IsNeeded old w 4096) (sym same) n)
 
 -- whether the body was there with the head or not
-pub stays_needed : (now new : Option (List ℕ)) (bytes : List ℕ) (start : ℕ) (posted : Posted) (failed : Bool) → At start ≡ head_end_of bytes → start ≤ length bytes → AsksFor (take start bytes) (Command posted) → (start + posted.length ≤ length bytes → (new ≡ now) × (failed ≡ false)) → (length bytes < start + posted.length → FillsUpTo now new (length bytes) (start + posted.length) (cond failed 0 4096)) → StaysNeeded now new bytes (cond failed 0 4096)
+pub stays_needed : (now new : Option (List ℕ)) (bytes : List ℕ) (start : ℕ) (posted : Posted) (failed : Bool) → At start ≡ head_end_of bytes → start ≤ length bytes → AsksFor (take start bytes) (Command posted) → (start + posted.length ≤ length bytes → (new ≡ now) × (failed ≡ false)) → FillsUpTo (length bytes) (start + posted.length) now new (cond failed 0 4096) → StaysNeeded bytes now new (cond failed 0 4096)
 stays_needed now new bytes start posted failed e le asks there filled =
     λ old taken n.
     elim (leb (start + posted.length) (length bytes)) as (λ b. leb (start + posted.length) (length bytes) ≡ b → IsNeeded old new (cond failed 0 4096)) [

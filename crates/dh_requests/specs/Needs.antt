@@ -26,6 +26,6 @@ abbrev pub IsNeeded : Option (List ℕ) → Option (List ℕ) → ℕ → Type 0
 IsNeeded = TookWhile NeedsMore
 
 -- what was needed while these bytes were taken is needed still
-abbrev pub StaysNeeded : Option (List ℕ) → Option (List ℕ) → List ℕ → ℕ → Type 0
-StaysNeeded now new bytes most =
+abbrev pub StaysNeeded : List ℕ → Option (List ℕ) → Option (List ℕ) → ℕ → Type 0
+StaysNeeded bytes now new most =
     (old : Option (List ℕ)) → Consumes old now bytes → IsNeeded old now 4096 → IsNeeded old new most

@@ -1,6 +1,11 @@
 -- What reading a request takes from a source.
-use Rattle.std.specs.Prelude.{◌≡◌, ℕ, ◌+◌, ◌≤◌, ◌<◌, Bool, true, false, List, ◌++◌, length, Option}
+use Rattle.std.specs.Prelude.{◌≡◌, ℕ, ◌+◌, ◌≤◌, ◌<◌, Bool, true, false, List, ◌++◌, length, Option, Result, IsErrOf, if◌then◌else◌}
 use Rattle.std.specs.Io.KnownBytes.{Consumes, IsAtEnd}
+use Rattle.dh_ports.specs.Ports.{CountsUpTo, CountsAtLeast}
+use Rattle.dh_ports.specs.Reading.{reader_failed}
+use Rattle.dh_ports.specs.declared.source.Source.{Ghosts}
+use Rattle.dh_ports.specs.declared.stop.Stop.{Stop}
+use Rattle.dh_ports.specs.declared.stop.Stop.TheVariants.{TooManyTurns}
 
 -- no fewer than so many bytes were taken, where the source tells them
 abbrev pub TookAtLeast : Option (List ℕ) → Option (List ℕ) → ℕ → Type 0
@@ -32,7 +37,22 @@ abbrev pub AddsUpTo :
 AddsUpTo old new before after count whole =
     AddsBytes old new before after × FilledOrEnded new (length after) count whole
 
--- what was taken is too little, with so many bytes that were there before, and then at most so many
-abbrev pub FillsUpTo : Option (List ℕ) → Option (List ℕ) → ℕ → ℕ → ℕ → Type 0
-FillsUpTo old new len count most =
-    TookWhile (λ part. len + length part < count) old new most
+-- where fewer bytes were there before than so many, what was taken is too little with them, and then
+-- at most so many
+abbrev pub FillsUpTo : ℕ → ℕ → Option (List ℕ) → Option (List ℕ) → ℕ → Type 0
+FillsUpTo len count old new most =
+    len < count → TookWhile (λ part. len + length part < count) old new most
+
+-- What a call takes from a source, whatever it answers.
+module _ {S T : Type 0} (g : Ghosts S) (old new : S) (result : Result T Stop) where
+  -- It makes at most so many reads, and it needs them.
+  pub record Takes
+      (Needs : Option (List ℕ) → Option (List ℕ) → ℕ → Type 0) (bytes times : ℕ) : Type 0 where
+    -- no more came than is needed, and then what one read brings: nothing where the reader failed
+    pub needed : Needs (g.left old) (g.left new) (if reader_failed result then 0 else 4096)
+    -- the source is broken exactly where the reader failed
+    pub broken : g.broken new ≡ reader_failed result
+    -- there are too many turns only where so many bytes came, and all of these reads were made
+    pub turns : IsErrOf result TooManyTurns → TookAtLeast (g.left old) (g.left new) bytes
+    pub full : IsErrOf result TooManyTurns → CountsAtLeast (g.fills old) (g.fills new) times
+    pub reads : CountsUpTo (g.fills old) (g.fills new) times

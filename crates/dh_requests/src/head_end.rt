@@ -1,11 +1,10 @@
 //! Where the head of a request ends.
 
-ghost use Rattle.std.specs.Prelude.{◌≡◌, ◌+◌, ◌^◌, ◌-◌, ◌≤◌, ◌<◌, [], length, Some, false, IfOk, OnOk, IfNone, IfSome, IsErrOf, if◌then◌else◌};
+ghost use Rattle.std.specs.Prelude.{◌≡◌, ◌+◌, ◌^◌, ◌-◌, ◌≤◌, ◌<◌, [], length, Some, false, IfOk, OnOk, IfNone, IfSome, IsErrOf};
 ghost use Rattle.std.specs.Io.KnownBytes.{Consumes};
 ghost use Rattle.dh_ports.specs.Ports.{CountsUpTo, CountsAtLeast};
-ghost use Rattle.dh_ports.specs.Reading.{reader_failed};
 ghost use Rattle.dh_requests.specs.HeadEnd.{head_end_of, EndsHead, OpenHead, most_spent};
-ghost use Rattle.dh_requests.specs.Takes.{TookWhile};
+ghost use Rattle.dh_requests.specs.Takes.{TookWhile, Takes};
 ghost use Rattle.dh_requests.specs.Scan.{after_byte, ScansTo, FindsEnd};
 
 use dh_ports::{Intake, Source, Stop};
@@ -105,9 +104,8 @@ pub fn read_head<R: Source>(intake: &mut Intake, source: &mut R) -> Result<HeadE
         IfSome (R.left source.old) (λ input. end ≡ head_end_of input)) }
     ensures found { IfOk result (λ end. end ≡ head_end_of intake.new.bytes.items) }
     ensures text { IfOk result (λ end. EndsHead end intake.new.bytes.items) }
-    ensures needed { TookWhile OpenHead (R.left source.old) (R.left source.new)
-        (if reader_failed result then 0 else 4096) }
-    ensures broken { R.broken source.new ≡ reader_failed result }
+    ensures takes { Takes R.Source source.old source.new result
+        (TookWhile OpenHead) 100000 100000 }
     ensures turns { IsErrOf result Stop.TooManyTurns → ⊥ }
     ensures little { OnOk result (length intake.new.bytes.items ≤ 20480) }
     ensures counted { OnOk result
@@ -115,7 +113,6 @@ pub fn read_head<R: Source>(intake: &mut Intake, source: &mut R) -> Result<HeadE
     ensures spent { IfOk result (λ end.
         CountsUpTo (R.fills source.old) (R.fills source.new)
         (most_spent end intake.new.reads)) }
-    ensures reads { CountsUpTo (R.fills source.old) (R.fills source.new) 100000 }
 {
     let mut scan = FIRST;
     let mut seen = 0;

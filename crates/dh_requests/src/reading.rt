@@ -1,13 +1,13 @@
 //! Reading a request.
 
-ghost use Rattle.std.specs.Prelude.{◌≡◌, ◌+◌, ◌-◌, ◌<◌, ◌≤◌, ◌++◌, false, length, drop, IfOk, IfErr, IfSome, IsErrOf, if◌then◌else◌};
-ghost use Rattle.dh_ports.specs.Ports.{CountsUpTo, CountsAtLeast};
-ghost use Rattle.dh_ports.specs.Reading.{reader_failed, TookAtMost};
+ghost use Rattle.std.specs.Prelude.{◌≡◌, ◌+◌, ◌-◌, ◌≤◌, ◌++◌, false, length, drop, IfOk, IfErr, IfSome};
+ghost use Rattle.dh_ports.specs.Ports.{CountsUpTo};
+ghost use Rattle.dh_ports.specs.Reading.{TookAtMost};
 ghost use Rattle.dh_requests.specs.declared.asked.Asked.{Asked};
 ghost use Rattle.dh_requests.specs.declared.head_end.HeadEnd.TheVariants.{At};
 ghost use Rattle.dh_requests.specs.HeadEnd.{head_end_of, EndsHead, most_spent};
 ghost use Rattle.dh_requests.specs.Request as request;
-ghost use Rattle.dh_requests.specs.Takes.{FillsUpTo, TookAtLeast};
+ghost use Rattle.dh_requests.specs.Takes.{FillsUpTo, Takes};
 ghost use Rattle.dh_requests.specs.Needs.{IsNeeded, StaysNeeded};
 
 use crate::asked::{Asked, Posted};
@@ -57,17 +57,9 @@ fn read_command<R: Source>(
         (drop start (intake.bytes.items ++ left)))) }
     ensures unread { start + posted.length ≤ length intake.bytes.items
         → source.new ≡ source.old }
-    ensures needed { length intake.bytes.items < start + posted.length
-        → FillsUpTo (R.left source.old) (R.left source.new) (length intake.bytes.items)
-        (start + posted.length) (if reader_failed result then 0 else 4096) }
-    ensures broken { R.broken source.new ≡ reader_failed result }
-    ensures turns { IsErrOf result Stop.TooManyTurns
-        → TookAtLeast (R.left source.old) (R.left source.new)
-        (100000 - length intake.bytes.items) }
-    ensures full { IsErrOf result Stop.TooManyTurns
-        → CountsAtLeast (R.fills source.old) (R.fills source.new) (100000 - intake.reads) }
-    ensures reads { CountsUpTo (R.fills source.old) (R.fills source.new)
-        (100000 - intake.reads) }
+    ensures takes { Takes R.Source source.old source.new result
+        (FillsUpTo (length intake.bytes.items) (start + posted.length))
+        (100000 - length intake.bytes.items) (100000 - intake.reads) }
 {
     let count = start + posted.length;
     if !read_up_to(&mut intake, source, count)? {
@@ -89,16 +81,8 @@ fn read_behind<R: Source>(
     requires little { length intake.bytes.items ≤ 20480 }
     ensures request { IfOk result (λ r. IfSome (R.left source.old) (λ left.
         request.IsRequestUpTo (At start) (intake.bytes.items ++ left) r)) }
-    ensures needed { StaysNeeded (R.left source.old) (R.left source.new) intake.bytes.items
-        (if reader_failed result then 0 else 4096) }
-    ensures broken { R.broken source.new ≡ reader_failed result }
-    ensures turns { IsErrOf result Stop.TooManyTurns
-        → TookAtLeast (R.left source.old) (R.left source.new)
-        (100000 - length intake.bytes.items) }
-    ensures full { IsErrOf result Stop.TooManyTurns
-        → CountsAtLeast (R.fills source.old) (R.fills source.new) (100000 - intake.reads) }
-    ensures reads { CountsUpTo (R.fills source.old) (R.fills source.new)
-        (100000 - intake.reads) }
+    ensures takes { Takes R.Source source.old source.new result (StaysNeeded intake.bytes.items)
+        (100000 - length intake.bytes.items) (100000 - intake.reads) }
 {
     match text_asks(alloc, &intake.bytes[..start])? {
         Asked::Whole(request) => Ok(request),
@@ -119,15 +103,9 @@ fn read_on<R: Source>(
     requires little { length intake.bytes.items ≤ 20480 }
     ensures request { IfOk result (λ r. IfSome (R.left source.old) (λ left.
         request.IsRequestUpTo end (intake.bytes.items ++ left) r)) }
-    ensures needed { StaysNeeded (R.left source.old) (R.left source.new) intake.bytes.items
-        (if reader_failed result then 0 else 4096) }
-    ensures broken { R.broken source.new ≡ reader_failed result }
-    ensures turns { IsErrOf result Stop.TooManyTurns
-        → TookAtLeast (R.left source.old) (R.left source.new)
-        (100000 - length intake.bytes.items) }
-    ensures full { IsErrOf result Stop.TooManyTurns
-        → CountsAtLeast (R.fills source.old) (R.fills source.new) (100000 - intake.reads) }
-    ensures reads { CountsUpTo (R.fills source.old) (R.fills source.new)
+    ensures takes { Takes R.Source source.old source.new result (StaysNeeded intake.bytes.items)
+        (100000 - length intake.bytes.items) (100000 - intake.reads) }
+    ensures spent { CountsUpTo (R.fills source.old) (R.fills source.new)
         (100000 - most_spent end intake.reads) }
 {
     match end {
@@ -146,14 +124,7 @@ pub fn read_request<R: Source>(alloc: Global, source: &mut R) -> Result<Request,
     ensures asked { IfOk result (λ r.
         IfSome (R.left source.old) (λ input. request.IsRequest input r)) }
     ensures taken { TookAtMost (R.left source.old) (R.left source.new) 4214784 }
-    ensures needed { IsNeeded (R.left source.old) (R.left source.new)
-        (if reader_failed result then 0 else 4096) }
-    ensures broken { R.broken source.new ≡ reader_failed result }
-    ensures turns { IsErrOf result Stop.TooManyTurns
-        → TookAtLeast (R.left source.old) (R.left source.new) 100000 }
-    ensures full { IsErrOf result Stop.TooManyTurns
-        → CountsAtLeast (R.fills source.old) (R.fills source.new) 100000 }
-    ensures reads { CountsUpTo (R.fills source.old) (R.fills source.new) 100000 }
+    ensures takes { Takes R.Source source.old source.new result IsNeeded 100000 100000 }
 {
     let mut intake = Intake::new(alloc);
     let end = read_head(&mut intake, source)?;

@@ -1,4 +1,4 @@
-use Rattle.std.proofs.Common.{◌≡◌, ◌-◌, ◌<◌, ◌≤◌, false, length}
+use Rattle.std.proofs.Common.{◌≡◌, ◌-◌, ◌≤◌, false, length}
 use Rattle.dh_ports.specs.Ports.{CountsUpTo, CountsAtLeast}
 use Rattle.dh_requests.specs.Takes.{AddsBytes, FillsUpTo}
 use Rattle.dh_requests.proofs.body.read_up_to.Given as goal
@@ -7,7 +7,7 @@ abbrev pub invariant-pieces : goal.invariant-pieces
 invariant-pieces g l = record {
   taken : AddsBytes (g.R.Source.left l.fn.source) (g.R.Source.left l.source) l.fn.intake.bytes.items l.intake.bytes.items;
   unread : l.count ≤ length l.fn.intake.bytes.items → l.source ≡ l.fn.source;
-  needed : length l.fn.intake.bytes.items < l.count → FillsUpTo (g.R.Source.left l.fn.source) (g.R.Source.left l.source) (length l.fn.intake.bytes.items) l.count 4096;
+  needed : FillsUpTo (length l.fn.intake.bytes.items) l.count (g.R.Source.left l.fn.source) (g.R.Source.left l.source) 4096;
   asked : CountsUpTo (g.R.Source.fills l.fn.source) (g.R.Source.fills l.source) (l.intake.reads - l.fn.intake.reads);
   counted : CountsAtLeast (g.R.Source.fills l.fn.source) (g.R.Source.fills l.source) (l.intake.reads - l.fn.intake.reads);
   more : l.fn.intake.reads ≤ l.intake.reads;

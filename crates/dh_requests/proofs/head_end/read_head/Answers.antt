@@ -1,9 +1,9 @@
-use Rattle.std.proofs.Common.{◌≡◌, ◌+◌, ◌∙◌, cond, ◌-◌, ℕ, List, take, drop, Some, ap, rules, arith}
+use Rattle.std.proofs.Common.{◌≡◌, ◌+◌, ◌∙◌, ◌≤◌, cond, ◌-◌, ℕ, Bool, List, length, take, drop, Some, ap, rules, arith}
 use Rattle.dh_requests.proofs.Ends.{too_long, too_long_alone, cut_short, cut_short_alone, found_at, found_alone, few_lines, many_lines, lines_more, scans_more, text_at}
 use Rattle.dh_ports.proofs.Taking.{takes_more, counts_on, counts_from, adds_little}
 use Rattle.dh_requests.specs.HeadEnd.{OpenHead}
 use Rattle.dh_requests.proofs.Needs.{open_head}
-use Rattle.dh_requests.proofs.Takes.{needed_on, needed_stop}
+use Rattle.dh_requests.proofs.Takes.{needed_on, stopped, takes_stop}
 use Rattle.dh_requests.proofs.head_end.read_head.Goals as goal
 
 pub returns-then-seen-eq-MOST_BYTES-clause-end : goal.returns-then-seen-eq-MOST_BYTES-clause-end
@@ -47,17 +47,34 @@ returns-in-Some-clause-text g c =
     let piece = ap cut c.deref.ensures.value in
     text_at _ _ c.pieces.intake.bytes.items c.more.new.self.bytes.items (cut c.deref.result.now) c.pieces.seen c.min-limit.result c.in-Some.n _ c.pieces.scan _ c.pieces.invariant.seen (search rules) piece c.pieces.invariant.scanned c.in_ok-more.ensures.adds c.in-Some.ensures.found.0 c.in-Some.ensures.found.1 c.if-scan-gt-MOST_LINES.false
 
-pub returns-in_err-more-clause-needed : goal.returns-in_err-more-clause-needed
-returns-in_err-more-clause-needed g c =
-    needed_stop OpenHead _ _ _ _ c.in_err-more.field-0.0 _ c.pieces.invariant.taken (open_head _ _ _ c.pieces.invariant.seen c.if-seen-eq-MOST_BYTES.false c.pieces.invariant.scanned) c.in_err-more.ensures.adds.1 c.from_residual.ensures.1
+pub returns-in_err-more-clause-takes : goal.returns-in_err-more-clause-takes
+returns-in_err-more-clause-takes g c =
+    let few : (bytes : List ℕ) → length bytes ≤ 20480 → 100000 ≤ length bytes → ⊥ = λ bytes le ge. omega (arith, le, ge) in
+    takes_stop {A = Bool} c.in_err-more.field-0.0 _ c.from_residual.ensures.1 (record {
+      needed = stopped Bool OpenHead _ _ _ _ c.in_err-more.field-0.0 c.pieces.invariant.taken (open_head _ _ _ c.pieces.invariant.seen c.if-seen-eq-MOST_BYTES.false c.pieces.invariant.scanned) c.in_err-more.ensures.adds.1;
+      broken = c.in_err-more.ensures.broken;
+      turns = λ full. absurd (few _ c.pieces.invariant.little (c.in_err-more.ensures.full full).0.bytes_came);
+      full = λ full. absurd (few _ c.pieces.invariant.little (c.in_err-more.ensures.full full).0.bytes_came);
+      reads = counts_on _ _ _ _ _ _ c.pieces.invariant.asked c.in_err-more.ensures.reads (omega arith);
+    })
 
-pub returns-then-scan-gt-MOST_LINES-clause-needed : goal.returns-then-scan-gt-MOST_LINES-clause-needed
-returns-then-scan-gt-MOST_LINES-clause-needed g c =
-    needed_on OpenHead _ _ _ _ _ _ _ c.pieces.invariant.taken (open_head _ _ _ c.pieces.invariant.seen c.if-seen-eq-MOST_BYTES.false c.pieces.invariant.scanned) c.in_ok-more.ensures.adds
+pub returns-then-scan-gt-MOST_LINES-clause-takes : goal.returns-then-scan-gt-MOST_LINES-clause-takes
+returns-then-scan-gt-MOST_LINES-clause-takes g c = record {
+  needed = needed_on OpenHead _ _ _ _ _ _ _ c.pieces.invariant.taken (open_head _ _ _ c.pieces.invariant.seen c.if-seen-eq-MOST_BYTES.false c.pieces.invariant.scanned) c.in_ok-more.ensures.adds;
+  broken = c.in_ok-more.ensures.broken;
+  turns = λ full. absurd (cc);
+  full = λ full. absurd (cc);
+  reads = counts_on _ _ _ _ _ _ c.pieces.invariant.asked c.in_ok-more.ensures.reads (omega arith);
+}
 
-pub returns-in-Some-clause-needed : goal.returns-in-Some-clause-needed
-returns-in-Some-clause-needed g c =
-    needed_on OpenHead _ _ _ _ _ _ _ c.pieces.invariant.taken (open_head _ _ _ c.pieces.invariant.seen c.if-seen-eq-MOST_BYTES.false c.pieces.invariant.scanned) c.in_ok-more.ensures.adds
+pub returns-in-Some-clause-takes : goal.returns-in-Some-clause-takes
+returns-in-Some-clause-takes g c = record {
+  needed = needed_on OpenHead _ _ _ _ _ _ _ c.pieces.invariant.taken (open_head _ _ _ c.pieces.invariant.seen c.if-seen-eq-MOST_BYTES.false c.pieces.invariant.scanned) c.in_ok-more.ensures.adds;
+  broken = c.in_ok-more.ensures.broken;
+  turns = λ full. absurd (cc);
+  full = λ full. absurd (cc);
+  reads = counts_on _ _ _ _ _ _ c.pieces.invariant.asked c.in_ok-more.ensures.reads (omega arith);
+}
 
 pub returns-then-seen-eq-MOST_BYTES-clause-found : goal.returns-then-seen-eq-MOST_BYTES-clause-found
 returns-then-seen-eq-MOST_BYTES-clause-found g c =

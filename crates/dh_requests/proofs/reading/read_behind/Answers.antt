@@ -15,16 +15,23 @@ pub read_command-requires-clause-small : goal.read_command-requires-clause-small
 read_command-requires-clause-small g c =
     asks_little (take c.args.start c.deref.result.now) c.in-Command.posted (subst (AsksFor (take c.args.start c.deref.result.now)) c.in-Command.is c.in_ok-request.ensures.asked)
 
-pub returns-in-Command-clause-needed : goal.returns-in-Command-clause-needed
-returns-in-Command-clause-needed g c =
+pub returns-in-Command-clause-takes : goal.returns-in-Command-clause-takes
+returns-in-Command-clause-takes g c =
+    let t = c.read_command.ensures.takes in
     let asks = subst (AsksFor (take c.args.start c.deref.result.now)) c.in-Command.is c.in_ok-request.ensures.asked in
     let there = subst (λ w. AsksFor (take c.args.start w) (Command c.in-Command.posted)) c.deref.ensures.value asks in
-    stays_needed (g.R.Source.left c.args.source.now) (g.R.Source.left c.read_command.new.source) c.args.intake.bytes.items c.args.start c.in-Command.posted (reader_failed c.read_command.result) c.requires.head c.requires.text.0 there
-    (λ le. (
-      ap g.R.Source.left (c.read_command.ensures.unread le),
-      sym c.read_command.ensures.broken ∙ ap g.R.Source.broken (c.read_command.ensures.unread le) ∙ c.requires.fine,
-    ))
-    c.read_command.ensures.needed
+    record {
+      needed = stays_needed (g.R.Source.left c.args.source.now) (g.R.Source.left c.read_command.new.source) c.args.intake.bytes.items c.args.start c.in-Command.posted (reader_failed c.read_command.result) c.requires.head c.requires.text.0 there
+          (λ le. (
+            ap g.R.Source.left (c.read_command.ensures.unread le),
+            sym t.broken ∙ ap g.R.Source.broken (c.read_command.ensures.unread le) ∙ c.requires.fine,
+          ))
+          t.needed;
+      broken = t.broken;
+      turns = t.turns;
+      full = t.full;
+      reads = t.reads;
+    }
 
 pub returns-in-Command-clause-request : goal.returns-in-Command-clause-request
 returns-in-Command-clause-request g c =

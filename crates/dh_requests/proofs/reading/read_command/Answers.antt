@@ -1,11 +1,10 @@
-use Rattle.std.proofs.Common.{List, ℕ, ◌+◌, ◌-◌, ◌<◌, length, take, drop, ap}
+use Rattle.std.proofs.Common.{List, ℕ, ◌+◌, ◌-◌, take, drop, ap}
 use Rattle.dh_requests.proofs.Requests.{whole_body}
-use Rattle.dh_requests.proofs.Takes.{needed_still}
+use Rattle.dh_requests.proofs.Takes.{takes_still}
 use Rattle.dh_requests.proofs.reading.read_command.Goals as goal
 
-pub returns-clause-needed : goal.returns-clause-needed
-returns-clause-needed g c =
-    λ few. needed_still (λ part. length c.args.intake.bytes.items + length part < c.args.start + c.args.posted.length) _ _ c.command_of.result c.command_of.ensures.err (c.in_ok-read_up_to.ensures.needed few)
+pub returns-clause-takes : goal.returns-clause-takes
+returns-clause-takes g c = takes_still c.in_ok-read_up_to.field-0 c.command_of.result c.command_of.ensures.err c.in_ok-read_up_to.ensures.takes
 
 pub returns-clause-request : goal.returns-clause-request
 returns-clause-request g c =
