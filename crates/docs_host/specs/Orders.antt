@@ -15,6 +15,10 @@ use Rattle.docs_host.specs.declared.failure.Failure.TheVariants.{Request}
 use Rattle.docs_host.specs.declared.failure.Status.{Status}
 use Rattle.docs_host.specs.declared.failure.Status.TheVariants.{Done, Refused}
 
+-- neither the input nor the output has failed
+abbrev pub AreUnbroken : Bool → Bool → Type 0
+AreUnbroken input output = (input ≡ false) × (output ≡ false)
+
 -- a read whose target is none
 abbrev pub has_bad_target : Order → Bool
 has_bad_target (order.Get host target pass) = is_none (target_of target)

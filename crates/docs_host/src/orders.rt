@@ -10,7 +10,7 @@ ghost use Rattle.docs_host.specs.Ends.{Ended, may_end_request, may_end_single};
 ghost use Rattle.docs_host.specs.Ends.{may_end_order, is_fault};
 ghost use Rattle.docs_host.specs.Failing.{IsDoneOr, is_of_output, is_of_script, is_of_request};
 ghost use Rattle.docs_host.specs.Failing.{is_of_order};
-ghost use Rattle.docs_host.specs.Orders.{RunsSingle, RunsRequest, RunsOrder, single_status};
+ghost use Rattle.docs_host.specs.Orders.{AreUnbroken, RunsSingle, RunsRequest, RunsOrder, single_status};
 
 use crate::failure::{Failure, Status};
 use crate::serving::{Served, serve};
@@ -70,8 +70,7 @@ pub fn run_lines<S: Alter, R: Source, W: Sink>(
     source: &mut R,
     sink: &mut W,
 ) -> Result<Status, Failure>
-    requires reader { R.broken source.old ≡ false }
-    requires writer { W.broken sink.old ≡ false }
+    requires ready { AreUnbroken (R.broken source.old) (W.broken sink.old) }
     ensures ran { Moves S.Store desk.old desk.new
         (λ before after. RunsScript (R.left source.old) before after
         (W.held sink.old) (W.held sink.new) result) }
@@ -88,8 +87,7 @@ fn answer_request<S: Alter, R: Source, W: Sink>(
     source: &mut R,
     sink: &mut W,
 ) -> Result<Status, Failure>
-    requires reader { R.broken source.old ≡ false }
-    requires writer { W.broken sink.old ≡ false }
+    requires ready { AreUnbroken (R.broken source.old) (W.broken sink.old) }
     ensures answers { Moves S.Store desk.old desk.new
         (λ before after. RunsRequest before after (R.left source.old)
         (W.held sink.old) (W.held sink.new) result) }
@@ -109,8 +107,7 @@ pub fn run_order<S: Alter, R: Source, W: Sink, E: Sink>(
     sink: &mut W,
     errors: &mut E,
 ) -> Result<Status, Failure>
-    requires reader { R.broken source.old ≡ false }
-    requires writer { W.broken sink.old ≡ false }
+    requires ready { AreUnbroken (R.broken source.old) (W.broken sink.old) }
     ensures runs { Moves S.Store desk.old desk.new
         (λ before after. RunsOrder before order.now after
         (R.left source.old) (W.held sink.old) (W.held sink.new) result) }

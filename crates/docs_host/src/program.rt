@@ -7,6 +7,7 @@ ghost use Rattle.docs_host.specs.Ends.{Ended, EndsScript, EndsRequest, EndsOver,
 ghost use Rattle.docs_host.specs.Ends.{EndsAsked, EndsWords, EndsProgram, asks_help, line_run};
 ghost use Rattle.docs_host.specs.Failing.{IsDoneOr, is_of_init, is_of_file, is_of_memory, is_of_run};
 ghost use Rattle.docs_host.specs.Orders as spec;
+ghost use Rattle.docs_host.specs.Orders.{AreUnbroken};
 ghost use Rattle.docs_host.specs.Telling.{TellsEnd};
 ghost use Rattle.docs_host.specs.Telling as telling;
 
@@ -42,8 +43,7 @@ fn run_over<S: Start, R: Source, W: Sink, E: Sink>(
     sink: &mut W,
     errors: &mut E,
 ) -> Result<Status, Failure>
-    requires reader { R.broken source.old ≡ false }
-    requires writer { W.broken sink.old ≡ false }
+    requires ready { AreUnbroken (R.broken source.old) (W.broken sink.old) }
     ensures ends { Ended (EndsOver order.now (W.held sink.old) (W.held sink.new))
         (is_of_file order.now) result }
     ensures tells { TellsSome E.broken E.held errors.old errors.new }
@@ -67,8 +67,7 @@ fn run_in_memory<R: Source, W: Sink>(
     source: &mut R,
     sink: &mut W,
 ) -> Result<Status, Failure>
-    requires reader { R.broken source.old ≡ false }
-    requires writer { W.broken sink.old ≡ false }
+    requires ready { AreUnbroken (R.broken source.old) (W.broken sink.old) }
     ensures { Ended (EndsScript (R.left source.old) (W.held sink.old) (W.held sink.new))
         (is_of_memory Order.Script) result }
 {
@@ -82,8 +81,7 @@ fn answer_over_sample<R: Source, W: Sink>(
     source: &mut R,
     sink: &mut W,
 ) -> Result<Status, Failure>
-    requires reader { R.broken source.old ≡ false }
-    requires writer { W.broken sink.old ≡ false }
+    requires ready { AreUnbroken (R.broken source.old) (W.broken sink.old) }
     ensures { Ended (EndsRequest (R.left source.old) (W.held sink.old) (W.held sink.new))
         (is_of_memory Order.Answer) result }
 {
@@ -108,8 +106,7 @@ fn run_line<S: Start, R: Source, W: Sink, E: Sink>(
     sink: &mut W,
     errors: &mut E,
 ) -> Result<Status, Failure>
-    requires reader { R.broken source.old ≡ false }
-    requires writer { W.broken sink.old ≡ false }
+    requires ready { AreUnbroken (R.broken source.old) (W.broken sink.old) }
     ensures ends { Ended (EndsBy line.now.store line.now.order
         (R.left source.old) (W.held sink.old) (W.held sink.new))
         (is_of_run line.now.store line.now.order) result }
@@ -148,8 +145,7 @@ fn run_told<S: Start, R: Source, W: Sink, E: Sink>(
     sink: &mut W,
     errors: &mut E,
 ) -> Status
-    requires reader { R.broken source.old ≡ false }
-    requires writer { W.broken sink.old ≡ false }
+    requires ready { AreUnbroken (R.broken source.old) (W.broken sink.old) }
     ensures ends { EndsBy line.now.store line.now.order
         (R.left source.old) (W.held sink.old) (W.held sink.new) result }
     ensures told { TellsEnd E.broken E.held (Some line.now) errors.old errors.new result }
@@ -169,8 +165,7 @@ fn run_words<S: Start, R: Source, W: Sink, E: Sink>(
     sink: &mut W,
     errors: &mut E,
 ) -> Status
-    requires reader { R.broken source.old ≡ false }
-    requires writer { W.broken sink.old ≡ false }
+    requires ready { AreUnbroken (R.broken source.old) (W.broken sink.old) }
     ensures ends { EndsAsked false (map string_bytes words.now)
         (R.left source.old) (W.held sink.old) (W.held sink.new) result }
     ensures told { TellsEnd E.broken E.held (line_in (map string_bytes words.now))
@@ -204,8 +199,7 @@ fn run_asked<S: Start, R: Source, W: Sink, E: Sink>(
     sink: &mut W,
     errors: &mut E,
 ) -> Status
-    requires reader { R.broken source.old ≡ false }
-    requires writer { W.broken sink.old ≡ false }
+    requires ready { AreUnbroken (R.broken source.old) (W.broken sink.old) }
     ensures ends { EndsWords (map string_bytes words.now)
         (R.left source.old) (W.held sink.old) (W.held sink.new) result }
     ensures told { TellsEnd E.broken E.held (line_run (map string_bytes words.now))
@@ -231,8 +225,7 @@ pub fn run_program<S: Start, R: Source, W: Sink, E: Sink>(
     sink: &mut W,
     errors: &mut E,
 ) -> u8
-    requires reader { R.broken source.old ≡ false }
-    requires writer { W.broken sink.old ≡ false }
+    requires ready { AreUnbroken (R.broken source.old) (W.broken sink.old) }
     ensures { EndsProgram (map string_bytes words.now)
         (R.left source.old) (W.held sink.old) (W.held sink.new)
         (TellsEnd E.broken E.held (line_run (map string_bytes words.now)) errors.old errors.new)
