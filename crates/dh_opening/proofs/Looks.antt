@@ -9,7 +9,7 @@ use Rattle.sqlite.specs.Held.{Held, state}
 use Rattle.sqlite.specs.State.{HasCleanDisk}
 use Rattle.dh_rows.specs.declared.fault.Fault as below
 use Rattle.dh_rows.specs.declared.fault.Fault.TheVariants as fault
-use Rattle.dh_rows.specs.Calls.{AreRows, Blames, Finds, Goes, IsHonest, IsUnfit, Refuses, Stays, whole}
+use Rattle.dh_rows.specs.Calls.{AreRows, Blames, Finds, IsHonest, IsUnfit, OnlyLooks}
 use Rattle.dh_rows.specs.Shapes.{StandsAlone}
 use Rattle.dh_schema.specs.Making.{our_tables}
 use Rattle.dh_schema.specs.InTurn.{blamed_before, goes_on, same_on, refused_on}
@@ -137,25 +137,25 @@ module _ {S : Type 0} {g : Ghosts S} {a b : Held S} {T U : Type 0} {P : Database
 module _ {S : Type 0} {g : Ghosts S} {a b : Held S} (sql : List ℕ) where
   -- one that was answered
   pub answered_as
-      : {Z : Type 0} (rows : Vec Row Z) → Goes g a b → Stays g whole a b {E = below.Fault} (Ok rows) → Finds g a b {E = below.Fault} (Ok rows) (λ v. AreRows (state g a) sql [] v.items)
+      : {Z : Type 0} (rows : Vec Row Z) → OnlyLooks g a b {E = below.Fault} (Ok rows) → Finds g a b {E = below.Fault} (Ok rows) (λ v. AreRows (state g a) sql [] v.items)
       → Opens g a b (Ok rows) (λ db v. Answers db sql v.items) (λ _. ⊥)
-  answered_as rows goes same found = record { goes = goes; same = same; err = λ honest. tt; found = found; ours = λ clean. tt; told = λ clean. tt }
+  answered_as rows look found = record { goes = look.goes; same = look.same; err = λ honest. tt; found = found; ours = λ clean. tt; told = λ clean. tt }
 
   -- one that was refused, though it fits
   pub refused_as
-      : (T : Type 0) {U : Type 0} {P : Database → U → Type 0} {N : Database → Type 0} (e : below.Fault) → Goes g a b → Refuses g whole a b {T = T} {E = below.Fault} (Err e) → Blames g {T = T} a b (Err e) (IsUnfit (state g a) sql [])
+      : (T : Type 0) {U : Type 0} {P : Database → U → Type 0} {N : Database → Type 0} (e : below.Fault) → OnlyLooks g a b {T = T} {E = below.Fault} (Err e) → Blames g {T = T} a b (Err e) (IsUnfit (state g a) sql [])
       → (IsHonest g a → IsWhole (state g a) sql) → Opens g a b {T = U} (Err (told_as e)) P N
-  refused_as T fault.Memory goes err blamed whole = record { goes = goes; same = λ clean. tt; err = err; found = λ clean. tt; ours = λ clean. tt; told = λ clean. tt }
-  refused_as T fault.Store goes err blamed whole = record {
-    goes = goes;
+  refused_as T fault.Memory look blamed whole = record { goes = look.goes; same = λ clean. tt; err = look.err; found = λ clean. tt; ours = λ clean. tt; told = λ clean. tt }
+  refused_as T fault.Store look blamed whole = record {
+    goes = look.goes;
     same = λ clean. tt;
-    err = err;
+    err = look.err;
     found = λ clean. tt;
     ours = λ clean. tt;
     told = λ clean. elim (blamed clean refl) [
       | inl own ↦ own
       | inr unfit ↦ elim (cases_Bool (state g a).is_open) [
-        | inl live ↦ absurd ((whole (goes.lasts.clean clean, live)).fits unfit)
+        | inl live ↦ absurd ((whole (look.goes.lasts.clean clean, live)).fits unfit)
         | inr shut ↦ inr shut
       ]
     ];

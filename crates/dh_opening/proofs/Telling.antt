@@ -13,7 +13,7 @@ use Rattle.dh_opening.specs.Opening.{Answers, AreTold, IsLaid, IsWhole, StandFor
 
 -- a query that only a limit on steps refuses is refused by none
 as_whole : (s : State) (text : List ℕ) → s.step_limit ≡ None → Asks s text → IsWhole s text
-as_whole s text unlimited it = record { plain = it.plain; listing = it.listing; fits = λ unfit. never s.step_limit unlimited (it.fits unfit) }
+as_whole s text unlimited it = record { look = it.look; fits = λ unfit. never s.step_limit unlimited (it.fits unfit) }
   where
     never : (o : Option ℕ) → o ≡ None → IsSome o → ⊥
     never None e it = true≢false (sym it)

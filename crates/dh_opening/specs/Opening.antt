@@ -9,7 +9,7 @@ use Rattle.sqlite.specs.Effect.{Database, IsDatabase, Reads}
 use Rattle.sqlite.specs.Held.{Held, state}
 use Rattle.sqlite.specs.Listing.{understood}
 use Rattle.sqlite.specs.State.{State, HasCleanDisk}
-use Rattle.dh_rows.specs.Calls.{Goes, Stays, Refuses, IsBlamed, IsHonest, IsPlainText, IsUnfit, SparesListing, command_of, whole}
+use Rattle.dh_rows.specs.Calls.{Goes, Stays, Refuses, IsBlamed, IsHonest, IsPlainLook, IsUnfit, command_of, whole}
 use Rattle.dh_rows.specs.Keyed.{Coding, IsTableOf, by_key}
 use Rattle.dh_rows.specs.Places.{records_of, rows_of}
 use Rattle.dh_rows.specs.Shapes.{StandsAlone}
@@ -86,8 +86,7 @@ Answers db sql rows = Reads (command_of (understood db.schema sql)) db [] rows
 
 -- a query of all rows of a table, which is refused for no reason of its own
 pub record IsWhole (s : State) (sql : List ℕ) : Type 0 where
-  pub plain : IsPlainText s sql
-  pub listing : SparesListing s sql
+  pub look : IsPlainLook s sql
   pub fits : ¬ IsUnfit s sql []
 
 -- ---- calls

@@ -3,7 +3,7 @@
 ghost use Rattle.std.specs.Prelude.{◌≡◌, None, OnOk};
 ghost use Rattle.sqlite.specs.Held.{state};
 ghost use Rattle.sqlite.specs.State.{HasCleanDisk};
-ghost use Rattle.dh_rows.specs.Calls.{Goes, IsBlamed, IsHonest, Refuses, Stays, whole};
+ghost use Rattle.dh_rows.specs.Calls.{IsBlamed, IsHonest, OnlyLooks};
 ghost use Rattle.dh_opening.specs.Opening.{IsLaid, IsOurs, OnFailed, OnNotOurs, Opens};
 
 use crate::fault::TablesFault;
@@ -32,9 +32,7 @@ fn check_records<S: Alter>(conn: &mut Connection<S>, alloc: Global) -> Result<()
 /// that spell records which keep the constraints. It changes nothing.
 pub fn check<S: Alter>(conn: &mut Connection<S>, alloc: Global) -> Result<(), TablesFault>
     requires unlimited { conn.old.step_limit ≡ None }
-    ensures goes { Goes S.Store conn.old conn.new }
-    ensures same { Stays S.Store whole conn.old conn.new result }
-    ensures err { Refuses S.Store whole conn.old conn.new result }
+    ensures looks { OnlyLooks S.Store conn.old conn.new result }
     ensures ok { HasCleanDisk (state S.Store conn.new)
         → OnOk result (IsOurs (state S.Store conn.old).now) }
     ensures ours { HasCleanDisk (state S.Store conn.new)

@@ -12,10 +12,10 @@ use Rattle.sqlite_schema.specs.declared.command.Command.TheVariants.{Delete, Sel
 use Rattle.sqlite_syntax.specs.declared.statement.Parsed.{Parsed}
 use Rattle.sqlite.specs.Effect.{Database, Reads, RefusesToRead, value_rows}
 use Rattle.sqlite.specs.Given.{IsPlain}
-use Rattle.sqlite.specs.Listing.{understood, reads_listing}
+use Rattle.sqlite.specs.Listing.{understood}
 use Rattle.sqlite.specs.Does.{Does}
 use Rattle.sqlite.specs.State.{State, mode_of}
-use Rattle.dh_rows.specs.Calls.{command_of, statement_of, IsEdit, IsUnfit, Edits}
+use Rattle.dh_rows.specs.Calls.{command_of, statement_of, IsEdit, IsPlainEdit, IsPlainLook, IsUnfit, Edits}
 use Rattle.dh_rows.proofs.Calls.{tail_of, parameters_of}
 use Rattle.dh_rows.specs.Keyed.{Coding, by_key, IsFreeKey, added, put}
 use Rattle.dh_rows.specs.Places.{tree_of, table_in, Keeps, records_of}
@@ -28,14 +28,12 @@ use Rattle.dh_rows.proofs.Read.{delete_of, is_delete, delete_above_of, is_delete
 
 -- what `change` asks of a text, and what it then does to one table
 pub record Writes (s : State) (text : List ℕ) (params : Row) (t : Table) {X : Type 0} (c : Coding X) (change : List X → List X) : Type 0 where
-  pub plain : IsPlain (understood s.now.schema text)
-  pub edits : IsEdit (command_of (understood s.now.schema text))
+  pub edit : IsPlainEdit s text
   pub turns : (after : Database) → Edits s text params after → Turns t c change s.now after
 
 -- what `select` asks of a text, and what it then answers
 pub record Answers (s : State) (text : List ℕ) (params : Row) (answer : List Row) : Type 0 where
-  pub plain : IsPlain (understood s.now.schema text)
-  pub listing : reads_listing s.now.schema text ≡ false
+  pub look : IsPlainLook s text
   pub reads : (rows : List Row) → Reads (command_of (understood s.now.schema text)) s.now params rows → rows ≡ answer
   -- only a limit on steps refuses it
   pub fits : IsUnfit s text params → IsSome s.step_limit
@@ -75,8 +73,7 @@ module _ (t : Table) (simple : IsSimple t) (plain : ArePlain t.columns) {X : Typ
       → Writes s text params t c (filter (λ x. not (test x)))
   deletes_by text terms means params test sees =
       record {
-        plain = means.plain;
-        edits = subst IsEdit (sym means.is) tt;
+        edit = record { plain = means.plain; edits = subst IsEdit (sym means.is) tt };
         turns = λ after it. delete_turns s.step_limit (mode_of s) s.now after t c keeps params (statement_of text (understood s.now.schema text)) it.0 terms test sees (subst (λ k. Does s.step_limit (mode_of s) params s.now (statement_of text (understood s.now.schema text)) None k (Ok (it.0, after))) means.is it.1);
       }
 
@@ -97,8 +94,7 @@ module _ (t : Table) (simple : IsSimple t) (plain : ArePlain t.columns) {X : Typ
   insert text terms width read x back kinds one free =
       let means = insert_is s.now.schema t keeps.stands simple plain text terms width (is_insert s.now.schema t (tree_of s.now.schema t.name) text terms width read) in
       record {
-        plain = means.plain;
-        edits = subst IsEdit (sym means.is) tt;
+        edit = record { plain = means.plain; edits = subst IsEdit (sym means.is) tt };
         turns = λ after it. insert_turns s.step_limit (mode_of s) s.now after t c keeps (c.encode x) (statement_of text (understood s.now.schema text)) it.0 simple x terms width back kinds one free (subst (λ k. Does s.step_limit (mode_of s) (c.encode x) s.now (statement_of text (understood s.now.schema text)) None k (Ok (it.0, after))) means.is it.1);
       }
 
@@ -109,8 +105,7 @@ module _ (t : Table) (simple : IsSimple t) (plain : ArePlain t.columns) {X : Typ
   upsert key is_key text terms width base new read typed x fits one =
       let means = upsert_is s.now.schema t keeps.stands simple key is_key text terms width base new typed (read s.now.schema (tree_of s.now.schema t.name)) in
       record {
-        plain = means.plain;
-        edits = subst IsEdit (sym means.is) tt;
+        edit = record { plain = means.plain; edits = subst IsEdit (sym means.is) tt };
         turns = λ after it. put_turns s.step_limit (mode_of s) s.now after t c keeps x (statement_of text (understood s.now.schema text)) it.0 simple key is_key base new fits terms width one (subst (λ k. Does s.step_limit (mode_of s) (c.encode x) s.now (statement_of text (understood s.now.schema text)) None k (Ok (it.0, after))) means.is it.1);
       }
 
@@ -125,8 +120,7 @@ module _ (t : Table) (simple : IsSimple t) (plain : ArePlain t.columns) {X : Typ
       let shape = is_select t text ks ws os read in
       let it = select_is s.now.schema t keeps.stands simple plain text ks ws os shape in
       record {
-        plain = it.means.plain;
-        listing = it.listing;
+        look = record { plain = it.means.plain; listing = it.listing };
         reads = λ rows found. select_reads s.now t c keeps params (wanted ws) (columns_at ks) (map rising os) (map (name_at t) ks) test show sees shows sorts rows (subst (λ k. Reads k s.now params rows) it.means.is found);
         fits = fitting s text params it (are_counted text (length params) count) (select_accepts s.now.schema t keeps.stands simple plain text ks ws os shape params suits);
       }

@@ -19,7 +19,7 @@ use Rattle.sqlite.specs.Calls.{IsWrite}
 use Rattle.sqlite.specs.Does.{Does}
 use Rattle.sqlite.specs.Listing.{understood, IsSourceOf}
 use Rattle.sqlite.specs.State as state
-use Rattle.sqlite.specs.State.{State, HasCleanDisk, Survives, Executes, ExecutesIn, IsNotRun, FailsToQuery, Shown, RunsCommand, FailsToShow, ShowsRows, Runs, Fails, IsUnchanged, IsRolledBack, shows_rows, CommitsBy, MayCommit, text_of}
+use Rattle.sqlite.specs.State.{State, HasCleanDisk, Survives, Executes, ExecutesIn, IsNotRun, FailsToQuery, Shown, RunsCommand, FailsToShow, ShowsRows, Runs, Fails, IsUnchanged, IsRolledBack, shows_rows, CommitsBy, CommitsShowing, MayCommit, text_of}
 use Rattle.sqlite.specs.Clock.{timed}
 use Rattle.sqlite.specs.Held.{Held, state as state_of}
 use Rattle.sqlite.proofs.Callers as callers
@@ -27,7 +27,7 @@ use Rattle.sqlite.proofs.Callers.{IsPlain, runs_as, reads_as, never_commits}
 use Rattle.dh_rows.specs.declared.fault.Fault.{Fault}
 use Rattle.dh_rows.specs.declared.fault.Fault.TheVariants.{Store}
 use Rattle.dh_rows.specs.Faults.{fault_of}
-use Rattle.dh_rows.specs.Calls.{command_of, statement_of, IsEdit, Edits, EditsAs, whole, IsHonest, LeavesTrees, LeavesNoMore, Lasts, Goes, GoesWithin, Sees, Runs as Ran, Makes, EditsAtMost, Begins, Commits, Undoes, Refuses, IsPlainText, IsEditText, SparesListing, AreRows, IsBlamed, Blames, IsRejected, IsUnanswered, IsUnfit, Shows, IsSame, IsUndone, IsRefused, Becomes}
+use Rattle.dh_rows.specs.Calls.{command_of, statement_of, IsEdit, Edits, EditsAs, whole, IsHonest, LeavesTrees, LeavesNoMore, Lasts, Goes, GoesWithin, Sees, Runs as Ran, Makes, EditsAtMost, OnlyLooks, OnlyEdits, Begins, Commits, Undoes, Refuses, IsPlainLook, IsPlainEdit, AreRows, IsBlamed, Blames, IsRejected, IsUnanswered, IsUnfit, Shows, IsSame, IsUndone, IsRefused, Becomes}
 
 -- ---- refusals
 
@@ -281,15 +281,15 @@ unanswered g old new sql params e (Err fault) is fails = λ clean. (e, is, fails
 -- ---- why a query is refused
 
 module _ {S : Type 0} (g : Ghosts S) (old new : Held S) (sql : List ℕ) (params : Row) (clean : HasCleanDisk (state_of g new) → HasCleanDisk (state_of g old))
-    (plain : IsHonest g old → IsPlainText (state_of g old) sql) (listing : IsHonest g old → SparesListing (state_of g old) sql) where
+    (look : IsHonest g old → IsPlainLook (state_of g old) sql) where
   unread : (e : Error) → IsHonest g old → FailsToQuery sql params (state_of g old) (state_of g new) e → fault_of e ≡ Store → IsBlamed g old new ⊎ IsUnfit (state_of g old) sql params
   unfolding FailsToQuery IsNotRun
   unread e honest (inl (inl h)) is = inr (e, inl h.0)
   unread e honest (inl (inr h)) is = inl (blamed g old new _ e (λ none. none) h is)
   unread e honest (inr h) is =
-      let bare = subst IsPlain h.1.is (plain honest) in
+      let bare = subst IsPlain h.1.is (look honest).plain in
       let it = rw (bare.0, bare.1, append-nil params) at h.2 in
-      let db : it.0 ≡ (state_of g old).now = subst (λ b. IsSourceOf b (state_of g old).now it.0) (listing honest) it.1 in
+      let db : it.0 ≡ (state_of g old).now = subst (λ b. IsSourceOf b (state_of g old).now it.0) (look honest).listing it.1 in
       let refuses = subst (λ d. RefusesToRead (state_of g old).step_limit h.0.command d params e) db it.2 in
       inr (e, inr (subst (λ r. RefusesToRead (state_of g old).step_limit (command_of r) (state_of g old).now params e) (sym h.1.is) refuses))
 
@@ -481,28 +481,28 @@ wrote old new _ text ps n it h = absurd it
 
 module _ {S : Type 0} (g : Ghosts S) (old new : Held S) (sql : List ℕ) (params : Row) where
   module _ (r : Result (Unit {0}) Fault) (survives : Survives (state_of g old) (state_of g new) (CommitsBy sql params (state_of g old)))
-      (plain : IsHonest g old → IsPlainText (state_of g old) sql) (edits : IsHonest g old → IsEditText (state_of g old) sql) (ran : Ran g old new sql params r) where
+      (edit : IsHonest g old → IsPlainEdit (state_of g old) sql) (ran : Ran g old new sql params r) where
     changed : IsHonest g old → HasCleanDisk (state_of g new) → OnOk r (Becomes g whole old new (state_of g new).now × Edits (state_of g old) sql params (state_of g new).now)
     changed honest clean = go r (ran clean)
       where
         go : (r : Result (Unit {0}) Fault) → OnOk r ((n : ℕ) × Executes sql params (state_of g old) (state_of g new) (Ok n)) → OnOk r (Becomes g whole old new (state_of g new).now × Edits (state_of g old) sql params (state_of g new).now)
         go (Ok u) it =
-            let w = wrote _ _ _ _ _ _ (edits honest) (ran_as sql params (state_of g old) (state_of g new) (plain honest) it.0 it.1) in
+            let w = wrote _ _ _ _ _ _ (edit honest).edits (ran_as sql params (state_of g old) (state_of g new) (edit honest).plain it.0 it.1) in
             (told g old new _ survives _ _ _ w.shown clean, (w.tally, w.changed, w.sound))
         go (Err e) it = tt
 
-    pub makes : Makes g old new sql params r
+    makes : Makes g old new sql params r
     makes honest clean = go r (changed honest clean)
       where
         go : (r : Result (Unit {0}) Fault) → OnOk r (Becomes g whole old new (state_of g new).now × Edits (state_of g old) sql params (state_of g new).now) → OnOk r (Edits (state_of g old) sql params (state_of g new).now)
         go (Ok u) it = it.1
         go (Err e) it = tt
 
-    pub changes_at_most : EditsAtMost g old new sql params
-    changes_at_most = leaves g old new _ survives _ (λ honest db. edit_commits sql params (state_of g old) db (plain honest) (edits honest))
+    changes_at_most : EditsAtMost g old new sql params
+    changes_at_most = leaves g old new _ survives _ (λ honest db. edit_commits sql params (state_of g old) db (edit honest).plain (edit honest).edits)
 
     module _ (lasts : Lasts g old new) where
-      pub changed_sees : OnOk r (Sees g whole old new (state_of g new).now)
+      changed_sees : OnOk r (Sees g whole old new (state_of g new).now)
       changed_sees = go r changed
         where
           go : (r : Result (Unit {0}) Fault) → (IsHonest g old → HasCleanDisk (state_of g new) → OnOk r (Becomes g whole old new (state_of g new).now × Edits (state_of g old) sql params (state_of g new).now))
@@ -516,27 +516,60 @@ module _ {S : Type 0} (g : Ghosts S) (old new : Held S) (sql : List ℕ) (params
           go (Err e) it = tt
 
       -- within a transaction it commits nothing
-      pub changed_goes : Failed g old new r → GoesWithin g old new
+      changed_goes : Failed g old new r → GoesWithin g old new
       changed_goes failed = record {
         lasts = lasts;
         kept = λ within honest. stays_committed g old new _ r (λ it. it.0.last_is ∙ ap (λ b. cond b (state_of g old).committed (state_of g new).now) within) (changed (lasts.was honest) honest.0) (fails g old new r _ survives failed honest);
-        quiet = λ within honest. leaves_no_more g old new _ survives (λ db it. true≢false (sym within ∙ (edit_commits sql params (state_of g old) db (plain honest) (edits honest) it).0));
+        quiet = λ within honest. leaves_no_more g old new _ survives (λ db it. true≢false (sym within ∙ (edit_commits sql params (state_of g old) db (edit honest).plain (edit honest).edits it).0));
       }
 
-  module _ (P : Trees → Type 0) (survives : Survives (state_of g old) (state_of g new) P) (plain : IsHonest g old → IsPlainText (state_of g old) sql) where
-    pub read : (IsHonest g old → SparesListing (state_of g old) sql) → (rows : List Row) → Shown sql params (state_of g old) (state_of g new) rows → IsHonest g old → AreRows (state_of g old) sql params rows
-    read unlisted rows h honest =
-        rw (same_words sql (understood (state_of g old).now.schema sql)).0 (reads_as sql params (state_of g old) (state_of g new) (state_of g old).now.schema refl _ refl (plain honest) (unlisted honest) rows h)
+      -- what it leaves
+      pub only_edits : Failed g old new r → OnlyEdits g old new sql params r
+      only_edits failed = record { goes = changed_goes failed; sees = changed_sees; made = makes; err = fails g old new r _ survives failed; crash = changes_at_most }
+
+  module _ (survives : Survives (state_of g old) (state_of g new) (CommitsShowing sql params (state_of g old))) (look : IsHonest g old → IsPlainLook (state_of g old) sql) where
+    pub read : (rows : List Row) → Shown sql params (state_of g old) (state_of g new) rows → IsHonest g old → AreRows (state_of g old) sql params rows
+    read rows h honest =
+        rw (same_words sql (understood (state_of g old).now.schema sql)).0 (reads_as sql params (state_of g old) (state_of g new) (state_of g old).now.schema refl _ refl (look honest).plain (look honest).listing rows h)
 
     -- only an open store answers
     pub shown_was : (rows : List Row) → Shown sql params (state_of g old) (state_of g new) rows → HasCleanDisk (state_of g new) → IsHonest g old
-    shown_was rows h clean = (back_clean g old new P survives clean, shown_open _ _ sql params rows h)
+    shown_was rows h clean = (back_clean g old new _ survives clean, shown_open _ _ sql params rows h)
 
-    pub stays : (rows : List Row) → Shown sql params (state_of g old) (state_of g new) rows → HasCleanDisk (state_of g new) → IsSame g whole old new
+    stays : (rows : List Row) → Shown sql params (state_of g old) (state_of g new) rows → HasCleanDisk (state_of g new) → IsSame g whole old new
     unfolding Shown
     stays rows h clean =
-        let none = (subst IsPlain h.1.is (plain (shown_was rows h clean))).0 in
-        told g old new P survives _ _ _ ((rw none at h.2).3).0 clean
+        let none = (subst IsPlain h.1.is (look (shown_was rows h clean)).plain).0 in
+        told g old new _ survives _ _ _ ((rw none at h.2).3).0 clean
+
+    spares : IsHonest g old → LeavesNoMore g old new
+    spares honest = leaves_no_more g old new _ survives (λ db. never_commits _ _ _ db (look honest).plain)
+
+    -- what an answered one leaves
+    pub answered_looks : {T : Type 0} {x : T} (rows : List Row) → (HasCleanDisk (state_of g new) → Shown sql params (state_of g old) (state_of g new) rows) → OnlyLooks g old new {T = T} {E = Fault} (Ok x)
+    answered_looks rows shown = record {
+      goes = record {
+        lasts = lasts g old new _ survives (λ honest. shown_was rows (shown honest.0) honest.0);
+        kept = λ honest. (stays rows (shown honest.0) honest.0).last_is;
+        quiet = spares;
+      };
+      same = λ clean. stays rows (shown clean) clean;
+      err = λ honest. tt;
+    }
+
+    -- and one that was refused
+    pub refused_looks : {T : Type 0} (e : Error) (r : Result T Fault) → IsErrAnd r (λ fault. fault ≡ fault_of e)
+        → (HasCleanDisk (state_of g new) → FailsToQuery sql params (state_of g old) (state_of g new) e) → OnlyLooks g old new r
+    refused_looks e (Ok x) is why = absurd is
+    refused_looks e (Err fault) is why = record {
+      goes = record {
+        lasts = lasts g old new _ survives (λ honest. stopped_was g old new _ survives (refused_to_show _ _ _ _ _ (why honest.0)) honest);
+        kept = λ honest. refused_commits_nothing g old new (stopped g old new _ survives (refused_to_show _ _ _ _ _ (why honest.0)) honest);
+        quiet = spares;
+      };
+      same = λ clean. tt;
+      err = λ honest. stopped g old new _ survives (refused_to_show _ _ _ _ _ (why honest.0)) honest;
+    }
 
 -- what holds anyway holds where the call failed
 pub if_failed : {T E : Type 0} {P : Type 0} (r : Result T E) → P → OnErr r P

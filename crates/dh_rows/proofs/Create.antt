@@ -27,7 +27,7 @@ use Rattle.sqlite.specs.Does.{Does, Tally, lacks_sequence}
 use Rattle.sqlite.specs.Given.{IsPlain}
 use Rattle.sqlite.specs.Listing.{understood}
 use Rattle.sqlite.specs.State.{State, mode_of, text_of}
-use Rattle.dh_rows.specs.Calls.{command_of, IsEdit, Edits, EditsAs}
+use Rattle.dh_rows.specs.Calls.{command_of, IsEdit, IsPlainEdit, Edits, EditsAs}
 use Rattle.dh_rows.specs.Places.{IsFree, HasTable, is_at, IsUnreferred, IsUnmentioned, tree_of, table_in, Stands, unique_keys, ArePlaced, rows_of}
 use Rattle.dh_rows.proofs.Indexes.{placed, keyed_kept, keyed_made}
 use Rattle.dh_rows.proofs.Meaning.{understood_as, compiled_as}
@@ -321,15 +321,14 @@ made_by s statement t tally after defines fine does =
 
 -- what `change` asks of the text, and what it then makes
 pub record Creates (s : State) (text : List ℕ) (t : Table) : Type 0 where
-  pub plain : IsPlain (understood s.now.schema text)
-  pub edits : IsEdit (command_of (understood s.now.schema text))
+  pub edit : IsPlainEdit s text
   pub made : (after : Database) → Edits s text [] after → Makes t s.now after
 
 pub creates : (t : Table) (text : List ℕ) → IsCreate text t → t.references ≡ [] → t.is_counted ≡ false → AllByRecursion (λ o. o ≡ plain) t.orders → (s : State) → IsFree s.now.schema t.name → IsUnmentioned s.now.schema t.name → lacks_sequence s.now.schema ≡ false → ArePlaced s.now.schema → Creates s text t
 creates t text (makes {p = p} {def = def} read is formats name reserved table sound defined) unreferring uncounted bytewise s free unmentioned counted fine =
     let schema = s.now.schema in
     let means = create_means schema p def is formats (subst (IsFree schema) (sym name) free) (ap is_reserved name ∙ reserved) t table sound text read in
-    record { plain = subst IsPlain (sym means) (refl, refl); edits = subst (λ r. IsEdit (command_of r)) (sym means) tt; made = λ after edits. go after (subst (EditsAs s text [] after) means edits) }
+    record { edit = record { plain = subst IsPlain (sym means) (refl, refl); edits = subst (λ r. IsEdit (command_of r)) (sym means) tt }; made = λ after edits. go after (subst (EditsAs s text [] after) means edits) }
   where
     low : (u : Table) → (was : Stands s.now.schema u) → tree_of s.now.schema u.name < next_tree s.now.schema
     low u was = table_below s.now.schema (table_in s.now.schema u) (slice_has s.now.schema.tables was.at (table_in s.now.schema u) was.has.stands)

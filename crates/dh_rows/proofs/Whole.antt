@@ -25,10 +25,8 @@ use Rattle.sqlite_keyed.specs.Lists.{sort_by}
 use Rattle.sqlite_keyed.proofs.ListLemmas.{map-map, map_back, all_map, all_unmap, all_weaker, all-map, all-slice_get, filter_all, all_of as each_of, ascending-map, ascending_from_map, ascending_weaker}
 use Rattle.sqlite_keyed.proofs.SortLemmas.{IsPermutation-sort_by, sorted_is-sort_by, sort_by-map}
 use Rattle.sqlite.specs.Effect.{IsDatabase, Reads}
-use Rattle.sqlite.specs.Given.{IsPlain}
-use Rattle.sqlite.specs.Listing.{understood, reads_listing}
 use Rattle.sqlite.specs.State.{State}
-use Rattle.dh_rows.specs.Calls.{IsUnfit, AreRows}
+use Rattle.dh_rows.specs.Calls.{IsPlainLook, IsUnfit, AreRows}
 use Rattle.dh_rows.specs.Keyed.{Coding, IsCoded, IsTableOf, by_key, records}
 use Rattle.dh_rows.specs.Places.{tree_of, table_in, Stands, rows_of}
 use Rattle.dh_rows.specs.Whole.{IsRowid, Spells}
@@ -57,8 +55,7 @@ pub record IsCodingOf (t : Table) {X : Type 0} (c : Coding X) (order : List ℕ)
 
 -- What `select` asks of a text. Only a limit on steps refuses it.
 pub record Asks (s : State) (text : List ℕ) : Type 0 where
-  pub plain : IsPlain (understood s.now.schema text)
-  pub listing : reads_listing s.now.schema text ≡ false
+  pub look : IsPlainLook s text
   pub fits : IsUnfit s text [] → IsSome s.step_limit
 
 -- ---- rows and their columns
@@ -160,15 +157,13 @@ module _ {t : Table} {ids_text all_text order : List ℕ} (texts : AreTextsOf t 
 
   pub asks_ids : Asks s ids_text
   asks_ids = record {
-    plain = ids_means.means.plain;
-    listing = ids_means.listing;
+    look = record { plain = ids_means.means.plain; listing = ids_means.listing };
     fits = fitting s ids_text [] ids_means (is_ids t ids_text texts.ids_read).0 (ids_accepts s.now.schema t stands texts.simple texts.plain);
   }
 
   pub asks_all : Asks s all_text
   asks_all = record {
-    plain = all_means.means.plain;
-    listing = all_means.listing;
+    look = record { plain = all_means.means.plain; listing = all_means.listing };
     fits = fitting s all_text [] all_means (is_all t all_text order texts.all_read).0 (select_accepts s.now.schema t stands texts.simple texts.plain all_text (places t.columns) [] order all_shape [] refl);
   }
 

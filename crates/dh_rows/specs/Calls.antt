@@ -56,6 +56,16 @@ IsEditText s sql = IsEdit (command_of (understood s.now.schema sql))
 abbrev pub SparesListing : State → List ℕ → Type 0
 SparesListing s sql = reads_listing s.now.schema sql ≡ false
 
+-- what a look asks of its text
+pub record IsPlainLook (s : State) (sql : List ℕ) : Type 0 where
+  pub plain : IsPlainText s sql
+  pub listing : SparesListing s sql
+
+-- what an edit asks of its text
+pub record IsPlainEdit (s : State) (sql : List ℕ) : Type 0 where
+  pub plain : IsPlainText s sql
+  pub edits : IsEditText s sql
+
 -- the rows are those that the text asks for
 abbrev pub AreRows : State → List ℕ → Row → List Row → Type 0
 AreRows s sql params rows = Reads (command_of (understood s.now.schema sql)) s.now params rows
@@ -241,3 +251,25 @@ module _ {S : Type 0} (g : Ghosts S) where
       -- A crash leaves what it could leave before the call or, outside a transaction, this.
       abbrev pub CommitsAtMost : W → Type 0
       CommitsAtMost w = Leaves (λ v. (old.in_transaction ≡ false) × (v ≡ w))
+
+  -- What a look leaves, whatever it answers.
+  pub record OnlyLooks (old new : Held S) {T E : Type 0} (result : Result T E) : Type 0 where
+    -- nothing is committed, and a crash leaves nothing more
+    pub goes : Goes old new
+    -- one that was answered was at an honest store, and left all as it was
+    pub same : Stays whole old new result
+    -- one that was refused left all as it was, or undid the transaction
+    pub err : Refuses whole old new result
+
+  -- What an INSERT, a DELETE or a CREATE TABLE leaves, whatever it answers.
+  pub record OnlyEdits (old new : Held S) (sql : List ℕ) (params : Row) {E : Type 0} (result : Result (Unit {0}) E) : Type 0 where
+    -- within a transaction nothing is committed, and a crash leaves nothing more
+    pub goes : GoesWithin old new
+    -- one that was answered left the store as honest as it was, and outside a transaction committed what is seen
+    pub sees : OnOk result (Sees whole old new (state g new).now)
+    -- of what was seen it made what is seen now
+    pub made : Makes old new sql params result
+    -- one that was refused left all as it was, or undid the transaction
+    pub err : Refuses whole old new result
+    -- a crash leaves what it could leave before or, outside a transaction, what the edit makes
+    pub crash : EditsAtMost old new sql params

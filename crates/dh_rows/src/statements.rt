@@ -1,10 +1,10 @@
 //! Transactions and statements.
 
-ghost use Rattle.std.specs.Prelude.{◌≡◌, false, true, IfErr, OnOk};
+ghost use Rattle.std.specs.Prelude.{◌≡◌, false, true, IfErr};
 ghost use Rattle.sqlite.specs.Held.{state};
 ghost use Rattle.sqlite.specs.State.{Survives, CommitsBy};
 ghost use Rattle.sqlite.specs.Values.{bound};
-ghost use Rattle.dh_rows.specs.Calls.{AreRows, Begins, Blames, Commits, EditsAtMost, Finds, Goes, GoesWithin, IsEditText, IsHonest, IsPlainText, IsRejected, IsUnanswered, IsUnfit, Lasts, LeavesNoMore, LeavesSeen, Makes, Refuses, Runs, Sees, SparesListing, Stays, Stops, Undoes, whole};
+ghost use Rattle.dh_rows.specs.Calls.{AreRows, Begins, Blames, Commits, Finds, Goes, IsHonest, IsPlainEdit, IsPlainLook, IsRejected, IsUnanswered, IsUnfit, Lasts, LeavesNoMore, LeavesSeen, OnlyEdits, OnlyLooks, Refuses, Runs, Stops, Undoes, whole};
 
 use crate::fault::Fault;
 use sqlite::types::ValueRef;
@@ -69,14 +69,9 @@ pub fn change<S: Alter>(
     sql: &str,
     params: &[ValueRef<'_>],
 ) -> Result<(), Fault>
-    requires plain { IsHonest S.Store conn.old → IsPlainText (state S.Store conn.old) sql.now }
-    requires edits { IsHonest S.Store conn.old → IsEditText (state S.Store conn.old) sql.now }
-    ensures goes { GoesWithin S.Store conn.old conn.new }
-    ensures sees { OnOk result (Sees S.Store whole conn.old conn.new (state S.Store conn.new).now) }
-    ensures made { Makes S.Store conn.old conn.new sql.now (bound params.now) result }
-    ensures err { Refuses S.Store whole conn.old conn.new result }
+    requires edit { IsHonest S.Store conn.old → IsPlainEdit (state S.Store conn.old) sql.now }
+    ensures edits { OnlyEdits S.Store conn.old conn.new sql.now (bound params.now) result }
     ensures told { IfErr result (IsRejected S.Store conn.old conn.new sql.now (bound params.now)) }
-    ensures crash { EditsAtMost S.Store conn.old conn.new sql.now (bound params.now) }
 {
     run(conn, sql, params)
 }
@@ -87,13 +82,10 @@ pub fn select<S: Alter>(
     sql: &str,
     params: &[ValueRef<'_>],
 ) -> Result<Vec<Row>, Fault>
-    requires plain { IsHonest S.Store conn.old → IsPlainText (state S.Store conn.old) sql.now }
-    requires listing { IsHonest S.Store conn.old → SparesListing (state S.Store conn.old) sql.now }
+    requires look { IsHonest S.Store conn.old → IsPlainLook (state S.Store conn.old) sql.now }
     ensures rows { Finds S.Store conn.old conn.new result
         (λ rows. AreRows (state S.Store conn.old) sql.now (bound params.now) rows.items) }
-    ensures goes { Goes S.Store conn.old conn.new }
-    ensures same { Stays S.Store whole conn.old conn.new result }
-    ensures err { Refuses S.Store whole conn.old conn.new result }
+    ensures looks { OnlyLooks S.Store conn.old conn.new result }
     ensures told { IfErr result (IsUnanswered S.Store conn.old conn.new sql.now (bound params.now)) }
     ensures blamed { Blames S.Store conn.old conn.new result
         (IsUnfit (state S.Store conn.old) sql.now (bound params.now)) }

@@ -9,7 +9,7 @@ use Rattle.sqlite_trees.specs.declared.store.Store.{Ghosts}
 use Rattle.sqlite.specs.Effect.{Database}
 use Rattle.sqlite.specs.State.{HasCleanDisk}
 use Rattle.sqlite.specs.Held.{Held, state}
-use Rattle.dh_rows.specs.Calls.{whole, Edits, EditsAtMost, Makes, Keep, AreOurs, IsHonest, LeavesTrees, Leaves, Lasts, Goes, GoesWithin, Stays, Sees, Refuses, Shows, IsSame, IsUndone, IsRefused, IsBlamed, seen}
+use Rattle.dh_rows.specs.Calls.{whole, Edits, Makes, OnlyEdits, OnlyLooks, Keep, AreOurs, IsHonest, LeavesTrees, Leaves, Lasts, GoesWithin, Sees, Shows, IsSame, IsUndone, IsRefused, IsBlamed, seen}
 use Rattle.dh_rows.proofs.Views.{leaves, leaves_now}
 use Rattle.dh_records.specs.Faults.{told_as}
 use Rattle.dh_rows.specs.declared.fault.Fault as below
@@ -96,8 +96,8 @@ module _ {S : Type 0} (g : Ghosts S) (old new : Held S) where
       by_result r (λ p. undone_keeps lasts (ours honest.0 honest.1) p) (λ q. refused_keeps lasts (ours honest.0 honest.1) q) (ok (clean, live)) (err (clean, live))
 
   -- a look leaves the tables ours
-  pub read_ours : {T E : Type 0} (r : Result T E) → AreOurs Holds (state g old) → Goes g old new → Stays g whole old new r → Refuses g whole old new r → AreOurs Holds (state g new)
-  read_ours r ours goes same err = stay_ours _ r ours goes.lasts (λ _. same) err same_keeps
+  pub read_ours : {T E : Type 0} (r : Result T E) → AreOurs Holds (state g old) → OnlyLooks g old new r → AreOurs Holds (state g new)
+  read_ours r ours look = stay_ours _ r ours look.goes.lasts (λ _. look.same) look.err same_keeps
 
   pub commit_leaves : AreOurs Holds (state g old) → LeavesTrees g old new (λ db. db ≡ (state g old).now.trees) → Leaves g lists_of old new (λ w. w ≡ lists_of (state g old).now)
   commit_leaves ours left = leaves_now g lists_of old new (λ honest. (ours honest.0 honest.1).steady) left
@@ -122,12 +122,12 @@ inl_or (inr q) = inr (inl q)
 
 module _ {S : Type 0} (g : Ghosts S) (old new : Held S) where
   -- what a query leaves, over the lists
-  pub asked : {T P : Type 0} (r : Result T Fault) → Goes g old new → Stays g whole old new r → Refuses g whole old new r → Blames g old new r P → (IsHonest g old → P → ⊥) → Asks g old new r
-  asked r goes same err told never = record {
-    goes = goes;
-    same = λ clean. on_ok g old new (shown g old new _ _ _) r (same clean);
-    err = λ honest. on_err g old new (refused g old new) r (err honest);
-    told = λ clean. on_store r (blamed (goes.lasts.clean clean) never) (told clean);
+  pub asked : {T P : Type 0} (r : Result T Fault) → OnlyLooks g old new r → Blames g old new r P → (IsHonest g old → P → ⊥) → Asks g old new r
+  asked r look told never = record {
+    goes = look.goes;
+    same = λ clean. on_ok g old new (shown g old new _ _ _) r (look.same clean);
+    err = λ honest. on_err g old new (refused g old new) r (look.err honest);
+    told = λ clean. on_store r (blamed (look.goes.lasts.clean clean) never) (told clean);
   }
     where
       -- a store that was shut is to blame
@@ -173,12 +173,12 @@ module _ {S : Type 0} (g : Ghosts S) (old new : Held S) (ours : AreOurs Holds (s
   saw (Err e) lasts it made = tt
 
   -- what a statement leaves, over the lists
-  pub wrote : (r : Result (Unit {0}) Fault) → GoesWithin g old new → Saw r → Makes g old new sql params r → Refuses g whole old new r → EditsAtMost g old new sql params → Writes g old new r change
-  wrote r goes sees made err crash = record {
-    goes = goes;
-    sees = saw r goes.lasts sees made;
-    err = λ honest. on_err g old new (refused g old new) r (err honest);
-    crash = leaves g lists_of old new sql params (change (lists_of (state g old).now)) both (λ honest. (ours honest.0 honest.1).steady) crash;
+  pub wrote : (r : Result (Unit {0}) Fault) → OnlyEdits g old new sql params r → Writes g old new r change
+  wrote r edit = record {
+    goes = edit.goes;
+    sees = saw r edit.goes.lasts edit.sees edit.made;
+    err = λ honest. on_err g old new (refused g old new) r (edit.err honest);
+    crash = leaves g lists_of old new sql params (change (lists_of (state g old).now)) both (λ honest. (ours honest.0 honest.1).steady) edit.crash;
   }
 
   after_write : IsHonest g new → Keep Holds (state g old) → Changed (state g old).now (state g new).now change → GoesWithin g old new → Sees g whole old new (state g new).now → (b : Bool) → old.in_transaction ≡ b → Keep Holds (state g new)
@@ -197,31 +197,31 @@ module _ {S : Type 0} (g : Ghosts S) (old new : Held S) (ours : AreOurs Holds (s
     unlimited = goes.lasts.limit ∙ k.unlimited;
   }
 
-  pub written_ours : (r : Result (Unit {0}) Fault) → GoesWithin g old new → Saw r → Makes g old new sql params r → Refuses g whole old new r → AreOurs Holds (state g new)
-  written_ours r goes sees made err clean live =
-      let honest : IsHonest g old = goes.lasts.was (clean, live) in
+  pub written_ours : (r : Result (Unit {0}) Fault) → OnlyEdits g old new sql params r → AreOurs Holds (state g new)
+  written_ours r edit clean live =
+      let honest : IsHonest g old = edit.goes.lasts.was (clean, live) in
       let k = ours honest.0 honest.1 in
-      go r sees (made honest clean) (err (clean, live)) k honest (clean, live)
+      go r edit.sees (edit.made honest clean) (edit.err (clean, live)) k honest (clean, live)
     where
       go : (r : Result (Unit {0}) Fault) → Saw r → OnOk r (Edits (state g old) sql params (state g new).now) → OnErr r (IsRefused g whole old new) → Keep Holds (state g old) → IsHonest g old → IsHonest g new → Keep Holds (state g new)
-      go (Ok u) it made err k was now = after_write now k (effect was (state g new).now made) goes it old.in_transaction refl
-      go (Err e) it made err k was now = refused_keeps g old new goes.lasts k err
+      go (Ok u) it made err k was now = after_write now k (effect was (state g new).now made) edit.goes it old.in_transaction refl
+      go (Err e) it made err k was now = refused_keeps g old new edit.goes.lasts k err
 
 -- ---- making tables
 
 module _ {S : Type 0} (g : Ghosts S) (old new : Held S) where
   -- one statement, by what it makes of the database
   pub built_one : (sql : List ℕ) (params : Row) (P : Database → Type 0) (r : Result (Unit {0}) Fault) → (IsHonest g old → (after : Database) → Edits (state g old) sql params after → P after)
-      → GoesWithin g old new → OnOk r (Sees g whole old new (state g new).now) → Makes g old new sql params r → Refuses g whole old new r → BuildsOne g old new r P
-  built_one sql params P r effect goes sees made err = record {
-    builds = record { goes = goes; made = λ honest clean. go honest clean r sees (made honest clean) };
-    err = err;
+      → OnlyEdits g old new sql params r → BuildsOne g old new r P
+  built_one sql params P r effect edit = record {
+    builds = record { goes = edit.goes; made = λ honest clean. go honest clean r edit.sees (edit.made honest clean) };
+    err = edit.err;
   }
     where
       go : IsHonest g old → HasCleanDisk (state g new) → (r : Result (Unit {0}) Fault) → OnOk r (Sees g whole old new (state g new).now) → OnOk r (Edits (state g old) sql params (state g new).now) → OnOk r (GoesOn g old new × P (state g new).now)
       go honest clean (Ok u) s it =
           let now = s.live honest clean in
-          (record { honest = now; mode = s.mode now; settled = λ out. sym (s.done now out); waits = λ within. goes.kept within now }, effect honest (state g new).now it)
+          (record { honest = now; mode = s.mode now; settled = λ out. sym (s.done now out); waits = λ within. edit.goes.kept within now }, effect honest (state g new).now it)
       go honest clean (Err e) s it = tt
 
   -- what an answered step made

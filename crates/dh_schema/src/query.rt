@@ -1,10 +1,10 @@
 //! Statements on the rows, as the calls of the tables use them.
 
-ghost use Rattle.std.specs.Prelude.{◌≡◌, List, length, slice_get, is_some, OnOk};
+ghost use Rattle.std.specs.Prelude.{◌≡◌, List, length, slice_get, is_some};
 ghost use Rattle.sqlite_value.specs.Order.{Row as Values};
 ghost use Rattle.sqlite.specs.Held.{state};
 ghost use Rattle.sqlite.specs.Values.{bound};
-ghost use Rattle.dh_rows.specs.Calls.{AreRows, EditsAtMost, Finds, Goes, GoesWithin, IsEditText, IsHonest, IsPlainText, IsUnfit, Makes, Refuses, Sees, SparesListing, Stays, whole};
+ghost use Rattle.dh_rows.specs.Calls.{AreRows, Finds, IsHonest, IsPlainEdit, IsPlainLook, IsUnfit, OnlyEdits, OnlyLooks};
 ghost use Rattle.dh_schema.specs.Calling.{AreAsked, Blames, IsUnread};
 
 use dh_records::{Record, all, fault_of, first};
@@ -20,15 +20,12 @@ pub fn first_record<S: Alter, R: Record>(
     sql: &str,
     params: &[ValueRef<'_>],
 ) -> Result<Option<R>, Fault>
-    requires plain { IsHonest S.Store conn.old → IsPlainText (state S.Store conn.old) sql.now }
-    requires listing { IsHonest S.Store conn.old → SparesListing (state S.Store conn.old) sql.now }
+    requires look { IsHonest S.Store conn.old → IsPlainLook (state S.Store conn.old) sql.now }
     ensures value { Finds S.Store conn.old conn.new result
         (λ o. (xs : List R)
         → AreAsked R.coding.encode (state S.Store conn.old) sql.now (bound params.now) xs
         → o ≡ slice_get xs 0) }
-    ensures goes { Goes S.Store conn.old conn.new }
-    ensures same { Stays S.Store whole conn.old conn.new result }
-    ensures err { Refuses S.Store whole conn.old conn.new result }
+    ensures looks { OnlyLooks S.Store conn.old conn.new result }
     ensures told { Blames S.Store conn.old conn.new result
         (IsUnread R.coding.encode R.typed (state S.Store conn.old) sql.now (bound params.now)) }
 {
@@ -45,15 +42,12 @@ pub fn all_records<S: Alter, R: Record>(
     sql: &str,
     params: &[ValueRef<'_>],
 ) -> Result<Vec<R>, Fault>
-    requires plain { IsHonest S.Store conn.old → IsPlainText (state S.Store conn.old) sql.now }
-    requires listing { IsHonest S.Store conn.old → SparesListing (state S.Store conn.old) sql.now }
+    requires look { IsHonest S.Store conn.old → IsPlainLook (state S.Store conn.old) sql.now }
     ensures value { Finds S.Store conn.old conn.new result
         (λ v. (xs : List R)
         → AreAsked R.coding.encode (state S.Store conn.old) sql.now (bound params.now) xs
         → v.items ≡ xs) }
-    ensures goes { Goes S.Store conn.old conn.new }
-    ensures same { Stays S.Store whole conn.old conn.new result }
-    ensures err { Refuses S.Store whole conn.old conn.new result }
+    ensures looks { OnlyLooks S.Store conn.old conn.new result }
     ensures told { Blames S.Store conn.old conn.new result
         (IsUnread R.coding.encode R.typed (state S.Store conn.old) sql.now (bound params.now)) }
 {
@@ -69,15 +63,12 @@ pub fn has_record<S: Alter>(
     sql: &str,
     params: &[ValueRef<'_>],
 ) -> Result<bool, Fault>
-    requires plain { IsHonest S.Store conn.old → IsPlainText (state S.Store conn.old) sql.now }
-    requires listing { IsHonest S.Store conn.old → SparesListing (state S.Store conn.old) sql.now }
+    requires look { IsHonest S.Store conn.old → IsPlainLook (state S.Store conn.old) sql.now }
     ensures value { Finds S.Store conn.old conn.new result
         (λ b. (rows : List Values)
         × AreRows (state S.Store conn.old) sql.now (bound params.now) rows
         × (b ≡ is_some (slice_get rows 0))) }
-    ensures goes { Goes S.Store conn.old conn.new }
-    ensures same { Stays S.Store whole conn.old conn.new result }
-    ensures err { Refuses S.Store whole conn.old conn.new result }
+    ensures looks { OnlyLooks S.Store conn.old conn.new result }
     ensures told { Blames S.Store conn.old conn.new result
         (IsUnfit (state S.Store conn.old) sql.now (bound params.now)) }
 {
@@ -93,15 +84,12 @@ pub fn count_records<S: Alter>(
     sql: &str,
     params: &[ValueRef<'_>],
 ) -> Result<usize, Fault>
-    requires plain { IsHonest S.Store conn.old → IsPlainText (state S.Store conn.old) sql.now }
-    requires listing { IsHonest S.Store conn.old → SparesListing (state S.Store conn.old) sql.now }
+    requires look { IsHonest S.Store conn.old → IsPlainLook (state S.Store conn.old) sql.now }
     ensures value { Finds S.Store conn.old conn.new result
         (λ n. (rows : List Values)
         × AreRows (state S.Store conn.old) sql.now (bound params.now) rows
         × (n ≡ length rows)) }
-    ensures goes { Goes S.Store conn.old conn.new }
-    ensures same { Stays S.Store whole conn.old conn.new result }
-    ensures err { Refuses S.Store whole conn.old conn.new result }
+    ensures looks { OnlyLooks S.Store conn.old conn.new result }
     ensures told { Blames S.Store conn.old conn.new result
         (IsUnfit (state S.Store conn.old) sql.now (bound params.now)) }
 {
@@ -117,13 +105,8 @@ pub fn write<S: Alter>(
     sql: &str,
     params: &[ValueRef<'_>],
 ) -> Result<(), Fault>
-    requires plain { IsHonest S.Store conn.old → IsPlainText (state S.Store conn.old) sql.now }
-    requires edits { IsHonest S.Store conn.old → IsEditText (state S.Store conn.old) sql.now }
-    ensures goes { GoesWithin S.Store conn.old conn.new }
-    ensures sees { OnOk result (Sees S.Store whole conn.old conn.new (state S.Store conn.new).now) }
-    ensures made { Makes S.Store conn.old conn.new sql.now (bound params.now) result }
-    ensures err { Refuses S.Store whole conn.old conn.new result }
-    ensures crash { EditsAtMost S.Store conn.old conn.new sql.now (bound params.now) }
+    requires edit { IsHonest S.Store conn.old → IsPlainEdit (state S.Store conn.old) sql.now }
+    ensures edits { OnlyEdits S.Store conn.old conn.new sql.now (bound params.now) result }
 {
     match dh_rows::change(conn, sql, params) {
         Ok(()) => Ok(()),

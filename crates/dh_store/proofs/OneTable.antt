@@ -55,7 +55,7 @@ module _ {X : Type 0} {t : Table} {c : Coding X} {typed : X → Type 0} (o : Tab
 
   module _ (s : State) (had : Holds s.now) where
     alters : {text : List ℕ} {params : Row} {change : List X → List X} → ((xs : List X) → AllByRecursion typed xs → AllByRecursion typed (change xs)) → Writes s text params t c change → Alters s text params (λ l. o.with (change (o.part l)) l)
-    alters {change = change} stays it = record { plain = it.plain; edits = it.edits; changed = λ after made. o.changed s.now after change stays had (it.turns after made) }
+    alters {change = change} stays it = record { edit = it.edit; changed = λ after made. o.changed s.now after change stays had (it.turns after made) }
 
     -- DELETE FROM t WHERE ..
     pub deletes : (text : List ℕ) (ws : List (ℕ × ℕ)) → delete_of t text ≡ Some ws → (params : Row) (test : X → Bool) → ((n : ℤ) (x : X) → matching (wanted ws) params (Int n ∷ c.encode x) ≡ test x)

@@ -6,7 +6,7 @@ use Rattle.sqlite.specs.Effect.{Database}
 use Rattle.sqlite.specs.State.{State}
 use Rattle.sqlite.specs.Held.{Held, state}
 use Rattle.sqlite_trees.specs.declared.store.Store.{Ghosts}
-use Rattle.dh_rows.specs.Calls.{Edits, IsEditText, IsHonest, IsPlainText}
+use Rattle.dh_rows.specs.Calls.{Edits, IsHonest, IsPlainEdit}
 use Rattle.dh_rows.proofs.Asks.{Answers}
 use Rattle.dh_records.specs.Lists.{Lists}
 use Rattle.dh_records.specs.Typed.{AreTyped}
@@ -23,8 +23,7 @@ IsQuery {X} encode typed s sql params = (part : Lists → List X) × (test : X �
 
 -- The text is an INSERT or a DELETE that makes this of the lists.
 pub record Alters (s : State) (sql : List ℕ) (params : Row) (change : Lists → Lists) : Type 0 where
-  pub plain : IsPlainText s sql
-  pub edits : IsEditText s sql
+  pub edit : IsPlainEdit s sql
   pub changed : (after : Database) → Edits s sql params after → Changed s.now after change
 
 module _ {S : Type 0} (g : Ghosts S) (h : Held S) (sql : List ℕ) (params : Row) where

@@ -4,11 +4,8 @@ use Rattle.dh_schema.proofs.Made.{make_pass_asks, make_pass_makes}
 use Rattle.dh_schema.proofs.CallLemmas.{built_one}
 use Rattle.dh_schema.proofs.making.make_pass.Goals as goal
 
-pub write-requires-clause-plain : goal.write-requires-clause-plain
-write-requires-clause-plain g c honest = (make_pass_asks (state g.S.Store c.args.conn.now) (c.requires honest)).plain
-
-pub write-requires-clause-edits : goal.write-requires-clause-edits
-write-requires-clause-edits g c honest = (make_pass_asks (state g.S.Store c.args.conn.now) (c.requires honest)).edits
+pub write-requires : goal.write-requires
+write-requires g c = record { edit = λ honest. (make_pass_asks (state g.S.Store c.args.conn.now) (c.requires honest)).edit }
 
 pub returns : goal.returns
-returns g c = record { builds = built_one g.S.Store c.args.conn.now c.write.new.conn _ [] _ c.write.result (λ honest. make_pass_makes (state g.S.Store c.args.conn.now) (c.requires honest)) c.write.ensures.goes c.write.ensures.sees c.write.ensures.made c.write.ensures.err }
+returns g c = record { builds = built_one g.S.Store c.args.conn.now c.write.new.conn _ [] _ c.write.result (λ honest. make_pass_makes (state g.S.Store c.args.conn.now) (c.requires honest)) c.write.ensures.edits }

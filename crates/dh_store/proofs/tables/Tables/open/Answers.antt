@@ -6,21 +6,21 @@ use Rattle.dh_store.proofs.OpenLemmas.{on_not_ours, was_honest, is_seen, is_last
 use Rattle.dh_store.proofs.tables.Tables.open.Goals as goal
 
 pub invariant_of-result : goal.invariant_of-result
-invariant_of-result g c clean live = keeps g.S.Store c.args.conn c.set_step_limit.new.self c.check.new.conn c.set_step_limit.ensures (c.in-Ok.ensures.same clean) c.show_settled.ensures (c.in-Ok.ensures.ok clean) c.in-Ok.ensures.goes.lasts
+invariant_of-result g c clean live = keeps g.S.Store c.args.conn c.set_step_limit.new.self c.check.new.conn c.set_step_limit.ensures (c.in-Ok.ensures.looks.same clean) c.show_settled.ensures (c.in-Ok.ensures.ok clean) c.in-Ok.ensures.looks.goes.lasts
 
 pub returns-in-Ok-clause-opened : goal.returns-in-Ok-clause-opened
 returns-in-Ok-clause-opened g c clean =
-    let same = c.in-Ok.ensures.same clean in
+    let same = c.in-Ok.ensures.looks.same clean in
     (was_honest g.S.Store c.args.conn c.set_step_limit.new.self c.check.new.conn c.set_step_limit.ensures same c.show_settled.ensures, (clean, same.is_open), same.mode ∙ ap (λ h. h.in_transaction) c.set_step_limit.ensures ∙ c.requires)
 
 pub returns-in-Ok-clause-seen : goal.returns-in-Ok-clause-seen
-returns-in-Ok-clause-seen g c clean = is_seen g.S.Store c.args.conn c.set_step_limit.new.self c.check.new.conn c.set_step_limit.ensures (c.in-Ok.ensures.same clean) c.show_settled.ensures
+returns-in-Ok-clause-seen g c clean = is_seen g.S.Store c.args.conn c.set_step_limit.new.self c.check.new.conn c.set_step_limit.ensures (c.in-Ok.ensures.looks.same clean) c.show_settled.ensures
 
 pub returns-in-Ok-clause-last : goal.returns-in-Ok-clause-last
-returns-in-Ok-clause-last g c clean = is_last g.S.Store c.args.conn c.set_step_limit.new.self c.check.new.conn c.set_step_limit.ensures (c.in-Ok.ensures.same clean) c.show_settled.ensures
+returns-in-Ok-clause-last g c clean = is_last g.S.Store c.args.conn c.set_step_limit.new.self c.check.new.conn c.set_step_limit.ensures (c.in-Ok.ensures.looks.same clean) c.show_settled.ensures
 
 pub returns-in-Ok-clause-sound : goal.returns-in-Ok-clause-sound
-returns-in-Ok-clause-sound g c clean = are_sound g.S.Store c.args.conn c.set_step_limit.new.self c.check.new.conn c.set_step_limit.ensures (c.in-Ok.ensures.same clean) c.show_settled.ensures (c.in-Ok.ensures.ok clean)
+returns-in-Ok-clause-sound g c clean = are_sound g.S.Store c.args.conn c.set_step_limit.new.self c.check.new.conn c.set_step_limit.ensures (c.in-Ok.ensures.looks.same clean) c.show_settled.ensures (c.in-Ok.ensures.ok clean)
 
 pub returns-in-Ok-clause-left : goal.returns-in-Ok-clause-left
 returns-in-Ok-clause-left g c honest w left =
