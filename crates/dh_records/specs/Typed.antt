@@ -1,5 +1,5 @@
 -- Which columns and which records can be read: each text is one of its type, and each number fits.
-use Rattle.std.specs.Prelude.{◌≡◌, ℕ, pos, ◌<◌, ◌^◌, Bool, List, IsTrue, IsUtf8, Some}
+use Rattle.std.specs.Prelude.{◌≡◌, ℕ, pos, ◌<◌, ◌^◌, Bool, List, IsTrue, IsUtf8, Some, Result, IfOk}
 use Rattle.std.specs.List.{AllByRecursion}
 use Rattle.sqlite_value.specs.declared.value.Value.TheVariants.{Int, Text, Blob}
 use Rattle.sqlite_value.specs.Order.{Row, column}
@@ -9,6 +9,9 @@ use Rattle.dh_rules.specs.Patterns.{pattern_text}
 use Rattle.dh_rules.specs.declared.pattern.Pattern.{Pattern}
 use Rattle.dh_world.specs.declared.answer.Answer.{Answer}
 use Rattle.dh_world.specs.Answers.{IsAnswer, json_of}
+use Rattle.dh_lookup.specs.Faults.{OnStore}
+use Rattle.dh_lookup.specs.declared.fault.Fault.{Fault}
+use Rattle.dh_records.specs.Codings.{text_in}
 use Rattle.dh_records.specs.Lists.{Lists}
 use Rattle.dh_records.specs.declared.records.ProjectRow.{ProjectRow}
 use Rattle.dh_records.specs.declared.records.LangRow.{LangRow}
@@ -49,6 +52,13 @@ module _ (row : Row) (at : ℕ) where
 -- a text that passes the test of its type
 abbrev pub IsOf : (List ℕ → Bool) → Row → ℕ → Type 0
 IsOf test row at = (t : List ℕ) × (column row at ≡ Text t) × IsUtf8 t × IsTrue (test t)
+
+-- A column is read as a text of a type, or refused where it is none.
+pub record ReadsAs (test : List ℕ → Bool) (row : Row) (at : ℕ) (result : Result (List ℕ) Fault) : Type 0 where
+  -- it is the column's text
+  pub value : IfOk result (λ t. text_in row at ≡ t)
+  -- `Store` is told only where the column has no such text
+  pub told : OnStore result (¬ IsOf test row at)
 
 -- ---- records
 

@@ -134,43 +134,37 @@ fn body_at(row: &Row, at: usize) -> Result<Bytes, Fault>
 }
 
 fn host_at(alloc: Global, row: &Row, at: usize) -> Result<HostName, Fault>
-    ensures value { IfOk result (λ t. spec.text_in row.now at ≡ t) }
-    ensures told { OnStore result (¬ typed.IsOf is_host_name row.now at) }
+    ensures reads { typed.ReadsAs is_host_name row.now at result }
 {
     HostName::parse(alloc, text_at(row, at)?.as_str()).map_err(fault_of_text)
 }
 
 fn lang_at(alloc: Global, row: &Row, at: usize) -> Result<Lang, Fault>
-    ensures value { IfOk result (λ t. spec.text_in row.now at ≡ t) }
-    ensures told { OnStore result (¬ typed.IsOf is_lang row.now at) }
+    ensures reads { typed.ReadsAs is_lang row.now at result }
 {
     Lang::parse(alloc, text_at(row, at)?.as_str()).map_err(fault_of_text)
 }
 
 fn slug_at(alloc: Global, row: &Row, at: usize) -> Result<Slug, Fault>
-    ensures value { IfOk result (λ t. spec.text_in row.now at ≡ t) }
-    ensures told { OnStore result (¬ typed.IsOf is_slug row.now at) }
+    ensures reads { typed.ReadsAs is_slug row.now at result }
 {
     Slug::parse(alloc, text_at(row, at)?.as_str()).map_err(fault_of_text)
 }
 
 fn ref_at(alloc: Global, row: &Row, at: usize) -> Result<RefName, Fault>
-    ensures value { IfOk result (λ t. spec.text_in row.now at ≡ t) }
-    ensures told { OnStore result (¬ typed.IsOf is_ref_name row.now at) }
+    ensures reads { typed.ReadsAs is_ref_name row.now at result }
 {
     RefName::parse(alloc, text_at(row, at)?.as_str()).map_err(fault_of_text)
 }
 
 fn path_at(alloc: Global, row: &Row, at: usize) -> Result<PagePath, Fault>
-    ensures value { IfOk result (λ t. spec.text_in row.now at ≡ t) }
-    ensures told { OnStore result (¬ typed.IsOf is_page_path row.now at) }
+    ensures reads { typed.ReadsAs is_page_path row.now at result }
 {
     PagePath::parse(alloc, text_at(row, at)?.as_str()).map_err(fault_of_text)
 }
 
 fn token_at(alloc: Global, row: &Row, at: usize) -> Result<Token, Fault>
-    ensures value { IfOk result (λ t. spec.text_in row.now at ≡ t) }
-    ensures told { OnStore result (¬ typed.IsOf is_token row.now at) }
+    ensures reads { typed.ReadsAs is_token row.now at result }
 {
     Token::parse(alloc, text_at(row, at)?.as_str()).map_err(fault_of_text)
 }
