@@ -1,6 +1,7 @@
 -- What looks leave, one after the other.
 use Rattle.std.proofs.Common.{◌≡◌, ◌≤◌, ℕ, Bool, true, false, ◌&&◌, Option, None, Some, Result, Ok, Err, IsTrue, IfOk, OnOk, OnErr, inl, inr, refl, ◌⊎◌, subst, sym, ap, ◌∙◌, arith, zero, suc, true≢false}
-use Rattle.std.specs.Prelude.{IsErrAnd, option_map}
+use Rattle.std.specs.Prelude.{List, [], Vec, IsErrAnd, option_map, option_and_then}
+use Rattle.std.specs.Option.{option_map_or}
 use Rattle.sqlite_trees.specs.View.{doubt}
 use Rattle.sqlite_trees.specs.declared.store.Store.{Ghosts}
 use Rattle.sqlite.specs.State.{HasCleanDisk}
@@ -9,6 +10,7 @@ use Rattle.dh_lookup.specs.declared.fault.Fault.{Fault}
 use Rattle.dh_lookup.specs.declared.fault.Fault.TheVariants.{Store, Memory}
 use Rattle.dh_lookup.specs.Faults.{OnStore, UnlessStore}
 use Rattle.dh_lookup.specs.Lookup as lookup
+use Rattle.dh_lookup.specs.declared.seen_project.SeenProject.{SeenProject}
 use Rattle.dh_rows.specs.Calls.{IsBlamed, IsHonest, IsSame, Lasts, seen}
 use Rattle.dh_schema.specs.Tables.{lists_of}
 use Rattle.dh_world.specs.World.{Text}
@@ -200,6 +202,11 @@ module _ {S : Type 0} {g : Ghosts S} where
     cause = λ clean. elim (p.told clean) [ inl blamed ↦ inl blamed | inr never ↦ absurd never ];
   }
 
+-- an answer that is said in another way
+pub same_answer : {T U E : Type 0} (f : T → U) (r : Result T E) (v w : U) → v ≡ w → IfOk r (λ x. f x ≡ v) → IfOk r (λ x. f x ≡ w)
+same_answer f (Ok x) v w e h = h ∙ e
+same_answer f (Err x) v w e h = tt
+
 module _ {S : Type 0} (g : Ghosts S) where
   -- `Store` where a transaction is open
   pub view_within : {T : Type 0} (a : View S) → a.tables.now.in_transaction ≡ true → lookup.Asks {T = T} (meaning_of g) a a (Err Store)
@@ -228,7 +235,7 @@ module _ {S : Type 0} (g : Ghosts S) where
   -- the project whose record was found, as the caller sees it
   module _ {a b : View S} {o : Option ProjectRow} (p : lookup.Asks (meaning_of g) a b (Ok o))
       (value : IsHonest g b.tables.now → option_map (project_of (seen g lists_of a.tables.now)) o ≡ project_in (seen g lists_of a.tables.now) a.host) where
-    pub shown_found
+    shown_found
         : (row : ProjectRow) → o ≡ Some row → IsHonest g b.tables.now
         → Some (shown_in (seen g lists_of b.tables.now) row b.pass) ≡ shown g a.tables.now a.host a.pass
     shown_found row is it =
@@ -238,17 +245,37 @@ module _ {S : Type 0} (g : Ghosts S) where
         ∙ ap (λ o. option_map (λ q. caller.seen_project q a.pass) (option_map (project_of lists) o)) (sym is)
         ∙ ap (option_map (λ q. caller.seen_project q a.pass)) (value it)
 
-    pub none_shown : o ≡ None → IsHonest g b.tables.now → None ≡ shown g a.tables.now a.host a.pass
+    none_shown : o ≡ None → IsHonest g b.tables.now → None ≡ shown g a.tables.now a.host a.pass
     none_shown is it =
         let lists = seen g lists_of a.tables.now in
         ap (λ o. option_map (λ q. caller.seen_project q a.pass) (option_map (project_of lists) o)) (sym is)
         ∙ ap (option_map (λ q. caller.seen_project q a.pass)) (value it)
 
--- ---- answers
+    -- what a look at the tables tells of it
+    pub maybe_shown
+        : {U : Type 0} {h : Held S} {r : Result (Option U) Fault} {v : Option U} (f : SeenProject → Option U) (row : ProjectRow) → o ≡ Some row
+        → v ≡ f (shown_in (seen g lists_of b.tables.now) row b.pass) → Asks g b.tables.now h r → (IsHonest g h → IfOk r (λ x. x ≡ v))
+        → doubt_of g h ≡ 0 → IfOk r (λ x. x ≡ option_and_then f (shown g a.tables.now a.host a.pass))
+    maybe_shown {h = h} {r = r} f row is e asks reads d =
+        let it = honest g h d in
+        same_answer (λ x. x) r _ _ (e ∙ ap (option_and_then f) (shown_found row is (asks.goes.lasts.was it))) (reads it)
 
-pub same_answer : {T U E : Type 0} (f : T → U) (r : Result T E) (v w : U) → v ≡ w → IfOk r (λ x. f x ≡ v) → IfOk r (λ x. f x ≡ w)
-same_answer f (Ok x) v w e h = h ∙ e
-same_answer f (Err x) v w e h = tt
+    pub maybe_none : {U : Type 0} (f : SeenProject → Option U) → o ≡ None → doubt_of g b.tables.now ≡ 0 → None ≡ option_and_then f (shown g a.tables.now a.host a.pass)
+    maybe_none f is d = ap (option_and_then f) (none_shown is (honest g b.tables.now d))
+
+    -- the same of a list
+    pub all_shown
+        : {U Z : Type 0} {h : Held S} {r : Result (Vec U Z) Fault} {v : List U} (f : SeenProject → List U) (row : ProjectRow) → o ≡ Some row
+        → v ≡ f (shown_in (seen g lists_of b.tables.now) row b.pass) → Asks g b.tables.now h r → (IsHonest g h → IfOk r (λ list. list.items ≡ v))
+        → doubt_of g h ≡ 0 → IfOk r (λ list. list.items ≡ option_map_or f (shown g a.tables.now a.host a.pass) [])
+    all_shown {h = h} {r = r} f row is e asks reads d =
+        let it = honest g h d in
+        same_answer (λ list. list.items) r _ _ (e ∙ ap (λ o. option_map_or f o []) (shown_found row is (asks.goes.lasts.was it))) (reads it)
+
+    pub all_none : {U : Type 0} {list : List U} (f : SeenProject → List U) → list ≡ [] → o ≡ None → doubt_of g b.tables.now ≡ 0 → list ≡ option_map_or f (shown g a.tables.now a.host a.pass) []
+    all_none f e is d = e ∙ ap (λ o. option_map_or f o []) (none_shown is (honest g b.tables.now d))
+
+-- ---- answers
 
 pub through : {T U V E : Type 0} (f : T → U) (k : U → V) (r : Result T E) (v : U) (w : V) → k v ≡ w → IfOk r (λ x. f x ≡ v) → IfOk r (λ x. k (f x) ≡ w)
 through f k (Ok x) v w e h = ap k h ∙ e

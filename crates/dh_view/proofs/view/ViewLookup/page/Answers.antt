@@ -1,20 +1,10 @@
-use Rattle.std.proofs.Common.{refl, ap}
-use Rattle.std.specs.Option.{option_and_then}
+use Rattle.std.proofs.Common.{refl}
 use Rattle.dh_lookup.specs.SeenProject.{page_at}
-use Rattle.dh_view.proofs.ViewLemmas.{honest, none_shown, same_answer, shown_found, view_on}
+use Rattle.dh_view.proofs.ViewLemmas.{maybe_none, maybe_shown, view_on}
 use Rattle.dh_view.proofs.view.ViewLookup.page.Goals as goal
 
-pub returns-in-Some-clause-asks : goal.returns-in-Some-clause-asks
-returns-in-Some-clause-asks g c = view_on g.S.Store c.in_ok-project.ensures.asks (refl, refl, refl) c.in_ok-project.ensures.settled c.visible_page.ensures.asks
-
-pub returns-in-Some-clause-value : goal.returns-in-Some-clause-value
-returns-in-Some-clause-value g c d =
-    let it = honest g.S.Store _ d in
-    let before = c.visible_page.ensures.asks.goes.lasts.was it in
-    same_answer (λ x. x) c.visible_page.result _ _
-    (ap (option_and_then (λ p. page_at p c.args.lang.now c.args.slug.now c.args.path.now)) (shown_found g.S.Store c.in_ok-project.ensures.asks c.in_ok-project.ensures.value c.in-Some.project c.in-Some.is before))
-    (c.visible_page.ensures.value it)
+pub returns-in-Some : goal.returns-in-Some
+returns-in-Some g c = record { asks = view_on g.S.Store c.in_ok-project.ensures.asks (refl, refl, refl) c.in_ok-project.ensures.settled c.visible_page.ensures.asks; value = maybe_shown g.S.Store c.in_ok-project.ensures.asks c.in_ok-project.ensures.value (λ p. page_at p c.args.lang.now c.args.slug.now c.args.path.now) c.in-Some.project c.in-Some.is refl c.visible_page.ensures.asks c.visible_page.ensures.value }
 
 pub returns-in-None-clause-value : goal.returns-in-None-clause-value
-returns-in-None-clause-value g c d =
-    ap (option_and_then (λ p. page_at p c.args.lang.now c.args.slug.now c.args.path.now)) (none_shown g.S.Store c.in_ok-project.ensures.asks c.in_ok-project.ensures.value c.in-None.is (honest g.S.Store _ d))
+returns-in-None-clause-value g c = maybe_none g.S.Store c.in_ok-project.ensures.asks c.in_ok-project.ensures.value (λ p. page_at p c.args.lang.now c.args.slug.now c.args.path.now) c.in-None.is
