@@ -6,9 +6,9 @@ ghost use Rattle.sqlite.specs.State.{HasCleanDisk};
 ghost use Rattle.dh_rows.specs.Calls.{IsHonest, IsRefused, KeepsCommitted, Lasts, LeavesNoMore, LeavesCommitted};
 ghost use Rattle.dh_schema.specs.Calling.{Blames};
 ghost use Rattle.dh_schema.specs.Tables.{lists_of};
-ghost use Rattle.dh_transactions.specs.Crashes.{LeavesStep, LeavesEither};
+ghost use Rattle.dh_transactions.specs.Crashes.{LeavesEither};
 ghost use Rattle.dh_tables.specs.Going.{IsOver, last_records};
-ghost use Rattle.dh_transactions.specs.Steps.{Steps};
+ghost use Rattle.dh_transactions.specs.Steps.{Transacts};
 ghost use Rattle.dh_world.specs.Checks.{IsFault};
 ghost use Rattle.dh_world.specs.Reads.{is_unanswered};
 ghost use Rattle.dh_world.specs.Step.{IsStep};
@@ -75,18 +75,7 @@ fn act<S: Alter>(
     command: &Command,
 ) -> Result<Answer, Refusal>
     requires { IsKept S.Store tables.old }
-    ensures steps { IsHonest S.Store tables.new
-        → Steps (last_records S.Store tables.old) (last_records S.Store tables.new) command.now
-        result }
-    ensures outside { IsHonest S.Store tables.new → IsOver S.Store tables.new result }
-    ensures crash { LeavesStep S.Store tables.old tables.new command.now }
-    ensures refused { IfErr result
-        (λ e. IsFault e ⊎ LeavesNoMore S.Store tables.old tables.new) }
-    ensures live { HasCleanDisk (state S.Store tables.new)
-        → OnOk result (IsHonest S.Store tables.new) }
-    ensures clean { HasCleanDisk (state S.Store tables.new)
-        → HasCleanDisk (state S.Store tables.old) }
-    ensures was { IsHonest S.Store tables.new → IsHonest S.Store tables.old }
+    ensures { Transacts S.Store tables.old tables.new command.now result }
 {
     tables.back()?;
     run(tables, alloc, command)
@@ -99,19 +88,8 @@ fn apply<S: Alter>(
     command: &Command,
 ) -> Result<Answer, Refusal>
     requires { IsKept S.Store tables.old }
-    ensures steps { IsHonest S.Store tables.new
-        → Steps (last_records S.Store tables.old) (last_records S.Store tables.new) command.now
-        result }
-    ensures outside { IsHonest S.Store tables.new → IsOver S.Store tables.new result }
-    ensures crash { LeavesStep S.Store tables.old tables.new command.now }
-    ensures refused { IfErr result
-        (λ e. IsFault e ⊎ LeavesNoMore S.Store tables.old tables.new) }
-    ensures live { HasCleanDisk (state S.Store tables.new)
-        → OnOk result (IsHonest S.Store tables.new) }
+    ensures transacts { Transacts S.Store tables.old tables.new command.now result }
     ensures open { TellsMemory S.Store tables.new result }
-    ensures clean { HasCleanDisk (state S.Store tables.new)
-        → HasCleanDisk (state S.Store tables.old) }
-    ensures was { IsHonest S.Store tables.new → IsHonest S.Store tables.old }
 {
     match act(tables, alloc, command) {
         Err(Refusal::OutOfMemory) => Err(ask_store(tables)),

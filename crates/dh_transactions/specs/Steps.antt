@@ -1,8 +1,14 @@
 -- What a command makes of sound records.
-use Rattle.std.specs.Prelude.{◌≡◌, ◌⊎◌, Result, Ok, Err}
+use Rattle.std.specs.Prelude.{◌≡◌, ◌⊎◌, Result, Ok, Err, IfErr, OnOk}
 use Rattle.std.specs.FinMap.{get}
+use Rattle.sqlite_trees.specs.declared.store.Store.{Ghosts}
+use Rattle.sqlite.specs.Held.{Held, state}
+use Rattle.sqlite.specs.State.{HasCleanDisk}
+use Rattle.dh_rows.specs.Calls.{IsHonest, LeavesNoMore}
 use Rattle.dh_records.specs.Lists.{Lists, world_of}
+use Rattle.dh_tables.specs.Going.{IsOver, last_records}
 use Rattle.dh_tables.specs.Sound.{AreSound}
+use Rattle.dh_transactions.specs.Crashes.{LeavesStep}
 use Rattle.dh_world.specs.Checks.{IsFault}
 use Rattle.dh_world.specs.Step.{turn, step, PushRefusedAt, IsSetAside}
 use Rattle.dh_world.specs.declared.answer.Answer.{Answer}
@@ -23,3 +29,19 @@ Steps before after c (Ok answer) =
     (step (world_of before) c ≡ Ok (world_of after, answer)) × AreSound after
 Steps before after c (Err e) =
     (after ≡ before) × (IsSetAside (world_of before) c e ⊎ (step (world_of before) c ≡ Err e))
+
+-- What a command leaves that is done as one transaction.
+pub record Transacts {S : Type 0} (g : Ghosts S) (old new : Held S) (c : Command)
+    (result : Result Answer Refusal) : Type 0 where
+  -- an answer is its one step of what is committed, and a refusal leaves that
+  pub steps : IsHonest g new → Steps (last_records g old) (last_records g new) c result
+  -- no transaction is open, but after a fault
+  pub outside : IsHonest g new → IsOver g new result
+  -- a crash leaves what was committed before, or what the step makes of it
+  pub crash : LeavesStep g old new c
+  -- and nothing more, where the command was refused without a fault
+  pub refused : IfErr result (λ e. IsFault e ⊎ LeavesNoMore g old new)
+  -- an answer comes of an honest store alone
+  pub live : HasCleanDisk (state g new) → OnOk result (IsHonest g new)
+  pub clean : HasCleanDisk (state g new) → HasCleanDisk (state g old)
+  pub was : IsHonest g new → IsHonest g old

@@ -5,10 +5,10 @@ ghost use Rattle.sqlite.specs.State.{HasCleanDisk};
 ghost use Rattle.dh_checks.specs.Commands.{command_of};
 ghost use Rattle.dh_rows.specs.Calls.{IsHonest, LeavesNoMore, Goes};
 ghost use Rattle.dh_world.specs.Checks.{IsFault};
-ghost use Rattle.dh_transactions.specs.Crashes.{LeavesEnd, LeavesStep};
+ghost use Rattle.dh_transactions.specs.Crashes.{LeavesEnd};
 ghost use Rattle.dh_tables.specs.Going.{Stays, IsOver, records, last_records};
 ghost use Rattle.dh_tables.specs.Sound.{AreSound};
-ghost use Rattle.dh_transactions.specs.Steps.{Turns, Steps};
+ghost use Rattle.dh_transactions.specs.Steps.{Transacts, Turns};
 
 use crate::opening::open_project;
 use dh_checks::{CheckedChange, CheckedCommand, check};
@@ -85,18 +85,7 @@ pub fn run<S: Alter>(
     requires settled { IsHonest S.Store tables.old
         → records S.Store tables.old ≡ last_records S.Store tables.old }
     requires sound { IsHonest S.Store tables.old → AreSound (last_records S.Store tables.old) }
-    ensures steps { IsHonest S.Store tables.new
-        → Steps (last_records S.Store tables.old) (last_records S.Store tables.new) command.now
-        result }
-    ensures outside { IsHonest S.Store tables.new → IsOver S.Store tables.new result }
-    ensures crash { LeavesStep S.Store tables.old tables.new command.now }
-    ensures refused { IfErr result
-        (λ e. IsFault e ⊎ LeavesNoMore S.Store tables.old tables.new) }
-    ensures live { HasCleanDisk (state S.Store tables.new)
-        → OnOk result (IsHonest S.Store tables.new) }
-    ensures clean { HasCleanDisk (state S.Store tables.new)
-        → HasCleanDisk (state S.Store tables.old) }
-    ensures was { IsHonest S.Store tables.new → IsHonest S.Store tables.old }
+    ensures { Transacts S.Store tables.old tables.new command.now result }
 {
     let CheckedCommand { host, change } = check(alloc, command)?;
     tables.begin()?;

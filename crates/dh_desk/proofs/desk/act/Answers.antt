@@ -1,4 +1,4 @@
-use Rattle.std.proofs.Common.{◌∙◌, sym, subst}
+use Rattle.std.proofs.Common.{◌∙◌, rules, sym, subst}
 use Rattle.dh_desk.proofs.Applying.{steps_aside, over_aside, stays}
 use Rattle.dh_desk.proofs.desk.act.Goals as goal
 use Rattle.dh_records.specs.Lists.{Lists}
@@ -7,13 +7,18 @@ use Rattle.dh_tables.specs.Going.{last_records}
 use Rattle.dh_tables.specs.Sound.{AreSound}
 use Rattle.dh_transactions.specs.Steps.{Steps}
 
-pub returns-in_err-back-clause-steps : goal.returns-in_err-back-clause-steps
-returns-in_err-back-clause-steps g c honest =
-    steps_aside (last_records g.S.Store c.args.tables.now) (last_records g.S.Store c.back.new.self) c.args.command.now _ _
-    (stays g.S.Store c.args.tables.now c.back.new.self (c.in_err-back.ensures.err honest)) c.from_residual.ensures.1
-
-pub returns-in_err-back-clause-outside : goal.returns-in_err-back-clause-outside
-returns-in_err-back-clause-outside g c honest = over_aside g.S.Store c.back.new.self _ _ c.from_residual.ensures.1
+pub returns-in_err-back : goal.returns-in_err-back
+returns-in_err-back g c = record {
+  steps = λ honest.
+      steps_aside (last_records g.S.Store c.args.tables.now) (last_records g.S.Store c.back.new.self) c.args.command.now _ _
+      (stays g.S.Store c.args.tables.now c.back.new.self (c.in_err-back.ensures.err honest)) c.from_residual.ensures.1;
+  outside = λ honest. over_aside g.S.Store c.back.new.self _ _ c.from_residual.ensures.1;
+  crash = search rules;
+  refused = search rules;
+  live = search rules;
+  clean = search rules;
+  was = search rules;
+}
 
 pub run-requires : goal.run-requires
 run-requires g c = record {
@@ -22,12 +27,16 @@ run-requires g c = record {
   sound = λ honest. subst AreSound (sym (c.in_ok-back.ensures.undone honest).last_is) (c.requires (c.back.ensures.goes.lasts.was honest));
 }
 
-pub returns-clause-steps : goal.returns-clause-steps
-returns-clause-steps g c honest =
-    let h1 = c.run.ensures.was honest in
-    let P : Lists → Type 0 = λ l. Steps l (last_records g.S.Store c.run.new.tables) c.args.command.now c.run.result in
-    subst P (c.in_ok-back.ensures.undone h1).last_is (c.run.ensures.steps honest)
-
-pub returns-clause-crash : goal.returns-clause-crash
-returns-clause-crash g c =
-    step_after g.S.Store c.args.tables.now c.back.new.self c.run.new.tables c.args.command.now c.back.ensures.goes.lasts.was c.back.ensures.quiet c.back.ensures.goes.kept c.run.ensures.clean c.run.ensures.crash
+pub returns : goal.returns
+returns g c = record {
+  steps = λ honest.
+      let h1 = c.run.ensures.was honest in
+      let P : Lists → Type 0 = λ l. Steps l (last_records g.S.Store c.run.new.tables) c.args.command.now c.run.result in
+      subst P (c.in_ok-back.ensures.undone h1).last_is (c.run.ensures.steps honest);
+  outside = c.run.ensures.outside;
+  crash = step_after g.S.Store c.args.tables.now c.back.new.self c.run.new.tables c.args.command.now c.back.ensures.goes.lasts.was c.back.ensures.quiet c.back.ensures.goes.kept c.run.ensures.clean c.run.ensures.crash;
+  refused = search rules;
+  live = c.run.ensures.live;
+  clean = λ it. c.back.ensures.goes.lasts.clean (c.run.ensures.clean it);
+  was = λ it. c.back.ensures.goes.lasts.was (c.run.ensures.was it);
+}

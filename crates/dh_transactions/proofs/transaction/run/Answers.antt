@@ -1,4 +1,4 @@
-use Rattle.std.proofs.Common.{◌∙◌, subst}
+use Rattle.std.proofs.Common.{◌∙◌, rules, subst}
 use Rattle.dh_checks.specs.Commands.{command_of}
 use Rattle.dh_rows.specs.Calls.{IsHonest}
 use Rattle.dh_records.specs.Lists.{Lists}
@@ -8,25 +8,41 @@ use Rattle.dh_tables.specs.Going.{records, last_records}
 use Rattle.dh_transactions.specs.Steps.{Turns}
 use Rattle.dh_world.specs.declared.command.Command.{Command}
 
-pub returns-clause-crash : goal.returns-clause-crash
-returns-clause-crash g c =
-    let old = c.args.tables.now in
-    let begun = c.begin.new.self in
-    let worked = c.work-worked.new.tables in
-    let result = c.work-worked.result in
-    let turned : IsHonest g.S.Store old → IsHonest g.S.Store begun → IsHonest g.S.Store worked → Turns (last_records g.S.Store old) (records g.S.Store worked) c.args.command.now result =
-    λ h0 h1 h2.
-    let before = (c.in_ok-begin.ensures.begun h1.0).now_is ∙ c.requires.settled h0 in
-    let P : Lists → Command → Type 0 = λ l x. Turns l (records g.S.Store worked) x result in
-    subst (P (last_records g.S.Store old)) c.in_ok-host.ensures.1
-    (subst (λ l. P l (command_of c.in_ok-host.field-0.host c.in_ok-host.field-0.change)) before (c.work-worked.ensures.turns h2)) in
-    ended_leaves g.S.Store old begun worked c.end.new.tables c.args.command.now result c.in_ok-host.ensures.0
-    (λ clean. (c.in_ok-begin.ensures.begun clean).was_honest) c.begin.ensures.goes.kept c.begin.ensures.quiet (λ _. c.in_ok-begin.ensures.begun)
-    c.work-worked.ensures.goes.lasts.clean c.work-worked.ensures.goes.kept c.work-worked.ensures.goes.quiet
-    (given_ok _ _ _ result c.work-worked.ensures.live) turned c.end.ensures.clean c.end.ensures.crash
+pub returns-in_err-begin : goal.returns-in_err-begin
+returns-in_err-begin g c = record {
+  steps = search rules;
+  outside = search rules;
+  crash = search rules;
+  refused = search rules;
+  live = search rules;
+  clean = search rules;
+  was = search rules;
+}
 
-pub returns-clause-refused : goal.returns-clause-refused
-returns-clause-refused g c =
-    refused_after g.S.Store c.args.tables.now c.work-worked.new.tables c.end.new.tables c.end.result
-    (worked_no_more g.S.Store c.args.tables.now c.begin.new.self c.work-worked.new.tables (λ clean. (c.in_ok-begin.ensures.begun clean).was_honest) c.begin.ensures.quiet (λ _. c.in_ok-begin.ensures.begun) c.work-worked.ensures.goes.lasts.clean c.work-worked.ensures.goes.quiet)
-    c.end.ensures.clean c.end.ensures.refused
+pub returns : goal.returns
+returns g c = record {
+  steps = search rules;
+  outside = search rules;
+  crash =
+      let old = c.args.tables.now in
+      let begun = c.begin.new.self in
+      let worked = c.work-worked.new.tables in
+      let result = c.work-worked.result in
+      let turned : IsHonest g.S.Store old → IsHonest g.S.Store begun → IsHonest g.S.Store worked → Turns (last_records g.S.Store old) (records g.S.Store worked) c.args.command.now result =
+      λ h0 h1 h2.
+      let before = (c.in_ok-begin.ensures.begun h1.0).now_is ∙ c.requires.settled h0 in
+      let P : Lists → Command → Type 0 = λ l x. Turns l (records g.S.Store worked) x result in
+      subst (P (last_records g.S.Store old)) c.in_ok-host.ensures.1
+      (subst (λ l. P l (command_of c.in_ok-host.field-0.host c.in_ok-host.field-0.change)) before (c.work-worked.ensures.turns h2)) in
+      ended_leaves g.S.Store old begun worked c.end.new.tables c.args.command.now result c.in_ok-host.ensures.0
+      (λ clean. (c.in_ok-begin.ensures.begun clean).was_honest) c.begin.ensures.goes.kept c.begin.ensures.quiet (λ _. c.in_ok-begin.ensures.begun)
+      c.work-worked.ensures.goes.lasts.clean c.work-worked.ensures.goes.kept c.work-worked.ensures.goes.quiet
+      (given_ok _ _ _ result c.work-worked.ensures.live) turned c.end.ensures.clean c.end.ensures.crash;
+  refused =
+      refused_after g.S.Store c.args.tables.now c.work-worked.new.tables c.end.new.tables c.end.result
+      (worked_no_more g.S.Store c.args.tables.now c.begin.new.self c.work-worked.new.tables (λ clean. (c.in_ok-begin.ensures.begun clean).was_honest) c.begin.ensures.quiet (λ _. c.in_ok-begin.ensures.begun) c.work-worked.ensures.goes.lasts.clean c.work-worked.ensures.goes.quiet)
+      c.end.ensures.clean c.end.ensures.refused;
+  live = search rules;
+  clean = search rules;
+  was = search rules;
+}
