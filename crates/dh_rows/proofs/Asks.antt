@@ -1,5 +1,5 @@
 -- What a statement on a table of ours asks and does, from its text alone: one lemma for each shape.
-use Rattle.std.proofs.Common.{◌≡◌, inl, inr, ℕ, ℤ, List, [], ◌∷◌, ◌≤◌, length, map, filter, not, Bool, true, false, None, Some, IsSome, Ok, ◌/◌, sym, ap, subst, ◌∙◌, true≢false}
+use Rattle.std.proofs.Common.{◌≡◌, inl, inr, ℕ, ℤ, List, [], ◌∷◌, ◌≤◌, length, map, filter, not, Bool, true, None, Some, IsSome, Ok, ◌/◌, sym, ap, subst, ◌∙◌, true≢false}
 use Rattle.sqlite_value.specs.declared.value.Value.TheVariants.{Null, Int}
 use Rattle.sqlite_value.specs.declared.keys.Key.{Key}
 use Rattle.sqlite_value.specs.Order.{Row}

@@ -1,5 +1,5 @@
 -- From what the connection says of a statement to what is seen of the database.
-use Rattle.std.proofs.Common.{◌≡◌, ◌⊎◌, inl, inr, ℕ, Option, List, [], codes, Bool, true, false, not, cond, ◌≤◌, ◌||◌, length, None, Some, IsSome, Ok, Err, Result, IsTrue, OnOk, OnErr, IfErr, IsErrAnd, refl, sym, ap, subst, ◌∙◌, arith, append-nil, true≢false}
+use Rattle.std.proofs.Common.{◌≡◌, ◌⊎◌, inl, inr, ℕ, Option, List, [], codes, Bool, true, false, not, cond, ◌||◌, length, None, Some, IsSome, Ok, Err, Result, IsTrue, OnOk, OnErr, IfErr, IsErrAnd, refl, sym, ap, subst, ◌∙◌, arith, append-nil, true≢false}
 use Rattle.std.proofs.lemmas.Bool.{cases_Bool}
 use Rattle.sqlite_value.specs.Order.{Row}
 use Rattle.sqlite_trees.specs.Tree.{Trees}
@@ -14,9 +14,11 @@ use Rattle.sqlite_resolve.specs.declared.compiled.Compiled.{Compiled}
 use Rattle.sqlite_resolve.specs.declared.error.CompileError.{CompileError}
 use Rattle.sqlite_tied.specs.Compute.{everything}
 use Rattle.sqlite.specs.declared.error.Error.{Error}
+use Rattle.sqlite.specs.declared.error.Error.TheVariants.{InvalidQuery}
 use Rattle.sqlite.specs.Effect.{Database, RefusesToRead, is_query}
 use Rattle.sqlite.specs.Calls.{IsWrite}
-use Rattle.sqlite.specs.Does.{Does}
+use Rattle.sqlite.specs.Does.{Does, Tally}
+use Rattle.sqlite.specs.Rows.{Outcome}
 use Rattle.sqlite.specs.Listing.{understood, IsSourceOf}
 use Rattle.sqlite.specs.State as state
 use Rattle.sqlite.specs.State.{State, HasCleanDisk, Survives, Executes, ExecutesIn, IsNotRun, FailsToQuery, Shown, RunsCommand, FailsToShow, ShowsRows, Runs, Fails, IsUnchanged, IsRolledBack, shows_rows, CommitsBy, CommitsShowing, MayCommit, text_of}
@@ -66,26 +68,36 @@ commit_text = codes "COMMIT"
 abbrev pub rollback_text : List ℕ
 rollback_text = codes "ROLLBACK"
 
-begin_is : (schema : Schema) → (callers.command_of (understood schema begin_text) ≡ Begin) × IsPlain (understood schema begin_text)
+abbrev pub tail_of : Result Compiled CompileError → ℕ
+tail_of (Ok c) = c.tail
+tail_of (Err e) = 0
+
+abbrev pub parameters_of : Result Compiled CompileError → ℕ
+parameters_of (Ok c) = length c.names
+parameters_of (Err e) = 0
+
+-- The text is this one statement, with no parameter, whatever the schema is, and the statement changes no table.
+pub record IsBare (text : List ℕ) (k : Command) : Type 1 where
+  pub is : (schema : Schema) → callers.command_of (understood schema text) ≡ k
+  pub plain : (schema : Schema) → IsPlain (understood schema text)
+  pub whole : (schema : Schema) → tail_of (understood schema text) ≡ length text
+  pub free : (schema : Schema) → parameters_of (understood schema text) ≡ 0
+  pub silent : is_query k || (state.is_pragma k || false) ≡ false
+  pub spares : ¬ IsWrite k
+  pub idle : (s : State) (params : Row) (text : List ℕ) (out : Outcome (Tally × Database)) → Does s.step_limit (state.mode_of s) params s.now text None k out → out ≡ Err (Some InvalidQuery)
+
+-- So are the three, as their texts are read.
+are_bare : IsBare begin_text Begin × IsBare commit_text Commit × IsBare rollback_text Rollback
 unfolding understood everything
-begin_is schema = (refl, (refl, refl))
+are_bare = (
+  record { is = λ schema. refl; plain = λ schema. (refl, refl); whole = λ schema. refl; free = λ schema. refl; silent = refl; spares = λ it. it; idle = λ s params text out it. it },
+  record { is = λ schema. refl; plain = λ schema. (refl, refl); whole = λ schema. refl; free = λ schema. refl; silent = refl; spares = λ it. it; idle = λ s params text out it. it },
+  record { is = λ schema. refl; plain = λ schema. (refl, refl); whole = λ schema. refl; free = λ schema. refl; silent = refl; spares = λ it. it; idle = λ s params text out it. it },
+)
 
-commit_is : (schema : Schema) → (callers.command_of (understood schema commit_text) ≡ Commit) × IsPlain (understood schema commit_text)
-unfolding understood everything
-commit_is schema = (refl, (refl, refl))
-
-rollback_is : (schema : Schema) → (callers.command_of (understood schema rollback_text) ≡ Rollback) × IsPlain (understood schema rollback_text)
-unfolding understood everything
-rollback_is schema = (refl, (refl, refl))
-
-begins : (old new : State) (count : ℕ) → Executes begin_text [] old new (Ok count) → Runs old new None Begin (callers.statement_of begin_text (understood old.now.schema begin_text)) [] count
-begins old new count = runs_as begin_text [] old new old.now.schema refl Begin (begin_is _).0 (begin_is _).1 count
-
-commits : (old new : State) (count : ℕ) → Executes commit_text [] old new (Ok count) → Runs old new None Commit (callers.statement_of commit_text (understood old.now.schema commit_text)) [] count
-commits old new count = runs_as commit_text [] old new old.now.schema refl Commit (commit_is _).0 (commit_is _).1 count
-
-rolls_back : (old new : State) (count : ℕ) → Executes rollback_text [] old new (Ok count) → Runs old new None Rollback (callers.statement_of rollback_text (understood old.now.schema rollback_text)) [] count
-rolls_back old new count = runs_as rollback_text [] old new old.now.schema refl Rollback (rollback_is _).0 (rollback_is _).1 count
+-- what it did where it was run
+runs_bare : {text : List ℕ} {k : Command} → IsBare text k → (old new : State) (count : ℕ) → Executes text [] old new (Ok count) → Runs old new None k (callers.statement_of text (understood old.now.schema text)) [] count
+runs_bare {text = text} {k = k} bare old new count = runs_as text [] old new old.now.schema refl k (bare.is _) (bare.plain _) count
 
 -- ---- what a statement may commit
 
@@ -99,32 +111,21 @@ may_commit sql params s db plain h =
 command_is : {r : Result Compiled CompileError} {c : Compiled} {k : Command} → callers.command_of r ≡ k → r ≡ Ok c → c.command ≡ k
 command_is is e = sym (ap callers.command_of e) ∙ is
 
-begin_commits : (s : State) (db : Trees) → ¬ CommitsBy begin_text [] s db
-begin_commits s db h =
-    let it = may_commit begin_text [] s db (begin_is _).1 h in
-    let k = command_is (begin_is _).0 it.1 in
+-- a statement that changes no table commits what is seen, and only where it ends a transaction
+bare_commits : {text : List ℕ} {k : Command} → IsBare text k → (s : State) (db : Trees) → CommitsBy text [] s db → ((k ≡ Commit) ⊎ ((name : List ℕ) × (k ≡ Release name))) × (db ≡ s.now.trees)
+bare_commits {text = text} {k = k} bare s db h =
+    let it = may_commit text [] s db (bare.plain _) h in
+    let same : it.0.command ≡ k = command_is (bare.is _) it.1 in
     elim it.2 [
-      | inl done ↦ elim done.0 [ inl e ↦ absurd (let x : Begin ≡ Commit = sym k ∙ e in cc) | inr e ↦ absurd (let x : Begin ≡ Release e.0 = sym k ∙ e.2 in cc) ]
-      | inr done ↦ absurd (let x = rw k at done.3 in let y = x in cc)
+      | inl done ↦ (elim done.0 [ inl e ↦ inl (sym same ∙ e) | inr e ↦ inr (e.0, sym same ∙ e.2) ], done.1)
+      | inr done ↦ absurd (let none = bare.idle s [] (text_of text it.0) (Ok (done.1, done.2)) (rw same at done.3) in cc)
     ]
+
+begin_commits : (s : State) (db : Trees) → ¬ CommitsBy begin_text [] s db
+begin_commits s db h = elim (bare_commits are_bare.0 s db h).0 [ inl e ↦ cc | inr e ↦ (let x = e.1 in cc) ]
 
 rollback_commits : (s : State) (db : Trees) → ¬ CommitsBy rollback_text [] s db
-rollback_commits s db h =
-    let it = may_commit rollback_text [] s db (rollback_is _).1 h in
-    let k = command_is (rollback_is _).0 it.1 in
-    elim it.2 [
-      | inl done ↦ elim done.0 [ inl e ↦ absurd (let x : Rollback ≡ Commit = sym k ∙ e in cc) | inr e ↦ absurd (let x : Rollback ≡ Release e.0 = sym k ∙ e.2 in cc) ]
-      | inr done ↦ absurd (let x = rw k at done.3 in let y = x in cc)
-    ]
-
-commit_commits : (s : State) (db : Trees) → CommitsBy commit_text [] s db → db ≡ s.now.trees
-commit_commits s db h =
-    let it = may_commit commit_text [] s db (commit_is _).1 h in
-    let k = command_is (commit_is _).0 it.1 in
-    elim it.2 [
-      | inl done ↦ done.1
-      | inr done ↦ absurd (let x = rw k at done.3 in let y = x in cc)
-    ]
+rollback_commits s db h = elim (bare_commits are_bare.2 s db h).0 [ inl e ↦ cc | inr e ↦ (let x = e.1 in cc) ]
 
 edit_commits : (sql : List ℕ) (params : Row) (s : State) (db : Trees) → IsPlain (understood s.now.schema sql) → IsEdit (command_of (understood s.now.schema sql)) → CommitsBy sql params s db
     → (s.in_transaction ≡ false) × (after : Database) × Edits s sql params after × (db ≡ after.trees)
@@ -153,31 +154,13 @@ blamed g old new too_big e small h is = go h.0 h.1 h.2
     go Broken same why = inr why
     go Unstorable same why = absurd (small why)
 
-abbrev pub tail_of : Result Compiled CompileError → ℕ
-tail_of (Ok c) = c.tail
-tail_of (Err e) = 0
-
-abbrev pub parameters_of : Result Compiled CompileError → ℕ
-parameters_of (Ok c) = length c.names
-parameters_of (Err e) = 0
-
--- The text is this one statement, with no parameter, whatever the schema is, and the statement changes no table.
-pub record IsBare (text : List ℕ) (k : Command) : Type 1 where
-  pub is : (schema : Schema) → callers.command_of (understood schema text) ≡ k
-  pub plain : (schema : Schema) → IsPlain (understood schema text)
-  pub whole : (schema : Schema) → length text ≤ tail_of (understood schema text)
-  pub free : (schema : Schema) → parameters_of (understood schema text) ≡ 0
-  pub silent : is_query k || (state.is_pragma k || false) ≡ false
-  pub spares : ¬ IsWrite k
-  pub small : (s : State) (params : Row) (text : List ℕ) → ¬ Does s.step_limit (state.mode_of s) params s.now text None k (Err None)
-
 module _ {S : Type 0} (g : Ghosts S) (old new : Held S) (text : List ℕ) (k : Command) (bare : IsBare text k) where
   why : (e : Error) → Executes text [] (state_of g old) (state_of g new) (Err e) → fault_of e ≡ Store → IsBlamed g old new ⊎ state.IsMisplaced (state_of g old) k e
   unfolding ExecutesIn IsNotRun
   why e (inl (inl h)) is = elim h.0 [
     | inl it ↦ absurd (subst IsPlain it.1 (bare.plain _))
     | inr it ↦ elim it.2 [
-      | inl past ↦ absurd (past.0 (subst (λ r. length text ≤ tail_of r) it.1 (bare.whole _)))
+      | inl past ↦ absurd (past.0 (let end = subst (λ r. tail_of r ≡ length text) it.1 (bare.whole _) in omega arith))
       | inr more ↦ elim more [
         | inl given ↦ absurd (given.0 (sym (subst (λ r. parameters_of r ≡ 0) it.1 (bare.free _))))
         | inr timed ↦ absurd (timed.0 (subst IsPlain it.1 (bare.plain _)).1)
@@ -195,7 +178,7 @@ module _ {S : Type 0} (g : Ghosts S) (old new : Held S) (text : List ℕ) (k : C
           | inl misplaced ↦ inr (subst (λ k. state.IsMisplaced (state_of g old) k e) same misplaced)
           | inr does ↦ absurd (elim does.0 [ inl writes ↦ bare.spares (subst IsWrite same writes) | inr returns ↦ (let x = subst IsSome none returns in cc) ])
         ]
-        | inr it ↦ inl (blamed g old new _ e (rw (same, none) (bare.small (state_of g old) _ _)) it is)
+        | inr it ↦ inl (blamed g old new _ e (rw (same, none) (λ it. let e = bare.idle (state_of g old) _ _ (Err None) it in cc)) it is)
       ]
 
   -- A refusal is the store's own, but where the statement is out of place.
@@ -205,59 +188,23 @@ module _ {S : Type 0} (g : Ghosts S) (old new : Held S) (text : List ℕ) (k : C
       let it = told clean in
       elim (why it.0 it.2 (sym it.1 ∙ is)) [ inl own ↦ inl own | inr misplaced ↦ inr (out it.0 misplaced) ]
 
-begin_bare : IsBare begin_text Begin
-unfolding understood everything
-begin_bare = record {
-  is = λ schema. refl;
-  plain = λ schema. (refl, refl);
-  whole = λ schema. let e : tail_of (understood schema begin_text) ≡ 5 = refl in omega arith;
-  free = λ schema. refl;
-  silent = refl;
-  spares = λ it. it;
-  small = λ s params text it. cc;
-}
-
-commit_bare : IsBare commit_text Commit
-unfolding understood everything
-commit_bare = record {
-  is = λ schema. refl;
-  plain = λ schema. (refl, refl);
-  whole = λ schema. let e : tail_of (understood schema commit_text) ≡ 6 = refl in omega arith;
-  free = λ schema. refl;
-  silent = refl;
-  spares = λ it. it;
-  small = λ s params text it. cc;
-}
-
-rollback_bare : IsBare rollback_text Rollback
-unfolding understood everything
-rollback_bare = record {
-  is = λ schema. refl;
-  plain = λ schema. (refl, refl);
-  whole = λ schema. let e : tail_of (understood schema rollback_text) ≡ 8 = refl in omega arith;
-  free = λ schema. refl;
-  silent = refl;
-  spares = λ it. it;
-  small = λ s params text it. cc;
-}
-
 module _ {S : Type 0} (g : Ghosts S) (old new : Held S) (r : Result (Unit {0}) Fault) where
   pub begin_blames : IfErr r (IsRejected g old new begin_text []) → Blames g old new r (old.in_transaction ≡ true)
-  begin_blames told = blames g old new begin_text Begin begin_bare _ r told out
+  begin_blames told = blames g old new begin_text Begin are_bare.0 _ r told out
     where
       out : (e : Error) → state.IsMisplaced (state_of g old) Begin e → old.in_transaction ≡ true
       out e (inl it) = elim it.1 [ inl within ↦ within.1 | inr ends ↦ absurd (elim ends.0 [ inl x ↦ cc | inr x ↦ cc ]) ]
       out e (inr it) = absurd (elim it.2 [ inl x ↦ cc | inr x ↦ cc ])
 
   pub commit_blames : IfErr r (IsRejected g old new commit_text []) → Blames g old new r (old.in_transaction ≡ false)
-  commit_blames told = blames g old new commit_text Commit commit_bare _ r told out
+  commit_blames told = blames g old new commit_text Commit are_bare.1 _ r told out
     where
       out : (e : Error) → state.IsMisplaced (state_of g old) Commit e → old.in_transaction ≡ false
       out e (inl it) = elim it.1 [ inl begins ↦ absurd (let x = begins.0 in cc) | inr ends ↦ ends.1 ]
       out e (inr it) = absurd (elim it.2 [ inl x ↦ cc | inr x ↦ cc ])
 
   pub rollback_blames : IfErr r (IsRejected g old new rollback_text []) → old.in_transaction ≡ true → Blames g old new r ⊥
-  rollback_blames told within = blames g old new rollback_text Rollback rollback_bare _ r told out
+  rollback_blames told within = blames g old new rollback_text Rollback are_bare.2 _ r told out
     where
       out : (e : Error) → state.IsMisplaced (state_of g old) Rollback e → ⊥
       out e (inl it) = elim it.1 [ inl begins ↦ absurd (let x = begins.0 in cc) | inr ends ↦ true≢false (sym within ∙ ends.1) ]
@@ -418,7 +365,7 @@ module _ {S : Type 0} (g : Ghosts S) (old new : Held S) (r : Result (Unit {0}) F
     begun clean = go r (ran clean)
       where
         go : (r : Result (Unit {0}) Fault) → OnOk r ((n : ℕ) × Executes begin_text [] (state_of g old) (state_of g new) (Ok n)) → OnOk r (Shows g whole old new (state_of g old).now (state_of g old).committed true)
-        go (Ok u) it = told g old new _ survives _ _ _ (begins _ _ it.0 it.1).1 clean
+        go (Ok u) it = told g old new _ survives _ _ _ (runs_bare are_bare.0 _ _ it.0 it.1).1 clean
         go (Err e) it = tt
 
     pub begun_no_more : LeavesNoMore g old new
@@ -436,18 +383,18 @@ module _ {S : Type 0} (g : Ghosts S) (old new : Held S) (r : Result (Unit {0}) F
     done ran clean = go r (ran clean)
       where
         go : (r : Result (Unit {0}) Fault) → OnOk r ((n : ℕ) × Executes commit_text [] (state_of g old) (state_of g new) (Ok n)) → OnOk r (Shows g whole old new (state_of g old).now (state_of g old).now false)
-        go (Ok u) it = told g old new _ survives _ _ _ (commits _ _ it.0 it.1).1 clean
+        go (Ok u) it = told g old new _ survives _ _ _ (runs_bare are_bare.1 _ _ it.0 it.1).1 clean
         go (Err e) it = tt
 
     pub done_leaves : LeavesTrees g old new (λ db. db ≡ (state_of g old).now.trees)
-    done_leaves = leaves g old new _ survives _ (λ _. commit_commits _)
+    done_leaves = leaves g old new _ survives _ (λ _ db it. (bare_commits are_bare.1 _ db it).1)
 
   module _ (survives : Survives (state_of g old) (state_of g new) (CommitsBy rollback_text [] (state_of g old))) (ran : Ran g old new rollback_text [] r) where
     pub undoes : Undoes g whole old new r
     undoes honest = go r (ran honest.0)
       where
         go : (r : Result (Unit {0}) Fault) → OnOk r ((n : ℕ) × Executes rollback_text [] (state_of g old) (state_of g new) (Ok n)) → OnOk r (IsUndone g whole old new)
-        go (Ok u) it = undone g old new _ survives (rolls_back _ _ it.0 it.1).1 honest
+        go (Ok u) it = undone g old new _ survives (runs_bare are_bare.2 _ _ it.0 it.1).1 honest
         go (Err e) it = tt
 
     pub undone_no_more : LeavesNoMore g old new

@@ -11,6 +11,7 @@ use Rattle.sqlite_schema.specs.Names.{table_named}
 use Rattle.sqlite_syntax.specs.declared.statement.Parsed.{Parsed}
 use Rattle.sqlite_ast.specs.declared.Expr.{Expr}
 use Rattle.sqlite_ast.specs.declared.Rows.{Rows}
+use Rattle.sqlite_ast.specs.declared.Upsert.{Upsert}
 use Rattle.sqlite_ast.specs.declared.Statement.TheVariants as written
 use Rattle.sqlite_ast.specs.declared.Conflict.TheVariants as conflict
 use Rattle.sqlite_draft.specs.declared.query.Draft.{Draft}
@@ -49,19 +50,25 @@ module _ (schema : Schema) (p : Parsed) (name : List ℕ) (test : Option Expr) (
     delete_means text read = understood_as schema text _ (compiled_as schema text p [] None (Delete at q) read delete_time (delete_shows _) (deletes _))
 
 -- any INSERT of rows
-module _ (schema : Schema) (p : Parsed) (name : List ℕ) (columns : List (List ℕ)) (rows : Rows) (is : p.statement ≡ written.Insert conflict.Abort name columns rows [] []) (formats : p.formats ≡ [])
-    (at : ℕ) (table : Table) (named : table_named schema name ≡ Some at) (stands : slice_get schema.tables at ≡ Some table) (plain : table.stamps.formats ≡ []) where
-  insert_time : timed schema p.formats p.statement ≡ []
-  unfolding timed
-  insert_time = rw (is, formats, named, stands, plain) refl
+module _ (schema : Schema) (p : Parsed) (name : List ℕ) (columns : List (List ℕ)) (rows : Rows) (formats : p.formats ≡ []) (at : ℕ) (table : Table)
+    (named : table_named schema name ≡ Some at) (stands : slice_get schema.tables at ≡ Some table) (plain : table.stamps.formats ≡ []) where
+  -- with these clauses of ON CONFLICT, where this is its command
+  module _ (clauses : List Upsert) (is : p.statement ≡ written.Insert conflict.Abort name columns rows clauses []) where
+    insert_time : timed schema p.formats p.statement ≡ []
+    unfolding timed
+    insert_time = rw (is, formats, named, stands, plain) refl
 
-  insert_shows : (base : ℕ) → returning schema base p.statement ≡ Ok None
-  unfolding returning shows
-  insert_shows base = rw is refl
+    insert_shows : (base : ℕ) → returning schema base p.statement ≡ Ok None
+    unfolding returning shows
+    insert_shows base = rw is refl
 
-  inserts : (base : ℕ) (source : Source) → new_rows schema table base columns rows ≡ Ok source → command schema p.formats base p.statement ≡ Ok (Insert at source)
-  unfolding command insert_or_abort insert
-  inserts base source h = rw (is, named, stands, h) refl
+    pub inserted : (text : List ℕ) (c : Command) → first text ≡ Ok p → command schema p.formats (small p.names + small []) p.statement ≡ Ok c → understood schema text ≡ Ok (with_command p ([], (c, None)))
+    inserted text c read done = understood_as schema text _ (compiled_as schema text p [] None c read insert_time (insert_shows _) done)
 
-  pub insert_means : (text : List ℕ) (source : Source) → first text ≡ Ok p → new_rows schema table (small p.names + small []) columns rows ≡ Ok source → understood schema text ≡ Ok (with_command p ([], (Insert at source, None)))
-  insert_means text source read h = understood_as schema text _ (compiled_as schema text p [] None (Insert at source) read insert_time (insert_shows _) (inserts _ source h))
+  module _ (is : p.statement ≡ written.Insert conflict.Abort name columns rows [] []) where
+    inserts : (base : ℕ) (source : Source) → new_rows schema table base columns rows ≡ Ok source → command schema p.formats base p.statement ≡ Ok (Insert at source)
+    unfolding command insert_or_abort insert
+    inserts base source h = rw (is, named, stands, h) refl
+
+    pub insert_means : (text : List ℕ) (source : Source) → first text ≡ Ok p → new_rows schema table (small p.names + small []) columns rows ≡ Ok source → understood schema text ≡ Ok (with_command p ([], (Insert at source, None)))
+    insert_means text source read h = inserted [] is text (Insert at source) read (inserts _ source h)

@@ -1,5 +1,5 @@
 -- A text of one of our shapes, read off by a function, so that `refl` finds the shape of a text that is written out.
-use Rattle.std.proofs.Common.{◌≡◌, ℕ, zero, suc, ◌-◌, ◌+◌, ◌≤◌, List, [], ◌∷◌, ◌++◌, map, length, nat_le, Bool, true, false, cond, Option, None, Some, Ok, Err, Result, refl, sym, ap, ◌∙◌, slice_get, option_and_then, bytes_eq, leb, leb-true, true≢false}
+use Rattle.std.proofs.Common.{◌≡◌, ℕ, zero, suc, ◌-◌, ◌+◌, ◌≤◌, List, [], ◌∷◌, ◌++◌, map, length, nat_le, Bool, true, false, Option, None, Some, Ok, Err, refl, sym, ap, ◌∙◌, slice_get, option_and_then, bytes_eq, leb-true, not}
 use Rattle.std.proofs.lemmas.Slice.Eq.{bytes_eq-Decides}
 use Rattle.sqlite_ast.specs.Layer.{Layer, ShownLayer}
 use Rattle.sqlite_ast.specs.declared.Expr.{Expr, out-Expr}
@@ -53,14 +53,6 @@ absent : {A B : Type 0} (a : Option A) (o : Option B) (b : B) → if_none a o �
 absent None o b h = (refl, h)
 absent (Some a) o b h = absurd (cc)
 
-abbrev if_not : {B : Type 0} → Bool → Option B → Option B
-if_not false o = o
-if_not true o = None
-
-not_so : {B : Type 0} (a : Bool) (o : Option B) (b : B) → if_not a o ≡ Some b → (a ≡ false) × (o ≡ Some b)
-not_so false o b h = (refl, h)
-not_so true o b h = absurd (cc)
-
 abbrev if_true : {B : Type 0} → Bool → Option B → Option B
 if_true true o = o
 if_true false o = None
@@ -68,6 +60,13 @@ if_true false o = None
 so : {B : Type 0} (a : Bool) (o : Option B) (b : B) → if_true a o ≡ Some b → (a ≡ true) × (o ≡ Some b)
 so true o b h = (refl, h)
 so false o b h = absurd (cc)
+
+abbrev if_not : {B : Type 0} → Bool → Option B → Option B
+if_not a o = if_true (not a) o
+
+not_so : {B : Type 0} (a : Bool) (o : Option B) (b : B) → if_not a o ≡ Some b → (a ≡ false) × (o ≡ Some b)
+not_so false o b h = (refl, h)
+not_so true o b h = absurd (cc)
 
 same_bytes : (a b : List ℕ) → bytes_eq a b ≡ true → a ≡ b
 same_bytes a b e = (bytes_eq-Decides a b).0 e
@@ -345,26 +344,9 @@ is_frame t q o z h =
     let alias = absent _ _ z from.1 in
     let using = nil _ _ z alias.1 in
     let on = absent _ _ z using.1 in
-    let left = not_so _ _ z on.1 in (
-      src.0,
-      record {
-        bare = bare.0;
-        others = others.0;
-        limit = limit.0;
-        offset = offset.0;
-        first_is = refl;
-        from = alone _ _ src.1;
-        origin_is = from.0;
-        alias = alias.0;
-        using = using.0;
-        on = on.0;
-        left = left.0;
-        group = group.0;
-        having = having.0;
-        distinct = distinct.0;
-      },
-      left.1,
-    )
+    let left = not_so _ _ z on.1 in
+    let frame : IsFrame t q core src.0 = record { bare = bare.0; others = others.0; limit = limit.0; offset = offset.0; first_is = refl; from = alone _ _ src.1; origin_is = from.0; alias = alias.0; using = using.0; on = on.0; left = left.0; group = group.0; having = having.0; distinct = distinct.0 } in
+    (src.0, frame, left.1)
 
 is_choice : (t : Table) (q : Select) (ks : List ℕ) (ws : List (ℕ × ℕ)) (os : List ℕ) → choice_of t q ≡ Some (ks, ws, os) → IsChoice t q ks ws os
 is_choice t q ks ws os h =

@@ -220,19 +220,13 @@ flat false = refl
 left_same : (b : Bool) (k : Kind) (x : Term) → converted_by (cond b affinity.None (of_kind k)) affinity.None x ≡ x
 left_same true k x = refl
 left_same false kind.Integer x = refl
-left_same false kind.Real x = refl
-left_same false kind.Text x = refl
-left_same false kind.Blob x = refl
-left_same false kind.Any x = refl
+left_same false _ x = refl
 
 right_same : (b : Bool) (k : Kind) (n : ℕ) → converted_by affinity.None (cond b affinity.None (of_kind k)) (col 0 n) ≡ col 0 n
 unfolding may_be_text spelled
 right_same true k n = refl
 right_same false kind.Integer n = refl
-right_same false kind.Real n = refl
-right_same false kind.Text n = refl
-right_same false kind.Blob n = refl
-right_same false kind.Any n = refl
+right_same false _ n = refl
 
 nonempty : {t : Table} {e : Expr} {ws : List (ℕ × ℕ)} → IsTest t e ws → 1 ≤ length ws
 nonempty (one it) = omega arith
@@ -617,5 +611,5 @@ module _ (schema : Schema) (t : Table) (stands : Stands schema t) (simple : IsSi
   pub insert_is : (text : List ℕ) (terms : List Term) (width : ℕ) → IsInsert schema t (tree_of schema t.name) text terms width → Means schema text (command.Insert at (Values terms width))
   insert_is text terms width (adds {p = p} {columns = columns} {rows = rows} parse is formats source) =
       let unstamped : its.stamps.formats ≡ [] = ap (λ (u : Table). u.stamps.formats) simple in
-      let means = insert_means schema p t.name columns rows is formats at its stands.has.named there unstamped text (Values terms width) parse source in
+      let means = insert_means schema p t.name columns rows formats at its stands.has.named there unstamped is text (Values terms width) parse source in
       record { is = ap command_of means; plain = subst IsPlain (sym means) (refl, refl) }

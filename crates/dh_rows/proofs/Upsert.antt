@@ -40,7 +40,7 @@ use Rattle.sqlite_resolve.specs.Scope.{Context}
 use Rattle.sqlite_resolve.specs.Given.{upserts, upsert, update, do_update, key_meant, key_at, at_rowid, nested, with_given, given_level, are_among}
 use Rattle.sqlite_resolve.specs.Write.{places, level_of, updated_in, simple as drafted}
 use Rattle.sqlite_resolve.specs.Program.{program}
-use Rattle.sqlite_resolve.specs.Compile.{first, command, returning, timed, shows, with_command, small, new_rows, insert_or_abort, insert_or}
+use Rattle.sqlite_resolve.specs.Compile.{first, command, with_command, small, new_rows, insert_or_abort, insert_or}
 use Rattle.sqlite_rules.specs.declared.error.Rowids.TheVariants.{Chosen, Given}
 use Rattle.sqlite_rules.specs.Edit.{edit_of, id_in, Applies, with_rowid, next_rowid, without_all}
 use Rattle.sqlite_rules.specs.Calls.{ids_of}
@@ -62,7 +62,7 @@ use Rattle.dh_rows.specs.Places.{HasTable, IsUnreferred, tree_of, table_in, uniq
 use Rattle.dh_rows.proofs.Alone.{works_none}
 use Rattle.dh_rows.proofs.Equal.{equal_int}
 use Rattle.dh_rows.proofs.Indexes.{key_found, conflict_is}
-use Rattle.dh_rows.proofs.Meaning.{understood_as, compiled_as}
+use Rattle.dh_rows.proofs.Meaning.{inserted}
 use Rattle.dh_rows.proofs.Replaced.{one_left, one_rowid, all_left, filter_alike, same_row, replaced}
 use Rattle.dh_rows.proofs.Shapes.{matching, outp, answered, filter_same_on}
 use Rattle.dh_rows.proofs.Terms.{from_table}
@@ -87,14 +87,6 @@ pub data IsUpsert (schema : Schema) (t : Table) (tree : ℕ) (text : List ℕ) (
 
 module _ (schema : Schema) (p : Parsed) (name : List ℕ) (columns : List (List ℕ)) (rows : Rows) (u : Written) (is : p.statement ≡ written.Insert conflict.Abort name columns rows (u ∷ []) []) (formats : p.formats ≡ [])
     (at : ℕ) (table : Table) (named : table_named schema name ≡ Some at) (stands : slice_get schema.tables at ≡ Some table) (plain_table : table.stamps.formats ≡ []) where
-  put_time : timed schema p.formats p.statement ≡ []
-  unfolding timed
-  put_time = rw (is, formats, named, stands, plain_table) refl
-
-  put_shows : (base : ℕ) → returning schema base p.statement ≡ Ok None
-  unfolding returning shows
-  put_shows base = rw is refl
-
   abbrev over : ℕ → Context
   over base = nested (with_given schema table base) (level_of at table.name) (given_level schema (codes "excluded") [])
 
@@ -117,7 +109,7 @@ module _ (schema : Schema) (p : Parsed) (name : List ℕ) (columns : List (List 
 
   put_means : (text : List ℕ) (source : Source) (clauses : List Upsert) → first text ≡ Ok p → new_rows schema table (small p.names + small []) columns rows ≡ Ok source → upserts schema at table (small p.names + small []) (u ∷ []) ≡ Ok clauses
       → understood schema text ≡ Ok (with_command p ([], (InsertOr at how.Abort source clauses, None)))
-  put_means text source clauses read given ups = understood_as schema text _ (compiled_as schema text p [] None (InsertOr at how.Abort source clauses) read put_time (put_shows _) (commands _ source clauses given ups))
+  put_means text source clauses read given ups = inserted schema p name columns rows formats at table named stands plain_table (u ∷ []) is text (InsertOr at how.Abort source clauses) read (commands _ source clauses given ups)
 
 -- the clause, as it stands in the command
 abbrev pub clause_for : List ℕ → ℕ → ℕ → List Term → Upsert
