@@ -224,11 +224,11 @@ module _ {S : Type 0} (g : Ghosts S) (old new : Held S) where
           (record { honest = now; mode = s.mode now; settled = λ out. sym (s.done now out); waits = λ within. edit.goes.kept within now }, effect honest (state g new).now it)
       go honest clean (Err e) s it = tt
 
-  -- what an answered step made
-  pub built : (P : Database → Type 0) → Builds g old new (Ok tt) P → IsHonest g new → P (state g new).now
-  built P it honest = (it.made (it.goes.lasts.was honest) honest.0).1
+-- what an answered step made
+pub built : {S : Type 0} {g : Ghosts S} {old new : Held S} {P : Database → Type 0} → Builds g old new (Ok tt) P → IsHonest g new → P (state g new).now
+built it honest = (it.made (it.goes.lasts.was honest) honest.0).1
 
-module _ {S : Type 0} (g : Ghosts S) (old middle new : Held S) (P : Database → Type 0) (first : Builds g old middle (Ok tt) P) where
+module _ {S : Type 0} {g : Ghosts S} {old middle new : Held S} {P : Database → Type 0} (first : Builds g old middle (Ok tt) P) where
   -- what comes after an answered step
   pub goes_after : GoesWithin g middle new → GoesWithin g old new
   goes_after it = record {
@@ -240,8 +240,8 @@ module _ {S : Type 0} (g : Ghosts S) (old middle new : Held S) (P : Database →
         first.goes.quiet within honest back db (it.quiet (on.mode ∙ within) on.honest clean db may);
   }
 
-  pub builds_on : (Q : Database → Type 0) (r : Result (Unit {0}) Fault) → Builds g middle new r Q → Builds g old new r Q
-  builds_on Q r it = record {
+  pub builds_on : {Q : Database → Type 0} {r : Result (Unit {0}) Fault} → Builds g middle new r Q → Builds g old new r Q
+  builds_on {Q = Q} {r = r} it = record {
     goes = goes_after it.goes;
     made = λ honest clean. let on = (first.made honest (it.goes.lasts.clean clean)).0 in go on r (it.made on.honest clean);
   }

@@ -3,33 +3,25 @@ use Rattle.dh_schema.proofs.CallLemmas.{built, builds_on, goes_after}
 use Rattle.dh_schema.proofs.making.make_first.Goals as goal
 
 pub make_rule-requires : goal.make_rule-requires
-make_rule-requires g c = built g.S.Store c.args.conn.now c.make_meta.new.conn _ c.in_ok-make_meta.ensures.builds.builds
+make_rule-requires g c = built c.in_ok-make_meta.ensures.builds.builds
 
 pub make_redirect-requires : goal.make_redirect-requires
-make_redirect-requires g c = built g.S.Store c.make_meta.new.conn c.make_rule.new.conn _ c.in_ok-make_rule.ensures.builds.builds
+make_redirect-requires g c = built c.in_ok-make_rule.ensures.builds.builds
 
 pub make_project-requires : goal.make_project-requires
-make_project-requires g c = built g.S.Store c.make_rule.new.conn c.make_redirect.new.conn _ c.in_ok-make_redirect.ensures.builds.builds
+make_project-requires g c = built c.in_ok-make_redirect.ensures.builds.builds
 
 pub make_lang-requires : goal.make_lang-requires
-make_lang-requires g c = built g.S.Store c.make_redirect.new.conn c.make_project.new.conn _ c.in_ok-make_project.ensures.builds.builds
+make_lang-requires g c = built c.in_ok-make_project.ensures.builds.builds
 
 pub returns-in_err-make_rule : goal.returns-in_err-make_rule
-returns-in_err-make_rule g c = record {
-  builds = record { goes = goes_after g.S.Store c.args.conn.now c.make_meta.new.conn c.make_rule.new.conn _ c.in_ok-make_meta.ensures.builds.builds c.make_rule.ensures.builds.builds.goes; made = search rules };
-}
+returns-in_err-make_rule g c = record { builds = record { goes = goes_after c.in_ok-make_meta.ensures.builds.builds c.make_rule.ensures.builds.builds.goes; made = search rules } }
 
 pub returns-in_err-make_redirect : goal.returns-in_err-make_redirect
-returns-in_err-make_redirect g c = record {
-  builds = record { goes = goes_after g.S.Store c.args.conn.now c.make_rule.new.conn c.make_redirect.new.conn _ (builds_on g.S.Store c.args.conn.now c.make_meta.new.conn c.make_rule.new.conn _ c.in_ok-make_meta.ensures.builds.builds _ _ c.in_ok-make_rule.ensures.builds.builds) c.make_redirect.ensures.builds.builds.goes; made = search rules };
-}
+returns-in_err-make_redirect g c = record { builds = record { goes = goes_after c.in_ok-make_meta.ensures.builds.builds (goes_after c.in_ok-make_rule.ensures.builds.builds c.make_redirect.ensures.builds.builds.goes); made = search rules } }
 
 pub returns-in_err-make_project : goal.returns-in_err-make_project
-returns-in_err-make_project g c = record {
-  builds = record { goes = goes_after g.S.Store c.args.conn.now c.make_redirect.new.conn c.make_project.new.conn _ (builds_on g.S.Store c.args.conn.now c.make_rule.new.conn c.make_redirect.new.conn _ (builds_on g.S.Store c.args.conn.now c.make_meta.new.conn c.make_rule.new.conn _ c.in_ok-make_meta.ensures.builds.builds _ _ c.in_ok-make_rule.ensures.builds.builds) _ _ c.in_ok-make_redirect.ensures.builds.builds) c.make_project.ensures.builds.builds.goes; made = search rules };
-}
+returns-in_err-make_project g c = record { builds = record { goes = goes_after c.in_ok-make_meta.ensures.builds.builds (goes_after c.in_ok-make_rule.ensures.builds.builds (goes_after c.in_ok-make_redirect.ensures.builds.builds c.make_project.ensures.builds.builds.goes)); made = search rules } }
 
 pub returns : goal.returns
-returns g c = record {
-  builds = builds_on g.S.Store c.args.conn.now c.make_project.new.conn c.make_lang.new.conn _ (builds_on g.S.Store c.args.conn.now c.make_redirect.new.conn c.make_project.new.conn _ (builds_on g.S.Store c.args.conn.now c.make_rule.new.conn c.make_redirect.new.conn _ (builds_on g.S.Store c.args.conn.now c.make_meta.new.conn c.make_rule.new.conn _ c.in_ok-make_meta.ensures.builds.builds _ _ c.in_ok-make_rule.ensures.builds.builds) _ _ c.in_ok-make_redirect.ensures.builds.builds) _ _ c.in_ok-make_project.ensures.builds.builds) _ c.make_lang.result c.make_lang.ensures.builds.builds;
-}
+returns g c = record { builds = builds_on c.in_ok-make_meta.ensures.builds.builds (builds_on c.in_ok-make_rule.ensures.builds.builds (builds_on c.in_ok-make_redirect.ensures.builds.builds (builds_on c.in_ok-make_project.ensures.builds.builds c.make_lang.ensures.builds.builds))) }
