@@ -333,6 +333,12 @@ module _ {S : Type 0} (g : Ghosts S) (old new : Held S) (P : Trees → Type 0) (
     | inr it ↦ inr (holds honest db it)
   ]
 
+-- ---- what an accepted call gives
+
+on_ok : {T E P Q : Type 0} (r : Result T E) → OnOk r P → (P → Q) → OnOk r Q
+on_ok (Ok x) p f = f p
+on_ok (Err e) p f = tt
+
 -- ---- what stays committed, and what a crash may leave no more
 
 module _ {S : Type 0} (g : Ghosts S) (old new : Held S) where
@@ -345,6 +351,10 @@ module _ {S : Type 0} (g : Ghosts S) (old new : Held S) where
       → (state_of g new).committed ≡ (state_of g old).committed
   stays_committed P (Ok x) keeps ok err = keeps ok
   stays_committed P (Err e) keeps ok err = refused_commits_nothing err
+
+  -- of a call that a crash leaves nothing more of
+  goes_by : {T E : Type 0} (P : Type 0) (r : Result T E) → (P → (state_of g new).committed ≡ (state_of g old).committed) → (IsHonest g new → OnOk r P) → Refuses g whole old new r → LeavesNoMore g old new → Lasts g old new → Goes g old new
+  goes_by P r keeps ok err none lasts = record { lasts = lasts; kept = λ honest. stays_committed P r keeps (ok honest) (err honest); quiet = λ _. none }
 
 -- ---- each call, by its result
 
@@ -362,50 +372,30 @@ module _ {S : Type 0} (g : Ghosts S) (old new : Held S) (r : Result (Unit {0}) F
 
   module _ (survives : Survives (state_of g old) (state_of g new) (CommitsBy begin_text [] (state_of g old))) (ran : Ran g old new begin_text [] r) where
     pub begun : Begins g whole old new r
-    begun clean = go r (ran clean)
-      where
-        go : (r : Result (Unit {0}) Fault) → OnOk r ((n : ℕ) × Executes begin_text [] (state_of g old) (state_of g new) (Ok n)) → OnOk r (Shows g whole old new (state_of g old).now (state_of g old).committed true)
-        go (Ok u) it = told g old new _ survives _ _ _ (runs_bare are_bare.0 _ _ it.0 it.1).1 clean
-        go (Err e) it = tt
+    begun clean = on_ok r (ran clean) (λ it. told g old new _ survives _ _ _ (runs_bare are_bare.0 _ _ it.0 it.1).1 clean)
 
     pub begun_no_more : LeavesNoMore g old new
     begun_no_more = leaves_no_more g old new _ survives (begin_commits _)
 
     pub begun_goes : Lasts g old new → Failed → Goes g old new
-    begun_goes lasts failed = record {
-      lasts = lasts;
-      kept = λ honest. stays_committed g old new _ r (λ it. it.last_is) (begun honest.0) (fails _ survives failed honest);
-      quiet = λ _. begun_no_more;
-    }
+    begun_goes lasts failed = goes_by g old new _ r (λ it. it.last_is) (λ honest. begun honest.0) (fails _ survives failed) begun_no_more lasts
 
   module _ (survives : Survives (state_of g old) (state_of g new) (CommitsBy commit_text [] (state_of g old))) where
     pub done : Ran g old new commit_text [] r → Commits g whole old new r
-    done ran clean = go r (ran clean)
-      where
-        go : (r : Result (Unit {0}) Fault) → OnOk r ((n : ℕ) × Executes commit_text [] (state_of g old) (state_of g new) (Ok n)) → OnOk r (Shows g whole old new (state_of g old).now (state_of g old).now false)
-        go (Ok u) it = told g old new _ survives _ _ _ (runs_bare are_bare.1 _ _ it.0 it.1).1 clean
-        go (Err e) it = tt
+    done ran clean = on_ok r (ran clean) (λ it. told g old new _ survives _ _ _ (runs_bare are_bare.1 _ _ it.0 it.1).1 clean)
 
     pub done_leaves : LeavesTrees g old new (λ db. db ≡ (state_of g old).now.trees)
     done_leaves = leaves g old new _ survives _ (λ _ db it. (bare_commits are_bare.1 _ db it).1)
 
   module _ (survives : Survives (state_of g old) (state_of g new) (CommitsBy rollback_text [] (state_of g old))) (ran : Ran g old new rollback_text [] r) where
     pub undoes : Undoes g whole old new r
-    undoes honest = go r (ran honest.0)
-      where
-        go : (r : Result (Unit {0}) Fault) → OnOk r ((n : ℕ) × Executes rollback_text [] (state_of g old) (state_of g new) (Ok n)) → OnOk r (IsUndone g whole old new)
-        go (Ok u) it = undone g old new _ survives (runs_bare are_bare.2 _ _ it.0 it.1).1 honest
-        go (Err e) it = tt
+    undoes honest = on_ok r (ran honest.0) (λ it. undone g old new _ survives (runs_bare are_bare.2 _ _ it.0 it.1).1 honest)
 
     pub undone_no_more : LeavesNoMore g old new
     undone_no_more = leaves_no_more g old new _ survives (rollback_commits _)
 
     pub undone_goes : Lasts g old new → Failed → Goes g old new
-    undone_goes lasts failed = record {
-      lasts = lasts;
-      kept = λ honest. stays_committed g old new _ r (λ it. it.last_is) (undoes honest) (fails _ survives failed honest);
-      quiet = λ _. undone_no_more;
-    }
+    undone_goes lasts failed = goes_by g old new _ r (λ it. it.last_is) undoes (fails _ survives failed) undone_no_more lasts
 
 -- ---- one write, and one query, of tables
 
@@ -430,20 +420,12 @@ module _ {S : Type 0} (g : Ghosts S) (old new : Held S) (sql : List ℕ) (params
   module _ (r : Result (Unit {0}) Fault) (survives : Survives (state_of g old) (state_of g new) (CommitsBy sql params (state_of g old)))
       (edit : IsHonest g old → IsPlainEdit (state_of g old) sql) (ran : Ran g old new sql params r) where
     changed : IsHonest g old → HasCleanDisk (state_of g new) → OnOk r (Becomes g whole old new (state_of g new).now × Edits (state_of g old) sql params (state_of g new).now)
-    changed honest clean = go r (ran clean)
-      where
-        go : (r : Result (Unit {0}) Fault) → OnOk r ((n : ℕ) × Executes sql params (state_of g old) (state_of g new) (Ok n)) → OnOk r (Becomes g whole old new (state_of g new).now × Edits (state_of g old) sql params (state_of g new).now)
-        go (Ok u) it =
-            let w = wrote _ _ _ _ _ _ (edit honest).edits (ran_as sql params (state_of g old) (state_of g new) (edit honest).plain it.0 it.1) in
-            (told g old new _ survives _ _ _ w.shown clean, (w.tally, w.changed, w.sound))
-        go (Err e) it = tt
+    changed honest clean = on_ok r (ran clean) (λ it.
+        let w = wrote _ _ _ _ _ _ (edit honest).edits (ran_as sql params (state_of g old) (state_of g new) (edit honest).plain it.0 it.1) in
+        (told g old new _ survives _ _ _ w.shown clean, (w.tally, w.changed, w.sound)))
 
     makes : Makes g old new sql params r
-    makes honest clean = go r (changed honest clean)
-      where
-        go : (r : Result (Unit {0}) Fault) → OnOk r (Becomes g whole old new (state_of g new).now × Edits (state_of g old) sql params (state_of g new).now) → OnOk r (Edits (state_of g old) sql params (state_of g new).now)
-        go (Ok u) it = it.1
-        go (Err e) it = tt
+    makes honest clean = on_ok r (changed honest clean) (λ it. it.1)
 
     changes_at_most : EditsAtMost g old new sql params
     changes_at_most = leaves g old new _ survives _ (λ honest db. edit_commits sql params (state_of g old) db (edit honest).plain (edit honest).edits)
