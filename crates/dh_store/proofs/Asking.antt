@@ -1,19 +1,22 @@
 -- A query of ours is refused for a fault of the store alone, and an answer is of the records that it asks for.
-use Rattle.std.proofs.Common.{inl, inr, ℕ, Bool, List, filter, map, Result, Ok, Err, OnOk, OnErr, subst, sym, true≢false}
+use Rattle.std.proofs.Common.{◌≡◌, inl, inr, ℕ, Bool, List, filter, map, slice_get, Result, Ok, Err, OnOk, OnErr, subst, sym, true≢false}
 use Rattle.std.specs.Prelude.{IsSome}
+use Rattle.std.specs.List.{find}
 use Rattle.sqlite_value.specs.Order.{Row}
 use Rattle.sqlite_trees.specs.declared.store.Store.{Ghosts}
 use Rattle.sqlite.specs.State.{State, HasCleanDisk}
 use Rattle.sqlite.specs.Held.{Held, state}
 use Rattle.dh_lookup.specs.declared.fault.Fault.{Fault}
 use Rattle.dh_lookup.specs.Faults.{OnStore}
-use Rattle.dh_rows.specs.Calls.{AreOurs, Goes, IsHonest, IsSame, IsUnfit, seen}
+use Rattle.dh_rows.specs.Calls.{AreOurs, Goes, IsHonest, IsPlainLook, IsSame, OnlyLooks, seen}
 use Rattle.dh_rows.proofs.Asks.{Answers}
 use Rattle.dh_records.specs.Lists.{Lists}
-use Rattle.dh_schema.specs.Calling.{Asks, IsUnread}
-use Rattle.dh_schema.proofs.CallLemmas.{on_store}
+use Rattle.dh_records.specs.Typed.{AreTyped}
+use Rattle.dh_schema.specs.Calling.{AreAsked, Asks, Blames, IsUnread}
+use Rattle.dh_schema.proofs.CallLemmas.{asked, on_store}
 use Rattle.dh_schema.specs.Tables.{Holds, lists_of}
 use Rattle.dh_store.specs.Meanings.{AsksFor, Changes, IsChange, IsQuery}
+use Rattle.dh_store.proofs.Finding.{first_that}
 use Rattle.dh_store.proofs.Kept.{all_kept}
 
 pub asked_for : {X : Type 0} {s : State} {encode : X → Row} {typed : X → Type 0} {part : Lists → List X} {test : X → Bool} {sql : List ℕ} {params : Row} → AsksFor encode typed part test s sql params → IsQuery encode typed s sql params
@@ -22,19 +25,35 @@ asked_for {part = part} {test = test} it = (part, test, it)
 pub altered : {S : Type 0} (g : Ghosts S) (h : Held S) {sql : List ℕ} {params : Row} {change : Lists → Lists} → Changes g h sql params change → IsChange g h sql params
 altered g h {change = change} it = (change, it)
 
-module _ {S : Type 0} (g : Ghosts S) (h : Held S) (ours : AreOurs Holds (state g h)) {X : Type 0} {encode : X → Row} {typed : X → Type 0} {sql : List ℕ} {params : Row} where
-  pub answered : {part : Lists → List X} {test : X → Bool} → AsksFor encode typed part test (state g h) sql params → IsHonest g h → Answers (state g h) sql params (map encode (filter test (part (seen g lists_of h))))
-  answered query honest = query.answers (ours honest.0 honest.1).now
+-- of tables of ours whose connection is this one
+module _ {S : Type 0} (g : Ghosts S) {conn tables : Held S} (is : conn ≡ tables) (ours : AreOurs Holds (state g conn)) {X : Type 0} {encode : X → Row} {typed : X → Type 0} {sql : List ℕ} {params : Row} where
+  answered : {part : Lists → List X} {test : X → Bool} → AsksFor encode typed part test (state g tables) sql params → IsHonest g conn → Answers (state g conn) sql params (map encode (filter test (part (seen g lists_of tables))))
+  answered query honest = rw (← is) ((rw (← is) at query).answers (ours honest.0 honest.1).now)
 
-  module _ (query : IsQuery encode typed (state g h) sql params) where
-    pub unfit : IsHonest g h → IsUnfit (state g h) sql params → ⊥
-    unfit honest why = true≢false (sym (subst IsSome (ours honest.0 honest.1).unlimited ((answered query.2 honest).fits why)))
+  -- the records that a query asks for are what a look answers
+  pub reads : {part : Lists → List X} {test : X → Bool} {new : Held S} {T : Type 0} {r : Result T Fault} → AsksFor encode typed part test (state g tables) sql params → OnlyLooks g conn new r → IsHonest g new
+      → AreAsked encode (state g conn) sql params (filter test (part (seen g lists_of tables)))
+  reads query look now = (answered query (look.goes.lasts.was now)).reads
 
-    pub unread : IsHonest g h → IsUnread encode typed (state g h) sql params → ⊥
-    unread honest (inl why) = unfit honest why
+  -- and the first of them is the first that passes
+  pub first_read : {part : Lists → List X} {test : X → Bool} → AsksFor encode typed part test (state g tables) sql params → slice_get (filter test (part (seen g lists_of tables))) 0 ≡ find test (part (seen g lists_of tables))
+  first_read {part = part} {test = test} query = first_that test (part (seen g lists_of tables))
+
+  module _ (query : IsQuery encode typed (state g tables) sql params) where
+    -- it may be asked
+    pub may_look : IsHonest g conn → IsPlainLook (state g conn) sql
+    may_look honest = (answered query.2 honest).look
+
+    unread : IsHonest g conn → IsUnread encode typed (state g conn) sql params → ⊥
+    unread honest (inl why) = true≢false (sym (subst IsSome (ours honest.0 honest.1).unlimited ((answered query.2 honest).fits why)))
     unread honest (inr none) =
-        let now : Lists = seen g lists_of h in
-        none (filter query.1 (query.0 now)) (answered query.2 honest).reads (all_kept typed query.1 (query.0 now) (query.2.kept now (ours honest.0 honest.1).now.typed))
+        let now : Lists = seen g lists_of tables in
+        let are_typed : AreTyped now = rw (← is) (ours honest.0 honest.1).now.typed in
+        none (filter query.1 (query.0 now)) (answered query.2 honest).reads (all_kept typed query.1 (query.0 now) (query.2.kept now are_typed))
+
+    -- and a refusal is the store's own
+    pub asks : {P T : Type 0} {new : Held S} {r : Result T Fault} → (P → IsUnread encode typed (state g conn) sql params) → OnlyLooks g conn new r → Blames g conn new r P → Asks g tables new r
+    asks why look told = rw (← is) (asked g conn _ _ look told (λ honest it. unread honest (why it)))
 
 -- A look that found a record, which can be told.
 pub told_asks : {S : Type 0} (g : Ghosts S) (old new : Held S) {T P : Type 0} (r : Result T Fault) → Goes g old new → (HasCleanDisk (state g new) → IsSame g lists_of old new)

@@ -40,36 +40,10 @@ pub record Listing (X V : Type 0) : Type 0 where
   pub place_is : (host : List ℕ) (n : ℕ) (v : V) → place_of (row host n v) ≡ n
 
 abbrev pub of_rules : Listing RuleRow Rule
-of_rules = record {
-  host_of = λ r. r.host;
-  place_of = λ r. r.place;
-  value_of = λ r. r.rule;
-  row = rule_row;
-  part = λ l. l.rules;
-  with = λ rows l. record l { rules = rows };
-  part_is = λ rows l. refl;
-  as_it_is = λ l. refl;
-  twice = λ xs ys l. refl;
-  whole = λ x. refl;
-  host_is = λ host n v. refl;
-  place_is = λ host n v. refl;
-}
+of_rules = record { host_of = λ r. r.host; place_of = λ r. r.place; value_of = λ r. r.rule; row = rule_row; part = λ l. l.rules; with = λ rows l. record l { rules = rows }; part_is = λ rows l. refl; as_it_is = λ l. refl; twice = λ xs ys l. refl; whole = λ x. refl; host_is = λ host n v. refl; place_is = λ host n v. refl }
 
 abbrev pub of_redirects : Listing RedirectRow Redirect
-of_redirects = record {
-  host_of = λ r. r.host;
-  place_of = λ r. r.place;
-  value_of = λ r. r.redirect;
-  row = redirect_row;
-  part = λ l. l.redirects;
-  with = λ rows l. record l { redirects = rows };
-  part_is = λ rows l. refl;
-  as_it_is = λ l. refl;
-  twice = λ xs ys l. refl;
-  whole = λ x. refl;
-  host_is = λ host n v. refl;
-  place_is = λ host n v. refl;
-}
+of_redirects = record { host_of = λ r. r.host; place_of = λ r. r.place; value_of = λ r. r.redirect; row = redirect_row; part = λ l. l.redirects; with = λ rows l. record l { redirects = rows }; part_is = λ rows l. refl; as_it_is = λ l. refl; twice = λ xs ys l. refl; whole = λ x. refl; host_is = λ host n v. refl; place_is = λ host n v. refl }
 
 module _ {S : Type 0} (g : Ghosts S) {X V : Type 0} (l : Listing X V) (host : List ℕ) where
   abbrev key : X → Row
@@ -153,13 +127,11 @@ module _ {S : Type 0} (g : Ghosts S) {X V : Type 0} (l : Listing X V) (host : Li
 
   -- ---- those behind are dropped, and after a look the others are put
 
-  module _ (vs : List V) (old dropped middle new : Held S) (r : Result (Unit {0}) Fault) where
-    abbrev kept : Lists → List X
-    kept lists = filter (λ r. not (is_behind (length vs) r)) (l.part lists)
+  abbrev kept : List V → Lists → List X
+  kept vs lists = filter (λ r. not (is_behind (length vs) r)) (l.part lists)
 
-    pub set_after : (IsHonest g old → old.in_transaction ≡ true) → {T : Type 0} (read : T) → Writes g old dropped (Ok (tt {0})) (λ lists. l.with (kept lists) lists) → Asks g dropped middle (Ok read)
-        → WritesWithin g middle new r (λ lists. l.with (put_all key (placed (l.row host) 1 vs) (l.part lists)) lists)
-        → WritesWithin g old new r (λ lists. l.with (put_all key (placed (l.row host) 1 vs) (l.part (l.with (kept lists) lists))) (l.with (kept lists) lists))
-    set_after within read gone look it =
-        in_turn g old dropped new r (λ lists. l.with (kept lists) lists) (λ lists. l.with (put_all key (placed (l.row host) 1 vs) (l.part lists)) lists)
-        (within_one g gone within) (after_look g dropped middle new r read _ look it)
+  pub set_after : (vs : List V) {old dropped middle new : Held S} {r : Result (Unit {0}) Fault} {T : Type 0} {read : T} → (IsHonest g old → old.in_transaction ≡ true) → Writes g old dropped (Ok (tt {0})) (λ lists. l.with (kept vs lists) lists) → Asks g dropped middle (Ok read)
+      → WritesWithin g middle new r (λ lists. l.with (put_all key (placed (l.row host) 1 vs) (l.part lists)) lists)
+      → WritesWithin g old new r (λ lists. l.with (put_all key (placed (l.row host) 1 vs) (l.part (l.with (kept vs lists) lists))) (l.with (kept vs lists) lists))
+  set_after vs within gone look it =
+      in_turn g _ _ _ _ (λ lists. l.with (kept vs lists) lists) (λ lists. l.with (put_all key (placed (l.row host) 1 vs) (l.part lists)) lists) (within_one g gone within) (after_look g _ _ _ _ _ _ look it)

@@ -1,18 +1,12 @@
-use Rattle.sqlite.specs.Held.{state}
-use Rattle.dh_schema.specs.Tables.{lists_of}
-use Rattle.dh_schema.proofs.CallLemmas.{asked, first_value, read_ours}
-use Rattle.dh_store.proofs.Asking.{answered, unread}
-use Rattle.dh_store.proofs.Finding.{first_that}
+use Rattle.dh_schema.proofs.CallLemmas.{first_value, read_ours}
+use Rattle.dh_store.proofs.Asking.{asks, first_read, may_look, reads}
 use Rattle.dh_store.proofs.tables.Tables.first_record.Goals as goal
 
 pub first_record-requires : goal.first_record-requires
-first_record-requires g c = record { look = λ honest. (answered g.S.Store c.self.inside.conn c.self.invariant (rw (← c.self.view_is) at c.requires.query).2 honest).look }
+first_record-requires g c = record { look = may_look g.S.Store c.self.view_is c.self.invariant c.requires.query }
 
 pub invariant_of-self : goal.invariant_of-self
 invariant_of-self g c = read_ours g.S.Store c.self.inside.conn c.first_record.new.conn c.first_record.result c.self.invariant c.first_record.ensures.looks
 
 pub returns : goal.returns
-returns g c = record {
-  asks = rw (← c.self.view_is) (asked g.S.Store c.self.inside.conn c.first_record.new.conn c.first_record.result c.first_record.ensures.looks c.first_record.ensures.told (unread g.S.Store c.self.inside.conn c.self.invariant (rw (← c.self.view_is) at c.requires.query)));
-  value = λ part test it. rw (← c.self.view_is) (λ now. first_value _ _ c.first_record.result _ _ (c.first_record.ensures.value now.0) (answered g.S.Store c.self.inside.conn c.self.invariant (rw (← c.self.view_is) at it) (c.first_record.ensures.looks.goes.lasts.was now)).reads (first_that test (part (lists_of (state g.S.Store c.self.inside.conn).now))));
-}
+returns g c = record { asks = asks g.S.Store c.self.view_is c.self.invariant c.requires.query (λ why. why) c.first_record.ensures.looks c.first_record.ensures.told; value = λ part test it now. first_value _ _ c.first_record.result _ _ (c.first_record.ensures.value now.0) (reads g.S.Store c.self.view_is c.self.invariant it c.first_record.ensures.looks now) (first_read g.S.Store c.self.view_is c.self.invariant it) }

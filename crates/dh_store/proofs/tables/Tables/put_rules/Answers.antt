@@ -17,14 +17,9 @@ pub loop-i-preserved : goal.loop-i-preserved
 loop-i-preserved g c =
     let at = got c.args.rules.now c.loop-i.i c.index-rules-i.result c.loop-i-test.true c.index-rules-i.is in
     elim c.if-not-stands_at.branch [
-      | then-not-stands_at+in_ok-put_rule w ↦
-          rw w.self-is (one_set g.S.Store of_rules c.args.host.now c.args.rules.now c.args.rows.now c.args.self.now c.requires.within c.loop-i.self c.loop-i.i c.loop-i.invariant c.index-rules-i.result c.in_ok-place.place at c.in_ok-place.ensures w.put_rule.new.self w.in_ok-put_rule.ensures.writes)
-      | else-not-stands_at w ↦
-          let stands : IsTrue c.stands_at.result = search rules in
-          rw w.self-is (one_stands g.S.Store of_rules c.args.host.now c.args.rules.now c.args.rows.now c.args.self.now c.requires.within c.loop-i.self c.loop-i.i c.loop-i.invariant c.index-rules-i.result c.in_ok-place.place at c.in_ok-place.ensures (c.stands_at.ensures.place stands) (c.stands_at.ensures.rule stands) c.loop-i-test.true)
+      | then-not-stands_at+in_ok-put_rule w ↦ rw w.self-is (one_set g.S.Store of_rules c.args.host.now c.args.rules.now c.args.rows.now c.args.self.now c.requires.within c.loop-i.self c.loop-i.i c.loop-i.invariant c.index-rules-i.result c.in_ok-place.place at c.in_ok-place.ensures w.put_rule.new.self w.in_ok-put_rule.ensures.writes)
+      | else-not-stands_at w ↦ let stands : IsTrue c.stands_at.result = search rules in rw w.self-is (one_stands g.S.Store of_rules c.args.host.now c.args.rules.now c.args.rows.now c.args.self.now c.requires.within c.loop-i.self c.loop-i.i c.loop-i.invariant c.index-rules-i.result c.in_ok-place.place at c.in_ok-place.ensures (c.stands_at.ensures.place stands) (c.stands_at.ensures.rule stands) c.loop-i-test.true)
     ]
 
 pub returns : goal.returns
-returns g c = record {
-  writes = all_set g.S.Store of_rules c.args.host.now c.args.rules.now c.args.rows.now c.args.self.now c.requires.within c.loop-i.self c.loop-i.i (let past = c.loop-i-test.false in omega arith) c.loop-i.invariant;
-}
+returns g c = record { writes = all_set g.S.Store of_rules c.args.host.now c.args.rules.now c.args.rows.now c.args.self.now c.requires.within c.loop-i.self c.loop-i.i (let past = c.loop-i-test.false in omega arith) c.loop-i.invariant }
