@@ -100,13 +100,13 @@ module _ (t : Table) (simple : IsSimple t) (plain : ArePlain t.columns) {X : Typ
 
   -- INSERT INTO t VALUES (..) ON CONFLICT (the key) DO UPDATE SET .., whose parameters are the columns of the record
   pub upsert : (key : List ℕ) → IsKeyOf t key → (text : List ℕ) (terms : List Term) (width base : ℕ) (new : List Term) → ((schema : Schema) (tree : ℕ) → IsUpsert schema t tree text terms width base new) → are_typed [] (row_classes t ∷ []) new ≡ true
-      → (x : X) → Fits t c x key base new → value_rows (c.encode x) width (length terms / width) terms ≡ (Null ∷ c.encode x) ∷ []
+      → (x : X) → ((n : ℤ) → c.decode (Int n ∷ c.encode x) ≡ x) → Fits t c x key base new → value_rows (c.encode x) width (length terms / width) terms ≡ (Null ∷ c.encode x) ∷ []
       → Writes s text (c.encode x) t c (put c.key x)
-  upsert key is_key text terms width base new read typed x fits one =
+  upsert key is_key text terms width base new read typed x back fits one =
       let means = upsert_is s.now.schema t keeps.stands simple key is_key text terms width base new typed (read s.now.schema (tree_of s.now.schema t.name)) in
       record {
         edit = record { plain = means.plain; edits = subst IsEdit (sym means.is) tt };
-        turns = λ after it. put_turns s.step_limit (mode_of s) s.now after t c keeps x (statement_of text (understood s.now.schema text)) it.0 simple key is_key base new fits terms width one (subst (λ k. Does s.step_limit (mode_of s) (c.encode x) s.now (statement_of text (understood s.now.schema text)) None k (Ok (it.0, after))) means.is it.1);
+        turns = λ after it. put_turns s.step_limit (mode_of s) s.now after t c keeps x (statement_of text (understood s.now.schema text)) it.0 simple key is_key base new back fits terms width one (subst (λ k. Does s.step_limit (mode_of s) (c.encode x) s.now (statement_of text (understood s.now.schema text)) None k (Ok (it.0, after))) means.is it.1);
       }
 
   -- SELECT .. FROM t WHERE .. ORDER BY the whole key

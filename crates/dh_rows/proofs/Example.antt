@@ -98,7 +98,6 @@ put_read schema tree = puts refl refl refl refl refl refl refl refl (λ cx. refl
 put_fits : (x : Note) → Fits note_table notes x (1 ∷ 2 ∷ []) 3 put_new
 unfolding first_key
 put_fits x = record {
-  back = note_back x;
   kinds = (tt, (tt, (tt, tt)));
   agrees = λ n m y. rw (equal_text y.name x.name, equal_int (pos y.place) (pos x.place)) (tied_is (notes.key x) (notes.key y));
   placed = λ id more. refl;
@@ -108,7 +107,7 @@ put_fits x = record {
 }
 
 pub puts_note : (s : State) → Keeps note_table notes s.now → (x : Note) → Writes s put_text (notes.encode x) note_table notes (put notes.key x)
-puts_note s keeps x = upsert note_table note_simple note_plain notes s keeps (1 ∷ 2 ∷ []) note_key put_text _ 4 3 put_new put_read refl x (put_fits x) refl
+puts_note s keeps x = upsert note_table note_simple note_plain notes s keeps (1 ∷ 2 ∷ []) note_key put_text _ 4 3 put_new put_read refl x (note_back x) (put_fits x) refl
 
 -- ---- CREATE TABLE
 

@@ -33,17 +33,7 @@ abbrev pub by_rowid : Term × Key
 by_rowid = (col 1 0, record { collation = Binary; descending = false })
 
 abbrev pub from_table : ℕ → List Term → List Term → List (Term × Key) → Query
-from_table tree filter shown order = record {
-  from = inner tree end;
-  filter = filter;
-  group = None;
-  project = shown;
-  distinct = false;
-  collations = [];
-  order = order;
-  limit = lit (Int (negsuc 0));
-  offset = lit (Int (pos 0));
-}
+from_table tree filter shown order = record { from = inner tree end; filter = filter; group = None; project = shown; distinct = false; collations = []; order = order; limit = lit (Int (negsuc 0)); offset = lit (Int (pos 0)) }
 
 -- the values of these columns
 abbrev pub columns_at : List ℕ → List Term

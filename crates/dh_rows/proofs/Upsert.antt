@@ -219,9 +219,8 @@ module _ (limit : Option ℕ) (mode : Mode) (db after : Database) (name : List �
 
 -- ---- on records
 
--- what a text of this shape has to show of the record: the values of its row, what its key compares, and the row that it puts in the place of one with its key
+-- what a text of this shape has to show of the record: the kinds of its values, what its key compares, and the row that it puts in the place of one with its key
 pub record Fits (t : Table) {X : Type 0} (c : Coding X) (x : X) (key : List ℕ) (base : ℕ) (new : List Term) : Type 0 where
-  pub back : (n : ℤ) → c.decode (Int n ∷ c.encode x) ≡ x
   pub kinds : AreOfKinds t.columns (c.encode x)
   pub agrees : (n m : ℤ) (y : X) → agree plain key (Int n ∷ c.encode y) key (Int m ∷ c.encode x) ≡ same_key c.key x y
   pub placed : (id : ℤ) (more : Row) → column (c.encode x ++ Int id ∷ more) base ≡ Int id
@@ -237,7 +236,7 @@ module _ (limit : Option ℕ) (mode : Mode) (db after : Database) (t : Table) {X
   abbrev rows : List Row
   rows = db.trees tree
 
-  module _ (fits : Fits t c x key base new) where
+  module _ (back : (n : ℤ) → c.decode (Int n ∷ c.encode x) ≡ x) (fits : Fits t c x key base new) where
     keyed_db : unique_keys db.schema tree ≡ (key, plain) ∷ []
     keyed_db = keeps.stands.keyed ∙ ap (map (λ places. (places, plain))) is_key.uniques
 
@@ -261,7 +260,7 @@ module _ (limit : Option ℕ) (mode : Mode) (db after : Database) (t : Table) {X
 
     by_edit : (n : ℤ) (gone : List ℤ) → without_all rows gone ≡ filter (λ r. not (same_key c.key x (c.decode r))) rows
         → Applies db.schema mode.keys db.trees (record { table = its; gone = gone; news = (Int n ∷ c.encode x) ∷ [] }) after.trees → Made
-    by_edit n gone left applies = let both = replaced c its x n gone fits.back db.schema mode.keys db.trees after.trees keeps.rows left applies in (both.0, both.1, applies.tables)
+    by_edit n gone left applies = let both = replaced c its x n gone back db.schema mode.keys db.trees after.trees keeps.rows left applies in (both.0, both.1, applies.tables)
 
     is_new : (n : ℤ) → AllByRecursion (λ r. same_key c.key x (c.decode r) ≡ false) rows → Applies db.schema mode.keys db.trees (edit_of db.trees its [] Given 0 ((Int n ∷ c.encode x) ∷ [])) after.trees → Made
     is_new n free applies =

@@ -31,6 +31,7 @@ use Rattle.dh_store.proofs.Kept.{all_kept, all_added, all_put}
 pub record TableOf {X : Type 0} (t : Table) (c : Coding X) (typed : X → Type 0) : Type 0 where
   pub simple : IsSimple t
   pub plain : ArePlain t.columns
+  pub back : (x : X) (n : ℤ) → c.decode (Int n ∷ c.encode x) ≡ x
   pub part : Lists → List X
   pub with : List X → Lists → Lists
   pub keeps : (db : Database) → Holds db → Keeps t c db
@@ -69,16 +70,16 @@ module _ {X : Type 0} {t : Table} {c : Coding X} {typed : X → Type 0} (o : Tab
 
     module _ (x : X) (is : typed x) where
       -- INSERT INTO t VALUES (..), whose parameters are the columns of the record
-      pub inserts : (text : List ℕ) (terms : List Term) (width : ℕ) → ((schema : Schema) (tree : ℕ) → insert_of schema (record t { tree = tree }) text ≡ Some (terms, width)) → ((n : ℤ) → c.decode (Int n ∷ c.encode x) ≡ x) → AreOfKinds t.columns (c.encode x)
+      pub inserts : (text : List ℕ) (terms : List Term) (width : ℕ) → ((schema : Schema) (tree : ℕ) → insert_of schema (record t { tree = tree }) text ≡ Some (terms, width)) → AreOfKinds t.columns (c.encode x)
           → value_rows (c.encode x) width (length terms / width) terms ≡ (Null ∷ c.encode x) ∷ [] → IsFreeKey c.key x (o.part (lists_of s.now))
           → Alters s text (c.encode x) (λ l. o.with (added c.key x (o.part l)) l)
-      inserts text terms width read back kinds one free =
+      inserts text terms width read kinds one free =
           alters (all_added typed c.key x is)
-          (insert t o.simple o.plain c s (o.keeps s.now had) text terms width (read _ _) x back kinds one (subst (IsFreeKey c.key x) (sym (o.spells s.now)) free))
+          (insert t o.simple o.plain c s (o.keeps s.now had) text terms width (read _ _) x (o.back x) kinds one (subst (IsFreeKey c.key x) (sym (o.spells s.now)) free))
 
       -- INSERT INTO t VALUES (..) ON CONFLICT (the key) DO UPDATE SET .., whose parameters are the columns of the record
       pub upserts : (key : List ℕ) → IsKeyOf t key → (text : List ℕ) (terms : List Term) (width base : ℕ) (new : List Term) → ((schema : Schema) (tree : ℕ) → IsUpsert schema t tree text terms width base new) → are_typed [] (row_classes t ∷ []) new ≡ true
           → Fits t c x key base new → value_rows (c.encode x) width (length terms / width) terms ≡ (Null ∷ c.encode x) ∷ []
           → Alters s text (c.encode x) (λ l. o.with (put c.key x (o.part l)) l)
       upserts key is_key text terms width base new read suits fits one =
-          alters (all_put typed c.key x is) (upsert t o.simple o.plain c s (o.keeps s.now had) key is_key text terms width base new read suits x fits one)
+          alters (all_put typed c.key x is) (upsert t o.simple o.plain c s (o.keeps s.now had) key is_key text terms width base new read suits x (o.back x) fits one)

@@ -30,7 +30,6 @@ use Rattle.dh_records.specs.Changes as change
 use Rattle.dh_schema.specs.Tables.{Holds, lists_of, project_table, lang_table, version_table, page_table, used_table, pick_table, pass_table, holds_table, rule_table, redirect_table}
 use Rattle.dh_records.specs.Lists.{is_project, is_lang_of, is_version_of, is_version, is_page_of, is_page_in, is_page, is_used, same_op, is_pick_of, is_pass_of, is_pass, is_held, is_held_by, is_held_on, is_rule_of, is_rule_behind, is_redirect_of, is_redirect_behind}
 use Rattle.dh_store.proofs.Matching.{equal_text, above_place, equal_op}
-use Rattle.dh_opening.specs.Columns.{project_back, lang_back, version_back, page_back, used_back, pick_back, pass_back, holds_back, rule_back, redirect_back}
 use Rattle.dh_records.proofs.Keys.{one, two, three, four}
 use Rattle.dh_store.specs.Meanings.{Alters, AsksFor}
 use Rattle.dh_store.proofs.OneTable.{asks, deletes, deletes_above, inserts, upserts}
@@ -104,7 +103,7 @@ unfolding everything
 add_project_read schema tree = refl
 
 pub add_project_alters : (s : State) → Holds s.now → (x : ProjectRow) → IsProject x → IsFreeKey projects.key x (lists_of s.now).projects → Alters s add_project_text (projects.encode x) (change.add_project x)
-add_project_alters s had x typed free = inserts of_projects s had x typed add_project_text _ _ add_project_read (project_back x) (tt, (tt, (tt, (tt, (tt, tt))))) refl free
+add_project_alters s had x typed free = inserts of_projects s had x typed add_project_text _ _ add_project_read (tt, (tt, (tt, (tt, (tt, tt))))) refl free
 
 abbrev pub add_lang_text : List ℕ
 add_lang_text = codes "INSERT INTO lang VALUES (?1, ?2, ?3)"
@@ -114,7 +113,7 @@ unfolding everything
 add_lang_read schema tree = refl
 
 pub add_lang_alters : (s : State) → Holds s.now → (x : LangRow) → IsLanguage x → IsFreeKey langs.key x (lists_of s.now).langs → Alters s add_lang_text (langs.encode x) (change.add_lang x)
-add_lang_alters s had x typed free = inserts of_langs s had x typed add_lang_text _ _ add_lang_read (lang_back x) (tt, (tt, (tt, tt))) refl free
+add_lang_alters s had x typed free = inserts of_langs s had x typed add_lang_text _ _ add_lang_read (tt, (tt, (tt, tt))) refl free
 
 abbrev pub keep_text : List ℕ
 keep_text = codes "INSERT INTO used VALUES (?1, ?2, ?3, ?4, ?5)"
@@ -124,7 +123,7 @@ unfolding everything
 keep_read schema tree = refl
 
 pub keep_alters : (s : State) → Holds s.now → (x : UsedRow) → IsUsed x → IsFreeKey used.key x (lists_of s.now).used → Alters s keep_text (used.encode x) (change.add_used x)
-keep_alters s had x typed free = inserts of_used s had x typed keep_text _ _ keep_read (used_back x) (tt, (tt, (tt, (tt, (tt, tt))))) refl free
+keep_alters s had x typed free = inserts of_used s had x typed keep_text _ _ keep_read (tt, (tt, (tt, (tt, (tt, tt))))) refl free
 
 abbrev pub drop_pages_of_text : List ℕ
 drop_pages_of_text = codes "DELETE FROM page WHERE host = ?1 AND slug = ?2"
@@ -164,7 +163,6 @@ put_version_read schema tree = puts refl refl refl refl refl refl refl refl (λ 
 put_version_fits : (x : VersionRow) → Fits version_table versions x (1 ∷ 2 ∷ []) 7 put_version_new
 unfolding first_key
 put_version_fits x = record {
-  back = version_back x;
   kinds = (tt, (tt, (tt, (tt, (tt, (tt, (tt, tt)))))));
   agrees = λ n m y. rw (same_text y.host x.host, same_text y.version.slug x.version.slug) (tied_is (versions.key x) (versions.key y));
   placed = λ id more. refl;
@@ -193,7 +191,6 @@ put_page_read schema tree = puts refl refl refl refl refl refl refl refl (λ cx.
 put_page_fits : (x : PageRow) → Fits page_table pages x (1 ∷ 2 ∷ 3 ∷ 4 ∷ []) 6 put_page_new
 unfolding first_key
 put_page_fits x = record {
-  back = page_back x;
   kinds = (tt, (tt, (tt, (tt, (tt, (tt, tt))))));
   agrees = λ n m y. rw (same_text y.host x.host, same_text y.slug x.slug, same_text y.lang x.lang, same_text y.path x.path) (tied_is (pages.key x) (pages.key y));
   placed = λ id more. refl;
@@ -258,7 +255,7 @@ unfolding everything
 add_pick_read schema tree = refl
 
 pub add_pick_alters : (s : State) → Holds s.now → (x : PickRow) → IsPick x → IsFreeKey picks.key x (lists_of s.now).picks → Alters s add_pick_text (picks.encode x) (change.add_pick x)
-add_pick_alters s had x typed free = inserts of_picks s had x typed add_pick_text _ _ add_pick_read (pick_back x) (tt, (tt, (tt, tt))) refl free
+add_pick_alters s had x typed free = inserts of_picks s had x typed add_pick_text _ _ add_pick_read (tt, (tt, (tt, tt))) refl free
 
 -- the same, where the rank is a number that SQL counts with
 pub add_pick_ranked : (s : State) → Holds s.now → (x : PickRow) → IsPick x → (rank : ℤ) → rank ≡ pos x.rank → IsFreeKey picks.key x (lists_of s.now).picks
@@ -274,7 +271,7 @@ unfolding everything
 add_pass_read schema tree = refl
 
 pub add_pass_alters : (s : State) → Holds s.now → (x : PassRow) → IsPass x → IsFreeKey passes.key x (lists_of s.now).passes → Alters s add_pass_text (passes.encode x) (change.add_pass x)
-add_pass_alters s had x typed free = inserts of_passes s had x typed add_pass_text _ _ add_pass_read (pass_back x) (tt, (tt, tt)) refl free
+add_pass_alters s had x typed free = inserts of_passes s had x typed add_pass_text _ _ add_pass_read (tt, (tt, tt)) refl free
 
 abbrev pub add_grant_text : List ℕ
 add_grant_text = codes "INSERT INTO holds VALUES (?1, ?2, ?3)"
@@ -284,7 +281,7 @@ unfolding everything
 add_grant_read schema tree = refl
 
 pub add_grant_alters : (s : State) → Holds s.now → (x : HeldRow) → IsHeld x → IsFreeKey held.key x (lists_of s.now).held → Alters s add_grant_text (held.encode x) (change.add_grant x)
-add_grant_alters s had x typed free = inserts of_held s had x typed add_grant_text _ _ add_grant_read (holds_back x) (tt, (tt, (tt, tt))) refl free
+add_grant_alters s had x typed free = inserts of_held s had x typed add_grant_text _ _ add_grant_read (tt, (tt, (tt, tt))) refl free
 
 abbrev pub drop_picks_text : List ℕ
 drop_picks_text = codes "DELETE FROM pick WHERE host = ?1"
@@ -384,7 +381,6 @@ put_rule_read schema tree = puts refl refl refl refl refl refl refl refl (λ cx.
 put_rule_fits : (x : RuleRow) → Fits rule_table rules x (1 ∷ 2 ∷ []) 5 put_rule_new
 unfolding first_key
 put_rule_fits x = record {
-  back = rule_back x;
   kinds = (tt, (tt, (tt, (tt, (tt, tt)))));
   agrees = λ n m y. rw (same_text y.host x.host, same_int (pos y.place) (pos x.place)) (tied_is (rules.key x) (rules.key y));
   placed = λ id more. refl;
@@ -435,7 +431,6 @@ put_redirect_read schema tree = puts refl refl refl refl refl refl refl refl (λ
 put_redirect_fits : (x : RedirectRow) → Fits redirect_table redirects x (1 ∷ 2 ∷ []) 7 put_redirect_new
 unfolding first_key
 put_redirect_fits x = record {
-  back = redirect_back x;
   kinds = (tt, (tt, (tt, (tt, (tt, (tt, (tt, tt)))))));
   agrees = λ n m y. rw (same_text y.host x.host, same_int (pos y.place) (pos x.place)) (tied_is (redirects.key x) (redirects.key y));
   placed = λ id more. refl;
