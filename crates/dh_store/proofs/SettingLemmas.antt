@@ -73,7 +73,8 @@ module _ {S : Type 0} (g : Ghosts S) {X V : Type 0} (l : Listing X V) (host : Li
       pub order : IsHonest g now → InOrder key (l.part (seen g lists_of now))
       pub there : IsHonest g now → (j : ℕ) → i ≤ j → j < length vs → (o : X) → slice_get rows j ≡ Some o → l.place_of o ≡ j + 1 → (l.host_of o ≡ host) × Has o (l.part (seen g lists_of now))
 
-    pub none_set : (IsHonest g old → InOrder key (l.part (seen g lists_of old))) → (IsHonest g old → rows ≡ filter is_own (l.part (seen g lists_of old))) → AreSet old 0
+  module _ {vs : List V} {rows : List X} {old : Held S} where
+    pub none_set : (IsHonest g old → InOrder key (l.part (seen g lists_of old))) → (IsHonest g old → rows ≡ filter is_own (l.part (seen g lists_of old))) → AreSet vs rows old old 0
     none_set order all = record {
       made = none_made g put_one (placed (l.row host) 1 vs) old;
       order = order;
@@ -82,15 +83,15 @@ module _ {S : Type 0} (g : Ghosts S) {X V : Type 0} (l : Listing X V) (host : Li
           ((bytes_eq-Decides (l.host_of o) host).0 mine.1, mine.0);
     }
 
-    module _ (within : IsHonest g old → old.in_transaction ≡ true) (now : Held S) (i : ℕ) (had : AreSet now i) (v : V) (place : ℕ) (at : slice_get vs i ≡ Some v) (here : place ≡ i + 1) where
+    module _ (within : IsHonest g old → old.in_transaction ≡ true) {now : Held S} {i : ℕ} (had : AreSet vs rows old now i) {v : V} {place : ℕ} (at : slice_get vs i ≡ Some v) (here : place ≡ i + 1) where
       abbrev x : X
       x = l.row host place v
 
       next_is : drop i (placed (l.row host) 1 vs) ≡ x ∷ drop (suc i) (placed (l.row host) 1 vs)
       next_is = next_placed (l.row host) 1 i vs v at ∙ ap (λ n. l.row host n v ∷ drop (suc i) (placed (l.row host) 1 vs)) (omega (arith, here))
 
-      pub one_set : (next : Held S) → Writes g now next (Ok (tt {0})) (put_one x) → AreSet next (i + 1)
-      one_set next it =
+      pub one_set : {next : Held S} → Writes g now next (Ok (tt {0})) (put_one x) → AreSet vs rows old next (i + 1)
+      one_set {next = next} it =
           let rows_are : (honest : IsHonest g next) → l.part (seen g lists_of next) ≡ put key x (l.part (seen g lists_of now)) = λ honest. ap l.part (it.sees.now_is honest) ∙ l.part_is _ (seen g lists_of now) in
           record {
             made = one_made g put_one (placed (l.row host) 1 vs) old now next i had.made x next_is (within_one g it (still_within g put_one (placed (l.row host) 1 vs) old within now i had.made));
@@ -110,7 +111,7 @@ module _ {S : Type 0} (g : Ghosts S) {X V : Type 0} (l : Listing X V) (host : Li
           let is : o ≡ x = sym (l.whole o) ∙ ap (λ h. l.row h (l.place_of o) (l.value_of o)) mine.0 ∙ ap₂ (l.row host) place_is value_is in
           ap (λ rs. l.with rs (seen g lists_of now)) (put_there key x _ (had.order honest) (subst (λ y. Has y (l.part (seen g lists_of now))) is mine.1)) ∙ l.as_it_is (seen g lists_of now)
 
-      pub one_stands : option_map l.place_of (slice_get rows i) ≡ Some place → option_map l.value_of (slice_get rows i) ≡ Some v → i < length vs → AreSet now (i + 1)
+      pub one_stands : option_map l.place_of (slice_get rows i) ≡ Some place → option_map l.value_of (slice_get rows i) ≡ Some v → i < length vs → AreSet vs rows old now (i + 1)
       one_stands same_place same low = record {
         made = one_made g put_one (placed (l.row host) 1 vs) old now now i had.made x next_is
             (makes_nothing g now (put_one x) (still_within g put_one (placed (l.row host) 1 vs) old within now i had.made) (stands (slice_get rows i) refl same_place same low));
@@ -118,9 +119,9 @@ module _ {S : Type 0} (g : Ghosts S) {X V : Type 0} (l : Listing X V) (host : Li
         there = λ honest j from low o found standing. had.there honest j (omega (arith, from)) low o found standing;
       }
 
-    pub all_set : (IsHonest g old → old.in_transaction ≡ true) → (now : Held S) (i : ℕ) → length vs ≤ i → AreSet now i
+    pub all_set : (IsHonest g old → old.in_transaction ≡ true) → {now : Held S} {i : ℕ} → AreSet vs rows old now i → length vs ≤ i
         → WritesWithin g old now (Ok (tt {0})) (λ lists. l.with (put_all key (placed (l.row host) 1 vs) (l.part lists)) lists)
-    all_set within now i past had =
+    all_set within {now = now} {i = i} had past =
         let many = count_placed (l.row host) 1 vs in
         same_change g (λ honest. all_put (placed (l.row host) 1 vs) (seen g lists_of old))
         (all_made g put_one (placed (l.row host) 1 vs) old within now i (omega (arith, many, past)) had.made)
