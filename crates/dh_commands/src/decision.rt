@@ -13,6 +13,36 @@ use dh_pushes::{deactivate, push, set_property};
 use dh_world::Refusal;
 use std::alloc::Global;
 
+/// The plan of a command, by facts that it may use up.
+fn decide_by<'c>(
+    alloc: Global,
+    change: CheckedChange<'c>,
+    facts: &mut Facts,
+) -> Result<Plan<'c>, Refusal>
+    ensures { Decides change.entry facts.old result }
+{
+    match change {
+        CheckedChange::NewProject(_project) => Err(Refusal::ProjectTaken),
+        CheckedChange::AddLang { lang } => add_lang(alloc, lang, facts),
+        CheckedChange::Push(parts) => push(alloc, parts, facts),
+        CheckedChange::Upload(parts) => upload(alloc, parts, facts),
+        CheckedChange::SetProperty { slug: _slug, property } => {
+            set_property(alloc, property, facts)
+        }
+        CheckedChange::Deactivate { slug: _slug } => deactivate(alloc, facts),
+        CheckedChange::Gone { slug } => remove_version(alloc, slug, facts),
+        CheckedChange::SetDefault { name } => set_default(alloc, name, facts),
+        CheckedChange::AddRule(added) => add_rule(alloc, added, facts),
+        CheckedChange::DropRule { place } => drop_rule(alloc, place, facts),
+        CheckedChange::AddRedirect(added) => add_redirect(alloc, added, facts),
+        CheckedChange::DropRedirect { place } => drop_redirect(alloc, place, facts),
+        CheckedChange::AddPass { pass } => add_pass(alloc, pass, facts),
+        CheckedChange::DropPass { pass } => drop_pass(alloc, pass, facts),
+        CheckedChange::Grant { pass, slug } => grant(alloc, pass, slug, facts),
+        CheckedChange::Revoke { pass, slug } => revoke(alloc, pass, slug, facts),
+    }
+}
+
 /// The plan of a command whose host has a project, of which these are the facts.
 pub fn decide<'c>(
     alloc: Global,
@@ -22,24 +52,5 @@ pub fn decide<'c>(
     ensures { Decides change.entry facts result }
 {
     let mut facts = facts;
-    match change {
-        CheckedChange::NewProject(_) => Err(Refusal::ProjectTaken),
-        CheckedChange::AddLang { lang } => add_lang(alloc, lang, &facts),
-        CheckedChange::Push(parts) => push(alloc, parts, &mut facts),
-        CheckedChange::Upload(parts) => upload(alloc, parts, &mut facts),
-        CheckedChange::SetProperty { slug: _, property } => {
-            set_property(alloc, property, &mut facts)
-        }
-        CheckedChange::Deactivate { slug: _ } => deactivate(alloc, &mut facts),
-        CheckedChange::Gone { slug } => remove_version(alloc, slug, &mut facts),
-        CheckedChange::SetDefault { name } => set_default(alloc, name, &mut facts),
-        CheckedChange::AddRule(added) => add_rule(alloc, added, &mut facts),
-        CheckedChange::DropRule { place } => drop_rule(alloc, place, &mut facts),
-        CheckedChange::AddRedirect(added) => add_redirect(alloc, added, &mut facts),
-        CheckedChange::DropRedirect { place } => drop_redirect(alloc, place, &mut facts),
-        CheckedChange::AddPass { pass } => add_pass(alloc, pass, &facts),
-        CheckedChange::DropPass { pass } => drop_pass(alloc, pass, &facts),
-        CheckedChange::Grant { pass, slug } => grant(alloc, pass, slug, &facts),
-        CheckedChange::Revoke { pass, slug } => revoke(alloc, pass, slug, &facts),
-    }
+    decide_by(alloc, change, &mut facts)
 }

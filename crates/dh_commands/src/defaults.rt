@@ -4,9 +4,9 @@ ghost use Rattle.dh_plans.specs.Knowing.{Decides};
 ghost use Rattle.dh_plans.specs.Plans.{wrong_default};
 
 use dh_checks::CheckedChange;
+use dh_lookup::Items;
 use dh_paths::Slug;
 use dh_plans::{Edit, Facts, Plan, is_alias, names_but, take_list, with_first};
-use dh_reply::Items;
 use dh_versions::Version;
 use dh_world::{Answer, Refusal};
 use std::alloc::Global;

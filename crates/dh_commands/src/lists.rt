@@ -1,12 +1,15 @@
 //! Lists in order, whose places count from 1.
 ghost use Rattle.std.specs.Prelude.{◌≡◌, ◌≤◌, ◌+◌, IsTrue, IfOk, length};
+ghost use Rattle.dh_commands.specs.Lists.{Comes};
 ghost use Rattle.dh_world.specs.Changes as spec;
 
-use dh_reply::Items;
-use std::alloc::AllocError;
+use dh_lookup::Items;
+use dh_plans::take_list;
+use dh_world::Refusal;
+use std::alloc::{AllocError, Global};
 
 /// Whether this is a place from 1 to the last.
-pub fn is_place(place: u32, last: usize) -> bool
+fn is_place(place: u32, last: usize) -> bool
     ensures value { result ≡ spec.is_place place last }
     ensures within { IsTrue result → (1 ≤ place) × (place ≤ last) }
 {
@@ -14,7 +17,7 @@ pub fn is_place(place: u32, last: usize) -> bool
 }
 
 /// The list with one more at a place; those from there on move by one.
-pub fn with_one_at<T: Drop>(place: u32, entry: T, entries: Vec<T>) -> Result<Items<T>, AllocError>
+fn with_one_at<T: Drop>(place: u32, entry: T, entries: Vec<T>) -> Result<Items<T>, AllocError>
     requires first { 1 ≤ place }
     requires last { place ≤ length entries.items + 1 }
     ensures { IfOk result (λ list. list ≡ spec.with_one_at place entry entries.items) }
@@ -25,7 +28,7 @@ pub fn with_one_at<T: Drop>(place: u32, entry: T, entries: Vec<T>) -> Result<Ite
 }
 
 /// The list without the one at a place; those behind it move by one.
-pub fn without_place<T: Drop>(place: u32, entries: Vec<T>) -> Items<T>
+fn without_place<T: Drop>(place: u32, entries: Vec<T>) -> Items<T>
     requires first { 1 ≤ place }
     requires last { place ≤ length entries.items }
     ensures { result ≡ spec.without_place place entries.items }
@@ -33,4 +36,37 @@ pub fn without_place<T: Drop>(place: u32, entries: Vec<T>) -> Items<T>
     let mut entries = entries;
     entries.remove(place as usize - 1);
     Items::wrap(entries)
+}
+
+/// Adds one at a place of a list or behind the last one, where there is room. The list is used up.
+pub fn add_at<T: Drop>(
+    alloc: Global,
+    most: usize,
+    place: u32,
+    entry: T,
+    list: &mut Vec<T>,
+) -> Result<Items<T>, Refusal>
+    ensures { Comes (spec.added most place entry list.old.items) result }
+{
+    if !is_place(place, list.len() + 1) {
+        return Err(Refusal::BadPlace);
+    }
+    if list.len() >= most {
+        return Err(Refusal::TooMany);
+    }
+    Ok(with_one_at(place, entry, take_list(alloc, list))?)
+}
+
+/// Removes the one at a place of a list. The list is used up.
+pub fn drop_at<T: Drop>(
+    alloc: Global,
+    place: u32,
+    list: &mut Vec<T>,
+) -> Result<Items<T>, Refusal>
+    ensures { Comes (spec.dropped place list.old.items) result }
+{
+    if !is_place(place, list.len()) {
+        return Err(Refusal::BadPlace);
+    }
+    Ok(without_place(place, take_list(alloc, list)))
 }

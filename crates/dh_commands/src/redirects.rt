@@ -1,9 +1,9 @@
 //! Redirects.
 ghost use Rattle.dh_plans.specs.Knowing.{Decides};
 
-use crate::lists::{is_place, with_one_at, without_place};
+use crate::lists::{add_at, drop_at};
 use dh_checks::{CheckedChange, CheckedRedirect};
-use dh_plans::{Edit, Facts, Plan, take_list};
+use dh_plans::{Edit, Facts, Plan};
 use dh_world::{Answer, Refusal};
 use std::alloc::Global;
 
@@ -19,14 +19,7 @@ pub fn add_redirect<'c>(
     ensures { Decides (CheckedChange.AddRedirect added) facts.old result }
 {
     let CheckedRedirect { place, redirect } = added;
-    let count = facts.redirects.as_slice().len();
-    if !is_place(place, count + 1) {
-        return Err(Refusal::BadPlace);
-    }
-    if count >= MOST_REDIRECTS {
-        return Err(Refusal::TooMany);
-    }
-    let redirects = with_one_at(place, redirect, take_list(alloc, &mut facts.redirects))?;
+    let redirects = add_at(alloc, MOST_REDIRECTS, place, redirect, &mut facts.redirects)?;
     Ok(Plan::one(alloc, Edit::SetRedirects(redirects), Answer::Done)?)
 }
 
@@ -34,9 +27,6 @@ pub fn add_redirect<'c>(
 pub fn drop_redirect<'c>(alloc: Global, place: u32, facts: &mut Facts) -> Result<Plan<'c>, Refusal>
     ensures { Decides (CheckedChange.DropRedirect place) facts.old result }
 {
-    if !is_place(place, facts.redirects.as_slice().len()) {
-        return Err(Refusal::BadPlace);
-    }
-    let redirects = without_place(place, take_list(alloc, &mut facts.redirects));
+    let redirects = drop_at(alloc, place, &mut facts.redirects)?;
     Ok(Plan::one(alloc, Edit::SetRedirects(redirects), Answer::Done)?)
 }

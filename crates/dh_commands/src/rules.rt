@@ -1,9 +1,9 @@
 //! Automation rules.
 ghost use Rattle.dh_plans.specs.Knowing.{Decides};
 
-use crate::lists::{is_place, with_one_at, without_place};
+use crate::lists::{add_at, drop_at};
 use dh_checks::{CheckedChange, CheckedRule};
-use dh_plans::{Edit, Facts, Plan, take_list};
+use dh_plans::{Edit, Facts, Plan};
 use dh_world::{Answer, Refusal};
 use std::alloc::Global;
 
@@ -19,14 +19,7 @@ pub fn add_rule<'c>(
     ensures { Decides (CheckedChange.AddRule added) facts.old result }
 {
     let CheckedRule { place, rule } = added;
-    let count = facts.rules.as_slice().len();
-    if !is_place(place, count + 1) {
-        return Err(Refusal::BadPlace);
-    }
-    if count >= MOST_RULES {
-        return Err(Refusal::TooMany);
-    }
-    let rules = with_one_at(place, rule, take_list(alloc, &mut facts.rules))?;
+    let rules = add_at(alloc, MOST_RULES, place, rule, &mut facts.rules)?;
     Ok(Plan::one(alloc, Edit::SetRules(rules), Answer::Done)?)
 }
 
@@ -34,9 +27,6 @@ pub fn add_rule<'c>(
 pub fn drop_rule<'c>(alloc: Global, place: u32, facts: &mut Facts) -> Result<Plan<'c>, Refusal>
     ensures { Decides (CheckedChange.DropRule place) facts.old result }
 {
-    if !is_place(place, facts.rules.as_slice().len()) {
-        return Err(Refusal::BadPlace);
-    }
-    let rules = without_place(place, take_list(alloc, &mut facts.rules));
+    let rules = drop_at(alloc, place, &mut facts.rules)?;
     Ok(Plan::one(alloc, Edit::SetRules(rules), Answer::Done)?)
 }

@@ -10,7 +10,7 @@ use Rattle.dh_schema.proofs.CallLemmas.{on_store}
 use Rattle.dh_schema.specs.Calling.{Blames}
 use Rattle.dh_schema.specs.Tables.{lists_of}
 use Rattle.dh_schema.specs.InTurn.{blamed_before, shut_before}
-use Rattle.dh_tables.specs.View.{Fails}
+use Rattle.dh_view.specs.View.{Fails}
 
 module _ {S : Type 0} (g : Ghosts S) (a b c : Held S) where
   -- what was undone stays so where nothing moves

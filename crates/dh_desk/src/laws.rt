@@ -1,12 +1,22 @@
-//! A law of desks over a store in memory.
-ghost use Rattle.std.specs.Prelude.{◌≡◌, true, Result};
+//! Laws of the desk.
+ghost use Rattle.std.specs.Prelude.{◌≡◌, true, Option, Result};
 ghost use Rattle.sqlite.specs.Steps.{over_memory};
 ghost use Rattle.sqlite_trees.specs.declared.memory.MemStore.{MemStore};
 ghost use Rattle.dh_lookup.specs.Faults.{OnStore};
+ghost use Rattle.dh_reply.specs.Replies.{reply_to};
 ghost use Rattle.dh_wire.specs.declared.answer.Reply.{Reply};
 ghost use Rattle.dh_lookup.specs.declared.fault.Fault.{Fault};
 ghost use Rattle.dh_schema.specs.Calling.{Blames};
+ghost use Rattle.dh_world.specs.World.{Text, World};
+ghost use Rattle.dh_world.specs.Seen.{seen, veil};
 ghost use Rattle.dh_desk.specs.Desk.{Standing};
+
+/// Each reply to a caller, at every path, is the reply in the world that holds nothing but what he sees.
+pub fn veiled_reply()
+    ensures { (w : World) (host pass : Option Text) (path : Text) (query : Option Text)
+        → reply_to (seen (veil w host pass) host pass) path query
+        ≡ reply_to (seen w host pass) path query }
+{}
 
 /// Over a store in memory only a closed desk answers a read the fault `Store`.
 pub fn memory_answers()

@@ -7,6 +7,6 @@ mod laws;
 mod reads;
 
 pub use desk::Desk;
-pub use dh_tables::{Tables, TablesFault};
+pub use dh_tables::Tables;
 pub use dh_world::{Answer, Command, CommandChange, Outcome, Pages, Refusal, UploadedPage};
-pub use laws::memory_answers;
+pub use laws::{memory_answers, veiled_reply};

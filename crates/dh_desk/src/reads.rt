@@ -9,7 +9,7 @@ ghost use Rattle.dh_reply.specs.Replies.{reply_to};
 ghost use Rattle.dh_records.specs.Lists.{world_of};
 ghost use Rattle.dh_schema.specs.Calling.{Blames};
 ghost use Rattle.dh_schema.specs.Tables.{lists_of};
-ghost use Rattle.dh_tables.specs.View.{Fails, Looks, shown};
+ghost use Rattle.dh_view.specs.View.{Fails, Looks, shown};
 ghost use Rattle.dh_tables.specs.Going.{last_records};
 ghost use Rattle.dh_world.specs.Reads.{host_named, pass_named};
 ghost use Rattle.dh_world.specs.Seen as caller;
@@ -17,7 +17,8 @@ ghost use Rattle.dh_desk.specs.Desk.{reply_in, veil_of};
 
 use dh_paths::{HostName, TextFault, Token};
 use dh_reply::{Fault, Read, Reply, reply};
-use dh_tables::{Tables, View};
+use dh_tables::Tables;
+use dh_view::View;
 use sqlite::Alter;
 use std::alloc::Global;
 

@@ -7,9 +7,9 @@ ghost use Rattle.dh_tables.specs.Going.{Makes, records};
 ghost use Rattle.dh_edits.specs.RowEdits.{RowsMay, RowsMayAll, rows_edited, all_rows_edited, with_version, without_version, without_pages, without_grants_on, with_defaults};
 
 use dh_checks::CheckedPage;
+use dh_lookup::Page;
 use dh_paths::{Bytes, HostName, Lang, Slug, Text, Token};
 use dh_plans::{Edit, FirstAnswer};
-use dh_reply::Page;
 use dh_tables::{HeldRow, LangRow, PageRow, PassRow, Tables, VersionRow};
 use dh_versions::Version;
 use dh_world::Refusal;

@@ -3,7 +3,7 @@
 ghost use Rattle.std.specs.Prelude.{◌≡◌};
 ghost use Rattle.dh_files.specs.Faults.{name_of, fault_of, fault_of_error};
 
-use dh_desk::TablesFault;
+use dh_opening::TablesFault;
 use sqlite::{Error, ErrorCode};
 use std::io;
 

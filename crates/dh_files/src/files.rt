@@ -4,7 +4,7 @@ ghost use Rattle.std.specs.Prelude.{◌≡◌, false, IfOk};
 
 use crate::fault::FileFault;
 use crate::looking::{Found, look};
-use dh_desk::{Desk, Tables};
+use dh_desk::Desk;
 use sqlite::{Alter, Connection, FileFrom, FileStore, Start};
 use std::alloc::Global;
 
@@ -33,11 +33,11 @@ fn close<S: Start>(conn: FileConnection<S>) -> Result<(), FileFault> {
 }
 
 /// Makes the tables in a database that has none at all.
-fn make_tables<S: Start>(conn: FileConnection<S>) -> Result<FileConnection<S>, FileFault> {
+fn make_tables<S: Alter + Drop>(conn: Connection<S>) -> Result<Connection<S>, FileFault> {
     if !conn.schema().tables.is_empty() || !conn.schema().views.is_empty() {
         return Err(FileFault::Taken);
     }
-    match Tables::create(conn) {
+    match dh_opening::create(conn) {
         Ok(tables) => Ok(tables.into_conn()),
         Err((fault, _conn)) => Err(FileFault::from(fault)),
     }
@@ -63,15 +63,15 @@ fn count_projects<S: Alter>(conn: &mut Connection<S>) -> i64
 }
 
 /// Opens the tables of a connection, and counts the projects.
-fn open_tables<S: Start>(
+fn open_tables<S: Alter + Drop>(
     alloc: Global,
-    conn: FileConnection<S>,
-) -> Result<(FileDesk<S>, i64), FileFault>
+    conn: Connection<S>,
+) -> Result<(Desk<S>, i64), FileFault>
     requires { conn.in_transaction ≡ false }
 {
     let mut conn = conn;
     let projects = count_projects(&mut conn);
-    match Tables::open(alloc, conn) {
+    match dh_opening::open(alloc, conn) {
         Ok(tables) => Ok((Desk::over(tables), projects)),
         Err((fault, _conn)) => Err(FileFault::from(fault)),
     }

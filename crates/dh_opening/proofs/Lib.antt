@@ -3,3 +3,4 @@ pub mod KeptLemmas
 pub mod Looks
 pub mod Telling
 pub mod Spelling
+pub mod OpenLemmas

@@ -1,8 +1,8 @@
 -- Rows that rise, one after the other.
-use Rattle.std.proofs.Common.{◌≡◌, ℕ, suc, List, [], ◌∷◌, length, take, drop, ◌-◌, get_or, slice_get, Some, Option, Bool, true, false, IsTrue, ◌↔◌, sym, ap, ◌∙◌, refl, subst, arith, Ordering, Less, Equal, Greater, is_lt}
+use Rattle.std.proofs.Common.{◌≡◌, ℕ, suc, List, [], ◌∷◌, length, take, drop, ◌-◌, get_or, slice_get, Some, Option, Bool, true, IsTrue, ◌↔◌, sym, ap, ◌∙◌, refl, subst, arith, Ordering, Less, Equal, Greater, is_lt}
 use Rattle.std.specs.Cmp.{IsTotalOrder}
 use Rattle.std.proofs.lemmas.Cmp.{on_total, lists_total}
-use Rattle.sqlite_value.specs.Order.{Row, row_cmp}
+use Rattle.sqlite_value.specs.Order.{row_cmp}
 use Rattle.sqlite_value.proofs.OrderLemmas.{value_cmp_total}
 use Rattle.sqlite_trees.specs.Tree.{IsAscending}
 use Rattle.sqlite_keyed.proofs.ListLemmas.{all_weaker}

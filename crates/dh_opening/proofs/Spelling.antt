@@ -1,5 +1,5 @@
 -- From the records of each table to those of all.
-use Rattle.std.proofs.Common.{◌≡◌, ℕ, ◌<◌, ◌^◌, Bool, true, false, IsTrue, List, [], ◌∷◌, codes, Result, Ok, Err, IfOk, OnOk, refl, sym, subst, ◌∙◌, lit≤, true≢false}
+use Rattle.std.proofs.Common.{◌≡◌, ℕ, ◌<◌, ◌^◌, Bool, false, IsTrue, List, [], ◌∷◌, codes, Result, Ok, Err, IfOk, OnOk, refl, sym, subst, ◌∙◌, lit≤, true≢false}
 use Rattle.std.specs.List.{AllByRecursion}
 use Rattle.sqlite_schema.specs.declared.schema.Schema.{Schema}
 use Rattle.sqlite.specs.Effect.{Database}
@@ -8,7 +8,7 @@ use Rattle.dh_records.specs.Constraints.{KeepsConstraints}
 use Rattle.dh_records.specs.Lists.{Lists}
 use Rattle.dh_records.specs.Typed.{AreTyped}
 use Rattle.dh_schema.specs.Making.{our_tables}
-use Rattle.dh_schema.specs.Tables.{Holds, lists_of, meta}
+use Rattle.dh_schema.specs.Tables.{lists_of, meta}
 use Rattle.dh_opening.specs.declared.fault.TablesFault.{TablesFault}
 use Rattle.dh_opening.specs.declared.fault.TablesFault.TheVariants.{NotOurs, Store, Memory}
 use Rattle.dh_opening.specs.Opening.{AreSpelled, IsNumbered, IsOurs, OnNotOurs, StandFor}

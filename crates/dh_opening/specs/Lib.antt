@@ -1,5 +1,4 @@
 pub mod Faults
 pub mod Rows
-pub mod Columns
 pub mod Readings
 pub mod Opening

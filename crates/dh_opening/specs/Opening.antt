@@ -1,5 +1,5 @@
 -- What an open of the tables finds.
-use Rattle.std.specs.Prelude.{◌≡◌, ℕ, None, List, [], ◌∷◌, codes, map, Result, Ok, Err, IfOk, ⊤}
+use Rattle.std.specs.Prelude.{◌≡◌, ℕ, None, List, [], ◌∷◌, codes, map, Result, Err, IfOk, ⊤}
 use Rattle.std.specs.List.{AllByRecursion}
 use Rattle.std.specs.declared.cmp.Ordering.TheVariants.{Less}
 use Rattle.sqlite_value.specs.Order.{Row}
@@ -21,7 +21,7 @@ use Rattle.dh_records.specs.Typed.{IsProject, IsLanguage, IsVersion, IsPage, IsU
 use Rattle.dh_schema.specs.Tables.{Holds, lists_of, meta}
 use Rattle.dh_schema.specs.Making.{our_tables}
 use Rattle.dh_opening.specs.declared.fault.TablesFault.{TablesFault}
-use Rattle.dh_opening.specs.declared.fault.TablesFault.TheVariants.{NotOurs, Store, Memory}
+use Rattle.dh_opening.specs.declared.fault.TablesFault.TheVariants.{NotOurs, Store}
 
 -- ---- records
 

@@ -17,7 +17,7 @@ use dh_records::{
     HeldRow, LangRow, PageRow, PassRow, PickRow, ProjectRow, Record, RedirectRow, RuleRow, UsedRow,
     VersionRow, action_number, is_tag, kind_number,
 };
-use dh_reply::Fault;
+use dh_lookup::Fault;
 use dh_world::{Answer, Operation};
 use sqlite::types::ToSql;
 use sqlite::{Row, params};

@@ -1,4 +1,5 @@
-//! Whether a database that was opened is ours: its tables, what their rows spell, and the constraints that these keep.
+//! Our tables in a database: how it is found out whether one that was opened is ours, by its tables, what their rows spell, and the
+//! constraints that these keep.
 #![tactic(auto)]
 
 mod fault;
@@ -10,4 +11,4 @@ mod shapes;
 mod tables;
 
 pub use fault::TablesFault;
-pub use opening::check;
+pub use opening::{create, open};

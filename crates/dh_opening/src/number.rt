@@ -10,8 +10,8 @@ ghost use Rattle.dh_opening.specs.Readings as readings;
 
 use crate::kept::{Kept, show_number};
 use crate::rows::has_values;
+use dh_lookup::Fault;
 use dh_records::{Record, fault_of};
-use dh_reply::Fault;
 use sqlite::{Row, params};
 use std::alloc::{AllocError, Global};
 use std::marker::Model;

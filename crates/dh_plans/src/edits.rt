@@ -1,8 +1,8 @@
 //! The changes of a project that plans are made of.
 use dh_checks::CheckedPage;
+use dh_lookup::Items;
 use dh_paths::{Lang, Slug, Token};
 use dh_redirects::Redirect;
-use dh_reply::Items;
 use dh_rules::Rule;
 use dh_versions::Version;
 use dh_world::{Answer, Operation};

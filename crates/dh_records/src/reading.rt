@@ -17,9 +17,9 @@ use crate::records::{
     HeldRow, LangRow, PageRow, PassRow, PickRow, ProjectRow, RedirectRow, RuleRow, UsedRow,
     VersionRow,
 };
+use dh_lookup::{Fault, Page};
 use dh_paths::{Bytes, HostName, Lang, PagePath, RefName, Slug, Text, TextFault, Token};
 use dh_redirects::{Redirect, RedirectKind};
-use dh_reply::{Fault, Page};
 use dh_rules::{Action, Pattern, Rule};
 use dh_versions::{Kind, Version};
 use dh_world::{Answer, Operation};

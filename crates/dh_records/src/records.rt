@@ -3,9 +3,9 @@
 ghost use Rattle.std.specs.Prelude.{◌≡◌};
 ghost use Rattle.dh_records.specs.Codings as coding;
 
+use dh_lookup::Page;
 use dh_paths::{HostName, Lang, PagePath, RefName, Slug, Text, Token};
 use dh_redirects::{Redirect, RedirectKind};
-use dh_reply::Page;
 use dh_rules::{Action, Rule};
 use dh_versions::{Kind, Version};
 use dh_world::Operation;

@@ -17,7 +17,7 @@ use crate::request::{Request, is_head, not_allowed, read_by, refused};
 use dh_bodies::Post;
 use dh_paths::{HostName, Target, Text, host_name, host_part};
 use dh_ports::Stop;
-use dh_reply::Allow;
+use dh_wire::Allow;
 use std::alloc::{AllocError, Global};
 
 /// The value of a line that may stand once.

@@ -5,7 +5,7 @@ ghost use Rattle.std.specs.Option.{option_copied};
 ghost use Rattle.dh_requests.specs.Request as request;
 
 use dh_paths::{Bytes, HostName, Target};
-use dh_reply::{Allow, Read};
+use dh_wire::{Allow, Read};
 use dh_world::Command;
 use std::alloc::{AllocError, Global};
 

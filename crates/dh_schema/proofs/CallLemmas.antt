@@ -250,6 +250,23 @@ module _ {S : Type 0} {g : Ghosts S} {old middle new : Held S} {P : Database →
       go a (Ok u) h = (record { honest = h.0.honest; mode = h.0.mode ∙ a.mode; settled = λ out. h.0.settled (a.mode ∙ out); waits = λ within. h.0.waits (a.mode ∙ within) ∙ a.waits within }, h.1)
       go a (Err e) h = tt
 
+-- steps that were answered, or none, of which one fact holds then
+abbrev pub Since : {S : Type 0} (g : Ghosts S) (old now : Held S) (none : Type 0) (P : Database → Type 0) → Type 0
+Since g old now none P = (none × (now ≡ old) × (IsHonest g old → P (state g old).now)) ⊎ Builds g old now (Ok tt) P
+
+module _ {S : Type 0} {g : Ghosts S} {old now : Held S} {none : Type 0} {P : Database → Type 0} where
+  pub ready_since : Since g old now none P → IsHonest g now → P (state g now).now
+  ready_since (inl it) = subst (λ h. IsHonest g h → P (state g h).now) (sym it.1) it.2
+  ready_since (inr first) = built first
+
+  pub goes_since : {new : Held S} → Since g old now none P → GoesWithin g now new → GoesWithin g old new
+  goes_since {new = new} (inl it) = subst (λ h. GoesWithin g h new) it.1
+  goes_since (inr first) = goes_after first
+
+  pub builds_since : {new : Held S} {Q : Database → Type 0} {r : Result (Unit {0}) Fault} → Since g old now none P → Builds g now new r Q → Builds g old new r Q
+  builds_since {new = new} {Q = Q} {r = r} (inl it) = subst (λ h. Builds g h new r Q) it.1
+  builds_since (inr first) = builds_on first
+
 -- what is committed is what was made
 pub committed_made : {S T E : Type 0} (g : Ghosts S) (middle new : Held S) (r : Result T E) → HasCleanDisk (state g new) → IsMade (state g middle).now → OnOk r (Shows g whole middle new (state g middle).now (state g middle).now false)
     → OnOk r (AreCommitted g new)

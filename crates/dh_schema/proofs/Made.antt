@@ -1,7 +1,9 @@
 -- Making the tables.
-use Rattle.std.proofs.Common.{◌≡◌, ℕ, ◌+◌, List, [], ◌∷◌, codes, false, Some, refl, sym, ap, subst, ◌∙◌}
+use Rattle.std.proofs.Common.{◌≡◌, ◌<◌, ◌≤◌, ℕ, ◌+◌, zero, suc, Ok, inl, inr, length, map, drop, slice_index_or, arith, List, [], ◌∷◌, codes, false, Some, refl, sym, ap, subst, ◌∙◌}
+use Rattle.std.specs.Prelude.{⊤}
 use Rattle.std.specs.List.{AllByRecursion}
 use Rattle.sqlite_value.specs.declared.value.Value.TheVariants.{Null}
+use Rattle.sqlite_value.specs.Keys as keys
 use Rattle.sqlite_sql.specs.Term.{lit, col}
 use Rattle.sqlite_schema.specs.declared.schema.Table.{Table}
 use Rattle.sqlite_schema.specs.declared.schema.Index.{Index}
@@ -14,7 +16,9 @@ use Rattle.sqlite.specs.Effect.{Database}
 use Rattle.std.specs.FinMap.{empty}
 use Rattle.dh_records.specs.Lists.{world_of}
 use Rattle.sqlite.specs.State.{State}
-use Rattle.dh_rows.specs.Calls.{Edits}
+use Rattle.sqlite_trees.specs.declared.store.Store.{Ghosts}
+use Rattle.sqlite.specs.Held.{Held, state}
+use Rattle.dh_rows.specs.Calls.{Edits, IsHonest, IsPlainEdit, OnlyEdits}
 use Rattle.dh_rows.specs.Keyed.{Coding, IsTableOf, records, added}
 use Rattle.dh_rows.specs.Places.{IsFree, IsUnmentioned, ArePlaced, Stands, Keeps, rows_of, records_of}
 use Rattle.dh_rows.proofs.Asks.{Writes, insert}
@@ -25,7 +29,9 @@ use Rattle.dh_rows.proofs.Texts.{ArePlain}
 use Rattle.dh_records.specs.Codings.{projects, langs, versions, pages, used, picks, passes, held, rules, redirects}
 use Rattle.dh_records.specs.Typed.{AreTyped}
 use Rattle.dh_schema.specs.Tables.{lists_of, meta, meta_table, rule_table, redirect_table, project_table, lang_table, version_table, page_table, used_table, pick_table, pass_table, holds_table}
-use Rattle.dh_schema.specs.Making.{IsReady, IsMade, no_lists, our_tables, from_meta, from_rule, from_redirect, from_project, from_lang, from_version, from_page, from_used, from_pick, from_pass, from_holds, upto_meta, upto_rule, upto_redirect, upto_project, upto_lang, upto_version, upto_page, upto_used, upto_pick, upto_pass, upto_holds}
+use Rattle.dh_lookup.specs.declared.fault.Fault.{Fault}
+use Rattle.dh_schema.proofs.CallLemmas.{Since, built_one, builds_since, ready_since}
+use Rattle.dh_schema.specs.Making.{Builds, IsReady, IsMade, no_lists, made_tables, our_tables, table_texts}
 
 -- the name, and those of the indexes that come with the table
 abbrev Spares : Table → Table → Type 0
@@ -50,217 +56,112 @@ module _ (t : Table) (plain : t.references ≡ []) (db after : Database) (m : Ma
   one_more : (done left : List Table) → IsReady done (t ∷ left) db → AllByRecursion (Spares t) left → IsReady (t ∷ done) left after
   one_more done left r spares = record { standing = ((m.stands, m.empty), stay done r.standing); free = wait r.free.0.1 left spares r.free.1; counted = m.counted; placed = m.placed }
 
--- ---- meta
-
-abbrev pub make_meta_text : List ℕ
-make_meta_text = codes "CREATE TABLE meta (schema INTEGER NOT NULL) STRICT"
-
-make_meta_read : IsCreate make_meta_text meta_table
-unfolding everything
-make_meta_read = makes refl refl refl refl refl refl refl refl
-
-meta_spares : AllByRecursion (Spares meta_table) from_rule
-unfolding everything
-meta_spares = ((refl, λ tree. tt), ((refl, λ tree. tt), ((refl, λ tree. tt), ((refl, λ tree. tt), ((refl, λ tree. tt), ((refl, λ tree. tt), ((refl, λ tree. tt), ((refl, λ tree. tt), ((refl, λ tree. tt), ((refl, λ tree. tt), tt))))))))))
-
-pub make_meta_asks : (s : State) → IsReady [] from_meta s.now → Creates s make_meta_text meta_table
-make_meta_asks s r = creates meta_table make_meta_text make_meta_read refl refl tt s r.free.0.0 r.free.0.1 r.counted r.placed
-
-pub make_meta_makes : (s : State) → IsReady [] from_meta s.now → (after : Database) → Edits s make_meta_text [] after → IsReady upto_meta from_rule after
-make_meta_makes s r after it = one_more meta_table refl s.now after ((make_meta_asks s r).made after it) [] from_rule r meta_spares
-
--- ---- rule
-
-abbrev pub make_rule_text : List ℕ
-make_rule_text = codes "CREATE TABLE rule (host TEXT NOT NULL, place INTEGER NOT NULL, kind INTEGER NOT NULL, action INTEGER NOT NULL, pattern TEXT NOT NULL, PRIMARY KEY (host, place)) STRICT"
-
-make_rule_read : IsCreate make_rule_text rule_table
-unfolding everything
-make_rule_read = makes refl refl refl refl refl refl refl refl
-
-rule_spares : AllByRecursion (Spares rule_table) from_redirect
-unfolding everything
-rule_spares = ((refl, λ tree. (refl, tt)), ((refl, λ tree. (refl, tt)), ((refl, λ tree. (refl, tt)), ((refl, λ tree. (refl, tt)), ((refl, λ tree. (refl, tt)), ((refl, λ tree. (refl, tt)), ((refl, λ tree. (refl, tt)), ((refl, λ tree. (refl, tt)), ((refl, λ tree. (refl, tt)), tt)))))))))
-
-pub make_rule_asks : (s : State) → IsReady upto_meta from_rule s.now → Creates s make_rule_text rule_table
-make_rule_asks s r = creates rule_table make_rule_text make_rule_read refl refl (refl, tt) s r.free.0.0 r.free.0.1 r.counted r.placed
-
-pub make_rule_makes : (s : State) → IsReady upto_meta from_rule s.now → (after : Database) → Edits s make_rule_text [] after → IsReady upto_rule from_redirect after
-make_rule_makes s r after it = one_more rule_table refl s.now after ((make_rule_asks s r).made after it) upto_meta from_redirect r rule_spares
-
--- ---- redirect
-
-abbrev pub make_redirect_text : List ℕ
-make_redirect_text = codes "CREATE TABLE redirect (host TEXT NOT NULL, place INTEGER NOT NULL, kind INTEGER NOT NULL, status INTEGER NOT NULL, force INTEGER NOT NULL, source TEXT NOT NULL, target TEXT NOT NULL, PRIMARY KEY (host, place)) STRICT"
-
-make_redirect_read : IsCreate make_redirect_text redirect_table
-unfolding everything
-make_redirect_read = makes refl refl refl refl refl refl refl refl
-
-redirect_spares : AllByRecursion (Spares redirect_table) from_project
-unfolding everything
-redirect_spares = ((refl, λ tree. (refl, tt)), ((refl, λ tree. (refl, tt)), ((refl, λ tree. (refl, tt)), ((refl, λ tree. (refl, tt)), ((refl, λ tree. (refl, tt)), ((refl, λ tree. (refl, tt)), ((refl, λ tree. (refl, tt)), ((refl, λ tree. (refl, tt)), tt))))))))
-
-pub make_redirect_asks : (s : State) → IsReady upto_rule from_redirect s.now → Creates s make_redirect_text redirect_table
-make_redirect_asks s r = creates redirect_table make_redirect_text make_redirect_read refl refl (refl, tt) s r.free.0.0 r.free.0.1 r.counted r.placed
-
-pub make_redirect_makes : (s : State) → IsReady upto_rule from_redirect s.now → (after : Database) → Edits s make_redirect_text [] after → IsReady upto_redirect from_project after
-make_redirect_makes s r after it = one_more redirect_table refl s.now after ((make_redirect_asks s r).made after it) upto_rule from_project r redirect_spares
-
--- ---- project
-
-abbrev pub make_project_text : List ℕ
-make_project_text = codes "CREATE TABLE project (host TEXT NOT NULL, main TEXT NOT NULL, branch TEXT NOT NULL, wkey TEXT NOT NULL, private INTEGER NOT NULL, PRIMARY KEY (host)) STRICT"
-
-make_project_read : IsCreate make_project_text project_table
-unfolding everything
-make_project_read = makes refl refl refl refl refl refl refl refl
-
-project_spares : AllByRecursion (Spares project_table) from_lang
-unfolding everything
-project_spares = ((refl, λ tree. (refl, tt)), ((refl, λ tree. (refl, tt)), ((refl, λ tree. (refl, tt)), ((refl, λ tree. (refl, tt)), ((refl, λ tree. (refl, tt)), ((refl, λ tree. (refl, tt)), ((refl, λ tree. (refl, tt)), tt)))))))
-
-pub make_project_asks : (s : State) → IsReady upto_redirect from_project s.now → Creates s make_project_text project_table
-make_project_asks s r = creates project_table make_project_text make_project_read refl refl (refl, tt) s r.free.0.0 r.free.0.1 r.counted r.placed
-
-pub make_project_makes : (s : State) → IsReady upto_redirect from_project s.now → (after : Database) → Edits s make_project_text [] after → IsReady upto_project from_lang after
-make_project_makes s r after it = one_more project_table refl s.now after ((make_project_asks s r).made after it) upto_redirect from_lang r project_spares
-
--- ---- lang
-
-abbrev pub make_lang_text : List ℕ
-make_lang_text = codes "CREATE TABLE lang (host TEXT NOT NULL, lang TEXT NOT NULL, place INTEGER NOT NULL, PRIMARY KEY (host, lang)) STRICT"
-
-make_lang_read : IsCreate make_lang_text lang_table
-unfolding everything
-make_lang_read = makes refl refl refl refl refl refl refl refl
-
-lang_spares : AllByRecursion (Spares lang_table) from_version
-unfolding everything
-lang_spares = ((refl, λ tree. (refl, tt)), ((refl, λ tree. (refl, tt)), ((refl, λ tree. (refl, tt)), ((refl, λ tree. (refl, tt)), ((refl, λ tree. (refl, tt)), ((refl, λ tree. (refl, tt)), tt))))))
-
-pub make_lang_asks : (s : State) → IsReady upto_project from_lang s.now → Creates s make_lang_text lang_table
-make_lang_asks s r = creates lang_table make_lang_text make_lang_read refl refl (refl, tt) s r.free.0.0 r.free.0.1 r.counted r.placed
-
-pub make_lang_makes : (s : State) → IsReady upto_project from_lang s.now → (after : Database) → Edits s make_lang_text [] after → IsReady upto_lang from_version after
-make_lang_makes s r after it = one_more lang_table refl s.now after ((make_lang_asks s r).made after it) upto_project from_version r lang_spares
-
--- ---- version
-
-abbrev pub make_version_text : List ℕ
-make_version_text = codes "CREATE TABLE version (host TEXT NOT NULL, slug TEXT NOT NULL, name TEXT NOT NULL, kind INTEGER NOT NULL, active INTEGER NOT NULL, hidden INTEGER NOT NULL, private INTEGER NOT NULL, PRIMARY KEY (host, slug)) STRICT"
-
-make_version_read : IsCreate make_version_text version_table
-unfolding everything
-make_version_read = makes refl refl refl refl refl refl refl refl
-
-version_spares : AllByRecursion (Spares version_table) from_page
-unfolding everything
-version_spares = ((refl, λ tree. (refl, tt)), ((refl, λ tree. (refl, tt)), ((refl, λ tree. (refl, tt)), ((refl, λ tree. (refl, tt)), ((refl, λ tree. (refl, tt)), tt)))))
-
-pub make_version_asks : (s : State) → IsReady upto_lang from_version s.now → Creates s make_version_text version_table
-make_version_asks s r = creates version_table make_version_text make_version_read refl refl (refl, tt) s r.free.0.0 r.free.0.1 r.counted r.placed
-
-pub make_version_makes : (s : State) → IsReady upto_lang from_version s.now → (after : Database) → Edits s make_version_text [] after → IsReady upto_version from_page after
-make_version_makes s r after it = one_more version_table refl s.now after ((make_version_asks s r).made after it) upto_lang from_page r version_spares
-
--- ---- page
-
-abbrev pub make_page_text : List ℕ
-make_page_text = codes "CREATE TABLE page (host TEXT NOT NULL, slug TEXT NOT NULL, lang TEXT NOT NULL, path TEXT NOT NULL, media TEXT NOT NULL, body BLOB NOT NULL, PRIMARY KEY (host, slug, lang, path)) STRICT"
-
-make_page_read : IsCreate make_page_text page_table
-unfolding everything
-make_page_read = makes refl refl refl refl refl refl refl refl
-
-page_spares : AllByRecursion (Spares page_table) from_used
-unfolding everything
-page_spares = ((refl, λ tree. (refl, tt)), ((refl, λ tree. (refl, tt)), ((refl, λ tree. (refl, tt)), ((refl, λ tree. (refl, tt)), tt))))
-
-pub make_page_asks : (s : State) → IsReady upto_version from_page s.now → Creates s make_page_text page_table
-make_page_asks s r = creates page_table make_page_text make_page_read refl refl (refl, tt) s r.free.0.0 r.free.0.1 r.counted r.placed
-
-pub make_page_makes : (s : State) → IsReady upto_version from_page s.now → (after : Database) → Edits s make_page_text [] after → IsReady upto_page from_used after
-make_page_makes s r after it = one_more page_table refl s.now after ((make_page_asks s r).made after it) upto_version from_used r page_spares
-
--- ---- used
-
-abbrev pub make_used_text : List ℕ
-make_used_text = codes "CREATE TABLE used (host TEXT NOT NULL, slug TEXT NOT NULL, op INTEGER NOT NULL, retry TEXT NOT NULL, answer TEXT NOT NULL, PRIMARY KEY (host, slug, op, retry)) STRICT"
-
-make_used_read : IsCreate make_used_text used_table
-unfolding everything
-make_used_read = makes refl refl refl refl refl refl refl refl
-
-used_spares : AllByRecursion (Spares used_table) from_pick
-unfolding everything
-used_spares = ((refl, λ tree. (refl, tt)), ((refl, λ tree. (refl, tt)), ((refl, λ tree. (refl, tt)), tt)))
-
-pub make_used_asks : (s : State) → IsReady upto_page from_used s.now → Creates s make_used_text used_table
-make_used_asks s r = creates used_table make_used_text make_used_read refl refl (refl, tt) s r.free.0.0 r.free.0.1 r.counted r.placed
-
-pub make_used_makes : (s : State) → IsReady upto_page from_used s.now → (after : Database) → Edits s make_used_text [] after → IsReady upto_used from_pick after
-make_used_makes s r after it = one_more used_table refl s.now after ((make_used_asks s r).made after it) upto_page from_pick r used_spares
-
--- ---- pick
-
-abbrev pub make_pick_text : List ℕ
-make_pick_text = codes "CREATE TABLE pick (host TEXT NOT NULL, name TEXT NOT NULL, rank INTEGER NOT NULL, PRIMARY KEY (host, name)) STRICT"
-
-make_pick_read : IsCreate make_pick_text pick_table
-unfolding everything
-make_pick_read = makes refl refl refl refl refl refl refl refl
-
-pick_spares : AllByRecursion (Spares pick_table) from_pass
-unfolding everything
-pick_spares = ((refl, λ tree. (refl, tt)), ((refl, λ tree. (refl, tt)), tt))
-
-pub make_pick_asks : (s : State) → IsReady upto_used from_pick s.now → Creates s make_pick_text pick_table
-make_pick_asks s r = creates pick_table make_pick_text make_pick_read refl refl (refl, tt) s r.free.0.0 r.free.0.1 r.counted r.placed
-
-pub make_pick_makes : (s : State) → IsReady upto_used from_pick s.now → (after : Database) → Edits s make_pick_text [] after → IsReady upto_pick from_pass after
-make_pick_makes s r after it = one_more pick_table refl s.now after ((make_pick_asks s r).made after it) upto_used from_pass r pick_spares
-
--- ---- pass
-
-abbrev pub make_pass_text : List ℕ
-make_pass_text = codes "CREATE TABLE pass (host TEXT NOT NULL, pass TEXT NOT NULL, PRIMARY KEY (host, pass)) STRICT"
-
-make_pass_read : IsCreate make_pass_text pass_table
-unfolding everything
-make_pass_read = makes refl refl refl refl refl refl refl refl
-
-pass_spares : AllByRecursion (Spares pass_table) from_holds
-unfolding everything
-pass_spares = ((refl, λ tree. (refl, tt)), tt)
-
-pub make_pass_asks : (s : State) → IsReady upto_pick from_pass s.now → Creates s make_pass_text pass_table
-make_pass_asks s r = creates pass_table make_pass_text make_pass_read refl refl (refl, tt) s r.free.0.0 r.free.0.1 r.counted r.placed
-
-pub make_pass_makes : (s : State) → IsReady upto_pick from_pass s.now → (after : Database) → Edits s make_pass_text [] after → IsReady upto_pass from_holds after
-make_pass_makes s r after it = one_more pass_table refl s.now after ((make_pass_asks s r).made after it) upto_pick from_holds r pass_spares
-
--- ---- holds
-
-abbrev pub make_holds_text : List ℕ
-make_holds_text = codes "CREATE TABLE holds (host TEXT NOT NULL, pass TEXT NOT NULL, slug TEXT NOT NULL, PRIMARY KEY (host, pass, slug)) STRICT"
-
-make_holds_read : IsCreate make_holds_text holds_table
-unfolding everything
-make_holds_read = makes refl refl refl refl refl refl refl refl
-
-holds_spares : AllByRecursion (Spares holds_table) []
-unfolding everything
-holds_spares = tt
-
-pub make_holds_asks : (s : State) → IsReady upto_pass from_holds s.now → Creates s make_holds_text holds_table
-make_holds_asks s r = creates holds_table make_holds_text make_holds_read refl refl (refl, tt) s r.free.0.0 r.free.0.1 r.counted r.placed
-
-pub make_holds_makes : (s : State) → IsReady upto_pass from_holds s.now → (after : Database) → Edits s make_holds_text [] after → IsReady upto_holds [] after
-make_holds_makes s r after it = one_more holds_table refl s.now after ((make_holds_asks s r).made after it) upto_pass [] r holds_spares
+-- ---- the texts, each of which makes its table where it comes before these
+
+pub record IsStep (text : List ℕ) (t : Table) (left : List Table) : Type 0 where
+  read : IsCreate text t
+  plain : t.references ≡ []
+  uncounted : t.is_counted ≡ false
+  orders : AllByRecursion (λ o. o ≡ keys.plain) t.orders
+  spares : AllByRecursion (Spares t) left
+
+pub Steps : List (List ℕ) → List Table → Type 0
+Steps [] [] = ⊤
+Steps (text ∷ texts) (t ∷ ts) = IsStep text t ts × Steps texts ts
+Steps _ _ = ⊥
+
+pub all_steps : Steps table_texts our_tables
+unfolding everything Steps
+all_steps =
+    (record { read = makes refl refl refl refl refl refl refl refl; plain = refl; uncounted = refl; orders = tt; spares = ((refl, λ tree. tt), ((refl, λ tree. tt), ((refl, λ tree. tt), ((refl, λ tree. tt), ((refl, λ tree. tt), ((refl, λ tree. tt), ((refl, λ tree. tt), ((refl, λ tree. tt), ((refl, λ tree. tt), ((refl, λ tree. tt), tt)))))))))) },
+    (record { read = makes refl refl refl refl refl refl refl refl; plain = refl; uncounted = refl; orders = (refl, tt); spares = ((refl, λ tree. (refl, tt)), ((refl, λ tree. (refl, tt)), ((refl, λ tree. (refl, tt)), ((refl, λ tree. (refl, tt)), ((refl, λ tree. (refl, tt)), ((refl, λ tree. (refl, tt)), ((refl, λ tree. (refl, tt)), ((refl, λ tree. (refl, tt)), ((refl, λ tree. (refl, tt)), tt))))))))) },
+    (record { read = makes refl refl refl refl refl refl refl refl; plain = refl; uncounted = refl; orders = (refl, tt); spares = ((refl, λ tree. (refl, tt)), ((refl, λ tree. (refl, tt)), ((refl, λ tree. (refl, tt)), ((refl, λ tree. (refl, tt)), ((refl, λ tree. (refl, tt)), ((refl, λ tree. (refl, tt)), ((refl, λ tree. (refl, tt)), ((refl, λ tree. (refl, tt)), tt)))))))) },
+    (record { read = makes refl refl refl refl refl refl refl refl; plain = refl; uncounted = refl; orders = (refl, tt); spares = ((refl, λ tree. (refl, tt)), ((refl, λ tree. (refl, tt)), ((refl, λ tree. (refl, tt)), ((refl, λ tree. (refl, tt)), ((refl, λ tree. (refl, tt)), ((refl, λ tree. (refl, tt)), ((refl, λ tree. (refl, tt)), tt))))))) },
+    (record { read = makes refl refl refl refl refl refl refl refl; plain = refl; uncounted = refl; orders = (refl, tt); spares = ((refl, λ tree. (refl, tt)), ((refl, λ tree. (refl, tt)), ((refl, λ tree. (refl, tt)), ((refl, λ tree. (refl, tt)), ((refl, λ tree. (refl, tt)), ((refl, λ tree. (refl, tt)), tt)))))) },
+    (record { read = makes refl refl refl refl refl refl refl refl; plain = refl; uncounted = refl; orders = (refl, tt); spares = ((refl, λ tree. (refl, tt)), ((refl, λ tree. (refl, tt)), ((refl, λ tree. (refl, tt)), ((refl, λ tree. (refl, tt)), ((refl, λ tree. (refl, tt)), tt))))) },
+    (record { read = makes refl refl refl refl refl refl refl refl; plain = refl; uncounted = refl; orders = (refl, tt); spares = ((refl, λ tree. (refl, tt)), ((refl, λ tree. (refl, tt)), ((refl, λ tree. (refl, tt)), ((refl, λ tree. (refl, tt)), tt)))) },
+    (record { read = makes refl refl refl refl refl refl refl refl; plain = refl; uncounted = refl; orders = (refl, tt); spares = ((refl, λ tree. (refl, tt)), ((refl, λ tree. (refl, tt)), ((refl, λ tree. (refl, tt)), tt))) },
+    (record { read = makes refl refl refl refl refl refl refl refl; plain = refl; uncounted = refl; orders = (refl, tt); spares = ((refl, λ tree. (refl, tt)), ((refl, λ tree. (refl, tt)), tt)) },
+    (record { read = makes refl refl refl refl refl refl refl refl; plain = refl; uncounted = refl; orders = (refl, tt); spares = ((refl, λ tree. (refl, tt)), tt) },
+    (record { read = makes refl refl refl refl refl refl refl refl; plain = refl; uncounted = refl; orders = (refl, tt); spares = tt },
+    tt)))))))))))
+
+-- the tables that are made when these are, too
+pub with_all : List Table → List Table → List Table
+with_all done [] = done
+with_all done (t ∷ ts) = with_all (t ∷ done) ts
+
+module _ (s : State) (done : List Table) where
+  -- one text
+  pub step_asks : {text : List ℕ} {t : Table} {left : List Table} → IsStep text t left → IsReady done (t ∷ left) s.now → Creates s text t
+  step_asks step r = creates _ _ step.read step.plain step.uncounted step.orders s r.free.0.0 r.free.0.1 r.counted r.placed
+
+  pub step_makes : {text : List ℕ} {t : Table} {left : List Table} → IsStep text t left → IsReady done (t ∷ left) s.now → (after : Database) → Edits s text [] after → IsReady (t ∷ done) left after
+  step_makes {t = t} {left = left} step r after it = one_more t step.plain s.now after ((step_asks step r).made after it) done left r step.spares
+
+-- Some tables are made, and these texts make the others.
+pub record IsAt {S : Type 0} (g : Ghosts S) (old now : Held S) (texts : List (List ℕ)) : Type 0 where
+  pub done : List Table
+  pub left : List Table
+  pub steps : Steps texts left
+  pub all : with_all done left ≡ made_tables
+  pub since : Since g old now (done ≡ []) (IsReady done left)
+
+pub at_first : {S : Type 0} {g : Ghosts S} {old : Held S} → (IsHonest g old → IsReady [] our_tables (state g old).now) → IsAt g old old table_texts
+unfolding with_all
+at_first ready = record { done = []; left = our_tables; steps = all_steps; all = refl; since = inl (refl, refl, ready) }
+
+module _ {S : Type 0} {g : Ghosts S} {old now : Held S} {text : List ℕ} {texts : List (List ℕ)} (it : IsAt g old now (text ∷ texts)) where
+  pub next_asks : IsHonest g now → IsPlainEdit (state g now) text
+  unfolding Steps
+  next_asks honest = go it.left it.steps it.since
+    where
+      go : (left : List Table) → Steps (text ∷ texts) left → Since g old now (it.done ≡ []) (IsReady it.done left) → IsPlainEdit (state g now) text
+      go [] steps since = absurd steps
+      go (t ∷ left) steps since = (step_asks (state g now) it.done steps.0 (ready_since since honest)).edit
+
+  pub next_at : {new : Held S} → OnlyEdits g now new text [] {E = Fault} (Ok tt) → IsAt g old new texts
+  unfolding Steps with_all
+  next_at {new = new} edits = go it.left it.steps it.all it.since
+    where
+      go : (left : List Table) → Steps (text ∷ texts) left → with_all it.done left ≡ made_tables → Since g old now (it.done ≡ []) (IsReady it.done left) → IsAt g old new texts
+      go [] steps all since = absurd steps
+      go (t ∷ left) steps all since = record {
+        done = t ∷ it.done;
+        left = left;
+        steps = steps.1;
+        all = all;
+        since = inr (builds_since since (built_one g now new text [] (IsReady (t ∷ it.done) left) (Ok tt) (λ honest. step_makes (state g now) it.done steps.0 (ready_since since honest)) edits).builds);
+      }
+
+not_made : [] ≡ made_tables → ⊥
+not_made is = absurd (cc)
+
+pub at_last : {S : Type 0} {g : Ghosts S} {old now : Held S} → IsAt g old now [] → Builds g old now (Ok tt) (IsReady made_tables [])
+unfolding Steps with_all
+at_last {g = g} {old = old} {now = now} it = go it.left it.steps it.all it.since
+  where
+    go : (left : List Table) → Steps [] left → with_all it.done left ≡ made_tables → Since g old now (it.done ≡ []) (IsReady it.done left) → Builds g old now (Ok tt) (IsReady made_tables [])
+    go [] steps all (inl none) = absurd (not_made (sym none.0 ∙ all))
+    go [] steps all (inr built) = subst (λ done. Builds g old now (Ok tt) (IsReady done [])) all built
+    go (t ∷ left) steps all since = absurd steps
+
+-- the texts from one on
+pub next_text : {T : Type 0} (f : T → List ℕ) (texts : List T) (i : ℕ) (d : T) → i < length texts → map f (drop i texts) ≡ f (slice_index_or texts i d) ∷ map f (drop (i + 1) texts)
+next_text f [] i d low = absurd (omega (arith, low))
+next_text f (t ∷ ts) zero d low = refl
+next_text f (t ∷ ts) (suc i) d low =
+    let on : suc (i + 1) ≡ suc i + 1 = omega arith in
+    subst (λ n. map f (drop i ts) ≡ f (slice_index_or ts i d) ∷ map f (drop n (t ∷ ts))) on (next_text f ts i d (omega (arith, low)))
+
+pub no_text : {T : Type 0} (f : T → List ℕ) (texts : List T) (i : ℕ) → length texts ≤ i → map f (drop i texts) ≡ []
+no_text f [] zero high = refl
+no_text f [] (suc i) high = refl
+no_text f (t ∷ ts) zero high = absurd (omega (arith, high))
+no_text f (t ∷ ts) (suc i) high = no_text f ts i (omega (arith, high))
 
 -- no other table has the name of that of the number
-are_apart : AllByRecursion (λ t. same_name t.name meta_table.name ≡ false) from_rule
+are_apart : AllByRecursion (λ t. same_name t.name meta_table.name ≡ false) (rule_table ∷ redirect_table ∷ project_table ∷ lang_table ∷ version_table ∷ page_table ∷ used_table ∷ pick_table ∷ pass_table ∷ holds_table ∷ [])
 unfolding everything
 are_apart = (refl, (refl, (refl, (refl, (refl, (refl, (refl, (refl, (refl, (refl, tt))))))))))
 
@@ -285,7 +186,7 @@ number_read : (schema : Schema) (tree : ℕ) → insert_of schema (record meta_t
 unfolding everything
 number_read schema tree = refl
 
-pub number_writes : (s : State) → IsReady upto_holds [] s.now → Writes s number_text (meta.encode 1) meta_table meta (added meta.key 1)
+pub number_writes : (s : State) → IsReady made_tables [] s.now → Writes s number_text (meta.encode 1) meta_table meta (added meta.key 1)
 number_writes s r =
     let m = r.standing.1.1.1.1.1.1.1.1.1.1.0 in
     insert meta_table meta_simple meta_plain meta s (bare meta meta_table s.now m.0 m.1) number_text _ _ (number_read _ _) 1 (λ n. refl) (tt, tt) refl
@@ -298,7 +199,7 @@ stays_bare {db = db} it c t r apart = let o = other_keeps it t c (bare c t db r.
 none_typed : AreTyped no_lists
 none_typed = record { projects = tt; langs = tt; versions = tt; pages = tt; used = tt; picks = tt; passes = tt; held = tt; rules = tt; redirects = tt }
 
-pub number_makes : (s : State) → IsReady upto_holds [] s.now → (after : Database) → Edits s number_text (meta.encode 1) after → IsMade after
+pub number_makes : (s : State) → IsReady made_tables [] s.now → (after : Database) → Edits s number_text (meta.encode 1) after → IsMade after
 number_makes s r after edits =
     let it = (number_writes s r).turns after edits in
     let m = r.standing.1.1.1.1.1.1.1.1.1.1.0 in

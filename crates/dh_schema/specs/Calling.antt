@@ -70,11 +70,17 @@ module _ {S : Type 0} (g : Ghosts S) where
     abbrev pub Learns : (Lists → T → Type 0) → Type 0
     Learns fact = IsHonest g new → IfOk result (fact (seen g lists_of old))
 
-    -- Where the store is honest, an answer is this of the records before.
+  module _ {T : Type 0} (old new : Held S) (result : Result T Fault) where
+    -- What a look leaves, whose answer and the records before stand so to each other.
+    pub record Obtains (fact : Lists → T → Type 0) : Type 0 where
+      pub asks : Asks old new result
+      pub value : Learns old new result fact
+
+    -- What a look leaves that answers this of the records before.
     abbrev pub Reads : (Lists → T) → Type 0
-    Reads value = Learns (λ l read. read ≡ value l)
+    Reads value = Obtains (λ l read. read ≡ value l)
 
   -- the same of a list
   abbrev pub ReadsAll
-      : {U Z E : Type 0} → Held S → Held S → Result (Vec U Z) E → (Lists → List U) → Type 0
-  ReadsAll old new result value = Learns old new result (λ l read. read.items ≡ value l)
+      : {U Z : Type 0} → Held S → Held S → Result (Vec U Z) Fault → (Lists → List U) → Type 0
+  ReadsAll old new result value = Obtains old new result (λ l read. read.items ≡ value l)

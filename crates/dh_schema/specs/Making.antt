@@ -1,5 +1,5 @@
 -- The tables as they are made, one after the other.
-use Rattle.std.specs.Prelude.{◌≡◌, true, false, List, [], ◌∷◌, Result, OnOk}
+use Rattle.std.specs.Prelude.{◌≡◌, ℕ, true, false, List, [], ◌∷◌, codes, Result, OnOk}
 use Rattle.std.specs.List.{AllByRecursion}
 use Rattle.sqlite_schema.specs.declared.schema.Table.{Table}
 use Rattle.sqlite.specs.Does.{lacks_sequence}
@@ -30,76 +30,51 @@ pub record IsMade (db : Database) : Type 0 where
   pub holds : Holds db
   pub empty : lists_of db ≡ no_lists
 
--- ---- the order in which they are made: the tables from one on, and those up to one, the last made first
-
-abbrev pub from_holds : List Table
-from_holds = holds_table ∷ []
-
-abbrev pub from_pass : List Table
-from_pass = pass_table ∷ from_holds
-
-abbrev pub from_pick : List Table
-from_pick = pick_table ∷ from_pass
-
-abbrev pub from_used : List Table
-from_used = used_table ∷ from_pick
-
-abbrev pub from_page : List Table
-from_page = page_table ∷ from_used
-
-abbrev pub from_version : List Table
-from_version = version_table ∷ from_page
-
-abbrev pub from_lang : List Table
-from_lang = lang_table ∷ from_version
-
-abbrev pub from_project : List Table
-from_project = project_table ∷ from_lang
-
-abbrev pub from_redirect : List Table
-from_redirect = redirect_table ∷ from_project
-
-abbrev pub from_rule : List Table
-from_rule = rule_table ∷ from_redirect
-
-abbrev pub from_meta : List Table
-from_meta = meta_table ∷ from_rule
-
-abbrev pub upto_meta : List Table
-upto_meta = meta_table ∷ []
-
-abbrev pub upto_rule : List Table
-upto_rule = rule_table ∷ upto_meta
-
-abbrev pub upto_redirect : List Table
-upto_redirect = redirect_table ∷ upto_rule
-
-abbrev pub upto_project : List Table
-upto_project = project_table ∷ upto_redirect
-
-abbrev pub upto_lang : List Table
-upto_lang = lang_table ∷ upto_project
-
-abbrev pub upto_version : List Table
-upto_version = version_table ∷ upto_lang
-
-abbrev pub upto_page : List Table
-upto_page = page_table ∷ upto_version
-
-abbrev pub upto_used : List Table
-upto_used = used_table ∷ upto_page
-
-abbrev pub upto_pick : List Table
-upto_pick = pick_table ∷ upto_used
-
-abbrev pub upto_pass : List Table
-upto_pass = pass_table ∷ upto_pick
-
-abbrev pub upto_holds : List Table
-upto_holds = holds_table ∷ upto_pass
-
+-- the tables in the order in which they are made
 abbrev pub our_tables : List Table
-our_tables = from_meta
+our_tables =
+    meta_table ∷
+    rule_table ∷
+    redirect_table ∷
+    project_table ∷
+    lang_table ∷
+    version_table ∷
+    page_table ∷
+    used_table ∷
+    pick_table ∷
+    pass_table ∷
+    holds_table ∷ []
+
+-- the same, the last made first
+abbrev pub made_tables : List Table
+made_tables =
+    holds_table ∷
+    pass_table ∷
+    pick_table ∷
+    used_table ∷
+    page_table ∷
+    version_table ∷
+    lang_table ∷
+    project_table ∷
+    redirect_table ∷
+    rule_table ∷
+    meta_table ∷ []
+
+-- what makes them
+abbrev pub table_texts : List (List ℕ)
+table_texts =
+    codes "CREATE TABLE meta (schema INTEGER NOT NULL) STRICT" ∷
+    codes "CREATE TABLE rule (host TEXT NOT NULL, place INTEGER NOT NULL, kind INTEGER NOT NULL, action INTEGER NOT NULL, pattern TEXT NOT NULL, PRIMARY KEY (host, place)) STRICT" ∷
+    codes "CREATE TABLE redirect (host TEXT NOT NULL, place INTEGER NOT NULL, kind INTEGER NOT NULL, status INTEGER NOT NULL, force INTEGER NOT NULL, source TEXT NOT NULL, target TEXT NOT NULL, PRIMARY KEY (host, place)) STRICT" ∷
+    codes "CREATE TABLE project (host TEXT NOT NULL, main TEXT NOT NULL, branch TEXT NOT NULL, wkey TEXT NOT NULL, private INTEGER NOT NULL, PRIMARY KEY (host)) STRICT" ∷
+    codes "CREATE TABLE lang (host TEXT NOT NULL, lang TEXT NOT NULL, place INTEGER NOT NULL, PRIMARY KEY (host, lang)) STRICT" ∷
+    codes "CREATE TABLE version (host TEXT NOT NULL, slug TEXT NOT NULL, name TEXT NOT NULL, kind INTEGER NOT NULL, active INTEGER NOT NULL, hidden INTEGER NOT NULL, private INTEGER NOT NULL, PRIMARY KEY (host, slug)) STRICT" ∷
+    codes "CREATE TABLE page (host TEXT NOT NULL, slug TEXT NOT NULL, lang TEXT NOT NULL, path TEXT NOT NULL, media TEXT NOT NULL, body BLOB NOT NULL, PRIMARY KEY (host, slug, lang, path)) STRICT" ∷
+    codes "CREATE TABLE used (host TEXT NOT NULL, slug TEXT NOT NULL, op INTEGER NOT NULL, retry TEXT NOT NULL, answer TEXT NOT NULL, PRIMARY KEY (host, slug, op, retry)) STRICT" ∷
+    codes "CREATE TABLE pick (host TEXT NOT NULL, name TEXT NOT NULL, rank INTEGER NOT NULL, PRIMARY KEY (host, name)) STRICT" ∷
+    codes "CREATE TABLE pass (host TEXT NOT NULL, pass TEXT NOT NULL, PRIMARY KEY (host, pass)) STRICT" ∷
+    codes "CREATE TABLE holds (host TEXT NOT NULL, pass TEXT NOT NULL, slug TEXT NOT NULL, PRIMARY KEY (host, pass, slug)) STRICT" ∷
+    []
 
 -- none of the names is taken, no foreign key names one of the tables, and where a table counts its rows by AUTOINCREMENT,
 -- the table `sqlite_sequence` is there

@@ -1,192 +1,54 @@
 //! Making the tables, one after the other.
 
-ghost use Rattle.std.specs.Prelude.{◌≡◌, ◌↔◌, [], ◌∷◌, IsTrue, OnOk, OnErr};
+ghost use Rattle.std.specs.Prelude.{◌≡◌, ◌↔◌, [], map, IsTrue, OnOk, OnErr};
 ghost use Rattle.sqlite.specs.Held.{state};
 ghost use Rattle.sqlite.specs.State.{HasCleanDisk};
 ghost use Rattle.dh_rows.specs.Calls.{IsHonest, Lasts, Begins, Commits, Refuses, whole};
 ghost use Rattle.dh_rows.specs.Places.{IsFree, IsUnmentioned, ArePlaced};
-ghost use Rattle.dh_schema.specs.Making.{CanMake, IsReady, IsMade, Builds, BuildsOne, AreCommitted, CommitsNothing, our_tables, from_meta, from_rule, from_redirect, from_project, from_lang, from_version, from_page, from_used, from_pick, from_pass, from_holds, upto_meta, upto_rule, upto_redirect, upto_project, upto_lang, upto_version, upto_page, upto_used, upto_pick, upto_pass, upto_holds};
+ghost use Rattle.dh_schema.specs.Making.{CanMake, IsReady, IsMade, Builds, BuildsOne, AreCommitted, CommitsNothing, made_tables, our_tables, table_texts};
 
 use crate::query::write;
+use dh_lookup::Fault;
 use dh_records::fault_of;
-use dh_reply::Fault;
 use dh_rows::{is_free, is_unmentioned, keeps_counts};
 use sqlite::{Alter, Connection, params};
 use sqlite_schema::schema::Schema;
 
-fn make_meta<S: Alter>(conn: &mut Connection<S>) -> Result<(), Fault>
-    requires { IsHonest S.Store conn.old
-        → IsReady [] from_meta (state S.Store conn.old).now }
-    ensures builds { BuildsOne S.Store conn.old conn.new result (IsReady upto_meta from_rule) }
-{
-    write(
-        conn,
-        "CREATE TABLE meta (schema INTEGER NOT NULL) STRICT",
-        &[],
-    )
-}
+/// What makes our tables, in this order.
+const TABLES: [&str; 11] = [
+    "CREATE TABLE meta (schema INTEGER NOT NULL) STRICT",
+    "CREATE TABLE rule (host TEXT NOT NULL, place INTEGER NOT NULL, kind INTEGER NOT NULL, action INTEGER NOT NULL, pattern TEXT NOT NULL, PRIMARY KEY (host, place)) STRICT",
+    "CREATE TABLE redirect (host TEXT NOT NULL, place INTEGER NOT NULL, kind INTEGER NOT NULL, status INTEGER NOT NULL, force INTEGER NOT NULL, source TEXT NOT NULL, target TEXT NOT NULL, PRIMARY KEY (host, place)) STRICT",
+    "CREATE TABLE project (host TEXT NOT NULL, main TEXT NOT NULL, branch TEXT NOT NULL, wkey TEXT NOT NULL, private INTEGER NOT NULL, PRIMARY KEY (host)) STRICT",
+    "CREATE TABLE lang (host TEXT NOT NULL, lang TEXT NOT NULL, place INTEGER NOT NULL, PRIMARY KEY (host, lang)) STRICT",
+    "CREATE TABLE version (host TEXT NOT NULL, slug TEXT NOT NULL, name TEXT NOT NULL, kind INTEGER NOT NULL, active INTEGER NOT NULL, hidden INTEGER NOT NULL, private INTEGER NOT NULL, PRIMARY KEY (host, slug)) STRICT",
+    "CREATE TABLE page (host TEXT NOT NULL, slug TEXT NOT NULL, lang TEXT NOT NULL, path TEXT NOT NULL, media TEXT NOT NULL, body BLOB NOT NULL, PRIMARY KEY (host, slug, lang, path)) STRICT",
+    "CREATE TABLE used (host TEXT NOT NULL, slug TEXT NOT NULL, op INTEGER NOT NULL, retry TEXT NOT NULL, answer TEXT NOT NULL, PRIMARY KEY (host, slug, op, retry)) STRICT",
+    "CREATE TABLE pick (host TEXT NOT NULL, name TEXT NOT NULL, rank INTEGER NOT NULL, PRIMARY KEY (host, name)) STRICT",
+    "CREATE TABLE pass (host TEXT NOT NULL, pass TEXT NOT NULL, PRIMARY KEY (host, pass)) STRICT",
+    "CREATE TABLE holds (host TEXT NOT NULL, pass TEXT NOT NULL, slug TEXT NOT NULL, PRIMARY KEY (host, pass, slug)) STRICT",
+];
 
-fn make_rule<S: Alter>(conn: &mut Connection<S>) -> Result<(), Fault>
-    requires { IsHonest S.Store conn.old
-        → IsReady upto_meta from_rule (state S.Store conn.old).now }
-    ensures builds { BuildsOne S.Store conn.old conn.new result (IsReady upto_rule from_redirect) }
+/// Makes the tables, one after the other.
+fn make_each<S: Alter>(conn: &mut Connection<S>, texts: &[&str]) -> Result<(), Fault>
+    requires ready { IsHonest S.Store conn.old
+        → IsReady [] our_tables (state S.Store conn.old).now }
+    requires texts { map (λ text. text.now) texts.now ≡ table_texts }
+    ensures builds { Builds S.Store conn.old conn.new result (IsReady made_tables []) }
 {
-    write(
-        conn,
-        "CREATE TABLE rule (host TEXT NOT NULL, place INTEGER NOT NULL, kind INTEGER NOT NULL, action INTEGER NOT NULL, pattern TEXT NOT NULL, PRIMARY KEY (host, place)) STRICT",
-        &[],
-    )
-}
-
-fn make_redirect<S: Alter>(conn: &mut Connection<S>) -> Result<(), Fault>
-    requires { IsHonest S.Store conn.old
-        → IsReady upto_rule from_redirect (state S.Store conn.old).now }
-    ensures builds { BuildsOne S.Store conn.old conn.new result
-        (IsReady upto_redirect from_project) }
-{
-    write(
-        conn,
-        "CREATE TABLE redirect (host TEXT NOT NULL, place INTEGER NOT NULL, kind INTEGER NOT NULL, status INTEGER NOT NULL, force INTEGER NOT NULL, source TEXT NOT NULL, target TEXT NOT NULL, PRIMARY KEY (host, place)) STRICT",
-        &[],
-    )
-}
-
-fn make_project<S: Alter>(conn: &mut Connection<S>) -> Result<(), Fault>
-    requires { IsHonest S.Store conn.old
-        → IsReady upto_redirect from_project (state S.Store conn.old).now }
-    ensures builds { BuildsOne S.Store conn.old conn.new result (IsReady upto_project from_lang) }
-{
-    write(
-        conn,
-        "CREATE TABLE project (host TEXT NOT NULL, main TEXT NOT NULL, branch TEXT NOT NULL, wkey TEXT NOT NULL, private INTEGER NOT NULL, PRIMARY KEY (host)) STRICT",
-        &[],
-    )
-}
-
-fn make_lang<S: Alter>(conn: &mut Connection<S>) -> Result<(), Fault>
-    requires { IsHonest S.Store conn.old
-        → IsReady upto_project from_lang (state S.Store conn.old).now }
-    ensures builds { BuildsOne S.Store conn.old conn.new result (IsReady upto_lang from_version) }
-{
-    write(
-        conn,
-        "CREATE TABLE lang (host TEXT NOT NULL, lang TEXT NOT NULL, place INTEGER NOT NULL, PRIMARY KEY (host, lang)) STRICT",
-        &[],
-    )
-}
-
-fn make_version<S: Alter>(conn: &mut Connection<S>) -> Result<(), Fault>
-    requires { IsHonest S.Store conn.old
-        → IsReady upto_lang from_version (state S.Store conn.old).now }
-    ensures builds { BuildsOne S.Store conn.old conn.new result (IsReady upto_version from_page) }
-{
-    write(
-        conn,
-        "CREATE TABLE version (host TEXT NOT NULL, slug TEXT NOT NULL, name TEXT NOT NULL, kind INTEGER NOT NULL, active INTEGER NOT NULL, hidden INTEGER NOT NULL, private INTEGER NOT NULL, PRIMARY KEY (host, slug)) STRICT",
-        &[],
-    )
-}
-
-fn make_page<S: Alter>(conn: &mut Connection<S>) -> Result<(), Fault>
-    requires { IsHonest S.Store conn.old
-        → IsReady upto_version from_page (state S.Store conn.old).now }
-    ensures builds { BuildsOne S.Store conn.old conn.new result (IsReady upto_page from_used) }
-{
-    write(
-        conn,
-        "CREATE TABLE page (host TEXT NOT NULL, slug TEXT NOT NULL, lang TEXT NOT NULL, path TEXT NOT NULL, media TEXT NOT NULL, body BLOB NOT NULL, PRIMARY KEY (host, slug, lang, path)) STRICT",
-        &[],
-    )
-}
-
-fn make_used<S: Alter>(conn: &mut Connection<S>) -> Result<(), Fault>
-    requires { IsHonest S.Store conn.old
-        → IsReady upto_page from_used (state S.Store conn.old).now }
-    ensures builds { BuildsOne S.Store conn.old conn.new result (IsReady upto_used from_pick) }
-{
-    write(
-        conn,
-        "CREATE TABLE used (host TEXT NOT NULL, slug TEXT NOT NULL, op INTEGER NOT NULL, retry TEXT NOT NULL, answer TEXT NOT NULL, PRIMARY KEY (host, slug, op, retry)) STRICT",
-        &[],
-    )
-}
-
-fn make_pick<S: Alter>(conn: &mut Connection<S>) -> Result<(), Fault>
-    requires { IsHonest S.Store conn.old
-        → IsReady upto_used from_pick (state S.Store conn.old).now }
-    ensures builds { BuildsOne S.Store conn.old conn.new result (IsReady upto_pick from_pass) }
-{
-    write(
-        conn,
-        "CREATE TABLE pick (host TEXT NOT NULL, name TEXT NOT NULL, rank INTEGER NOT NULL, PRIMARY KEY (host, name)) STRICT",
-        &[],
-    )
-}
-
-fn make_pass<S: Alter>(conn: &mut Connection<S>) -> Result<(), Fault>
-    requires { IsHonest S.Store conn.old
-        → IsReady upto_pick from_pass (state S.Store conn.old).now }
-    ensures builds { BuildsOne S.Store conn.old conn.new result (IsReady upto_pass from_holds) }
-{
-    write(
-        conn,
-        "CREATE TABLE pass (host TEXT NOT NULL, pass TEXT NOT NULL, PRIMARY KEY (host, pass)) STRICT",
-        &[],
-    )
-}
-
-fn make_holds<S: Alter>(conn: &mut Connection<S>) -> Result<(), Fault>
-    requires { IsHonest S.Store conn.old
-        → IsReady upto_pass from_holds (state S.Store conn.old).now }
-    ensures builds { BuildsOne S.Store conn.old conn.new result (IsReady upto_holds []) }
-{
-    write(
-        conn,
-        "CREATE TABLE holds (host TEXT NOT NULL, pass TEXT NOT NULL, slug TEXT NOT NULL, PRIMARY KEY (host, pass, slug)) STRICT",
-        &[],
-    )
+    for sql in texts {
+        write(conn, *sql, &[])?;
+    }
+    Ok(())
 }
 
 /// Writes the number of the schema.
 fn number<S: Alter>(conn: &mut Connection<S>) -> Result<(), Fault>
     requires { IsHonest S.Store conn.old
-        → IsReady upto_holds [] (state S.Store conn.old).now }
+        → IsReady made_tables [] (state S.Store conn.old).now }
     ensures builds { BuildsOne S.Store conn.old conn.new result IsMade }
 {
     write(conn, "INSERT INTO meta VALUES (?1)", params![1i64])
-}
-
-fn make_first<S: Alter>(conn: &mut Connection<S>) -> Result<(), Fault>
-    requires { IsHonest S.Store conn.old
-        → IsReady [] from_meta (state S.Store conn.old).now }
-    ensures builds { Builds S.Store conn.old conn.new result (IsReady upto_lang from_version) }
-{
-    make_meta(conn)?;
-    make_rule(conn)?;
-    make_redirect(conn)?;
-    make_project(conn)?;
-    make_lang(conn)
-}
-
-fn make_second<S: Alter>(conn: &mut Connection<S>) -> Result<(), Fault>
-    requires { IsHonest S.Store conn.old
-        → IsReady upto_lang from_version (state S.Store conn.old).now }
-    ensures builds { Builds S.Store conn.old conn.new result (IsReady upto_used from_pick) }
-{
-    make_version(conn)?;
-    make_page(conn)?;
-    make_used(conn)
-}
-
-fn make_rest<S: Alter>(conn: &mut Connection<S>) -> Result<(), Fault>
-    requires { IsHonest S.Store conn.old
-        → IsReady upto_used from_pick (state S.Store conn.old).now }
-    ensures builds { Builds S.Store conn.old conn.new result IsMade }
-{
-    make_pick(conn)?;
-    make_pass(conn)?;
-    make_holds(conn)?;
-    number(conn)
 }
 
 /// Makes the tables, with no record in them.
@@ -195,9 +57,8 @@ pub fn make_tables<S: Alter>(conn: &mut Connection<S>) -> Result<(), Fault>
         → IsReady [] our_tables (state S.Store conn.old).now }
     ensures builds { Builds S.Store conn.old conn.new result IsMade }
 {
-    make_first(conn)?;
-    make_second(conn)?;
-    make_rest(conn)
+    make_each(conn, &TABLES)?;
+    number(conn)
 }
 
 fn can_have(schema: &Schema, name: &[u8]) -> bool

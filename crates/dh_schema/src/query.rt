@@ -7,8 +7,8 @@ ghost use Rattle.sqlite.specs.Values.{bound};
 ghost use Rattle.dh_rows.specs.Calls.{AreRows, Finds, IsHonest, IsPlainEdit, IsPlainLook, IsUnfit, OnlyEdits, OnlyLooks};
 ghost use Rattle.dh_schema.specs.Calling.{AreAsked, Blames, IsUnread};
 
+use dh_lookup::Fault;
 use dh_records::{Record, all, fault_of, first};
-use dh_reply::Fault;
 use sqlite::types::ValueRef;
 use sqlite::{Alter, Connection, Row};
 use std::alloc::Global;

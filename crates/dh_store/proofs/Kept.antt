@@ -48,7 +48,7 @@ pub as_utf8 : {text of : List ℕ} → text ≡ of → IsUtf8 text → IsUtf8 of
 as_utf8 same utf8 = subst (λ (t : List ℕ). IsUtf8 t) same utf8
 
 -- what holds of all holds of the one that a look found
-pub if_found : {X E : Type 0} (P Q : X → Type 0) → ((x : X) → P x → Q x) → (test : X → Bool) (xs : List X) (r : Result (Option X) E) → IfOk r (λ o. o ≡ find test xs) → AllByRecursion P xs → IfOk r (λ o. IfSome o Q)
-if_found P Q then test xs (Ok None) is all = tt
-if_found P Q then test xs (Ok (Some x)) is all = then x (all_found P test xs x (sym is) all)
+pub if_found : {X E : Type 0} (P Q : X → Type 0) → ((x : X) → P x → Q x) → (test : X → Bool) (xs : List X) (r : Result (Option X) E) → IfOk r (λ o. o ≡ find test xs) → AllByRecursion P xs → IfOk r (λ o. (o ≡ find test xs) × IfSome o Q)
+if_found P Q then test xs (Ok None) is all = (is, tt)
+if_found P Q then test xs (Ok (Some x)) is all = (is, then x (all_found P test xs x (sym is) all))
 if_found P Q then test xs (Err e) is all = tt

@@ -13,9 +13,9 @@ any_value H encode (Ok b) ys v h reads e = h.1.2 ∙ ap (λ l. is_some (slice_ge
 any_value H encode (Err x) ys v h reads e = tt
 
 -- what holds of the list holds of the answer that is it
-pub kept_by : {V E X : Type 0} (P : List X → Type 0) (items : V → List X) (r : Result V E) (ys : List X) → IfOk r (λ v. items v ≡ ys) → P ys → IfOk r (λ v. P (items v))
-kept_by P items (Ok v) ys e p = subst P (sym e) p
-kept_by P items (Err x) ys e p = tt
+pub with_fact : {V E X : Type 0} (P : List X → Type 0) (items : V → List X) (r : Result V E) (ys : List X) → IfOk r (λ v. items v ≡ ys) → P ys → IfOk r (λ v. (items v ≡ ys) × P (items v))
+with_fact P items (Ok v) ys e p = (e, subst P (sym e) p)
+with_fact P items (Err x) ys e p = tt
 
 -- as many rows as records
 pub count_value : (H : Type 0) {X E : Type 0} {R : Type 0} {P : List R → Type 0} (encode : X → R) (r : Result ℕ E) (ys : List X) → IfOk r (λ n. H × ((rows : List R) × P rows × (n ≡ length rows))) → ((rows : List R) → P rows → rows ≡ map encode ys) → IfOk r (λ n. n ≡ length ys)

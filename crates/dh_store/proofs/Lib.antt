@@ -11,4 +11,4 @@ pub mod PickLemmas
 pub mod ListLemmas
 pub mod TurnLemmas
 pub mod SettingLemmas
-pub mod OpenLemmas
+pub mod OrderLemmas

@@ -3,4 +3,4 @@
 
 pub mod tables;
 
-pub use tables::{Tables, TablesFault};
+pub use tables::Tables;

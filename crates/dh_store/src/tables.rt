@@ -1,17 +1,14 @@
-//! The tables: how they are made, and transactions on them.
+//! The tables, and transactions on them.
 
-ghost use Rattle.std.specs.Prelude.{◌≡◌, ◌≢◌, ◌<◌, ◌^◌, true, false, not, IfOk, IfErr, IsTrue};
+ghost use Rattle.std.specs.Prelude.{◌≡◌, ◌<◌, ◌^◌, true, false, not, IfOk, IsTrue};
 ghost use Rattle.std.specs.FinMap.{empty};
 ghost use Rattle.sqlite.specs.Held.{state};
-ghost use Rattle.sqlite.specs.State.{HasCleanDisk};
 ghost use Rattle.sqlite.specs.Steps.{over_memory};
-ghost use Rattle.dh_rows.specs.Calls.{IsBlamed, IsHonest, Lasts, Goes, Begins, Commits, Undoes, Refuses, Leaves, LeavesNoMore, LeavesCommitted, seen, committed};
+ghost use Rattle.dh_rows.specs.Calls.{AreOurs, IsHonest, Lasts, Goes, Begins, Commits, Undoes, Refuses, Leaves, LeavesNoMore, LeavesCommitted, seen, committed};
 ghost use Rattle.dh_schema.specs.Calling.{Blames, IsSettled, KeepsSchema};
-ghost use Rattle.dh_schema.specs.Making.{CanMake, CommitsNothing, no_lists};
-ghost use Rattle.dh_schema.specs.Tables.{lists_of};
-ghost use Rattle.dh_records.specs.Constraints.{AreInOrder, KeepsConstraints};
+ghost use Rattle.dh_schema.specs.Making.{no_lists};
+ghost use Rattle.dh_schema.specs.Tables.{Holds, lists_of};
 ghost use Rattle.dh_records.specs.Lists as spec;
-ghost use Rattle.dh_opening.specs.Opening.{IsOurs};
 
 mod defaults;
 mod languages;
@@ -24,11 +21,9 @@ mod rules;
 mod statement;
 mod versions;
 
-pub use dh_opening::TablesFault;
-use dh_opening::check;
+use dh_lookup::Fault;
 use dh_records::fault_of;
-use dh_reply::Fault;
-use dh_schema::{can_make, make_at_once, make_tables};
+use dh_schema::make_tables;
 use sqlite::{Alter, Connection, MemStore};
 use std::alloc::Global;
 use std::marker::Model;
@@ -121,80 +116,12 @@ fn show_number(n: u32)
 }
 
 impl<S: Alter> Tables<S> {
-    /// Makes the tables, in a transaction of their own. A connection that is handed back may still be in it. The limit on
-    /// a statement's steps is cleared, also of one that is handed back.
-    pub fn create(conn: Connection<S>) -> Result<Tables<S>, (TablesFault, Connection<S>)>
-        ensures was { IfOk result (λ t. IsHonest S.Store t → IsHonest S.Store conn) }
-        ensures honest { IfOk result (λ t. IsHonest S.Store conn → HasCleanDisk (state S.Store t)
-            → IsHonest S.Store t × (t.in_transaction ≡ false)) }
-        ensures none { IfOk result (λ t. IsHonest S.Store conn → HasCleanDisk (state S.Store t)
-            → seen S.Store lists_of t ≡ no_lists) }
-        ensures last { IfOk result (λ t. IsHonest S.Store conn → HasCleanDisk (state S.Store t)
-            → committed S.Store lists_of t ≡ no_lists) }
-        ensures free { IfOk result (λ t. CanMake (state S.Store conn).now.schema) }
-        ensures left { IfOk result (λ t. IsHonest S.Store t → LeavesCommitted S.Store lists_of t) }
-        ensures ours { IfErr result (λ e. CanMake (state S.Store conn).now.schema
-            → e.0 ≢ TablesFault.NotOurs) }
-        ensures taken { IfErr result (λ e. ¬ CanMake (state S.Store conn).now.schema
-            → e.0 ≡ TablesFault.NotOurs) }
-        ensures back { IfErr result (λ e. IsHonest S.Store e.1 → CommitsNothing S.Store conn e.1) }
+    /// The tables that stand in the database of a connection, in no transaction and with no limit on a statement's steps.
+    pub fn over(conn: Connection<S>) -> Tables<S>
+        requires ours { AreOurs Holds (state S.Store conn) }
+        ensures { result ≡ conn }
     {
-        let mut conn = conn;
-        conn.set_step_limit(None);
-        if !can_make(conn.schema()) {
-            return Err((TablesFault::NotOurs, conn));
-        }
-        match make_at_once(&mut conn) {
-            Ok(()) => Ok(Tables { conn }),
-            Err(Fault::Store) => Err((TablesFault::Store, conn)),
-            Err(Fault::Memory) => Err((TablesFault::Memory, conn)),
-        }
-    }
-}
-
-/// That outside a transaction what is seen was committed. It does nothing.
-fn show_settled<S: Alter>(conn: &Connection<S>)
-    requires { conn.now.in_transaction ≡ false }
-    ensures { IsTrue (state S.Store conn.now).is_open
-        → (state S.Store conn.now).now ≡ (state S.Store conn.now).committed }
-{
-    let _ = conn.is_autocommit();
-}
-
-impl<S: Alter> Tables<S> {
-    /// Opens the tables that stand in a database, of a connection that is in no transaction: as they are made and nothing of
-    /// others on them, with rows that spell records which keep the constraints. They spell what they spelt. It reads each
-    /// table whole. The limit on a statement's steps is cleared, also of a connection that is handed back.
-    pub fn open(
-        alloc: Global,
-        conn: Connection<S>,
-    ) -> Result<Tables<S>, (TablesFault, Connection<S>)>
-        requires { conn.in_transaction ≡ false }
-        ensures opened { IfOk result (λ t. HasCleanDisk (state S.Store t)
-            → IsHonest S.Store conn × IsHonest S.Store t × (t.in_transaction ≡ false)) }
-        ensures seen { IfOk result (λ t. HasCleanDisk (state S.Store t)
-            → seen S.Store lists_of t ≡ seen S.Store lists_of conn) }
-        ensures last { IfOk result (λ t. HasCleanDisk (state S.Store t)
-            → committed S.Store lists_of t ≡ seen S.Store lists_of conn) }
-        ensures sound { IfOk result (λ t. HasCleanDisk (state S.Store t)
-            → AreInOrder (committed S.Store lists_of t)
-            × KeepsConstraints (committed S.Store lists_of t)) }
-        ensures left { IfOk result (λ t. IsHonest S.Store t → LeavesCommitted S.Store lists_of t) }
-        ensures quiet { IfOk result (λ t. IsHonest S.Store conn → LeavesNoMore S.Store conn t) }
-        ensures ours { IfErr result (λ e. HasCleanDisk (state S.Store e.1)
-            → e.0 ≡ TablesFault.NotOurs → ¬ IsOurs (state S.Store conn).now) }
-        ensures told { IfErr result (λ e. HasCleanDisk (state S.Store e.1)
-            → e.0 ≡ TablesFault.Store → IsBlamed S.Store conn e.1) }
-        ensures back { IfErr result (λ e. IsHonest S.Store e.1 → CommitsNothing S.Store conn e.1) }
-        ensures kept { IfErr result (λ e. IsHonest S.Store conn → LeavesNoMore S.Store conn e.1) }
-    {
-        let mut conn = conn;
-        conn.set_step_limit(None);
-        show_settled(&conn);
-        match check(&mut conn, alloc) {
-            Ok(()) => Ok(Tables { conn }),
-            Err(fault) => Err((fault, conn)),
-        }
+        Tables { conn }
     }
 }
 

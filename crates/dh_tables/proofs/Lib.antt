@@ -1,2 +1,1 @@
 pub mod Together
-pub use Rattle.dh_view.proofs.ViewLemmas

@@ -4,11 +4,13 @@
 pub mod checked;
 mod classes;
 pub mod fault;
+pub mod kinds;
 pub mod slug;
 pub mod text;
 
-pub use checked::{HostName, Lang, PagePath, RefName, Slug, Token};
+pub use checked::{Checked, Kind};
 pub use classes::{all_no_control, lower_or_digit};
 pub use fault::TextFault;
+pub use kinds::{HostName, Lang, PagePath, RefName, Slug, Token};
 pub use slug::slug_of;
 pub use text::{Bytes, Text};

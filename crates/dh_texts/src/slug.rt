@@ -4,9 +4,9 @@ ghost use Rattle.std.specs.Prelude.{◌≡◌, ◌<◌, IfOk, OnOk, OnErr, Err, 
 ghost use Rattle.dh_texts.specs.Texts.{Answers};
 ghost use Rattle.dh_texts.specs.Slugs.{slug_char, slug_text, slug_from, with_byte};
 
-use crate::checked::{RefName, Slug};
 use crate::classes::lower_or_digit;
 use crate::fault::TextFault;
+use crate::kinds::{RefName, Slug};
 use std::alloc::{AllocError, Global};
 
 fn lowered(c: char) -> u8

@@ -1,5 +1,5 @@
 -- What a view of the tables shows, and what looks at them leave.
-use Rattle.std.specs.Prelude.{◌≡◌, ◌⊎◌, ℕ, Bool, ◌&&◌, List, Option, Result, is_some, option_and_then, true}
+use Rattle.std.specs.Prelude.{◌≡◌, ◌⊎◌, ℕ, Bool, ◌&&◌, List, Option, Result, Vec, is_some, option_and_then, true}
 use Rattle.std.proofs.Common.{inl, inr, ◌∙◌, sym}
 use Rattle.std.proofs.lemmas.Bool.{cases_Bool}
 use Rattle.std.specs.List.{list_any, AllByRecursion}
@@ -20,7 +20,7 @@ use Rattle.dh_records.specs.declared.records.HeldRow.{HeldRow}
 use Rattle.dh_records.specs.declared.records.ProjectRow.{ProjectRow}
 use Rattle.dh_world.specs.World.{Text, text_cmp, Project, holds, may_see}
 use Rattle.dh_world.specs.Seen as caller
-use Rattle.dh_schema.specs.Calling.{Blames}
+use Rattle.dh_schema.specs.Calling.{Blames, Learns}
 use Rattle.dh_schema.specs.InTurn.{blamed_before, lasts_none, lasts_on, same_none, same_on, shut_before}
 use Rattle.dh_records.specs.Lists.{Lists, project_of, world_of}
 use Rattle.dh_schema.specs.Tables.{lists_of}
@@ -107,6 +107,20 @@ module _ {S : Type 0} (g : Ghosts S) where
       pub err : Refuses g lists_of old new result
       -- `Store` is told for a fault of the store alone
       pub told : Blames g old new result ⊥
+
+    -- What such looks leave, whose answer and the records before stand so to each other.
+    pub record Obtains (fact : Lists → T → Type 0) : Type 0 where
+      pub asks : Asks
+      pub value : Learns g old new result fact
+
+    -- What such looks leave that answer this of the records before.
+    abbrev pub Reads : (Lists → T) → Type 0
+    Reads value = Obtains (λ l read. read ≡ value l)
+
+  -- the same of a list
+  abbrev pub ReadsAll
+      : {U Z : Type 0} → Held S → Held S → Result (Vec U Z) Fault → (Lists → List U) → Type 0
+  ReadsAll old new result value = Obtains old new result (λ l read. read.items ≡ value l)
 
   -- How a view is read: by what its tables show under its host and pass, which stay.
   abbrev pub meaning_of : Meaning (View S)

@@ -3,5 +3,4 @@
 
 pub mod view;
 
-pub use dh_store::{Tables, TablesFault};
 pub use view::{View, doubt_is_of_the_store};

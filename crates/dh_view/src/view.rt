@@ -19,10 +19,10 @@ mod versions;
 
 use aliases::version_for;
 use defaults::default_name;
+use dh_lookup::{Fault, Lookup, Named, Page};
 use dh_paths::{HostName, Lang, Slug, Text, Token};
 use dh_records::ProjectRow;
 use dh_redirects::{Asked, Location};
-use dh_reply::{Fault, Lookup, Named, Page};
 use dh_store::Tables;
 use dh_versions::Version;
 use pages::{all_langs, visible_page};

@@ -1,6 +1,6 @@
 -- What is kept under a retry key stays kept, and is answered again.
 use Rattle.std.proofs.Common.{◌≡◌, ◌&&◌, not, Bool, true, false, cond, length, List, [], ◌∷◌, Option, Some, None, is_some, Result, Ok, Err, ◌⊎◌, inl, inr, refl, sym, ap, ◌∙◌, subst}
-use Rattle.std.specs.Prelude.{◌+◌, nat_lt, option_map, option_and_then}
+use Rattle.std.specs.Prelude.{nat_lt, option_map, option_and_then}
 use Rattle.std.specs.Str.{bytes_eq}
 use Rattle.std.specs.Ordering.{eq_by_cmp, is_eq}
 use Rattle.std.specs.Cmp.{Equal-is}
@@ -14,6 +14,7 @@ use Rattle.dh_versions.specs.declared.version.Version.{Version}
 use Rattle.dh_rules.specs.Rules.{after_rules}
 use Rattle.dh_rules.specs.declared.rule.Fresh.{Fresh}
 use Rattle.dh_world.specs.declared.answer.Answer.{Answer}
+use Rattle.dh_world.specs.declared.answer.Answer.TheVariants.{Done}
 use Rattle.dh_world.specs.declared.command.Command.{Command}
 use Rattle.dh_world.specs.declared.command.CommandChange.{CommandChange}
 use Rattle.dh_world.specs.declared.command.CommandChange.TheVariants as change
@@ -22,7 +23,7 @@ use Rattle.dh_world.specs.declared.refusal.Refusal.TheVariants.{WrongKey, NoProj
 use Rattle.dh_world.specs.World.{Text, text_cmp, UsedKey, used_cmp, Project, World}
 use Rattle.dh_world.specs.Texts.{bad_text}
 use Rattle.dh_world.specs.Seen.{is_alias}
-use Rattle.dh_world.specs.Changes.{Change, change, opened, has_lang, is_place, fresh, with_fresh, stored, once, at_version, at_pass, pushed, push_key, uploaded, upload_key}
+use Rattle.dh_world.specs.Changes.{Change, change, opened, has_lang, set_to, with_rules, with_redirects, fresh, with_fresh, stored, once, at_version, at_pass, pushed, push_key, uploaded, upload_key}
 use Rattle.dh_world.specs.Step.{change_at, settled, after_texts, step}
 use Rattle.dh_world.specs.Retries.{retry_key, write_key, write_key_at, kept, left_by, after}
 use Rattle.dh_world.proofs.MapLemmas.{text_total, used_total, used_exact, get_back, put_same}
@@ -107,6 +108,11 @@ done p q a w u = gives (Leaves p None) q a (untouched p q a w u)
 
 of_pass : (p : Project) (pass : Text) (q : Project) → q.wkey ≡ p.wkey → q.used ≡ p.used → Yields (Leaves p None) (at_pass p pass q)
 of_pass p pass q w u = by_test (Leaves p None) (contains_key p.passes pass) _ _ (done p q _ w u) (refuses (Leaves p None) _)
+
+-- what sets a list keeps all else
+sets : (p : Project) {X : Type 0} (with : List X → Project) → ((xs : List X) → Yields (Leaves p None) (Ok (with xs, Done))) → (r : Result (List X) Refusal) → Yields (Leaves p None) (set_to with r)
+sets p with set (Ok xs) = set xs
+sets p with set (Err e) = refuses (Leaves p None) e
 
 -- ---- which changes have a retry key
 
@@ -199,26 +205,10 @@ sort_of (change.SetDefault name) = inl (
       by_test (Leaves p None) (is_alias name) _ _ (done p _ _ refl refl)
       (at_one (Leaves p None) (get p.versions name) _ (λ v. by_test (Leaves p None) v.active _ _ (done p _ _ refl refl) (refuses (Leaves p None) _))),
 )
-sort_of (change.AddRule place rule) = inl (
-  refl,
-  λ p.
-      by_test (Leaves p None) (not (is_place place (length p.rules + 1))) _ _ (refuses (Leaves p None) _)
-      (by_test (Leaves p None) (nat_lt (length p.rules) 50) _ _ (done p _ _ refl refl) (refuses (Leaves p None) _)),
-)
-sort_of (change.DropRule place) = inl (
-  refl,
-  λ p. by_test (Leaves p None) (is_place place (length p.rules)) _ _ (done p _ _ refl refl) (refuses (Leaves p None) _),
-)
-sort_of (change.AddRedirect place redirect) = inl (
-  refl,
-  λ p.
-      by_test (Leaves p None) (not (is_place place (length p.redirects + 1))) _ _ (refuses (Leaves p None) _)
-      (by_test (Leaves p None) (nat_lt (length p.redirects) 100) _ _ (done p _ _ refl refl) (refuses (Leaves p None) _)),
-)
-sort_of (change.DropRedirect place) = inl (
-  refl,
-  λ p. by_test (Leaves p None) (is_place place (length p.redirects)) _ _ (done p _ _ refl refl) (refuses (Leaves p None) _),
-)
+sort_of (change.AddRule place rule) = inl (refl, λ p. sets p (with_rules p) (λ _. done p _ _ refl refl) _)
+sort_of (change.DropRule place) = inl (refl, λ p. sets p (with_rules p) (λ _. done p _ _ refl refl) _)
+sort_of (change.AddRedirect place redirect) = inl (refl, λ p. sets p (with_redirects p) (λ _. done p _ _ refl refl) _)
+sort_of (change.DropRedirect place) = inl (refl, λ p. sets p (with_redirects p) (λ _. done p _ _ refl refl) _)
 sort_of (change.AddPass pass) = inl (
   refl,
   λ p.

@@ -221,35 +221,42 @@ with_one_at place x xs = take (place - 1) xs ++ x ∷ drop (place - 1) xs
 abbrev pub without_place : {X : Type 0} → ℕ → List X → List X
 without_place place xs = take (place - 1) xs ++ drop place xs
 
--- ---- rules
+-- one more at a place of the list or the next one, where there are fewer than so many
+abbrev pub added : {X : Type 0} → ℕ → ℕ → X → List X → Result (List X) Refusal
+added most place x xs =
+    if not (is_place place (length xs + 1)) then Err BadPlace
+    else if nat_lt (length xs) most then Ok (with_one_at place x xs)
+    else Err TooMany
 
--- a place of the list or the next one, and there are fewer than 50
+-- the one at a place of the list is gone
+abbrev pub dropped : {X : Type 0} → ℕ → List X → Result (List X) Refusal
+dropped place xs =
+    if is_place place (length xs) then Ok (without_place place xs) else Err BadPlace
+
+-- a list in place of one that it was made from
+abbrev pub set_to : {X : Type 0} → (List X → Project) → Result (List X) Refusal → Change
+set_to with (Ok xs) = Ok (with xs, Done)
+set_to with (Err e) = Err e
+
+-- ---- rules and redirects
+
+abbrev pub with_rules : Project → List Rule → Project
+with_rules p rules = record p { rules = rules }
+
 abbrev pub add_rule : ℕ → Rule → Project → Change
-add_rule place rule p =
-    if not (is_place place (length p.rules + 1)) then Err BadPlace
-    else if nat_lt (length p.rules) 50 then Ok (record p { rules = with_one_at place rule p.rules }, Done)
-    else Err TooMany
+add_rule place rule p = set_to (with_rules p) (added 50 place rule p.rules)
 
--- a place of the list
 abbrev pub drop_rule : ℕ → Project → Change
-drop_rule place p =
-    if is_place place (length p.rules) then Ok (record p { rules = without_place place p.rules }, Done)
-    else Err BadPlace
+drop_rule place p = set_to (with_rules p) (dropped place p.rules)
 
--- ---- redirects
+abbrev pub with_redirects : Project → List Redirect → Project
+with_redirects p redirects = record p { redirects = redirects }
 
--- a place of the list or the next one, and there are fewer than 100
 abbrev pub add_redirect : ℕ → Redirect → Project → Change
-add_redirect place redirect p =
-    if not (is_place place (length p.redirects + 1)) then Err BadPlace
-    else if nat_lt (length p.redirects) 100 then Ok (record p { redirects = with_one_at place redirect p.redirects }, Done)
-    else Err TooMany
+add_redirect place redirect p = set_to (with_redirects p) (added 100 place redirect p.redirects)
 
--- a place of the list
 abbrev pub drop_redirect : ℕ → Project → Change
-drop_redirect place p =
-    if is_place place (length p.redirects) then Ok (record p { redirects = without_place place p.redirects }, Done)
-    else Err BadPlace
+drop_redirect place p = set_to (with_redirects p) (dropped place p.redirects)
 
 -- ---- passes
 

@@ -12,9 +12,7 @@ pub mod refusal;
 
 pub use answer::Answer;
 pub use command::{Command, CommandChange};
-pub use laws::{
-    answers_for_good, first_is_kept, kept_is_answered, kept_stays, veil_law, veiled_reply,
-};
+pub use laws::{answers_for_good, first_is_kept, kept_is_answered, kept_stays, veil_law};
 pub use operation::Operation;
 pub use outcome::Outcome;
 pub use pages::{Pages, UploadedPage};

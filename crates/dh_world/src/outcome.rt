@@ -1,7 +1,8 @@
 //! What came of the calls of the desk.
 use crate::answer::Answer;
 use crate::refusal::Refusal;
-use dh_reply::{Fault, Reply};
+use dh_lookup::Fault;
+use dh_wire::Reply;
 
 /// What came of a call of the desk.
 #[derive(Drop)]

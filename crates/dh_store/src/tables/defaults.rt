@@ -5,16 +5,16 @@ ghost use Rattle.std.specs.List.{AllByRecursion, IsDistinct};
 ghost use Rattle.std.specs.Str.{bytes_eq};
 ghost use Rattle.dh_rows.specs.Calls.{IsHonest, seen};
 ghost use Rattle.dh_rows.specs.Keyed.{IsFreeKey};
-ghost use Rattle.dh_schema.specs.Calling.{Asks, ReadsAll, Writes, WritesWithin};
+ghost use Rattle.dh_schema.specs.Calling.{ReadsAll, Writes, WritesWithin};
 ghost use Rattle.dh_schema.specs.Tables.{lists_of};
 ghost use Rattle.dh_records.specs.Changes as change;
 ghost use Rattle.dh_records.specs.Codings as coding;
 ghost use Rattle.dh_records.specs.Lists as spec;
 
 use super::Tables;
+use dh_lookup::Fault;
 use dh_paths::{HostName, Slug};
 use dh_records::PickRow;
-use dh_reply::Fault;
 use sqlite::{Alter, params};
 use std::alloc::Global;
 
@@ -31,8 +31,7 @@ fn signed(rank: u64) -> Result<i64, Fault>
 impl<S: Alter> Tables<S> {
     /// The defaults of a project, in the order of their ranks.
     pub fn picks(&mut self, alloc: Global, host: &HostName) -> Result<Vec<PickRow>, Fault>
-        ensures asks { Asks S.Store self.old self.new result }
-        ensures value { ReadsAll S.Store self.old self.new result
+        ensures { ReadsAll S.Store self.old self.new result
             (λ l. filter (spec.is_pick_of host.now) l.picks) }
     {
         let sql = "SELECT host, name, rank FROM pick WHERE host = ?1 ORDER BY host, rank";

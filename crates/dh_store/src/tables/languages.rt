@@ -3,7 +3,7 @@
 ghost use Rattle.std.specs.Prelude.{◌≡◌, false, filter};
 ghost use Rattle.dh_rows.specs.Calls.{IsHonest, seen};
 ghost use Rattle.dh_rows.specs.Keyed.{IsFreeKey};
-ghost use Rattle.dh_schema.specs.Calling.{Asks, ReadsAll, Writes};
+ghost use Rattle.dh_schema.specs.Calling.{ReadsAll, Writes};
 ghost use Rattle.dh_schema.specs.Tables.{lists_of};
 ghost use Rattle.dh_records.specs.Changes as change;
 ghost use Rattle.dh_records.specs.Codings as coding;
@@ -11,17 +11,16 @@ ghost use Rattle.dh_records.specs.Lists as spec;
 ghost use Rattle.dh_records.specs.Constraints.{has_language};
 
 use super::{Tables, show_number};
+use dh_lookup::Fault;
 use dh_paths::HostName;
 use dh_records::LangRow;
-use dh_reply::Fault;
 use sqlite::{Alter, params};
 use std::alloc::Global;
 
 impl<S: Alter> Tables<S> {
     /// The languages of a project, in the order of their places.
     pub fn langs(&mut self, alloc: Global, host: &HostName) -> Result<Vec<LangRow>, Fault>
-        ensures asks { Asks S.Store self.old self.new result }
-        ensures value { ReadsAll S.Store self.old self.new result
+        ensures { ReadsAll S.Store self.old self.new result
             (λ l. filter (spec.is_lang_of host.now) l.langs) }
     {
         self.all_records(

@@ -1,14 +1,14 @@
 //! The calls on pages.
 
 ghost use Rattle.std.specs.Prelude.{option_map, Some, None, find};
-ghost use Rattle.dh_schema.specs.Calling.{Asks, Reads, Writes};
+ghost use Rattle.dh_schema.specs.Calling.{Reads, Writes};
 ghost use Rattle.dh_records.specs.Changes as change;
 ghost use Rattle.dh_records.specs.Lists as spec;
 
 use super::Tables;
+use dh_lookup::Fault;
 use dh_paths::{HostName, Lang, Slug};
 use dh_records::PageRow;
-use dh_reply::Fault;
 use sqlite::{Alter, params};
 use std::alloc::Global;
 
@@ -22,8 +22,7 @@ impl<S: Alter> Tables<S> {
         lang: &Lang,
         path: &str,
     ) -> Result<Option<PageRow>, Fault>
-        ensures asks { Asks S.Store self.old self.new result }
-        ensures value { Reads S.Store self.old self.new result
+        ensures { Reads S.Store self.old self.new result
             (λ l. find (spec.is_page host.now slug.now lang.now path.now) l.pages) }
     {
         self.first_record(

@@ -3,16 +3,16 @@
 ghost use Rattle.std.specs.Prelude.{filter, find, is_some, length};
 ghost use Rattle.dh_rows.specs.Calls.{IsHonest, seen};
 ghost use Rattle.dh_rows.specs.Keyed.{IsFreeKey};
-ghost use Rattle.dh_schema.specs.Calling.{Asks, Reads, ReadsAll, Writes};
+ghost use Rattle.dh_schema.specs.Calling.{Reads, ReadsAll, Writes};
 ghost use Rattle.dh_schema.specs.Tables.{lists_of};
 ghost use Rattle.dh_records.specs.Changes as change;
 ghost use Rattle.dh_records.specs.Codings as coding;
 ghost use Rattle.dh_records.specs.Lists as spec;
 
 use super::Tables;
+use dh_lookup::Fault;
 use dh_paths::{HostName, Slug, Token};
 use dh_records::{HeldRow, PassRow};
-use dh_reply::Fault;
 use sqlite::{Alter, params};
 use std::alloc::Global;
 
@@ -24,8 +24,7 @@ impl<S: Alter> Tables<S> {
         host: &HostName,
         token: &Token,
     ) -> Result<Option<PassRow>, Fault>
-        ensures asks { Asks S.Store self.old self.new result }
-        ensures value { Reads S.Store self.old self.new result
+        ensures { Reads S.Store self.old self.new result
             (λ l. find (spec.is_pass host.now token.now) l.passes) }
     {
         let sql = "SELECT host, pass FROM pass WHERE host = ?1 AND pass = ?2 ORDER BY host, pass";
@@ -34,8 +33,7 @@ impl<S: Alter> Tables<S> {
 
     /// How many passes a project has.
     pub fn pass_count(&mut self, host: &HostName) -> Result<usize, Fault>
-        ensures asks { Asks S.Store self.old self.new result }
-        ensures value { Reads S.Store self.old self.new result
+        ensures { Reads S.Store self.old self.new result
             (λ l. length (filter (spec.is_pass_of host.now) l.passes)) }
     {
         let sql = "SELECT host, pass FROM pass WHERE host = ?1 ORDER BY host, pass";
@@ -67,8 +65,7 @@ impl<S: Alter> Tables<S> {
 
     /// Whether a pass holds a version.
     pub fn held(&mut self, host: &HostName, pass: &Token, slug: &Slug) -> Result<bool, Fault>
-        ensures asks { Asks S.Store self.old self.new result }
-        ensures value { Reads S.Store self.old self.new result
+        ensures { Reads S.Store self.old self.new result
             (λ l. is_some (find (spec.is_held host.now pass.now slug.now) l.held)) }
     {
         let sql =
@@ -140,8 +137,7 @@ impl<S: Alter> Tables<S> {
         host: &HostName,
         pass: &Token,
     ) -> Result<Vec<HeldRow>, Fault>
-        ensures asks { Asks S.Store self.old self.new result }
-        ensures value { ReadsAll S.Store self.old self.new result
+        ensures { ReadsAll S.Store self.old self.new result
             (λ l. filter (spec.is_held_by host.now pass.now) l.held) }
     {
         let sql =

@@ -3,24 +3,23 @@
 ghost use Rattle.std.specs.Prelude.{find, is_some};
 ghost use Rattle.dh_rows.specs.Calls.{IsHonest, seen};
 ghost use Rattle.dh_rows.specs.Keyed.{IsFreeKey};
-ghost use Rattle.dh_schema.specs.Calling.{Asks, Reads, Writes};
+ghost use Rattle.dh_schema.specs.Calling.{Reads, Writes};
 ghost use Rattle.dh_schema.specs.Tables.{lists_of};
 ghost use Rattle.dh_records.specs.Changes as change;
 ghost use Rattle.dh_records.specs.Codings as coding;
 ghost use Rattle.dh_records.specs.Lists as spec;
 
 use super::Tables;
+use dh_lookup::Fault;
 use dh_paths::HostName;
 use dh_records::ProjectRow;
-use dh_reply::Fault;
 use sqlite::{Alter, params};
 use std::alloc::Global;
 
 impl<S: Alter> Tables<S> {
     /// Whether there is a project under a host.
     pub fn has_project(&mut self, host: &HostName) -> Result<bool, Fault>
-        ensures asks { Asks S.Store self.old self.new result }
-        ensures value { Reads S.Store self.old self.new result
+        ensures { Reads S.Store self.old self.new result
             (λ l. is_some (find (spec.is_project host.now) l.projects)) }
     {
         let sql =
@@ -30,8 +29,7 @@ impl<S: Alter> Tables<S> {
 
     /// The project under a host.
     pub fn project(&mut self, alloc: Global, host: &HostName) -> Result<Option<ProjectRow>, Fault>
-        ensures asks { Asks S.Store self.old self.new result }
-        ensures value { Reads S.Store self.old self.new result
+        ensures { Reads S.Store self.old self.new result
             (λ l. find (spec.is_project host.now) l.projects) }
     {
         self.first_record(

@@ -3,17 +3,17 @@
 ghost use Rattle.std.specs.Prelude.{◌≡◌, ◌<◌, ◌^◌, true, not, filter, length, slice_get, Some, IsTrue};
 ghost use Rattle.std.specs.Option.{option_map};
 ghost use Rattle.dh_rows.specs.Calls.{IsHonest, seen};
-ghost use Rattle.dh_schema.specs.Calling.{Asks, ReadsAll, Writes, WritesWithin};
+ghost use Rattle.dh_schema.specs.Calling.{ReadsAll, Writes, WritesWithin};
 ghost use Rattle.dh_schema.specs.Tables.{lists_of};
 ghost use Rattle.dh_records.specs.Changes as change;
 ghost use Rattle.dh_records.specs.Codings as coding;
 ghost use Rattle.dh_records.specs.Lists as spec;
 
 use super::{Tables, as_place, show_number};
+use dh_lookup::Fault;
 use dh_paths::HostName;
 use dh_records::{RedirectRow, kind_number};
 use dh_redirects::Redirect;
-use dh_reply::Fault;
 use sqlite::{Alter, params};
 use std::alloc::Global;
 
@@ -40,8 +40,7 @@ fn stands_at(rows: &[RedirectRow], index: usize, place: u32, redirect: &Redirect
 impl<S: Alter> Tables<S> {
     /// The redirects of a project, in the order of their places.
     pub fn redirects(&mut self, alloc: Global, host: &HostName) -> Result<Vec<RedirectRow>, Fault>
-        ensures asks { Asks S.Store self.old self.new result }
-        ensures value { ReadsAll S.Store self.old self.new result
+        ensures { ReadsAll S.Store self.old self.new result
             (λ l. filter (spec.is_redirect_of host.now) l.redirects) }
     {
         let sql =

@@ -1,10 +1,10 @@
 //! The calls on retry keys.
 
-ghost use Rattle.std.specs.Prelude.{option_map, find, IfSome, IsSome};
+ghost use Rattle.std.specs.Prelude.{◌≡◌, option_map, find, IfSome, IsSome};
 ghost use Rattle.dh_rows.specs.Calls.{IsHonest, seen};
 ghost use Rattle.dh_rows.specs.Keyed.{IsFreeKey};
 ghost use Rattle.dh_world.specs.Answers.{IsAnswer, json_of};
-ghost use Rattle.dh_schema.specs.Calling.{Asks, Learns, Reads, Writes};
+ghost use Rattle.dh_schema.specs.Calling.{Obtains, Reads, Writes};
 ghost use Rattle.dh_schema.specs.Tables.{lists_of};
 ghost use Rattle.dh_records.specs.Changes as change;
 ghost use Rattle.dh_records.specs.Codings as coding;
@@ -12,9 +12,9 @@ ghost use Rattle.dh_records.specs.Lists as spec;
 ghost use Rattle.dh_records.specs.Typed.{Tells};
 
 use super::{Tables, show_number};
+use dh_lookup::Fault;
 use dh_paths::{HostName, Slug, Token};
 use dh_records::{UsedRow, kept_answer};
-use dh_reply::Fault;
 use dh_world::{Answer, Operation};
 use sqlite::{Alter, params};
 use std::alloc::Global;
@@ -45,11 +45,9 @@ impl<S: Alter> Tables<S> {
         op: Operation,
         retry: &Token,
     ) -> Result<Option<UsedRow>, Fault>
-        ensures asks { Asks S.Store self.old self.new result }
-        ensures value { Reads S.Store self.old self.new result
-            (λ l. find (spec.is_used host.now slug.now op retry.now) l.used) }
-        ensures tells { Learns S.Store self.old self.new result
-            (λ l o. IfSome o (λ row. Tells row.answer)) }
+        ensures { Obtains S.Store self.old self.new result
+            (λ l o. (o ≡ find (spec.is_used host.now slug.now op retry.now) l.used)
+            × IfSome o (λ row. Tells row.answer)) }
     {
         // The proof learns by it that a kept text is an answer's.
         let _ = &self.conn;
@@ -69,8 +67,7 @@ impl<S: Alter> Tables<S> {
         op: Operation,
         retry: &Token,
     ) -> Result<Option<Answer>, Fault>
-        ensures asks { Asks S.Store self.old self.new result }
-        ensures value { Reads S.Store self.old self.new result
+        ensures { Reads S.Store self.old self.new result
             (λ l. option_map spec.kept_answer
             (find (spec.is_used host.now slug.now op retry.now) l.used)) }
     {

@@ -3,16 +3,16 @@
 ghost use Rattle.std.specs.Prelude.{◌≡◌, true, not, filter, length, slice_get, Some, IsTrue};
 ghost use Rattle.std.specs.Option.{option_map};
 ghost use Rattle.dh_rows.specs.Calls.{IsHonest, seen};
-ghost use Rattle.dh_schema.specs.Calling.{Asks, ReadsAll, Writes, WritesWithin};
+ghost use Rattle.dh_schema.specs.Calling.{ReadsAll, Writes, WritesWithin};
 ghost use Rattle.dh_schema.specs.Tables.{lists_of};
 ghost use Rattle.dh_records.specs.Changes as change;
 ghost use Rattle.dh_records.specs.Codings as coding;
 ghost use Rattle.dh_records.specs.Lists as spec;
 
 use super::{Tables, as_place, show_number};
+use dh_lookup::Fault;
 use dh_paths::HostName;
 use dh_records::{RuleRow, action_number, is_tag};
-use dh_reply::Fault;
 use dh_rules::Rule;
 use sqlite::{Alter, params};
 use std::alloc::Global;
@@ -33,8 +33,7 @@ fn stands_at(rows: &[RuleRow], index: usize, place: u32, rule: &Rule) -> bool
 impl<S: Alter> Tables<S> {
     /// The rules of a project, in the order of their places.
     pub fn rules(&mut self, alloc: Global, host: &HostName) -> Result<Vec<RuleRow>, Fault>
-        ensures asks { Asks S.Store self.old self.new result }
-        ensures value { ReadsAll S.Store self.old self.new result
+        ensures { ReadsAll S.Store self.old self.new result
             (λ l. filter (spec.is_rule_of host.now) l.rules) }
     {
         let sql =

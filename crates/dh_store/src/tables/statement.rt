@@ -4,12 +4,12 @@ ghost use Rattle.std.specs.Prelude.{Bool, List, filter, find, is_some, length};
 ghost use Rattle.sqlite.specs.Held.{state};
 ghost use Rattle.sqlite.specs.Values.{bound};
 ghost use Rattle.dh_records.specs.Lists.{Lists};
-ghost use Rattle.dh_schema.specs.Calling.{Asks, Reads, ReadsAll, Writes};
+ghost use Rattle.dh_schema.specs.Calling.{Reads, ReadsAll, Writes};
 ghost use Rattle.dh_store.specs.Meanings.{AsksFor, Changes, IsChange, IsQuery};
 
 use super::Tables;
+use dh_lookup::Fault;
 use dh_records::Record;
-use dh_reply::Fault;
 use dh_schema::{all_records, count_records, first_record, has_record, write};
 use sqlite::Alter;
 use sqlite::types::ValueRef;
@@ -25,8 +25,7 @@ impl<S: Alter> Tables<S> {
     ) -> Result<Option<R>, Fault>
         requires query { IsQuery R.coding.encode R.typed (state S.Store self.old) sql.now
             (bound params.now) }
-        ensures asks { Asks S.Store self.old self.new result }
-        ensures value { (part : Lists → List R) → (test : R → Bool)
+        ensures { (part : Lists → List R) → (test : R → Bool)
             → AsksFor R.coding.encode R.typed part test (state S.Store self.old) sql.now
             (bound params.now)
             → Reads S.Store self.old self.new result (λ l. find test (part l)) }
@@ -43,8 +42,7 @@ impl<S: Alter> Tables<S> {
     ) -> Result<Vec<R>, Fault>
         requires query { IsQuery R.coding.encode R.typed (state S.Store self.old) sql.now
             (bound params.now) }
-        ensures asks { Asks S.Store self.old self.new result }
-        ensures value { (part : Lists → List R) → (test : R → Bool)
+        ensures { (part : Lists → List R) → (test : R → Bool)
             → AsksFor R.coding.encode R.typed part test (state S.Store self.old) sql.now
             (bound params.now)
             → ReadsAll S.Store self.old self.new result (λ l. filter test (part l)) }
@@ -60,8 +58,7 @@ impl<S: Alter> Tables<S> {
     ) -> Result<bool, Fault>
         requires query { IsQuery R.coding.encode R.typed (state S.Store self.old) sql.now
             (bound params.now) }
-        ensures asks { Asks S.Store self.old self.new result }
-        ensures value { (part : Lists → List R) → (test : R → Bool)
+        ensures { (part : Lists → List R) → (test : R → Bool)
             → AsksFor R.coding.encode R.typed part test (state S.Store self.old) sql.now
             (bound params.now)
             → Reads S.Store self.old self.new result (λ l. is_some (find test (part l))) }
@@ -77,8 +74,7 @@ impl<S: Alter> Tables<S> {
     ) -> Result<usize, Fault>
         requires query { IsQuery R.coding.encode R.typed (state S.Store self.old) sql.now
             (bound params.now) }
-        ensures asks { Asks S.Store self.old self.new result }
-        ensures value { (part : Lists → List R) → (test : R → Bool)
+        ensures { (part : Lists → List R) → (test : R → Bool)
             → AsksFor R.coding.encode R.typed part test (state S.Store self.old) sql.now
             (bound params.now)
             → Reads S.Store self.old self.new result (λ l. length (filter test (part l))) }

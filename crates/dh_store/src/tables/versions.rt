@@ -1,15 +1,15 @@
 //! The calls on versions.
 
-ghost use Rattle.std.specs.Prelude.{filter, find};
-ghost use Rattle.dh_schema.specs.Calling.{Asks, Learns, Reads, ReadsAll, Writes};
+ghost use Rattle.std.specs.Prelude.{◌≡◌, filter, find};
+ghost use Rattle.dh_schema.specs.Calling.{Obtains, Reads, Writes};
 ghost use Rattle.dh_records.specs.Constraints.{RiseBySlug};
 ghost use Rattle.dh_records.specs.Changes as change;
 ghost use Rattle.dh_records.specs.Lists as spec;
 
 use super::Tables;
+use dh_lookup::Fault;
 use dh_paths::{HostName, Slug};
 use dh_records::{VersionRow, is_tag};
-use dh_reply::Fault;
 use sqlite::{Alter, params};
 use std::alloc::Global;
 
@@ -21,8 +21,7 @@ impl<S: Alter> Tables<S> {
         host: &HostName,
         slug: &Slug,
     ) -> Result<Option<VersionRow>, Fault>
-        ensures asks { Asks S.Store self.old self.new result }
-        ensures value { Reads S.Store self.old self.new result
+        ensures { Reads S.Store self.old self.new result
             (λ l. find (spec.is_version host.now slug.now) l.versions) }
     {
         self.version_named(alloc, host, slug.as_str())
@@ -35,8 +34,7 @@ impl<S: Alter> Tables<S> {
         host: &HostName,
         name: &str,
     ) -> Result<Option<VersionRow>, Fault>
-        ensures asks { Asks S.Store self.old self.new result }
-        ensures value { Reads S.Store self.old self.new result
+        ensures { Reads S.Store self.old self.new result
             (λ l. find (spec.is_version host.now name.now) l.versions) }
     {
         self.first_record(
@@ -48,10 +46,9 @@ impl<S: Alter> Tables<S> {
 
     /// The versions of a project, in the order of their slugs.
     pub fn versions(&mut self, alloc: Global, host: &HostName) -> Result<Vec<VersionRow>, Fault>
-        ensures asks { Asks S.Store self.old self.new result }
-        ensures value { ReadsAll S.Store self.old self.new result
-            (λ l. filter (spec.is_version_of host.now) l.versions) }
-        ensures order { Learns S.Store self.old self.new result (λ l o. RiseBySlug o.items) }
+        ensures { Obtains S.Store self.old self.new result
+            (λ l o. (o.items ≡ filter (spec.is_version_of host.now) l.versions)
+            × RiseBySlug o.items) }
     {
         // The proof learns by it that the records stand in order.
         let _ = &self.conn;

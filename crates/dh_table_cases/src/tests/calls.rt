@@ -1,9 +1,11 @@
 //! Calls that no input of the program makes: beside tables of others, within a transaction, outside one.
 
+use dh_lookup::{Fault, Lookup};
+use dh_opening::{TablesFault, create};
 use dh_paths::HostName;
-use dh_reply::{Fault, Lookup};
 use dh_rows::{place_of, run};
-use dh_tables::{Tables, TablesFault, View};
+use dh_tables::Tables;
+use dh_view::View;
 use sqlite::{Connection, MemStore};
 use std::alloc::Global;
 use std::test::Fail;
@@ -12,7 +14,7 @@ use std::test::Fail;
 fn beside(alloc: Global, sql: &str) -> Result<Result<Tables<MemStore>, TablesFault>, Fail> {
     let mut conn = Connection::open_in_memory(alloc)?;
     conn.execute(sql, &[])?;
-    Ok(Tables::create(conn).map_err(|(fault, _)| fault))
+    Ok(create(conn).map_err(|(fault, _)| fault))
 }
 
 #[test]

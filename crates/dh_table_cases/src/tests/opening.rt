@@ -1,6 +1,7 @@
 //! Tables opened: as we made them, and as others left them.
 
-use dh_tables::{Tables, TablesFault};
+use dh_opening::{TablesFault, open};
+use dh_tables::Tables;
 use sqlite::{Connection, MemStore};
 use std::alloc::Global;
 use std::test::Fail;
@@ -35,7 +36,7 @@ fn opened(alloc: Global, conn: Connection<MemStore>) -> &'static str {
     if !conn.is_autocommit() {
         return "in a transaction";
     }
-    match Tables::open(alloc, conn) {
+    match open(alloc, conn) {
         Ok(_tables) => "ours",
         Err((TablesFault::NotOurs, _)) => "not ours",
         Err((TablesFault::Store, _)) => "store",

@@ -3,13 +3,12 @@
 ghost use Rattle.std.specs.Prelude.{◌≡◌, map, slice_get};
 ghost use Rattle.std.specs.Option.{option_and_then};
 ghost use Rattle.dh_lookup.specs.SeenProject.{alias_of, alias_to, resolved};
-ghost use Rattle.dh_schema.specs.Calling.{Reads};
-ghost use Rattle.dh_view.specs.View.{Asks, shown_in};
+ghost use Rattle.dh_view.specs.View.{Reads, shown_in};
 
 use crate::view::versions::{all_visible, visible_version};
+use dh_lookup::{Fault, Named};
 use dh_paths::Token;
 use dh_records::ProjectRow;
-use dh_reply::{Fault, Named};
 use dh_store::Tables;
 use dh_versions::{Version, latest, stable};
 use sqlite::Alter;
@@ -35,8 +34,7 @@ fn latest_named<S: Alter>(
     project: &ProjectRow,
     pass: &Option<Token>,
 ) -> Result<Option<Named>, Fault>
-    ensures asks { Asks S.Store tables.old tables.new result }
-    ensures value { Reads S.Store tables.old tables.new result
+    ensures { Reads S.Store tables.old tables.new result
         (λ l. alias_to (shown_in l project.now pass.now).latest) }
 {
     let versions = all_visible(tables, alloc, project, pass)?;
@@ -50,8 +48,7 @@ fn stable_named<S: Alter>(
     project: &ProjectRow,
     pass: &Option<Token>,
 ) -> Result<Option<Named>, Fault>
-    ensures asks { Asks S.Store tables.old tables.new result }
-    ensures value { Reads S.Store tables.old tables.new result
+    ensures { Reads S.Store tables.old tables.new result
         (λ l. alias_to (shown_in l project.now pass.now).stable) }
 {
     let versions = all_visible(tables, alloc, project, pass)?;
@@ -66,8 +63,7 @@ fn alias_named<S: Alter>(
     pass: &Option<Token>,
     name: &str,
 ) -> Result<Option<Named>, Fault>
-    ensures asks { Asks S.Store tables.old tables.new result }
-    ensures value { Reads S.Store tables.old tables.new result
+    ensures { Reads S.Store tables.old tables.new result
         (λ l. alias_of (shown_in l project.now pass.now) name.now) }
 {
     match name {
@@ -85,8 +81,7 @@ pub fn version_for<S: Alter>(
     pass: &Option<Token>,
     name: &str,
 ) -> Result<Option<Named>, Fault>
-    ensures asks { Asks S.Store tables.old tables.new result }
-    ensures value { Reads S.Store tables.old tables.new result
+    ensures { Reads S.Store tables.old tables.new result
         (λ l. resolved (shown_in l project.now pass.now) name.now) }
 {
     match visible_version(tables, alloc, project, pass, name)? {

@@ -4,13 +4,12 @@ ghost use Rattle.std.specs.Prelude.{map, find, []};
 ghost use Rattle.std.specs.Option.{option_map};
 ghost use Rattle.dh_lookup.specs.SeenProject.{resolved};
 ghost use Rattle.dh_world.specs.Seen.{default_of};
-ghost use Rattle.dh_schema.specs.Calling.{Reads};
-ghost use Rattle.dh_view.specs.View.{Asks, resolves, shown_in};
+ghost use Rattle.dh_view.specs.View.{Reads, resolves, shown_in};
 
 use crate::view::aliases::version_for;
+use dh_lookup::Fault;
 use dh_paths::{Text, Token};
 use dh_records::{PickRow, ProjectRow};
-use dh_reply::Fault;
 use dh_store::Tables;
 use dh_versions::{latest, stable};
 use sqlite::Alter;
@@ -24,8 +23,7 @@ fn if_resolved<S: Alter>(
     pass: &Option<Token>,
     name: &str,
 ) -> Result<Option<Text>, Fault>
-    ensures asks { Asks S.Store tables.old tables.new result }
-    ensures value { Reads S.Store tables.old tables.new result
+    ensures { Reads S.Store tables.old tables.new result
         (λ l. option_map (λ _. name.now) (resolved (shown_in l project.now pass.now) name.now)) }
 {
     match version_for(tables, alloc, project, pass, name)? {
@@ -41,8 +39,7 @@ fn default_alias<S: Alter>(
     project: &ProjectRow,
     pass: &Option<Token>,
 ) -> Result<Option<Text>, Fault>
-    ensures asks { Asks S.Store tables.old tables.new result }
-    ensures value { Reads S.Store tables.old tables.new result
+    ensures { Reads S.Store tables.old tables.new result
         (λ l. default_of (resolves l project.now pass.now) []) }
 {
     match if_resolved(tables, alloc, project, pass, "latest")? {
@@ -59,8 +56,7 @@ fn first_resolved<S: Alter>(
     pass: &Option<Token>,
     picks: &[PickRow],
 ) -> Result<Option<Text>, Fault>
-    ensures asks { Asks S.Store tables.old tables.new result }
-    ensures value { Reads S.Store tables.old tables.new result
+    ensures { Reads S.Store tables.old tables.new result
         (λ l. find (resolves l project.now pass.now) (map (λ d. d.name) picks.now)) }
 {
     for pick in picks {
@@ -79,8 +75,7 @@ pub fn default_name<S: Alter>(
     project: &ProjectRow,
     pass: &Option<Token>,
 ) -> Result<Option<Text>, Fault>
-    ensures asks { Asks S.Store tables.old tables.new result }
-    ensures value { Reads S.Store tables.old tables.new result
+    ensures { Reads S.Store tables.old tables.new result
         (λ l. (shown_in l project.now pass.now).default) }
 {
     let picks = tables.picks(alloc, &project.host)?;

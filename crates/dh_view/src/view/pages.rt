@@ -5,13 +5,12 @@ ghost use Rattle.std.specs.Option.{option_map};
 ghost use Rattle.dh_records.specs.Lists as spec;
 ghost use Rattle.dh_lookup.specs.SeenProject.{page_at};
 ghost use Rattle.dh_records.specs.Lists.{project_of};
-ghost use Rattle.dh_schema.specs.Calling.{Reads, ReadsAll};
-ghost use Rattle.dh_view.specs.View.{Asks, shown_in};
+ghost use Rattle.dh_view.specs.View.{Reads, ReadsAll, shown_in};
 
 use crate::view::versions::visible_version;
+use dh_lookup::{Fault, Page};
 use dh_paths::{Lang, Slug, Token};
 use dh_records::{LangRow, ProjectRow};
-use dh_reply::{Fault, Page};
 use dh_store::Tables;
 use sqlite::Alter;
 use std::alloc::{AllocError, Global};
@@ -27,8 +26,7 @@ pub fn all_langs<S: Alter>(
     alloc: Global,
     project: &ProjectRow,
 ) -> Result<Vec<Lang>, Fault>
-    ensures asks { Asks S.Store tables.old tables.new result }
-    ensures value { ReadsAll S.Store tables.old tables.new result
+    ensures { ReadsAll S.Store tables.old tables.new result
         (λ l. (project_of l project.now).languages) }
 {
     let rows = tables.langs(alloc, &project.host)?;
@@ -44,8 +42,7 @@ fn any_page<S: Alter>(
     slug: &Slug,
     path: &str,
 ) -> Result<Option<Page>, Fault>
-    ensures asks { Asks S.Store tables.old tables.new result }
-    ensures value { Reads S.Store tables.old tables.new result
+    ensures { Reads S.Store tables.old tables.new result
         (λ l. option_map (λ row. row.page)
         (find (spec.is_page project.now.host slug.now lang.now path.now) l.pages)) }
 {
@@ -65,8 +62,7 @@ pub fn visible_page<S: Alter>(
     slug: &Slug,
     path: &str,
 ) -> Result<Option<Page>, Fault>
-    ensures asks { Asks S.Store tables.old tables.new result }
-    ensures value { Reads S.Store tables.old tables.new result
+    ensures { Reads S.Store tables.old tables.new result
         (λ l. page_at (shown_in l project.now pass.now) lang.now slug.now path.now) }
 {
     match visible_version(tables, alloc, project, pass, slug.as_str())? {

@@ -3,12 +3,11 @@
 ghost use Rattle.std.specs.Prelude.{◌≡◌, map, IfOk};
 ghost use Rattle.dh_records.specs.Lists.{project_of};
 ghost use Rattle.dh_lookup.specs.SeenProject as spec;
-ghost use Rattle.dh_schema.specs.Calling.{Reads};
-ghost use Rattle.dh_view.specs.View.{Asks};
+ghost use Rattle.dh_view.specs.View.{Reads};
 
+use dh_lookup::{Fault, first_result};
 use dh_records::{ProjectRow, RedirectRow};
 use dh_redirects::{Asked, Location, Redirect};
-use dh_reply::{Fault, first_result};
 use dh_store::Tables;
 use sqlite::Alter;
 use std::alloc::{AllocError, Global};
@@ -27,8 +26,7 @@ pub fn redirected<S: Alter>(
     forced: bool,
     asked: &Asked,
 ) -> Result<Option<Location>, Fault>
-    ensures asks { Asks S.Store tables.old tables.new result }
-    ensures value { Reads S.Store tables.old tables.new result
+    ensures { Reads S.Store tables.old tables.new result
         (λ l. spec.first_result forced (project_of l project.now).redirects asked.now) }
 {
     let rows = tables.redirects(alloc, &project.host)?;

@@ -4,13 +4,12 @@ ghost use Rattle.std.specs.Prelude.{◌≡◌, map, filter, [], IfOk};
 ghost use Rattle.std.specs.List.{list_any};
 ghost use Rattle.std.specs.FinMap.{get, keys, values};
 ghost use Rattle.dh_view.specs.View as view;
-ghost use Rattle.dh_schema.specs.Calling.{Learns, Reads, ReadsAll};
-ghost use Rattle.dh_view.specs.View.{Asks, OpensAs, ShowsAs, held_in, is_shown, visible_in};
+ghost use Rattle.dh_view.specs.View.{Obtains, Reads, OpensAs, ShowsAs, held_in, is_shown, visible_in};
 ghost use Rattle.dh_world.specs.World as world;
 
+use dh_lookup::Fault;
 use dh_paths::{Slug, Token};
 use dh_records::{HeldRow, ProjectRow, VersionRow};
-use dh_reply::Fault;
 use dh_store::Tables;
 use dh_versions::Version;
 use sqlite::Alter;
@@ -70,8 +69,7 @@ fn is_held<S: Alter>(
     pass: &Option<Token>,
     slug: &Slug,
 ) -> Result<bool, Fault>
-    ensures asks { Asks S.Store tables.old tables.new result }
-    ensures value { Reads S.Store tables.old tables.new result
+    ensures { Reads S.Store tables.old tables.new result
         (λ l. held_in l project.now pass.now slug.now) }
 {
     match pass {
@@ -91,8 +89,7 @@ fn is_seen<S: Alter>(
     pass: &Option<Token>,
     version: &Version,
 ) -> Result<bool, Fault>
-    ensures asks { Asks S.Store tables.old tables.new result }
-    ensures value { Reads S.Store tables.old tables.new result
+    ensures { Reads S.Store tables.old tables.new result
         (λ l. world.may_see version.now (held_in l project.now pass.now version.now.slug)) }
 {
     if !version.private {
@@ -110,8 +107,7 @@ pub fn visible_version<S: Alter>(
     pass: &Option<Token>,
     name: &str,
 ) -> Result<Option<Version>, Fault>
-    ensures asks { Asks S.Store tables.old tables.new result }
-    ensures value { Reads S.Store tables.old tables.new result
+    ensures { Reads S.Store tables.old tables.new result
         (λ l. get (visible_in l project.now pass.now) name.now) }
 {
     match tables.version_named(alloc, &project.host, name)? {
@@ -134,8 +130,7 @@ fn grants_of<S: Alter>(
     project: &ProjectRow,
     pass: &Option<Token>,
 ) -> Result<Vec<HeldRow>, Fault>
-    ensures asks { Asks S.Store tables.old tables.new result }
-    ensures value { Learns S.Store tables.old tables.new result
+    ensures { Obtains S.Store tables.old tables.new result
         (λ l grants. OpensAs grants.items (held_in l project.now pass.now)) }
 {
     match pass {
@@ -156,8 +151,7 @@ fn grants_for<S: Alter>(
     pass: &Option<Token>,
     rows: &[VersionRow],
 ) -> Result<Vec<HeldRow>, Fault>
-    ensures asks { Asks S.Store tables.old tables.new result }
-    ensures value { Learns S.Store tables.old tables.new result
+    ensures { Obtains S.Store tables.old tables.new result
         (λ l grants. ShowsAs rows.now grants.items (held_in l project.now pass.now)) }
 {
     if any_private(rows) {
@@ -174,11 +168,9 @@ pub fn all_visible<S: Alter>(
     project: &ProjectRow,
     pass: &Option<Token>,
 ) -> Result<Vec<Version>, Fault>
-    ensures asks { Asks S.Store tables.old tables.new result }
-    ensures versions { ReadsAll S.Store tables.old tables.new result
-        (λ l. values (visible_in l project.now pass.now)) }
-    ensures slugs { Learns S.Store tables.old tables.new result
-        (λ l v. map (λ x. x.slug) v.items ≡ keys (visible_in l project.now pass.now)) }
+    ensures { Obtains S.Store tables.old tables.new result
+        (λ l v. (v.items ≡ values (visible_in l project.now pass.now))
+        × (map (λ x. x.slug) v.items ≡ keys (visible_in l project.now pass.now))) }
 {
     let rows = tables.versions(alloc, &project.host)?;
     let grants = grants_for(tables, alloc, project, pass, rows.as_slice())?;

@@ -1,15 +1,9 @@
-use Rattle.std.proofs.Common.{◌≤◌, ◌<◌, ◌+◌, ◌∙◌, Ok, sym, ap, length, subst}
-use Rattle.dh_world.specs.Changes.{is_place, with_one_at}
+use Rattle.std.proofs.Common.{Ok}
 use Rattle.dh_plans.proofs.Planning.{plans_by}
 use Rattle.dh_commands.proofs.PlacePlans.{rule_added}
 use Rattle.dh_commands.proofs.rules.add_rule.Goals as goal
 
 pub returns : goal.returns
 returns c p k =
-    let within = c.is_place.ensures.within c.if-not-is_place.false in
-    let count = c.as_slice-count.ensures.value in
     plans_by p _ _ (Ok c.in_ok-one.field-0) c.in_ok-one.ensures
-    (rule_added c.args.facts.now p c.args.added k
-    (ap (λ rs. is_place c.args.added.place (length rs + 1)) (sym count) ∙ sym c.is_place.ensures.value ∙ c.if-not-is_place.false)
-    within.0 (subst (λ rs. c.args.added.place ≤ length rs + 1) count within.1) (subst (λ rs. length rs < 50) count c.if-count-ge-MOST_RULES.false)
-    c.in_ok-rules.rules (c.in_ok-rules.ensures ∙ ap (with_one_at c.args.added.place c.args.added.rule) c.take_list.ensures.taken))
+    (rule_added c.args.facts.now p c.args.added k c.in_ok-rules.rules c.in_ok-rules.ensures)

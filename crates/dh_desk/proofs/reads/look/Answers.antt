@@ -1,6 +1,6 @@
 use Rattle.std.proofs.Common.{rules, ◌≡◌}
 use Rattle.dh_rows.specs.Calls.{IsHonest}
-use Rattle.dh_tables.proofs.ViewLemmas.{undoubted}
+use Rattle.dh_view.proofs.ViewLemmas.{undoubted}
 use Rattle.dh_desk.proofs.reads.look.Goals as goal
 
 pub returns-clause-value : goal.returns-clause-value

@@ -1,4 +1,4 @@
-use Rattle.std.proofs.Common.{arith, rules}
+use Rattle.std.proofs.Common.{rules}
 use Rattle.dh_opening.proofs.KeptLemmas.{none_rise, none_kept, all_kept}
 use Rattle.dh_opening.proofs.kept.records_in.Goals as goal
 

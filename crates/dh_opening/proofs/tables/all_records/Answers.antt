@@ -1,5 +1,5 @@
 use Rattle.std.proofs.Common.{Ok}
-use Rattle.dh_opening.proofs.Looks.{handed, laid_on, opens_on, then_ok}
+use Rattle.dh_opening.proofs.Looks.{laid_on, opens_on, then_ok}
 use Rattle.dh_opening.proofs.tables.all_records.Goals as goal
 
 pub read_two-requires-2 : goal.read_two-requires-2

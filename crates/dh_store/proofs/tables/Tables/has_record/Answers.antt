@@ -11,4 +11,4 @@ pub invariant_of-self : goal.invariant_of-self
 invariant_of-self g c = read_ours g.S.Store c.self.inside.conn c.has_record.new.conn c.has_record.result c.self.invariant c.has_record.ensures.looks
 
 pub returns : goal.returns
-returns g c = record { asks = asks g.S.Store c.self.view_is c.self.invariant c.requires.query inl c.has_record.ensures.looks c.has_record.ensures.told; value = λ part test it now. any_value _ _ c.has_record.result _ _ (c.has_record.ensures.value now.0) (reads g.S.Store c.self.view_is c.self.invariant it c.has_record.ensures.looks now) (first_read g.S.Store c.self.view_is c.self.invariant it) }
+returns g c part test it = record { asks = asks g.S.Store c.self.view_is c.self.invariant c.requires.query inl c.has_record.ensures.looks c.has_record.ensures.told; value = λ now. any_value _ _ c.has_record.result _ _ (c.has_record.ensures.value now.0) (reads g.S.Store c.self.view_is c.self.invariant it c.has_record.ensures.looks now) (first_read g.S.Store c.self.view_is c.self.invariant it) }

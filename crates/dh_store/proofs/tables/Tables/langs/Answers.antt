@@ -7,5 +7,5 @@ use Rattle.dh_store.proofs.tables.Tables.langs.Goals as goal
 pub all_records-requires : goal.all_records-requires
 all_records-requires g c = record { query = rw (c.params-to_sql.ensures, c.as_str.ensures.text) (asked_for (langs_asked (state g.S.Store c.args.self.now) c.args.host.now)) }
 
-pub returns-clause-value : goal.returns-clause-value
-returns-clause-value g c = c.all_records.ensures.value (λ l. l.langs) (is_lang_of c.args.host.now) (rw (c.params-to_sql.ensures, c.as_str.ensures.text) (langs_asked (state g.S.Store c.args.self.now) c.args.host.now))
+pub returns : goal.returns
+returns g c = c.all_records.ensures (λ l. l.langs) (is_lang_of c.args.host.now) (rw (c.params-to_sql.ensures, c.as_str.ensures.text) (langs_asked (state g.S.Store c.args.self.now) c.args.host.now))

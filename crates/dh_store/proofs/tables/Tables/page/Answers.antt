@@ -7,5 +7,5 @@ use Rattle.dh_store.proofs.tables.Tables.page.Goals as goal
 pub first_record-requires : goal.first_record-requires
 first_record-requires g c = record { query = rw (c.params-to_sql.ensures, c.params-to_sql-2.ensures, c.params-to_sql-3.ensures, c.params-to_sql-4.ensures, c.as_str.ensures.text, c.as_str-2.ensures.text, c.as_str-3.ensures.text) (asked_for (page_asked (state g.S.Store c.args.self.now) c.args.host.now c.args.slug.now c.args.lang.now c.args.path.now)) }
 
-pub returns-clause-value : goal.returns-clause-value
-returns-clause-value g c = c.first_record.ensures.value (λ l. l.pages) (is_page c.args.host.now c.args.slug.now c.args.lang.now c.args.path.now) (rw (c.params-to_sql.ensures, c.params-to_sql-2.ensures, c.params-to_sql-3.ensures, c.params-to_sql-4.ensures, c.as_str.ensures.text, c.as_str-2.ensures.text, c.as_str-3.ensures.text) (page_asked (state g.S.Store c.args.self.now) c.args.host.now c.args.slug.now c.args.lang.now c.args.path.now))
+pub returns : goal.returns
+returns g c = c.first_record.ensures (λ l. l.pages) (is_page c.args.host.now c.args.slug.now c.args.lang.now c.args.path.now) (rw (c.params-to_sql.ensures, c.params-to_sql-2.ensures, c.params-to_sql-3.ensures, c.params-to_sql-4.ensures, c.as_str.ensures.text, c.as_str-2.ensures.text, c.as_str-3.ensures.text) (page_asked (state g.S.Store c.args.self.now) c.args.host.now c.args.slug.now c.args.lang.now c.args.path.now))

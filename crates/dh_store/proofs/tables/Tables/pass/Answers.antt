@@ -7,5 +7,5 @@ use Rattle.dh_store.proofs.tables.Tables.pass.Goals as goal
 pub first_record-requires : goal.first_record-requires
 first_record-requires g c = record { query = rw (c.params-to_sql.ensures, c.params-to_sql-2.ensures, c.as_str.ensures.text, c.as_str-2.ensures.text) (asked_for (pass_asked (state g.S.Store c.args.self.now) c.args.host.now c.args.token.now)) }
 
-pub returns-clause-value : goal.returns-clause-value
-returns-clause-value g c = c.first_record.ensures.value (λ l. l.passes) (is_pass c.args.host.now c.args.token.now) (rw (c.params-to_sql.ensures, c.params-to_sql-2.ensures, c.as_str.ensures.text, c.as_str-2.ensures.text) (pass_asked (state g.S.Store c.args.self.now) c.args.host.now c.args.token.now))
+pub returns : goal.returns
+returns g c = c.first_record.ensures (λ l. l.passes) (is_pass c.args.host.now c.args.token.now) (rw (c.params-to_sql.ensures, c.params-to_sql-2.ensures, c.as_str.ensures.text, c.as_str-2.ensures.text) (pass_asked (state g.S.Store c.args.self.now) c.args.host.now c.args.token.now))

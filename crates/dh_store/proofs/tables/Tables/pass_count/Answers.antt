@@ -7,5 +7,5 @@ use Rattle.dh_store.proofs.tables.Tables.pass_count.Goals as goal
 pub count_records-requires : goal.count_records-requires
 count_records-requires g c = record { query = rw (c.params-to_sql.ensures, c.as_str.ensures.text) (asked_for (passes_asked (state g.S.Store c.args.self.now) c.args.host.now)) }
 
-pub returns-clause-value : goal.returns-clause-value
-returns-clause-value g c = c.count_records.ensures.value (λ l. l.passes) (is_pass_of c.args.host.now) (rw (c.params-to_sql.ensures, c.as_str.ensures.text) (passes_asked (state g.S.Store c.args.self.now) c.args.host.now))
+pub returns : goal.returns
+returns g c = c.count_records.ensures (λ l. l.passes) (is_pass_of c.args.host.now) (rw (c.params-to_sql.ensures, c.as_str.ensures.text) (passes_asked (state g.S.Store c.args.self.now) c.args.host.now))

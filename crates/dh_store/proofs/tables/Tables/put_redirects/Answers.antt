@@ -3,7 +3,7 @@ use Rattle.sqlite.specs.Held.{state}
 use Rattle.dh_rows.specs.Calls.{AreOurs}
 use Rattle.dh_schema.specs.Tables.{Holds}
 use Rattle.dh_store.proofs.ListLemmas.{got}
-use Rattle.dh_store.proofs.OpenLemmas.{in_order}
+use Rattle.dh_store.proofs.OrderLemmas.{in_order}
 use Rattle.dh_store.proofs.SettingLemmas.{of_redirects, none_set, one_set, one_stands, all_set}
 use Rattle.dh_store.proofs.tables.Tables.put_redirects.Goals as goal
 use Rattle.dh_store.proofs.tables.Tables.put_redirects.Goals.{then-not-stands_at+in_ok-put_redirect, else-not-stands_at}

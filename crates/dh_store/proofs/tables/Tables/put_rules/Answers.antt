@@ -3,7 +3,7 @@ use Rattle.sqlite.specs.Held.{state}
 use Rattle.dh_rows.specs.Calls.{AreOurs}
 use Rattle.dh_schema.specs.Tables.{Holds}
 use Rattle.dh_store.proofs.ListLemmas.{got}
-use Rattle.dh_store.proofs.OpenLemmas.{in_order}
+use Rattle.dh_store.proofs.OrderLemmas.{in_order}
 use Rattle.dh_store.proofs.SettingLemmas.{of_rules, none_set, one_set, one_stands, all_set}
 use Rattle.dh_store.proofs.tables.Tables.put_rules.Goals as goal
 use Rattle.dh_store.proofs.tables.Tables.put_rules.Goals.{then-not-stands_at+in_ok-put_rule, else-not-stands_at}

@@ -7,5 +7,5 @@ use Rattle.dh_store.proofs.tables.Tables.version_named.Goals as goal
 pub first_record-requires : goal.first_record-requires
 first_record-requires g c = record { query = rw (c.params-to_sql.ensures, c.params-to_sql-2.ensures, c.as_str.ensures.text) (asked_for (version_asked (state g.S.Store c.args.self.now) c.args.host.now c.args.name.now)) }
 
-pub returns-clause-value : goal.returns-clause-value
-returns-clause-value g c = c.first_record.ensures.value (λ l. l.versions) (is_version c.args.host.now c.args.name.now) (rw (c.params-to_sql.ensures, c.params-to_sql-2.ensures, c.as_str.ensures.text) (version_asked (state g.S.Store c.args.self.now) c.args.host.now c.args.name.now))
+pub returns : goal.returns
+returns g c = c.first_record.ensures (λ l. l.versions) (is_version c.args.host.now c.args.name.now) (rw (c.params-to_sql.ensures, c.params-to_sql-2.ensures, c.as_str.ensures.text) (version_asked (state g.S.Store c.args.self.now) c.args.host.now c.args.name.now))

@@ -5,8 +5,8 @@ use Rattle.dh_schema.specs.Tables.{Holds}
 use Rattle.dh_records.specs.Constraints.{RiseBySlug}
 use Rattle.dh_records.proofs.SlugOrder.{host_rises}
 use Rattle.dh_records.specs.Lists.{is_version_of}
-use Rattle.dh_store.proofs.Known.{kept_by}
-use Rattle.dh_store.proofs.OpenLemmas.{in_order}
+use Rattle.dh_store.proofs.Known.{with_fact}
+use Rattle.dh_store.proofs.OrderLemmas.{in_order}
 use Rattle.dh_store.proofs.Asking.{asked_for}
 use Rattle.dh_store.proofs.Statements.{versions_asked}
 use Rattle.dh_store.proofs.tables.Tables.versions.Goals as goal
@@ -14,11 +14,13 @@ use Rattle.dh_store.proofs.tables.Tables.versions.Goals as goal
 pub all_records-requires : goal.all_records-requires
 all_records-requires g c = record { query = rw (c.params-to_sql.ensures, c.as_str.ensures.text) (asked_for (versions_asked (state g.S.Store c.args.self.now) c.args.host.now)) }
 
-pub returns-clause-value : goal.returns-clause-value
-returns-clause-value g c = c.all_records.ensures.value (λ l. l.versions) (is_version_of c.args.host.now) (rw (c.params-to_sql.ensures, c.as_str.ensures.text) (versions_asked (state g.S.Store c.args.self.now) c.args.host.now))
-
-pub returns-clause-order : goal.returns-clause-order
-returns-clause-order g c now =
-    let honest = c.all_records.ensures.asks.goes.lasts.was now in
+pub returns : goal.returns
+returns g c =
+    let it = c.all_records.ensures (λ l. l.versions) (is_version_of c.args.host.now) (rw (c.params-to_sql.ensures, c.as_str.ensures.text) (versions_asked (state g.S.Store c.args.self.now) c.args.host.now)) in
     let ours = subst (λ h. AreOurs Holds (state g.S.Store h)) c.self.view_is c.self.invariant in
-    kept_by RiseBySlug (λ v. v.items) c.all_records.result _ (returns-clause-value g c now) (host_rises c.args.host.now _ (in_order _ (ours honest.0 honest.1).now).versions)
+    record {
+      asks = it.asks;
+      value = λ now.
+          let honest = it.asks.goes.lasts.was now in
+          with_fact RiseBySlug (λ v. v.items) c.all_records.result _ (it.value now) (host_rises c.args.host.now _ (in_order _ (ours honest.0 honest.1).now).versions);
+    }

@@ -1,4 +1,4 @@
-use Rattle.std.proofs.Common.{◌∙◌, ap, codes}
+use Rattle.std.proofs.Common.{rules, ◌∙◌, ap, codes}
 use Rattle.std.specs.Option.{option_map}
 use Rattle.dh_lookup.specs.SeenProject.{resolved}
 use Rattle.dh_records.specs.Lists.{project_of}
@@ -9,17 +9,20 @@ use Rattle.dh_view.proofs.Shown.{alias_first, alias_second}
 use Rattle.dh_view.proofs.ViewLemmas.{asks_on, same_answer, still}
 use Rattle.dh_view.proofs.view.defaults.default_alias.Goals as goal
 
-pub returns-in-None-clause-asks : goal.returns-in-None-clause-asks
-returns-in-None-clause-asks g c = asks_on c.in_ok-name.ensures.asks c.if_resolved-in-None.ensures.asks
+pub returns-in-None : goal.returns-in-None
+returns-in-None g c = record {
+  asks = asks_on c.in_ok-name.ensures.asks c.if_resolved-in-None.ensures.asks;
+  value = λ honest.
+      let before = c.if_resolved-in-None.ensures.asks.goes.lasts.was honest in
+      same_answer (λ n. n) c.if_resolved-in-None.result _ _
+      (ap (λ l. option_map (λ n. codes "stable") (resolved (seen_project (project_of l c.args.project.now) c.args.pass.now) (codes "stable"))) (still c.in_ok-name.ensures.asks before)
+      ∙ alias_second (seen g.S.Store lists_of c.args.tables.now) c.args.project.now c.args.pass.now c.in_ok-name.field-0 (c.in_ok-name.ensures.value before) c.in-None.is)
+      (c.if_resolved-in-None.ensures.value honest);
+}
 
-pub returns-in-Some-clause-value : goal.returns-in-Some-clause-value
-returns-in-Some-clause-value g c honest =
-    alias_first (seen g.S.Store lists_of c.args.tables.now) c.args.project.now c.args.pass.now c.in_ok-name.field-0 c.in-Some.name (c.in_ok-name.ensures.value honest) c.in-Some.is
-
-pub returns-in-None-clause-value : goal.returns-in-None-clause-value
-returns-in-None-clause-value g c honest =
-    let before = c.if_resolved-in-None.ensures.asks.goes.lasts.was honest in
-    same_answer (λ n. n) c.if_resolved-in-None.result _ _
-    (ap (λ l. option_map (λ n. codes "stable") (resolved (seen_project (project_of l c.args.project.now) c.args.pass.now) (codes "stable"))) (still c.in_ok-name.ensures.asks before)
-    ∙ alias_second (seen g.S.Store lists_of c.args.tables.now) c.args.project.now c.args.pass.now c.in_ok-name.field-0 (c.in_ok-name.ensures.value before) c.in-None.is)
-    (c.if_resolved-in-None.ensures.value honest)
+pub returns-in-Some : goal.returns-in-Some
+returns-in-Some g c = record {
+  asks = search rules;
+  value = λ honest.
+      alias_first (seen g.S.Store lists_of c.args.tables.now) c.args.project.now c.args.pass.now c.in_ok-name.field-0 c.in-Some.name (c.in_ok-name.ensures.value honest) c.in-Some.is;
+}

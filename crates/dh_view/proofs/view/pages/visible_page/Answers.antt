@@ -1,4 +1,4 @@
-use Rattle.std.proofs.Common.{◌∙◌, ap}
+use Rattle.std.proofs.Common.{rules, ◌∙◌, ap}
 use Rattle.std.specs.List.{find}
 use Rattle.std.specs.Option.{option_map}
 use Rattle.std.specs.FinMap.{get}
@@ -10,20 +10,23 @@ use Rattle.dh_view.proofs.Shown.{page_when, no_page}
 use Rattle.dh_view.proofs.ViewLemmas.{asks_on, same_answer, still}
 use Rattle.dh_view.proofs.view.pages.visible_page.Goals as goal
 
-pub returns-in-Some-clause-asks : goal.returns-in-Some-clause-asks
-returns-in-Some-clause-asks g c = asks_on c.in_ok-_version.ensures.asks c.any_page.ensures.asks
+pub returns-in-Some : goal.returns-in-Some
+returns-in-Some g c = record {
+  asks = asks_on c.in_ok-_version.ensures.asks c.any_page.ensures.asks;
+  value = λ honest.
+      let before = c.any_page.ensures.asks.goes.lasts.was honest in
+      same_answer (λ o. o) c.any_page.result _ _
+      (ap (λ l. option_map (λ x. x.page) (find (is_page c.args.project.now.host c.args.slug.now c.args.lang.now c.args.path.now) l.pages)) (still c.in_ok-_version.ensures.asks before)
+      ∙ page_when (seen g.S.Store lists_of c.args.tables.now) c.args.project.now c.args.pass.now c.args.lang.now c.args.slug.now c.args.path.now c.in_ok-_version.field-0
+      (c.in_ok-_version.ensures.value before ∙ ap (get (visible_versions (project_of (seen g.S.Store lists_of c.args.tables.now) c.args.project.now) c.args.pass.now)) c.as_str.ensures.text)
+      c.in-Some._version c.in-Some.is)
+      (c.any_page.ensures.value honest);
+}
 
-pub returns-in-Some-clause-value : goal.returns-in-Some-clause-value
-returns-in-Some-clause-value g c honest =
-    let before = c.any_page.ensures.asks.goes.lasts.was honest in
-    same_answer (λ o. o) c.any_page.result _ _
-    (ap (λ l. option_map (λ x. x.page) (find (is_page c.args.project.now.host c.args.slug.now c.args.lang.now c.args.path.now) l.pages)) (still c.in_ok-_version.ensures.asks before)
-    ∙ page_when (seen g.S.Store lists_of c.args.tables.now) c.args.project.now c.args.pass.now c.args.lang.now c.args.slug.now c.args.path.now c.in_ok-_version.field-0
-    (c.in_ok-_version.ensures.value before ∙ ap (get (visible_versions (project_of (seen g.S.Store lists_of c.args.tables.now) c.args.project.now) c.args.pass.now)) c.as_str.ensures.text)
-    c.in-Some._version c.in-Some.is)
-    (c.any_page.ensures.value honest)
-
-pub returns-in-None-clause-value : goal.returns-in-None-clause-value
-returns-in-None-clause-value g c honest =
-    no_page (seen g.S.Store lists_of c.args.tables.now) c.args.project.now c.args.pass.now c.args.lang.now c.args.slug.now c.args.path.now c.in_ok-_version.field-0
-    (c.in_ok-_version.ensures.value honest ∙ ap (get (visible_versions (project_of (seen g.S.Store lists_of c.args.tables.now) c.args.project.now) c.args.pass.now)) c.as_str.ensures.text) c.in-None.is
+pub returns-in-None : goal.returns-in-None
+returns-in-None g c = record {
+  asks = search rules;
+  value = λ honest.
+      no_page (seen g.S.Store lists_of c.args.tables.now) c.args.project.now c.args.pass.now c.args.lang.now c.args.slug.now c.args.path.now c.in_ok-_version.field-0
+      (c.in_ok-_version.ensures.value honest ∙ ap (get (visible_versions (project_of (seen g.S.Store lists_of c.args.tables.now) c.args.project.now) c.args.pass.now)) c.as_str.ensures.text) c.in-None.is;
+}

@@ -1,13 +1,16 @@
-use Rattle.std.proofs.Common.{◌∙◌, ap, map}
+use Rattle.std.proofs.Common.{rules, ◌∙◌, ap, map}
 use Rattle.dh_lookup.specs.SeenProject.{first_result}
 use Rattle.dh_rows.specs.Calls.{seen}
 use Rattle.dh_schema.specs.Tables.{lists_of}
 use Rattle.dh_view.proofs.Shown.{redirects_are}
 use Rattle.dh_view.proofs.view.redirects.redirected.Goals as goal
 
-pub returns-clause-value : goal.returns-clause-value
-returns-clause-value g c honest =
-    c.in_ok-first_result.ensures.value
-    ∙ ap (λ rs. first_result c.args.forced rs c.args.asked.now)
-    (c.as_slice.ensures.value ∙ c.in_ok-redirects.ensures ∙ ap (map (λ r. r.redirect)) (c.in_ok-rows.ensures.value honest)
-    ∙ redirects_are (seen g.S.Store lists_of c.args.tables.now) c.args.project.now)
+pub returns : goal.returns
+returns g c = record {
+  asks = search rules;
+  value = λ honest.
+      c.in_ok-first_result.ensures.value
+      ∙ ap (λ rs. first_result c.args.forced rs c.args.asked.now)
+      (c.as_slice.ensures.value ∙ c.in_ok-redirects.ensures ∙ ap (map (λ r. r.redirect)) (c.in_ok-rows.ensures.value honest)
+      ∙ redirects_are (seen g.S.Store lists_of c.args.tables.now) c.args.project.now);
+}

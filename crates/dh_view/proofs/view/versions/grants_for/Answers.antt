@@ -1,4 +1,4 @@
-use Rattle.std.proofs.Common.{sym, ◌∙◌}
+use Rattle.std.proofs.Common.{rules, sym, ◌∙◌}
 use Rattle.dh_rows.specs.Calls.{seen}
 use Rattle.dh_records.specs.Lists.{project_of}
 use Rattle.dh_schema.specs.Tables.{lists_of}
@@ -6,6 +6,9 @@ use Rattle.dh_world.specs.World.{holds}
 use Rattle.dh_view.proofs.PassLemmas.{none_private}
 use Rattle.dh_view.proofs.view.versions.grants_for.Goals as goal
 
-pub returns-else-any_private-clause-value : goal.returns-else-any_private-clause-value
-returns-else-any_private-clause-value g c honest =
-    none_private c.no_grants.result.items (holds (project_of (seen g.S.Store lists_of c.args.tables.now) c.args.project.now) c.args.pass.now) c.args.rows.now (sym c.any_private.ensures ∙ c.if-any_private.false)
+pub returns-else-any_private : goal.returns-else-any_private
+returns-else-any_private g c = record {
+  asks = search rules;
+  value = λ honest.
+      none_private c.no_grants.result.items (holds (project_of (seen g.S.Store lists_of c.args.tables.now) c.args.project.now) c.args.pass.now) c.args.rows.now (sym c.any_private.ensures ∙ c.if-any_private.false);
+}

@@ -1,0 +1,20 @@
+use Rattle.std.proofs.Common.{◌∙◌, ap, subst}
+use Rattle.sqlite.specs.Effect.{Database}
+use Rattle.sqlite.specs.Held.{state}
+use Rattle.dh_schema.specs.Tables.{Holds, lists_of}
+use Rattle.dh_rows.proofs.Indexes.{placed}
+use Rattle.dh_opening.proofs.opening.create.Goals as goal
+
+pub make_at_once-requires-clause-placed : goal.make_at_once-requires-clause-placed
+make_at_once-requires-clause-placed g c honest = placed _ (c.schema.ensures.live honest.1).0
+
+pub over-requires : goal.over-requires
+over-requires g c = record {
+  ours = λ clean live.
+      let it = c.in-Ok.ensures.ok (c.in-Ok.ensures.lasts.was (clean, live)) clean in
+      record { now = it.made.holds; last = subst Holds it.settled it.made.holds; steady = ap (λ (d : Database). d.schema) it.settled; settled = λ _. it.settled; unlimited = c.in-Ok.ensures.lasts.limit ∙ ap (λ h. h.step_limit) c.set_step_limit.ensures };
+}
+
+pub returns-in-Ok-clause-left : goal.returns-in-Ok-clause-left
+returns-in-Ok-clause-left g c = rw c.over.ensures (λ honest w left.
+    left.2 ∙ ap (λ trees. lists_of (record { schema = (state g.S.Store c.make_at_once.new.conn).committed.schema; trees = trees })) (g.met.S.Store.settled c.make_at_once.new.conn.store left.0 honest.1 left.1))
