@@ -26,9 +26,10 @@ fn decide_by<'c>(
         CheckedChange::AddLang { lang } => add_lang(alloc, lang, facts),
         CheckedChange::Push(parts) => push(alloc, parts, facts),
         CheckedChange::Upload(parts) => upload(alloc, parts, facts),
-        CheckedChange::SetProperty { slug: _slug, property } => {
-            set_property(alloc, property, facts)
-        }
+        CheckedChange::SetProperty {
+            slug: _slug,
+            property,
+        } => { set_property(alloc, property, facts) }
         CheckedChange::Deactivate { slug: _slug } => deactivate(alloc, facts),
         CheckedChange::Gone { slug } => remove_version(alloc, slug, facts),
         CheckedChange::SetDefault { name } => set_default(alloc, name, facts),

@@ -58,11 +58,7 @@ pub fn add_at<T: Drop>(
 }
 
 /// Removes the one at a place of a list. The list is used up.
-pub fn drop_at<T: Drop>(
-    alloc: Global,
-    place: u32,
-    list: &mut Vec<T>,
-) -> Result<Items<T>, Refusal>
+pub fn drop_at<T: Drop>(alloc: Global, place: u32, list: &mut Vec<T>) -> Result<Items<T>, Refusal>
     ensures { Comes (spec.dropped place list.old.items) result }
 {
     if !is_place(place, list.len()) {

@@ -13,11 +13,11 @@ ghost use Rattle.dh_opening.specs.Rows.{part};
 ghost use Rattle.dh_opening.specs.Opening.{IsKeptAs, AreKept};
 
 use crate::rows::{has_values, is_number, rise, value_at};
+use dh_lookup::Fault;
 use dh_records::{
     HeldRow, LangRow, PageRow, PassRow, PickRow, ProjectRow, Record, RedirectRow, RuleRow, UsedRow,
     VersionRow, action_number, is_tag, kind_number,
 };
-use dh_lookup::Fault;
 use dh_world::{Answer, Operation};
 use sqlite::types::ToSql;
 use sqlite::{Row, params};

@@ -72,19 +72,40 @@ Steps _ _ = ⊥
 
 pub all_steps : Steps table_texts our_tables
 unfolding everything Steps
-all_steps =
-    (record { read = makes refl refl refl refl refl refl refl refl; plain = refl; uncounted = refl; orders = tt; spares = ((refl, λ tree. tt), ((refl, λ tree. tt), ((refl, λ tree. tt), ((refl, λ tree. tt), ((refl, λ tree. tt), ((refl, λ tree. tt), ((refl, λ tree. tt), ((refl, λ tree. tt), ((refl, λ tree. tt), ((refl, λ tree. tt), tt)))))))))) },
-    (record { read = makes refl refl refl refl refl refl refl refl; plain = refl; uncounted = refl; orders = (refl, tt); spares = ((refl, λ tree. (refl, tt)), ((refl, λ tree. (refl, tt)), ((refl, λ tree. (refl, tt)), ((refl, λ tree. (refl, tt)), ((refl, λ tree. (refl, tt)), ((refl, λ tree. (refl, tt)), ((refl, λ tree. (refl, tt)), ((refl, λ tree. (refl, tt)), ((refl, λ tree. (refl, tt)), tt))))))))) },
-    (record { read = makes refl refl refl refl refl refl refl refl; plain = refl; uncounted = refl; orders = (refl, tt); spares = ((refl, λ tree. (refl, tt)), ((refl, λ tree. (refl, tt)), ((refl, λ tree. (refl, tt)), ((refl, λ tree. (refl, tt)), ((refl, λ tree. (refl, tt)), ((refl, λ tree. (refl, tt)), ((refl, λ tree. (refl, tt)), ((refl, λ tree. (refl, tt)), tt)))))))) },
-    (record { read = makes refl refl refl refl refl refl refl refl; plain = refl; uncounted = refl; orders = (refl, tt); spares = ((refl, λ tree. (refl, tt)), ((refl, λ tree. (refl, tt)), ((refl, λ tree. (refl, tt)), ((refl, λ tree. (refl, tt)), ((refl, λ tree. (refl, tt)), ((refl, λ tree. (refl, tt)), ((refl, λ tree. (refl, tt)), tt))))))) },
-    (record { read = makes refl refl refl refl refl refl refl refl; plain = refl; uncounted = refl; orders = (refl, tt); spares = ((refl, λ tree. (refl, tt)), ((refl, λ tree. (refl, tt)), ((refl, λ tree. (refl, tt)), ((refl, λ tree. (refl, tt)), ((refl, λ tree. (refl, tt)), ((refl, λ tree. (refl, tt)), tt)))))) },
-    (record { read = makes refl refl refl refl refl refl refl refl; plain = refl; uncounted = refl; orders = (refl, tt); spares = ((refl, λ tree. (refl, tt)), ((refl, λ tree. (refl, tt)), ((refl, λ tree. (refl, tt)), ((refl, λ tree. (refl, tt)), ((refl, λ tree. (refl, tt)), tt))))) },
-    (record { read = makes refl refl refl refl refl refl refl refl; plain = refl; uncounted = refl; orders = (refl, tt); spares = ((refl, λ tree. (refl, tt)), ((refl, λ tree. (refl, tt)), ((refl, λ tree. (refl, tt)), ((refl, λ tree. (refl, tt)), tt)))) },
-    (record { read = makes refl refl refl refl refl refl refl refl; plain = refl; uncounted = refl; orders = (refl, tt); spares = ((refl, λ tree. (refl, tt)), ((refl, λ tree. (refl, tt)), ((refl, λ tree. (refl, tt)), tt))) },
-    (record { read = makes refl refl refl refl refl refl refl refl; plain = refl; uncounted = refl; orders = (refl, tt); spares = ((refl, λ tree. (refl, tt)), ((refl, λ tree. (refl, tt)), tt)) },
-    (record { read = makes refl refl refl refl refl refl refl refl; plain = refl; uncounted = refl; orders = (refl, tt); spares = ((refl, λ tree. (refl, tt)), tt) },
-    (record { read = makes refl refl refl refl refl refl refl refl; plain = refl; uncounted = refl; orders = (refl, tt); spares = tt },
-    tt)))))))))))
+all_steps = (
+  record { read = makes refl refl refl refl refl refl refl refl; plain = refl; uncounted = refl; orders = tt; spares = ((refl, λ tree. tt), ((refl, λ tree. tt), ((refl, λ tree. tt), ((refl, λ tree. tt), ((refl, λ tree. tt), ((refl, λ tree. tt), ((refl, λ tree. tt), ((refl, λ tree. tt), ((refl, λ tree. tt), ((refl, λ tree. tt), tt)))))))))) },
+  (
+    record { read = makes refl refl refl refl refl refl refl refl; plain = refl; uncounted = refl; orders = (refl, tt); spares = ((refl, λ tree. (refl, tt)), ((refl, λ tree. (refl, tt)), ((refl, λ tree. (refl, tt)), ((refl, λ tree. (refl, tt)), ((refl, λ tree. (refl, tt)), ((refl, λ tree. (refl, tt)), ((refl, λ tree. (refl, tt)), ((refl, λ tree. (refl, tt)), ((refl, λ tree. (refl, tt)), tt))))))))) },
+    (
+      record { read = makes refl refl refl refl refl refl refl refl; plain = refl; uncounted = refl; orders = (refl, tt); spares = ((refl, λ tree. (refl, tt)), ((refl, λ tree. (refl, tt)), ((refl, λ tree. (refl, tt)), ((refl, λ tree. (refl, tt)), ((refl, λ tree. (refl, tt)), ((refl, λ tree. (refl, tt)), ((refl, λ tree. (refl, tt)), ((refl, λ tree. (refl, tt)), tt)))))))) },
+      (
+        record { read = makes refl refl refl refl refl refl refl refl; plain = refl; uncounted = refl; orders = (refl, tt); spares = ((refl, λ tree. (refl, tt)), ((refl, λ tree. (refl, tt)), ((refl, λ tree. (refl, tt)), ((refl, λ tree. (refl, tt)), ((refl, λ tree. (refl, tt)), ((refl, λ tree. (refl, tt)), ((refl, λ tree. (refl, tt)), tt))))))) },
+        (
+          record { read = makes refl refl refl refl refl refl refl refl; plain = refl; uncounted = refl; orders = (refl, tt); spares = ((refl, λ tree. (refl, tt)), ((refl, λ tree. (refl, tt)), ((refl, λ tree. (refl, tt)), ((refl, λ tree. (refl, tt)), ((refl, λ tree. (refl, tt)), ((refl, λ tree. (refl, tt)), tt)))))) },
+          (
+            record { read = makes refl refl refl refl refl refl refl refl; plain = refl; uncounted = refl; orders = (refl, tt); spares = ((refl, λ tree. (refl, tt)), ((refl, λ tree. (refl, tt)), ((refl, λ tree. (refl, tt)), ((refl, λ tree. (refl, tt)), ((refl, λ tree. (refl, tt)), tt))))) },
+            (
+              record { read = makes refl refl refl refl refl refl refl refl; plain = refl; uncounted = refl; orders = (refl, tt); spares = ((refl, λ tree. (refl, tt)), ((refl, λ tree. (refl, tt)), ((refl, λ tree. (refl, tt)), ((refl, λ tree. (refl, tt)), tt)))) },
+              (
+                record { read = makes refl refl refl refl refl refl refl refl; plain = refl; uncounted = refl; orders = (refl, tt); spares = ((refl, λ tree. (refl, tt)), ((refl, λ tree. (refl, tt)), ((refl, λ tree. (refl, tt)), tt))) },
+                (
+                  record { read = makes refl refl refl refl refl refl refl refl; plain = refl; uncounted = refl; orders = (refl, tt); spares = ((refl, λ tree. (refl, tt)), ((refl, λ tree. (refl, tt)), tt)) },
+                  (
+                    record { read = makes refl refl refl refl refl refl refl refl; plain = refl; uncounted = refl; orders = (refl, tt); spares = ((refl, λ tree. (refl, tt)), tt) },
+                    (
+                      record { read = makes refl refl refl refl refl refl refl refl; plain = refl; uncounted = refl; orders = (refl, tt); spares = tt },
+                      tt,
+                    ),
+                  ),
+                ),
+              ),
+            ),
+          ),
+        ),
+      ),
+    ),
+  ),
+)
 
 -- the tables that are made when these are, too
 pub with_all : List Table → List Table → List Table

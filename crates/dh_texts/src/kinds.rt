@@ -129,10 +129,7 @@ impl Kind for Slugs {
 
     fn passes(text: &str) -> bool {
         let bytes = text.as_bytes();
-        1 <= bytes.len()
-            && bytes.len() <= 128
-            && all_slug(bytes)
-            && lower_or_digit(first_of(bytes))
+        1 <= bytes.len() && bytes.len() <= 128 && all_slug(bytes) && lower_or_digit(first_of(bytes))
     }
 
     fn refusal() -> TextFault {
