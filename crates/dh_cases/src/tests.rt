@@ -1,5 +1,4 @@
 //! A file for each crate.
 
-mod ports;
 mod redirects;
 mod rules;

@@ -3,12 +3,9 @@ use Rattle.std.specs.Prelude.{◌≡◌, Bool, true, false, Option, Result, Err,
 use Rattle.std.specs.Option.{option_and_then}
 use Rattle.std.specs.Coded.{Coded, code_by, coded×, coded_bool}
 use Rattle.sqlite_trees.specs.declared.store.Store.{Ghosts}
-use Rattle.sqlite.specs.Held.{Held, held_code, state}
-use Rattle.sqlite.specs.State.{HasCleanDisk}
-use Rattle.dh_rows.specs.Calls.{IsHonest}
+use Rattle.sqlite.specs.Held.{Held, held_code}
 use Rattle.dh_records.specs.Lists.{world_of}
-use Rattle.dh_tables.specs.Going.{last_records}
-use Rattle.dh_tables.specs.Sound.{AreSound}
+use Rattle.dh_records.specs.Constraints.{AreSound}
 use Rattle.dh_reply.specs.Replies.{reply_to}
 use Rattle.dh_wire.specs.declared.answer.Read.{Read}
 use Rattle.dh_wire.specs.declared.answer.Reply.{Reply}
@@ -18,6 +15,13 @@ use Rattle.dh_world.specs.Seen.{seen, veil}
 use Rattle.dh_world.specs.declared.answer.Answer.{Answer}
 use Rattle.dh_world.specs.declared.refusal.Refusal.{Refusal}
 use Rattle.dh_world.specs.declared.refusal.Refusal.TheVariants.{Store, OutOfMemory}
+-- words of the layers below that the clauses of a desk are made of
+pub use Rattle.sqlite.specs.Held.{state}
+pub use Rattle.sqlite.specs.State.{HasCleanDisk}
+pub use Rattle.dh_rows.specs.Calls.{IsHonest, IsRefused}
+pub use Rattle.dh_schema.specs.Calling.{Blames}
+pub use Rattle.dh_schema.specs.Tables.{lists_of}
+pub use Rattle.dh_tables.specs.Going.{last_records}
 
 -- a desk: its tables, and whether a fault of the store has closed it
 pub record Standing (S : Type 0) : Type 0 where

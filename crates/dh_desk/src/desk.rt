@@ -1,18 +1,15 @@
 //! The desk and its two calls.
 ghost use Rattle.std.specs.Prelude.{◌≡◌, ◌⊎◌, true, false, Err, IfOk, IfErr, OnOk};
 ghost use Rattle.std.specs.Option.{option_map};
-ghost use Rattle.sqlite.specs.Held.{state};
-ghost use Rattle.sqlite.specs.State.{HasCleanDisk};
-ghost use Rattle.dh_rows.specs.Calls.{IsHonest, IsRefused, KeepsCommitted, Lasts, LeavesNoMore, LeavesCommitted};
-ghost use Rattle.dh_schema.specs.Calling.{Blames};
-ghost use Rattle.dh_schema.specs.Tables.{lists_of};
+ghost use Rattle.dh_rows.specs.Calls.{KeepsCommitted, Lasts, LeavesNoMore, LeavesCommitted};
 ghost use Rattle.dh_transactions.specs.Crashes.{LeavesEither};
-ghost use Rattle.dh_tables.specs.Going.{IsOver, last_records};
+ghost use Rattle.dh_tables.specs.Going.{IsOver};
 ghost use Rattle.dh_transactions.specs.Steps.{Transacts};
 ghost use Rattle.dh_world.specs.Checks.{IsFault};
 ghost use Rattle.dh_world.specs.Reads.{is_unanswered};
 ghost use Rattle.dh_world.specs.Step.{IsStep};
-ghost use Rattle.dh_desk.specs.Desk.{IsKept, TellsMemory, is_fault, world, reply_in, veil_of};
+ghost use Rattle.dh_desk.specs.Desk.{Blames, HasCleanDisk, IsHonest, IsRefused, last_records, lists_of};
+ghost use Rattle.dh_desk.specs.Desk.{IsKept, TellsMemory, is_fault, reply_in, state, veil_of, world};
 
 use crate::reads::read;
 use dh_reply::{Fault, Read, Reply};

@@ -1,46 +1,31 @@
 //! Reads.
-ghost use Rattle.std.specs.Prelude.{◌≡◌, false, IfOk, OnOk};
+ghost use Rattle.std.specs.Prelude.{◌≡◌, Some, None, false, IfOk, OnOk, if◌then◌else◌};
 ghost use Rattle.std.specs.Option.{option_map, option_and_then};
-ghost use Rattle.sqlite.specs.Held.{state};
-ghost use Rattle.sqlite.specs.State.{HasCleanDisk};
-ghost use Rattle.dh_rows.specs.Calls.{IsHonest, IsRefused};
 ghost use Rattle.dh_lookup.specs.Faults.{OnStore};
 ghost use Rattle.dh_reply.specs.Replies.{reply_to};
 ghost use Rattle.dh_records.specs.Lists.{world_of};
-ghost use Rattle.dh_schema.specs.Calling.{Blames};
-ghost use Rattle.dh_schema.specs.Tables.{lists_of};
 ghost use Rattle.dh_view.specs.View.{Fails, Looks, shown};
-ghost use Rattle.dh_tables.specs.Going.{last_records};
 ghost use Rattle.dh_world.specs.Reads.{host_named, pass_named};
 ghost use Rattle.dh_world.specs.Seen as caller;
-ghost use Rattle.dh_desk.specs.Desk.{reply_in, veil_of};
+ghost use Rattle.dh_desk.specs.Desk.{Blames, HasCleanDisk, IsHonest, IsRefused, last_records, lists_of};
+ghost use Rattle.dh_desk.specs.Desk.{reply_in, state, veil_of};
 
 use dh_paths::{HostName, TextFault, Token};
 use dh_reply::{Fault, Read, Reply, reply};
 use dh_tables::Tables;
+use dh_texts::{Checked, Kind};
 use dh_view::View;
 use sqlite::Alter;
 use std::alloc::Global;
 
-/// The host of this name, if it is one.
-fn host_in(alloc: Global, name: &str) -> Result<Option<HostName>, Fault>
-    ensures value { IfOk result (λ host. host ≡ host_named name.now) }
+/// The text as one of a kind, if it is.
+fn text_in<K: Kind>(alloc: Global, text: &str) -> Result<Option<Checked<K>>, Fault>
+    ensures value { IfOk result (λ found.
+        found ≡ (if K.test text.now then Some text.now else None)) }
     ensures told { OnStore result ⊥ }
 {
-    match HostName::parse(alloc, name) {
-        Ok(host) => Ok(Some(host)),
-        Err(TextFault::Memory) => Err(Fault::Memory),
-        Err(_) => Ok(None),
-    }
-}
-
-/// The pass of this text, if it is one.
-fn token_in(alloc: Global, text: &str) -> Result<Option<Token>, Fault>
-    ensures value { IfOk result (λ pass. pass ≡ pass_named text.now) }
-    ensures told { OnStore result ⊥ }
-{
-    match Token::parse(alloc, text) {
-        Ok(pass) => Ok(Some(pass)),
+    match Checked::parse(alloc, text) {
+        Ok(found) => Ok(Some(found)),
         Err(TextFault::Memory) => Err(Fault::Memory),
         Err(_) => Ok(None),
     }
@@ -53,7 +38,7 @@ fn pass_in(alloc: Global, pass: Option<&str>) -> Result<Option<Token>, Fault>
     ensures told { OnStore result ⊥ }
 {
     match pass {
-        Some(text) => token_in(alloc, text),
+        Some(text) => text_in(alloc, text),
         None => Ok(None),
     }
 }
@@ -105,7 +90,7 @@ pub fn read<S: Alter>(
         → HasCleanDisk (state S.Store tables.old) }
     ensures was { IsHonest S.Store tables.new → IsHonest S.Store tables.old }
 {
-    let host = host_in(alloc, host)?;
+    let host = text_in(alloc, host)?;
     let pass = pass_in(alloc, pass)?;
     tables.back()?;
     look(tables, alloc, host, pass, asked)

@@ -1,10 +1,11 @@
 //! Making the edits of a plan, within a transaction.
-ghost use Rattle.std.specs.Prelude.{◌≡◌, true, IfOk};
+ghost use Rattle.std.specs.Prelude.{◌≡◌, None, IfOk};
 ghost use Rattle.std.specs.List.{IsDistinct};
 ghost use Rattle.std.specs.Str.{bytes_eq};
 ghost use Rattle.dh_rows.specs.Calls.{IsHonest};
-ghost use Rattle.dh_tables.specs.Going.{Makes, records};
-ghost use Rattle.dh_edits.specs.RowEdits.{RowsMay, RowsMayAll, rows_edited, all_rows_edited, with_version, without_version, without_pages, without_grants_on, with_defaults};
+ghost use Rattle.dh_records.specs.Changes as change;
+ghost use Rattle.dh_tables.specs.Going.{HasRecords, IsWithin, Makes};
+ghost use Rattle.dh_row_edits.specs.RowEdits.{RowsMay, RowsMayAll, all_rows_edited, rows_edited, version_row};
 
 use dh_checks::CheckedPage;
 use dh_lookup::Page;
@@ -23,8 +24,7 @@ fn add_lang<S: Alter>(
     lang: Lang,
     place: u32,
 ) -> Result<(), Refusal>
-    requires may { IsHonest S.Store tables.old
-        → RowsMay host.now (Edit.AddLang lang place) (records S.Store tables.old) }
+    requires may { HasRecords S.Store tables.old (RowsMay host.now (Edit.AddLang lang place)) }
     ensures makes { Makes S.Store tables.old tables.new result
         (rows_edited host.now (Edit.AddLang lang place)) }
 {
@@ -43,7 +43,7 @@ fn put_version<S: Alter>(
     version: Version,
 ) -> Result<(), Refusal>
     ensures makes { Makes S.Store tables.old tables.new result
-        (with_version host.now version) }
+        (change.put_version (version_row host.now version)) }
 {
     let row = VersionRow {
         host: host.try_copy(alloc)?,
@@ -72,7 +72,7 @@ fn remove_granted<S: Alter>(
     slug: &Slug,
 ) -> Result<(), Refusal>
     ensures makes { Makes S.Store tables.old tables.new result
-        (λ l. without_version host.now slug.now (without_grants_on host.now slug.now l)) }
+        (λ l. change.drop_version host.now slug.now (change.drop_grants_of host.now slug.now l)) }
 {
     tables.drop_grants_of(host, slug)?;
     Ok(tables.drop_version(host, slug)?)
@@ -85,8 +85,8 @@ fn remove_filled<S: Alter>(
     slug: &Slug,
 ) -> Result<(), Refusal>
     ensures makes { Makes S.Store tables.old tables.new result
-        (λ l. without_version host.now slug.now (without_grants_on host.now slug.now
-        (without_pages host.now slug.now l))) }
+        (λ l. change.drop_version host.now slug.now (change.drop_grants_of host.now slug.now
+        (change.drop_pages host.now slug.now None l))) }
 {
     tables.drop_pages(host, slug, None)?;
     remove_granted(tables, host, slug)
@@ -98,11 +98,11 @@ fn remove_version<S: Alter>(
     slug: &Slug,
     defaults: &[Slug],
 ) -> Result<(), Refusal>
-    requires within { IsHonest S.Store tables.old → tables.old.in_transaction ≡ true }
+    requires within { IsWithin S.Store tables.old }
     requires apart { IsHonest S.Store tables.old → IsDistinct bytes_eq defaults.now }
     ensures makes { Makes S.Store tables.old tables.new result
-        (λ l. without_version host.now slug.now (without_grants_on host.now slug.now
-        (without_pages host.now slug.now (with_defaults host.now defaults.now l)))) }
+        (λ l. change.drop_version host.now slug.now (change.drop_grants_of host.now slug.now
+        (change.drop_pages host.now slug.now None (change.set_picks host.now defaults.now l)))) }
 {
     set_defaults(tables, host, defaults)?;
     remove_filled(tables, host, slug)
@@ -158,10 +158,10 @@ fn set_defaults<S: Alter>(
     host: &HostName,
     names: &[Slug],
 ) -> Result<(), Refusal>
-    requires within { IsHonest S.Store tables.old → tables.old.in_transaction ≡ true }
+    requires within { IsWithin S.Store tables.old }
     requires apart { IsHonest S.Store tables.old → IsDistinct bytes_eq names.now }
     ensures makes { Makes S.Store tables.old tables.new result
-        (with_defaults host.now names.now) }
+        (change.set_picks host.now names.now) }
 {
     Ok(tables.set_picks(host, names)?)
 }
@@ -172,8 +172,7 @@ fn add_pass<S: Alter>(
     host: &HostName,
     pass: Token,
 ) -> Result<(), Refusal>
-    requires may { IsHonest S.Store tables.old
-        → RowsMay host.now (Edit.AddPass pass) (records S.Store tables.old) }
+    requires may { HasRecords S.Store tables.old (RowsMay host.now (Edit.AddPass pass)) }
     ensures makes { Makes S.Store tables.old tables.new result
         (rows_edited host.now (Edit.AddPass pass)) }
 {
@@ -232,8 +231,7 @@ fn put_answer<S: Alter>(
     host: &HostName,
     first: FirstAnswer,
 ) -> Result<(), Refusal>
-    requires may { IsHonest S.Store tables.old
-        → RowsMay host.now (Edit.PutAnswer first) (records S.Store tables.old) }
+    requires may { HasRecords S.Store tables.old (RowsMay host.now (Edit.PutAnswer first)) }
     ensures makes { Makes S.Store tables.old tables.new result
         (rows_edited host.now (Edit.PutAnswer first)) }
 {
@@ -252,9 +250,8 @@ fn make_edit<S: Alter>(
     host: &HostName,
     edit: Edit<'_>,
 ) -> Result<(), Refusal>
-    requires within { IsHonest S.Store tables.old → tables.old.in_transaction ≡ true }
-    requires may { IsHonest S.Store tables.old
-        → RowsMay host.now edit (records S.Store tables.old) }
+    requires within { IsWithin S.Store tables.old }
+    requires may { HasRecords S.Store tables.old (RowsMay host.now edit) }
     ensures makes { Makes S.Store tables.old tables.new result
         (rows_edited host.now edit.entry) }
 {
@@ -287,9 +284,8 @@ pub fn make_edits<S: Alter>(
     host: &HostName,
     edits: Vec<Edit<'_>>,
 ) -> Result<(), Refusal>
-    requires within { IsHonest S.Store tables.old → tables.old.in_transaction ≡ true }
-    requires may { IsHonest S.Store tables.old
-        → RowsMayAll host.now edits.items (records S.Store tables.old) }
+    requires within { IsWithin S.Store tables.old }
+    requires may { HasRecords S.Store tables.old (RowsMayAll host.now edits.items) }
     ensures makes { Makes S.Store tables.old tables.new result
         (all_rows_edited host.now edits.entry.items) }
 {

@@ -10,19 +10,21 @@ use Rattle.dh_files.specs.declared.fault.FileFault.TheVariants.{Missing, Empty, 
 use Rattle.dh_files.specs.declared.fault.FileFault.TheVariants.{Damaged, Busy, Taken, NotOurs, Full, Failed, Memory}
 
 abbrev pub name_of : FileFault → List ℕ
-name_of Missing = codes "Store"
-name_of Empty = codes "Store"
-name_of Folder = codes "Store"
-name_of Forbidden = codes "Store"
-name_of Unopened = codes "Store"
-name_of NoDatabase = codes "Store"
-name_of Damaged = codes "Store"
-name_of Busy = codes "Store"
-name_of Taken = codes "NotOurs"
-name_of NotOurs = codes "NotOurs"
-name_of Full = codes "Store"
-name_of Failed = codes "Store"
-name_of Memory = codes "Memory"
+name_of = elim [
+  | Missing ↦ codes "Store"
+  | Empty ↦ codes "Store"
+  | Folder ↦ codes "Store"
+  | Forbidden ↦ codes "Store"
+  | Unopened ↦ codes "Store"
+  | NoDatabase ↦ codes "Store"
+  | Damaged ↦ codes "Store"
+  | Busy ↦ codes "Store"
+  | Full ↦ codes "Store"
+  | Failed ↦ codes "Store"
+  | Taken ↦ codes "NotOurs"
+  | NotOurs ↦ codes "NotOurs"
+  | Memory ↦ codes "Memory"
+]
 
 abbrev pub fault_of : TablesFault → FileFault
 fault_of tables.NotOurs = NotOurs

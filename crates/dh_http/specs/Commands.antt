@@ -17,30 +17,32 @@ unavailable = fault_reply_of 503 None
 
 -- the status of a refused command (RFC 9110, sections 15.5 and 15.6)
 abbrev pub status_of : Refusal → ℕ
-status_of BadHost = 404
-status_of NoProject = 404
-status_of BadToken = 403
-status_of WrongKey = 403
-status_of BadLang = 400
-status_of BadRef = 400
-status_of BadPath = 400
-status_of BadPage = 400
-status_of BadPattern = 400
-status_of (BadRedirect fault) = 400
-status_of BadKey = 400
-status_of (PatternRefused place) = 503
-status_of Store = 503
-status_of OutOfMemory = 503
-status_of ProjectTaken = 409
-status_of LangTaken = 409
-status_of NoLang = 409
-status_of NoVersion = 409
-status_of SlugTaken = 409
-status_of Inactive = 409
-status_of BadPlace = 409
-status_of TooMany = 409
-status_of PassTaken = 409
-status_of NoPass = 409
+status_of = elim [
+  | BadHost ↦ 404
+  | NoProject ↦ 404
+  | BadToken ↦ 403
+  | WrongKey ↦ 403
+  | BadLang ↦ 400
+  | BadRef ↦ 400
+  | BadPath ↦ 400
+  | BadPage ↦ 400
+  | BadPattern ↦ 400
+  | BadRedirect fault ↦ 400
+  | BadKey ↦ 400
+  | ProjectTaken ↦ 409
+  | LangTaken ↦ 409
+  | NoLang ↦ 409
+  | NoVersion ↦ 409
+  | SlugTaken ↦ 409
+  | Inactive ↦ 409
+  | BadPlace ↦ 409
+  | TooMany ↦ 409
+  | PassTaken ↦ 409
+  | NoPass ↦ 409
+  | PatternRefused place ↦ 503
+  | Store ↦ 503
+  | OutOfMemory ↦ 503
+]
 
 -- `{"answer":"done"}`, which answers no push or upload
 abbrev pub done_data : Data

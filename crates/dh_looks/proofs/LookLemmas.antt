@@ -1,5 +1,5 @@
 -- What looks find is what a command has to know: once for each kind of question.
-use Rattle.std.proofs.Common.{◌≡◌, ◌≤◌, ℕ, Bool, true, false, cond, List, [], map, filter, length, Option, Some, None, find, refl, sym, ap, ◌∙◌, subst}
+use Rattle.std.proofs.Common.{◌≡◌, ◌≤◌, ℕ, Bool, true, false, cond, List, [], map, filter, length, Option, Some, None, find, refl, sym, ap, ◌∙◌, subst, arith}
 use Rattle.std.specs.Prelude.{option_map, IfSome, IsTrue}
 use Rattle.std.specs.List.{AllByRecursion}
 use Rattle.std.specs.Option.{option_and_then, option_map_or}
@@ -24,8 +24,8 @@ use Rattle.dh_records.proofs.RedirectLemmas.{redirects_in}
 use Rattle.dh_records.proofs.RuleLemmas.{rules_in}
 use Rattle.dh_records.proofs.ConstraintLemmas.{all_found}
 use Rattle.dh_records.proofs.SeenLemmas.{get_project}
-use Rattle.dh_records.proofs.WorldLemmas.{branch_of, new_private_of, row_of, wkey_of, version_in}
-use Rattle.dh_records.specs.Lists.{Lists, world_of, project_of, is_project, is_rule_of, is_redirect_of, is_version}
+use Rattle.dh_records.proofs.WorldLemmas.{branch_of, defaults_in, languages_in, new_private_of, row_of, wkey_of, version_in}
+use Rattle.dh_records.specs.Lists.{Lists, world_of, project_of, is_lang_of, is_pick_of, is_project, is_rule_of, is_redirect_of, is_version}
 use Rattle.dh_records.specs.Constraints as constraints
 use Rattle.dh_records.specs.declared.records.ProjectRow.{ProjectRow}
 use Rattle.dh_records.specs.declared.records.RedirectRow.{RedirectRow}
@@ -35,7 +35,7 @@ use Rattle.dh_checks.specs.declared.checked.ProjectSettings.{ProjectSettings}
 use Rattle.dh_looks.specs.declared.looks.FoundAt.{FoundAt}
 use Rattle.dh_looks.specs.declared.looks.FoundLists.{FoundLists}
 use Rattle.dh_looks.specs.Finding.{OfProject, IsVersion, AreListed, AreRules, AreRedirects, FindsSettings, FindsAt, FindsLists, FindsFacts, asked_key}
-use Rattle.dh_tables.specs.Sound.{AreSound}
+use Rattle.dh_records.specs.Constraints.{AreSound}
 use Rattle.dh_world.specs.World.{Text, Project}
 
 -- the project is there in records that are the same
@@ -46,13 +46,18 @@ here host lists l e p was = ap (λ x. get (world_of x) host) e ∙ was
 module _ {R X : Type 0} (of : R → X) (most : ℕ) (IsGood : X → Type 0) (all : List X) (mine : List R) where
   listed
       : all ≡ map of mine → length mine ≤ most → AllByRecursion (λ r. IsGood (of r)) mine
-      → (ask : Bool) (rows : List R) (found : List X) → ask ≡ true → rows ≡ mine → found ≡ map of rows
+      → (ask : Bool) (found : List X) → found ≡ cond ask (map of mine) []
       → AreListed ask most IsGood all found
-  listed all_is few good ask rows found on is e =
-      let same : found ≡ map of mine = e ∙ ap (map of) is in record {
-        are = ap (λ b. cond b all []) on ∙ all_is ∙ sym same;
-        few = subst (λ xs. length xs ≤ most) (sym same) (subst (λ n. n ≤ most) (sym (length-map mine of)) few);
-        good = subst (AllByRecursion IsGood) (sym same) (all_map IsGood of mine good);
+  listed all_is few good true found e = record {
+    are = all_is ∙ sym e;
+    few = subst (λ xs. length xs ≤ most) (sym e) (subst (λ n. n ≤ most) (sym (length-map mine of)) few);
+    good = subst (AllByRecursion IsGood) (sym e) (all_map IsGood of mine good);
+  }
+  listed all_is few good false found e =
+      let none : 0 ≤ most = omega arith in record {
+        are = sym e;
+        few = subst (λ xs. length xs ≤ most) (sym e) none;
+        good = subst (AllByRecursion IsGood) (sym e) tt;
       }
 
 module _ (host : Text) (lists : Lists) where
@@ -110,21 +115,21 @@ module _ (host : Text) (lists : Lists) where
         let here = all_found (λ r. constraints.AreRedirects (filter (is_redirect_of r.host) lists.redirects)) (is_project host) lists.projects it.0 it.1.found sound.constraints.places in
         subst (λ h. length (filter (is_redirect_of h) lists.redirects) ≤ 100) it.1.host_is here.few
 
-    pub rules_here
-        : (ask : Bool) (rows : List RuleRow) (rules : List Rule) → ask ≡ true
-        → rows ≡ filter (is_rule_of host) lists.rules → rules ≡ map (λ r. r.rule) rows
+    rules_here
+        : (ask : Bool) (rules : List Rule)
+        → rules ≡ cond ask (map (λ r. r.rule) (filter (is_rule_of host) lists.rules)) []
         → AreRules ask rules p
-    rules_here ask rows found on is e =
+    rules_here ask found e =
         listed (λ r. r.rule) 50 (λ r. IsTrue (is_allowed r.pattern)) p.rules (filter (is_rule_of host) lists.rules) (rules_in lists host p was) few_rules
-        (all-filter _ (is_rule_of host) lists.rules sound.constraints.allowed) ask rows found on is e
+        (all-filter _ (is_rule_of host) lists.rules sound.constraints.allowed) ask found e
 
-    pub redirects_here
-        : (ask : Bool) (rows : List RedirectRow) (redirects : List Redirect) → ask ≡ true
-        → rows ≡ filter (is_redirect_of host) lists.redirects → redirects ≡ map (λ r. r.redirect) rows
+    redirects_here
+        : (ask : Bool) (redirects : List Redirect)
+        → redirects ≡ cond ask (map (λ r. r.redirect) (filter (is_redirect_of host) lists.redirects)) []
         → AreRedirects ask redirects p
-    redirects_here ask rows found on is e =
+    redirects_here ask found e =
         listed (λ r. r.redirect) 100 (λ r. first_fault r ≡ None) p.redirects (filter (is_redirect_of host) lists.redirects) (redirects_in lists host p was) few_redirects
-        (all-filter _ (is_redirect_of host) lists.redirects sound.constraints.good) ask rows found on is e
+        (all-filter _ (is_redirect_of host) lists.redirects sound.constraints.good) ask found e
 
 -- ---- all of them
 
@@ -148,16 +153,16 @@ found_at host lists l1 l2 l3 q f e1 n2 n3 sound version first has count p was = 
 pub found_lists
     : (host : Text) (lists l1 l2 l3 : Lists) (q : Questions) (f : FoundLists)
     → l1 ≡ lists → l2 ≡ l1 → l3 ≡ l2 → AreSound lists
-    → OfProject host (λ p. cond q.languages p.languages [] ≡ f.languages.items) lists
-    → OfProject host (λ p. cond q.defaults p.defaults [] ≡ f.defaults.items) l1
-    → (AreSound l2 → OfProject host (AreRules q.rules f.rules.items) l2)
-    → (AreSound l3 → OfProject host (AreRedirects q.redirects f.redirects.items) l3)
+    → f.languages.items ≡ cond q.languages (map (λ r. r.lang) (filter (is_lang_of host) lists.langs)) []
+    → f.defaults.items ≡ cond q.defaults (map (λ r. r.name) (filter (is_pick_of host) l1.picks)) []
+    → f.rules.items ≡ cond q.rules (map (λ r. r.rule) (filter (is_rule_of host) l2.rules)) []
+    → f.redirects.items ≡ cond q.redirects (map (λ r. r.redirect) (filter (is_redirect_of host) l3.redirects)) []
     → OfProject host (FindsLists q f) lists
 found_lists host lists l1 l2 l3 q f e1 n2 n3 sound languages defaults rules redirects p was = record {
-  languages = languages p was;
-  defaults = defaults p (here host lists l1 e1 p was);
-  rules = rules (subst AreSound (sym (n2 ∙ e1)) sound) p (here host lists l2 (n2 ∙ e1) p was);
-  redirects = redirects (subst AreSound (sym (n3 ∙ n2 ∙ e1)) sound) p (here host lists l3 (n3 ∙ n2 ∙ e1) p was);
+  languages = ap (λ xs. cond q.languages xs []) (languages_in lists host p was) ∙ sym languages;
+  defaults = ap (λ xs. cond q.defaults xs []) (defaults_in l1 host p (here host lists l1 e1 p was)) ∙ sym defaults;
+  rules = rules_here host l2 p (subst AreSound (sym (n2 ∙ e1)) sound) (here host lists l2 (n2 ∙ e1) p was) q.rules _ rules;
+  redirects = redirects_here host l3 p (subst AreSound (sym (n3 ∙ n2 ∙ e1)) sound) (here host lists l3 (n3 ∙ n2 ∙ e1) p was) q.redirects _ redirects;
 }
 
 abbrev pub facts_of : ProjectSettings → FoundAt → FoundLists → Facts

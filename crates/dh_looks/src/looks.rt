@@ -1,23 +1,23 @@
 //! Looking up what a command has to know of the project of its host.
-ghost use Rattle.std.specs.Prelude.{◌≡◌, false, [], map, option_map, if◌then◌else◌, IfOk};
+ghost use Rattle.std.specs.Prelude.{◌≡◌, false, [], map, filter, option_map, if◌then◌else◌};
 ghost use Rattle.std.specs.Option.{option_and_then, option_map_or};
 ghost use Rattle.std.specs.FinMap.{get, contains_key, len};
-ghost use Rattle.dh_looks.specs.Finding.{OfProject, IsVersion, AreRules, AreRedirects};
+ghost use Rattle.dh_looks.specs.Finding.{OfProject, IsVersion};
 ghost use Rattle.dh_looks.specs.Finding.{FindsSettings, FindsAt, FindsLists, FindsFacts, asked_key};
 ghost use Rattle.dh_schema.specs.Calling.{Learns};
 ghost use Rattle.dh_tables.specs.Going.{Asks};
-ghost use Rattle.dh_tables.specs.Sound.{AreSound};
+ghost use Rattle.dh_records.specs.Constraints.{AreSound};
 
 use dh_checks::{CheckedChange, ProjectSettings};
 use dh_paths::{HostName, Lang, Slug, Token};
 use dh_plans::{Facts, Questions, RetryKey, questions_of};
 use dh_redirects::Redirect;
 use dh_rules::Rule;
-use dh_tables::{LangRow, PickRow, ProjectRow, RedirectRow, RuleRow, Tables};
+use dh_tables::{LangRow, Listed, PickRow, ProjectRow, RedirectRow, RuleRow, Tables};
 use dh_versions::Version;
 use dh_world::{Answer, Refusal};
 use sqlite::Alter;
-use std::alloc::{AllocError, Global};
+use std::alloc::Global;
 
 fn settings_of<S: Alter>(
     tables: &mut Tables<S>,
@@ -56,7 +56,7 @@ fn version_for<S: Alter>(
     let Some(slug) = slug else {
         return Ok(None);
     };
-    match tables.version(alloc, host, slug)? {
+    match tables.version(alloc, host, slug.as_str())? {
         Some(row) => Ok(Some(row.version)),
         None => Ok(None),
     }
@@ -78,58 +78,27 @@ fn first_answer_for<S: Alter>(
     }
 }
 
-fn languages_in(alloc: Global, rows: Vec<LangRow>) -> Result<Vec<Lang>, AllocError>
-    ensures { IfOk result (λ languages. languages.items ≡ map (λ row. row.lang) rows.items) }
-{
-    rows.into_iter().map(|row| row.lang).collect(alloc)
-}
-
-/// The languages, where they are asked for.
-fn languages_for<S: Alter>(
+/// A list of the project, where it is asked for.
+fn list_for<S: Alter, R: Listed>(
     tables: &mut Tables<S>,
     alloc: Global,
     host: &HostName,
     ask: bool,
-) -> Result<Vec<Lang>, Refusal>
+) -> Result<Vec<R::Item>, Refusal>
     ensures asks { Asks S.Store tables.old tables.new result }
-    ensures value { Learns S.Store tables.old tables.new result (λ l languages.
-        OfProject host.now (λ p. (if ask then p.languages else []) ≡ languages.items) l) }
+    ensures value { Learns S.Store tables.old tables.new result (λ l items.
+        items.items ≡ (if ask then map R.item (filter (R.is_of host.now) (R.all l)) else [])) }
 {
-    if !ask {
-        return Ok(Vec::new(alloc));
+    if ask {
+        Ok(tables.list::<R>(alloc, host)?)
+    } else {
+        Ok(Vec::new(alloc))
     }
-    let rows = tables.langs(alloc, host)?;
-    Ok(languages_in(alloc, rows)?)
-}
-
-fn names_in(alloc: Global, rows: Vec<PickRow>) -> Result<Vec<Slug>, AllocError>
-    ensures { IfOk result (λ names. names.items ≡ map (λ row. row.name) rows.items) }
-{
-    rows.into_iter().map(|row| row.name).collect(alloc)
-}
-
-/// The defaults, where they are asked for.
-fn defaults_for<S: Alter>(
-    tables: &mut Tables<S>,
-    alloc: Global,
-    host: &HostName,
-    ask: bool,
-) -> Result<Vec<Slug>, Refusal>
-    ensures asks { Asks S.Store tables.old tables.new result }
-    ensures value { Learns S.Store tables.old tables.new result (λ l names.
-        OfProject host.now (λ p. (if ask then p.defaults else []) ≡ names.items) l) }
-{
-    if !ask {
-        return Ok(Vec::new(alloc));
-    }
-    let rows = tables.picks(alloc, host)?;
-    Ok(names_in(alloc, rows)?)
 }
 
 /// Whether the project has the pass, where one is asked for.
 fn has_pass<S: Alter>(
     tables: &mut Tables<S>,
-    alloc: Global,
     host: &HostName,
     pass: Option<&Token>,
 ) -> Result<bool, Refusal>
@@ -139,7 +108,7 @@ fn has_pass<S: Alter>(
         l) }
 {
     match pass {
-        Some(pass) => Ok(tables.pass(alloc, host, pass)?.is_some()),
+        Some(pass) => Ok(tables.has_pass(host, pass)?),
         None => Ok(false),
     }
 }
@@ -159,55 +128,6 @@ fn pass_count<S: Alter>(
     } else {
         Ok(0)
     }
-}
-
-fn rules_in(alloc: Global, rows: Vec<RuleRow>) -> Result<Vec<Rule>, AllocError>
-    ensures { IfOk result (λ rules. rules.items ≡ map (λ row. row.rule) rows.items) }
-{
-    rows.into_iter().map(|row| row.rule).collect(alloc)
-}
-
-/// The automation rules, where they are asked for.
-fn rules_for<S: Alter>(
-    tables: &mut Tables<S>,
-    alloc: Global,
-    host: &HostName,
-    ask: bool,
-) -> Result<Vec<Rule>, Refusal>
-    ensures asks { Asks S.Store tables.old tables.new result }
-    ensures value { Learns S.Store tables.old tables.new result (λ l rules. AreSound l
-        → OfProject host.now (AreRules ask rules.items) l) }
-{
-    if !ask {
-        return Ok(Vec::new(alloc));
-    }
-    let rows = tables.rules(alloc, host)?;
-    Ok(rules_in(alloc, rows)?)
-}
-
-fn redirects_in(alloc: Global, rows: Vec<RedirectRow>) -> Result<Vec<Redirect>, AllocError>
-    ensures { IfOk result
-        (λ redirects. redirects.items ≡ map (λ row. row.redirect) rows.items) }
-{
-    rows.into_iter().map(|row| row.redirect).collect(alloc)
-}
-
-/// The redirects, where they are asked for.
-fn redirects_for<S: Alter>(
-    tables: &mut Tables<S>,
-    alloc: Global,
-    host: &HostName,
-    ask: bool,
-) -> Result<Vec<Redirect>, Refusal>
-    ensures asks { Asks S.Store tables.old tables.new result }
-    ensures value { Learns S.Store tables.old tables.new result (λ l redirects. AreSound l
-        → OfProject host.now (AreRedirects ask redirects.items) l) }
-{
-    if !ask {
-        return Ok(Vec::new(alloc));
-    }
-    let rows = tables.redirects(alloc, host)?;
-    Ok(redirects_in(alloc, rows)?)
 }
 
 /// What stands under a key, and how many passes there are.
@@ -231,7 +151,7 @@ fn look_at<S: Alter>(
 {
     let version = version_for(tables, alloc, host, questions.version)?;
     let first_answer = first_answer_for(tables, alloc, host, questions.retry_key)?;
-    let has_pass = has_pass(tables, alloc, host, questions.pass)?;
+    let has_pass = has_pass(tables, host, questions.pass)?;
     let pass_count = pass_count(tables, host, questions.pass_count)?;
     Ok(FoundAt {
         version,
@@ -260,10 +180,10 @@ fn look_lists<S: Alter>(
     ensures value { Learns S.Store tables.old tables.new result
         (λ l found. AreSound l → OfProject host.now (FindsLists questions.now found) l) }
 {
-    let languages = languages_for(tables, alloc, host, questions.languages)?;
-    let defaults = defaults_for(tables, alloc, host, questions.defaults)?;
-    let rules = rules_for(tables, alloc, host, questions.rules)?;
-    let redirects = redirects_for(tables, alloc, host, questions.redirects)?;
+    let languages = list_for::<S, LangRow>(tables, alloc, host, questions.languages)?;
+    let defaults = list_for::<S, PickRow>(tables, alloc, host, questions.defaults)?;
+    let rules = list_for::<S, RuleRow>(tables, alloc, host, questions.rules)?;
+    let redirects = list_for::<S, RedirectRow>(tables, alloc, host, questions.redirects)?;
     Ok(FoundLists {
         languages,
         defaults,

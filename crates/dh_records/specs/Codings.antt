@@ -32,21 +32,14 @@ is_tag Branch = false
 is_tag Tag = true
 
 abbrev pub kind_number : RedirectKind → ℕ
-kind_number Page = 0
-kind_number Exact = 1
-kind_number CleanToHtml = 2
-kind_number HtmlToClean = 3
+kind_number = elim [ Page ↦ 0 | Exact ↦ 1 | CleanToHtml ↦ 2 | HtmlToClean ↦ 3 ]
 
 -- any other number reads as the last
 abbrev pub stored_kind : ℕ → RedirectKind
 stored_kind n = if n == 0 then Page else if n == 1 then Exact else if n == 2 then CleanToHtml else HtmlToClean
 
 abbrev pub action_number : Action → ℕ
-action_number Activate = 0
-action_number Hide = 1
-action_number Public = 2
-action_number Private = 3
-action_number Default = 4
+action_number = elim [ Activate ↦ 0 | Hide ↦ 1 | Public ↦ 2 | Private ↦ 3 | Default ↦ 4 ]
 
 -- any other number reads as the last
 abbrev pub stored_action : ℕ → Action

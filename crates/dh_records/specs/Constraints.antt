@@ -120,3 +120,8 @@ pub record KeepsConstraints (lists : Lists) : Type 0 where
   pub places : AllByRecursion (λ r. AreRedirects (filter (is_redirect_of r.host) lists.redirects)) lists.projects
   -- no redirect has a fault
   pub good : AllByRecursion (λ r. first_fault r.redirect ≡ None) lists.redirects
+
+-- the records are in order and keep the constraints
+pub record AreSound (lists : Lists) : Type 0 where
+  pub order : AreInOrder lists
+  pub constraints : KeepsConstraints lists

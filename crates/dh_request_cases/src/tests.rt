@@ -1,6 +1,6 @@
-//! What no input of the program can show: requests that come in pieces, and sources that fail between two of them.
+//! What no input of the program can show: what comes in pieces, and sources that fail between two of them.
 
-use dh_ports::{Failed, Source};
+use dh_ports::{Failed, Intake, Source};
 use dh_requests::*;
 use dh_world::CommandChange;
 use std::test::Fail;
@@ -13,6 +13,9 @@ struct Pieces<'a> {
     calls: usize,
     stopped: bool,
 }
+
+/// The most calls of a test.
+const CALLS: usize = 200_000;
 
 impl<'a> Source for Pieces<'a> {
     ghost use Rattle.std.specs.Prelude.{Some};
@@ -126,5 +129,43 @@ fn many_reads(rt: HostRuntime) -> Result<(), Fail> {
     let more = long_push(&rt, "\n")?;
     let asked = asks(&rt, more.as_bytes(), 1, 100_000, "1.0.0");
     assert_eq!(rt; asked, Err(Stop::TooManyTurns));
+    Ok(())
+}
+
+/// Reads to the end, in pieces of so many bytes: how many bytes came, or why reading stopped, and how often it asked.
+fn read_all(rt: &HostRuntime, input: &[u8], piece: usize) -> (Result<usize, Stop>, usize) {
+    let mut source = Pieces {
+        rest: input,
+        piece,
+        calls: CALLS,
+        stopped: false,
+    };
+    let mut intake = Intake::new(rt.alloc());
+    for _ in 0..CALLS {
+        if source.failed() {
+            break;
+        }
+        match intake.more(&mut source) {
+            Ok(true) => {}
+            Ok(false) => return (Ok(intake.bytes.len()), CALLS.saturating_sub(source.calls)),
+            Err(stop) => return (Err(stop), CALLS.saturating_sub(source.calls)),
+        }
+    }
+    (Err(Stop::Read), CALLS.saturating_sub(source.calls))
+}
+
+#[test]
+fn reads_to_the_end(rt: HostRuntime) -> Result<(), Fail> {
+    for (len, piece, wanted) in [
+        (0, 1, (Ok(0), 1)),
+        (99_999, 1, (Ok(99_999), 100_000)),
+        (100_000, 1, (Err(Stop::TooManyTurns), 100_000)),
+        (100_000, 4_096, (Ok(100_000), 26)),
+        (100_000, 5_000, (Ok(100_000), 26)),
+    ] {
+        let input = vec![in rt.alloc(); b'a'; len]?;
+        let came = read_all(&rt, input.as_slice(), piece);
+        assert!(rt; came == wanted);
+    }
     Ok(())
 }

@@ -4,10 +4,9 @@ use Rattle.dh_world.specs.World.{World}
 use Rattle.dh_http.specs.Answers as engine
 use Rattle.dh_http.specs.declared.fault.Done.{Done}
 use Rattle.dh_http.specs.declared.fault.EngineFault.{EngineFault}
-use Rattle.dh_http.specs.declared.fault.EngineFault.TheVariants as told
 use Rattle.dh_sample.specs.SampleWorld.{sample_world}
 use Rattle.dh_sample.specs.declared.answer.SampleFault.{SampleFault}
-use Rattle.dh_sample.specs.declared.answer.SampleFault.TheVariants as fault
+use Rattle.dh_sample.specs.declared.answer.SampleFault.TheVariants.{Engine, Store}
 
 -- the answer to the request that the source is, by a desk that has the sample alone
 abbrev pub AnswersSample : Option (List ℕ) → ℕ → List ℕ → Type 0
@@ -15,12 +14,10 @@ AnswersSample left status text =
     (after : World) × engine.AnswersSource left sample_world after status text
 
 -- what the engine told, unless it was not asked
-abbrev pub engine_told : Result ℕ SampleFault → Option (Result Done EngineFault)
-engine_told (Ok status) = Some (Ok (record { status = status }))
-engine_told (Err fault.Read) = Some (Err told.Read)
-engine_told (Err (fault.Write n)) = Some (Err (told.Write n))
-engine_told (Err fault.TooManyTurns) = Some (Err told.TooManyTurns)
-engine_told (Err fault.Store) = None
+abbrev pub engine_told : Result Done SampleFault → Option (Result Done EngineFault)
+engine_told (Ok done) = Some (Ok done)
+engine_told (Err (Engine fault)) = Some (Err fault)
+engine_told (Err Store) = None
 
 -- what was written, by what the engine told; nothing where it was not asked
 abbrev pub WritesTold

@@ -9,15 +9,9 @@ use thiserror::Error;
 /// Why no whole reply was written.
 #[derive(Clone, Copy, Debug, PartialEq, Eq, Error)]
 pub enum SampleFault {
-    /// The reader failed. Nothing was written.
-    #[error("Read")]
-    Read,
-    /// The writer failed or took no byte, and exactly so many bytes of the reply went out.
-    #[error("Write")]
-    Write(usize),
-    /// 100,000 reads without a whole request. Nothing was written.
-    #[error("TooManyTurns")]
-    TooManyTurns,
+    /// The reader or the writer failed, or no whole request came.
+    #[error("{0}")]
+    Engine(EngineFault),
     /// The sample could not be made, though memory was there. Nothing was read or written.
     #[error("Store")]
     Store,
@@ -29,28 +23,26 @@ ghost use Rattle.dh_requests.specs.Needs.{IsNeeded};
 ghost use Rattle.dh_requests.specs.Takes.{TookAtLeast};
 ghost use Rattle.dh_sample.specs.Answer.{AnswersSample, engine_told, WritesTold, reader_failed, writer_failed};
 
-fn told(answered: Result<Done, EngineFault>) -> Result<u16, SampleFault>
+fn told(answered: Result<Done, EngineFault>) -> Result<Done, SampleFault>
     ensures told { engine_told result ≡ Some answered }
-    ensures many { IsErrOf result SampleFault.TooManyTurns
+    ensures many { IsErrOf result (SampleFault.Engine EngineFault.TooManyTurns)
         → IsErrOf answered EngineFault.TooManyTurns }
 {
     match answered {
-        Ok(done) => Ok(done.status),
-        Err(EngineFault::Read) => Err(SampleFault::Read),
-        Err(EngineFault::Write(count)) => Err(SampleFault::Write(count)),
-        Err(EngineFault::TooManyTurns) => Err(SampleFault::TooManyTurns),
+        Ok(done) => Ok(done),
+        Err(fault) => Err(SampleFault::Engine(fault)),
     }
 }
 
-/// Reads one request, does what it asks for, and writes the whole reply to it, over a desk with the sample project alone. It
-/// answers the status of the reply.
+/// Reads one request, does what it asks for, and writes the whole reply to it, over a desk with the sample
+/// project alone.
 ///
 /// Where memory is out while the desk is made, the reply is 503 before anything is read.
 pub fn answer_sample<R: Source, W: Sink>(
     alloc: Global,
     source: &mut R,
     sink: &mut W,
-) -> Result<u16, SampleFault>
+) -> Result<Done, SampleFault>
     requires reader { R.broken source.old ≡ false }
     requires writer { W.broken sink.old ≡ false }
     ensures writes { WritesTold (AnswersSample (R.left source.old))
@@ -59,9 +51,9 @@ pub fn answer_sample<R: Source, W: Sink>(
     ensures writer_fault { W.broken sink.new ≡ writer_failed (engine_told result) }
     ensures needed { IsNeeded (R.left source.old) (R.left source.new)
         (if reader_failed (engine_told result) then 0 else 4096) }
-    ensures turns { IsErrOf result SampleFault.TooManyTurns
+    ensures turns { IsErrOf result (SampleFault.Engine EngineFault.TooManyTurns)
         → TookAtLeast (R.left source.old) (R.left source.new) 100000 }
-    ensures full { IsErrOf result SampleFault.TooManyTurns
+    ensures full { IsErrOf result (SampleFault.Engine EngineFault.TooManyTurns)
         → CountsAtLeast (R.fills source.old) (R.fills source.new) 100000 }
     ensures reads { CountsUpTo (R.fills source.old) (R.fills source.new) 100000 }
     ensures unasked { IsErrOf result SampleFault.Store

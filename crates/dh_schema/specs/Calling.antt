@@ -1,5 +1,5 @@
 -- What a call on the tables leaves, in the words of `dh_rows`, over the lists that the tables spell.
-use Rattle.std.specs.Prelude.{◌≡◌, ◌⊎◌, ℕ, List, false, map, Result, Vec, IfOk, OnOk}
+use Rattle.std.specs.Prelude.{◌≡◌, ◌⊎◌, ℕ, List, true, false, map, Result, Vec, IfOk, OnOk}
 use Rattle.std.specs.List.{AllByRecursion}
 use Rattle.sqlite_value.specs.Order.{Row}
 use Rattle.sqlite_trees.specs.declared.store.Store.{Ghosts}
@@ -8,6 +8,7 @@ use Rattle.sqlite.specs.Held.{Held, state}
 use Rattle.dh_lookup.specs.Faults.{OnStore}
 use Rattle.dh_lookup.specs.declared.fault.Fault.{Fault}
 use Rattle.dh_rows.specs.Calls.{AreRows, IsHonest, IsBlamed, IsUnfit, Goes, GoesWithin, Stays, Refuses, Sees, CommitsAtMost, seen, committed}
+use Rattle.dh_rows.specs.Keyed.{Coding, IsFreeKey}
 use Rattle.dh_records.specs.Lists.{Lists}
 use Rattle.dh_schema.specs.Tables.{lists_of}
 
@@ -27,6 +28,18 @@ module _ {S : Type 0} (g : Ghosts S) where
   abbrev pub KeepsSchema : Held S → Held S → Type 0
   KeepsSchema old new =
       IsHonest g new → (state g new).committed.schema ≡ (state g old).committed.schema
+
+  -- Where the store is honest, this holds of the records.
+  abbrev pub HasRecords : Held S → (Lists → Type 0) → Type 0
+  HasRecords h fact = IsHonest g h → fact (seen g lists_of h)
+
+  -- Where the store is honest, no record of a list has this one's key.
+  abbrev pub Lacks : {R : Type 0} → Held S → Coding R → (Lists → List R) → R → Type 0
+  Lacks h coding part row = HasRecords h (λ l. IsFreeKey coding.key row (part l))
+
+  -- Where the store is honest, a transaction is open.
+  abbrev pub IsWithin : Held S → Type 0
+  IsWithin h = IsHonest g h → h.in_transaction ≡ true
 
   -- no transaction is open, and what is seen was committed
   pub record IsSettled (h : Held S) : Type 0 where

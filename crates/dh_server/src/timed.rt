@@ -1,6 +1,6 @@
 //! Ports that fail once their time is over.
 
-ghost use Rattle.std.specs.Prelude.{◌≡◌, ◌||◌, false};
+ghost use Rattle.std.specs.Prelude.{◌≡◌, ◌||◌, false, is_err};
 
 use dh_ports::{Failed, Sink, Source};
 use std::time::{Clock, Duration, Instant};
@@ -41,6 +41,18 @@ impl<T: Clock, P> Timed<T, P> {
             None => false,
         }
     }
+
+    /// Fails once the time is over.
+    fn check_time(&mut self) -> Result<(), Failed>
+        ensures inner { self.new.inner ≡ self.old.inner }
+        ensures late { self.new.is_late ≡ (self.old.is_late || is_err result) }
+    {
+        if self.is_over() {
+            self.is_late = true;
+            return Err(Failed);
+        }
+        Ok(())
+    }
 }
 
 impl<T: Clock, R: Source> Source for Timed<T, R> {
@@ -49,10 +61,7 @@ impl<T: Clock, R: Source> Source for Timed<T, R> {
     ghost broken = { λ timed. R.broken timed.inner || timed.is_late };
 
     fn fill(&mut self, room: &mut [u8]) -> Result<usize, Failed> {
-        if self.is_over() {
-            self.is_late = true;
-            return Err(Failed);
-        }
+        self.check_time()?;
         self.inner.fill(room)
     }
 
@@ -67,10 +76,7 @@ impl<T: Clock, W: Sink> Sink for Timed<T, W> {
     ghost broken = { λ timed. W.broken timed.inner || timed.is_late };
 
     fn put(&mut self, piece: &[u8]) -> Result<usize, Failed> {
-        if self.is_over() {
-            self.is_late = true;
-            return Err(Failed);
-        }
+        self.check_time()?;
         self.inner.put(piece)
     }
 

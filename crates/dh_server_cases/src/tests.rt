@@ -5,7 +5,7 @@ mod handed;
 mod logs;
 mod streams;
 
-use dh_ports::Port;
+use dh_ports::{Failed, Port, Sink};
 use dh_sample::sample_desk;
 use dh_server::{Listening, Log, serve_on};
 use std::io;
@@ -18,6 +18,37 @@ const INSTALL: &str = "GET /en/latest/install.html HTTP/1.1\r\nHost: docs.test\r
 
 const PAGE: &str =
     "HTTP/1.1 200 OK\r\nContent-Type: text/html; charset=utf-8\r\nContent-Length: 17\r\nConnection: close\r\n\r\n<h1>Install</h1>\n";
+
+/// A sink that takes so many bytes, and counts the calls.
+#[derive(Drop)]
+struct Counter {
+    room: usize,
+    calls: usize,
+    stopped: bool,
+}
+
+impl Sink for Counter {
+    ghost use Rattle.std.specs.Prelude.{None};
+
+    ghost held = { λ _. None };
+
+    ghost broken = { λ counter. counter.stopped };
+
+    fn put(&mut self, piece: &[u8]) -> Result<usize, Failed> {
+        self.calls = self.calls.saturating_add(1);
+        if self.room == 0 {
+            self.stopped = true;
+            return Err(Failed);
+        }
+        let count = piece.len().min(self.room);
+        self.room -= count;
+        Ok(count)
+    }
+
+    fn failed(&self) -> bool {
+        self.stopped
+    }
+}
 
 fn listen(rt: &HostRuntime) -> Result<TcpListener, Fail> {
     Ok(TcpListener::bind(rt, SocketAddr::from((Ipv4Addr::LOCALHOST, 0)))?)

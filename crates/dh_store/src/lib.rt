@@ -3,4 +3,4 @@
 
 pub mod tables;
 
-pub use tables::Tables;
+pub use tables::{Listed, Tables};

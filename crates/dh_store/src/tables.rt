@@ -11,19 +11,19 @@ ghost use Rattle.dh_schema.specs.Tables.{Holds, lists_of};
 ghost use Rattle.dh_records.specs.Lists as spec;
 
 mod defaults;
-mod languages;
+mod listing;
+mod lists;
 mod pages;
 mod passes;
 mod projects;
-mod redirects;
 mod retry_keys;
-mod rules;
 mod statement;
 mod versions;
 
 use dh_lookup::Fault;
 use dh_records::fault_of;
 use dh_schema::make_tables;
+pub use listing::Listed;
 use sqlite::{Alter, Connection, MemStore};
 use std::alloc::Global;
 use std::marker::Model;

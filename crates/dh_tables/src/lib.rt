@@ -5,4 +5,4 @@ pub use dh_records::{
     HeldRow, LangRow, PageRow, PassRow, PickRow, ProjectRow, RedirectRow, RuleRow, UsedRow,
     VersionRow,
 };
-pub use dh_store::Tables;
+pub use dh_store::{Listed, Tables};

@@ -1,5 +1,4 @@
 pub mod Turning
-pub mod EditLemmas
 pub mod OpenLemmas
 pub mod Working
 pub mod Crashing

@@ -21,7 +21,7 @@ use Rattle.dh_records.specs.declared.records.LangRow.{LangRow}
 use Rattle.dh_records.specs.declared.records.ProjectRow.{ProjectRow}
 use Rattle.dh_transactions.proofs.Turning.{turn_at}
 use Rattle.dh_transactions.specs.Opening.{project_row, main_lang, with_row, with_project}
-use Rattle.dh_tables.specs.Sound.{AreSound}
+use Rattle.dh_records.specs.Constraints.{AreSound}
 use Rattle.dh_transactions.specs.Steps.{Turns}
 use Rattle.dh_world.specs.Step.{settled}
 use Rattle.dh_world.specs.World.{Text}

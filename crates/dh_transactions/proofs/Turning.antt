@@ -6,7 +6,7 @@ use Rattle.std.proofs.lemmas.Result.{err_from_is_err_and}
 use Rattle.dh_checks.specs.Commands.{change_of, command_of}
 use Rattle.dh_checks.specs.declared.checked.CheckedChange.{CheckedChange}
 use Rattle.dh_records.specs.Lists.{Lists, world_of}
-use Rattle.dh_tables.specs.Sound.{AreSound}
+use Rattle.dh_records.specs.Constraints.{AreSound}
 use Rattle.dh_transactions.specs.Steps.{Turns, Steps}
 use Rattle.dh_world.specs.Checks.{IsFault}
 use Rattle.dh_world.specs.Step.{RuleRefused, IsSetAside, change_at, settled, turn, step, after_texts}

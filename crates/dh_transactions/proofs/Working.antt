@@ -8,11 +8,11 @@ use Rattle.dh_plans.specs.Planned.{Planned}
 use Rattle.dh_checks.specs.declared.checked.CheckedChange.{CheckedChange}
 use Rattle.dh_plans.specs.declared.facts.Facts.{Facts}
 use Rattle.dh_records.specs.Lists.{Lists, world_of}
-use Rattle.dh_transactions.proofs.EditLemmas.{all_may, all_spell}
+use Rattle.dh_row_edits.proofs.EditLemmas.{all_may, all_spell}
 use Rattle.dh_transactions.proofs.Turning.{turn_at}
 use Rattle.dh_looks.specs.Finding.{FindsFacts}
-use Rattle.dh_edits.specs.RowEdits.{RowsMayAll, all_rows_edited}
-use Rattle.dh_tables.specs.Sound.{AreSound}
+use Rattle.dh_row_edits.specs.RowEdits.{RowsMayAll, all_rows_edited}
+use Rattle.dh_records.specs.Constraints.{AreSound}
 use Rattle.dh_transactions.specs.Steps.{Turns}
 use Rattle.dh_world.specs.Changes as world
 use Rattle.dh_world.specs.Step.{settled, PushRefused, PushRefusedAt}

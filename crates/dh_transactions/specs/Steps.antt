@@ -7,7 +7,7 @@ use Rattle.sqlite.specs.State.{HasCleanDisk}
 use Rattle.dh_rows.specs.Calls.{IsHonest, LeavesNoMore}
 use Rattle.dh_records.specs.Lists.{Lists, world_of}
 use Rattle.dh_tables.specs.Going.{IsOver, last_records}
-use Rattle.dh_tables.specs.Sound.{AreSound}
+use Rattle.dh_records.specs.Constraints.{AreSound}
 use Rattle.dh_transactions.specs.Crashes.{LeavesStep}
 use Rattle.dh_world.specs.Checks.{IsFault}
 use Rattle.dh_world.specs.Step.{turn, step, PushRefusedAt, IsSetAside}

@@ -3,13 +3,12 @@ ghost use Rattle.std.specs.Prelude.{◌≡◌, false, None, IfOk, OnOk};
 ghost use Rattle.std.specs.FinMap.{get};
 ghost use Rattle.dh_checks.specs.Commands.{command_of};
 ghost use Rattle.dh_rows.specs.Calls.{IsHonest, GoesWithin};
-ghost use Rattle.dh_rows.specs.Keyed.{IsFreeKey};
 ghost use Rattle.dh_records.specs.Codings as coding;
 ghost use Rattle.dh_records.specs.Lists.{world_of};
 ghost use Rattle.dh_records.specs.Constraints.{has_language};
-ghost use Rattle.dh_tables.specs.Going.{Makes, Stays, records};
+ghost use Rattle.dh_tables.specs.Going.{HasRecords, Lacks, Makes, Stays, records};
 ghost use Rattle.dh_transactions.specs.Opening.{project_row, main_lang, with_row, with_lang, with_project};
-ghost use Rattle.dh_tables.specs.Sound.{AreSound};
+ghost use Rattle.dh_records.specs.Constraints.{AreSound};
 ghost use Rattle.dh_transactions.specs.Steps.{Turns};
 
 use dh_checks::{CheckedChange, NewProject, ProjectSettings};
@@ -51,8 +50,7 @@ fn rows_of(
 }
 
 fn add_row<S: Alter>(tables: &mut Tables<S>, row: &ProjectRow) -> Result<(), Refusal>
-    requires free { IsHonest S.Store tables.old
-        → IsFreeKey coding.projects.key row.now (records S.Store tables.old).projects }
+    requires free { Lacks S.Store tables.old coding.projects (λ l. l.projects) row.now }
     ensures makes { Makes S.Store tables.old tables.new result
         (with_row row.now) }
 {
@@ -60,10 +58,9 @@ fn add_row<S: Alter>(tables: &mut Tables<S>, row: &ProjectRow) -> Result<(), Ref
 }
 
 fn add_main<S: Alter>(tables: &mut Tables<S>, lang: &LangRow) -> Result<(), Refusal>
-    requires free { IsHonest S.Store tables.old
-        → IsFreeKey coding.langs.key lang.now (records S.Store tables.old).langs }
-    requires new { IsHonest S.Store tables.old
-        → has_language (records S.Store tables.old) lang.now.host lang.now.lang ≡ false }
+    requires free { Lacks S.Store tables.old coding.langs (λ l. l.langs) lang.now }
+    requires new { HasRecords S.Store tables.old
+        (λ l. has_language l lang.now.host lang.now.lang ≡ false) }
     ensures makes { Makes S.Store tables.old tables.new result
         (with_lang lang.now) }
 {
@@ -77,9 +74,8 @@ fn add_project<S: Alter>(
     host: &HostName,
     project: NewProject,
 ) -> Result<(), Refusal>
-    requires sound { IsHonest S.Store tables.old → AreSound (records S.Store tables.old) }
-    requires none { IsHonest S.Store tables.old
-        → get (world_of (records S.Store tables.old)) host.now ≡ None }
+    requires sound { HasRecords S.Store tables.old AreSound }
+    requires none { HasRecords S.Store tables.old (λ l. get (world_of l) host.now ≡ None) }
     ensures makes { Makes S.Store tables.old tables.new result
         (with_project host.now project) }
 {
@@ -95,9 +91,8 @@ pub fn open_project<S: Alter>(
     host: &HostName,
     change: CheckedChange<'_>,
 ) -> Result<Answer, Refusal>
-    requires sound { IsHonest S.Store tables.old → AreSound (records S.Store tables.old) }
-    requires none { IsHonest S.Store tables.old
-        → get (world_of (records S.Store tables.old)) host.now ≡ None }
+    requires sound { HasRecords S.Store tables.old AreSound }
+    requires none { HasRecords S.Store tables.old (λ l. get (world_of l) host.now ≡ None) }
     ensures goes { GoesWithin S.Store tables.old tables.new }
     ensures live { OnOk result (Stays S.Store tables.old tables.new) }
     ensures turns { IsHonest S.Store tables.new

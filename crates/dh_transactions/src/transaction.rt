@@ -1,13 +1,13 @@
 //! A command as one transaction.
-ghost use Rattle.std.specs.Prelude.{◌≡◌, ◌⊎◌, true, false, Ok, Err, IfOk, IfErr, OnOk};
+ghost use Rattle.std.specs.Prelude.{◌≡◌, ◌⊎◌, false, Ok, Err, IfOk, IfErr, OnOk};
 ghost use Rattle.sqlite.specs.Held.{state};
 ghost use Rattle.sqlite.specs.State.{HasCleanDisk};
 ghost use Rattle.dh_checks.specs.Commands.{command_of};
 ghost use Rattle.dh_rows.specs.Calls.{IsHonest, LeavesNoMore, Goes};
 ghost use Rattle.dh_world.specs.Checks.{IsFault};
 ghost use Rattle.dh_transactions.specs.Crashes.{LeavesEnd};
-ghost use Rattle.dh_tables.specs.Going.{Stays, IsOver, records, last_records};
-ghost use Rattle.dh_tables.specs.Sound.{AreSound};
+ghost use Rattle.dh_tables.specs.Going.{HasRecords, IsOver, IsWithin, Stays, records, last_records};
+ghost use Rattle.dh_records.specs.Constraints.{AreSound};
 ghost use Rattle.dh_transactions.specs.Steps.{Transacts, Turns};
 
 use crate::opening::open_project;
@@ -29,8 +29,8 @@ fn work<S: Alter>(
     host: &HostName,
     change: CheckedChange<'_>,
 ) -> Result<Answer, Refusal>
-    requires within { IsHonest S.Store tables.old → tables.old.in_transaction ≡ true }
-    requires sound { IsHonest S.Store tables.old → AreSound (records S.Store tables.old) }
+    requires within { IsWithin S.Store tables.old }
+    requires sound { HasRecords S.Store tables.old AreSound }
     ensures goes { Goes S.Store tables.old tables.new }
     ensures live { OnOk result (Stays S.Store tables.old tables.new) }
     ensures turns { IsHonest S.Store tables.new

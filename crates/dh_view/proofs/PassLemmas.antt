@@ -6,7 +6,6 @@ use Rattle.std.specs.Str.{bytes_eq}
 use Rattle.dh_versions.specs.declared.version.Version.{Version}
 use Rattle.dh_records.specs.declared.records.ProjectRow.{ProjectRow}
 use Rattle.dh_records.specs.declared.records.VersionRow.{VersionRow}
-use Rattle.dh_records.specs.declared.records.PassRow.{PassRow}
 use Rattle.dh_records.specs.declared.records.HeldRow.{HeldRow}
 use Rattle.dh_world.specs.World.{Text, holds, may_see}
 use Rattle.dh_records.specs.Lists.{Lists, project_of, is_pass, is_held, is_held_by}
@@ -21,12 +20,12 @@ module _ (lists : Lists) (row : ProjectRow) (pass : Option Text) (own : Text) (i
   held_as slug = ap (λ p. holds (project_of lists row) p slug) is ∙ holds_is lists row own slug
 
   -- of a pass that is the project's the grants decide
-  pub held_known : (o : Option PassRow) (r : PassRow) → o ≡ find (is_pass row.host own) lists.passes → o ≡ Some r → (slug : Text) → is_some (find (is_held row.host own slug) lists.held) ≡ held slug
-  held_known o r e some slug = sym (held_as slug ∙ ap (λ o. is_some o && is_some (find (is_held row.host own slug) lists.held)) (sym e ∙ some))
+  pub held_known : is_some (find (is_pass row.host own) lists.passes) ≡ true → (slug : Text) → is_some (find (is_held row.host own slug) lists.held) ≡ held slug
+  held_known known slug = sym (held_as slug ∙ ap (λ b. b && is_some (find (is_held row.host own slug) lists.held)) known)
 
   -- one that is not opens nothing
-  pub held_unknown : (o : Option PassRow) → o ≡ find (is_pass row.host own) lists.passes → o ≡ None → (slug : Text) → false ≡ held slug
-  held_unknown o e none slug = sym (held_as slug ∙ ap (λ o. is_some o && is_some (find (is_held row.host own slug) lists.held)) (sym e ∙ none))
+  pub held_unknown : is_some (find (is_pass row.host own) lists.passes) ≡ false → (slug : Text) → false ≡ held slug
+  held_unknown unknown slug = sym (held_as slug ∙ ap (λ b. b && is_some (find (is_held row.host own slug) lists.held)) unknown)
 
   opens_held : (slug : Text) (rows : List HeldRow) → opens (filter (is_held_by row.host own) rows) slug ≡ is_some (find (is_held row.host own slug) rows)
   opens_held slug [] = refl
@@ -39,8 +38,8 @@ module _ (lists : Lists) (row : ProjectRow) (pass : Option Text) (own : Text) (i
       go false b e more = more
 
   -- the grants of a pass that is the project's
-  pub grants_open : (o : Option PassRow) (r : PassRow) → o ≡ find (is_pass row.host own) lists.passes → o ≡ Some r → (grants : List HeldRow) → grants ≡ filter (is_held_by row.host own) lists.held → (slug : Text) → opens grants slug ≡ held slug
-  grants_open o r e some grants g slug = ap (λ l. opens l slug) g ∙ opens_held slug lists.held ∙ held_known o r e some slug
+  pub grants_open : is_some (find (is_pass row.host own) lists.passes) ≡ true → (grants : List HeldRow) → grants ≡ filter (is_held_by row.host own) lists.held → (slug : Text) → opens grants slug ≡ held slug
+  grants_open known grants g slug = ap (λ l. opens l slug) g ∙ opens_held slug lists.held ∙ held_known known slug
 
 -- no grants open nothing
 pub none_open : (grants : List HeldRow) → grants ≡ [] → (slug : Text) → opens grants slug ≡ false

@@ -14,7 +14,6 @@ use Rattle.dh_versions.specs.declared.version.Version.{Version}
 use Rattle.dh_versions.specs.Aliases.{latest_of, stable_of}
 use Rattle.dh_lookup.specs.declared.found.Named.{Named}
 use Rattle.dh_lookup.specs.declared.seen_project.SeenProject.{SeenProject}
-use Rattle.dh_redirects.specs.declared.redirect.Redirect.{Redirect}
 use Rattle.dh_lookup.specs.SeenProject.{resolved, alias_of, page_at}
 use Rattle.dh_records.specs.declared.records.ProjectRow.{ProjectRow}
 use Rattle.dh_records.specs.declared.records.VersionRow.{VersionRow}

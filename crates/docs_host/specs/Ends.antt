@@ -10,6 +10,7 @@ use Rattle.clap.specs.Kinds.{IsAmong}
 use Rattle.clap.specs.declared.error.kind.ErrorKind.{ErrorKind}
 use Rattle.clap.specs.declared.error.kind.ErrorKind.TheVariants.{DisplayHelp}
 use Rattle.dh_world.specs.World.{Text, World}
+use Rattle.dh_http.specs.declared.fault.Done.{Done as Answered}
 use Rattle.dh_sample.specs.Answer.{AnswersSample, WritesTold, engine_told}
 use Rattle.dh_sample.specs.declared.answer.SampleFault.{SampleFault}
 use Rattle.dh_lines.specs.App.{docs_app}
@@ -26,11 +27,7 @@ use Rattle.docs_host.specs.declared.failure.Status.{Status}
 use Rattle.docs_host.specs.declared.failure.Status.TheVariants.{Done, Refused, Usage, Faulty, Unanswered}
 
 abbrev pub exit_code : Status → ℕ
-exit_code Done = 0
-exit_code Refused = 1
-exit_code Usage = 2
-exit_code Faulty = 3
-exit_code Unanswered = 4
+exit_code = elim [ Done ↦ 0 | Refused ↦ 1 | Usage ↦ 2 | Faulty ↦ 3 | Unanswered ↦ 4 ]
 
 abbrev pub status_after : Failure → Status
 status_after (failure.File fault) = Faulty
@@ -66,7 +63,7 @@ EndsScript left held now _ = ⊥
 -- 0: an answer over the sample, or a 503, was written; 4: not all of it; 3: nothing
 abbrev pub EndsRequest : Option Text → Option Text → Option Text → Status → Type 0
 EndsRequest left held now Done =
-    (code : ℕ) × WritesTold (AnswersSample left) held now (engine_told (Ok code))
+    (done : Answered) × WritesTold (AnswersSample left) held now (engine_told (Ok done))
 EndsRequest left held now Unanswered =
     (fault : SampleFault) × WritesTold (AnswersSample left) held now (engine_told (Err fault))
 EndsRequest left held now Faulty = now ≡ held

@@ -18,9 +18,7 @@ failure_of lookup.Store = Store
 failure_of lookup.Memory = Memory
 
 abbrev pub failure_of_sample : SampleFault → Failure
-failure_of_sample sample.Read = Request engine.Read
-failure_of_sample (sample.Write count) = Request (engine.Write count)
-failure_of_sample sample.TooManyTurns = Request engine.TooManyTurns
+failure_of_sample (sample.Engine fault) = Request fault
 failure_of_sample sample.Store = Store
 
 -- ---- names

@@ -200,9 +200,7 @@ impl From<SampleFault> for Failure {
 
     fn from(fault: SampleFault) -> Failure {
         match fault {
-            SampleFault::Read => Failure::Request(EngineFault::Read),
-            SampleFault::Write(count) => Failure::Request(EngineFault::Write(count)),
-            SampleFault::TooManyTurns => Failure::Request(EngineFault::TooManyTurns),
+            SampleFault::Engine(fault) => Failure::Request(fault),
             SampleFault::Store => Failure::Store,
         }
     }

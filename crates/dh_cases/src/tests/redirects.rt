@@ -3,88 +3,67 @@
 use dh_paths::{Text, TextFault};
 use dh_redirects::{BadRedirect, Redirect, RedirectKind};
 use std::alloc::Global;
-use std::process::Abort;
 use std::test::Fail;
 
-fn redirect(
+/// What the check of a redirect says.
+fn checked(
     alloc: Global,
     kind: RedirectKind,
     status: u16,
     source: &str,
     target: &str,
-) -> Result<Redirect, TextFault> {
-    Ok(Redirect {
+) -> Result<Result<(), BadRedirect>, TextFault> {
+    let redirect = Redirect {
         kind,
         source: Text::copy_of(alloc, source)?,
         target: Text::copy_of(alloc, target)?,
         status,
         force: false,
-    })
-}
-
-/// What the check of a redirect says.
-fn checked(
-    rt: &impl Abort,
-    alloc: Global,
-    kind: RedirectKind,
-    status: u16,
-    source: &str,
-    target: &str,
-    wanted: Result<(), BadRedirect>,
-) -> Result<(), TextFault> {
-    let rule = redirect(alloc, kind, status, source, target)?;
-    assert_eq!(rt; rule.check(), wanted);
-    Ok(())
+    };
+    Ok(redirect.check())
 }
 
 #[test]
 fn faults(rt: HostRuntime) -> Result<(), Fail> {
-    let alloc = rt.alloc();
-    checked(
-        &rt,
-        alloc,
-        RedirectKind::Page,
-        303,
-        "a",
-        "b",
-        Err(BadRedirect::BadSource),
-    )?;
-    checked(
-        &rt,
-        alloc,
-        RedirectKind::Exact,
-        302,
-        "/*/a*",
-        "/b",
-        Err(BadRedirect::EarlyStar),
-    )?;
-    checked(
-        &rt,
-        alloc,
-        RedirectKind::Exact,
-        302,
-        "/*",
-        "https://:splat/x",
-        Err(BadRedirect::BadTarget),
-    )?;
-    checked(
-        &rt,
-        alloc,
-        RedirectKind::Exact,
-        301,
-        "/*",
-        "https://new.test?:splat",
-        Ok(()),
-    )?;
-    checked(
-        &rt,
-        alloc,
-        RedirectKind::CleanToHtml,
-        307,
-        "",
-        "/b",
-        Err(BadRedirect::UnusedText),
-    )?;
+    for (kind, status, source, target, wanted) in [
+        (
+            RedirectKind::Page,
+            303,
+            "a",
+            "b",
+            Err(BadRedirect::BadSource),
+        ),
+        (
+            RedirectKind::Exact,
+            302,
+            "/*/a*",
+            "/b",
+            Err(BadRedirect::EarlyStar),
+        ),
+        (
+            RedirectKind::Exact,
+            302,
+            "/*",
+            "https://:splat/x",
+            Err(BadRedirect::BadTarget),
+        ),
+        (
+            RedirectKind::Exact,
+            301,
+            "/*",
+            "https://new.test?:splat",
+            Ok(()),
+        ),
+        (
+            RedirectKind::CleanToHtml,
+            307,
+            "",
+            "/b",
+            Err(BadRedirect::UnusedText),
+        ),
+    ] {
+        assert_eq!(rt; checked(rt.alloc(), kind, status, source, target)?, wanted);
+    }
     assert_eq!(rt; BadRedirect::BadSource.number(), 1);
     assert_eq!(rt; BadRedirect::UnusedText.number(), 6);
     Ok(())

@@ -1,7 +1,7 @@
 //! The line for each connection.
 
-use super::{INSTALL, PAGE, client, listen, received};
-use dh_ports::{Failed, Port, Sink};
+use super::{Counter, INSTALL, PAGE, client, listen, received};
+use dh_ports::Port;
 use dh_sample::sample_desk;
 use dh_server::{Listening, Log, serve_on};
 use std::io;
@@ -63,35 +63,16 @@ fn no_line_is_told_by_a_hyphen(rt: HostRuntime) -> Result<(), Fail> {
     Ok(())
 }
 
-/// A sink that takes nothing.
-#[derive(Drop)]
-struct Full {
-    stopped: bool,
-}
-
-impl Sink for Full {
-    ghost use Rattle.std.specs.Prelude.{None};
-
-    ghost held = { λ _. None };
-
-    ghost broken = { λ full. full.stopped };
-
-    fn put(&mut self, _piece: &[u8]) -> Result<usize, Failed> {
-        self.stopped = true;
-        Err(Failed)
-    }
-
-    fn failed(&self) -> bool {
-        self.stopped
-    }
-}
-
 fn full_log_does_not_stop_it(rt: &HostRuntime) -> Result<bool, Fail> {
     let listener = listen(rt)?;
     let one = client(rt, &listener, INSTALL)?;
     let other = client(rt, &listener, INSTALL)?;
     let mut desk = sample_desk(rt.alloc())?;
-    let mut errors = Full { stopped: false };
+    let mut errors = Counter {
+        room: 0,
+        calls: 0,
+        stopped: false,
+    };
     let log = Log::new(Still, true);
     let mut listening = Listening::new(&listener);
     let served = serve_on(rt.alloc(), &mut desk, &mut listening, 2, &log, &mut errors);

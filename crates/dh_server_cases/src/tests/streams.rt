@@ -12,12 +12,6 @@ fn page_is_served(rt: &HostRuntime) -> Result<bool, Fail> {
     Ok(served == 1 && received(rt, good)?.as_str() == PAGE)
 }
 
-#[test]
-fn a_page_is_served(rt: HostRuntime) -> Result<(), Fail> {
-    assert!(rt; page_is_served(&rt)?);
-    Ok(())
-}
-
 /// One client closes at once, one stops after half a head, and the third one is good.
 fn others_do_not_stop_it(rt: &HostRuntime) -> Result<bool, Fail> {
     let listener = listen(rt)?;
@@ -34,12 +28,6 @@ fn others_do_not_stop_it(rt: &HostRuntime) -> Result<bool, Fail> {
     )
 }
 
-#[test]
-fn bad_clients_do_not_stop_it(rt: HostRuntime) -> Result<(), Fail> {
-    assert!(rt; others_do_not_stop_it(&rt)?);
-    Ok(())
-}
-
 /// The body of a refused request waits unread, and the reply comes whole all the same.
 fn refusal_comes_whole(rt: &HostRuntime) -> Result<bool, Fail> {
     let listener = listen(rt)?;
@@ -53,8 +41,10 @@ fn refusal_comes_whole(rt: &HostRuntime) -> Result<bool, Fail> {
 }
 
 #[test]
-fn a_refusal_comes_whole(rt: HostRuntime) -> Result<(), Fail> {
-    assert!(rt; refusal_comes_whole(&rt)?);
+fn clients_get_replies(rt: HostRuntime) -> Result<(), Fail> {
+    assert!(rt; page_is_served(&rt)?, "a good one");
+    assert!(rt; others_do_not_stop_it(&rt)?, "one behind bad ones");
+    assert!(rt; refusal_comes_whole(&rt)?, "one that is refused");
     Ok(())
 }
 

@@ -1,12 +1,10 @@
 //! The calls on defaults.
 
-ghost use Rattle.std.specs.Prelude.{◌≡◌, pos, true, false, filter, IfOk};
+ghost use Rattle.std.specs.Prelude.{◌≡◌, pos, false, IfOk};
 ghost use Rattle.std.specs.List.{AllByRecursion, IsDistinct};
 ghost use Rattle.std.specs.Str.{bytes_eq};
-ghost use Rattle.dh_rows.specs.Calls.{IsHonest, seen};
-ghost use Rattle.dh_rows.specs.Keyed.{IsFreeKey};
-ghost use Rattle.dh_schema.specs.Calling.{ReadsAll, Writes, WritesWithin};
-ghost use Rattle.dh_schema.specs.Tables.{lists_of};
+ghost use Rattle.dh_rows.specs.Calls.{IsHonest};
+ghost use Rattle.dh_schema.specs.Calling.{HasRecords, IsWithin, Lacks, Writes, WritesWithin};
 ghost use Rattle.dh_records.specs.Changes as change;
 ghost use Rattle.dh_records.specs.Codings as coding;
 ghost use Rattle.dh_records.specs.Lists as spec;
@@ -29,20 +27,10 @@ fn signed(rank: u64) -> Result<i64, Fault>
 }
 
 impl<S: Alter> Tables<S> {
-    /// The defaults of a project, in the order of their ranks.
-    pub fn picks(&mut self, alloc: Global, host: &HostName) -> Result<Vec<PickRow>, Fault>
-        ensures { ReadsAll S.Store self.old self.new result
-            (λ l. filter (spec.is_pick_of host.now) l.picks) }
-    {
-        let sql = "SELECT host, name, rank FROM pick WHERE host = ?1 ORDER BY host, rank";
-        self.all_records(alloc, sql, params![host.as_str()])
-    }
-
     /// Adds a default, whose rank is free.
     fn add_pick(&mut self, host: &HostName, name: &Slug, rank: u64) -> Result<(), Fault>
-        requires free { IsHonest S.Store self.old
-            → IsFreeKey coding.picks.key (spec.pick_row host.now name.now rank)
-            (seen S.Store lists_of self.old).picks }
+        requires free { Lacks S.Store self.old coding.picks (λ l. l.picks)
+            (spec.pick_row host.now name.now rank) }
         ensures writes { Writes S.Store self.old self.new result
             (change.add_pick (spec.pick_row host.now name.now rank)) }
     {
@@ -62,10 +50,9 @@ impl<S: Alter> Tables<S> {
 
     /// Adds the defaults of a project that has none.
     fn put_picks(&mut self, host: &HostName, names: &[Slug]) -> Result<(), Fault>
-        requires within { IsHonest S.Store self.old → self.old.in_transaction ≡ true }
-        requires bare { IsHonest S.Store self.old
-            → AllByRecursion (λ r. spec.is_pick_of host.now r ≡ false)
-            (seen S.Store lists_of self.old).picks }
+        requires within { IsWithin S.Store self.old }
+        requires bare { HasRecords S.Store self.old
+            (λ l. AllByRecursion (λ r. spec.is_pick_of host.now r ≡ false) l.picks) }
         ensures writes { WritesWithin S.Store self.old self.new result
             (change.with_picks (spec.ranked host.now 1 names.now)) }
     {
@@ -77,7 +64,7 @@ impl<S: Alter> Tables<S> {
 
     /// Sets the defaults of a project, the newest first, each once, within a transaction. A call that is refused may leave some of them until the transaction ends.
     pub fn set_picks(&mut self, host: &HostName, names: &[Slug]) -> Result<(), Fault>
-        requires within { IsHonest S.Store self.old → self.old.in_transaction ≡ true }
+        requires within { IsWithin S.Store self.old }
         requires apart { IsHonest S.Store self.old → IsDistinct bytes_eq names.now }
         ensures writes { WritesWithin S.Store self.old self.new result
             (change.set_picks host.now names.now) }

@@ -36,8 +36,10 @@ impl<S: Alter> Tables<S> {
     pub fn put_page(&mut self, row: &PageRow) -> Result<(), Fault>
         ensures writes { Writes S.Store self.old self.new result (change.put_page row.now) }
     {
+        let sql =
+            "INSERT INTO page VALUES (?1, ?2, ?3, ?4, ?5, ?6) ON CONFLICT (host, slug, lang, path) DO UPDATE SET media = ?5, body = ?6";
         self.write(
-            "INSERT INTO page VALUES (?1, ?2, ?3, ?4, ?5, ?6) ON CONFLICT (host, slug, lang, path) DO UPDATE SET media = ?5, body = ?6",
+            sql,
             params![
                 row.host.as_str(),
                 row.slug.as_str(),

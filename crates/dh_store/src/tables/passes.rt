@@ -1,10 +1,7 @@
 //! The calls on passes and grants.
 
 ghost use Rattle.std.specs.Prelude.{filter, find, is_some, length};
-ghost use Rattle.dh_rows.specs.Calls.{IsHonest, seen};
-ghost use Rattle.dh_rows.specs.Keyed.{IsFreeKey};
-ghost use Rattle.dh_schema.specs.Calling.{Reads, ReadsAll, Writes};
-ghost use Rattle.dh_schema.specs.Tables.{lists_of};
+ghost use Rattle.dh_schema.specs.Calling.{Lacks, Reads, ReadsAll, Writes};
 ghost use Rattle.dh_records.specs.Changes as change;
 ghost use Rattle.dh_records.specs.Codings as coding;
 ghost use Rattle.dh_records.specs.Lists as spec;
@@ -17,18 +14,13 @@ use sqlite::{Alter, params};
 use std::alloc::Global;
 
 impl<S: Alter> Tables<S> {
-    /// The pass of a project with this text.
-    pub fn pass(
-        &mut self,
-        alloc: Global,
-        host: &HostName,
-        token: &Token,
-    ) -> Result<Option<PassRow>, Fault>
+    /// Whether a project has the pass.
+    pub fn has_pass(&mut self, host: &HostName, pass: &Token) -> Result<bool, Fault>
         ensures { Reads S.Store self.old self.new result
-            (λ l. find (spec.is_pass host.now token.now) l.passes) }
+            (λ l. is_some (find (spec.is_pass host.now pass.now) l.passes)) }
     {
         let sql = "SELECT host, pass FROM pass WHERE host = ?1 AND pass = ?2 ORDER BY host, pass";
-        self.first_record(alloc, sql, params![host.as_str(), token.as_str()])
+        self.has_record::<PassRow>(sql, params![host.as_str(), pass.as_str()])
     }
 
     /// How many passes a project has.
@@ -42,8 +34,7 @@ impl<S: Alter> Tables<S> {
 
     /// Adds a pass, which the project has not.
     pub fn add_pass(&mut self, row: &PassRow) -> Result<(), Fault>
-        requires free { IsHonest S.Store self.old
-            → IsFreeKey coding.passes.key row.now (seen S.Store lists_of self.old).passes }
+        requires free { Lacks S.Store self.old coding.passes (λ l. l.passes) row.now }
         ensures writes { Writes S.Store self.old self.new result (change.add_pass row.now) }
     {
         self.write(
@@ -75,8 +66,7 @@ impl<S: Alter> Tables<S> {
 
     /// Adds a grant, which is not there.
     fn add_grant(&mut self, row: &HeldRow) -> Result<(), Fault>
-        requires free { IsHonest S.Store self.old
-            → IsFreeKey coding.held.key row.now (seen S.Store lists_of self.old).held }
+        requires free { Lacks S.Store self.old coding.held (λ l. l.held) row.now }
         ensures writes { Writes S.Store self.old self.new result (change.add_grant row.now) }
     {
         self.write(

@@ -1,18 +1,16 @@
-//! The calls on projects.
+//! The calls on projects and their languages.
 
-ghost use Rattle.std.specs.Prelude.{find, is_some};
-ghost use Rattle.dh_rows.specs.Calls.{IsHonest, seen};
-ghost use Rattle.dh_rows.specs.Keyed.{IsFreeKey};
-ghost use Rattle.dh_schema.specs.Calling.{Reads, Writes};
-ghost use Rattle.dh_schema.specs.Tables.{lists_of};
+ghost use Rattle.std.specs.Prelude.{◌≡◌, false, find, is_some};
+ghost use Rattle.dh_schema.specs.Calling.{HasRecords, Lacks, Reads, Writes};
 ghost use Rattle.dh_records.specs.Changes as change;
 ghost use Rattle.dh_records.specs.Codings as coding;
 ghost use Rattle.dh_records.specs.Lists as spec;
+ghost use Rattle.dh_records.specs.Constraints.{has_language};
 
-use super::Tables;
+use super::{Tables, show_number};
 use dh_lookup::Fault;
 use dh_paths::HostName;
-use dh_records::ProjectRow;
+use dh_records::{LangRow, ProjectRow};
 use sqlite::{Alter, params};
 use std::alloc::Global;
 
@@ -41,8 +39,7 @@ impl<S: Alter> Tables<S> {
 
     /// Adds a project, whose host is free.
     pub fn add_project(&mut self, project: &ProjectRow) -> Result<(), Fault>
-        requires free { IsHonest S.Store self.old
-            → IsFreeKey coding.projects.key project.now (seen S.Store lists_of self.old).projects }
+        requires free { Lacks S.Store self.old coding.projects (λ l. l.projects) project.now }
         ensures writes { Writes S.Store self.old self.new result (change.add_project project.now) }
     {
         self.write(
@@ -54,6 +51,20 @@ impl<S: Alter> Tables<S> {
                 project.wkey.as_str(),
                 project.new_private
             ],
+        )
+    }
+
+    /// Adds a language, whose place is free, and which the project has not.
+    pub fn add_lang(&mut self, lang: &LangRow) -> Result<(), Fault>
+        requires free { Lacks S.Store self.old coding.langs (λ l. l.langs) lang.now }
+        requires new { HasRecords S.Store self.old
+            (λ l. has_language l lang.now.host lang.now.lang ≡ false) }
+        ensures writes { Writes S.Store self.old self.new result (change.add_lang lang.now) }
+    {
+        show_number(lang.place);
+        self.write(
+            "INSERT INTO lang VALUES (?1, ?2, ?3)",
+            params![lang.host.as_str(), lang.lang.as_str(), lang.place],
         )
     }
 }

@@ -1,11 +1,8 @@
 //! The calls on retry keys.
 
 ghost use Rattle.std.specs.Prelude.{◌≡◌, option_map, find, IfSome, IsSome};
-ghost use Rattle.dh_rows.specs.Calls.{IsHonest, seen};
-ghost use Rattle.dh_rows.specs.Keyed.{IsFreeKey};
 ghost use Rattle.dh_world.specs.Answers.{IsAnswer, json_of};
-ghost use Rattle.dh_schema.specs.Calling.{Obtains, Reads, Writes};
-ghost use Rattle.dh_schema.specs.Tables.{lists_of};
+ghost use Rattle.dh_schema.specs.Calling.{Lacks, Obtains, Reads, Writes};
 ghost use Rattle.dh_records.specs.Changes as change;
 ghost use Rattle.dh_records.specs.Codings as coding;
 ghost use Rattle.dh_records.specs.Lists as spec;
@@ -88,9 +85,8 @@ impl<S: Alter> Tables<S> {
         answer: &str,
     ) -> Result<(), Fault>
         requires tells { Tells answer.now }
-        requires free { IsHonest S.Store self.old
-            → IsFreeKey coding.used.key (spec.used_row host.now slug.now op retry.now answer.now)
-            (seen S.Store lists_of self.old).used }
+        requires free { Lacks S.Store self.old coding.used (λ l. l.used)
+            (spec.used_row host.now slug.now op retry.now answer.now) }
         ensures writes { Writes S.Store self.old self.new result
             (change.add_used (spec.used_row host.now slug.now op retry.now answer.now)) }
     {
@@ -117,9 +113,8 @@ impl<S: Alter> Tables<S> {
         answer: &Answer,
     ) -> Result<(), Fault>
         requires told { IsSome (json_of answer.now) }
-        requires free { IsHonest S.Store self.old
-            → IsFreeKey coding.used.key (spec.keeping host.now slug.now op retry.now answer.now)
-            (seen S.Store lists_of self.old).used }
+        requires free { Lacks S.Store self.old coding.used (λ l. l.used)
+            (spec.keeping host.now slug.now op retry.now answer.now) }
         ensures writes { Writes S.Store self.old self.new result
             (change.add_used (spec.keeping host.now slug.now op retry.now answer.now)) }
     {

@@ -14,36 +14,6 @@ use sqlite::{Alter, params};
 use std::alloc::Global;
 
 impl<S: Alter> Tables<S> {
-    /// The version with this slug.
-    pub fn version(
-        &mut self,
-        alloc: Global,
-        host: &HostName,
-        slug: &Slug,
-    ) -> Result<Option<VersionRow>, Fault>
-        ensures { Reads S.Store self.old self.new result
-            (λ l. find (spec.is_version host.now slug.now) l.versions) }
-    {
-        self.version_named(alloc, host, slug.as_str())
-    }
-
-    /// The version whose slug is this text.
-    pub fn version_named(
-        &mut self,
-        alloc: Global,
-        host: &HostName,
-        name: &str,
-    ) -> Result<Option<VersionRow>, Fault>
-        ensures { Reads S.Store self.old self.new result
-            (λ l. find (spec.is_version host.now name.now) l.versions) }
-    {
-        self.first_record(
-            alloc,
-            "SELECT host, slug, name, kind, active, hidden, private FROM version WHERE host = ?1 AND slug = ?2 ORDER BY host, slug",
-            params![host.as_str(), name],
-        )
-    }
-
     /// The versions of a project, in the order of their slugs.
     pub fn versions(&mut self, alloc: Global, host: &HostName) -> Result<Vec<VersionRow>, Fault>
         ensures { Obtains S.Store self.old self.new result
@@ -56,6 +26,23 @@ impl<S: Alter> Tables<S> {
             alloc,
             "SELECT host, slug, name, kind, active, hidden, private FROM version WHERE host = ?1 ORDER BY host, slug",
             params![host.as_str()],
+        )
+    }
+
+    /// The version whose slug is this text.
+    pub fn version(
+        &mut self,
+        alloc: Global,
+        host: &HostName,
+        slug: &str,
+    ) -> Result<Option<VersionRow>, Fault>
+        ensures { Reads S.Store self.old self.new result
+            (λ l. find (spec.is_version host.now slug.now) l.versions) }
+    {
+        self.first_record(
+            alloc,
+            "SELECT host, slug, name, kind, active, hidden, private FROM version WHERE host = ?1 AND slug = ?2 ORDER BY host, slug",
+            params![host.as_str(), slug],
         )
     }
 

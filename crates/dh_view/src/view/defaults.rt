@@ -10,7 +10,7 @@ use crate::view::aliases::version_for;
 use dh_lookup::Fault;
 use dh_paths::{Text, Token};
 use dh_records::{PickRow, ProjectRow};
-use dh_store::Tables;
+use dh_store::{Listed, Tables};
 use dh_versions::{latest, stable};
 use sqlite::Alter;
 use std::alloc::Global;
@@ -78,7 +78,7 @@ pub fn default_name<S: Alter>(
     ensures { Reads S.Store tables.old tables.new result
         (λ l. (shown_in l project.now pass.now).default) }
 {
-    let picks = tables.picks(alloc, &project.host)?;
+    let picks = PickRow::rows(tables, alloc, &project.host)?;
     match first_resolved(tables, alloc, project, pass, picks.as_slice())? {
         Some(name) => Ok(Some(name)),
         None => default_alias(tables, alloc, project, pass),

@@ -1,6 +1,6 @@
 //! Languages and pages.
 
-ghost use Rattle.std.specs.Prelude.{◌≡◌, map, find, IfOk};
+ghost use Rattle.std.specs.Prelude.{find};
 ghost use Rattle.std.specs.Option.{option_map};
 ghost use Rattle.dh_records.specs.Lists as spec;
 ghost use Rattle.dh_lookup.specs.SeenProject.{page_at};
@@ -13,13 +13,7 @@ use dh_paths::{Lang, Slug, Token};
 use dh_records::{LangRow, ProjectRow};
 use dh_store::Tables;
 use sqlite::Alter;
-use std::alloc::{AllocError, Global};
-
-fn names_of(alloc: Global, rows: Vec<LangRow>) -> Result<Vec<Lang>, AllocError>
-    ensures { IfOk result (λ v. v.items ≡ map (λ r. r.lang) rows.items) }
-{
-    rows.into_iter().map(|row| row.lang).collect(alloc)
-}
+use std::alloc::Global;
 
 pub fn all_langs<S: Alter>(
     tables: &mut Tables<S>,
@@ -29,8 +23,7 @@ pub fn all_langs<S: Alter>(
     ensures { ReadsAll S.Store tables.old tables.new result
         (λ l. (project_of l project.now).languages) }
 {
-    let rows = tables.langs(alloc, &project.host)?;
-    Ok(names_of(alloc, rows)?)
+    tables.list::<LangRow>(alloc, &project.host)
 }
 
 /// The page of a version, whoever may see it.

@@ -64,7 +64,6 @@ fn versions_of(alloc: Global, rows: Vec<VersionRow>) -> Result<Vec<Version>, All
 /// Whether the caller's pass is one of the project's, and holds the version.
 fn is_held<S: Alter>(
     tables: &mut Tables<S>,
-    alloc: Global,
     project: &ProjectRow,
     pass: &Option<Token>,
     slug: &Slug,
@@ -73,10 +72,14 @@ fn is_held<S: Alter>(
         (λ l. held_in l project.now pass.now slug.now) }
 {
     match pass {
-        Some(pass) => match tables.pass(alloc, &project.host, pass)? {
-            Some(_row) => tables.held(&project.host, pass, slug),
-            None => Ok(false),
-        },
+        Some(pass) => {
+            let known = tables.has_pass(&project.host, pass)?;
+            if known {
+                tables.held(&project.host, pass, slug)
+            } else {
+                Ok(false)
+            }
+        }
         None => Ok(false),
     }
 }
@@ -84,7 +87,6 @@ fn is_held<S: Alter>(
 /// Whether the caller may see a version of the project. Only of a private one is the pass asked.
 fn is_seen<S: Alter>(
     tables: &mut Tables<S>,
-    alloc: Global,
     project: &ProjectRow,
     pass: &Option<Token>,
     version: &Version,
@@ -95,7 +97,7 @@ fn is_seen<S: Alter>(
     if !version.private {
         return Ok(version.active);
     }
-    let held = is_held(tables, alloc, project, pass, &version.slug)?;
+    let held = is_held(tables, project, pass, &version.slug)?;
     Ok(may_see(version, held))
 }
 
@@ -110,9 +112,9 @@ pub fn visible_version<S: Alter>(
     ensures { Reads S.Store tables.old tables.new result
         (λ l. get (visible_in l project.now pass.now) name.now) }
 {
-    match tables.version_named(alloc, &project.host, name)? {
+    match tables.version(alloc, &project.host, name)? {
         Some(row) => {
-            let seen = is_seen(tables, alloc, project, pass, &row.version)?;
+            let seen = is_seen(tables, project, pass, &row.version)?;
             if seen {
                 Ok(Some(row.version))
             } else {
@@ -134,10 +136,14 @@ fn grants_of<S: Alter>(
         (λ l grants. OpensAs grants.items (held_in l project.now pass.now)) }
 {
     match pass {
-        Some(pass) => match tables.pass(alloc, &project.host, pass)? {
-            Some(_row) => tables.held_by(alloc, &project.host, pass),
-            None => Ok(no_grants(alloc)),
-        },
+        Some(pass) => {
+            let known = tables.has_pass(&project.host, pass)?;
+            if known {
+                tables.held_by(alloc, &project.host, pass)
+            } else {
+                Ok(no_grants(alloc))
+            }
+        }
         None => Ok(no_grants(alloc)),
     }
 }

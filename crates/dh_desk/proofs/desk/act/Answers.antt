@@ -4,7 +4,7 @@ use Rattle.dh_desk.proofs.desk.act.Goals as goal
 use Rattle.dh_records.specs.Lists.{Lists}
 use Rattle.dh_transactions.proofs.Crashing.{step_after}
 use Rattle.dh_tables.specs.Going.{last_records}
-use Rattle.dh_tables.specs.Sound.{AreSound}
+use Rattle.dh_records.specs.Constraints.{AreSound}
 use Rattle.dh_transactions.specs.Steps.{Steps}
 
 pub returns-in_err-back : goal.returns-in_err-back

@@ -3,7 +3,7 @@ use Rattle.std.specs.Vec.Iter.{into_iter_items}
 use Rattle.dh_rows.specs.Calls.{IsHonest, GoesWithin}
 use Rattle.dh_edits.proofs.edits.make_edits.Given as goal
 use Rattle.dh_tables.specs.Going.{Sees, records}
-use Rattle.dh_edits.specs.RowEdits.{RowsMayAll, all_rows_edited}
+use Rattle.dh_row_edits.specs.RowEdits.{RowsMayAll, all_rows_edited}
 
 abbrev pub invariant-loop-edit : goal.invariant-loop-edit
 invariant-loop-edit g l = record {

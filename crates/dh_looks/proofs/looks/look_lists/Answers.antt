@@ -4,12 +4,12 @@ use Rattle.dh_tables.specs.Going.{records}
 
 pub returns-clause-value : goal.returns-clause-value
 returns-clause-value g c honest sound =
-    let h3 = c.redirects_for.ensures.asks.goes.lasts.was honest in
-    let h2 = c.rules_for.ensures.asks.goes.lasts.was h3 in
-    let h1 = c.defaults_for.ensures.asks.goes.lasts.was h2 in
+    let h3 = c.list_for-4.ensures.asks.goes.lasts.was honest in
+    let h2 = c.list_for-3.ensures.asks.goes.lasts.was h3 in
+    let h1 = c.list_for-2.ensures.asks.goes.lasts.was h2 in
     found_lists c.args.host.now (records g.S.Store c.args.tables.now)
-    (records g.S.Store c.languages_for.new.tables) (records g.S.Store c.defaults_for.new.tables)
-    (records g.S.Store c.rules_for.new.tables) c.args.questions.now _
+    (records g.S.Store c.list_for.new.tables) (records g.S.Store c.list_for-2.new.tables)
+    (records g.S.Store c.list_for-3.new.tables) c.args.questions.now _
     (c.in_ok-languages.ensures.asks.looks.now_is h1) (c.in_ok-defaults.ensures.asks.looks.now_is h2)
     (c.in_ok-rules.ensures.asks.looks.now_is h3) sound
     (c.in_ok-languages.ensures.value h1) (c.in_ok-defaults.ensures.value h2)

@@ -7,7 +7,7 @@ use Rattle.dh_transactions.proofs.Working.{turn_refused, edits_may, turn_done}
 use Rattle.dh_transactions.proofs.transaction.work.Goals as goal
 use Rattle.dh_looks.specs.Finding.{FindsFacts}
 use Rattle.dh_tables.specs.Going.{records}
-use Rattle.dh_edits.specs.RowEdits.{RowsMayAll, all_rows_edited}
+use Rattle.dh_row_edits.specs.RowEdits.{RowsMayAll, all_rows_edited}
 use Rattle.dh_transactions.specs.Steps.{Turns}
 
 pub returns-in_err-edits-clause-turns : goal.returns-in_err-edits-clause-turns

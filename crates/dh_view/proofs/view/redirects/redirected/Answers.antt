@@ -1,4 +1,4 @@
-use Rattle.std.proofs.Common.{rules, ◌∙◌, ap, map}
+use Rattle.std.proofs.Common.{rules, ◌∙◌, ap}
 use Rattle.dh_lookup.specs.SeenProject.{first_result}
 use Rattle.dh_rows.specs.Calls.{seen}
 use Rattle.dh_schema.specs.Tables.{lists_of}
@@ -11,6 +11,6 @@ returns g c = record {
   value = λ honest.
       c.in_ok-first_result.ensures.value
       ∙ ap (λ rs. first_result c.args.forced rs c.args.asked.now)
-      (c.as_slice.ensures.value ∙ c.in_ok-redirects.ensures ∙ ap (map (λ r. r.redirect)) (c.in_ok-rows.ensures.value honest)
+      (c.as_slice.ensures.value ∙ c.in_ok-redirects.ensures.value honest
       ∙ redirects_are (seen g.S.Store lists_of c.args.tables.now) c.args.project.now);
 }

@@ -1,0 +1,89 @@
+-- Lists in order of projects, and what setting one makes of all lists.
+use Rattle.std.specs.Prelude.{◌≡◌, ℕ, Bool, not, ◌&&◌, nat_lt, pos, List, [], ◌∷◌, filter, length}
+use Rattle.std.specs.Str.{bytes_eq}
+use Rattle.std.proofs.Common.{refl}
+use Rattle.sqlite_value.specs.Order.{Row}
+use Rattle.sqlite_value.specs.declared.value.Value.TheVariants.{Int, Text}
+use Rattle.dh_rows.specs.Keyed.{put}
+use Rattle.dh_rules.specs.declared.rule.Rule.{Rule}
+use Rattle.dh_redirects.specs.declared.redirect.Redirect.{Redirect}
+use Rattle.dh_records.specs.Lists.{Lists, placed, put_all, rule_row, redirect_row}
+use Rattle.dh_records.specs.declared.records.RuleRow.{RuleRow}
+use Rattle.dh_records.specs.declared.records.RedirectRow.{RedirectRow}
+
+-- The lists of one kind that projects have, each in order: host, place and item of a record, the record of an item at a
+-- place, where such records stand among all lists, and all lists with others in their place.
+pub record Listing (X V : Type 0) : Type 0 where
+  pub host_of : X → List ℕ
+  pub place_of : X → ℕ
+  pub value_of : X → V
+  pub row : List ℕ → ℕ → V → X
+  pub part : Lists → List X
+  pub with : List X → Lists → Lists
+  -- what is put there is there, what is there can be put there, and the last counts
+  pub part_is : (xs : List X) (l : Lists) → part (with xs l) ≡ xs
+  pub as_it_is : (l : Lists) → with (part l) l ≡ l
+  pub twice : (xs ys : List X) (l : Lists) → with ys (with xs l) ≡ with ys l
+  -- a record is its host, place and item
+  pub whole : (x : X) → row (host_of x) (place_of x) (value_of x) ≡ x
+  pub host_is : (host : List ℕ) (n : ℕ) (v : V) → host_of (row host n v) ≡ host
+  pub place_is : (host : List ℕ) (n : ℕ) (v : V) → place_of (row host n v) ≡ n
+  pub value_is : (host : List ℕ) (n : ℕ) (v : V) → value_of (row host n v) ≡ v
+
+abbrev pub rule_list : Listing RuleRow Rule
+rule_list = record {
+  host_of = λ r. r.host;
+  place_of = λ r. r.place;
+  value_of = λ r. r.rule;
+  row = rule_row;
+  part = λ l. l.rules;
+  with = λ rows l. record l { rules = rows };
+  part_is = λ rows l. refl;
+  as_it_is = λ l. refl;
+  twice = λ xs ys l. refl;
+  whole = λ x. refl;
+  host_is = λ host n v. refl;
+  place_is = λ host n v. refl;
+  value_is = λ host n v. refl;
+}
+
+abbrev pub redirect_list : Listing RedirectRow Redirect
+redirect_list = record {
+  host_of = λ r. r.host;
+  place_of = λ r. r.place;
+  value_of = λ r. r.redirect;
+  row = redirect_row;
+  part = λ l. l.redirects;
+  with = λ rows l. record l { redirects = rows };
+  part_is = λ rows l. refl;
+  as_it_is = λ l. refl;
+  twice = λ xs ys l. refl;
+  whole = λ x. refl;
+  host_is = λ host n v. refl;
+  place_is = λ host n v. refl;
+  value_is = λ host n v. refl;
+}
+
+module _ {X V : Type 0} (l : Listing X V) where
+  abbrev pub key_of : X → Row
+  key_of x = Text (l.host_of x) ∷ Int (pos (l.place_of x)) ∷ []
+
+  abbrev pub is_own : List ℕ → X → Bool
+  is_own host r = bytes_eq (l.host_of r) host
+
+  -- a record in place of the one that stands at its place
+  abbrev pub put_one : X → Lists → Lists
+  put_one x lists = l.with (put key_of x (l.part lists)) lists
+
+  -- the items at their places, in place of what stands there
+  abbrev pub all_put : List ℕ → List V → Lists → Lists
+  all_put host vs lists = l.with (put_all key_of (placed (l.row host) 1 vs) (l.part lists)) lists
+
+  -- without the records of a host that stand behind the first so many
+  abbrev pub without_behind : List ℕ → ℕ → Lists → Lists
+  without_behind host count lists =
+      l.with (filter (λ r. not (is_own host r && nat_lt count (l.place_of r))) (l.part lists)) lists
+
+  -- these items at the places from 1 on, and none of the host behind them
+  abbrev pub list_set : List ℕ → List V → Lists → Lists
+  list_set host vs lists = all_put host vs (without_behind host (length vs) lists)
