@@ -6,9 +6,7 @@ use crate::checked::{
     NewProject, ProjectSettings,
 };
 use crate::pages::check_pages;
-use crate::texts::{
-    host_in, lang_in, redirect_in, ref_in, retry_key_in, rule_in, slug_in, slug_in_name, token_in,
-};
+use crate::texts::{redirect_in, retry_key_in, rule_in, slug_in_name, text_in};
 use dh_paths::Text;
 use dh_versions::Kind;
 use dh_world::{Command, CommandChange, Pages, Property, Refusal};
@@ -25,9 +23,9 @@ fn new_project_in<'c>(
         (CommandChange.NewProject lang.now branch.now private wkey.now)
         result }
 {
-    let lang = lang_in(alloc, lang)?;
-    let branch = ref_in(alloc, branch)?;
-    let wkey = token_in(alloc, wkey)?;
+    let lang = text_in(alloc, lang)?;
+    let branch = text_in(alloc, branch)?;
+    let wkey = text_in(alloc, wkey)?;
     let settings = ProjectSettings {
         branch,
         new_private: private,
@@ -45,9 +43,9 @@ fn push_in<'c>(
 ) -> Result<CheckedChange<'c>, Refusal>
     ensures { ChecksChange (CommandChange.Push wkey.now key.now kind name.now) result }
 {
-    let wkey = token_in(alloc, wkey)?;
+    let wkey = text_in(alloc, wkey)?;
     let key = retry_key_in(alloc, key)?;
-    let name = ref_in(alloc, name)?;
+    let name = text_in(alloc, name)?;
     let slug = slug_in_name(alloc, &name)?;
     Ok(CheckedChange::Push(CheckedPush {
         wkey,
@@ -71,10 +69,10 @@ fn upload_in<'c>(
         (CommandChange.Upload wkey.now key.now slug.now lang.now replace pages.now)
         result }
 {
-    let wkey = token_in(alloc, wkey)?;
+    let wkey = text_in(alloc, wkey)?;
     let key = retry_key_in(alloc, key)?;
-    let slug = slug_in(alloc, slug)?;
-    let lang = lang_in(alloc, lang)?;
+    let slug = text_in(alloc, slug)?;
+    let lang = text_in(alloc, lang)?;
     let pages = check_pages(alloc, pages)?;
     Ok(CheckedChange::Upload(CheckedUpload {
         wkey,
@@ -93,7 +91,7 @@ fn property_in<'c>(
 ) -> Result<CheckedChange<'c>, Refusal>
     ensures { ChecksChange (setting property slug.now) result }
 {
-    let slug = slug_in(alloc, slug)?;
+    let slug = text_in(alloc, slug)?;
     Ok(CheckedChange::SetProperty { slug, property })
 }
 
@@ -109,7 +107,7 @@ fn check_change<'c>(alloc: Global, change: &'c CommandChange) -> Result<CheckedC
             wkey,
         } => new_project_in(alloc, lang, branch, *private, wkey),
         CommandChange::AddLang { lang } => {
-            let lang = lang_in(alloc, lang)?;
+            let lang = text_in(alloc, lang)?;
             Ok(CheckedChange::AddLang { lang })
         }
         CommandChange::Push {
@@ -132,15 +130,15 @@ fn check_change<'c>(alloc: Global, change: &'c CommandChange) -> Result<CheckedC
         CommandChange::Publish { slug } => property_in(alloc, slug, Property::Public),
         CommandChange::MakePrivate { slug } => property_in(alloc, slug, Property::Private),
         CommandChange::Deactivate { slug } => {
-            let slug = slug_in(alloc, slug)?;
+            let slug = text_in(alloc, slug)?;
             Ok(CheckedChange::Deactivate { slug })
         }
         CommandChange::Gone { slug } => {
-            let slug = slug_in(alloc, slug)?;
+            let slug = text_in(alloc, slug)?;
             Ok(CheckedChange::Gone { slug })
         }
         CommandChange::SetDefault { name } => {
-            let name = slug_in(alloc, name)?;
+            let name = text_in(alloc, name)?;
             Ok(CheckedChange::SetDefault { name })
         }
         CommandChange::AddRule { place, rule } => {
@@ -156,21 +154,21 @@ fn check_change<'c>(alloc: Global, change: &'c CommandChange) -> Result<CheckedC
         }
         CommandChange::DropRedirect { place } => Ok(CheckedChange::DropRedirect { place: *place }),
         CommandChange::AddPass { pass } => {
-            let pass = token_in(alloc, pass)?;
+            let pass = text_in(alloc, pass)?;
             Ok(CheckedChange::AddPass { pass })
         }
         CommandChange::DropPass { pass } => {
-            let pass = token_in(alloc, pass)?;
+            let pass = text_in(alloc, pass)?;
             Ok(CheckedChange::DropPass { pass })
         }
         CommandChange::Grant { pass, slug } => {
-            let pass = token_in(alloc, pass)?;
-            let slug = slug_in(alloc, slug)?;
+            let pass = text_in(alloc, pass)?;
+            let slug = text_in(alloc, slug)?;
             Ok(CheckedChange::Grant { pass, slug })
         }
         CommandChange::Revoke { pass, slug } => {
-            let pass = token_in(alloc, pass)?;
-            let slug = slug_in(alloc, slug)?;
+            let pass = text_in(alloc, pass)?;
+            let slug = text_in(alloc, slug)?;
             Ok(CheckedChange::Revoke { pass, slug })
         }
     }
@@ -181,7 +179,7 @@ fn check_change<'c>(alloc: Global, change: &'c CommandChange) -> Result<CheckedC
 pub fn check<'c>(alloc: Global, command: &'c Command) -> Result<CheckedCommand<'c>, Refusal>
     ensures { ChecksCommand command.now result }
 {
-    let host = host_in(alloc, &command.host)?;
+    let host = text_in(alloc, &command.host)?;
     let change = check_change(alloc, &command.change)?;
     Ok(CheckedCommand { host, change })
 }

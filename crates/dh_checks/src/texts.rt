@@ -1,48 +1,25 @@
 //! The texts of commands, read one by one.
 ghost use Rattle.std.specs.Prelude.{◌≡◌, Some, None, IsTrue};
-ghost use Rattle.dh_texts.specs.Texts.{is_host_name, is_lang, is_ref_name, is_slug, is_token};
+ghost use Rattle.dh_texts.specs.Texts.{is_token};
 ghost use Rattle.dh_texts.specs.Slugs.{slug_from};
 ghost use Rattle.dh_rules.specs.Patterns.{IsCustom};
 ghost use Rattle.dh_rules.specs.Rules.{is_allowed};
-ghost use Rattle.dh_world.specs.Checks.{Reads, Checks, ChecksOr};
+ghost use Rattle.dh_world.specs.Checks.{Checks, ChecksOr, Reads, refusal_of};
 ghost use Rattle.dh_redirects.specs.Redirects.{first_fault};
 ghost use Rattle.dh_world.specs.Texts.{bad_name, bad_rule, bad_redirect};
 
-use dh_paths::{HostName, Lang, RefName, Slug, Text, TextFault, Token, slug_of};
+use dh_paths::{RefName, Slug, Text, TextFault, Token, slug_of};
 use dh_redirects::Redirect;
 use dh_rules::{CheckFault, Rule};
+use dh_texts::{Checked, Kind};
 use dh_world::Refusal;
 use std::alloc::Global;
 
-pub fn host_in(alloc: Global, text: &Text) -> Result<HostName, Refusal>
-    ensures { Reads is_host_name Refusal.BadHost text.now result }
+/// The text as one of a kind.
+pub fn text_in<K: Kind>(alloc: Global, text: &Text) -> Result<Checked<K>, Refusal>
+    ensures { Reads K.test (refusal_of K.refusal) text.now result }
 {
-    Ok(HostName::parse(alloc, text.as_str())?)
-}
-
-pub fn lang_in(alloc: Global, text: &Text) -> Result<Lang, Refusal>
-    ensures { Reads is_lang Refusal.BadLang text.now result }
-{
-    Ok(Lang::parse(alloc, text.as_str())?)
-}
-
-pub fn ref_in(alloc: Global, text: &Text) -> Result<RefName, Refusal>
-    ensures { Reads is_ref_name Refusal.BadRef text.now result }
-{
-    Ok(RefName::parse(alloc, text.as_str())?)
-}
-
-pub fn slug_in(alloc: Global, text: &Text) -> Result<Slug, Refusal>
-    ensures { Reads is_slug Refusal.BadRef text.now result }
-{
-    Ok(Slug::parse(alloc, text.as_str())?)
-}
-
-/// A write key or a pass.
-pub fn token_in(alloc: Global, text: &Text) -> Result<Token, Refusal>
-    ensures { Reads is_token Refusal.BadToken text.now result }
-{
-    Ok(Token::parse(alloc, text.as_str())?)
+    Ok(Checked::parse(alloc, text.as_str())?)
 }
 
 pub fn retry_key_in(alloc: Global, text: &Text) -> Result<Token, Refusal>

@@ -142,3 +142,18 @@ module _ {X : Type 0} (host_of name_of : X → List ℕ) (host name : List ℕ) 
 
   pub names_rise : (xs : List X) → IsSortedByKey (λ x. (host_of x, name_of x)) (pair_cmp text_cmp text_cmp) xs → IsNonDecreasingBy (λ x. ordering_index (by_name x)) xs
   names_rise xs sorted = searchable_from_sorted held_total (λ x. (host_of x, name_of x)) xs (host, name) sorted
+
+  -- a name is found by halves
+  module _ (xs : List X) (sorted : IsSortedByKey (λ x. (host_of x, name_of x)) (pair_cmp text_cmp text_cmp) xs) where
+    pub names_parted : IsPartitionedBy (λ x. is_lt (by_name x)) xs
+    names_parted = less_first by_name has_name name_ties xs (names_rise xs sorted)
+
+    module _ (n : ℕ) (at : IsPartitionPoint (λ x. is_lt (by_name x) ≡ true) (λ x. is_lt (by_name x) ≡ false) xs n) where
+      pub name_past : length xs ≤ n → find has_name xs ≡ None
+      name_past = found_past by_name has_name name_ties xs (names_rise xs sorted) n at.0 at.1
+
+      pub name_there : (x : X) → n < length xs → x ≡ get_or xs n x → has_name x ≡ true → find has_name xs ≡ Some x
+      name_there = found_there by_name has_name name_ties xs (names_rise xs sorted) n at.0 at.1
+
+      pub name_not : (x : X) → n < length xs → x ≡ get_or xs n x → has_name x ≡ false → find has_name xs ≡ None
+      name_not = found_not by_name has_name name_ties xs (names_rise xs sorted) n at.0 at.1

@@ -9,9 +9,9 @@ ghost use Rattle.dh_world.specs.Answers.{answer_of};
 ghost use Rattle.dh_world.specs.Seen as names;
 ghost use Rattle.dh_records.specs.Lists.{is_lang_of, is_pass_of, is_pick_of, is_rule_of, is_redirect_of};
 ghost use Rattle.dh_records.specs.Constraints as kept;
-ghost use Rattle.dh_records.specs.Constraints.{AreLanguages, AreDefaults, AreRules, AreRedirects, KeepsConstraints};
+ghost use Rattle.dh_records.specs.Constraints.{AreLanguages, AreDefaults, AreRules, AreRedirects};
+ghost use Rattle.dh_records.specs.Constraints.{HaveProjects, KeepProjects, KeepRecords, KeepTexts, KeepsConstraints};
 ghost use Rattle.dh_constraints.specs.Lists.{lists_in};
-ghost use Rattle.dh_constraints.specs.Parts.{HaveProjects, KeepProjects, KeepRecords, KeepTexts};
 
 use crate::lookups::{
     has_active, has_language, has_pass, has_project, has_version, langs_of, passes_of, picks_of,

@@ -5,8 +5,8 @@ use Rattle.std.proofs.lemmas.Result.{err_from_is_err_and}
 use Rattle.sqlite_trees.specs.declared.store.Store.{Ghosts}
 use Rattle.sqlite.specs.Held.{Held, state}
 use Rattle.sqlite.specs.State.{HasCleanDisk}
-use Rattle.dh_lookup.specs.declared.fault.Fault.{Fault}
-use Rattle.dh_lookup.specs.declared.fault.Fault.TheVariants as fault
+use Rattle.dh_faults.specs.declared.fault.Fault.{Fault}
+use Rattle.dh_faults.specs.declared.fault.Fault.TheVariants as fault
 use Rattle.dh_rows.specs.Calls.{IsRefused, LeavesNoMore}
 use Rattle.dh_records.specs.Lists.{Lists}
 use Rattle.dh_schema.specs.Tables.{lists_of}

@@ -3,9 +3,9 @@ use Rattle.std.proofs.Common.{◌≡◌, ◌⊎◌, false, Result, inl, inr, sym
 use Rattle.std.proofs.lemmas.Bool.{cases_Bool}
 use Rattle.sqlite_trees.specs.declared.store.Store.{Ghosts}
 use Rattle.sqlite.specs.Held.{Held, state}
-use Rattle.dh_lookup.specs.Faults.{OnStore}
-use Rattle.dh_lookup.specs.declared.fault.Fault.{Fault}
-use Rattle.dh_rows.specs.Calls.{IsBlamed, IsHonest, IsSame, IsUndone, Lasts}
+use Rattle.dh_faults.specs.Faults.{OnStore}
+use Rattle.dh_faults.specs.declared.fault.Fault.{Fault}
+use Rattle.dh_rows.specs.Calls.{IsBlamed, IsHonest, Lasts}
 use Rattle.dh_schema.proofs.CallLemmas.{on_store}
 use Rattle.dh_schema.specs.Calling.{Blames}
 use Rattle.dh_schema.specs.Tables.{lists_of}
@@ -13,16 +13,6 @@ use Rattle.dh_schema.specs.InTurn.{blamed_before, shut_before}
 use Rattle.dh_view.specs.View.{Fails}
 
 module _ {S : Type 0} (g : Ghosts S) (a b c : Held S) where
-  -- what was undone stays so where nothing moves
-  pub stays_undone : IsUndone g lists_of a b → IsSame g lists_of b c → IsUndone g lists_of a c
-  stays_undone p q = record {
-    was_honest = p.was_honest;
-    is_open = q.is_open;
-    now_is = q.now_is ∙ p.now_is;
-    last_is = q.last_is ∙ p.last_is;
-    mode = q.mode ∙ p.mode;
-  }
-
   -- looks outside a transaction answer `Store` for a fault of the store alone
   pub blamed_on
       : {T : Type 0} (r : Result T Fault)

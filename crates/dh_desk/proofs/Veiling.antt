@@ -2,7 +2,7 @@
 use Rattle.std.proofs.Common.{◌≡◌, Option, Result, IfOk, sym, ap, subst}
 use Rattle.std.specs.Option.{option_and_then}
 use Rattle.dh_reply.specs.Replies.{reply_to}
-use Rattle.dh_lookup.specs.declared.fault.Fault.{Fault}
+use Rattle.dh_faults.specs.declared.fault.Fault.{Fault}
 use Rattle.dh_wire.specs.declared.answer.Read.{Read}
 use Rattle.dh_wire.specs.declared.answer.Reply.{Reply}
 use Rattle.dh_world.specs.World.{Text, World}

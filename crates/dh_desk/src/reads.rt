@@ -1,7 +1,7 @@
 //! Reads.
 ghost use Rattle.std.specs.Prelude.{◌≡◌, Some, None, false, IfOk, OnOk, if◌then◌else◌};
 ghost use Rattle.std.specs.Option.{option_map, option_and_then};
-ghost use Rattle.dh_lookup.specs.Faults.{OnStore};
+ghost use Rattle.dh_faults.specs.Faults.{OnStore};
 ghost use Rattle.dh_reply.specs.Replies.{reply_to};
 ghost use Rattle.dh_records.specs.Lists.{world_of};
 ghost use Rattle.dh_view.specs.View.{Fails, Looks, shown};
@@ -10,8 +10,9 @@ ghost use Rattle.dh_world.specs.Seen as caller;
 ghost use Rattle.dh_desk.specs.Desk.{Blames, HasCleanDisk, IsHonest, IsRefused, last_records, lists_of};
 ghost use Rattle.dh_desk.specs.Desk.{reply_in, state, veil_of};
 
+use dh_faults::{Fault, Found};
 use dh_paths::{HostName, TextFault, Token};
-use dh_reply::{Fault, Read, Reply, reply};
+use dh_reply::{Read, Reply, reply};
 use dh_tables::Tables;
 use dh_texts::{Checked, Kind};
 use dh_view::View;
@@ -19,7 +20,7 @@ use sqlite::Alter;
 use std::alloc::Global;
 
 /// The text as one of a kind, if it is.
-fn text_in<K: Kind>(alloc: Global, text: &str) -> Result<Option<Checked<K>>, Fault>
+fn text_in<K: Kind>(alloc: Global, text: &str) -> Found<Checked<K>>
     ensures value { IfOk result (λ found.
         found ≡ (if K.test text.now then Some text.now else None)) }
     ensures told { OnStore result ⊥ }
@@ -32,7 +33,7 @@ fn text_in<K: Kind>(alloc: Global, text: &str) -> Result<Option<Checked<K>>, Fau
 }
 
 /// The pass that a caller shows: a text that is none counts as none.
-fn pass_in(alloc: Global, pass: Option<&str>) -> Result<Option<Token>, Fault>
+fn pass_in(alloc: Global, pass: Option<&str>) -> Found<Token>
     ensures value { IfOk result (λ o. o
         ≡ option_and_then pass_named (option_map (λ text. text.now) pass.entry)) }
     ensures told { OnStore result ⊥ }

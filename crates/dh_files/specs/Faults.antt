@@ -3,6 +3,7 @@ use Rattle.std.specs.Prelude.{ℕ, List, codes}
 use Rattle.sqlite.specs.declared.error.Error.{Error}
 use Rattle.sqlite.specs.declared.error.Error.TheVariants.{SqliteFailure}
 use Rattle.sqlite.specs.declared.error.ErrorCode.TheVariants as code
+use Rattle.dh_faults.specs.declared.fault.Fault.TheVariants as below
 use Rattle.dh_opening.specs.declared.fault.TablesFault.{TablesFault}
 use Rattle.dh_opening.specs.declared.fault.TablesFault.TheVariants as tables
 use Rattle.dh_files.specs.declared.fault.FileFault.{FileFault}
@@ -28,8 +29,8 @@ name_of = elim [
 
 abbrev pub fault_of : TablesFault → FileFault
 fault_of tables.NotOurs = NotOurs
-fault_of tables.Store = Failed
-fault_of tables.Memory = Memory
+fault_of (tables.Failed below.Store) = Failed
+fault_of (tables.Failed below.Memory) = Memory
 
 abbrev pub fault_of_error : Error → FileFault
 fault_of_error (SqliteFailure code.NotADatabase) = NoDatabase

@@ -3,6 +3,7 @@
 ghost use Rattle.std.specs.Prelude.{◌≡◌};
 ghost use Rattle.dh_files.specs.Faults.{name_of, fault_of, fault_of_error};
 
+use dh_faults::Fault;
 use dh_opening::TablesFault;
 use sqlite::{Error, ErrorCode};
 use std::io;
@@ -105,8 +106,8 @@ impl From<TablesFault> for FileFault {
     fn from(fault: TablesFault) -> FileFault {
         match fault {
             TablesFault::NotOurs => FileFault::NotOurs,
-            TablesFault::Store => FileFault::Failed,
-            TablesFault::Memory => FileFault::Memory,
+            TablesFault::Failed(Fault::Store) => FileFault::Failed,
+            TablesFault::Failed(Fault::Memory) => FileFault::Memory,
         }
     }
 }

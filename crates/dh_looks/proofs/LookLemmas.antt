@@ -97,7 +97,7 @@ module _ (host : Text) (lists : Lists) where
       named None e = tt
       named (Some r) e = (
         ap Some ((bytes_eq-Decides r.version.slug slug).0 (and_parts _ _ (found_passes (is_version host slug) lists.versions r e)).1),
-        all_found (λ (v : VersionRow). slug_from v.version.name ≡ Some v.version.slug) (is_version host slug) lists.versions r e sound.constraints.slugs,
+        all_found (λ (v : VersionRow). slug_from v.version.name ≡ Some v.version.slug) (is_version host slug) lists.versions r e sound.constraints.texts.slugs,
       )
 
   -- ---- the lists in order
@@ -106,13 +106,13 @@ module _ (host : Text) (lists : Lists) where
     few_rules : length (filter (is_rule_of host) lists.rules) ≤ 50
     few_rules =
         let it = row_of lists host p was in
-        let here = all_found (λ r. constraints.AreRules (filter (is_rule_of r.host) lists.rules)) (is_project host) lists.projects it.0 it.1.found sound.constraints.rule_places in
+        let here = all_found (λ r. constraints.AreRules (filter (is_rule_of r.host) lists.rules)) (is_project host) lists.projects it.0 it.1.found sound.constraints.projects.rule_places in
         subst (λ h. length (filter (is_rule_of h) lists.rules) ≤ 50) it.1.host_is here.few
 
     few_redirects : length (filter (is_redirect_of host) lists.redirects) ≤ 100
     few_redirects =
         let it = row_of lists host p was in
-        let here = all_found (λ r. constraints.AreRedirects (filter (is_redirect_of r.host) lists.redirects)) (is_project host) lists.projects it.0 it.1.found sound.constraints.places in
+        let here = all_found (λ r. constraints.AreRedirects (filter (is_redirect_of r.host) lists.redirects)) (is_project host) lists.projects it.0 it.1.found sound.constraints.projects.places in
         subst (λ h. length (filter (is_redirect_of h) lists.redirects) ≤ 100) it.1.host_is here.few
 
     rules_here
@@ -121,7 +121,7 @@ module _ (host : Text) (lists : Lists) where
         → AreRules ask rules p
     rules_here ask found e =
         listed (λ r. r.rule) 50 (λ r. IsTrue (is_allowed r.pattern)) p.rules (filter (is_rule_of host) lists.rules) (rules_in lists host p was) few_rules
-        (all-filter _ (is_rule_of host) lists.rules sound.constraints.allowed) ask found e
+        (all-filter _ (is_rule_of host) lists.rules sound.constraints.texts.allowed) ask found e
 
     redirects_here
         : (ask : Bool) (redirects : List Redirect)
@@ -129,7 +129,7 @@ module _ (host : Text) (lists : Lists) where
         → AreRedirects ask redirects p
     redirects_here ask found e =
         listed (λ r. r.redirect) 100 (λ r. first_fault r ≡ None) p.redirects (filter (is_redirect_of host) lists.redirects) (redirects_in lists host p was) few_redirects
-        (all-filter _ (is_redirect_of host) lists.redirects sound.constraints.good) ask found e
+        (all-filter _ (is_redirect_of host) lists.redirects sound.constraints.records.good) ask found e
 
 -- ---- all of them
 

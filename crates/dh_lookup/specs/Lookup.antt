@@ -1,9 +1,9 @@
 -- What a lookup means, what a call on it leaves, and what a call tells.
 use Rattle.std.specs.Prelude.{◌≡◌, ◌≤◌, ℕ, List, [], Option, Result, Vec, IfOk, IfSome}
 use Rattle.std.specs.Option.{option_and_then, option_map_or}
-use Rattle.dh_lookup.specs.declared.fault.Fault.{Fault}
+use Rattle.dh_faults.specs.declared.fault.Fault.{Fault}
 use Rattle.dh_lookup.specs.declared.seen_project.SeenProject.{SeenProject}
-use Rattle.dh_lookup.specs.Faults.{UnlessStore, OnStore}
+use Rattle.dh_faults.specs.Faults.{UnlessStore, OnStore}
 
 -- how a lookup is read
 pub record Meaning (L : Type 0) : Type 1 where

@@ -1,14 +1,13 @@
 //! What replies are made from: the project as its caller sees it, and the looks at it.
 #![tactic(auto)]
 
-pub mod fault;
 pub mod found;
 pub mod items;
 pub mod lookup;
 pub mod seen;
 pub mod seen_project;
 
-pub use fault::Fault;
+pub use dh_faults::{Fault, Found};
 pub use found::{Named, Page};
 pub use items::Items;
 pub use lookup::Lookup;

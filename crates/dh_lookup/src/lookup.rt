@@ -4,8 +4,8 @@ ghost use Rattle.std.specs.Prelude.{is_some};
 ghost use Rattle.dh_lookup.specs.Lookup.{Asks, Meaning, Tells, TellsAll, TellsMaybe};
 ghost use Rattle.dh_lookup.specs.SeenProject.{resolved, page_at, forced_result, not_found_result};
 
-use crate::fault::Fault;
 use crate::found::{Named, Page};
+use dh_faults::{Fault, Found};
 use dh_paths::{Lang, Slug, Text};
 use dh_redirects::{Asked, Location};
 use dh_versions::Version;
@@ -22,12 +22,12 @@ pub trait Lookup {
         ensures value { Tells meaning self.old self.new result is_some };
 
     /// The version that the name stands for.
-    fn name(&mut self, alloc: Global, name: &str) -> Result<Option<Named>, Fault>
+    fn name(&mut self, alloc: Global, name: &str) -> Found<Named>
         ensures asks { Asks meaning self.old self.new result }
         ensures value { TellsMaybe meaning self.old self.new result (λ p. resolved p name.now) };
 
     /// The name that `/` leads to.
-    fn default(&mut self, alloc: Global) -> Result<Option<Text>, Fault>
+    fn default(&mut self, alloc: Global) -> Found<Text>
         ensures asks { Asks meaning self.old self.new result }
         ensures value { TellsMaybe meaning self.old self.new result (λ p. p.default) };
 
@@ -37,29 +37,19 @@ pub trait Lookup {
         ensures value { TellsAll meaning self.old self.new result (λ p. p.langs) };
 
     /// The page at a path of a version in a language.
-    fn page(
-        &mut self,
-        alloc: Global,
-        lang: &Lang,
-        slug: &Slug,
-        path: &str,
-    ) -> Result<Option<Page>, Fault>
+    fn page(&mut self, alloc: Global, lang: &Lang, slug: &Slug, path: &str) -> Found<Page>
         ensures asks { Asks meaning self.old self.new result }
         ensures value { TellsMaybe meaning self.old self.new result
             (λ p. page_at p lang.now slug.now path.now) };
 
     /// Where the first redirect with force leads that has a result.
-    fn forced_redirect(&mut self, alloc: Global, asked: &Asked) -> Result<Option<Location>, Fault>
+    fn forced_redirect(&mut self, alloc: Global, asked: &Asked) -> Found<Location>
         ensures asks { Asks meaning self.old self.new result }
         ensures value { TellsMaybe meaning self.old self.new result
             (λ p. forced_result p asked.now) };
 
     /// Where the first redirect leads that has a result, with force or without.
-    fn not_found_redirect(
-        &mut self,
-        alloc: Global,
-        asked: &Asked,
-    ) -> Result<Option<Location>, Fault>
+    fn not_found_redirect(&mut self, alloc: Global, asked: &Asked) -> Found<Location>
         ensures asks { Asks meaning self.old self.new result }
         ensures value { TellsMaybe meaning self.old self.new result
             (λ p. not_found_result p asked.now) };

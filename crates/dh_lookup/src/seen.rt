@@ -6,14 +6,14 @@ ghost use Rattle.std.specs.List.{find, list_any};
 ghost use Rattle.std.specs.Str.{bytes_eq};
 ghost use Rattle.std.proofs.Common.{◌∙◌, refl};
 ghost use Rattle.dh_redirects.specs.Locations.{asks_memory};
-ghost use Rattle.dh_lookup.specs.Faults.{Gives};
+ghost use Rattle.dh_faults.specs.Faults.{Gives};
 ghost use Rattle.dh_lookup.specs.SeenProject as spec;
 ghost use Rattle.dh_lookup.specs.SeenProject.{alias_of, resolved, stands_at, page_at};
 
-use crate::fault::Fault;
 use crate::found::{Named, Page};
 use crate::lookup::Lookup;
 use crate::seen_project::{SeenProject, StoredPage};
+use dh_faults::{Fault, Found};
 use dh_paths::{Bytes, Lang, Slug, Text};
 use dh_redirects::{Asked, Location, Redirect};
 use dh_versions::Version;
@@ -34,24 +34,31 @@ fn copy_page(alloc: Global, page: &Page) -> Result<Page, AllocError>
     })
 }
 
-fn copy_langs(alloc: Global, langs: &[Lang]) -> Result<Vec<Lang>, AllocError>
-    ensures copied { IfOk result (λ copy. copy.items ≡ langs.now) }
-    ensures short { OnErr result (0 < length langs.now) }
-{
-    let mut copy = Vec::new(alloc);
-    for lang in langs {
-        copy.push(lang.try_copy(alloc)?)?;
-    }
-    Ok(copy)
+/// A value that is copied as a whole.
+trait Copied: Sized {
+    fn copied(&self, alloc: Global) -> Result<Self, AllocError>
+        ensures { IfOk result (λ copy. copy ≡ self.now) };
 }
 
-fn copy_versions(alloc: Global, versions: &[Version]) -> Result<Vec<Version>, AllocError>
-    ensures copied { IfOk result (λ copy. copy.items ≡ versions.now) }
-    ensures short { OnErr result (0 < length versions.now) }
+impl Copied for Lang {
+    fn copied(&self, alloc: Global) -> Result<Lang, AllocError> {
+        self.try_copy(alloc)
+    }
+}
+
+impl Copied for Version {
+    fn copied(&self, alloc: Global) -> Result<Version, AllocError> {
+        self.try_copy(alloc)
+    }
+}
+
+fn copy_all<T: Copied + Drop>(alloc: Global, items: &[T]) -> Result<Vec<T>, AllocError>
+    ensures copied { IfOk result (λ copy. copy.items ≡ items.now) }
+    ensures short { OnErr result (0 < length items.now) }
 {
     let mut copy = Vec::new(alloc);
-    for version in versions {
-        copy.push(version.try_copy(alloc)?)?;
+    for item in items {
+        copy.push(item.copied(alloc)?)?;
     }
     Ok(copy)
 }
@@ -222,14 +229,14 @@ impl Lookup for Seen {
         Ok(self.project.is_some())
     }
 
-    fn name(&mut self, alloc: Global, name: &str) -> Result<Option<Named>, Fault> {
+    fn name(&mut self, alloc: Global, name: &str) -> Found<Named> {
         match &self.project {
             Some(project) => Ok(find_name(alloc, project, name)?),
             None => Ok(None),
         }
     }
 
-    fn default(&mut self, alloc: Global) -> Result<Option<Text>, Fault> {
+    fn default(&mut self, alloc: Global) -> Found<Text> {
         match &self.project {
             Some(project) => Ok(copy_text(alloc, &project.default)?),
             None => Ok(None),
@@ -238,39 +245,29 @@ impl Lookup for Seen {
 
     fn langs(&mut self, alloc: Global) -> Result<Vec<Lang>, Fault> {
         match &self.project {
-            Some(project) => Ok(copy_langs(alloc, project.langs.as_slice())?),
+            Some(project) => Ok(copy_all(alloc, project.langs.as_slice())?),
             None => Ok(Vec::new(alloc)),
         }
     }
 
-    fn page(
-        &mut self,
-        alloc: Global,
-        lang: &Lang,
-        slug: &Slug,
-        path: &str,
-    ) -> Result<Option<Page>, Fault> {
+    fn page(&mut self, alloc: Global, lang: &Lang, slug: &Slug, path: &str) -> Found<Page> {
         match &self.project {
             Some(project) => Ok(page_of(alloc, project, lang, slug, path)?),
             None => Ok(None),
         }
     }
 
-    fn forced_redirect(&mut self, alloc: Global, asked: &Asked) -> Result<Option<Location>, Fault> {
+    fn forced_redirect(&mut self, alloc: Global, asked: &Asked) -> Found<Location> {
         Ok(self.redirected(alloc, true, asked)?)
     }
 
-    fn not_found_redirect(
-        &mut self,
-        alloc: Global,
-        asked: &Asked,
-    ) -> Result<Option<Location>, Fault> {
+    fn not_found_redirect(&mut self, alloc: Global, asked: &Asked) -> Found<Location> {
         Ok(self.redirected(alloc, false, asked)?)
     }
 
     fn listing(&mut self, alloc: Global) -> Result<Vec<Version>, Fault> {
         match &self.project {
-            Some(project) => Ok(copy_versions(alloc, project.versions.as_slice())?),
+            Some(project) => Ok(copy_all(alloc, project.versions.as_slice())?),
             None => Ok(Vec::new(alloc)),
         }
     }

@@ -7,15 +7,14 @@ use Rattle.sqlite_trees.specs.declared.store.Store.{Ghosts}
 use Rattle.sqlite.specs.Effect.{Database, IsDatabase}
 use Rattle.sqlite.specs.Held.{Held, state}
 use Rattle.sqlite.specs.State.{HasCleanDisk}
-use Rattle.dh_rows.specs.declared.fault.Fault as below
-use Rattle.dh_rows.specs.declared.fault.Fault.TheVariants as fault
+use Rattle.dh_faults.specs.declared.fault.Fault.{Fault}
+use Rattle.dh_faults.specs.declared.fault.Fault.TheVariants as fault
 use Rattle.dh_rows.specs.Calls.{AreRows, Blames, Finds, IsHonest, IsUnfit, OnlyLooks}
 use Rattle.dh_rows.specs.Shapes.{StandsAlone}
 use Rattle.dh_schema.specs.Making.{our_tables}
 use Rattle.dh_schema.specs.InTurn.{blamed_before, goes_on, same_on, refused_on}
 use Rattle.dh_opening.specs.declared.fault.TablesFault.{TablesFault}
-use Rattle.dh_opening.specs.declared.fault.TablesFault.TheVariants.{NotOurs, Store, Memory}
-use Rattle.dh_opening.specs.Faults.{told_as}
+use Rattle.dh_opening.specs.declared.fault.TablesFault.TheVariants.{NotOurs, Failed}
 use Rattle.dh_opening.specs.Opening.{Answers, IsLaid, IsWhole, OnNotOurs, OnFailed, Opens}
 
 on_ok : {T A B : Type 0} (r : Result T TablesFault) → (A → B) → OnOk r A → OnOk r B
@@ -33,14 +32,13 @@ if_ok (Err e) f a = tt
 on_ours : {T A B : Type 0} (r : Result T TablesFault) → (A → B) → OnNotOurs r A → OnNotOurs r B
 on_ours (Ok x) f a = tt
 on_ours (Err NotOurs) f a = f a
-on_ours (Err Store) f a = tt
-on_ours (Err Memory) f a = tt
+on_ours (Err (Failed fault)) f a = tt
 
 on_failed : {T A B : Type 0} (r : Result T TablesFault) → (A → B) → OnFailed r A → OnFailed r B
 on_failed (Ok x) f a = tt
 on_failed (Err NotOurs) f a = tt
-on_failed (Err Store) f a = f a
-on_failed (Err Memory) f a = tt
+on_failed (Err (Failed fault.Store)) f a = f a
+on_failed (Err (Failed fault.Memory)) f a = tt
 
 module _ {S : Type 0} {g : Ghosts S} where
   -- what a look tells, in other words
@@ -62,8 +60,8 @@ module _ {S : Type 0} {g : Ghosts S} where
       : {a b : Held S} {T U : Type 0} {P : Database → T → Type 0} {Q : Database → U → Type 0} {N : Database → Type 0} (e : TablesFault)
       → Opens g a b {T = T} (Err e) P N → Opens g a b {T = U} (Err e) Q N
   handed_on NotOurs it = record { goes = it.goes; same = λ clean. tt; err = it.err; found = λ clean. tt; ours = it.ours; told = λ clean. tt }
-  handed_on Store it = record { goes = it.goes; same = λ clean. tt; err = it.err; found = λ clean. tt; ours = λ clean. tt; told = it.told }
-  handed_on Memory it = record { goes = it.goes; same = λ clean. tt; err = it.err; found = λ clean. tt; ours = λ clean. tt; told = λ clean. tt }
+  handed_on (Failed fault.Store) it = record { goes = it.goes; same = λ clean. tt; err = it.err; found = λ clean. tt; ours = λ clean. tt; told = it.told }
+  handed_on (Failed fault.Memory) it = record { goes = it.goes; same = λ clean. tt; err = it.err; found = λ clean. tt; ours = λ clean. tt; told = λ clean. tt }
 
   module _ {a b c : Held S} {T U : Type 0} {P : Database → T → Type 0} {N : Database → Type 0} {Q : Database → U → Type 0} {M : Database → Type 0} (x : T) (r : Result U TablesFault)
       (first : Opens g a b (Ok x) P N) (next : Opens g b c r Q M) where
@@ -103,7 +101,7 @@ module _ {S : Type 0} {g : Ghosts S} {a b : Held S} {T U : Type 0} {P : Database
   handed (Err f) fault is less it = opens_as (Err f) (λ honest u q. q) less (subst (λ (e : TablesFault). Opens g a b {T = U} (Err e) Q N) (sym is) (handed_on fault it))
 
   -- memory that ran out behind an answered look
-  pub out_of_memory : (r : Result U TablesFault) → IsErrAnd r (λ f. f ≡ Memory) → (x : T) → Opens g a b (Ok x) P N → Opens g a b r Q M
+  pub out_of_memory : (r : Result U TablesFault) → IsErrAnd r (λ f. f ≡ Failed fault.Memory) → (x : T) → Opens g a b (Ok x) P N → Opens g a b r Q M
   out_of_memory (Ok u) is x it = absurd (is)
   out_of_memory (Err f) is x it =
       subst (λ (e : TablesFault). Opens g a b {T = U} (Err e) Q M) (sym is)
@@ -137,14 +135,14 @@ module _ {S : Type 0} {g : Ghosts S} {a b : Held S} {T U : Type 0} {P : Database
 module _ {S : Type 0} {g : Ghosts S} {a b : Held S} (sql : List ℕ) where
   -- one that was answered
   pub answered_as
-      : {Z : Type 0} (rows : Vec Row Z) → OnlyLooks g a b {E = below.Fault} (Ok rows) → Finds g a b {E = below.Fault} (Ok rows) (λ v. AreRows (state g a) sql [] v.items)
+      : {Z : Type 0} (rows : Vec Row Z) → OnlyLooks g a b {E = Fault} (Ok rows) → Finds g a b {E = Fault} (Ok rows) (λ v. AreRows (state g a) sql [] v.items)
       → Opens g a b (Ok rows) (λ db v. Answers db sql v.items) (λ _. ⊥)
   answered_as rows look found = record { goes = look.goes; same = look.same; err = λ honest. tt; found = found; ours = λ clean. tt; told = λ clean. tt }
 
   -- one that was refused, though it fits
   pub refused_as
-      : (T : Type 0) {U : Type 0} {P : Database → U → Type 0} {N : Database → Type 0} (e : below.Fault) → OnlyLooks g a b {T = T} {E = below.Fault} (Err e) → Blames g {T = T} a b (Err e) (IsUnfit (state g a) sql [])
-      → (IsHonest g a → IsWhole (state g a) sql) → Opens g a b {T = U} (Err (told_as e)) P N
+      : (T : Type 0) {U : Type 0} {P : Database → U → Type 0} {N : Database → Type 0} (e : Fault) → OnlyLooks g a b {T = T} {E = Fault} (Err e) → Blames g {T = T} a b (Err e) (IsUnfit (state g a) sql [])
+      → (IsHonest g a → IsWhole (state g a) sql) → Opens g a b {T = U} (Err (Failed e)) P N
   refused_as T fault.Memory look blamed whole = record { goes = look.goes; same = λ clean. tt; err = look.err; found = λ clean. tt; ours = λ clean. tt; told = λ clean. tt }
   refused_as T fault.Store look blamed whole = record {
     goes = look.goes;
@@ -152,7 +150,7 @@ module _ {S : Type 0} {g : Ghosts S} {a b : Held S} (sql : List ℕ) where
     err = look.err;
     found = λ clean. tt;
     ours = λ clean. tt;
-    told = λ clean. elim (blamed clean refl) [
+    told = λ clean. elim (blamed clean) [
       | inl own ↦ own
       | inr unfit ↦ elim (cases_Bool (state g a).is_open) [
         | inl live ↦ absurd ((whole (look.goes.lasts.clean clean, live)).fits unfit)

@@ -10,7 +10,7 @@ use Rattle.dh_records.specs.Typed.{AreTyped}
 use Rattle.dh_schema.specs.Making.{our_tables}
 use Rattle.dh_schema.specs.Tables.{lists_of, meta}
 use Rattle.dh_opening.specs.declared.fault.TablesFault.{TablesFault}
-use Rattle.dh_opening.specs.declared.fault.TablesFault.TheVariants.{NotOurs, Store, Memory}
+use Rattle.dh_opening.specs.declared.fault.TablesFault.TheVariants.{NotOurs, Failed}
 use Rattle.dh_opening.specs.Opening.{AreSpelled, IsNumbered, IsOurs, OnNotOurs, StandFor}
 
 -- the one row of the table with the number
@@ -110,5 +110,4 @@ on_found H P (Err e) it = tt
 pub on_none : {T : Type 0} (H P : Type 0) (r : Result T TablesFault) → OnNotOurs r (H × P) → OnNotOurs r P
 on_none H P (Ok x) it = tt
 on_none H P (Err NotOurs) it = it.1
-on_none H P (Err Store) it = tt
-on_none H P (Err Memory) it = tt
+on_none H P (Err (Failed fault)) it = tt

@@ -20,8 +20,9 @@ use Rattle.dh_records.specs.Lists.{Lists}
 use Rattle.dh_records.specs.Typed.{IsProject, IsLanguage, IsVersion, IsPage, IsUsed, IsPick, IsPass, IsHeld, IsRule, IsRedirect}
 use Rattle.dh_schema.specs.Tables.{Holds, lists_of, meta}
 use Rattle.dh_schema.specs.Making.{our_tables}
+use Rattle.dh_faults.specs.declared.fault.Fault.TheVariants as fault
 use Rattle.dh_opening.specs.declared.fault.TablesFault.{TablesFault}
-use Rattle.dh_opening.specs.declared.fault.TablesFault.TheVariants.{NotOurs, Store}
+use Rattle.dh_opening.specs.declared.fault.TablesFault.TheVariants.{NotOurs, Failed}
 
 -- ---- records
 
@@ -98,7 +99,7 @@ OnNotOurs _ P = ⊤
 
 -- the fact, if the answer is that the store failed
 abbrev pub OnFailed : {T : Type 0} → Result T TablesFault → Type 0 → Type 0
-OnFailed (Err Store) P = P
+OnFailed (Err (Failed fault.Store)) P = P
 OnFailed _ P = ⊤
 
 module _ {S : Type 0} (g : Ghosts S) (old new : Held S) {T : Type 0} (result : Result T TablesFault) where

@@ -16,19 +16,12 @@ use crate::rows::{has_values, is_number, rise, value_at};
 use dh_lookup::Fault;
 use dh_records::{
     HeldRow, LangRow, PageRow, PassRow, PickRow, ProjectRow, Record, RedirectRow, RuleRow, UsedRow,
-    VersionRow, action_number, is_tag, kind_number,
+    VersionRow, action_number, is_tag, kind_number, show_number,
 };
 use dh_world::{Answer, Operation};
 use sqlite::types::ToSql;
 use sqlite::{Row, params};
 use std::alloc::{AllocError, Global};
-
-/// That a number fits 32 bits, as its type says. It does nothing.
-pub fn show_number(n: u32)
-    ensures { n < 2 ^ 32 }
-{
-    let _ = n;
-}
 
 /// That a number fits 16 bits, as its type says. It does nothing.
 fn show_status(n: u16)
@@ -108,16 +101,7 @@ impl Kept for ProjectRow {
     }
 
     fn is_kept_as(&self, _alloc: Global, row: &Row) -> Result<bool, AllocError> {
-        Ok(has_values(
-            row,
-            params![
-                self.host.as_str(),
-                self.main.as_str(),
-                self.branch.as_str(),
-                self.wkey.as_str(),
-                self.new_private
-            ],
-        ))
+        Ok(has_values(row, &self.values()))
     }
 }
 
@@ -151,18 +135,7 @@ impl Kept for VersionRow {
     }
 
     fn is_kept_as(&self, _alloc: Global, row: &Row) -> Result<bool, AllocError> {
-        Ok(has_values(
-            row,
-            params![
-                self.host.as_str(),
-                self.version.slug.as_str(),
-                self.version.name.as_str(),
-                is_tag(self.version.kind),
-                self.version.active,
-                self.version.hidden,
-                self.version.private
-            ],
-        ))
+        Ok(has_values(row, &self.values()))
     }
 }
 
@@ -196,17 +169,7 @@ impl Kept for PageRow {
     }
 
     fn is_kept_as(&self, _alloc: Global, row: &Row) -> Result<bool, AllocError> {
-        Ok(has_values(
-            row,
-            params![
-                self.host.as_str(),
-                self.slug.as_str(),
-                self.lang.as_str(),
-                self.path.as_str(),
-                self.page.media.as_str(),
-                self.page.body.as_slice()
-            ],
-        ))
+        Ok(has_values(row, &self.values()))
     }
 }
 
@@ -240,7 +203,7 @@ impl Kept for PassRow {
     }
 
     fn is_kept_as(&self, _alloc: Global, row: &Row) -> Result<bool, AllocError> {
-        Ok(has_values(row, params![self.host.as_str(), self.pass.as_str()]))
+        Ok(has_values(row, &self.values()))
     }
 }
 
@@ -274,10 +237,7 @@ impl Kept for HeldRow {
     }
 
     fn is_kept_as(&self, _alloc: Global, row: &Row) -> Result<bool, AllocError> {
-        Ok(has_values(
-            row,
-            params![self.host.as_str(), self.pass.as_str(), self.slug.as_str()],
-        ))
+        Ok(has_values(row, &self.values()))
     }
 }
 
@@ -311,11 +271,7 @@ impl Kept for LangRow {
     }
 
     fn is_kept_as(&self, _alloc: Global, row: &Row) -> Result<bool, AllocError> {
-        show_number(self.place);
-        Ok(has_values(
-            row,
-            params![self.host.as_str(), self.lang.as_str(), self.place],
-        ))
+        Ok(has_values(row, &self.values()))
     }
 }
 

@@ -2,16 +2,16 @@
 
 ghost use Rattle.std.specs.Prelude.{◌≡◌, ℕ, ◌<◌, ◌^◌, [], IfOk};
 ghost use Rattle.sqlite_value.specs.Order.{column};
-ghost use Rattle.dh_lookup.specs.Faults.{OnStore};
+ghost use Rattle.dh_faults.specs.Faults.{OnStore};
 ghost use Rattle.dh_records.specs.Codings.{number_in};
 ghost use Rattle.dh_records.specs.Typed.{IsNumber};
 ghost use Rattle.dh_schema.specs.Tables as spec;
 ghost use Rattle.dh_opening.specs.Readings as readings;
 
-use crate::kept::{Kept, show_number};
+use crate::kept::Kept;
 use crate::rows::has_values;
 use dh_lookup::Fault;
-use dh_records::{Record, fault_of};
+use dh_records::{Record, number_at, show_number};
 use sqlite::{Row, params};
 use std::alloc::{AllocError, Global};
 use std::marker::Model;
@@ -28,16 +28,6 @@ impl Model for Number {
     ghost view = { λ n. n.number };
 }
 
-fn number_at(row: &Row) -> Result<u32, Fault>
-    ensures value { IfOk result (λ n. number_in (column row.now 0) ≡ n) }
-    ensures told { OnStore result (¬ IsNumber row.now 0) }
-{
-    match row.get(0) {
-        Ok(number) => Ok(number),
-        Err(error) => Err(fault_of(error.into())),
-    }
-}
-
 impl Record for Number {
     ghost coding = { spec.meta };
 
@@ -45,7 +35,7 @@ impl Record for Number {
 
     fn read(_alloc: Global, row: &Row) -> Result<Number, Fault> {
         Ok(Number {
-            number: number_at(row)?,
+            number: number_at(row, 0)?,
         })
     }
 }

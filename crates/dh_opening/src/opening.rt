@@ -77,8 +77,7 @@ pub fn create<S: Alter>(conn: Connection<S>) -> Result<Tables<S>, (TablesFault, 
     }
     match make_at_once(&mut conn) {
         Ok(()) => Ok(Tables::over(conn)),
-        Err(Fault::Store) => Err((TablesFault::Store, conn)),
-        Err(Fault::Memory) => Err((TablesFault::Memory, conn)),
+        Err(fault) => Err((TablesFault::Failed(fault), conn)),
     }
 }
 
@@ -113,7 +112,7 @@ pub fn open<S: Alter>(
     ensures ours { IfErr result (λ e. HasCleanDisk (state S.Store e.1)
         → e.0 ≡ TablesFault.NotOurs → ¬ IsOurs (state S.Store conn).now) }
     ensures told { IfErr result (λ e. HasCleanDisk (state S.Store e.1)
-        → e.0 ≡ TablesFault.Store → IsBlamed S.Store conn e.1) }
+        → e.0 ≡ TablesFault.Failed Fault.Store → IsBlamed S.Store conn e.1) }
     ensures back { IfErr result (λ e. IsHonest S.Store e.1 → CommitsNothing S.Store conn e.1) }
     ensures kept { IfErr result (λ e. IsHonest S.Store conn → LeavesNoMore S.Store conn e.1) }
 {

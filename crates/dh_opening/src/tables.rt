@@ -24,7 +24,7 @@ fn select<S: Alter>(conn: &mut Connection<S>, sql: &str) -> Result<Vec<Row>, Tab
 {
     match dh_rows::select(conn, sql, &[]) {
         Ok(rows) => Ok(rows),
-        Err(fault) => Err(TablesFault::from(fault)),
+        Err(fault) => Err(TablesFault::Failed(fault)),
     }
 }
 

@@ -66,7 +66,7 @@ and_first a b c h e = let both = and_parts a b e in and_from c b (h both.0) both
 
 -- some grants less
 pub constraints_without_grants : (lists : Lists) (keep : HeldRow → Bool) → KeepsConstraints lists → KeepsConstraints (record lists { held = filter keep lists.held })
-constraints_without_grants lists keep constraints = assumption (all-filter _ keep lists.held constraints.granted)
+constraints_without_grants lists keep constraints = assumption (all-filter _ keep lists.held constraints.records.granted)
 
 all_granted : (P : HeldRow → Type 0) (row : HeldRow) (rows : List HeldRow) → P row → AllByRecursion P rows → AllByRecursion P (granted row rows)
 all_granted P row rows new old = go (list_any (is_held row.host row.pass row.slug) rows)
@@ -77,7 +77,7 @@ all_granted P row rows new old = go (list_any (is_held row.host row.pass row.slu
 
 -- a grant of a pass and on a version that are there
 pub constraints_with_grant : (lists : Lists) (row : HeldRow) → KeepsConstraints lists → IsTrue (has_pass lists row.host row.pass) → IsTrue (has_version lists row.host row.slug) → KeepsConstraints (record lists { held = granted row lists.held })
-constraints_with_grant lists row constraints pass version = assumption (all_granted (λ x. IsTrue (has_pass lists x.host x.pass && has_version lists x.host x.slug)) row lists.held (and_from _ _ pass version) constraints.granted)
+constraints_with_grant lists row constraints pass version = assumption (all_granted (λ x. IsTrue (has_pass lists x.host x.pass && has_version lists x.host x.slug)) row lists.held (and_from _ _ pass version) constraints.records.granted)
 
 -- ---- passes
 
@@ -85,10 +85,10 @@ pub constraints_with_pass : (lists : Lists) (row : PassRow) → KeepsConstraints
     → KeepsConstraints (record lists { passes = added coding.passes.key row lists.passes })
 constraints_with_pass lists row constraints host few =
     assumption (
-      all_added (λ x. IsTrue (has_project lists x.host)) (by_key coding.passes.key) row lists.passes host constraints.passes,
-      all_weaker _ (λ r. length (filter (is_pass_of r.host) next.passes) ≤ 1000) still lists.projects constraints.few_passes,
+      all_added (λ x. IsTrue (has_project lists x.host)) (by_key coding.passes.key) row lists.passes host constraints.hosts.passes,
+      all_weaker _ (λ r. length (filter (is_pass_of r.host) next.passes) ≤ 1000) still lists.projects constraints.projects.few_passes,
       all_weaker _ (λ x. IsTrue (has_pass next x.host x.pass && has_version lists x.host x.slug))
-          (λ x. and_first _ _ _ (found_still (by_key coding.passes.key) (is_pass x.host x.pass) row lists.passes)) lists.held constraints.granted,
+          (λ x. and_first _ _ _ (found_still (by_key coding.passes.key) (is_pass x.host x.pass) row lists.passes)) lists.held constraints.records.granted,
     )
   where
     next : Lists
@@ -104,10 +104,10 @@ constraints_with_pass lists row constraints host few =
 pub constraints_without_pass : (lists : Lists) (host pass : Text) → KeepsConstraints lists → AllByRecursion (λ x. is_held_by host pass x ≡ false) lists.held → KeepsConstraints (record lists { passes = filter (λ x. not (is_pass host pass x)) lists.passes })
 constraints_without_pass lists host pass constraints none =
     assumption (
-      all-filter _ (λ x. not (is_pass host pass x)) lists.passes constraints.passes,
+      all-filter _ (λ x. not (is_pass host pass x)) lists.passes constraints.hosts.passes,
       all_weaker _ (λ r. length (filter (is_pass_of r.host) (filter (λ x. not (is_pass host pass x)) lists.passes)) ≤ 1000)
-          (λ r were. omega (arith, were, count_kept (is_pass_of r.host) (λ x. not (is_pass host pass x)) lists.passes)) lists.projects constraints.few_passes,
-      all_both _ _ (λ x. IsTrue (has_pass next x.host x.pass && has_version lists x.host x.slug)) (λ x was out. and_first _ _ _ (kept x out) was) lists.held constraints.granted none,
+          (λ r were. omega (arith, were, count_kept (is_pass_of r.host) (λ x. not (is_pass host pass x)) lists.passes)) lists.projects constraints.projects.few_passes,
+      all_both _ _ (λ x. IsTrue (has_pass next x.host x.pass && has_version lists x.host x.slug)) (λ x was out. and_first _ _ _ (kept x out) was) lists.held constraints.records.granted none,
     )
   where
     next : Lists
@@ -127,10 +127,10 @@ pub constraints_with_defaults : (lists : Lists) (host : Text) (names : List Text
     → KeepsConstraints (record lists { picks = set_picks host names lists.picks })
 constraints_with_defaults lists host names constraints up has apart may =
     assumption (
-      all_set host (λ d. IsTrue (has_project lists d.host)) names lists.picks (all_ranked host (λ d. IsTrue (has_project lists d.host)) 1 names (all_of _ (λ name rank. has) names)) constraints.picks,
-      all_weaker _ (λ r. AreDefaults (filter (is_pick_of r.host) (set_picks host names lists.picks))) still lists.projects constraints.defaults,
+      all_set host (λ d. IsTrue (has_project lists d.host)) names lists.picks (all_ranked host (λ d. IsTrue (has_project lists d.host)) 1 names (all_of _ (λ name rank. has) names)) constraints.hosts.picks,
+      all_weaker _ (λ r. AreDefaults (filter (is_pick_of r.host) (set_picks host names lists.picks))) still lists.projects constraints.projects.defaults,
       all_set host (λ d. MayBeDefault lists d.host d.name) names lists.picks
-          (all_ranked host (λ d. MayBeDefault lists d.host d.name) 1 names (all_weaker _ (λ name. (rank : ℕ) → MayBeDefault lists host name) (λ name h rank. h) names may)) constraints.default_names,
+          (all_ranked host (λ d. MayBeDefault lists d.host d.name) 1 names (all_weaker _ (λ name. (rank : ℕ) → MayBeDefault lists host name) (λ name h rank. h) names may)) constraints.records.default_names,
     )
   where
     are : AreDefaults (ranked host 1 names)
@@ -174,7 +174,7 @@ front_distinct name names apart =
 module _ (lists : Lists) (host : Text) (p : Project) (constraints : KeepsConstraints lists) (was : get (world_of lists) host ≡ Some p) where
   pub defaults_distinct : IsDistinct bytes_eq p.defaults
   defaults_distinct =
-      let it = of_project (λ r. AreDefaults (filter (is_pick_of r.host) lists.picks)) lists host constraints.defaults (owned_by lists host p was) in
+      let it = of_project (λ r. AreDefaults (filter (is_pick_of r.host) lists.picks)) lists host constraints.projects.defaults (owned_by lists host p was) in
       let here : AreDefaults (filter (is_pick_of host) lists.picks) = subst (λ h. AreDefaults (filter (is_pick_of h) lists.picks)) it.1 it.2 in
       subst (IsDistinct bytes_eq) (sym (defaults_in lists host p was)) here.apart
 
@@ -183,7 +183,7 @@ module _ (lists : Lists) (host : Text) (p : Project) (constraints : KeepsConstra
       subst (AllByRecursion (MayBeDefault lists host)) (sym (defaults_in lists host p was))
       (all_map (MayBeDefault lists host) (λ d. d.name) (filter (is_pick_of host) lists.picks)
       (all_both _ _ (λ d. MayBeDefault lists host d.name) (λ d may here. subst (λ h. MayBeDefault lists h d.name) ((bytes_eq-Decides d.host host).0 here) may) (filter (is_pick_of host) lists.picks)
-      (all-filter _ (is_pick_of host) lists.picks constraints.default_names) (each_passes (is_pick_of host) lists.picks)))
+      (all-filter _ (is_pick_of host) lists.picks constraints.records.default_names) (each_passes (is_pick_of host) lists.picks)))
 
 -- ---- versions
 
@@ -192,11 +192,11 @@ pub constraints_without_version : (lists : Lists) (host slug : Text) → KeepsCo
     → AllByRecursion (λ d. (is_pick_of host d && bytes_eq d.name slug) ≡ false) lists.picks → KeepsConstraints (record lists { versions = filter (λ v. not (is_version host slug v)) lists.versions })
 constraints_without_version lists host slug constraints bare unheld unnamed =
     assumption (
-      all-filter _ (λ v. not (is_version host slug v)) lists.versions constraints.versions,
-      all-filter _ (λ v. not (is_version host slug v)) lists.versions constraints.slugs,
-      all_both _ _ (λ x. IsTrue (has_active next x.host x.slug)) (λ x was out. ap (λ o. option_map_or (λ (v : VersionRow). v.version.active) o false) (stays x.host x.slug out) ∙ was) lists.pages constraints.active bare,
-      all_both _ _ (λ d. MayBeDefault next d.host d.name) (λ d was out. or_later _ _ _ (λ h. ap is_some (stays d.host d.name out) ∙ h) was) lists.picks constraints.default_names unnamed,
-      all_both _ _ (λ x. IsTrue (has_pass lists x.host x.pass && has_version next x.host x.slug)) (λ x was out. and_later _ _ _ (λ h. ap is_some (stays x.host x.slug out) ∙ h) was) lists.held constraints.granted unheld,
+      all-filter _ (λ v. not (is_version host slug v)) lists.versions constraints.hosts.versions,
+      all-filter _ (λ v. not (is_version host slug v)) lists.versions constraints.texts.slugs,
+      all_both _ _ (λ x. IsTrue (has_active next x.host x.slug)) (λ x was out. ap (λ o. option_map_or (λ (v : VersionRow). v.version.active) o false) (stays x.host x.slug out) ∙ was) lists.pages constraints.records.active bare,
+      all_both _ _ (λ d. MayBeDefault next d.host d.name) (λ d was out. or_later _ _ _ (λ h. ap is_some (stays d.host d.name out) ∙ h) was) lists.picks constraints.records.default_names unnamed,
+      all_both _ _ (λ x. IsTrue (has_pass lists x.host x.pass && has_version next x.host x.slug)) (λ x was out. and_later _ _ _ (λ h. ap is_some (stays x.host x.slug out) ∙ h) was) lists.held constraints.records.granted unheld,
     )
   where
     next : Lists

@@ -99,7 +99,7 @@ module _ (lists : Lists) (row : ProjectRow) (lang : LangRow) (constraints : Keep
 
   alone : map (λ l. l.lang) (filter (is_lang_of row.host) (added coding.langs.key lang lists.langs)) ≡ row.main ∷ []
   alone =
-      ap (map (λ l. l.lang)) (none_but_added (by_key coding.langs.key) (is_lang_of row.host) lang lists.langs ((bytes_eq-Decides lang.host row.host).1 home) (none (λ l. l.host) lists.langs constraints.langs))
+      ap (map (λ l. l.lang)) (none_but_added (by_key coding.langs.key) (is_lang_of row.host) lang lists.langs ((bytes_eq-Decides lang.host row.host).1 home) (none (λ l. l.host) lists.langs constraints.hosts.langs))
       ∙ ap (λ t. t ∷ []) main
 
   begins : project_of (begun lists row lang) row ≡ fresh row
@@ -109,14 +109,14 @@ module _ (lists : Lists) (row : ProjectRow) (lang : LangRow) (constraints : Keep
     branch = row.branch;
     new_private = row.new_private;
     wkey = row.wkey;
-    versions = kept_none parts.version_maps row.host lists.versions (none (λ v. v.host) lists.versions constraints.versions) i;
-    pages = kept_none parts.page_maps row.host lists.pages (none (λ x. x.host) lists.pages constraints.pages) i;
-    defaults = none_told (λ d. d.host) (λ d. d.name) lists.picks constraints.picks i;
-    passes = kept_none parts.pass_maps row.host lists.passes (none (λ x. x.host) lists.passes constraints.passes) i;
+    versions = kept_none parts.version_maps row.host lists.versions (none (λ v. v.host) lists.versions constraints.hosts.versions) i;
+    pages = kept_none parts.page_maps row.host lists.pages (none (λ x. x.host) lists.pages constraints.hosts.pages) i;
+    defaults = none_told (λ d. d.host) (λ d. d.name) lists.picks constraints.hosts.picks i;
+    passes = kept_none parts.pass_maps row.host lists.passes (none (λ x. x.host) lists.passes constraints.hosts.passes) i;
     held = kept_none parts.held_maps row.host lists.held (none (λ x. x.host) lists.held (grants_owned lists constraints)) i;
-    used = kept_none parts.used_maps row.host lists.used (none (λ u. u.host) lists.used constraints.used) i;
-    rules = none_told (λ r. r.host) (λ r. r.rule) lists.rules constraints.rules i;
-    redirects = none_told (λ r. r.host) (λ r. r.redirect) lists.redirects constraints.redirects i;
+    used = kept_none parts.used_maps row.host lists.used (none (λ u. u.host) lists.used constraints.hosts.used) i;
+    rules = none_told (λ r. r.host) (λ r. r.rule) lists.rules constraints.hosts.rules i;
+    redirects = none_told (λ r. r.host) (λ r. r.redirect) lists.redirects constraints.hosts.redirects i;
   }
 
   here : option_map (project_of (begun lists row lang)) (find (is_project row.host) (added coding.projects.key row lists.projects)) ≡ Some (fresh row)

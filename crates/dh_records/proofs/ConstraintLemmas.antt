@@ -58,7 +58,7 @@ find_version row rows host slug = find_put coding.versions.key (is_version host 
 
 -- a version that is not there, or inactive, has no pages
 pub inactive_is_bare : (lists : Lists) (host slug : Text) → KeepsConstraints lists → has_active lists host slug ≡ false → AllByRecursion (λ x. is_page_of host slug x ≡ false) lists.pages
-inactive_is_bare lists host slug constraints off = all_weaker _ (λ x. is_page_of host slug x ≡ false) apart lists.pages constraints.active
+inactive_is_bare lists host slug constraints off = all_weaker _ (λ x. is_page_of host slug x ≡ false) apart lists.pages constraints.records.active
   where
     apart : (x : PageRow) → IsTrue (has_active lists x.host x.slug) → is_page_of host slug x ≡ false
     apart x shown = false_from_ne_true _ (λ e.
@@ -74,11 +74,11 @@ pub constraints_with_version : (lists : Lists) (row : VersionRow) → KeepsConst
     → KeepsConstraints (record lists { versions = put coding.versions.key row lists.versions })
 constraints_with_version lists row constraints host named bare =
     assumption (
-      all_put coding.versions.key (λ v. IsTrue (has_project lists v.host)) row lists.versions host constraints.versions,
-      all_put coding.versions.key (λ v. slug_from v.version.name ≡ Some v.version.slug) row lists.versions named constraints.slugs,
-      all_both _ _ (λ x. IsTrue (has_active next x.host x.slug)) still lists.pages constraints.active (each row.version.active refl),
-      all_weaker _ (λ d. IsTrue (is_alias d.name || has_version next d.host d.name)) (λ d. or_later _ _ _ (kept d.host d.name)) lists.picks constraints.default_names,
-      all_weaker _ (λ x. IsTrue (has_pass lists x.host x.pass && has_version next x.host x.slug)) (λ x. and_later _ _ _ (kept x.host x.slug)) lists.held constraints.granted,
+      all_put coding.versions.key (λ v. IsTrue (has_project lists v.host)) row lists.versions host constraints.hosts.versions,
+      all_put coding.versions.key (λ v. slug_from v.version.name ≡ Some v.version.slug) row lists.versions named constraints.texts.slugs,
+      all_both _ _ (λ x. IsTrue (has_active next x.host x.slug)) still lists.pages constraints.records.active (each row.version.active refl),
+      all_weaker _ (λ d. IsTrue (is_alias d.name || has_version next d.host d.name)) (λ d. or_later _ _ _ (kept d.host d.name)) lists.picks constraints.records.default_names,
+      all_weaker _ (λ x. IsTrue (has_pass lists x.host x.pass && has_version next x.host x.slug)) (λ x. and_later _ _ _ (kept x.host x.slug)) lists.held constraints.records.granted,
     )
   where
     next : Lists
@@ -111,18 +111,18 @@ pub constraints_with_page : (lists : Lists) (row : PageRow) → KeepsConstraints
     → KeepsConstraints (record lists { pages = put coding.pages.key row lists.pages })
 constraints_with_page lists row constraints host shown spoken =
     assumption (
-      all_put coding.pages.key (λ x. IsTrue (has_project lists x.host)) row lists.pages host constraints.pages,
-      all_put coding.pages.key (λ x. IsTrue (has_active lists x.host x.slug)) row lists.pages shown constraints.active,
-      all_put coding.pages.key (λ x. IsTrue (has_language lists x.host x.lang)) row lists.pages spoken constraints.spoken,
+      all_put coding.pages.key (λ x. IsTrue (has_project lists x.host)) row lists.pages host constraints.hosts.pages,
+      all_put coding.pages.key (λ x. IsTrue (has_active lists x.host x.slug)) row lists.pages shown constraints.records.active,
+      all_put coding.pages.key (λ x. IsTrue (has_language lists x.host x.lang)) row lists.pages spoken constraints.records.spoken,
     )
 
 -- some pages less
 pub constraints_without : (lists : Lists) (p : PageRow → Bool) → KeepsConstraints lists → KeepsConstraints (record lists { pages = filter p lists.pages })
 constraints_without lists p constraints =
     assumption (
-      all-filter _ p lists.pages constraints.pages,
-      all-filter _ p lists.pages constraints.active,
-      all-filter _ p lists.pages constraints.spoken,
+      all-filter _ p lists.pages constraints.hosts.pages,
+      all-filter _ p lists.pages constraints.records.active,
+      all-filter _ p lists.pages constraints.records.spoken,
     )
 
 -- ---- used keys
@@ -131,8 +131,8 @@ pub constraints_with_used : (lists : Lists) (row : UsedRow) → KeepsConstraints
     → KeepsConstraints (record lists { used = added coding.used.key row lists.used })
 constraints_with_used lists row constraints host read =
     assumption (
-      all_added (λ u. IsTrue (has_project lists u.host)) (by_key coding.used.key) row lists.used host constraints.used,
-      all_added (λ u. IsSome (answer_of u.answer)) (by_key coding.used.key) row lists.used read constraints.answers,
+      all_added (λ u. IsTrue (has_project lists u.host)) (by_key coding.used.key) row lists.used host constraints.hosts.used,
+      all_added (λ u. IsSome (answer_of u.answer)) (by_key coding.used.key) row lists.used read constraints.texts.answers,
     )
 
 -- ---- languages
@@ -155,7 +155,7 @@ of_project P lists host all = go (find (is_project host) lists.projects) refl
 
 -- a grant lies under a host that has a project
 pub grants_owned : (lists : Lists) → KeepsConstraints lists → AllByRecursion (λ x. IsTrue (has_project lists x.host)) lists.held
-grants_owned lists constraints = all_weaker _ (λ x. IsTrue (has_project lists x.host)) owned lists.held constraints.granted
+grants_owned lists constraints = all_weaker _ (λ x. IsTrue (has_project lists x.host)) owned lists.held constraints.records.granted
   where
     owned : (x : HeldRow) → IsTrue (has_pass lists x.host x.pass && has_version lists x.host x.slug) → IsTrue (has_project lists x.host)
     owned x h = go (find (is_pass x.host x.pass) lists.passes) refl (and_parts _ _ h).0
@@ -164,7 +164,7 @@ grants_owned lists constraints = all_weaker _ (λ x. IsTrue (has_project lists x
         go None e t = absurd (true≢false (sym t))
         go (Some r) e t =
             let same = are_both r.host r.pass x.host x.pass (found_passes (is_pass x.host x.pass) lists.passes r e) in
-            ap (has_project lists) (sym same.0) ∙ all_found (λ p. IsTrue (has_project lists p.host)) (is_pass x.host x.pass) lists.passes r e constraints.passes
+            ap (has_project lists) (sym same.0) ∙ all_found (λ p. IsTrue (has_project lists p.host)) (is_pass x.host x.pass) lists.passes r e constraints.hosts.passes
 
 range_below : (a n m : ℕ) → a + n ≤ m → AllByRecursion (λ k. k < m) (range_with_len a n)
 range_below a zero m h = tt
@@ -175,7 +175,7 @@ pub places_below : (lists : Lists) (row : LangRow) → KeepsConstraints lists �
     → AllByRecursion (λ l. is_lang_of row.host l ≡ true → l.place < row.place) lists.langs
 places_below lists row constraints has next =
     let ls = filter (is_lang_of row.host) lists.langs in
-    let it = of_project (λ r. AreLanguages r.main (filter (is_lang_of r.host) lists.langs)) lists row.host constraints.languages has in
+    let it = of_project (λ r. AreLanguages r.main (filter (is_lang_of r.host) lists.langs)) lists row.host constraints.projects.languages has in
     let these : AreLanguages it.0.main ls = subst (λ n. AreLanguages it.0.main (filter (is_lang_of n) lists.langs)) it.1 it.2 in
     let below : AllByRecursion (λ k. k < row.place) (map (λ (l : LangRow). l.place) ls) = subst (AllByRecursion (λ k. k < row.place)) (sym these.places) (range_below 1 (length ls) row.place (omega arith)) in
     all_kept (λ l. l.place < row.place) (is_lang_of row.host) lists.langs (all_unmap (λ k. k < row.place) (λ l. l.place) ls below)
@@ -210,9 +210,9 @@ pub constraints_with_lang : (lists : Lists) (row : LangRow) → KeepsConstraints
     → row.place ≡ length (filter (is_lang_of row.host) lists.langs) + 1 → row.place ≤ 30 → has_language lists row.host row.lang ≡ false → KeepsConstraints (record lists { langs = added coding.langs.key row lists.langs })
 constraints_with_lang lists row constraints up host next few new =
     assumption (
-      all_added (λ l. IsTrue (has_project lists l.host)) (by_key coding.langs.key) row lists.langs host constraints.langs,
-      all_weaker _ (λ r. AreLanguages r.main (filter (is_lang_of r.host) after)) still lists.projects constraints.languages,
-      all_weaker _ (λ x. list_any (λ t. bytes_eq t x.lang) (map (λ l. l.lang) (filter (is_lang_of x.host) after)) ≡ true) spoken lists.pages constraints.spoken,
+      all_added (λ l. IsTrue (has_project lists l.host)) (by_key coding.langs.key) row lists.langs host constraints.hosts.langs,
+      all_weaker _ (λ r. AreLanguages r.main (filter (is_lang_of r.host) after)) still lists.projects constraints.projects.languages,
+      all_weaker _ (λ x. list_any (λ t. bytes_eq t x.lang) (map (λ l. l.lang) (filter (is_lang_of x.host) after)) ≡ true) spoken lists.pages constraints.records.spoken,
     )
   where
     after : List LangRow
@@ -259,7 +259,7 @@ none_of_new host_of rows lists host new has = all_weaker _ (λ a. bytes_eq (host
 -- the place of the first language of a new project is free
 pub first_lang_is_free : (lists : Lists) (lang : LangRow) → KeepsConstraints lists → find (is_project lang.host) lists.projects ≡ None → IsFreeKey coding.langs.key lang lists.langs
 first_lang_is_free lists lang constraints new =
-    all_weaker _ (λ l. same_key coding.langs.key lang l ≡ false) (elsewhere (λ l. l.host) (λ l. l.place) lang) lists.langs (none_of_new (λ l. l.host) lists.langs lists lang.host new constraints.langs)
+    all_weaker _ (λ l. same_key coding.langs.key lang l ≡ false) (elsewhere (λ l. l.host) (λ l. l.place) lang) lists.langs (none_of_new (λ l. l.host) lists.langs lists lang.host new constraints.hosts.langs)
 
 one_language : (main : Text) (row : LangRow) → row.lang ≡ main → row.place ≡ 1 → AreLanguages main (row ∷ [])
 unfolding IsDistinct
@@ -276,21 +276,21 @@ pub constraints_with_project : (lists : Lists) (row : ProjectRow) (lang : LangRo
     → KeepsConstraints (record lists { projects = added coding.projects.key row lists.projects; langs = added coding.langs.key lang lists.langs })
 constraints_with_project lists row lang constraints new home main place =
     assumption (
-      all_added (λ l. IsTrue (has_project next l.host)) (by_key coding.langs.key) lang lists.langs owner (still (λ l. l.host) lists.langs constraints.langs),
-      still (λ v. v.host) lists.versions constraints.versions,
-      still (λ x. x.host) lists.pages constraints.pages,
-      still (λ u. u.host) lists.used constraints.used,
-      still (λ d. d.host) lists.picks constraints.picks,
-      still (λ x. x.host) lists.passes constraints.passes,
-      still (λ r. r.host) lists.rules constraints.rules,
-      still (λ r. r.host) lists.redirects constraints.redirects,
+      all_added (λ l. IsTrue (has_project next l.host)) (by_key coding.langs.key) lang lists.langs owner (still (λ l. l.host) lists.langs constraints.hosts.langs),
+      still (λ v. v.host) lists.versions constraints.hosts.versions,
+      still (λ x. x.host) lists.pages constraints.hosts.pages,
+      still (λ u. u.host) lists.used constraints.hosts.used,
+      still (λ d. d.host) lists.picks constraints.hosts.picks,
+      still (λ x. x.host) lists.passes constraints.hosts.passes,
+      still (λ r. r.host) lists.rules constraints.hosts.rules,
+      still (λ r. r.host) lists.redirects constraints.hosts.redirects,
       all_added (λ r. AreLanguages r.main (filter (is_lang_of r.host) after)) (by_key coding.projects.key) row lists.projects first
-          (all_both _ _ (λ r. AreLanguages r.main (filter (is_lang_of r.host) after)) other lists.projects constraints.languages (none_found (is_project row.host) lists.projects new)),
-      begun (λ x. x.host) (λ rows. length rows ≤ 1000) lists.passes constraints.passes (omega arith) constraints.few_passes,
-      begun (λ d. d.host) AreDefaults lists.picks constraints.picks none_are_defaults constraints.defaults,
-      begun (λ r. r.host) AreRules lists.rules constraints.rules (none_have_places (λ r. r.place) 50) constraints.rule_places,
-      begun (λ r. r.host) AreRedirects lists.redirects constraints.redirects (none_have_places (λ r. r.place) 100) constraints.places,
-      all_both _ _ (λ x. IsTrue (has_language next x.host x.lang)) spoken lists.pages constraints.pages constraints.spoken,
+          (all_both _ _ (λ r. AreLanguages r.main (filter (is_lang_of r.host) after)) other lists.projects constraints.projects.languages (none_found (is_project row.host) lists.projects new)),
+      begun (λ x. x.host) (λ rows. length rows ≤ 1000) lists.passes constraints.hosts.passes (omega arith) constraints.projects.few_passes,
+      begun (λ d. d.host) AreDefaults lists.picks constraints.hosts.picks none_are_defaults constraints.projects.defaults,
+      begun (λ r. r.host) AreRules lists.rules constraints.hosts.rules (none_have_places (λ r. r.place) 50) constraints.projects.rule_places,
+      begun (λ r. r.host) AreRedirects lists.redirects constraints.hosts.redirects (none_have_places (λ r. r.place) 100) constraints.projects.places,
+      all_both _ _ (λ x. IsTrue (has_language next x.host x.lang)) spoken lists.pages constraints.hosts.pages constraints.records.spoken,
     )
   where
     after : List LangRow
@@ -325,7 +325,7 @@ constraints_with_project lists row lang constraints new home main place =
 
     first : AreLanguages row.main (filter (is_lang_of row.host) after)
     first = subst (AreLanguages row.main)
-        (sym (none_but_added (by_key coding.langs.key) (is_lang_of row.host) lang lists.langs ((bytes_eq-Decides lang.host row.host).1 home) (none_of_new (λ l. l.host) lists.langs lists row.host new constraints.langs)))
+        (sym (none_but_added (by_key coding.langs.key) (is_lang_of row.host) lang lists.langs ((bytes_eq-Decides lang.host row.host).1 home) (none_of_new (λ l. l.host) lists.langs lists row.host new constraints.hosts.langs)))
         (one_language row.main lang main place)
 
     other : (r : ProjectRow) → AreLanguages r.main (filter (is_lang_of r.host) lists.langs) → is_project row.host r ≡ false → AreLanguages r.main (filter (is_lang_of r.host) after)

@@ -22,9 +22,9 @@ pub constraints_with_redirects : (lists : Lists) (host : List ℕ) (redirects : 
     → AllByRecursion (λ r. first_fault r ≡ None) redirects → KeepsConstraints (set_redirects host redirects lists)
 constraints_with_redirects lists host redirects constraints up has few good =
     assumption (
-      all (λ r. IsTrue (has_project lists r.host)) (λ n r fine. has) constraints.redirects,
-      places_set (λ r. r.host) (λ r. r.place) host (redirect_row host) (λ n r. refl) (λ n r. refl) 100 lists redirects lists.redirects constraints.places up has few,
-      all (λ r. first_fault r.redirect ≡ None) (λ n r fine. fine) constraints.good,
+      all (λ r. IsTrue (has_project lists r.host)) (λ n r fine. has) constraints.hosts.redirects,
+      places_set (λ r. r.host) (λ r. r.place) host (redirect_row host) (λ n r. refl) (λ n r. refl) 100 lists redirects lists.redirects constraints.projects.places up has few,
+      all (λ r. first_fault r.redirect ≡ None) (λ n r fine. fine) constraints.records.good,
     )
   where
     all : (P : RedirectRow → Type 0) → ((n : ℕ) (r : Redirect) → first_fault r ≡ None → P (redirect_row host n r)) → AllByRecursion P lists.redirects → AllByRecursion P (set_redirects host redirects lists).redirects
@@ -39,4 +39,4 @@ redirects_in = part_in parts.redirects
 pub world_with_redirects : (lists : Lists) (host : List ℕ) (redirects : List Redirect) (p : Project) → KeepsConstraints lists → InOrder coding.redirects.key lists.redirects → get (world_of lists) host ≡ Some p
     → world_of (set_redirects host redirects lists) ≡ insert (world_of lists) host (record p { redirects = redirects })
 world_with_redirects lists host new p constraints up =
-    world_set (λ r. r.host) (λ r. r.place) (λ r. r.redirect) host (redirect_row host) (λ n r. refl) (λ n r. refl) (λ n r. refl) parts.redirects 100 lists new constraints.places up p
+    world_set (λ r. r.host) (λ r. r.place) (λ r. r.redirect) host (redirect_row host) (λ n r. refl) (λ n r. refl) (λ n r. refl) parts.redirects 100 lists new constraints.projects.places up p

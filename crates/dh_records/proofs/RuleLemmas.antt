@@ -22,9 +22,9 @@ pub constraints_with_rules : (lists : Lists) (host : List ℕ) (rules : List Rul
     → AllByRecursion (λ r. IsTrue (is_allowed r.pattern)) rules → KeepsConstraints (set_rules host rules lists)
 constraints_with_rules lists host rules constraints up has few good =
     assumption (
-      all (λ r. IsTrue (has_project lists r.host)) (λ n r may. has) constraints.rules,
-      places_set (λ r. r.host) (λ r. r.place) host (rule_row host) (λ n r. refl) (λ n r. refl) 50 lists rules lists.rules constraints.rule_places up has few,
-      all (λ r. IsTrue (is_allowed r.rule.pattern)) (λ n r may. may) constraints.allowed,
+      all (λ r. IsTrue (has_project lists r.host)) (λ n r may. has) constraints.hosts.rules,
+      places_set (λ r. r.host) (λ r. r.place) host (rule_row host) (λ n r. refl) (λ n r. refl) 50 lists rules lists.rules constraints.projects.rule_places up has few,
+      all (λ r. IsTrue (is_allowed r.rule.pattern)) (λ n r may. may) constraints.texts.allowed,
     )
   where
     all : (P : RuleRow → Type 0) → ((n : ℕ) (r : Rule) → IsTrue (is_allowed r.pattern) → P (rule_row host n r)) → AllByRecursion P lists.rules → AllByRecursion P (set_rules host rules lists).rules
@@ -39,4 +39,4 @@ rules_in = part_in parts.rules
 pub world_with_rules : (lists : Lists) (host : List ℕ) (rules : List Rule) (p : Project) → KeepsConstraints lists → InOrder coding.rules.key lists.rules → get (world_of lists) host ≡ Some p
     → world_of (set_rules host rules lists) ≡ insert (world_of lists) host (record p { rules = rules })
 world_with_rules lists host new p constraints up =
-    world_set (λ r. r.host) (λ r. r.place) (λ r. r.rule) host (rule_row host) (λ n r. refl) (λ n r. refl) (λ n r. refl) parts.rules 50 lists new constraints.rule_places up p
+    world_set (λ r. r.host) (λ r. r.place) (λ r. r.rule) host (rule_row host) (λ n r. refl) (λ n r. refl) (λ n r. refl) parts.rules 50 lists new constraints.projects.rule_places up p

@@ -1,9 +1,12 @@
 -- How the records of each table are kept in its columns.
-use Rattle.std.specs.Prelude.{ℕ, pos, ◌==◌, Bool, true, false, if◌then◌else◌, List, [], ◌∷◌, codes, drop}
+use Rattle.std.specs.Prelude.{◌≡◌, ℕ, pos, ◌==◌, Bool, true, false, if◌then◌else◌, List, [], ◌∷◌, codes, drop, map}
 use Rattle.std.specs.Str.{bytes_eq}
 use Rattle.sqlite_value.specs.declared.value.Value.{Value}
 use Rattle.sqlite_value.specs.declared.value.Value.TheVariants.{Int, Text, Blob}
 use Rattle.sqlite_value.specs.Order.{Row, column, bytes}
+use Rattle.sqlite_value.specs.Value.{owned}
+use Rattle.sqlite_value.specs.declared.value.ValueRef.{ValueRef}
+use Rattle.sqlite.specs.Values.{bound}
 use Rattle.dh_rows.specs.Keyed.{Coding, flag, is_set}
 use Rattle.dh_versions.specs.declared.version.Kind.{Kind}
 use Rattle.dh_versions.specs.declared.version.Kind.TheVariants.{Branch, Tag}
@@ -165,3 +168,7 @@ redirects = record {
   };
   key = λ x. Text x.host ∷ Int (pos x.place) ∷ [];
 }
+
+-- these values are those of the row, and are bound to parameters as such
+abbrev pub AreValuesOf : List ValueRef → Row → Type 0
+AreValuesOf values row = (map owned values ≡ row) × (bound values ≡ row)

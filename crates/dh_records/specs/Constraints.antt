@@ -88,38 +88,53 @@ AreRules = HavePlaces (λ r. r.place) 50
 abbrev pub AreRedirects : List RedirectRow → Type 0
 AreRedirects = HavePlaces (λ r. r.place) 100
 
--- The constraints of the records, beyond what each says for itself.
-pub record KeepsConstraints (lists : Lists) : Type 0 where
-  -- every host has its project
+-- ---- the constraints of the records, beyond what each says for itself, in four parts
+
+-- every host has its project
+pub record HaveProjects (lists : Lists) : Type 0 where
   pub langs : AllByRecursion (λ l. IsTrue (has_project lists l.host)) lists.langs
   pub versions : AllByRecursion (λ v. IsTrue (has_project lists v.host)) lists.versions
   pub pages : AllByRecursion (λ x. IsTrue (has_project lists x.host)) lists.pages
   pub used : AllByRecursion (λ u. IsTrue (has_project lists u.host)) lists.used
   pub picks : AllByRecursion (λ d. IsTrue (has_project lists d.host)) lists.picks
   pub passes : AllByRecursion (λ x. IsTrue (has_project lists x.host)) lists.passes
+  pub rules : AllByRecursion (λ r. IsTrue (has_project lists r.host)) lists.rules
+  pub redirects : AllByRecursion (λ r. IsTrue (has_project lists r.host)) lists.redirects
+
+-- what each project has
+pub record KeepProjects (lists : Lists) : Type 0 where
   pub languages : AllByRecursion (λ r. AreLanguages r.main (filter (is_lang_of r.host) lists.langs)) lists.projects
   -- a project has at most 1,000 passes
   pub few_passes : AllByRecursion (λ r. length (filter (is_pass_of r.host) lists.passes) ≤ 1000) lists.projects
-  -- each kept answer is read again
-  pub answers : AllByRecursion (λ u. IsSome (answer_of u.answer)) lists.used
-  -- a version's slug comes from its name
-  pub slugs : AllByRecursion (λ v. slug_from v.version.name ≡ Some v.version.slug) lists.versions
+  pub defaults : AllByRecursion (λ r. AreDefaults (filter (is_pick_of r.host) lists.picks)) lists.projects
+  pub rule_places : AllByRecursion (λ r. AreRules (filter (is_rule_of r.host) lists.rules)) lists.projects
+  pub places : AllByRecursion (λ r. AreRedirects (filter (is_redirect_of r.host) lists.redirects)) lists.projects
+
+-- what the other records stand on, and that no redirect has a fault
+pub record KeepRecords (lists : Lists) : Type 0 where
   -- a page's version is there and active, and its language is one of the project's
   pub active : AllByRecursion (λ x. IsTrue (has_active lists x.host x.slug)) lists.pages
   pub spoken : AllByRecursion (λ x. IsTrue (has_language lists x.host x.lang)) lists.pages
-  pub defaults : AllByRecursion (λ r. AreDefaults (filter (is_pick_of r.host) lists.picks)) lists.projects
   -- a default is an alias or a version that is there
   pub default_names : AllByRecursion (λ d. IsTrue (is_alias d.name || has_version lists d.host d.name)) lists.picks
   -- a grant's pass and version are there
   pub granted : AllByRecursion (λ x. IsTrue (has_pass lists x.host x.pass && has_version lists x.host x.slug)) lists.held
-  pub rules : AllByRecursion (λ r. IsTrue (has_project lists r.host)) lists.rules
-  pub rule_places : AllByRecursion (λ r. AreRules (filter (is_rule_of r.host) lists.rules)) lists.projects
+  pub good : AllByRecursion (λ r. first_fault r.redirect ≡ None) lists.redirects
+
+-- what takes memory to decide
+pub record KeepTexts (lists : Lists) : Type 0 where
+  -- a version's slug comes from its name
+  pub slugs : AllByRecursion (λ v. slug_from v.version.name ≡ Some v.version.slug) lists.versions
+  -- each kept answer is read again
+  pub answers : AllByRecursion (λ u. IsSome (answer_of u.answer)) lists.used
   -- each rule may be added
   pub allowed : AllByRecursion (λ r. IsTrue (is_allowed r.rule.pattern)) lists.rules
-  pub redirects : AllByRecursion (λ r. IsTrue (has_project lists r.host)) lists.redirects
-  pub places : AllByRecursion (λ r. AreRedirects (filter (is_redirect_of r.host) lists.redirects)) lists.projects
-  -- no redirect has a fault
-  pub good : AllByRecursion (λ r. first_fault r.redirect ≡ None) lists.redirects
+
+pub record KeepsConstraints (lists : Lists) : Type 0 where
+  pub hosts : HaveProjects lists
+  pub projects : KeepProjects lists
+  pub records : KeepRecords lists
+  pub texts : KeepTexts lists
 
 -- the records are in order and keep the constraints
 pub record AreSound (lists : Lists) : Type 0 where

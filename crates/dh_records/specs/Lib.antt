@@ -3,4 +3,3 @@ pub mod Lists
 pub mod Typed
 pub mod Constraints
 pub mod Changes
-pub mod Faults

@@ -9,8 +9,8 @@ use Rattle.dh_rules.specs.Patterns.{pattern_text}
 use Rattle.dh_rules.specs.declared.pattern.Pattern.{Pattern}
 use Rattle.dh_world.specs.declared.answer.Answer.{Answer}
 use Rattle.dh_world.specs.Answers.{IsAnswer, json_of}
-use Rattle.dh_lookup.specs.Faults.{OnStore}
-use Rattle.dh_lookup.specs.declared.fault.Fault.{Fault}
+use Rattle.dh_faults.specs.Faults.{OnStore}
+use Rattle.dh_faults.specs.declared.fault.Fault.{Fault}
 use Rattle.dh_records.specs.Codings.{text_in}
 use Rattle.dh_records.specs.Lists.{Lists}
 use Rattle.dh_records.specs.declared.records.ProjectRow.{ProjectRow}

@@ -3,9 +3,11 @@
 
 pub mod reading;
 pub mod records;
+mod values;
 
-pub use reading::{Record, all, fault_of, first, kept_answer};
+pub use reading::{Record, all, first, kept_answer, number_at};
 pub use records::{
     HeldRow, LangRow, PageRow, PassRow, PickRow, ProjectRow, RedirectRow, RuleRow, UsedRow,
     VersionRow, action_number, is_tag, kind_number,
 };
+pub use values::show_number;

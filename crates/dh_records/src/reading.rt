@@ -2,45 +2,35 @@
 
 ghost use Rattle.std.specs.Prelude.{◌≡◌, List, map, slice_get, string_bytes, IfOk, IsSome};
 ghost use Rattle.std.specs.List.{AllByRecursion};
-ghost use Rattle.dh_texts.specs.Texts.{is_host_name, is_lang, is_page_path, is_ref_name, is_slug, is_token};
-ghost use Rattle.dh_lookup.specs.Faults.{OnStore};
+ghost use Rattle.dh_faults.specs.Faults.{OnStore};
 ghost use Rattle.sqlite_value.specs.declared.value.Value.TheVariants.{Int, Text as SqlText, Blob};
 ghost use Rattle.sqlite_value.specs.Order.{column};
 ghost use Rattle.dh_rows.specs.Faults as rows;
 ghost use Rattle.dh_rows.specs.Keyed.{Coding, flag};
 ghost use Rattle.dh_world.specs.Answers.{answer_of};
 ghost use Rattle.dh_records.specs.Codings as spec;
-ghost use Rattle.dh_records.specs.Faults.{told_as};
 ghost use Rattle.dh_records.specs.Typed as typed;
 
 use crate::records::{
     HeldRow, LangRow, PageRow, PassRow, PickRow, ProjectRow, RedirectRow, RuleRow, UsedRow,
     VersionRow,
 };
-use dh_lookup::{Fault, Page};
-use dh_paths::{Bytes, HostName, Lang, PagePath, RefName, Slug, Text, TextFault, Token};
+use dh_lookup::{Fault, Found, Page};
+use dh_paths::{Bytes, Text, TextFault};
 use dh_redirects::{Redirect, RedirectKind};
+use dh_rows::fault_of;
 use dh_rules::{Action, Pattern, Rule};
-use dh_versions::{Kind, Version};
+use dh_texts::{Checked, Kind};
+use dh_versions::{Kind as VersionKind, Version};
 use dh_world::{Answer, Operation};
 use sqlite::{Error, Row};
 use std::alloc::Global;
 
-/// The same refusal, as the layers above tell it.
-pub fn fault_of(fault: dh_rows::Fault) -> Fault
-    ensures { result ≡ told_as fault }
-{
-    match fault {
-        dh_rows::Fault::Store => Fault::Store,
-        dh_rows::Fault::Memory => Fault::Memory,
-    }
-}
-
 /// Why a column was not read.
 fn fault_of_column(error: Error) -> Fault
-    ensures { result ≡ told_as (rows.fault_of error) }
+    ensures { result ≡ rows.fault_of error }
 {
-    fault_of(error.into())
+    fault_of(error)
 }
 
 /// A text that is no value of its type breaks a constraint of the rows, so it is a fault of the store.
@@ -54,7 +44,7 @@ fn fault_of_text(fault: TextFault) -> Fault
 }
 
 /// The answer that a kept text tells.
-pub fn kept_answer(alloc: Global, text: &str) -> Result<Option<Answer>, Fault>
+pub fn kept_answer(alloc: Global, text: &str) -> Found<Answer>
     ensures told { IfOk result (λ o. o ≡ answer_of text.now) }
     ensures some { IfOk result (λ o. IsSome o) }
     ensures refused { OnStore result (¬ typed.Tells text.now) }
@@ -80,7 +70,8 @@ fn flag_at(row: &Row, at: usize) -> Result<bool, Fault>
     row.get(at).map_err(fault_of_column)
 }
 
-fn number_at(row: &Row, at: usize) -> Result<u32, Fault>
+/// The number in a column.
+pub fn number_at(row: &Row, at: usize) -> Result<u32, Fault>
     ensures value { IfOk result (λ n. spec.number_in (column row.now at) ≡ n) }
     ensures told { OnStore result (¬ typed.IsNumber row.now at) }
 {
@@ -133,40 +124,11 @@ fn body_at(row: &Row, at: usize) -> Result<Bytes, Fault>
     Ok(Bytes::wrap(row.get(at).map_err(fault_of_column)?))
 }
 
-fn host_at(alloc: Global, row: &Row, at: usize) -> Result<HostName, Fault>
-    ensures reads { typed.ReadsAs is_host_name row.now at result }
+/// The text in a column, as one of a kind.
+fn checked_at<K: Kind>(alloc: Global, row: &Row, at: usize) -> Result<Checked<K>, Fault>
+    ensures reads { typed.ReadsAs K.test row.now at result }
 {
-    HostName::parse(alloc, text_at(row, at)?.as_str()).map_err(fault_of_text)
-}
-
-fn lang_at(alloc: Global, row: &Row, at: usize) -> Result<Lang, Fault>
-    ensures reads { typed.ReadsAs is_lang row.now at result }
-{
-    Lang::parse(alloc, text_at(row, at)?.as_str()).map_err(fault_of_text)
-}
-
-fn slug_at(alloc: Global, row: &Row, at: usize) -> Result<Slug, Fault>
-    ensures reads { typed.ReadsAs is_slug row.now at result }
-{
-    Slug::parse(alloc, text_at(row, at)?.as_str()).map_err(fault_of_text)
-}
-
-fn ref_at(alloc: Global, row: &Row, at: usize) -> Result<RefName, Fault>
-    ensures reads { typed.ReadsAs is_ref_name row.now at result }
-{
-    RefName::parse(alloc, text_at(row, at)?.as_str()).map_err(fault_of_text)
-}
-
-fn path_at(alloc: Global, row: &Row, at: usize) -> Result<PagePath, Fault>
-    ensures reads { typed.ReadsAs is_page_path row.now at result }
-{
-    PagePath::parse(alloc, text_at(row, at)?.as_str()).map_err(fault_of_text)
-}
-
-fn token_at(alloc: Global, row: &Row, at: usize) -> Result<Token, Fault>
-    ensures reads { typed.ReadsAs is_token row.now at result }
-{
-    Token::parse(alloc, text_at(row, at)?.as_str()).map_err(fault_of_text)
+    Checked::parse(alloc, text_at(row, at)?.as_str()).map_err(fault_of_text)
 }
 
 fn pattern_at(alloc: Global, row: &Row, at: usize) -> Result<Pattern, Fault>
@@ -200,10 +162,10 @@ impl Record for ProjectRow {
 
     fn read(alloc: Global, row: &Row) -> Result<ProjectRow, Fault> {
         Ok(ProjectRow {
-            host: host_at(alloc, row, 0)?,
-            main: lang_at(alloc, row, 1)?,
-            branch: ref_at(alloc, row, 2)?,
-            wkey: token_at(alloc, row, 3)?,
+            host: checked_at(alloc, row, 0)?,
+            main: checked_at(alloc, row, 1)?,
+            branch: checked_at(alloc, row, 2)?,
+            wkey: checked_at(alloc, row, 3)?,
             new_private: flag_at(row, 4)?,
         })
     }
@@ -216,8 +178,8 @@ impl Record for LangRow {
 
     fn read(alloc: Global, row: &Row) -> Result<LangRow, Fault> {
         Ok(LangRow {
-            host: host_at(alloc, row, 0)?,
-            lang: lang_at(alloc, row, 1)?,
+            host: checked_at(alloc, row, 0)?,
+            lang: checked_at(alloc, row, 1)?,
             place: number_at(row, 2)?,
         })
     }
@@ -230,12 +192,12 @@ fn version_in(alloc: Global, row: &Row) -> Result<Version, Fault>
         → OnStore result (¬ typed.IsVersion y) }
 {
     Ok(Version {
-        slug: slug_at(alloc, row, 1)?,
-        name: ref_at(alloc, row, 2)?,
+        slug: checked_at(alloc, row, 1)?,
+        name: checked_at(alloc, row, 2)?,
         kind: if flag_at(row, 3)? {
-            Kind::Tag
+            VersionKind::Tag
         } else {
-            Kind::Branch
+            VersionKind::Branch
         },
         active: flag_at(row, 4)?,
         hidden: flag_at(row, 5)?,
@@ -250,7 +212,7 @@ impl Record for VersionRow {
 
     fn read(alloc: Global, row: &Row) -> Result<VersionRow, Fault> {
         Ok(VersionRow {
-            host: host_at(alloc, row, 0)?,
+            host: checked_at(alloc, row, 0)?,
             version: version_in(alloc, row)?,
         })
     }
@@ -263,10 +225,10 @@ impl Record for PageRow {
 
     fn read(alloc: Global, row: &Row) -> Result<PageRow, Fault> {
         Ok(PageRow {
-            host: host_at(alloc, row, 0)?,
-            slug: slug_at(alloc, row, 1)?,
-            lang: lang_at(alloc, row, 2)?,
-            path: path_at(alloc, row, 3)?,
+            host: checked_at(alloc, row, 0)?,
+            slug: checked_at(alloc, row, 1)?,
+            lang: checked_at(alloc, row, 2)?,
+            path: checked_at(alloc, row, 3)?,
             page: Page {
                 media: Text::wrap(text_at(row, 4)?),
                 body: body_at(row, 5)?,
@@ -282,14 +244,14 @@ impl Record for UsedRow {
 
     fn read(alloc: Global, row: &Row) -> Result<UsedRow, Fault> {
         Ok(UsedRow {
-            host: host_at(alloc, row, 0)?,
-            slug: slug_at(alloc, row, 1)?,
+            host: checked_at(alloc, row, 0)?,
+            slug: checked_at(alloc, row, 1)?,
             op: if flag_at(row, 2)? {
                 Operation::Upload
             } else {
                 Operation::Push
             },
-            retry: token_at(alloc, row, 3)?,
+            retry: checked_at(alloc, row, 3)?,
             answer: Text::wrap(text_at(row, 4)?),
         })
     }
@@ -302,8 +264,8 @@ impl Record for PickRow {
 
     fn read(alloc: Global, row: &Row) -> Result<PickRow, Fault> {
         Ok(PickRow {
-            host: host_at(alloc, row, 0)?,
-            name: slug_at(alloc, row, 1)?,
+            host: checked_at(alloc, row, 0)?,
+            name: checked_at(alloc, row, 1)?,
             rank: rank_at(row, 2)?,
         })
     }
@@ -316,8 +278,8 @@ impl Record for PassRow {
 
     fn read(alloc: Global, row: &Row) -> Result<PassRow, Fault> {
         Ok(PassRow {
-            host: host_at(alloc, row, 0)?,
-            pass: token_at(alloc, row, 1)?,
+            host: checked_at(alloc, row, 0)?,
+            pass: checked_at(alloc, row, 1)?,
         })
     }
 }
@@ -329,9 +291,9 @@ impl Record for HeldRow {
 
     fn read(alloc: Global, row: &Row) -> Result<HeldRow, Fault> {
         Ok(HeldRow {
-            host: host_at(alloc, row, 0)?,
-            pass: token_at(alloc, row, 1)?,
-            slug: slug_at(alloc, row, 2)?,
+            host: checked_at(alloc, row, 0)?,
+            pass: checked_at(alloc, row, 1)?,
+            slug: checked_at(alloc, row, 2)?,
         })
     }
 }
@@ -344,9 +306,9 @@ fn rule_in(alloc: Global, row: &Row) -> Result<Rule, Fault>
 {
     Ok(Rule {
         kind: if flag_at(row, 2)? {
-            Kind::Tag
+            VersionKind::Tag
         } else {
-            Kind::Branch
+            VersionKind::Branch
         },
         action: stored_action(number_at(row, 3)?),
         pattern: pattern_at(alloc, row, 4)?,
@@ -360,7 +322,7 @@ impl Record for RuleRow {
 
     fn read(alloc: Global, row: &Row) -> Result<RuleRow, Fault> {
         Ok(RuleRow {
-            host: host_at(alloc, row, 0)?,
+            host: checked_at(alloc, row, 0)?,
             place: number_at(row, 1)?,
             rule: rule_in(alloc, row)?,
         })
@@ -389,7 +351,7 @@ impl Record for RedirectRow {
 
     fn read(alloc: Global, row: &Row) -> Result<RedirectRow, Fault> {
         Ok(RedirectRow {
-            host: host_at(alloc, row, 0)?,
+            host: checked_at(alloc, row, 0)?,
             place: number_at(row, 1)?,
             redirect: redirect_in(row)?,
         })
@@ -397,7 +359,7 @@ impl Record for RedirectRow {
 }
 
 /// The record of the first row, where there is one.
-pub fn first<R: Record>(alloc: Global, rows: &[Row]) -> Result<Option<R>, Fault>
+pub fn first<R: Record>(alloc: Global, rows: &[Row]) -> Found<R>
     ensures value { IfOk result (λ o. (xs : List R) → rows.now ≡ map R.coding.encode xs
         → o ≡ slice_get xs 0) }
     ensures told { (xs : List R) → rows.now ≡ map R.coding.encode xs
@@ -418,7 +380,7 @@ pub fn all<R: Record>(alloc: Global, rows: &[Row]) -> Result<Vec<R>, Fault>
 {
     let mut found = Vec::new(alloc);
     for row in rows {
-        found.push(R::read(alloc, row)?)?;
+        found.push(R::read(alloc, row)?).map_err(|_| Fault::Memory)?;
     }
     Ok(found)
 }

@@ -74,9 +74,11 @@ first_fault r = find (has_fault r) (BadSource ∷ EarlyStar ∷ BadTarget ∷ Sp
 
 -- the number by which a refusal tells a fault
 abbrev pub fault_number : BadRedirect → ℕ
-fault_number BadSource = 1
-fault_number EarlyStar = 2
-fault_number BadTarget = 3
-fault_number SplatWithoutStar = 4
-fault_number BadStatus = 5
-fault_number UnusedText = 6
+fault_number = elim [
+  | BadSource ↦ 1
+  | EarlyStar ↦ 2
+  | BadTarget ↦ 3
+  | SplatWithoutStar ↦ 4
+  | BadStatus ↦ 5
+  | UnusedText ↦ 6
+]

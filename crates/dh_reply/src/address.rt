@@ -1,7 +1,7 @@
 //! Addresses `/language/name/..` of a project.
 
 ghost use Rattle.std.specs.Prelude.{◌≡◌};
-ghost use Rattle.dh_lookup.specs.Faults.{Gives};
+ghost use Rattle.dh_faults.specs.Faults.{Gives};
 ghost use Rattle.dh_reply.specs.Replies.{known_lang, slug_named, good_of};
 
 use dh_lookup::Named;

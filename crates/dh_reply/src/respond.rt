@@ -8,7 +8,7 @@ use crate::address::{GoodAddress, good_address, slug_of, take_lang};
 use crate::make::{joined, make_home, make_indexed, make_page_reply, make_slashed};
 use crate::redirects::{asked_of, make_led};
 use crate::system::{robots, system};
-use dh_lookup::{Fault, Lookup, Named, Page};
+use dh_lookup::{Fault, Found, Lookup, Named, Page};
 use dh_paths::{Lang, Slug, Split, Text, split};
 use dh_redirects::Asked;
 use dh_wire::{Read, Reply, fault_reply};
@@ -16,12 +16,7 @@ use std::alloc::Global;
 
 /// To the file in the default version, where there is a default.
 #[tactic(auto, unfolding(crate::specs::Replies::home_to))]
-fn home<L: Lookup>(
-    alloc: Global,
-    lookup: &mut L,
-    file: &str,
-    query: &Option<Text>,
-) -> Result<Option<Reply>, Fault>
+fn home<L: Lookup>(alloc: Global, lookup: &mut L, file: &str, query: &Option<Text>) -> Found<Reply>
     ensures asks { Asks L.meaning lookup.old lookup.new result }
     ensures value { TellsMaybe L.meaning lookup.old lookup.new result
         (λ p. spec.home_to p file.now query.now) }
@@ -42,12 +37,7 @@ fn home<L: Lookup>(
 
 /// The good address with that language and name, if it is one.
 #[tactic(auto, unfolding(crate::specs::Replies::good))]
-fn find_good<L: Lookup>(
-    alloc: Global,
-    lookup: &mut L,
-    lang: &str,
-    name: &str,
-) -> Result<Option<GoodAddress>, Fault>
+fn find_good<L: Lookup>(alloc: Global, lookup: &mut L, lang: &str, name: &str) -> Found<GoodAddress>
     ensures asks { Asks L.meaning lookup.old lookup.new result }
     ensures value { TellsMaybe L.meaning lookup.old lookup.new result
         (λ p. spec.good p lang.now name.now) }
@@ -61,11 +51,7 @@ fn find_good<L: Lookup>(
 }
 
 /// The good address at a place, if there is one.
-fn good_at<L: Lookup>(
-    alloc: Global,
-    lookup: &mut L,
-    asked: &Split,
-) -> Result<Option<GoodAddress>, Fault>
+fn good_at<L: Lookup>(alloc: Global, lookup: &mut L, asked: &Split) -> Found<GoodAddress>
     ensures asks { Asks L.meaning lookup.old lookup.new result }
     ensures value { TellsMaybe L.meaning lookup.old lookup.new result
         (λ p. spec.good_at p (place asked.now)) }
@@ -78,12 +64,7 @@ fn good_at<L: Lookup>(
 }
 
 /// The page that a file of a version stands for.
-fn page_found<L: Lookup>(
-    alloc: Global,
-    lookup: &mut L,
-    at: &GoodAddress,
-    file: &str,
-) -> Result<Option<Page>, Fault>
+fn page_found<L: Lookup>(alloc: Global, lookup: &mut L, at: &GoodAddress, file: &str) -> Found<Page>
     ensures asks { Asks L.meaning lookup.old lookup.new result }
     ensures value { TellsMaybe L.meaning lookup.old lookup.new result
         (λ p. spec.page_found p at.now file.now) }
@@ -93,12 +74,7 @@ fn page_found<L: Lookup>(
 }
 
 /// The page of the folder that a file of a version names.
-fn folder_found<L: Lookup>(
-    alloc: Global,
-    lookup: &mut L,
-    at: &GoodAddress,
-    file: &str,
-) -> Result<Option<Page>, Fault>
+fn in_folder<L: Lookup>(alloc: Global, lookup: &mut L, at: &GoodAddress, file: &str) -> Found<Page>
     ensures asks { Asks L.meaning lookup.old lookup.new result }
     ensures value { TellsMaybe L.meaning lookup.old lookup.new result
         (λ p. spec.folder_found p at.now file.now) }
@@ -114,7 +90,7 @@ fn file_served<L: Lookup>(
     at: &GoodAddress,
     file: &str,
     read: &Read,
-) -> Result<Option<Reply>, Fault>
+) -> Found<Reply>
     ensures asks { Asks L.meaning lookup.old lookup.new result }
     ensures value { TellsMaybe L.meaning lookup.old lookup.new result
         (λ p. spec.file_served p at.now file.now read.now.path read.now.query) }
@@ -122,7 +98,7 @@ fn file_served<L: Lookup>(
     if let Some(page) = page_found(alloc, lookup, at, file)? {
         return Ok(Some(make_page_reply(200, page)));
     }
-    match folder_found(alloc, lookup, at, file)? {
+    match in_folder(alloc, lookup, at, file)? {
         Some(_) => Ok(Some(make_slashed(alloc, read.path.as_str(), &read.query)?)),
         None => Ok(None),
     }
@@ -135,7 +111,7 @@ fn served<L: Lookup>(
     asked: &Split,
     own: &Option<GoodAddress>,
     read: &Read,
-) -> Result<Option<Reply>, Fault>
+) -> Found<Reply>
     ensures asks { Asks L.meaning lookup.old lookup.new result }
     ensures value { TellsOf L.meaning lookup.old lookup.new result
         (λ p. spec.served p (place asked.now) own.now read.now.path read.now.query) }
@@ -152,12 +128,7 @@ fn served<L: Lookup>(
 }
 
 /// 404 with the page of a version in a language, where it has one.
-fn not_found<L: Lookup>(
-    alloc: Global,
-    lookup: &mut L,
-    lang: &Lang,
-    slug: &Slug,
-) -> Result<Option<Reply>, Fault>
+fn not_found<L: Lookup>(alloc: Global, lookup: &mut L, lang: &Lang, slug: &Slug) -> Found<Reply>
     ensures asks { Asks L.meaning lookup.old lookup.new result }
     ensures value { TellsMaybe L.meaning lookup.old lookup.new result
         (λ p. spec.not_found p lang.now slug.now) }
@@ -171,7 +142,7 @@ fn own_not_found<L: Lookup>(
     alloc: Global,
     lookup: &mut L,
     own: &Option<GoodAddress>,
-) -> Result<Option<Reply>, Fault>
+) -> Found<Reply>
     ensures asks { Asks L.meaning lookup.old lookup.new result }
     ensures value { TellsMaybe L.meaning lookup.old lookup.new result
         (λ p. spec.own_not_found p own.now) }
@@ -183,7 +154,7 @@ fn own_not_found<L: Lookup>(
 }
 
 /// The version that `/` leads to.
-fn default_version<L: Lookup>(alloc: Global, lookup: &mut L) -> Result<Option<Named>, Fault>
+fn default_version<L: Lookup>(alloc: Global, lookup: &mut L) -> Found<Named>
     ensures asks { Asks L.meaning lookup.old lookup.new result }
     ensures value { TellsMaybe L.meaning lookup.old lookup.new result spec.default_version }
 {
@@ -195,7 +166,7 @@ fn default_version<L: Lookup>(alloc: Global, lookup: &mut L) -> Result<Option<Na
 
 /// The same of the default version in the main language.
 #[tactic(auto, unfolding(crate::specs::Replies::default_not_found))]
-fn default_not_found<L: Lookup>(alloc: Global, lookup: &mut L) -> Result<Option<Reply>, Fault>
+fn default_not_found<L: Lookup>(alloc: Global, lookup: &mut L) -> Found<Reply>
     ensures asks { Asks L.meaning lookup.old lookup.new result }
     ensures value { TellsMaybe L.meaning lookup.old lookup.new result spec.default_not_found }
 {
@@ -229,11 +200,7 @@ fn nothing_served<L: Lookup>(
 }
 
 /// Where a redirect with force leads.
-fn forced_away<L: Lookup>(
-    alloc: Global,
-    lookup: &mut L,
-    asked: &Asked,
-) -> Result<Option<Reply>, Fault>
+fn forced_away<L: Lookup>(alloc: Global, lookup: &mut L, asked: &Asked) -> Found<Reply>
     ensures asks { Asks L.meaning lookup.old lookup.new result }
     ensures value { TellsMaybe L.meaning lookup.old lookup.new result
         (λ p. spec.forced_away p asked.now) }
@@ -243,7 +210,7 @@ fn forced_away<L: Lookup>(
 }
 
 /// Where any redirect leads.
-fn led_away<L: Lookup>(alloc: Global, lookup: &mut L, asked: &Asked) -> Result<Option<Reply>, Fault>
+fn led_away<L: Lookup>(alloc: Global, lookup: &mut L, asked: &Asked) -> Found<Reply>
     ensures asks { Asks L.meaning lookup.old lookup.new result }
     ensures value { TellsMaybe L.meaning lookup.old lookup.new result
         (λ p. spec.led_away p asked.now) }
@@ -260,7 +227,7 @@ fn found<L: Lookup>(
     own: &Option<GoodAddress>,
     away: &Asked,
     read: &Read,
-) -> Result<Option<Reply>, Fault>
+) -> Found<Reply>
     ensures asks { Asks L.meaning lookup.old lookup.new result }
     ensures value { TellsOf L.meaning lookup.old lookup.new result
         (λ p. spec.found p (place asked.now) own.now away.now read.now.path read.now.query) }

@@ -104,18 +104,22 @@ cut_short (Some x) (Some y) (Some z) buf after seen scan false e f p h q r =
 abbrev pub EndIs : Option (List ℕ) → HeadSize → Type 0
 EndIs old size = IfSome old (λ input. head_end_of input ≡ head_end_in (Some size) (length input))
 
+-- the bytes up to a limit are those seen before and the piece behind them
+front_of : (buf more after piece : List ℕ) (seen limit : ℕ) → after ≡ buf ++ more → seen ≡ min (length buf) 16384 → limit ≡ min (length after) 16384 → piece ≡ take (limit - seen) (drop seen after) → take limit after ≡ take seen buf ++ piece
+front_of buf more after piece seen limit is e f r =
+    let longer : length after ≡ length buf + length more = ap length is ∙ length-append buf more in
+    let within : seen ≤ length buf = omega arith in
+    let joined : seen + (limit - seen) ≡ limit = omega arith in
+    let kept : take seen after ≡ take seen buf = ap (take seen) is ∙ take-append-le seen buf more within in
+    ap (λ k. take k after) (sym joined) ∙ take-add seen (limit - seen) after
+    ∙ ap (λ w. w ++ take (limit - seen) (drop seen after)) kept ∙ ap (λ w. take seen buf ++ w) (sym r)
+
 pub found_at : (old mid new : Option (List ℕ)) (buf after piece : List ℕ) (seen limit n lines : ℕ) (scan : Scan) (came : Bool) → seen ≡ min (length buf) 16384 → limit ≡ min (length after) 16384 → piece ≡ take (limit - seen) (drop seen after) → Consumes old mid buf → ScansTo at_first (take seen buf) seen scan → AddsSome mid new buf after came → end_from scan piece ≡ Some (sized n lines) → EndIs old (sized (seen + n) lines)
 found_at None mid new buf after piece seen limit n lines scan came e f r p h q s = tt
 found_at (Some x) None new buf after piece seen limit n lines scan came e f r p h q s = absurd p
 found_at (Some x) (Some y) None buf after piece seen limit n lines scan came e f r p h q s = absurd q.1
 found_at (Some x) (Some y) (Some z) buf after piece seen limit n lines scan came e f r p h q s =
-    let longer : length after ≡ length buf + length q.0 = ap length q.2 ∙ length-append buf q.0 in
-    let within : seen ≤ length buf = omega arith in
-    let joined : seen + (limit - seen) ≡ limit = omega arith in
-    let kept : take seen after ≡ take seen buf = ap (take seen) q.2 ∙ take-append-le seen buf q.0 within in
-    let front : take limit after ≡ take seen buf ++ piece =
-    ap (λ k. take k after) (sym joined) ∙ take-add seen (limit - seen) after
-    ∙ ap (λ w. w ++ take (limit - seen) (drop seen after)) kept ∙ ap (λ w. take seen buf ++ w) (sym r) in
+    let front = front_of buf q.0 after piece seen limit q.2 e f r in
     let whole : x ≡ after ++ z = takes_more (Some x) (Some y) (Some z) buf after came p q in
     let w = window 16384 after z in
     let seen_first : take 16384 x ≡ take seen buf ++ (piece ++ w.0) =
@@ -142,12 +146,7 @@ many_lines (Some x) n lines e lt =
 pub scans_more : (mid new : Option (List ℕ)) (buf after piece : List ℕ) (seen limit : ℕ) (scan next : Scan) (came : Bool) → seen ≡ min (length buf) 16384 → limit ≡ min (length after) 16384 → piece ≡ take (limit - seen) (drop seen after) → ScansTo at_first (take seen buf) seen scan → AddsSome mid new buf after came → ScansTo scan piece (length piece) next → ScansTo at_first (take limit after) limit next
 scans_more mid new buf after piece seen limit scan next came e f r h q s =
     let longer : length after ≡ length buf + length q.0 = ap length q.2 ∙ length-append buf q.0 in
-    let within : seen ≤ length buf = omega arith in
-    let joined : seen + (limit - seen) ≡ limit = omega arith in
-    let kept : take seen after ≡ take seen buf = ap (take seen) q.2 ∙ take-append-le seen buf q.0 within in
-    let front : take seen buf ++ piece ≡ take limit after =
-    sym (ap (λ k. take k after) (sym joined) ∙ take-add seen (limit - seen) after
-    ∙ ap (λ w. w ++ take (limit - seen) (drop seen after)) kept ∙ ap (λ w. take seen buf ++ w) (sym r)) in
+    let front = sym (front_of buf q.0 after piece seen limit q.2 e f r) in
     let len : length piece ≡ limit - seen = ap length r ∙ length-take-le (limit - seen) (drop seen after) (omega (arith, length-drop seen after)) in
     let sum_is : seen + length piece ≡ limit = omega arith in
     let P : List ℕ → ℕ → Type 0 = λ w k. ScansTo at_first w k next in
@@ -181,12 +180,7 @@ end_cut a (x ∷ xs) s e = cut_by a x xs (after_byte a x) s refl (λ t k. end_cu
 pub text_at : (mid new : Option (List ℕ)) (buf after piece : List ℕ) (seen limit n lines : ℕ) (scan : Scan) (came : Bool) → seen ≡ min (length buf) 16384 → limit ≡ min (length after) 16384 → piece ≡ take (limit - seen) (drop seen after) → ScansTo at_first (take seen buf) seen scan → AddsSome mid new buf after came → n ≤ length piece → end_from scan piece ≡ Some (sized n lines) → lines ≤ 65 → EndsHead (At (seen + n)) after
 text_at mid new buf after piece seen limit n lines scan came e f r h q le s few =
     let longer : length after ≡ length buf + length q.0 = ap length q.2 ∙ length-append buf q.0 in
-    let within : seen ≤ length buf = omega arith in
-    let joined : seen + (limit - seen) ≡ limit = omega arith in
-    let kept : take seen after ≡ take seen buf = ap (take seen) q.2 ∙ take-append-le seen buf q.0 within in
-    let front : take limit after ≡ take seen buf ++ piece =
-    ap (λ k. take k after) (sym joined) ∙ take-add seen (limit - seen) after
-    ∙ ap (λ w. w ++ take (limit - seen) (drop seen after)) kept ∙ ap (λ w. take seen buf ++ w) (sym r) in
+    let front = front_of buf q.0 after piece seen limit q.2 e f r in
     let len : length piece ≡ limit - seen = ap length r ∙ length-take-le (limit - seen) (drop seen after) (omega (arith, length-drop seen after)) in
     let swapped : n + seen ≡ seen + n = omega arith in
     let found : end_from at_first (take limit after) ≡ Some (sized (seen + n) lines) =

@@ -35,6 +35,12 @@ stopped A P old mid new part Memory p n q = took_needed P old mid new part 4096 
 
 -- ---- what a call takes, by what it answers
 
+-- whether the reader failed is told by the stop, whatever would have been answered
+same_cause : (A B : Type 0) (stop : Stop) → reader_failed {A = A} (Err stop) ≡ reader_failed {A = B} (Err stop)
+same_cause A B Read = refl
+same_cause A B TooManyTurns = refl
+same_cause A B Memory = refl
+
 module _ {S : Type 0} {g : Ghosts S} {old new : S} {Needs : Option (List ℕ) → Option (List ℕ) → ℕ → Type 0} {bytes times : ℕ} where
   -- after an answer, where only memory ran out
   pub takes_still : {A B : Type 0} (a : A) (r : Result B Stop) → IfErr r (λ stop. stop ≡ Memory) → Takes g old new (Ok a) Needs bytes times → Takes g old new r Needs bytes times
@@ -54,25 +60,11 @@ module _ {S : Type 0} {g : Ghosts S} {old new : S} {Needs : Option (List ℕ) �
   }
 
   same_stop : {A B : Type 0} (stop : Stop) → Takes {T = A} g old new (Err stop) Needs bytes times → Takes {T = B} g old new (Err stop) Needs bytes times
-  same_stop Read t = record {
-    needed = t.needed;
-    broken = t.broken;
-    turns = λ full. absurd (cc);
-    full = λ full. absurd (cc);
-    reads = t.reads;
-  }
-  same_stop TooManyTurns t = record {
-    needed = t.needed;
-    broken = t.broken;
-    turns = λ full. t.turns refl;
-    full = λ full. t.full refl;
-    reads = t.reads;
-  }
-  same_stop Memory t = record {
-    needed = t.needed;
-    broken = t.broken;
-    turns = λ full. absurd (cc);
-    full = λ full. absurd (cc);
+  same_stop {A = A} {B = B} stop t = record {
+    needed = subst (λ failed. Needs (g.left old) (g.left new) (cond failed 0 4096)) (same_cause A B stop) t.needed;
+    broken = t.broken ∙ same_cause A B stop;
+    turns = λ full. let is : stop ≡ TooManyTurns = cc in t.turns (ap Err is);
+    full = λ full. let is : stop ≡ TooManyTurns = cc in t.full (ap Err is);
     reads = t.reads;
   }
 

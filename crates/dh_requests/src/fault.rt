@@ -5,7 +5,7 @@ ghost use Rattle.dh_requests.specs.Faults.{fault_of};
 ghost use Rattle.dh_requests.specs.declared.fault.HeadFault.TheVariants.{Memory};
 
 use dh_paths::TextFault;
-use std::alloc::{AllocError, AllocFailed};
+use std::alloc::AllocError;
 
 /// Why a head asks for nothing that can be done.
 #[derive(Clone, Copy, Debug, PartialEq, Eq, Drop)]
@@ -36,14 +36,6 @@ impl From<AllocError> for HeadFault {
     ghost from_gives = { λ _ fault. fault ≡ Memory };
 
     fn from(_refused: AllocError) -> HeadFault {
-        HeadFault::Memory
-    }
-}
-
-impl<T: Drop> From<AllocFailed<T>> for HeadFault {
-    ghost from_gives = { λ _ fault. fault ≡ Memory };
-
-    fn from(_refused: AllocFailed<T>) -> HeadFault {
         HeadFault::Memory
     }
 }

@@ -20,9 +20,12 @@ use dh_ports::{Intake, Source, Stop};
 use dh_world::Command;
 use std::alloc::Global;
 
+/// A request that was read, or why reading it stopped.
+type Taken = Result<Request, Stop>;
+
 /// The command of a body.
 #[tactic(auto, unfolding(crate::specs::Request::command_of))]
-fn command_of(alloc: Global, posted: Posted, body: &[u8]) -> Result<Request, Stop>
+fn command_of(alloc: Global, posted: Posted, body: &[u8]) -> Taken
     ensures request { IfOk result (λ r. r ≡ request.command_of posted body.now) }
     ensures err { IfErr result (λ stop. stop ≡ Stop.Memory) }
 {
@@ -47,7 +50,7 @@ fn read_command<R: Source>(
     source: &mut R,
     start: usize,
     posted: Posted,
-) -> Result<Request, Stop>
+) -> Taken
     requires fine { R.broken source.old ≡ false }
     requires within { start ≤ length intake.bytes.items }
     requires little { length intake.bytes.items ≤ 20480 }
@@ -69,12 +72,7 @@ fn read_command<R: Source>(
 }
 
 /// Reads what follows a head that ends there.
-fn read_behind<R: Source>(
-    alloc: Global,
-    intake: Intake,
-    source: &mut R,
-    start: usize,
-) -> Result<Request, Stop>
+fn read_behind<R: Source>(alloc: Global, intake: Intake, source: &mut R, start: usize) -> Taken
     requires fine { R.broken source.old ≡ false }
     requires head { At start ≡ head_end_of intake.bytes.items }
     requires text { EndsHead (At start) intake.bytes.items }
@@ -91,12 +89,7 @@ fn read_behind<R: Source>(
 }
 
 /// Reads what follows a head.
-fn read_on<R: Source>(
-    alloc: Global,
-    intake: Intake,
-    source: &mut R,
-    end: HeadEnd,
-) -> Result<Request, Stop>
+fn read_on<R: Source>(alloc: Global, intake: Intake, source: &mut R, end: HeadEnd) -> Taken
     requires fine { R.broken source.old ≡ false }
     requires head { end ≡ head_end_of intake.bytes.items }
     requires text { EndsHead end intake.bytes.items }

@@ -1,5 +1,5 @@
 -- From what the connection says of a statement to what is seen of the database.
-use Rattle.std.proofs.Common.{◌≡◌, ◌⊎◌, inl, inr, ℕ, Option, List, [], codes, Bool, true, false, not, cond, ◌||◌, length, None, Some, IsSome, Ok, Err, Result, IsTrue, OnOk, OnErr, IfErr, IsErrAnd, refl, sym, ap, subst, ◌∙◌, arith, append-nil, true≢false}
+use Rattle.std.proofs.Common.{◌≡◌, ◌⊎◌, inl, inr, ℕ, Option, List, [], codes, Bool, true, false, not, cond, ◌||◌, length, None, Some, IsSome, Ok, Err, Result, IsTrue, OnOk, OnErr, IfErr, refl, sym, ap, subst, ◌∙◌, arith, append-nil, true≢false}
 use Rattle.std.proofs.lemmas.Bool.{cases_Bool}
 use Rattle.sqlite_value.specs.Order.{Row}
 use Rattle.sqlite_trees.specs.Tree.{Trees}
@@ -26,10 +26,11 @@ use Rattle.sqlite.specs.Clock.{timed}
 use Rattle.sqlite.specs.Held.{Held, state as state_of}
 use Rattle.sqlite.proofs.Callers as callers
 use Rattle.sqlite.proofs.Callers.{IsPlain, runs_as, reads_as, never_commits}
-use Rattle.dh_rows.specs.declared.fault.Fault.{Fault}
-use Rattle.dh_rows.specs.declared.fault.Fault.TheVariants.{Store}
+use Rattle.dh_faults.specs.declared.fault.Fault.{Fault}
+use Rattle.dh_faults.specs.declared.fault.Fault.TheVariants.{Store, Memory}
 use Rattle.dh_rows.specs.Faults.{fault_of}
-use Rattle.dh_rows.specs.Calls.{command_of, statement_of, IsEdit, Edits, EditsAs, whole, IsHonest, LeavesTrees, LeavesNoMore, Lasts, Goes, GoesWithin, Sees, Runs as Ran, Makes, EditsAtMost, OnlyLooks, OnlyEdits, Begins, Commits, Undoes, Refuses, IsPlainLook, IsPlainEdit, AreRows, IsBlamed, Blames, IsRejected, IsUnanswered, IsUnfit, Shows, IsSame, IsUndone, IsRefused, Becomes}
+use Rattle.dh_faults.specs.Faults.{OnStore}
+use Rattle.dh_rows.specs.Calls.{command_of, statement_of, IsEdit, Edits, EditsAs, whole, IsHonest, LeavesTrees, LeavesNoMore, Lasts, Goes, GoesWithin, Sees, Runs as Ran, Makes, EditsAtMost, OnlyLooks, OnlyEdits, Begins, Commits, Undoes, Refuses, IsPlainLook, IsPlainEdit, AreRows, IsBlamed, Blames, IsRejected, IsUnfit, Shows, IsSame, IsUndone, IsRefused, Becomes}
 
 -- ---- refusals
 
@@ -184,9 +185,10 @@ module _ {S : Type 0} (g : Ghosts S) (old new : Held S) (text : List ℕ) (k : C
   -- A refusal is the store's own, but where the statement is out of place.
   pub blames : (P : Type 0) (r : Result (Unit {0}) Fault) → IfErr r (IsRejected g old new text []) → ((e : Error) → state.IsMisplaced (state_of g old) k e → P) → Blames g old new r P
   blames P (Ok u) told out clean = tt
-  blames P (Err fault) told out clean = λ is.
+  blames P (Err Memory) told out clean = tt
+  blames P (Err Store) told out clean =
       let it = told clean in
-      elim (why it.0 it.2 (sym it.1 ∙ is)) [ inl own ↦ inl own | inr misplaced ↦ inr (out it.0 misplaced) ]
+      elim (why it.0 it.2 (sym it.1)) [ inl own ↦ inl own | inr misplaced ↦ inr (out it.0 misplaced) ]
 
 module _ {S : Type 0} (g : Ghosts S) (old new : Held S) (r : Result (Unit {0}) Fault) where
   pub begin_blames : IfErr r (IsRejected g old new begin_text []) → Blames g old new r (old.in_transaction ≡ true)
@@ -214,17 +216,6 @@ pub within : (b c : Bool) → c ≡ not b → c ≡ false → b ≡ true
 within true c is e = refl
 within false c is e = absurd (true≢false (sym is ∙ e))
 
--- what a statement was refused for, as a fault
-pub rejected : {S : Type 0} (g : Ghosts S) (old new : Held S) (sql : List ℕ) (params : Row) (e : Error) (r : Result (Unit {0}) Fault) → IsErrAnd r (λ fault. fault ≡ fault_of e)
-    → (HasCleanDisk (state_of g new) → Executes sql params (state_of g old) (state_of g new) (Err e)) → IfErr r (IsRejected g old new sql params)
-rejected g old new sql params e (Ok u) is runs = tt
-rejected g old new sql params e (Err fault) is runs = λ clean. (e, is, runs clean)
-
-pub unanswered : {S T : Type 0} (g : Ghosts S) (old new : Held S) (sql : List ℕ) (params : Row) (e : Error) (r : Result T Fault) → IsErrAnd r (λ fault. fault ≡ fault_of e)
-    → (HasCleanDisk (state_of g new) → FailsToQuery sql params (state_of g old) (state_of g new) e) → IfErr r (IsUnanswered g old new sql params)
-unanswered g old new sql params e (Ok x) is fails = tt
-unanswered g old new sql params e (Err fault) is fails = λ clean. (e, is, fails clean)
-
 -- ---- why a query is refused
 
 module _ {S : Type 0} (g : Ghosts S) (old new : Held S) (sql : List ℕ) (params : Row) (clean : HasCleanDisk (state_of g new) → HasCleanDisk (state_of g old))
@@ -241,14 +232,13 @@ module _ {S : Type 0} (g : Ghosts S) (old new : Held S) (sql : List ℕ) (params
       inr (e, inr (subst (λ r. RefusesToRead (state_of g old).step_limit (command_of r) (state_of g old).now params e) (sym h.1.is) refuses))
 
   -- the store's own fault, or the query's
-  pub query_blames : {T : Type 0} (r : Result T Fault) → IfErr r (IsUnanswered g old new sql params) → Blames g old new r (IsUnfit (state_of g old) sql params)
-  query_blames (Ok x) told now = tt
-  query_blames (Err fault) told now = λ is.
-      let it = told now in
-      elim (cases_Bool (state_of g old).is_open) [
-        | inl live ↦ unread it.0 (clean now, live) it.2 (sym it.1 ∙ is)
-        | inr shut ↦ inl (inr shut)
-      ]
+  pub query_blames : HasCleanDisk (state_of g new) → (e : Error) (fault : Fault) → fault ≡ fault_of e → FailsToQuery sql params (state_of g old) (state_of g new) e
+      → OnStore {T = Unit {0}} (Err fault) (IsBlamed g old new ⊎ IsUnfit (state_of g old) sql params)
+  query_blames now e Memory is fails = tt
+  query_blames now e Store is fails = elim (cases_Bool (state_of g old).is_open) [
+    | inl live ↦ unread e (clean now, live) fails (sym is)
+    | inr shut ↦ inl (inr shut)
+  ]
 
 -- ---- a statement that ran ran on an open connection
 
@@ -487,10 +477,8 @@ module _ {S : Type 0} (g : Ghosts S) (old new : Held S) (sql : List ℕ) (params
     }
 
     -- and one that was refused
-    pub refused_looks : {T : Type 0} (e : Error) (r : Result T Fault) → IsErrAnd r (λ fault. fault ≡ fault_of e)
-        → (HasCleanDisk (state_of g new) → FailsToQuery sql params (state_of g old) (state_of g new) e) → OnlyLooks g old new r
-    refused_looks e (Ok x) is why = absurd is
-    refused_looks e (Err fault) is why = record {
+    pub refused_looks : {T : Type 0} {fault : Fault} (e : Error) → (HasCleanDisk (state_of g new) → FailsToQuery sql params (state_of g old) (state_of g new) e) → OnlyLooks g old new {T = T} (Err fault)
+    refused_looks e why = record {
       goes = record {
         lasts = lasts g old new _ survives (λ honest. stopped_was g old new _ survives (refused_to_show _ _ _ _ _ (why honest.0)) honest);
         kept = λ honest. refused_commits_nothing g old new (stopped g old new _ survives (refused_to_show _ _ _ _ _ (why honest.0)) honest);
@@ -499,8 +487,3 @@ module _ {S : Type 0} (g : Ghosts S) (old new : Held S) (sql : List ℕ) (params
       same = λ clean. tt;
       err = λ honest. stopped g old new _ survives (refused_to_show _ _ _ _ _ (why honest.0)) honest;
     }
-
--- what holds anyway holds where the call failed
-pub if_failed : {T E : Type 0} {P : Type 0} (r : Result T E) → P → OnErr r P
-if_failed (Ok x) p = tt
-if_failed (Err e) p = p

@@ -1,5 +1,5 @@
 -- What a call on a database shows of it: words over a view, which is what the caller reads of the database.
-use Rattle.std.specs.Prelude.{◌≡◌, ◌⊎◌, ℕ, ◌≤◌, Bool, true, false, if◌then◌else◌, Result, Ok, Err, OnOk, OnErr, IfOk, IfErr, IsTrue, List, [], None, ⊤}
+use Rattle.std.specs.Prelude.{◌≡◌, ◌⊎◌, ℕ, ◌≤◌, Bool, true, false, if◌then◌else◌, Result, Ok, Err, OnOk, OnErr, IfOk, IsTrue, List, [], None, ⊤}
 use Rattle.sqlite_disk.specs.Disk.{MoreFaults}
 use Rattle.sqlite_value.specs.Order.{Row}
 use Rattle.sqlite_schema.specs.declared.command.Command.{Command}
@@ -15,8 +15,8 @@ use Rattle.sqlite.specs.Given.{IsPlain}
 use Rattle.sqlite.specs.Listing.{understood, reads_listing}
 use Rattle.sqlite.specs.State.{State, HasCleanDisk, IsUnchanged, IsRolledBack, Executes, FailsToQuery, IsNoStatement, mode_of, text_of}
 use Rattle.sqlite.specs.Held.{Held, state}
-use Rattle.dh_rows.specs.declared.fault.Fault.{Fault}
-use Rattle.dh_rows.specs.declared.fault.Fault.TheVariants.{Store}
+use Rattle.dh_faults.specs.declared.fault.Fault.{Fault}
+use Rattle.dh_faults.specs.Faults.{OnStore}
 use Rattle.dh_rows.specs.Faults.{fault_of}
 
 -- what a text means
@@ -149,7 +149,7 @@ module _ {S : Type 0} (g : Ghosts S) where
 
     -- A refusal is the store's own, but where P holds.
     abbrev pub Blames : Result T Fault → Type 0 → Type 0
-    Blames r P = HasCleanDisk (state g new) → IfErr r (λ fault. fault ≡ Store → IsBlamed old new ⊎ P)
+    Blames r P = HasCleanDisk (state g new) → OnStore r (IsBlamed old new ⊎ P)
 
   -- A refused statement left all as it was, or undid the transaction.
   abbrev pub Stops : {T E : Type 0} → Held S → Held S → Result T E → Type 0

@@ -1,27 +1,17 @@
-//! Why a call on tables was refused.
+//! Why the database refused, as a fault.
 
 ghost use Rattle.std.specs.Prelude.{◌≡◌};
-ghost use Rattle.dh_rows.specs.Faults.{fault_of};
+ghost use Rattle.dh_rows.specs.Faults as spec;
 
+use dh_faults::Fault;
 use sqlite::{Error, ErrorCode};
-use thiserror::Error as Shown;
 
-/// Why a call on tables was refused.
-#[derive(Clone, Copy, Debug, PartialEq, Eq, Shown)]
-pub enum Fault {
-    #[error("the store failed")]
-    Store,
-    #[error("out of memory")]
-    Memory,
-}
-
-impl From<Error> for Fault {
-    ghost from_gives = { λ error fault. fault ≡ fault_of error };
-
-    fn from(error: Error) -> Fault {
-        match error {
-            Error::SqliteFailure(ErrorCode::OutOfMemory) => Fault::Memory,
-            _ => Fault::Store,
-        }
+/// The fault that an error of the database is told as.
+pub fn fault_of(error: Error) -> Fault
+    ensures { result ≡ spec.fault_of error }
+{
+    match error {
+        Error::SqliteFailure(ErrorCode::OutOfMemory) => Fault::Memory,
+        _ => Fault::Store,
     }
 }

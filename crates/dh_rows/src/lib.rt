@@ -8,7 +8,7 @@ mod rowids;
 mod statements;
 mod table_shape;
 
-pub use fault::Fault;
+pub use fault::fault_of;
 pub use laws::{blameless_law, crash_law, memory_law};
 pub use places::{is_free, is_unmentioned, keeps_counts, place_of};
 pub use rowids::are_rowids;

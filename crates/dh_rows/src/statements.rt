@@ -6,7 +6,8 @@ ghost use Rattle.sqlite.specs.State.{Survives, CommitsBy};
 ghost use Rattle.sqlite.specs.Values.{bound};
 ghost use Rattle.dh_rows.specs.Calls.{AreRows, Begins, Blames, Commits, Finds, Goes, IsHonest, IsPlainEdit, IsPlainLook, IsRejected, IsUnanswered, IsUnfit, Lasts, LeavesNoMore, LeavesSeen, OnlyEdits, OnlyLooks, Refuses, Runs, Stops, Undoes, whole};
 
-use crate::fault::Fault;
+use crate::fault::fault_of;
+use dh_faults::Fault;
 use sqlite::types::ValueRef;
 use sqlite::{Alter, Connection, Row};
 
@@ -23,8 +24,10 @@ pub fn run<S: Alter>(
     ensures survives { Survives (state S.Store conn.old) (state S.Store conn.new)
         (CommitsBy sql.now (bound params.now) (state S.Store conn.old)) }
 {
-    conn.execute(sql, params)?;
-    Ok(())
+    match conn.execute(sql, params) {
+        Ok(_count) => Ok(()),
+        Err(error) => Err(fault_of(error)),
+    }
 }
 
 /// Begins a transaction. Within one it is refused.
@@ -90,5 +93,8 @@ pub fn select<S: Alter>(
     ensures blamed { Blames S.Store conn.old conn.new result
         (IsUnfit (state S.Store conn.old) sql.now (bound params.now)) }
 {
-    Ok(conn.query_all(sql, params)?)
+    match conn.query_all(sql, params) {
+        Ok(rows) => Ok(rows),
+        Err(error) => Err(fault_of(error)),
+    }
 }

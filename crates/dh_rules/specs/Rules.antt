@@ -19,33 +19,26 @@ is_met rule kind name = same_kind rule.kind kind && is_match rule.pattern name
 
 -- hiding a version and setting it as default activate it too
 abbrev pub activates : Action → Bool
-activates Activate = true
-activates Hide = true
-activates Default = true
-activates Public = false
-activates Private = false
+activates =
+    elim [ Activate ↦ true | Hide ↦ true | Default ↦ true | Public ↦ false | Private ↦ false ]
 
 abbrev pub hides : Action → Bool
-hides Hide = true
-hides Activate = false
-hides Public = false
-hides Private = false
-hides Default = false
+hides =
+    elim [ Hide ↦ true | Activate ↦ false | Public ↦ false | Private ↦ false | Default ↦ false ]
 
 abbrev pub sets_default : Action → Bool
-sets_default Default = true
-sets_default Activate = false
-sets_default Hide = false
-sets_default Public = false
-sets_default Private = false
+sets_default =
+    elim [ Default ↦ true | Activate ↦ false | Hide ↦ false | Public ↦ false | Private ↦ false ]
 
 -- whether the action makes a version private, if it speaks of that
 abbrev pub privacy_of : Action → Option Bool
-privacy_of Public = Some false
-privacy_of Private = Some true
-privacy_of Activate = None
-privacy_of Hide = None
-privacy_of Default = None
+privacy_of = elim [
+  | Public ↦ Some false
+  | Private ↦ Some true
+  | Activate ↦ None
+  | Hide ↦ None
+  | Default ↦ None
+]
 
 -- the actions of the rules that are met
 abbrev pub actions_met : List Rule → Kind → List ℕ → List Action

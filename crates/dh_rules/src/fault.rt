@@ -17,14 +17,6 @@ pub enum CheckFault {
     Memory,
 }
 
-impl From<AllocError> for CheckFault {
-    ghost from_gives = { λ _ fault. fault ≡ check.Memory };
-
-    fn from(_refused: AllocError) -> CheckFault {
-        CheckFault::Memory
-    }
-}
-
 /// Why rules were not applied.
 #[derive(Clone, Copy, Debug, PartialEq, Eq, Error)]
 pub enum RuleFault {
@@ -33,6 +25,14 @@ pub enum RuleFault {
     PatternRefused(usize),
     #[error("out of memory")]
     Memory,
+}
+
+impl From<AllocError> for CheckFault {
+    ghost from_gives = { λ _ fault. fault ≡ check.Memory };
+
+    fn from(_refused: AllocError) -> CheckFault {
+        CheckFault::Memory
+    }
 }
 
 impl From<AllocError> for RuleFault {

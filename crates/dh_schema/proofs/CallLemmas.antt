@@ -2,18 +2,15 @@
 use Rattle.std.proofs.Common.{◌≡◌, ◌⊎◌, inl, inr, ℕ, Bool, true, false, List, map, Option, None, Result, Ok, Err, IfOk, OnOk, OnErr, slice_get, refl, sym, ap, subst, ◌∙◌, true≢false}
 use Rattle.std.proofs.lemmas.Bool.{cases_Bool}
 use Rattle.sqlite_value.specs.Order.{Row}
-use Rattle.dh_lookup.specs.declared.fault.Fault.{Fault}
-use Rattle.dh_lookup.specs.declared.fault.Fault.TheVariants.{Store, Memory}
-use Rattle.dh_lookup.specs.Faults.{OnStore}
+use Rattle.dh_faults.specs.declared.fault.Fault.{Fault}
+use Rattle.dh_faults.specs.declared.fault.Fault.TheVariants.{Store, Memory}
+use Rattle.dh_faults.specs.Faults.{OnStore}
 use Rattle.sqlite_trees.specs.declared.store.Store.{Ghosts}
 use Rattle.sqlite.specs.Effect.{Database}
 use Rattle.sqlite.specs.State.{HasCleanDisk}
 use Rattle.sqlite.specs.Held.{Held, state}
 use Rattle.dh_rows.specs.Calls.{whole, Edits, Makes, OnlyEdits, OnlyLooks, Keep, AreOurs, IsHonest, LeavesTrees, Leaves, Lasts, GoesWithin, Sees, Shows, IsSame, IsUndone, IsRefused, IsBlamed, seen}
 use Rattle.dh_rows.proofs.Views.{leaves, leaves_now}
-use Rattle.dh_records.specs.Faults.{told_as}
-use Rattle.dh_rows.specs.declared.fault.Fault as below
-use Rattle.dh_rows.specs.declared.fault.Fault.TheVariants as fault
 use Rattle.dh_schema.specs.Calling.{Asks, Blames, Writes}
 use Rattle.dh_schema.specs.InTurn.{lasts_on, goes_anywhere, refused_on}
 use Rattle.dh_records.specs.Lists.{Lists}
@@ -108,11 +105,6 @@ pub on_store : {T P Q : Type 0} (r : Result T Fault) → (P → Q) → OnStore r
 on_store (Ok x) f h = tt
 on_store (Err Memory) f h = tt
 on_store (Err Store) f h = f h
-
--- a statement's refusal, as the layers above tell it
-pub as_told : {P : Type 0} (e : below.Fault) → (e ≡ fault.Store → P) → OnStore {T = Unit {0}} (Err (told_as e)) P
-as_told fault.Store h = h refl
-as_told fault.Memory h = tt
 
 pub inl_or : {P Q R : Type 0} → P ⊎ Q → P ⊎ (Q ⊎ R)
 inl_or (inl p) = inl p

@@ -3,11 +3,11 @@ use Rattle.std.specs.Prelude.{◌≡◌, ◌⊎◌, ℕ, List, true, false, map,
 use Rattle.std.specs.List.{AllByRecursion}
 use Rattle.sqlite_value.specs.Order.{Row}
 use Rattle.sqlite_trees.specs.declared.store.Store.{Ghosts}
-use Rattle.sqlite.specs.State.{State, HasCleanDisk}
+use Rattle.sqlite.specs.State.{State}
 use Rattle.sqlite.specs.Held.{Held, state}
-use Rattle.dh_lookup.specs.Faults.{OnStore}
-use Rattle.dh_lookup.specs.declared.fault.Fault.{Fault}
-use Rattle.dh_rows.specs.Calls.{AreRows, IsHonest, IsBlamed, IsUnfit, Goes, GoesWithin, Stays, Refuses, Sees, CommitsAtMost, seen, committed}
+use Rattle.dh_faults.specs.declared.fault.Fault.{Fault}
+use Rattle.dh_rows.specs.Calls.{AreRows, IsHonest, IsUnfit, Goes, GoesWithin, Stays, Refuses, Sees, CommitsAtMost, seen, committed}
+pub use Rattle.dh_rows.specs.Calls.{Blames}
 use Rattle.dh_rows.specs.Keyed.{Coding, IsFreeKey}
 use Rattle.dh_records.specs.Lists.{Lists}
 use Rattle.dh_schema.specs.Tables.{lists_of}
@@ -47,10 +47,6 @@ module _ {S : Type 0} (g : Ghosts S) where
     pub same : seen g lists_of h ≡ committed g lists_of h
 
   module _ {T : Type 0} (old new : Held S) (result : Result T Fault) where
-    -- The store failed in the call, or was shut before it, or P holds.
-    abbrev pub Blames : Type 0 → Type 0
-    Blames P = HasCleanDisk (state g new) → OnStore result (IsBlamed g old new ⊎ P)
-
     -- What a look leaves, whatever it answers.
     pub record Asks : Type 0 where
       -- nothing is committed, and a crash leaves nothing more
@@ -60,7 +56,7 @@ module _ {S : Type 0} (g : Ghosts S) where
       -- one that was refused did too, or within a transaction undid all since its begin
       pub err : Refuses g lists_of old new result
       -- `Store` is told for a fault of the store alone
-      pub told : Blames ⊥
+      pub told : Blames g old new result ⊥
 
     -- What a change of the lists leaves, whatever it answers.
     pub record Writes (change : Lists → Lists) : Type 0 where

@@ -1,5 +1,5 @@
 -- What calls leave that come one after the other.
-use Rattle.std.specs.Prelude.{◌≡◌, ℕ, ◌≤◌, ◌+◌, ◌-◌, ◌^◌, min, true, false}
+use Rattle.std.specs.Prelude.{◌≡◌, ℕ, ◌≤◌, ◌+◌, ◌-◌, ◌^◌, min, Bool, true, false}
 use Rattle.std.proofs.Common.{inl, inr, refl, sym, ◌∙◌, le_refl, le_trans, add-le-add, true≢false}
 use Rattle.std.proofs.lemmas.Bool.{cases_Bool}
 use Rattle.std.proofs.Math.Nat.{le-min, min-le_left, min-le_right}
@@ -7,7 +7,7 @@ use Rattle.sqlite_trees.specs.declared.store.Store.{Ghosts}
 use Rattle.sqlite.specs.State.{HasCleanDisk}
 use Rattle.sqlite.specs.Held.{Held, state}
 use Rattle.sqlite.specs.Effect.{Database}
-use Rattle.dh_rows.specs.Calls.{IsBlamed, IsHonest, Lasts, Goes, GoesWithin, Sees, IsSame, IsRefused}
+use Rattle.dh_rows.specs.Calls.{IsBlamed, IsHonest, Lasts, Goes, GoesWithin, Sees, Shows, IsSame, IsRefused}
 
 -- as faults are counted: more than later is more than before
 more_before
@@ -101,15 +101,21 @@ module _ {S : Type 0} {g : Ghosts S} where
     pub same_none : (h : Held S) → IsHonest g h → IsSame g view h h
     same_none h it = record { was_honest = it; is_open = it.1; now_is = refl; last_is = refl; mode = refl }
 
-    pub same_on
-        : {a b c : Held S} → IsSame g view a b → IsSame g view b c → IsSame g view a c
-    same_on p q = record {
+    -- what a call shows is shown after one that leaves all as it was
+    pub shows_on
+        : {a b c : Held S} {now last : W} {mode : Bool}
+        → Shows g view a b now last mode → IsSame g view b c → Shows g view a c now last mode
+    shows_on p q = record {
       was_honest = p.was_honest;
       is_open = q.is_open;
       now_is = q.now_is ∙ p.now_is;
       last_is = q.last_is ∙ p.last_is;
       mode = q.mode ∙ p.mode;
     }
+
+    pub same_on
+        : {a b c : Held S} → IsSame g view a b → IsSame g view b c → IsSame g view a c
+    same_on p q = shows_on p q
 
     -- a refusal after calls that left all as it was
     pub refused_on

@@ -5,4 +5,4 @@ mod making;
 mod query;
 
 pub use making::{can_make, make_at_once, make_tables};
-pub use query::{all_records, count_records, first_record, has_record, write};
+pub use query::{all_records, first_record};

@@ -3,14 +3,12 @@
 ghost use Rattle.std.specs.Prelude.{◌≡◌, ◌↔◌, [], map, IsTrue, OnOk, OnErr};
 ghost use Rattle.sqlite.specs.Held.{state};
 ghost use Rattle.sqlite.specs.State.{HasCleanDisk};
-ghost use Rattle.dh_rows.specs.Calls.{IsHonest, Lasts, Begins, Commits, Refuses, whole};
+ghost use Rattle.dh_rows.specs.Calls.{IsHonest, Lasts};
 ghost use Rattle.dh_rows.specs.Places.{IsFree, IsUnmentioned, ArePlaced};
 ghost use Rattle.dh_schema.specs.Making.{CanMake, IsReady, IsMade, Builds, BuildsOne, AreCommitted, CommitsNothing, made_tables, our_tables, table_texts};
 
-use crate::query::write;
 use dh_lookup::Fault;
-use dh_records::fault_of;
-use dh_rows::{is_free, is_unmentioned, keeps_counts};
+use dh_rows::{begin, change, commit, is_free, is_unmentioned, keeps_counts};
 use sqlite::{Alter, Connection, params};
 use sqlite_schema::schema::Schema;
 
@@ -37,7 +35,7 @@ fn make_each<S: Alter>(conn: &mut Connection<S>, texts: &[&str]) -> Result<(), F
     ensures builds { Builds S.Store conn.old conn.new result (IsReady made_tables []) }
 {
     for sql in texts {
-        write(conn, *sql, &[])?;
+        change(conn, *sql, &[])?;
     }
     Ok(())
 }
@@ -48,7 +46,7 @@ fn number<S: Alter>(conn: &mut Connection<S>) -> Result<(), Fault>
         → IsReady made_tables [] (state S.Store conn.old).now }
     ensures builds { BuildsOne S.Store conn.old conn.new result IsMade }
 {
-    write(conn, "INSERT INTO meta VALUES (?1)", params![1i64])
+    change(conn, "INSERT INTO meta VALUES (?1)", params![1i64])
 }
 
 /// Makes the tables, with no record in them.
@@ -98,26 +96,4 @@ pub fn make_at_once<S: Alter>(conn: &mut Connection<S>) -> Result<(), Fault>
     begin(conn)?;
     make_tables(conn)?;
     commit(conn)
-}
-
-fn begin<S: Alter>(conn: &mut Connection<S>) -> Result<(), Fault>
-    ensures lasts { Lasts S.Store conn.old conn.new }
-    ensures begun { Begins S.Store whole conn.old conn.new result }
-    ensures err { Refuses S.Store whole conn.old conn.new result }
-{
-    match dh_rows::begin(conn) {
-        Ok(()) => Ok(()),
-        Err(fault) => Err(fault_of(fault)),
-    }
-}
-
-fn commit<S: Alter>(conn: &mut Connection<S>) -> Result<(), Fault>
-    ensures lasts { Lasts S.Store conn.old conn.new }
-    ensures committed { Commits S.Store whole conn.old conn.new result }
-    ensures err { Refuses S.Store whole conn.old conn.new result }
-{
-    match dh_rows::commit(conn) {
-        Ok(()) => Ok(()),
-        Err(fault) => Err(fault_of(fault)),
-    }
 }

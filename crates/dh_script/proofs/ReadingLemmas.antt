@@ -7,7 +7,7 @@ use Rattle.dh_ports.specs.declared.stop.Stop.TheVariants.{Read, TooManyTurns, Me
 use Rattle.dh_ports.specs.Reading.{TookAtMost, most_lost}
 use Rattle.dh_ports.proofs.Taking.{took_on}
 use Rattle.dh_script.specs.Reading.{is_write, writer_failed}
-use Rattle.dh_script.specs.declared.reading.ScriptFault.{ScriptFault}
+use Rattle.dh_script.specs.declared.fault.ScriptFault.{ScriptFault}
 
 most_lost-little : (stop : Stop) → most_lost stop ≤ 4096
 most_lost-little Read = omega arith

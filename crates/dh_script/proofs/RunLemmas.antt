@@ -9,7 +9,7 @@ use Rattle.dh_world.specs.World.{Text, World}
 use Rattle.dh_lines.specs.Lines.{line_in}
 use Rattle.dh_ports.specs.Ports.{PutsFirst}
 use Rattle.dh_script.specs.Script.{Does, MayDo}
-use Rattle.dh_script.specs.declared.script.RunFault.{RunFault}
+use Rattle.dh_script.specs.declared.fault.RunFault.{RunFault}
 use Rattle.dh_script.specs.Running.{Runs, RunsInto, RunsSome, StopsAt, Ran, RunsBut, RanBut, RunsScript, lines_in, seen, worded, words_in, is_filled}
 
 -- two runs, one after the other, are a run

@@ -8,15 +8,8 @@ use Rattle.std.specs.Io.KnownBytes.{Appends}
 use Rattle.dh_world.specs.World.{Text, World}
 use Rattle.dh_lines.specs.Lines.{line_in}
 use Rattle.dh_script.specs.Script.{Does}
-use Rattle.dh_script.specs.declared.reading.ScriptFault.{ScriptFault}
-use Rattle.dh_script.specs.declared.reading.ScriptFault.TheVariants as script
-use Rattle.dh_script.specs.declared.script.RunFault.{RunFault}
-use Rattle.dh_script.specs.declared.script.RunFault.TheVariants.{Memory, Write}
-
--- the fault of a script by why its lines did not all run
-abbrev pub fault_of_run : RunFault → ScriptFault
-fault_of_run Memory = script.Memory
-fault_of_run Write = script.Write
+use Rattle.dh_script.specs.declared.fault.RunFault.{RunFault}
+use Rattle.dh_script.specs.declared.fault.RunFault.TheVariants.{Write}
 
 -- whether the answer is that the writer failed
 abbrev pub stopped_by_writer : {T : Type 0} → Result T RunFault → Bool

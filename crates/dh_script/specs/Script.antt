@@ -5,7 +5,7 @@ use Rattle.dh_paths.specs.Targets.{target_of}
 use Rattle.dh_paths.specs.declared.target.Target.{Target}
 use Rattle.dh_reply.specs.Replies.{reply_to}
 use Rattle.dh_wire.specs.declared.answer.Reply.{Reply}
-use Rattle.dh_lookup.specs.declared.fault.Fault.{Fault}
+use Rattle.dh_faults.specs.declared.fault.Fault.{Fault}
 use Rattle.dh_world.specs.World.{Text, World}
 use Rattle.dh_world.specs.Seen.{seen}
 use Rattle.dh_world.specs.declared.answer.Answer.{Answer}
@@ -19,9 +19,8 @@ use Rattle.dh_script.specs.Outcomes.{text_of_outcome, is_refusal}
 use Rattle.dh_lines.specs.declared.lines.Line.{Line}
 use Rattle.dh_lines.specs.declared.lines.Order.{Order}
 use Rattle.dh_lines.specs.declared.lines.Order.TheVariants as order
-use Rattle.dh_script.specs.declared.reading.ScriptFault.{ScriptFault}
-use Rattle.dh_script.specs.declared.reading.ScriptFault.TheVariants.{Read, TooLong, NotText}
-use Rattle.dh_script.specs.declared.reading.ScriptFault.TheVariants.{TooManyTurns, UnreadMemory}
+use Rattle.dh_script.specs.declared.fault.ScriptFault.{ScriptFault}
+use Rattle.dh_script.specs.declared.fault.ScriptFault.TheVariants.{Run}
 
 abbrev pub outcome_of : Result Answer Refusal → Outcome
 outcome_of (Ok answer) = Applied answer
@@ -92,9 +91,6 @@ MayDo before line after = (after ≡ before) ⊎ ((text : Text) × Does before l
 
 -- whether the answer is that the script was not read
 abbrev pub is_unread : {A : Type 0} → Result A ScriptFault → Bool
-is_unread (Err Read) = true
-is_unread (Err TooLong) = true
-is_unread (Err NotText) = true
-is_unread (Err TooManyTurns) = true
-is_unread (Err UnreadMemory) = true
-is_unread _ = false
+is_unread (Err (Run fault)) = false
+is_unread (Err fault) = true
+is_unread (Ok value) = false

@@ -1,12 +1,13 @@
 //! Lines over a desk: what one does and prints, and how a whole script is read and run.
 #![tactic(auto)]
 
+mod fault;
 mod orders;
 mod outcomes;
 mod reading;
 mod script;
 
+pub use fault::{RunFault, ScriptFault};
 pub use orders::{Printed, is_bad_target, perform};
 pub use outcomes::outcome_text;
-pub use reading::ScriptFault;
 pub use script::run_script;

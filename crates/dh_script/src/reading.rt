@@ -1,51 +1,13 @@
 //! How a whole script is read.
 
-use dh_ports::{Intake, Source, Stop};
-use std::alloc::Global;
-use thiserror::Error;
-
-/// Why a script was not run to its end.
-#[derive(Clone, Copy, Debug, PartialEq, Eq, Error)]
-pub enum ScriptFault {
-    /// The reader failed. No line ran.
-    #[error("Read")]
-    Read,
-    /// The script has more than 1,048,576 bytes. No line ran.
-    #[error("TooLong")]
-    TooLong,
-    /// The script is not UTF-8. No line ran.
-    #[error("NotText")]
-    NotText,
-    /// 100,000 reads did not reach the end. No line ran.
-    #[error("TooManyTurns")]
-    TooManyTurns,
-    /// Out of memory while the script was read. No line ran.
-    #[error("Memory")]
-    UnreadMemory,
-    /// The writer failed or took no byte. The commands so far are done.
-    #[error("Write")]
-    Write,
-    /// Out of memory in a line. The commands so far are done.
-    #[error("Memory")]
-    Memory,
-}
-
 ghost use Rattle.std.specs.Prelude.{◌≡◌, ◌≤◌, false, length, IfSome, IfOk, IfErr, IsErrOf};
 ghost use Rattle.dh_ports.specs.Ports.{CountsUpTo, CountsAtLeast};
 ghost use Rattle.dh_ports.specs.Reading.{TookAtMost};
-ghost use Rattle.dh_script.specs.Reading.{fault_of, reader_failed, writer_failed, IsCause};
+ghost use Rattle.dh_script.specs.Reading.{reader_failed, writer_failed, IsCause};
 
-impl From<Stop> for ScriptFault {
-    ghost from_gives = { λ stop fault. fault ≡ fault_of stop };
-
-    fn from(stop: Stop) -> ScriptFault {
-        match stop {
-            Stop::Read => ScriptFault::Read,
-            Stop::TooManyTurns => ScriptFault::TooManyTurns,
-            Stop::Memory => ScriptFault::UnreadMemory,
-        }
-    }
-}
+use crate::fault::ScriptFault;
+use dh_ports::{Intake, Source, Stop};
+use std::alloc::Global;
 
 /// The most bytes of a script.
 const MOST_BYTES: usize = 1_048_576;
@@ -61,7 +23,7 @@ pub fn read_script<R: Source>(alloc: Global, source: &mut R) -> Result<Vec<u8>, 
     ensures taken { TookAtMost (R.left source.old) (R.left source.new) 1052672 }
     ensures broken { R.broken source.new ≡ reader_failed result }
     ensures reads { CountsUpTo (R.fills source.old) (R.fills source.new) 100000 }
-    ensures full { IsErrOf result ScriptFault.TooManyTurns
+    ensures full { IsErrOf result (ScriptFault.Unread Stop.TooManyTurns)
         → CountsAtLeast (R.fills source.old) (R.fills source.new) 100000 }
 {
     let mut intake = Intake::new(alloc);

@@ -7,14 +7,13 @@ ghost use Rattle.dh_desk.specs.Desk.{Moves};
 ghost use Rattle.dh_words.specs.Apps.{StandsFor};
 ghost use Rattle.dh_lines.specs.App.{docs_app};
 ghost use Rattle.dh_lines.specs.Lines.{line_in};
-ghost use Rattle.dh_script.specs.Reading.{reader_failed, writer_failed, TookAtMost, IsCause};
-ghost use Rattle.dh_script.specs.Reading.{IsScript};
+ghost use Rattle.dh_script.specs.Reading.{IsCause, IsScript, TookAtMost, reader_failed, writer_failed};
 ghost use Rattle.dh_script.specs.Script.{Does, MayDo, is_unread};
-ghost use Rattle.dh_script.specs.Running.{Ran, RanBut, RunsScript, seen, words_in, worded};
-ghost use Rattle.dh_script.specs.Running.{lines_in, fault_of_run, stopped_by_writer};
+ghost use Rattle.dh_script.specs.Running.{Ran, RanBut, RunsScript, lines_in, seen, stopped_by_writer, words_in, worded};
 
+use crate::fault::{RunFault, ScriptFault};
 use crate::orders::perform;
-use crate::reading::{ScriptFault, read_script};
+use crate::reading::read_script;
 use dh_desk::Desk;
 use dh_lines::{Line, LineFault, docs_command, line_by};
 use dh_ports::{Sink, Source, put_all};
@@ -23,37 +22,6 @@ use std::alloc::{AllocError, Global};
 
 /// The most lines that one program of words reads, since their words live as long as it.
 const BATCH: usize = 1024;
-
-/// Why the lines of a script did not all run. They were read before the first of them ran, so
-/// nothing else can be the cause.
-#[derive(Clone, Copy)]
-enum RunFault {
-    /// Out of memory in a line.
-    Memory,
-    /// The writer failed or took no byte.
-    Write,
-}
-
-impl From<AllocError> for RunFault {
-    ghost use Rattle.dh_script.specs.declared.script.RunFault.TheVariants.{Memory};
-
-    ghost from_gives = { λ _ fault. fault ≡ Memory };
-
-    fn from(_refused: AllocError) -> RunFault {
-        RunFault::Memory
-    }
-}
-
-impl From<RunFault> for ScriptFault {
-    ghost from_gives = { λ run fault. fault ≡ fault_of_run run };
-
-    fn from(run: RunFault) -> ScriptFault {
-        match run {
-            RunFault::Memory => ScriptFault::Memory,
-            RunFault::Write => ScriptFault::Write,
-        }
-    }
-}
 
 /// Does what a line orders that names no store of its own.
 fn own_text<S: Alter>(alloc: Global, desk: &mut Desk<S>, line: &Line) -> Result<String, AllocError>

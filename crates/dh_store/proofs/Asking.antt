@@ -1,17 +1,18 @@
 -- A query of ours is refused for a fault of the store alone, and an answer is of the records that it asks for.
 use Rattle.std.proofs.Common.{◌≡◌, inl, inr, ℕ, Bool, List, filter, map, slice_get, Result, Ok, Err, OnOk, OnErr, subst, sym, true≢false}
-use Rattle.std.specs.Prelude.{IsSome}
+use Rattle.std.specs.Prelude.{IsErrAnd, IsSome}
 use Rattle.std.specs.List.{find}
 use Rattle.sqlite_value.specs.Order.{Row}
 use Rattle.sqlite_trees.specs.declared.store.Store.{Ghosts}
 use Rattle.sqlite.specs.State.{State, HasCleanDisk}
 use Rattle.sqlite.specs.Held.{Held, state}
-use Rattle.dh_lookup.specs.declared.fault.Fault.{Fault}
-use Rattle.dh_lookup.specs.Faults.{OnStore}
-use Rattle.dh_rows.specs.Calls.{AreOurs, Goes, IsHonest, IsPlainLook, IsSame, OnlyLooks, seen}
+use Rattle.dh_faults.specs.declared.fault.Fault.{Fault}
+use Rattle.dh_faults.specs.Faults.{OnStore}
+use Rattle.dh_rows.specs.Calls.{AreOurs, Goes, IsHonest, IsPlainLook, IsSame, OnlyLooks, Refuses, seen, whole}
 use Rattle.dh_rows.proofs.Asks.{Answers}
 use Rattle.dh_records.specs.Lists.{Lists}
 use Rattle.dh_records.specs.Typed.{AreTyped}
+use Rattle.dh_records.proofs.ReadingLemmas.{handed_on}
 use Rattle.dh_schema.specs.Calling.{AreAsked, Asks, Blames, IsUnread}
 use Rattle.dh_schema.proofs.CallLemmas.{asked, on_store}
 use Rattle.dh_schema.specs.Tables.{Holds, lists_of}
@@ -24,6 +25,15 @@ asked_for {part = part} {test = test} it = (part, test, it)
 
 pub altered : {S : Type 0} (g : Ghosts S) (h : Held S) {sql : List ℕ} {params : Row} {change : Lists → Lists} → Changes g h sql params change → IsChange g h sql params
 altered g h {change = change} it = (change, it)
+
+-- what a refused query leaves is left by what hands its refusal on
+pub looks_handed : {S T U : Type 0} {g : Ghosts S} {old new : Held S} (r : Result U Fault) {from : Result T Fault} (fault : Fault) → from ≡ Err fault → IsErrAnd r (λ f. f ≡ fault) → OnlyLooks g old new from → OnlyLooks g old new r
+looks_handed (Ok y) fault was same look = absurd same
+looks_handed {T = T} {g = g} {old = old} {new = new} (Err f) fault was same look = record {
+  goes = look.goes;
+  same = λ clean. tt;
+  err = subst (λ (v : Result T Fault). Refuses g whole old new v) was look.err;
+}
 
 -- of tables of ours whose connection is this one
 module _ {S : Type 0} (g : Ghosts S) {conn tables : Held S} (is : conn ≡ tables) (ours : AreOurs Holds (state g conn)) {X : Type 0} {encode : X → Row} {typed : X → Type 0} {sql : List ℕ} {params : Row} where
@@ -54,6 +64,10 @@ module _ {S : Type 0} (g : Ghosts S) {conn tables : Held S} (is : conn ≡ table
     -- and a refusal is the store's own
     pub asks : {P T : Type 0} {new : Held S} {r : Result T Fault} → (P → IsUnread encode typed (state g conn) sql params) → OnlyLooks g conn new r → Blames g conn new r P → Asks g tables new r
     asks why look told = rw (← is) (asked g conn _ _ look told (λ honest it. unread honest (why it)))
+
+    -- a refusal that is handed on, too
+    pub refused : {T U P : Type 0} {new : Held S} (r : Result U Fault) {from : Result T Fault} (fault : Fault) → from ≡ Err fault → IsErrAnd r (λ f. f ≡ fault) → (P → IsUnread encode typed (state g conn) sql params) → OnlyLooks g conn new from → Blames g conn new from P → Asks g tables new r
+    refused r fault was same why look told = asks why (looks_handed r fault was same look) (λ clean. handed_on r _ fault was same (λ p. p) (told clean))
 
 -- A look that found a record, which can be told.
 pub told_asks : {S : Type 0} (g : Ghosts S) (old new : Held S) {T P : Type 0} (r : Result T Fault) → Goes g old new → (HasCleanDisk (state g new) → IsSame g lists_of old new)

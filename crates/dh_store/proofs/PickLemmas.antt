@@ -7,7 +7,7 @@ use Rattle.sqlite.specs.Held.{Held}
 use Rattle.dh_rows.specs.Calls.{IsHonest, Goes, GoesWithin, Sees, seen}
 use Rattle.dh_rows.specs.Keyed.{added}
 use Rattle.dh_records.specs.declared.records.PickRow.{PickRow}
-use Rattle.dh_lookup.specs.declared.fault.Fault.{Fault}
+use Rattle.dh_faults.specs.declared.fault.Fault.{Fault}
 use Rattle.dh_schema.specs.Calling.{Writes, WritesWithin}
 use Rattle.dh_records.specs.Changes as change
 use Rattle.dh_records.specs.Codings as coding

@@ -3,7 +3,7 @@ use Rattle.std.proofs.Common.{◌≡◌, IsSomeAnd, ℕ, suc, ◌+◌, ◌<◌, 
 use Rattle.std.proofs.lemmas.Slice.Eq.{bytes_eq-Decides}
 use Rattle.sqlite_trees.specs.declared.store.Store.{Ghosts}
 use Rattle.sqlite.specs.Held.{Held}
-use Rattle.dh_lookup.specs.declared.fault.Fault.{Fault}
+use Rattle.dh_faults.specs.declared.fault.Fault.{Fault}
 use Rattle.dh_rows.specs.Calls.{IsHonest, seen}
 use Rattle.dh_rows.specs.Keyed.{put}
 use Rattle.dh_records.specs.Constraints.{InOrder}
@@ -20,10 +20,10 @@ module _ {S : Type 0} (g : Ghosts S) {X V : Type 0} (l : Listing X V) (host : Li
   -- ---- the others are put
 
   puts_all : (xs : List X) (lists : Lists) → made_of (put_one l) xs lists ≡ l.with (put_all (key_of l) xs (l.part lists)) lists
-  puts_all [] lists = sym (l.as_it_is lists)
+  puts_all [] lists = sym (l.is_part.1 lists)
   puts_all (x ∷ xs) lists =
       let rows : List X = put (key_of l) x (l.part lists) in
-      puts_all xs (put_one l x lists) ∙ ap (λ rs. l.with (put_all (key_of l) xs rs) (put_one l x lists)) (l.part_is rows lists) ∙ l.twice rows _ lists
+      puts_all xs (put_one l x lists) ∙ ap (λ rs. l.with (put_all (key_of l) xs rs) (put_one l x lists)) (l.is_part.0 rows lists) ∙ l.is_part.2 rows _ lists
 
   module _ (vs : List V) (rows : List X) (old : Held S) where
     -- The first i stand at their places, and of the records from there on those that stood stand.
@@ -51,22 +51,22 @@ module _ {S : Type 0} (g : Ghosts S) {X V : Type 0} (l : Listing X V) (host : Li
 
       pub one_set : {next : Held S} → Writes g now next (Ok (tt {0})) (put_one l x) → AreSet vs rows old next (i + 1)
       one_set {next = next} it =
-          let rows_are : (honest : IsHonest g next) → l.part (seen g lists_of next) ≡ put (key_of l) x (l.part (seen g lists_of now)) = λ honest. ap l.part (it.sees.now_is honest) ∙ l.part_is _ (seen g lists_of now) in
+          let rows_are : (honest : IsHonest g next) → l.part (seen g lists_of next) ≡ put (key_of l) x (l.part (seen g lists_of now)) = λ honest. ap l.part (it.sees.now_is honest) ∙ l.is_part.0 _ (seen g lists_of now) in
           record {
             made = one_made g (put_one l) (placed (l.row host) 1 vs) old now next i had.made x next_is (within_one g it (still_within g (put_one l) (placed (l.row host) 1 vs) old within now i had.made));
             order = λ honest. subst (InOrder (key_of l)) (sym (rows_are honest)) (put_in_order (key_of l) x _ (had.order (it.goes.lasts.was honest)));
             there = λ honest j from low o found standing.
                 let was = had.there (it.goes.lasts.was honest) j (omega (arith, from)) low o found standing in
-                let later : l.place_of x < l.place_of o = let mine = l.place_is host place v in omega (arith, from, standing, here, mine) in
-                (was.0, subst (Has o) (sym (rows_are honest)) (has_put (key_of l) x o _ (places_apart l.host_of l.place_of x o (l.host_is host place v ∙ sym was.0) later) was.1));
+                let later : l.place_of x < l.place_of o = let mine = l.is_row.2 host place v in omega (arith, from, standing, here, mine) in
+                (was.0, subst (Has o) (sym (rows_are honest)) (has_put (key_of l) x o _ (places_apart l.host_of l.place_of x o (l.is_row.1 host place v ∙ sym was.0) later) was.1));
           }
 
       stands : (found : Option X) → slice_get rows i ≡ found → IsSomeAnd found (λ o. (l.place_of o ≡ place) × (l.value_of o ≡ v)) → i < length vs → IsHonest g now → put_one l x (seen g lists_of now) ≡ seen g lists_of now
       stands None e it low honest = absurd it
       stands (Some o) e it low honest =
           let mine = had.there honest i (omega arith) low o e (it.0 ∙ here) in
-          let is : o ≡ x = sym (l.whole o) ∙ ap (λ h. l.row h (l.place_of o) (l.value_of o)) mine.0 ∙ ap₂ (l.row host) it.0 it.1 in
-          ap (λ rs. l.with rs (seen g lists_of now)) (put_there (key_of l) x _ (had.order honest) (subst (λ y. Has y (l.part (seen g lists_of now))) is mine.1)) ∙ l.as_it_is (seen g lists_of now)
+          let is : o ≡ x = sym (l.is_row.0 o) ∙ ap (λ h. l.row h (l.place_of o) (l.value_of o)) mine.0 ∙ ap₂ (l.row host) it.0 it.1 in
+          ap (λ rs. l.with rs (seen g lists_of now)) (put_there (key_of l) x _ (had.order honest) (subst (λ y. Has y (l.part (seen g lists_of now))) is mine.1)) ∙ l.is_part.1 (seen g lists_of now)
 
       pub one_stands : IsSomeAnd (slice_get rows i) (λ o. (l.place_of o ≡ place) × (l.value_of o ≡ v)) → i < length vs → AreSet vs rows old now (i + 1)
       one_stands it low = record {

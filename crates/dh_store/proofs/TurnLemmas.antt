@@ -5,7 +5,7 @@ use Rattle.sqlite_trees.specs.declared.store.Store.{Ghosts}
 use Rattle.sqlite.specs.Held.{Held, state}
 use Rattle.sqlite.specs.State.{HasCleanDisk}
 use Rattle.dh_rows.specs.Calls.{IsHonest, Goes, Sees, seen}
-use Rattle.dh_lookup.specs.declared.fault.Fault.{Fault}
+use Rattle.dh_faults.specs.declared.fault.Fault.{Fault}
 use Rattle.dh_records.specs.Lists.{Lists}
 use Rattle.dh_schema.specs.Calling.{Asks, Writes, WritesWithin}
 use Rattle.dh_schema.specs.InTurn.{goes_none, goes_on, goes_within}

@@ -11,6 +11,22 @@ use Rattle.dh_records.specs.Lists.{Lists, placed, put_all, rule_row, redirect_ro
 use Rattle.dh_records.specs.declared.records.RuleRow.{RuleRow}
 use Rattle.dh_records.specs.declared.records.RedirectRow.{RedirectRow}
 
+-- what is put among all lists is there, what is there can be put there, and the last counts
+abbrev pub IsPart : {X : Type 0} → (Lists → List X) → (List X → Lists → Lists) → Type 0
+IsPart part with =
+    ((xs : List _) (l : Lists) → part (with xs l) ≡ xs)
+    × ((l : Lists) → with (part l) l ≡ l)
+    × ((xs ys : List _) (l : Lists) → with ys (with xs l) ≡ with ys l)
+
+-- a record is its host, place and item
+abbrev pub IsPlacedRow
+    : {X V : Type 0} → (X → List ℕ) → (X → ℕ) → (X → V) → (List ℕ → ℕ → V → X) → Type 0
+IsPlacedRow host_of place_of value_of row =
+    ((x : _) → row (host_of x) (place_of x) (value_of x) ≡ x)
+    × ((host : List ℕ) (n : ℕ) (v : _) → host_of (row host n v) ≡ host)
+    × ((host : List ℕ) (n : ℕ) (v : _) → place_of (row host n v) ≡ n)
+    × ((host : List ℕ) (n : ℕ) (v : _) → value_of (row host n v) ≡ v)
+
 -- The lists of one kind that projects have, each in order: host, place and item of a record, the record of an item at a
 -- place, where such records stand among all lists, and all lists with others in their place.
 pub record Listing (X V : Type 0) : Type 0 where
@@ -20,15 +36,8 @@ pub record Listing (X V : Type 0) : Type 0 where
   pub row : List ℕ → ℕ → V → X
   pub part : Lists → List X
   pub with : List X → Lists → Lists
-  -- what is put there is there, what is there can be put there, and the last counts
-  pub part_is : (xs : List X) (l : Lists) → part (with xs l) ≡ xs
-  pub as_it_is : (l : Lists) → with (part l) l ≡ l
-  pub twice : (xs ys : List X) (l : Lists) → with ys (with xs l) ≡ with ys l
-  -- a record is its host, place and item
-  pub whole : (x : X) → row (host_of x) (place_of x) (value_of x) ≡ x
-  pub host_is : (host : List ℕ) (n : ℕ) (v : V) → host_of (row host n v) ≡ host
-  pub place_is : (host : List ℕ) (n : ℕ) (v : V) → place_of (row host n v) ≡ n
-  pub value_is : (host : List ℕ) (n : ℕ) (v : V) → value_of (row host n v) ≡ v
+  pub is_part : IsPart part with
+  pub is_row : IsPlacedRow host_of place_of value_of row
 
 abbrev pub rule_list : Listing RuleRow Rule
 rule_list = record {
@@ -38,13 +47,8 @@ rule_list = record {
   row = rule_row;
   part = λ l. l.rules;
   with = λ rows l. record l { rules = rows };
-  part_is = λ rows l. refl;
-  as_it_is = λ l. refl;
-  twice = λ xs ys l. refl;
-  whole = λ x. refl;
-  host_is = λ host n v. refl;
-  place_is = λ host n v. refl;
-  value_is = λ host n v. refl;
+  is_part = (λ rows l. refl, λ l. refl, λ xs ys l. refl);
+  is_row = (λ x. refl, λ host n v. refl, λ host n v. refl, λ host n v. refl);
 }
 
 abbrev pub redirect_list : Listing RedirectRow Redirect
@@ -55,13 +59,8 @@ redirect_list = record {
   row = redirect_row;
   part = λ l. l.redirects;
   with = λ rows l. record l { redirects = rows };
-  part_is = λ rows l. refl;
-  as_it_is = λ l. refl;
-  twice = λ xs ys l. refl;
-  whole = λ x. refl;
-  host_is = λ host n v. refl;
-  place_is = λ host n v. refl;
-  value_is = λ host n v. refl;
+  is_part = (λ rows l. refl, λ l. refl, λ xs ys l. refl);
+  is_row = (λ x. refl, λ host n v. refl, λ host n v. refl, λ host n v. refl);
 }
 
 module _ {X V : Type 0} (l : Listing X V) where

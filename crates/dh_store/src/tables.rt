@@ -21,7 +21,7 @@ mod statement;
 mod versions;
 
 use dh_lookup::Fault;
-use dh_records::fault_of;
+use dh_rows::{begin, commit, rollback};
 use dh_schema::make_tables;
 pub use listing::Listed;
 use sqlite::{Alter, Connection, MemStore};
@@ -62,10 +62,7 @@ impl<S: Alter> Tables<S> {
         ensures told { Blames S.Store self.old self.new result (self.old.in_transaction ≡ true) }
         ensures quiet { LeavesNoMore S.Store self.old self.new }
     {
-        match dh_rows::begin(&mut self.conn) {
-            Ok(()) => Ok(()),
-            Err(fault) => Err(fault_of(fault)),
-        }
+        begin(&mut self.conn)
     }
 
     /// Commits what was changed since the begin. Outside a transaction it is refused.
@@ -79,10 +76,7 @@ impl<S: Alter> Tables<S> {
         ensures steady { KeepsSchema S.Store self.old self.new }
         ensures left { IsHonest S.Store self.new → LeavesCommitted S.Store lists_of self.new }
     {
-        match dh_rows::commit(&mut self.conn) {
-            Ok(()) => Ok(()),
-            Err(fault) => Err(fault_of(fault)),
-        }
+        commit(&mut self.conn)
     }
 
     /// Goes back to the begin. Outside a transaction it does nothing.
@@ -93,10 +87,7 @@ impl<S: Alter> Tables<S> {
         ensures told { Blames S.Store self.old self.new result ⊥ }
         ensures quiet { LeavesNoMore S.Store self.old self.new }
     {
-        match dh_rows::rollback(&mut self.conn) {
-            Ok(()) => Ok(()),
-            Err(fault) => Err(fault_of(fault)),
-        }
+        rollback(&mut self.conn)
     }
 
     /// Whether no transaction is open.
@@ -106,13 +97,6 @@ impl<S: Alter> Tables<S> {
     {
         self.conn.is_autocommit()
     }
-}
-
-/// That a number fits 32 bits, as its type says. It does nothing.
-fn show_number(n: u32)
-    ensures { n < 2 ^ 32 }
-{
-    let _ = n;
 }
 
 impl<S: Alter> Tables<S> {

@@ -42,7 +42,7 @@ module _ (host : Text) (lists : Lists) (none : get (world_of lists) host ≡ Non
     none_speaks lang home =
         let new = subst (λ h. find (is_project h) lists.projects ≡ None) (sym home) (no_row lists host none) in
         ap (λ rows. list_any (λ l. bytes_eq l lang.lang) (map (λ r. r.lang) rows))
-        (filter_none (is_lang_of lang.host) lists.langs (none_of_new (λ l. l.host) lists.langs lists lang.host new sound.constraints.langs))
+        (filter_none (is_lang_of lang.host) lists.langs (none_of_new (λ l. l.host) lists.langs lists lang.host new sound.constraints.hosts.langs))
 
     module _ (x : NewProject) where
       abbrev row : ProjectRow

@@ -2,6 +2,7 @@
 use Rattle.std.proofs.Common.{◌≡◌, ℕ, ◌<◌, ◌≤◌, ◌+◌, Bool, true, false, ◌&&◌, cond, List, [], ◌∷◌, map, filter, Option, Some, None, refl, sym, ap, subst, ◌∙◌, slice_get, slice_index_or, drop, length, true≢false, Equal}
 use Rattle.std.specs.Prelude.{option_map, option_and_then, is_some, codes}
 use Rattle.std.specs.Option.{option_map_or, option_or}
+use Rattle.std.specs.Bool.{then_some}
 use Rattle.std.specs.List.{find, AllByRecursion}
 use Rattle.std.specs.Str.{bytes_eq}
 use Rattle.std.specs.Ordering.{eq_by_cmp}
@@ -178,11 +179,12 @@ module _ (lists : Lists) (row : ProjectRow) (pass : Option Text) where
       ap (λ slug. cond (may_see r.version (held slug)) (Some r.version) None) (own_slug_of row.host name lists.versions r (sym e ∙ is))
       ∙ ap (if_seen (held name)) (sym is ∙ e) ∙ sym (visible_is lists row pass name)
 
-  pub when_seen : (name : Text) (o : Option VersionRow) (r : VersionRow) → o ≡ find (is_version row.host name) lists.versions → o ≡ Some r → may_see r.version (held r.version.slug) ≡ true → Some r.version ≡ get visible name
-  when_seen name o r e is t = sym (ap (λ b. cond b (Some r.version) None) t) ∙ found_as name o r e is
-
-  pub when_unseen : (name : Text) (o : Option VersionRow) (r : VersionRow) → o ≡ find (is_version row.host name) lists.versions → o ≡ Some r → may_see r.version (held r.version.slug) ≡ false → None ≡ get visible name
-  when_unseen name o r e is t = sym (ap (λ b. cond b (Some r.version) None) t) ∙ found_as name o r e is
+  pub when_told : (seen : Bool) (name : Text) (o : Option VersionRow) (r : VersionRow) → o ≡ find (is_version row.host name) lists.versions → o ≡ Some r → seen ≡ may_see r.version (held r.version.slug) → then_some seen r.version ≡ get visible name
+  when_told seen name o r e is told = ap (λ b. then_some b r.version) told ∙ as_cond (may_see r.version (held r.version.slug)) ∙ found_as name o r e is
+    where
+      as_cond : (b : Bool) → then_some b r.version ≡ cond b (Some r.version) None
+      as_cond true = refl
+      as_cond false = refl
 
   pub when_absent : (name : Text) (o : Option VersionRow) → o ≡ find (is_version row.host name) lists.versions → o ≡ None → None ≡ get visible name
   when_absent name o e is = ap (if_seen (held name)) (sym is ∙ e) ∙ sym (visible_is lists row pass name)

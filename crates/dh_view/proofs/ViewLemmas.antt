@@ -6,22 +6,22 @@ use Rattle.sqlite_trees.specs.View.{doubt}
 use Rattle.sqlite_trees.specs.declared.store.Store.{Ghosts}
 use Rattle.sqlite.specs.State.{HasCleanDisk}
 use Rattle.sqlite.specs.Held.{Held, state}
-use Rattle.dh_lookup.specs.declared.fault.Fault.{Fault}
-use Rattle.dh_lookup.specs.declared.fault.Fault.TheVariants.{Store, Memory}
-use Rattle.dh_lookup.specs.Faults.{OnStore, UnlessStore}
+use Rattle.dh_faults.specs.declared.fault.Fault.{Fault}
+use Rattle.dh_faults.specs.declared.fault.Fault.TheVariants.{Store, Memory}
+use Rattle.dh_faults.specs.Faults.{OnStore, UnlessStore}
 use Rattle.dh_lookup.specs.Lookup as lookup
 use Rattle.dh_lookup.specs.declared.seen_project.SeenProject.{SeenProject}
 use Rattle.dh_rows.specs.Calls.{IsBlamed, IsHonest, IsSame, Lasts, seen}
 use Rattle.dh_schema.specs.Tables.{lists_of}
 use Rattle.dh_world.specs.World.{Text}
-use Rattle.dh_records.specs.Lists.{project_of}
+use Rattle.dh_records.specs.Lists.{Lists, project_of}
 use Rattle.dh_records.specs.declared.records.ProjectRow.{ProjectRow}
 use Rattle.dh_world.specs.Seen as caller
 use Rattle.dh_schema.proofs.CallLemmas.{on_store}
 use Rattle.dh_schema.specs.Calling as call
 use Rattle.dh_schema.specs.Calling.{Blames, IsSettled}
 use Rattle.dh_schema.specs.InTurn.{blamed_before, goes_none, goes_on, lasts_none, refused_on, same_none, same_on}
-use Rattle.dh_view.specs.View.{doubt_of, meaning_of, project_in, shown, shown_in, shown_under, fails_on, looks_none, looks_on, Asks, Fails, Looks}
+use Rattle.dh_view.specs.View.{doubt_of, meaning_of, project_in, shown, shown_in, shown_under, fails_on, looks_none, looks_on, Asks, Fails, Looks, Obtains}
 use Rattle.dh_view.specs.declared.view.View.{View}
 
 -- ---- doubt
@@ -206,6 +206,22 @@ module _ {S : Type 0} {g : Ghosts S} where
 pub same_answer : {T U E : Type 0} (f : T → U) (r : Result T E) (v w : U) → v ≡ w → IfOk r (λ x. f x ≡ v) → IfOk r (λ x. f x ≡ w)
 same_answer f (Ok x) v w e h = h ∙ e
 same_answer f (Err x) v w e h = tt
+
+module _ {S : Type 0} {g : Ghosts S} {T U : Type 0} where
+  -- a look whose answer is that of all, after others that were answered
+  pub reads_on : {a b c : Held S} {x : T} {r : Result U Fault} {v w : Lists → U} → Asks g a b (Ok x) → Obtains g b c r (λ l u. u ≡ v l) → (IsHonest g b → v (seen g lists_of b) ≡ w (seen g lists_of a)) → Obtains g a c r (λ l u. u ≡ w l)
+  reads_on {r = r} first next same = record {
+    asks = asks_on first next.asks;
+    value = λ honest. same_answer (λ u. u) r _ _ (same (next.asks.goes.lasts.was honest)) (next.value honest);
+  }
+
+  -- a refusal that is handed on answers nothing
+  pub obtains_handed : {a b : Held S} {fact : Lists → U → Type 0} (r : Result U Fault) {from : Result T Fault} (fault : Fault) → from ≡ Err fault → IsErrAnd r (λ f. f ≡ fault) → Asks g a b from → Obtains g a b r fact
+  obtains_handed {a = a} {b = b} {fact = fact} r fault was is it = record { asks = asks_handed r fault was is it; value = λ _. none r is }
+    where
+      none : (r : Result U Fault) → IsErrAnd r (λ f. f ≡ fault) → IfOk r (fact (seen g lists_of a))
+      none (Ok y) same = absurd same
+      none (Err f) same = tt
 
 module _ {S : Type 0} (g : Ghosts S) where
   -- `Store` where a transaction is open

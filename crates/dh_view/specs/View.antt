@@ -1,5 +1,5 @@
 -- What a view of the tables shows, and what looks at them leave.
-use Rattle.std.specs.Prelude.{◌≡◌, ◌⊎◌, ℕ, Bool, ◌&&◌, List, Option, Result, Vec, is_some, option_and_then, true}
+use Rattle.std.specs.Prelude.{◌≡◌, ◌⊎◌, ℕ, Bool, ◌&&◌, List, Option, Result, is_some, option_and_then, true}
 use Rattle.std.proofs.Common.{inl, inr, ◌∙◌, sym}
 use Rattle.std.proofs.lemmas.Bool.{cases_Bool}
 use Rattle.std.specs.List.{list_any, AllByRecursion}
@@ -13,7 +13,7 @@ use Rattle.dh_rows.specs.Calls.{Goes, IsBlamed, IsHonest, IsSame, Lasts, Leaves,
 use Rattle.dh_versions.specs.declared.version.Version.{Version}
 use Rattle.dh_lookup.specs.Lookup.{Meaning}
 use Rattle.dh_lookup.specs.SeenProject.{resolved}
-use Rattle.dh_lookup.specs.declared.fault.Fault.{Fault}
+use Rattle.dh_faults.specs.declared.fault.Fault.{Fault}
 use Rattle.dh_lookup.specs.declared.seen_project.SeenProject.{SeenProject}
 use Rattle.dh_records.specs.declared.records.VersionRow.{VersionRow}
 use Rattle.dh_records.specs.declared.records.HeldRow.{HeldRow}
@@ -116,11 +116,6 @@ module _ {S : Type 0} (g : Ghosts S) where
     -- What such looks leave that answer this of the records before.
     abbrev pub Reads : (Lists → T) → Type 0
     Reads value = Obtains (λ l read. read ≡ value l)
-
-  -- the same of a list
-  abbrev pub ReadsAll
-      : {U Z : Type 0} → Held S → Held S → Result (Vec U Z) Fault → (Lists → List U) → Type 0
-  ReadsAll old new result value = Obtains old new result (λ l read. read.items ≡ value l)
 
   -- How a view is read: by what its tables show under its host and pass, which stay.
   abbrev pub meaning_of : Meaning (View S)

@@ -17,19 +17,14 @@ mod pages;
 mod redirects;
 mod versions;
 
-use aliases::version_for;
-use defaults::default_name;
-use dh_lookup::{Fault, Lookup, Named, Page};
+use dh_lookup::{Fault, Found, Lookup, Named, Page};
 use dh_paths::{HostName, Lang, Slug, Text, Token};
 use dh_records::ProjectRow;
 use dh_redirects::{Asked, Location};
 use dh_store::Tables;
 use dh_versions::Version;
-use pages::{all_langs, visible_page};
-use redirects::redirected;
 use sqlite::Alter;
 use std::alloc::Global;
-use versions::all_visible;
 
 /// The project under a host, as the holder of a pass sees it, or a caller with none. Within a
 /// transaction each look answers `Store`. Outside one a look does so only where the store counted a
@@ -69,7 +64,7 @@ impl<'a, S: Alter> View<'a, S> {
     }
 
     /// The record of the project, where there is one under the host.
-    fn project(&mut self, alloc: Global) -> Result<Option<ProjectRow>, Fault>
+    fn project(&mut self, alloc: Global) -> Found<ProjectRow>
         ensures asks { Asks (meaning_of S.Store) self.old self.new result }
         ensures settled { OnOk result
             (IsHonest S.Store self.new.tables.now → IsSettled S.Store self.new.tables.now) }
@@ -86,19 +81,39 @@ impl<'a, S: Alter> View<'a, S> {
     }
 
     /// Where the first redirect leads that has a result: of all, or of those with force alone.
-    fn redirect(
-        &mut self,
-        alloc: Global,
-        forced: bool,
-        asked: &Asked,
-    ) -> Result<Option<Location>, Fault>
+    fn redirect(&mut self, alloc: Global, forced: bool, asked: &Asked) -> Found<Location>
         ensures asks { Asks (meaning_of S.Store) self.old self.new result }
         ensures value { TellsMaybe (meaning_of S.Store) self.old self.new result
             (λ p. first_result forced p.redirects asked.now) }
     {
         match self.project(alloc)? {
-            Some(project) => redirected(self.tables, alloc, &project, forced, asked),
+            Some(project) => ProjectView::new(alloc, &project, &self.pass).redirected(
+                self.tables,
+                forced,
+                asked,
+            ),
             None => Ok(None),
+        }
+    }
+}
+
+/// The project that stands under the host of a view, with its pass; looks at it take memory from the allocator.
+#[derive(Clone, Copy)]
+struct ProjectView<'a> {
+    alloc: Global,
+    project: &'a ProjectRow,
+    pass: &'a Option<Token>,
+}
+
+impl<'a> ProjectView<'a> {
+    fn new(alloc: Global, project: &'a ProjectRow, pass: &'a Option<Token>) -> ProjectView<'a>
+        ensures project { result.project.now ≡ project.now }
+        ensures pass { result.pass.now ≡ pass.now }
+    {
+        ProjectView {
+            alloc,
+            project,
+            pass,
         }
     }
 }
@@ -133,57 +148,57 @@ impl<'a, S: Alter> Lookup for View<'a, S> {
         }
     }
 
-    fn name(&mut self, alloc: Global, name: &str) -> Result<Option<Named>, Fault> {
+    fn name(&mut self, alloc: Global, name: &str) -> Found<Named> {
         match self.project(alloc)? {
-            Some(project) => version_for(self.tables, alloc, &project, &self.pass, name),
+            Some(project) => ProjectView::new(alloc, &project, &self.pass).version_for(
+                self.tables,
+                name,
+            ),
             None => Ok(None),
         }
     }
 
-    fn default(&mut self, alloc: Global) -> Result<Option<Text>, Fault> {
+    fn default(&mut self, alloc: Global) -> Found<Text> {
         match self.project(alloc)? {
-            Some(project) => default_name(self.tables, alloc, &project, &self.pass),
+            Some(project) => ProjectView::new(alloc, &project, &self.pass).default_name(
+                self.tables,
+            ),
             None => Ok(None),
         }
     }
 
     fn langs(&mut self, alloc: Global) -> Result<Vec<Lang>, Fault> {
         match self.project(alloc)? {
-            Some(project) => all_langs(self.tables, alloc, &project),
+            Some(project) => ProjectView::new(alloc, &project, &self.pass).all_langs(self.tables),
             None => Ok(Vec::new(alloc)),
         }
     }
 
-    fn page(
-        &mut self,
-        alloc: Global,
-        lang: &Lang,
-        slug: &Slug,
-        path: &str,
-    ) -> Result<Option<Page>, Fault> {
+    fn page(&mut self, alloc: Global, lang: &Lang, slug: &Slug, path: &str) -> Found<Page> {
         match self.project(alloc)? {
             Some(project) => {
-                visible_page(self.tables, alloc, &project, &self.pass, lang, slug, path)
+                ProjectView::new(alloc, &project, &self.pass).visible_page(
+                    self.tables,
+                    lang,
+                    slug,
+                    path,
+                )
             }
             None => Ok(None),
         }
     }
 
-    fn forced_redirect(&mut self, alloc: Global, asked: &Asked) -> Result<Option<Location>, Fault> {
+    fn forced_redirect(&mut self, alloc: Global, asked: &Asked) -> Found<Location> {
         self.redirect(alloc, true, asked)
     }
 
-    fn not_found_redirect(
-        &mut self,
-        alloc: Global,
-        asked: &Asked,
-    ) -> Result<Option<Location>, Fault> {
+    fn not_found_redirect(&mut self, alloc: Global, asked: &Asked) -> Found<Location> {
         self.redirect(alloc, false, asked)
     }
 
     fn listing(&mut self, alloc: Global) -> Result<Vec<Version>, Fault> {
         match self.project(alloc)? {
-            Some(project) => all_visible(self.tables, alloc, &project, &self.pass),
+            Some(project) => ProjectView::new(alloc, &project, &self.pass).all_visible(self.tables),
             None => Ok(Vec::new(alloc)),
         }
     }

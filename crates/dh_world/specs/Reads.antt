@@ -2,8 +2,8 @@
 use Rattle.std.specs.Prelude.{Bool, true, false, if◌then◌else◌, Option, Some, None, Result, Err}
 use Rattle.dh_texts.specs.Texts.{is_host_name, is_token}
 use Rattle.dh_wire.specs.declared.answer.Reply.{Reply}
-use Rattle.dh_lookup.specs.declared.fault.Fault.{Fault}
-use Rattle.dh_lookup.specs.declared.fault.Fault.TheVariants.{Store}
+use Rattle.dh_faults.specs.declared.fault.Fault.{Fault}
+use Rattle.dh_faults.specs.declared.fault.Fault.TheVariants.{Store}
 use Rattle.dh_world.specs.World.{Text}
 
 -- a name that is no host's names no project

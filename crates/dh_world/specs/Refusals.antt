@@ -4,30 +4,32 @@ use Rattle.dh_world.specs.declared.refusal.Refusal.{Refusal}
 use Rattle.dh_world.specs.declared.refusal.Refusal.TheVariants.{BadHost, BadLang, BadRef, BadPath, BadPage, BadPattern, BadRedirect, BadToken, BadKey, NoProject, ProjectTaken, WrongKey, LangTaken, NoLang, NoVersion, SlugTaken, Inactive, BadPlace, TooMany, PassTaken, NoPass, PatternRefused, Store, OutOfMemory}
 
 abbrev pub number_of : Refusal → ℕ
-number_of BadHost = 1
-number_of BadLang = 2
-number_of BadRef = 3
-number_of BadPath = 4
-number_of BadPage = 5
-number_of BadPattern = 6
-number_of (BadRedirect fault) = 7
-number_of BadToken = 8
-number_of BadKey = 9
-number_of NoProject = 10
-number_of ProjectTaken = 11
-number_of WrongKey = 12
-number_of LangTaken = 13
-number_of NoLang = 14
-number_of NoVersion = 15
-number_of SlugTaken = 16
-number_of Inactive = 17
-number_of BadPlace = 18
-number_of TooMany = 19
-number_of PassTaken = 20
-number_of NoPass = 21
-number_of (PatternRefused place) = 22
-number_of Store = 23
-number_of OutOfMemory = 24
+number_of = elim [
+  | BadHost ↦ 1
+  | BadLang ↦ 2
+  | BadRef ↦ 3
+  | BadPath ↦ 4
+  | BadPage ↦ 5
+  | BadPattern ↦ 6
+  | BadRedirect fault ↦ 7
+  | BadToken ↦ 8
+  | BadKey ↦ 9
+  | NoProject ↦ 10
+  | ProjectTaken ↦ 11
+  | WrongKey ↦ 12
+  | LangTaken ↦ 13
+  | NoLang ↦ 14
+  | NoVersion ↦ 15
+  | SlugTaken ↦ 16
+  | Inactive ↦ 17
+  | BadPlace ↦ 18
+  | TooMany ↦ 19
+  | PassTaken ↦ 20
+  | NoPass ↦ 21
+  | PatternRefused place ↦ 22
+  | Store ↦ 23
+  | OutOfMemory ↦ 24
+]
 
 abbrev pub name_of : Refusal → List ℕ
 name_of BadHost = codes "BadHost"

@@ -3,12 +3,14 @@ use Rattle.std.specs.Prelude.{codes}
 use Rattle.dh_files.specs.Faults as file
 use Rattle.dh_http.specs.declared.fault.EngineFault.{EngineFault}
 use Rattle.dh_http.specs.declared.fault.EngineFault.TheVariants as engine
-use Rattle.dh_lookup.specs.declared.fault.Fault.{Fault}
-use Rattle.dh_lookup.specs.declared.fault.Fault.TheVariants as lookup
+use Rattle.dh_faults.specs.declared.fault.Fault.{Fault}
+use Rattle.dh_faults.specs.declared.fault.Fault.TheVariants as lookup
 use Rattle.dh_sample.specs.declared.answer.SampleFault.{SampleFault}
 use Rattle.dh_sample.specs.declared.answer.SampleFault.TheVariants as sample
-use Rattle.dh_script.specs.declared.reading.ScriptFault.{ScriptFault}
-use Rattle.dh_script.specs.declared.reading.ScriptFault.TheVariants as script
+use Rattle.dh_ports.specs.declared.stop.Stop.TheVariants as stop
+use Rattle.dh_script.specs.declared.fault.RunFault.TheVariants as run
+use Rattle.dh_script.specs.declared.fault.ScriptFault.{ScriptFault}
+use Rattle.dh_script.specs.declared.fault.ScriptFault.TheVariants as script
 use Rattle.dh_world.specs.World.{Text}
 use Rattle.docs_host.specs.declared.failure.Failure.{Failure}
 use Rattle.docs_host.specs.declared.failure.Failure.TheVariants.{File, Store, Memory, Bind, Write, Script, Request}
@@ -24,13 +26,13 @@ failure_of_sample sample.Store = Store
 -- ---- names
 
 abbrev pub script_name : ScriptFault → Text
-script_name script.Read = codes "Read"
+script_name (script.Unread stop.Read) = codes "Read"
+script_name (script.Unread stop.TooManyTurns) = codes "TooManyTurns"
+script_name (script.Unread stop.Memory) = codes "Memory"
 script_name script.TooLong = codes "TooLong"
 script_name script.NotText = codes "NotText"
-script_name script.TooManyTurns = codes "TooManyTurns"
-script_name script.UnreadMemory = codes "Memory"
-script_name script.Write = codes "Write"
-script_name script.Memory = codes "Memory"
+script_name (script.Run run.Memory) = codes "Memory"
+script_name (script.Run run.Write) = codes "Write"
 
 abbrev pub request_name : EngineFault → Text
 request_name engine.Read = codes "Read"

@@ -10,10 +10,10 @@ ghost use Rattle.docs_host.specs.declared.failure.Failure.TheVariants.{File, Mem
 
 use dh_files::FileFault;
 use dh_http::EngineFault;
-use dh_ports::Sink;
+use dh_ports::{Sink, Stop};
 use dh_reply::Fault;
 use dh_sample::SampleFault;
-use dh_script::ScriptFault;
+use dh_script::{RunFault, ScriptFault};
 use dh_server::put_or_lose;
 use std::alloc::AllocError;
 
@@ -64,6 +64,14 @@ pub enum Failure {
     Request(EngineFault),
 }
 
+impl From<FileFault> for Failure {
+    ghost from_gives = { λ fault failure. failure ≡ File fault };
+
+    fn from(fault: FileFault) -> Failure {
+        Failure::File(fault)
+    }
+}
+
 impl Failure {
     /// How the program ends after it.
     pub fn status(self) -> Status
@@ -109,28 +117,48 @@ impl Failure {
     }
 }
 
-fn script_name(fault: ScriptFault) -> &'static str
-    ensures { result.now ≡ spec.script_name fault }
-{
-    match fault {
-        ScriptFault::Read => "Read",
-        ScriptFault::TooLong => "TooLong",
-        ScriptFault::NotText => "NotText",
-        ScriptFault::TooManyTurns => "TooManyTurns",
-        ScriptFault::UnreadMemory | ScriptFault::Memory => "Memory",
-        ScriptFault::Write => "Write",
+impl From<ScriptFault> for Failure {
+    ghost from_gives = { λ fault failure. failure ≡ Script fault };
+
+    fn from(fault: ScriptFault) -> Failure {
+        Failure::Script(fault)
     }
 }
 
 fn script_cause(fault: ScriptFault) -> &'static str {
     match fault {
-        ScriptFault::Read => "standard input cannot be read; no line ran",
+        ScriptFault::Unread(Stop::Read) => "standard input cannot be read; no line ran",
+        ScriptFault::Unread(Stop::TooManyTurns) => {
+            "100,000 reads did not reach the script's end; no line ran"
+        }
+        ScriptFault::Unread(Stop::Memory) => "memory is out; no line ran",
         ScriptFault::TooLong => "the script has more than 1,048,576 bytes; no line ran",
         ScriptFault::NotText => "the script is not UTF-8; no line ran",
-        ScriptFault::TooManyTurns => "100,000 reads did not reach the script's end; no line ran",
-        ScriptFault::UnreadMemory => "memory is out; no line ran",
-        ScriptFault::Memory => "memory is out; the lines that were told are done",
-        ScriptFault::Write => "standard output takes no more; the lines that were told are done",
+        ScriptFault::Run(RunFault::Memory) => "memory is out; the lines that were told are done",
+        ScriptFault::Run(RunFault::Write) => {
+            "standard output takes no more; the lines that were told are done"
+        }
+    }
+}
+
+fn script_name(fault: ScriptFault) -> &'static str
+    ensures { result.now ≡ spec.script_name fault }
+{
+    match fault {
+        ScriptFault::Unread(Stop::Read) => "Read",
+        ScriptFault::Unread(Stop::TooManyTurns) => "TooManyTurns",
+        ScriptFault::Unread(Stop::Memory) | ScriptFault::Run(RunFault::Memory) => "Memory",
+        ScriptFault::TooLong => "TooLong",
+        ScriptFault::NotText => "NotText",
+        ScriptFault::Run(RunFault::Write) => "Write",
+    }
+}
+
+impl From<EngineFault> for Failure {
+    ghost from_gives = { λ fault failure. failure ≡ Request fault };
+
+    fn from(fault: EngineFault) -> Failure {
+        Failure::Request(fault)
     }
 }
 
@@ -149,38 +177,6 @@ fn request_cause(fault: EngineFault) -> &'static str {
         EngineFault::Read => "standard input cannot be read",
         EngineFault::Write(_) => "standard output took a part of the reply alone",
         EngineFault::TooManyTurns => "100,000 reads brought no whole request",
-    }
-}
-
-impl From<FileFault> for Failure {
-    ghost from_gives = { λ fault failure. failure ≡ File fault };
-
-    fn from(fault: FileFault) -> Failure {
-        Failure::File(fault)
-    }
-}
-
-impl From<AllocError> for Failure {
-    ghost from_gives = { λ _ failure. failure ≡ Memory };
-
-    fn from(_refused: AllocError) -> Failure {
-        Failure::Memory
-    }
-}
-
-impl From<ScriptFault> for Failure {
-    ghost from_gives = { λ fault failure. failure ≡ Script fault };
-
-    fn from(fault: ScriptFault) -> Failure {
-        Failure::Script(fault)
-    }
-}
-
-impl From<EngineFault> for Failure {
-    ghost from_gives = { λ fault failure. failure ≡ Request fault };
-
-    fn from(fault: EngineFault) -> Failure {
-        Failure::Request(fault)
     }
 }
 
@@ -203,6 +199,14 @@ impl From<SampleFault> for Failure {
             SampleFault::Engine(fault) => Failure::Request(fault),
             SampleFault::Store => Failure::Store,
         }
+    }
+}
+
+impl From<AllocError> for Failure {
+    ghost from_gives = { λ _ failure. failure ≡ Memory };
+
+    fn from(_refused: AllocError) -> Failure {
+        Failure::Memory
     }
 }
 

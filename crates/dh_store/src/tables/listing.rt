@@ -112,7 +112,7 @@ fn stands_at<R: Placed>(rows: &[R], index: usize, place: u32, item: &R::Item) ->
 }
 
 /// Puts items at their places, but for those that stand there. These are the records of the project.
-fn put_missing<S: Alter, R: Placed>(
+fn put_others<S: Alter, R: Placed>(
     tables: &mut Tables<S>,
     alloc: Global,
     host: &HostName,
@@ -150,5 +150,5 @@ pub(crate) fn set<S: Alter, R: Placed>(
 {
     R::drop_behind(tables, host, items.len())?;
     let rows = R::rows(tables, alloc, host)?;
-    put_missing(tables, alloc, host, items, rows.as_slice())
+    put_others(tables, alloc, host, items, rows.as_slice())
 }

@@ -8,10 +8,12 @@ ghost use Rattle.dh_records.specs.Lists as spec;
 ghost use Rattle.dh_store.specs.Listing.{redirect_list, rule_list};
 
 use super::listing::{Listed, Placed, set};
-use super::{Tables, as_place, show_number};
+use super::{Tables, as_place};
 use dh_lookup::Fault;
 use dh_paths::{HostName, Lang, Slug};
-use dh_records::{LangRow, PickRow, RedirectRow, RuleRow, action_number, is_tag, kind_number};
+use dh_records::{
+    LangRow, PickRow, RedirectRow, RuleRow, action_number, is_tag, kind_number, show_number,
+};
 use dh_redirects::Redirect;
 use dh_rules::Rule;
 use sqlite::{Alter, params};

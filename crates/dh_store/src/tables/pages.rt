@@ -6,7 +6,7 @@ ghost use Rattle.dh_records.specs.Changes as change;
 ghost use Rattle.dh_records.specs.Lists as spec;
 
 use super::Tables;
-use dh_lookup::Fault;
+use dh_lookup::{Fault, Found, Page};
 use dh_paths::{HostName, Lang, Slug};
 use dh_records::PageRow;
 use sqlite::{Alter, params};
@@ -21,15 +21,19 @@ impl<S: Alter> Tables<S> {
         slug: &Slug,
         lang: &Lang,
         path: &str,
-    ) -> Result<Option<PageRow>, Fault>
+    ) -> Found<Page>
         ensures { Reads S.Store self.old self.new result
-            (λ l. find (spec.is_page host.now slug.now lang.now path.now) l.pages) }
+            (λ l. option_map (λ row. row.page)
+            (find (spec.is_page host.now slug.now lang.now path.now) l.pages)) }
     {
-        self.first_record(
-            alloc,
-            "SELECT host, slug, lang, path, media, body FROM page WHERE host = ?1 AND slug = ?2 AND lang = ?3 AND path = ?4 ORDER BY host, slug, lang, path",
-            params![host.as_str(), slug.as_str(), lang.as_str(), path],
-        )
+        let sql =
+            "SELECT host, slug, lang, path, media, body FROM page WHERE host = ?1 AND slug = ?2 AND lang = ?3 AND path = ?4 ORDER BY host, slug, lang, path";
+        let key = params![host.as_str(), slug.as_str(), lang.as_str(), path];
+        match self.first_record::<PageRow>(alloc, sql, key) {
+            Ok(Some(row)) => Ok(Some(row.page)),
+            Ok(None) => Ok(None),
+            Err(fault) => Err(fault),
+        }
     }
 
     /// Adds a page, or puts it in place of the one with its path.
@@ -38,17 +42,7 @@ impl<S: Alter> Tables<S> {
     {
         let sql =
             "INSERT INTO page VALUES (?1, ?2, ?3, ?4, ?5, ?6) ON CONFLICT (host, slug, lang, path) DO UPDATE SET media = ?5, body = ?6";
-        self.write(
-            sql,
-            params![
-                row.host.as_str(),
-                row.slug.as_str(),
-                row.lang.as_str(),
-                row.path.as_str(),
-                row.page.media.as_str(),
-                row.page.body.as_slice()
-            ],
-        )
+        self.write(sql, &row.values())
     }
 
     /// Removes the pages of a version.

@@ -37,10 +37,7 @@ impl<S: Alter> Tables<S> {
         requires free { Lacks S.Store self.old coding.passes (λ l. l.passes) row.now }
         ensures writes { Writes S.Store self.old self.new result (change.add_pass row.now) }
     {
-        self.write(
-            "INSERT INTO pass VALUES (?1, ?2)",
-            params![row.host.as_str(), row.pass.as_str()],
-        )
+        self.write("INSERT INTO pass VALUES (?1, ?2)", &row.values())
     }
 
     /// Removes a pass. What it holds stays.
@@ -48,10 +45,8 @@ impl<S: Alter> Tables<S> {
         ensures writes { Writes S.Store self.old self.new result
             (change.drop_pass host.now pass.now) }
     {
-        self.write(
-            "DELETE FROM pass WHERE host = ?1 AND pass = ?2",
-            params![host.as_str(), pass.as_str()],
-        )
+        let sql = "DELETE FROM pass WHERE host = ?1 AND pass = ?2";
+        self.write(sql, params![host.as_str(), pass.as_str()])
     }
 
     /// Whether a pass holds a version.
@@ -69,10 +64,7 @@ impl<S: Alter> Tables<S> {
         requires free { Lacks S.Store self.old coding.held (λ l. l.held) row.now }
         ensures writes { Writes S.Store self.old self.new result (change.add_grant row.now) }
     {
-        self.write(
-            "INSERT INTO holds VALUES (?1, ?2, ?3)",
-            params![row.host.as_str(), row.pass.as_str(), row.slug.as_str()],
-        )
+        self.write("INSERT INTO holds VALUES (?1, ?2, ?3)", &row.values())
     }
 
     /// Adds a grant, unless it is there.
@@ -105,10 +97,8 @@ impl<S: Alter> Tables<S> {
         ensures writes { Writes S.Store self.old self.new result
             (change.drop_grants_of host.now slug.now) }
     {
-        self.write(
-            "DELETE FROM holds WHERE host = ?1 AND slug = ?2",
-            params![host.as_str(), slug.as_str()],
-        )
+        let sql = "DELETE FROM holds WHERE host = ?1 AND slug = ?2";
+        self.write(sql, params![host.as_str(), slug.as_str()])
     }
 
     /// Removes all grants of a pass.

@@ -7,8 +7,8 @@ ghost use Rattle.dh_records.specs.Codings as coding;
 ghost use Rattle.dh_records.specs.Lists as spec;
 ghost use Rattle.dh_records.specs.Constraints.{has_language};
 
-use super::{Tables, show_number};
-use dh_lookup::Fault;
+use super::Tables;
+use dh_lookup::{Fault, Found};
 use dh_paths::HostName;
 use dh_records::{LangRow, ProjectRow};
 use sqlite::{Alter, params};
@@ -26,7 +26,7 @@ impl<S: Alter> Tables<S> {
     }
 
     /// The project under a host.
-    pub fn project(&mut self, alloc: Global, host: &HostName) -> Result<Option<ProjectRow>, Fault>
+    pub fn project(&mut self, alloc: Global, host: &HostName) -> Found<ProjectRow>
         ensures { Reads S.Store self.old self.new result
             (λ l. find (spec.is_project host.now) l.projects) }
     {
@@ -42,16 +42,8 @@ impl<S: Alter> Tables<S> {
         requires free { Lacks S.Store self.old coding.projects (λ l. l.projects) project.now }
         ensures writes { Writes S.Store self.old self.new result (change.add_project project.now) }
     {
-        self.write(
-            "INSERT INTO project VALUES (?1, ?2, ?3, ?4, ?5)",
-            params![
-                project.host.as_str(),
-                project.main.as_str(),
-                project.branch.as_str(),
-                project.wkey.as_str(),
-                project.new_private
-            ],
-        )
+        let sql = "INSERT INTO project VALUES (?1, ?2, ?3, ?4, ?5)";
+        self.write(sql, &project.values())
     }
 
     /// Adds a language, whose place is free, and which the project has not.
@@ -61,10 +53,6 @@ impl<S: Alter> Tables<S> {
             (λ l. has_language l lang.now.host lang.now.lang ≡ false) }
         ensures writes { Writes S.Store self.old self.new result (change.add_lang lang.now) }
     {
-        show_number(lang.place);
-        self.write(
-            "INSERT INTO lang VALUES (?1, ?2, ?3)",
-            params![lang.host.as_str(), lang.lang.as_str(), lang.place],
-        )
+        self.write("INSERT INTO lang VALUES (?1, ?2, ?3)", &lang.values())
     }
 }

@@ -8,10 +8,10 @@ ghost use Rattle.dh_records.specs.Codings as coding;
 ghost use Rattle.dh_records.specs.Lists as spec;
 ghost use Rattle.dh_records.specs.Typed.{Tells};
 
-use super::{Tables, show_number};
-use dh_lookup::Fault;
+use super::Tables;
+use dh_lookup::{Fault, Found};
 use dh_paths::{HostName, Slug, Token};
-use dh_records::{UsedRow, kept_answer};
+use dh_records::{UsedRow, kept_answer, show_number};
 use dh_world::{Answer, Operation};
 use sqlite::{Alter, params};
 use std::alloc::Global;
@@ -41,7 +41,7 @@ impl<S: Alter> Tables<S> {
         slug: &Slug,
         op: Operation,
         retry: &Token,
-    ) -> Result<Option<UsedRow>, Fault>
+    ) -> Found<UsedRow>
         ensures { Obtains S.Store self.old self.new result
             (λ l o. (o ≡ find (spec.is_used host.now slug.now op retry.now) l.used)
             × IfSome o (λ row. Tells row.answer)) }
@@ -63,7 +63,7 @@ impl<S: Alter> Tables<S> {
         slug: &Slug,
         op: Operation,
         retry: &Token,
-    ) -> Result<Option<Answer>, Fault>
+    ) -> Found<Answer>
         ensures { Reads S.Store self.old self.new result
             (λ l. option_map spec.kept_answer
             (find (spec.is_used host.now slug.now op retry.now) l.used)) }

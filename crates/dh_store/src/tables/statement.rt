@@ -8,9 +8,10 @@ ghost use Rattle.dh_schema.specs.Calling.{Reads, ReadsAll, Writes};
 ghost use Rattle.dh_store.specs.Meanings.{AsksFor, Changes, IsChange, IsQuery};
 
 use super::Tables;
-use dh_lookup::Fault;
+use dh_lookup::{Fault, Found};
 use dh_records::Record;
-use dh_schema::{all_records, count_records, first_record, has_record, write};
+use dh_rows::{change, select};
+use dh_schema::{all_records, first_record};
 use sqlite::Alter;
 use sqlite::types::ValueRef;
 use std::alloc::Global;
@@ -22,7 +23,7 @@ impl<S: Alter> Tables<S> {
         alloc: Global,
         sql: &str,
         params: &[ValueRef<'_>],
-    ) -> Result<Option<R>, Fault>
+    ) -> Found<R>
         requires query { IsQuery R.coding.encode R.typed (state S.Store self.old) sql.now
             (bound params.now) }
         ensures { (part : Lists → List R) → (test : R → Bool)
@@ -63,7 +64,8 @@ impl<S: Alter> Tables<S> {
             (bound params.now)
             → Reads S.Store self.old self.new result (λ l. is_some (find test (part l))) }
     {
-        has_record(&mut self.conn, sql, params)
+        let rows = select(&mut self.conn, sql, params)?;
+        Ok(rows.first().is_some())
     }
 
     /// How many records a query asks for.
@@ -79,7 +81,8 @@ impl<S: Alter> Tables<S> {
             (bound params.now)
             → Reads S.Store self.old self.new result (λ l. length (filter test (part l))) }
     {
-        count_records(&mut self.conn, sql, params)
+        let rows = select(&mut self.conn, sql, params)?;
+        Ok(rows.as_slice().len())
     }
 
     /// Changes the records by an INSERT or a DELETE.
@@ -89,6 +92,6 @@ impl<S: Alter> Tables<S> {
             → Changes S.Store self.old sql.now (bound params.now) change
             → Writes S.Store self.old self.new result change }
     {
-        write(&mut self.conn, sql, params)
+        change(&mut self.conn, sql, params)
     }
 }

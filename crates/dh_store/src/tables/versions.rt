@@ -7,9 +7,9 @@ ghost use Rattle.dh_records.specs.Changes as change;
 ghost use Rattle.dh_records.specs.Lists as spec;
 
 use super::Tables;
-use dh_lookup::Fault;
+use dh_lookup::{Fault, Found};
 use dh_paths::{HostName, Slug};
-use dh_records::{VersionRow, is_tag};
+use dh_records::VersionRow;
 use sqlite::{Alter, params};
 use std::alloc::Global;
 
@@ -30,12 +30,7 @@ impl<S: Alter> Tables<S> {
     }
 
     /// The version whose slug is this text.
-    pub fn version(
-        &mut self,
-        alloc: Global,
-        host: &HostName,
-        slug: &str,
-    ) -> Result<Option<VersionRow>, Fault>
+    pub fn version(&mut self, alloc: Global, host: &HostName, slug: &str) -> Found<VersionRow>
         ensures { Reads S.Store self.old self.new result
             (λ l. find (spec.is_version host.now slug.now) l.versions) }
     {
@@ -50,18 +45,9 @@ impl<S: Alter> Tables<S> {
     pub fn put_version(&mut self, row: &VersionRow) -> Result<(), Fault>
         ensures writes { Writes S.Store self.old self.new result (change.put_version row.now) }
     {
-        self.write(
-            "INSERT INTO version VALUES (?1, ?2, ?3, ?4, ?5, ?6, ?7) ON CONFLICT (host, slug) DO UPDATE SET name = ?3, kind = ?4, active = ?5, hidden = ?6, private = ?7",
-            params![
-                row.host.as_str(),
-                row.version.slug.as_str(),
-                row.version.name.as_str(),
-                is_tag(row.version.kind),
-                row.version.active,
-                row.version.hidden,
-                row.version.private
-            ],
-        )
+        let sql =
+            "INSERT INTO version VALUES (?1, ?2, ?3, ?4, ?5, ?6, ?7) ON CONFLICT (host, slug) DO UPDATE SET name = ?3, kind = ?4, active = ?5, hidden = ?6, private = ?7";
+        self.write(sql, &row.values())
     }
 
     /// Removes a version. Its pages and grants stay, and its name among the defaults.

@@ -51,6 +51,6 @@ fn a_table_has_a_place_where_it_stands(rt: HostRuntime) -> Result<(), Fail> {
 #[test]
 fn no_transaction_is_none_to_commit(rt: HostRuntime) -> Result<(), Fail> {
     let mut conn = Connection::open_in_memory(rt.alloc())?;
-    assert_eq!(rt; run(&mut conn, "COMMIT", &[]), Err(dh_rows::Fault::Store));
+    assert_eq!(rt; run(&mut conn, "COMMIT", &[]), Err(Fault::Store));
     Ok(())
 }

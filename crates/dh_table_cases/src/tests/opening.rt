@@ -1,5 +1,6 @@
 //! Tables opened: as we made them, and as others left them.
 
+use dh_lookup::Fault;
 use dh_opening::{TablesFault, open};
 use dh_tables::Tables;
 use sqlite::{Connection, MemStore};
@@ -39,8 +40,8 @@ fn opened(alloc: Global, conn: Connection<MemStore>) -> &'static str {
     match open(alloc, conn) {
         Ok(_tables) => "ours",
         Err((TablesFault::NotOurs, _)) => "not ours",
-        Err((TablesFault::Store, _)) => "store",
-        Err((TablesFault::Memory, _)) => "memory",
+        Err((TablesFault::Failed(Fault::Store), _)) => "store",
+        Err((TablesFault::Failed(Fault::Memory), _)) => "memory",
     }
 }
 

@@ -5,14 +5,11 @@ ghost use Rattle.std.specs.Option.{option_and_then};
 ghost use Rattle.dh_lookup.specs.SeenProject.{alias_of, alias_to, resolved};
 ghost use Rattle.dh_view.specs.View.{Reads, shown_in};
 
-use crate::view::versions::{all_visible, visible_version};
-use dh_lookup::{Fault, Named};
-use dh_paths::Token;
-use dh_records::ProjectRow;
+use crate::view::ProjectView;
+use dh_lookup::{Found, Named};
 use dh_store::Tables;
 use dh_versions::{Version, latest, stable};
 use sqlite::Alter;
-use std::alloc::Global;
 
 /// The alias for the version at a place.
 fn alias_at(versions: Vec<Version>, place: Option<usize>) -> Option<Named>
@@ -28,67 +25,47 @@ fn alias_at(versions: Vec<Version>, place: Option<usize>) -> Option<Named>
     }
 }
 
-fn latest_named<S: Alter>(
-    tables: &mut Tables<S>,
-    alloc: Global,
-    project: &ProjectRow,
-    pass: &Option<Token>,
-) -> Result<Option<Named>, Fault>
-    ensures { Reads S.Store tables.old tables.new result
-        (λ l. alias_to (shown_in l project.now pass.now).latest) }
-{
-    let versions = all_visible(tables, alloc, project, pass)?;
-    let place = latest(versions.as_slice(), &project.branch);
-    Ok(alias_at(versions, place))
-}
-
-fn stable_named<S: Alter>(
-    tables: &mut Tables<S>,
-    alloc: Global,
-    project: &ProjectRow,
-    pass: &Option<Token>,
-) -> Result<Option<Named>, Fault>
-    ensures { Reads S.Store tables.old tables.new result
-        (λ l. alias_to (shown_in l project.now pass.now).stable) }
-{
-    let versions = all_visible(tables, alloc, project, pass)?;
-    let place = stable(alloc, versions.as_slice())?;
-    Ok(alias_at(versions, place))
-}
-
-fn alias_named<S: Alter>(
-    tables: &mut Tables<S>,
-    alloc: Global,
-    project: &ProjectRow,
-    pass: &Option<Token>,
-    name: &str,
-) -> Result<Option<Named>, Fault>
-    ensures { Reads S.Store tables.old tables.new result
-        (λ l. alias_of (shown_in l project.now pass.now) name.now) }
-{
-    match name {
-        "latest" => latest_named(tables, alloc, project, pass),
-        "stable" => stable_named(tables, alloc, project, pass),
-        _ => Ok(None),
+impl ProjectView<'_> {
+    fn latest_named<S: Alter>(&self, tables: &mut Tables<S>) -> Found<Named>
+        ensures { Reads S.Store tables.old tables.new result
+            (λ l. alias_to (shown_in l self.now.project.now self.now.pass.now).latest) }
+    {
+        let versions = self.all_visible(tables)?;
+        let place = latest(versions.as_slice(), &self.project.branch);
+        Ok(alias_at(versions, place))
     }
-}
 
-/// The visible version with that slug, else the alias of that name.
-pub fn version_for<S: Alter>(
-    tables: &mut Tables<S>,
-    alloc: Global,
-    project: &ProjectRow,
-    pass: &Option<Token>,
-    name: &str,
-) -> Result<Option<Named>, Fault>
-    ensures { Reads S.Store tables.old tables.new result
-        (λ l. resolved (shown_in l project.now pass.now) name.now) }
-{
-    match visible_version(tables, alloc, project, pass, name)? {
-        Some(version) => Ok(Some(Named {
-            slug: version.slug,
-            alias: false,
-        })),
-        None => alias_named(tables, alloc, project, pass, name),
+    fn stable_named<S: Alter>(&self, tables: &mut Tables<S>) -> Found<Named>
+        ensures { Reads S.Store tables.old tables.new result
+            (λ l. alias_to (shown_in l self.now.project.now self.now.pass.now).stable) }
+    {
+        let versions = self.all_visible(tables)?;
+        let place = stable(self.alloc, versions.as_slice())?;
+        Ok(alias_at(versions, place))
+    }
+
+    fn alias_named<S: Alter>(&self, tables: &mut Tables<S>, name: &str) -> Found<Named>
+        ensures { Reads S.Store tables.old tables.new result
+            (λ l. alias_of (shown_in l self.now.project.now self.now.pass.now) name.now) }
+    {
+        match name {
+            "latest" => self.latest_named(tables),
+            "stable" => self.stable_named(tables),
+            _ => Ok(None),
+        }
+    }
+
+    /// The visible version with that slug, else the alias of that name.
+    pub fn version_for<S: Alter>(&self, tables: &mut Tables<S>, name: &str) -> Found<Named>
+        ensures { Reads S.Store tables.old tables.new result
+            (λ l. resolved (shown_in l self.now.project.now self.now.pass.now) name.now) }
+    {
+        match self.visible_version(tables, name)? {
+            Some(version) => Ok(Some(Named {
+                slug: version.slug,
+                alias: false,
+            })),
+            None => self.alias_named(tables, name),
+        }
     }
 }

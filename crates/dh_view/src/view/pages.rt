@@ -1,65 +1,40 @@
 //! Languages and pages.
 
-ghost use Rattle.std.specs.Prelude.{find};
-ghost use Rattle.std.specs.Option.{option_map};
-ghost use Rattle.dh_records.specs.Lists as spec;
+ghost use Rattle.std.specs.Prelude.{◌≡◌};
 ghost use Rattle.dh_lookup.specs.SeenProject.{page_at};
 ghost use Rattle.dh_records.specs.Lists.{project_of};
-ghost use Rattle.dh_view.specs.View.{Reads, ReadsAll, shown_in};
+ghost use Rattle.dh_view.specs.View.{Obtains, Reads, shown_in};
 
-use crate::view::versions::visible_version;
-use dh_lookup::{Fault, Page};
-use dh_paths::{Lang, Slug, Token};
-use dh_records::{LangRow, ProjectRow};
+use crate::view::ProjectView;
+use dh_lookup::{Fault, Found, Page};
+use dh_paths::{Lang, Slug};
+use dh_records::LangRow;
 use dh_store::Tables;
 use sqlite::Alter;
-use std::alloc::Global;
 
-pub fn all_langs<S: Alter>(
-    tables: &mut Tables<S>,
-    alloc: Global,
-    project: &ProjectRow,
-) -> Result<Vec<Lang>, Fault>
-    ensures { ReadsAll S.Store tables.old tables.new result
-        (λ l. (project_of l project.now).languages) }
-{
-    tables.list::<LangRow>(alloc, &project.host)
-}
-
-/// The page of a version, whoever may see it.
-fn any_page<S: Alter>(
-    tables: &mut Tables<S>,
-    alloc: Global,
-    project: &ProjectRow,
-    lang: &Lang,
-    slug: &Slug,
-    path: &str,
-) -> Result<Option<Page>, Fault>
-    ensures { Reads S.Store tables.old tables.new result
-        (λ l. option_map (λ row. row.page)
-        (find (spec.is_page project.now.host slug.now lang.now path.now) l.pages)) }
-{
-    match tables.page(alloc, &project.host, slug, lang, path)? {
-        Some(row) => Ok(Some(row.page)),
-        None => Ok(None),
+impl ProjectView<'_> {
+    pub fn all_langs<S: Alter>(&self, tables: &mut Tables<S>) -> Result<Vec<Lang>, Fault>
+        ensures { Obtains S.Store tables.old tables.new result
+            (λ l langs. langs.items ≡ (project_of l self.now.project.now).languages) }
+    {
+        tables.list::<LangRow>(self.alloc, &self.project.host)
     }
-}
 
-/// The page of a visible version.
-pub fn visible_page<S: Alter>(
-    tables: &mut Tables<S>,
-    alloc: Global,
-    project: &ProjectRow,
-    pass: &Option<Token>,
-    lang: &Lang,
-    slug: &Slug,
-    path: &str,
-) -> Result<Option<Page>, Fault>
-    ensures { Reads S.Store tables.old tables.new result
-        (λ l. page_at (shown_in l project.now pass.now) lang.now slug.now path.now) }
-{
-    match visible_version(tables, alloc, project, pass, slug.as_str())? {
-        Some(_version) => any_page(tables, alloc, project, lang, slug, path),
-        None => Ok(None),
+    /// The page of a visible version.
+    pub fn visible_page<S: Alter>(
+        &self,
+        tables: &mut Tables<S>,
+        lang: &Lang,
+        slug: &Slug,
+        path: &str,
+    ) -> Found<Page>
+        ensures { Reads S.Store tables.old tables.new result
+            (λ l. page_at (shown_in l self.now.project.now self.now.pass.now)
+            lang.now slug.now path.now) }
+    {
+        match self.visible_version(tables, slug.as_str())? {
+            Some(_version) => tables.page(self.alloc, &self.project.host, slug, lang, path),
+            None => Ok(None),
+        }
     }
 }

@@ -7,9 +7,10 @@ ghost use Rattle.dh_view.specs.View as view;
 ghost use Rattle.dh_view.specs.View.{Obtains, Reads, OpensAs, ShowsAs, held_in, is_shown, visible_in};
 ghost use Rattle.dh_world.specs.World as world;
 
-use dh_lookup::Fault;
-use dh_paths::{Slug, Token};
-use dh_records::{HeldRow, ProjectRow, VersionRow};
+use crate::view::ProjectView;
+use dh_lookup::{Fault, Found};
+use dh_paths::Slug;
+use dh_records::{HeldRow, VersionRow};
 use dh_store::Tables;
 use dh_versions::Version;
 use sqlite::Alter;
@@ -61,124 +62,94 @@ fn versions_of(alloc: Global, rows: Vec<VersionRow>) -> Result<Vec<Version>, All
     rows.into_iter().map(|row| row.version).collect(alloc)
 }
 
-/// Whether the caller's pass is one of the project's, and holds the version.
-fn is_held<S: Alter>(
-    tables: &mut Tables<S>,
-    project: &ProjectRow,
-    pass: &Option<Token>,
-    slug: &Slug,
-) -> Result<bool, Fault>
-    ensures { Reads S.Store tables.old tables.new result
-        (λ l. held_in l project.now pass.now slug.now) }
-{
-    match pass {
-        Some(pass) => {
-            let known = tables.has_pass(&project.host, pass)?;
-            if known {
-                tables.held(&project.host, pass, slug)
-            } else {
-                Ok(false)
+impl ProjectView<'_> {
+    /// Whether the caller's pass is one of the project's, and holds the version.
+    fn is_held<S: Alter>(&self, tables: &mut Tables<S>, slug: &Slug) -> Result<bool, Fault>
+        ensures { Reads S.Store tables.old tables.new result
+            (λ l. held_in l self.now.project.now self.now.pass.now slug.now) }
+    {
+        match self.pass {
+            Some(pass) => {
+                let known = tables.has_pass(&self.project.host, pass)?;
+                if known {
+                    tables.held(&self.project.host, pass, slug)
+                } else {
+                    Ok(false)
+                }
             }
+            None => Ok(false),
         }
-        None => Ok(false),
     }
-}
 
-/// Whether the caller may see a version of the project. Only of a private one is the pass asked.
-fn is_seen<S: Alter>(
-    tables: &mut Tables<S>,
-    project: &ProjectRow,
-    pass: &Option<Token>,
-    version: &Version,
-) -> Result<bool, Fault>
-    ensures { Reads S.Store tables.old tables.new result
-        (λ l. world.may_see version.now (held_in l project.now pass.now version.now.slug)) }
-{
-    if !version.private {
-        return Ok(version.active);
+    /// Whether the caller may see a version of the project. Only of a private one is the pass asked.
+    fn is_seen<S: Alter>(&self, tables: &mut Tables<S>, version: &Version) -> Result<bool, Fault>
+        ensures { Reads S.Store tables.old tables.new result
+            (λ l. world.may_see version.now
+            (held_in l self.now.project.now self.now.pass.now version.now.slug)) }
+    {
+        if !version.private {
+            return Ok(version.active);
+        }
+        let held = self.is_held(tables, &version.slug)?;
+        Ok(may_see(version, held))
     }
-    let held = is_held(tables, project, pass, &version.slug)?;
-    Ok(may_see(version, held))
-}
 
-/// The visible version with this slug.
-pub fn visible_version<S: Alter>(
-    tables: &mut Tables<S>,
-    alloc: Global,
-    project: &ProjectRow,
-    pass: &Option<Token>,
-    name: &str,
-) -> Result<Option<Version>, Fault>
-    ensures { Reads S.Store tables.old tables.new result
-        (λ l. get (visible_in l project.now pass.now) name.now) }
-{
-    match tables.version(alloc, &project.host, name)? {
-        Some(row) => {
-            let seen = is_seen(tables, project, pass, &row.version)?;
-            if seen {
-                Ok(Some(row.version))
-            } else {
-                Ok(None)
+    /// The visible version with this slug.
+    pub fn visible_version<S: Alter>(&self, tables: &mut Tables<S>, name: &str) -> Found<Version>
+        ensures { Reads S.Store tables.old tables.new result
+            (λ l. get (visible_in l self.now.project.now self.now.pass.now) name.now) }
+    {
+        match tables.version(self.alloc, &self.project.host, name)? {
+            Some(row) => Ok(self.is_seen(tables, &row.version)?.then_some(row.version)),
+            None => Ok(None),
+        }
+    }
+
+    /// What the caller's pass holds, if it is one of the project's.
+    fn grants_of<S: Alter>(&self, tables: &mut Tables<S>) -> Result<Vec<HeldRow>, Fault>
+        ensures { Obtains S.Store tables.old tables.new result
+            (λ l grants. OpensAs grants.items (held_in l self.now.project.now self.now.pass.now)) }
+    {
+        match self.pass {
+            Some(pass) => {
+                let known = tables.has_pass(&self.project.host, pass)?;
+                if known {
+                    tables.held_by(self.alloc, &self.project.host, pass)
+                } else {
+                    Ok(no_grants(self.alloc))
+                }
             }
+            None => Ok(no_grants(self.alloc)),
         }
-        None => Ok(None),
     }
-}
 
-/// What the caller's pass holds, if it is one of the project's.
-fn grants_of<S: Alter>(
-    tables: &mut Tables<S>,
-    alloc: Global,
-    project: &ProjectRow,
-    pass: &Option<Token>,
-) -> Result<Vec<HeldRow>, Fault>
-    ensures { Obtains S.Store tables.old tables.new result
-        (λ l grants. OpensAs grants.items (held_in l project.now pass.now)) }
-{
-    match pass {
-        Some(pass) => {
-            let known = tables.has_pass(&project.host, pass)?;
-            if known {
-                tables.held_by(alloc, &project.host, pass)
-            } else {
-                Ok(no_grants(alloc))
-            }
+    /// The grants that decide which of these versions the caller may see. Where none is private no
+    /// grant does, and none is looked for.
+    fn grants_for<S: Alter>(
+        &self,
+        tables: &mut Tables<S>,
+        rows: &[VersionRow],
+    ) -> Result<Vec<HeldRow>, Fault>
+        ensures { Obtains S.Store tables.old tables.new result
+            (λ l grants. ShowsAs rows.now grants.items
+            (held_in l self.now.project.now self.now.pass.now)) }
+    {
+        if any_private(rows) {
+            self.grants_of(tables)
+        } else {
+            Ok(no_grants(self.alloc))
         }
-        None => Ok(no_grants(alloc)),
     }
-}
 
-/// The grants that decide which of these versions the caller may see. Where none is private no
-/// grant does, and none is looked for.
-fn grants_for<S: Alter>(
-    tables: &mut Tables<S>,
-    alloc: Global,
-    project: &ProjectRow,
-    pass: &Option<Token>,
-    rows: &[VersionRow],
-) -> Result<Vec<HeldRow>, Fault>
-    ensures { Obtains S.Store tables.old tables.new result
-        (λ l grants. ShowsAs rows.now grants.items (held_in l project.now pass.now)) }
-{
-    if any_private(rows) {
-        grants_of(tables, alloc, project, pass)
-    } else {
-        Ok(no_grants(alloc))
+    /// The visible versions in the order of their slugs.
+    pub fn all_visible<S: Alter>(&self, tables: &mut Tables<S>) -> Result<Vec<Version>, Fault>
+        ensures { Obtains S.Store tables.old tables.new result
+            (λ l v. (v.items ≡ values (visible_in l self.now.project.now self.now.pass.now))
+            × (map (λ x. x.slug) v.items
+            ≡ keys (visible_in l self.now.project.now self.now.pass.now))) }
+    {
+        let rows = tables.versions(self.alloc, &self.project.host)?;
+        let grants = self.grants_for(tables, rows.as_slice())?;
+        Ok(versions_of(self.alloc, only_visible(rows, grants.as_slice()))?)
     }
-}
-
-/// The visible versions in the order of their slugs.
-pub fn all_visible<S: Alter>(
-    tables: &mut Tables<S>,
-    alloc: Global,
-    project: &ProjectRow,
-    pass: &Option<Token>,
-) -> Result<Vec<Version>, Fault>
-    ensures { Obtains S.Store tables.old tables.new result
-        (λ l v. (v.items ≡ values (visible_in l project.now pass.now))
-        × (map (λ x. x.slug) v.items ≡ keys (visible_in l project.now pass.now))) }
-{
-    let rows = tables.versions(alloc, &project.host)?;
-    let grants = grants_for(tables, alloc, project, pass, rows.as_slice())?;
-    Ok(versions_of(alloc, only_visible(rows, grants.as_slice()))?)
 }

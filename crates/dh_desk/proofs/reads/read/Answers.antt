@@ -4,7 +4,8 @@ use Rattle.dh_records.specs.Lists.{Lists, world_of}
 use Rattle.dh_world.specs.Seen as caller
 use Rattle.std.specs.Option.{option_map}
 use Rattle.dh_tables.specs.Going.{last_records}
-use Rattle.dh_desk.proofs.Reading.{blamed_on, stays_undone}
+use Rattle.dh_schema.specs.InTurn.{shows_on}
+use Rattle.dh_desk.proofs.Reading.{blamed_on}
 use Rattle.dh_desk.proofs.Veiling.{behind_veil}
 use Rattle.dh_desk.proofs.reads.read.Goals as goal
 
@@ -21,7 +22,7 @@ returns-clause-veiled g c honest =
 pub returns-clause-rests : goal.returns-clause-rests
 returns-clause-rests g c honest =
     let same = (c.look.ensures.looks.unmoved honest).same in
-    inr (stays_undone g.S.Store c.args.tables.now c.back.new.self c.look.new.tables (c.in_ok-back.ensures.undone same.was_honest) same)
+    inr (shows_on (c.in_ok-back.ensures.undone same.was_honest) same)
 
 pub returns-clause-told : goal.returns-clause-told
 returns-clause-told g c =

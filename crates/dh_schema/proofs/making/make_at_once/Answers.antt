@@ -12,7 +12,7 @@ ready db can placed = record { standing = tt; free = can.0; counted = can.1; pla
 pub make_tables-requires : goal.make_tables-requires
 make_tables-requires g c honest =
     let begun = c.in_ok-begin.ensures.begun honest.0 in
-    subst (λ (db : Database). IsReady [] our_tables db) (sym begun.now_is) (ready _ c.requires.can (c.requires.placed (c.begin.ensures.lasts.was honest)))
+    subst (λ (db : Database). IsReady [] our_tables db) (sym begun.now_is) (ready _ c.requires.can (c.requires.placed (c.begin.ensures.goes.lasts.was honest)))
 
 pub returns-clause-ok : goal.returns-clause-ok
 returns-clause-ok g c honest clean =

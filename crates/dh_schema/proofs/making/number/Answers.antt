@@ -4,8 +4,8 @@ use Rattle.dh_schema.proofs.Made.{number_writes, number_makes}
 use Rattle.dh_schema.proofs.CallLemmas.{built_one}
 use Rattle.dh_schema.proofs.making.number.Goals as goal
 
-pub write-requires : goal.write-requires
-write-requires g c = record { edit = λ honest. (number_writes (state g.S.Store c.args.conn.now) (c.requires honest)).edit }
+pub change-requires : goal.change-requires
+change-requires g c = record { edit = λ honest. (number_writes (state g.S.Store c.args.conn.now) (c.requires honest)).edit }
 
 pub returns : goal.returns
-returns g c = record { builds = built_one g.S.Store c.args.conn.now c.write.new.conn _ (meta.encode 1) _ c.write.result (λ honest. number_makes (state g.S.Store c.args.conn.now) (c.requires honest)) (rw c.params-to_sql.ensures at c.write.ensures.edits) }
+returns g c = record { builds = built_one g.S.Store c.args.conn.now c.change.new.conn _ (meta.encode 1) _ c.change.result (λ honest. number_makes (state g.S.Store c.args.conn.now) (c.requires honest)) (rw c.params-to_sql.ensures at c.change.ensures.edits) }

@@ -1,7 +1,6 @@
 use Rattle.std.proofs.Common.{◌∙◌, Ok, sym, ap, subst}
 use Rattle.dh_checks.specs.Commands.{command_of}
 use Rattle.dh_plans.specs.Knowing.{Decides}
-use Rattle.dh_plans.specs.Planned.{Planned}
 use Rattle.dh_records.specs.Lists.{Lists}
 use Rattle.dh_transactions.proofs.Working.{turn_refused, edits_may, turn_done}
 use Rattle.dh_transactions.proofs.transaction.work.Goals as goal
@@ -20,24 +19,18 @@ returns-in_err-edits-clause-turns g c honest =
 
 pub make_edits-requires-clause-may : goal.make_edits-requires-clause-may
 make_edits-requires-clause-may g c honest =
-    let host = c.args.host.now in
-    let lists : Lists = records g.S.Store c.args.tables.now in
     let sound = c.requires.sound (c.look.ensures.asks.goes.lasts.was honest) in
-    let found = subst (FindsFacts host c.args.change lists) c.in-Some.is (c.in_ok-facts.ensures.value honest sound) in
-    let plan : Planned = record { edits = c.edits.inside.edits.items; answer = c.edits.inside.answer } in
+    let found = subst (FindsFacts c.args.host.now c.args.change (records g.S.Store c.args.tables.now)) c.in-Some.is (c.in_ok-facts.ensures.value honest sound) in
     let decided = subst (λ x. Decides c.args.change c.in-Some.facts (Ok x)) (sym c.edits.view_is) c.in_ok-edits.ensures in
-    subst (RowsMayAll host plan.edits) (sym (c.in_ok-facts.ensures.asks.looks.now_is honest))
-    (edits_may host c.args.change lists c.in-Some.facts found sound plan decided)
+    subst (RowsMayAll c.args.host.now c.edits.inside.edits.items) (sym (c.in_ok-facts.ensures.asks.looks.now_is honest))
+    (edits_may c.args.host.now c.args.change _ c.in-Some.facts found sound _ decided)
 
 pub returns-clause-turns : goal.returns-clause-turns
 returns-clause-turns g c honest =
     let h0 = c.make_edits.ensures.makes.goes.lasts.was honest in
-    let host = c.args.host.now in
-    let lists : Lists = records g.S.Store c.args.tables.now in
     let sound = c.requires.sound (c.look.ensures.asks.goes.lasts.was h0) in
-    let found = subst (FindsFacts host c.args.change lists) c.in-Some.is (c.in_ok-facts.ensures.value h0 sound) in
-    let plan : Planned = record { edits = c.edits.inside.edits.items; answer = c.edits.inside.answer } in
+    let found = subst (FindsFacts c.args.host.now c.args.change (records g.S.Store c.args.tables.now)) c.in-Some.is (c.in_ok-facts.ensures.value h0 sound) in
     let decided = subst (λ x. Decides c.args.change c.in-Some.facts (Ok x)) (sym c.edits.view_is) c.in_ok-edits.ensures in
-    let now = c.in_ok-make_edits.ensures.makes.sees.now_is honest ∙ ap (all_rows_edited host plan.edits) (c.in_ok-facts.ensures.asks.looks.now_is h0) in
-    subst (λ l. Turns lists l (command_of host c.args.change) (Ok plan.answer)) (sym now)
-    (turn_done host c.args.change lists c.in-Some.facts found sound plan decided)
+    let now = c.in_ok-make_edits.ensures.makes.sees.now_is honest ∙ ap (all_rows_edited c.args.host.now c.edits.inside.edits.items) (c.in_ok-facts.ensures.asks.looks.now_is h0) in
+    subst (λ l. Turns (records g.S.Store c.args.tables.now) l (command_of c.args.host.now c.args.change) (Ok c.edits.inside.answer)) (sym now)
+    (turn_done c.args.host.now c.args.change _ c.in-Some.facts found sound _ decided)

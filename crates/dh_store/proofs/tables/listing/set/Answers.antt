@@ -6,11 +6,11 @@ use Rattle.dh_store.specs.Listing.{is_own}
 use Rattle.dh_store.proofs.SettingLemmas.{set_after}
 use Rattle.dh_store.proofs.tables.listing.set.Goals as goal
 
-pub put_missing-requires-clause-all : goal.put_missing-requires-clause-all
-put_missing-requires-clause-all g c honest =
+pub put_others-requires-clause-all : goal.put_others-requires-clause-all
+put_others-requires-clause-all g c honest =
     c.as_slice.ensures.value ∙ c.in_ok-rows.ensures.value honest
     ∙ g.met.R.Placed.is_list c.args.host.now (seen g.S.Store lists_of c.drop_behind.new.tables)
     ∙ ap (λ (l : Lists). filter (is_own g.R.Placed.listing c.args.host.now) (g.R.Placed.listing.part l)) (sym (c.in_ok-rows.ensures.asks.same honest.0).now_is)
 
 pub returns : goal.returns
-returns g c = record { writes = set_after g.S.Store g.R.Placed.listing c.args.host.now c.args.items.now c.requires.within c.in_ok-drop_behind.ensures.writes c.in_ok-rows.ensures.asks c.put_missing.ensures.writes }
+returns g c = record { writes = set_after g.S.Store g.R.Placed.listing c.args.host.now c.args.items.now c.requires.within c.in_ok-drop_behind.ensures.writes c.in_ok-rows.ensures.asks c.put_others.ensures.writes }

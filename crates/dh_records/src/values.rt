@@ -1,0 +1,100 @@
+//! What the columns of a record hold, in their order.
+
+ghost use Rattle.std.specs.Prelude.{◌<◌, ◌^◌};
+ghost use Rattle.dh_records.specs.Codings as coding;
+ghost use Rattle.dh_records.specs.Codings.{AreValuesOf};
+ghost use Rattle.dh_records.specs.Typed.{IsHeld, IsLanguage, IsPage, IsPass, IsProject, IsVersion};
+
+use crate::records::{HeldRow, LangRow, PageRow, PassRow, ProjectRow, VersionRow, is_tag};
+use sqlite::types::{ToSql, ValueRef};
+
+/// That a number fits 32 bits, as its type says. It does nothing.
+pub fn show_number(n: u32)
+    ensures { n < 2 ^ 32 }
+{
+    let _ = n;
+}
+
+impl ProjectRow {
+    pub fn values(&self) -> [ValueRef<'_>; 5]
+        ensures encoded { AreValuesOf result (coding.projects.encode self.now) }
+        ensures typed { IsProject self.now }
+    {
+        [
+            self.host.as_str().to_sql(),
+            self.main.as_str().to_sql(),
+            self.branch.as_str().to_sql(),
+            self.wkey.as_str().to_sql(),
+            self.new_private.to_sql(),
+        ]
+    }
+}
+
+impl LangRow {
+    pub fn values(&self) -> [ValueRef<'_>; 3]
+        ensures encoded { AreValuesOf result (coding.langs.encode self.now) }
+        ensures typed { IsLanguage self.now }
+    {
+        show_number(self.place);
+        [
+            self.host.as_str().to_sql(),
+            self.lang.as_str().to_sql(),
+            self.place.to_sql(),
+        ]
+    }
+}
+
+impl VersionRow {
+    pub fn values(&self) -> [ValueRef<'_>; 7]
+        ensures encoded { AreValuesOf result (coding.versions.encode self.now) }
+        ensures typed { IsVersion self.now }
+    {
+        [
+            self.host.as_str().to_sql(),
+            self.version.slug.as_str().to_sql(),
+            self.version.name.as_str().to_sql(),
+            is_tag(self.version.kind).to_sql(),
+            self.version.active.to_sql(),
+            self.version.hidden.to_sql(),
+            self.version.private.to_sql(),
+        ]
+    }
+}
+
+impl PageRow {
+    pub fn values(&self) -> [ValueRef<'_>; 6]
+        ensures encoded { AreValuesOf result (coding.pages.encode self.now) }
+        ensures typed { IsPage self.now }
+    {
+        [
+            self.host.as_str().to_sql(),
+            self.slug.as_str().to_sql(),
+            self.lang.as_str().to_sql(),
+            self.path.as_str().to_sql(),
+            self.page.media.as_str().to_sql(),
+            self.page.body.as_slice().to_sql(),
+        ]
+    }
+}
+
+impl PassRow {
+    pub fn values(&self) -> [ValueRef<'_>; 2]
+        ensures encoded { AreValuesOf result (coding.passes.encode self.now) }
+        ensures typed { IsPass self.now }
+    {
+        [self.host.as_str().to_sql(), self.pass.as_str().to_sql()]
+    }
+}
+
+impl HeldRow {
+    pub fn values(&self) -> [ValueRef<'_>; 3]
+        ensures encoded { AreValuesOf result (coding.held.encode self.now) }
+        ensures typed { IsHeld self.now }
+    {
+        [
+            self.host.as_str().to_sql(),
+            self.pass.as_str().to_sql(),
+            self.slug.as_str().to_sql(),
+        ]
+    }
+}

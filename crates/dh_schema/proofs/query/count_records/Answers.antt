@@ -1,5 +1,0 @@
-use Rattle.dh_schema.proofs.CallLemmas.{as_told}
-use Rattle.dh_schema.proofs.query.count_records.Goals as goal
-
-pub returns-in-Err-clause-told : goal.returns-in-Err-clause-told
-returns-in-Err-clause-told g c clean = rw c.fault_of.ensures (as_told c.in-Err.fault (c.in-Err.ensures.blamed clean))
