@@ -1,9 +1,9 @@
 -- The change that a checked one is of, and which command is one whose texts are right.
 use Rattle.std.specs.Prelude.{◌≡◌, ◌≤◌, List, [], ◌∷◌, length, Option, Result}
-use Rattle.dh_world.specs.Checks.{ChecksOr}
+use Rattle.dh_world.specs.CheckResults.{ChecksOr}
 use Rattle.dh_world.specs.Refusals.{first_of}
 use Rattle.dh_world.specs.Step.{RuleRefused}
-use Rattle.dh_world.specs.Texts.{bad_count, bad_pages, bad_change, bad_text}
+use Rattle.dh_world.specs.WrongTexts.{bad_count, bad_pages, bad_change, bad_text}
 use Rattle.dh_world.specs.World.{Text}
 use Rattle.dh_world.specs.declared.command.Command.{Command}
 use Rattle.dh_world.specs.declared.command.CommandChange.{CommandChange}

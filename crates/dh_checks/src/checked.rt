@@ -1,7 +1,7 @@
 //! Commands whose texts are values of their types.
 ghost use Rattle.std.specs.Prelude.{◌≡◌, ◌≤◌, Some, None, IsTrue, length};
 ghost use Rattle.std.proofs.Props.{props};
-ghost use Rattle.dh_texts.specs.Slugs.{slug_from};
+ghost use Rattle.dh_texts.specs.SlugOfName.{slug_from};
 ghost use Rattle.dh_rules.specs.Rules.{is_allowed};
 ghost use Rattle.dh_redirects.specs.Redirects.{first_fault};
 

@@ -2,8 +2,8 @@
 ghost use Rattle.std.specs.Prelude.{◌≡◌, [], ◌∷◌, ◌++◌, OnOk};
 ghost use Rattle.std.specs.List.{list_all};
 ghost use Rattle.dh_texts.specs.Texts.{is_page_path};
-ghost use Rattle.dh_world.specs.Checks.{Reads, Checks};
-ghost use Rattle.dh_world.specs.Texts.{is_media_byte, is_media, has_path, bad_page, bad_pages};
+ghost use Rattle.dh_world.specs.CheckResults.{Reads, Checks};
+ghost use Rattle.dh_world.specs.WrongTexts.{is_media_byte, is_media, has_path, bad_page, bad_pages};
 ghost use Rattle.dh_checks.specs.Commands.{AreFewPages, bad_upload};
 
 use crate::checked::CheckedPage;

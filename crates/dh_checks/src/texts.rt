@@ -1,12 +1,12 @@
 //! The texts of commands, read one by one.
 ghost use Rattle.std.specs.Prelude.{◌≡◌, Some, None, IsTrue};
 ghost use Rattle.dh_texts.specs.Texts.{is_token};
-ghost use Rattle.dh_texts.specs.Slugs.{slug_from};
+ghost use Rattle.dh_texts.specs.SlugOfName.{slug_from};
 ghost use Rattle.dh_rules.specs.Patterns.{IsCustom};
 ghost use Rattle.dh_rules.specs.Rules.{is_allowed};
-ghost use Rattle.dh_world.specs.Checks.{Checks, ChecksOr, Reads, refusal_of};
+ghost use Rattle.dh_world.specs.CheckResults.{Checks, ChecksOr, Reads, refusal_of};
 ghost use Rattle.dh_redirects.specs.Redirects.{first_fault};
-ghost use Rattle.dh_world.specs.Texts.{bad_name, bad_rule, bad_redirect};
+ghost use Rattle.dh_world.specs.WrongTexts.{bad_name, bad_rule, bad_redirect};
 
 use dh_paths::{RefName, Slug, Text, TextFault, Token, slug_of};
 use dh_redirects::Redirect;

@@ -1,12 +1,13 @@
 //! What each command does with what was found of its project.
 ghost use Rattle.dh_plans.specs.Knowing.{Decides};
 
-use crate::defaults::{remove_version, set_default};
+use crate::defaults::set_default;
 use crate::passes::{add_pass, drop_pass, grant, revoke};
 use crate::projects::add_lang;
 use crate::redirects::{add_redirect, drop_redirect};
 use crate::rules::{add_rule, drop_rule};
 use crate::uploads::upload;
+use crate::versions::remove_version;
 use dh_checks::CheckedChange;
 use dh_plans::{Facts, Plan};
 use dh_pushes::{deactivate, push, set_property};

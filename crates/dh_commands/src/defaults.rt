@@ -1,27 +1,14 @@
-//! Versions that go, and the defaults.
+//! What `/` leads to: the defaults.
 ghost use Rattle.std.specs.Prelude.{◌≡◌};
 ghost use Rattle.dh_plans.specs.Knowing.{Decides};
 ghost use Rattle.dh_plans.specs.Plans.{wrong_default};
 
 use dh_checks::CheckedChange;
-use dh_lookup::Items;
 use dh_paths::Slug;
-use dh_plans::{Edit, Facts, Plan, is_alias, names_but, take_list, with_first};
+use dh_plans::{Edit, Facts, Plan, is_alias, take_list, with_first};
 use dh_versions::Version;
 use dh_world::{Answer, Refusal};
 use std::alloc::Global;
-
-/// Removes the version that was found, and its name among the defaults.
-pub fn remove_version<'c>(alloc: Global, slug: Slug, facts: &mut Facts) -> Result<Plan<'c>, Refusal>
-    ensures { Decides (CheckedChange.Gone slug) facts.old result }
-{
-    if facts.version.is_none() {
-        return Err(Refusal::NoVersion);
-    }
-    let defaults = take_list(alloc, &mut facts.defaults);
-    let defaults = Items::wrap(names_but(alloc, defaults, &slug)?);
-    Ok(Plan::one(alloc, Edit::RemoveVersion { slug, defaults }, Answer::Done)?)
-}
 
 /// Why a name may be no default: of one that is no alias, the version has to be there and active.
 fn wrong_name(name: &Slug, version: &Option<Version>) -> Option<Refusal>

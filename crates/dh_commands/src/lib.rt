@@ -12,6 +12,7 @@ mod projects;
 mod redirects;
 mod rules;
 mod uploads;
+mod versions;
 
 pub use decision::decide;
 pub use projects::open;

@@ -2,7 +2,7 @@
 
 ghost use Rattle.std.specs.Prelude.{◌≡◌, ◌≤◌, ◌↔◌, ◌&&◌, ◌||◌, IsTrue, IsSome, IfOk, Some, None, filter, length};
 ghost use Rattle.std.specs.List.{AllByRecursion};
-ghost use Rattle.dh_texts.specs.Slugs.{slug_from};
+ghost use Rattle.dh_texts.specs.SlugOfName.{slug_from};
 ghost use Rattle.dh_redirects.specs.Redirects.{first_fault};
 ghost use Rattle.dh_rules.specs.Rules as rules;
 ghost use Rattle.dh_world.specs.Answers.{answer_of};

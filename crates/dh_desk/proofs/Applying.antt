@@ -13,7 +13,7 @@ use Rattle.dh_schema.specs.Tables.{lists_of}
 use Rattle.dh_tables.specs.Going.{IsOver, last_records}
 use Rattle.dh_transactions.specs.Crashes.{LeavesStep}
 use Rattle.dh_transactions.specs.Steps.{Steps}
-use Rattle.dh_world.specs.Checks.{refusal_from, IsFault}
+use Rattle.dh_world.specs.CheckResults.{refusal_from, IsFault}
 use Rattle.dh_world.specs.declared.answer.Answer.{Answer}
 use Rattle.dh_world.specs.declared.command.Command.{Command}
 use Rattle.dh_world.specs.declared.refusal.Refusal.{Refusal}

@@ -3,8 +3,8 @@ use Rattle.std.proofs.Common.{◌≡◌, Option, Result, IfOk, sym, ap, subst}
 use Rattle.std.specs.Option.{option_and_then}
 use Rattle.dh_reply.specs.Replies.{reply_to}
 use Rattle.dh_faults.specs.declared.fault.Fault.{Fault}
-use Rattle.dh_wire.specs.declared.answer.Read.{Read}
-use Rattle.dh_wire.specs.declared.answer.Reply.{Reply}
+use Rattle.dh_wire.specs.declared.reply.Read.{Read}
+use Rattle.dh_wire.specs.declared.reply.Reply.{Reply}
 use Rattle.dh_world.specs.World.{Text, World}
 use Rattle.dh_world.specs.Reads.{host_named, pass_named}
 use Rattle.dh_world.proofs.VeilLemmas.{veil_law}

@@ -7,8 +7,8 @@ use Rattle.sqlite.specs.Held.{Held, held_code}
 use Rattle.dh_records.specs.Lists.{world_of}
 use Rattle.dh_records.specs.Constraints.{AreSound}
 use Rattle.dh_reply.specs.Replies.{reply_to}
-use Rattle.dh_wire.specs.declared.answer.Read.{Read}
-use Rattle.dh_wire.specs.declared.answer.Reply.{Reply}
+use Rattle.dh_wire.specs.declared.reply.Read.{Read}
+use Rattle.dh_wire.specs.declared.reply.Reply.{Reply}
 use Rattle.dh_world.specs.World.{Text, World}
 use Rattle.dh_world.specs.Reads.{host_named, pass_named}
 use Rattle.dh_world.specs.Seen.{seen, veil}

@@ -5,7 +5,7 @@ ghost use Rattle.dh_rows.specs.Calls.{KeepsCommitted, Lasts, LeavesNoMore, Leave
 ghost use Rattle.dh_transactions.specs.Crashes.{LeavesEither};
 ghost use Rattle.dh_tables.specs.Going.{IsOver};
 ghost use Rattle.dh_transactions.specs.Steps.{Transacts};
-ghost use Rattle.dh_world.specs.Checks.{IsFault};
+ghost use Rattle.dh_world.specs.CheckResults.{IsFault};
 ghost use Rattle.dh_world.specs.Reads.{is_unanswered};
 ghost use Rattle.dh_world.specs.Step.{IsStep};
 ghost use Rattle.dh_desk.specs.Desk.{Blames, HasCleanDisk, IsHonest, IsRefused, last_records, lists_of};

@@ -5,8 +5,8 @@ use Rattle.dh_ports.specs.Ports.{PutsFirst}
 use Rattle.dh_reply.specs.Replies.{reply_to}
 use Rattle.dh_wire.specs.Statuses.{fault_reply_of}
 use Rattle.dh_wire.specs.Wire.{reply_bytes_of}
-use Rattle.dh_wire.specs.declared.answer.Read.{Read}
-use Rattle.dh_wire.specs.declared.answer.Reply.{Reply}
+use Rattle.dh_wire.specs.declared.reply.Read.{Read}
+use Rattle.dh_wire.specs.declared.reply.Reply.{Reply}
 use Rattle.dh_requests.specs.Request.{IsRequest}
 use Rattle.dh_requests.specs.declared.request.Request.{Request}
 use Rattle.dh_requests.specs.declared.request.Request.TheVariants as request

@@ -2,7 +2,7 @@
 use Rattle.std.specs.Prelude.{◌≡◌, ◌⊎◌, ℕ, Bool, List, Option, Result, IfSome, OnOk}
 use Rattle.std.specs.Io.KnownBytes.{Appends}
 use Rattle.dh_wire.specs.Wire.{reply_bytes_of}
-use Rattle.dh_wire.specs.declared.answer.Read.{Read}
+use Rattle.dh_wire.specs.declared.reply.Read.{Read}
 use Rattle.dh_requests.specs.Request.{IsRequest}
 use Rattle.dh_requests.specs.declared.request.Request.TheVariants as request
 use Rattle.dh_world.specs.World.{World}

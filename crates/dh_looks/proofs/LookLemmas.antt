@@ -14,7 +14,7 @@ use Rattle.dh_plans.specs.Questions.{seen_questions}
 use Rattle.dh_checks.specs.declared.checked.CheckedChange.{CheckedChange}
 use Rattle.dh_plans.specs.declared.facts.Facts.{Facts}
 use Rattle.dh_plans.specs.declared.questions.Questions.{Questions}
-use Rattle.dh_texts.specs.Slugs.{slug_from}
+use Rattle.dh_texts.specs.SlugOfName.{slug_from}
 use Rattle.dh_rules.specs.Rules.{is_allowed}
 use Rattle.dh_rules.specs.declared.rule.Rule.{Rule}
 use Rattle.dh_redirects.specs.Redirects.{first_fault}

@@ -1,13 +1,12 @@
 -- What a project shows its caller: the version that a name stands for, the page at a path, where redirects lead.
-use Rattle.std.specs.Prelude.{ℕ, Bool, true, false, not, ◌&&◌, if◌then◌else◌, Option, None, List, [], ◌∷◌, codes}
+use Rattle.std.specs.Prelude.{ℕ, Bool, true, false, ◌&&◌, if◌then◌else◌, Option, None, List, codes}
 use Rattle.std.specs.List.{find}
 use Rattle.std.specs.Option.{option_map, option_or}
 use Rattle.std.specs.Str.{bytes_eq}
 use Rattle.dh_versions.specs.declared.version.Version.{Version}
 use Rattle.dh_redirects.specs.declared.redirect.Asked.{Asked}
 use Rattle.dh_redirects.specs.declared.redirect.Location.{Location}
-use Rattle.dh_redirects.specs.declared.redirect.Redirect.{Redirect}
-use Rattle.dh_redirects.specs.Locations.{redirect_result}
+use Rattle.dh_redirects.specs.FirstResult.{first_result}
 use Rattle.dh_lookup.specs.declared.found.Named.{Named}
 use Rattle.dh_lookup.specs.declared.found.Page.{Page}
 use Rattle.dh_lookup.specs.declared.seen_project.SeenProject.{SeenProject}
@@ -43,16 +42,6 @@ stands_at lang slug path s = bytes_eq s.lang lang && bytes_eq s.slug slug && byt
 unfoldable pub page_at : SeenProject → List ℕ → List ℕ → List ℕ → Option Page
 page_at p lang slug path =
     option_map (λ (s : StoredPage). s.page) (find (stands_at lang slug path) p.pages)
-
--- where a redirect leads, of all or of those with force alone
-abbrev pub result_in : Bool → Redirect → Asked → Option Location
-result_in forced r asked = if forced && not r.force then None else redirect_result r asked
-
--- where the first of them leads that has a result (Read the Docs, Redirects)
-unfoldable pub first_result : Bool → List Redirect → Asked → Option Location
-first_result forced [] asked = None
-first_result forced (r ∷ rs) asked =
-    option_or (result_in forced r asked) (first_result forced rs asked)
 
 -- the result that comes before any page
 abbrev pub forced_result : SeenProject → Asked → Option Location

@@ -7,6 +7,7 @@ ghost use Rattle.std.specs.Str.{bytes_eq};
 ghost use Rattle.std.proofs.Common.{◌∙◌, refl};
 ghost use Rattle.dh_redirects.specs.Locations.{asks_memory};
 ghost use Rattle.dh_faults.specs.Faults.{Gives};
+ghost use Rattle.dh_redirects.specs.FirstResult as choice;
 ghost use Rattle.dh_lookup.specs.SeenProject as spec;
 ghost use Rattle.dh_lookup.specs.SeenProject.{alias_of, resolved, stands_at, page_at};
 
@@ -157,7 +158,7 @@ fn result_in(
     redirect: &Redirect,
     asked: &Asked,
 ) -> Result<Option<Location>, AllocError>
-    ensures value { IfOk result (λ r. r ≡ spec.result_in forced redirect.now asked.now) }
+    ensures value { IfOk result (λ r. r ≡ choice.result_in forced redirect.now asked.now) }
     ensures short { OnErr result (IsTrue (asks_memory redirect.now asked.now)) }
 {
     if forced && !redirect.force {
@@ -167,14 +168,14 @@ fn result_in(
 }
 
 /// Where the first of the redirects leads that has a result: of all, or of those with force alone.
-#[tactic(auto, unfolding(crate::specs::SeenProject::first_result))]
+#[tactic(auto, unfolding(dh_redirects::specs::FirstResult::first_result))]
 pub fn first_result(
     alloc: Global,
     forced: bool,
     redirects: &[Redirect],
     asked: &Asked,
 ) -> Result<Option<Location>, AllocError>
-    ensures value { IfOk result (λ r. r ≡ spec.first_result forced redirects.now asked.now) }
+    ensures value { IfOk result (λ r. r ≡ choice.first_result forced redirects.now asked.now) }
     ensures short { OnErr result
         (IsTrue (list_any (λ r. asks_memory r asked.now) redirects.now)) }
 {
@@ -195,7 +196,7 @@ impl Seen {
         asked: &Asked,
     ) -> Result<Option<Location>, AllocError>
         ensures value { IfOk result (λ r. r ≡ option_and_then
-            (λ p. spec.first_result forced p.redirects asked.now) self.now.project) }
+            (λ p. choice.first_result forced p.redirects asked.now) self.now.project) }
         ensures short { OnErr result (IsTrue (list_any (λ r. asks_memory r asked.now)
             (option_map_or (λ p. p.redirects) self.now.project []))) }
     {

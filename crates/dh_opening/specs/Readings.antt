@@ -4,7 +4,7 @@ use Rattle.sqlite_tied.specs.Compute.{everything}
 use Rattle.dh_rows.proofs.Whole.{AreTextsOf, IsCodingOf}
 use Rattle.dh_records.specs.Codings.{projects, langs, versions, pages, used, picks, passes, held, rules, redirects}
 use Rattle.dh_schema.specs.Tables.{meta, meta_table, project_table, lang_table, version_table, page_table, used_table, pick_table, pass_table, holds_table, rule_table, redirect_table}
-use Rattle.dh_schema.specs.Columns as columns
+use Rattle.dh_schema.specs.ColumnLemmas as columns
 
 -- ---- project
 

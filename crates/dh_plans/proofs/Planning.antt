@@ -1,7 +1,7 @@
 -- What holds of every plan.
 use Rattle.std.proofs.Common.{◌≡◌, true, cond, List, [], ◌∷◌, ◌++◌, Some, Result, Ok, Err, refl, sym, subst, inl}
 use Rattle.std.specs.Prelude.{IfSome}
-use Rattle.dh_texts.specs.Slugs.{slug_from}
+use Rattle.dh_texts.specs.SlugOfName.{slug_from}
 use Rattle.dh_versions.specs.declared.version.Version.{Version}
 use Rattle.dh_world.specs.Changes.{Change}
 use Rattle.dh_world.specs.World.{Text, Project}

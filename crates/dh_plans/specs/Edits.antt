@@ -4,7 +4,7 @@ use Rattle.std.specs.List.{AllByRecursion}
 use Rattle.std.specs.Option.{option_map_or}
 use Rattle.std.specs.FinMap.{get, insert, remove, retain_keys, contains_key, len}
 use Rattle.std.specs.Str.{bytes_eq}
-use Rattle.dh_texts.specs.Slugs.{slug_from}
+use Rattle.dh_texts.specs.SlugOfName.{slug_from}
 use Rattle.dh_rules.specs.Rules.{is_allowed}
 use Rattle.dh_redirects.specs.Redirects.{first_fault}
 use Rattle.dh_world.specs.Answers.{IsAnswer, json_of}

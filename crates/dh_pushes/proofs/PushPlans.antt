@@ -5,7 +5,7 @@ use Rattle.std.specs.Option.{option_map_or}
 use Rattle.std.specs.FinMap.{get, insert, contains_key, get-insert}
 use Rattle.std.specs.Str.{bytes_eq}
 use Rattle.dh_texts.specs.Texts.{is_slug}
-use Rattle.dh_texts.specs.Slugs.{slug_text, slug_from}
+use Rattle.dh_texts.specs.SlugOfName.{slug_text, slug_from}
 use Rattle.dh_versions.specs.declared.version.Kind.TheVariants.{Branch}
 use Rattle.dh_versions.specs.Kinds.{same_kind}
 use Rattle.dh_versions.specs.declared.version.Version.{Version}

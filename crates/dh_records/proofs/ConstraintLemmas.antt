@@ -12,7 +12,7 @@ use Rattle.std.proofs.lemmas.List.FromFn.{map-range_with_len_more}
 use Rattle.std.proofs.lemmas.Map.Keys.{IsDistinct-push}
 use Rattle.std.proofs.lemmas.Slice.Eq.{bytes_eq-Decides}
 use Rattle.sqlite_keyed.proofs.ListLemmas.{all_weaker, all_both, all_of, all-filter, all_unmap, all_kept, filter_none}
-use Rattle.dh_texts.specs.Slugs.{slug_from}
+use Rattle.dh_texts.specs.SlugOfName.{slug_from}
 use Rattle.dh_rows.specs.Keyed.{by_key, same_key, IsFreeKey, added, put}
 use Rattle.dh_records.specs.declared.records.ProjectRow.{ProjectRow}
 use Rattle.dh_records.specs.declared.records.LangRow.{LangRow}

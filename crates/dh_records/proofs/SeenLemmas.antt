@@ -6,7 +6,8 @@ use Rattle.std.specs.Str.{bytes_eq}
 use Rattle.std.specs.FinMap.{get, get-from_entries}
 use Rattle.dh_records.specs.declared.records.ProjectRow.{ProjectRow}
 use Rattle.dh_world.specs.declared.operation.Operation.{Operation}
-use Rattle.dh_world.specs.World.{Text, text_cmp, op_code, holds}
+use Rattle.dh_world.specs.World.{Text, text_cmp, op_code}
+use Rattle.dh_world.specs.Visibility.{holds}
 use Rattle.dh_records.specs.Lists.{Lists, project_of, world_of, kept_answer, same_op, is_project, is_version, is_page, is_used, is_pass, is_held}
 use Rattle.dh_world.proofs.MapLemmas.{text_total, tied_text, tied_page, tied_held, found_in}
 use Rattle.dh_records.proofs.Keys.{host_first, host_first_of_four}

@@ -17,7 +17,8 @@ use Rattle.dh_versions.specs.declared.version.Version.{Version}
 use Rattle.dh_records.specs.declared.records.ProjectRow.{ProjectRow}
 use Rattle.dh_records.specs.declared.records.VersionRow.{VersionRow}
 use Rattle.dh_records.specs.Codings.{versions}
-use Rattle.dh_world.specs.World.{text_cmp, holds, is_visible, may_see}
+use Rattle.dh_world.specs.World.{text_cmp}
+use Rattle.dh_world.specs.Visibility.{holds, is_visible, may_see}
 use Rattle.dh_world.specs.World as world
 use Rattle.dh_records.specs.Lists.{Lists, project_of, is_version_of}
 use Rattle.dh_world.specs.Seen.{visible_versions}

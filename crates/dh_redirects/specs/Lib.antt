@@ -1,2 +1,3 @@
 pub mod Redirects
 pub mod Locations
+pub mod FirstResult

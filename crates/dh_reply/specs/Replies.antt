@@ -12,7 +12,7 @@ use Rattle.dh_redirects.specs.declared.redirect.Parts.{Parts}
 use Rattle.dh_reply.specs.declared.address.GoodAddress.{GoodAddress}
 use Rattle.dh_lookup.specs.declared.found.Named.{Named}
 use Rattle.dh_lookup.specs.declared.found.Page.{Page as FoundPage}
-use Rattle.dh_wire.specs.declared.answer.Reply.{Reply}
+use Rattle.dh_wire.specs.declared.reply.Reply.{Reply}
 use Rattle.dh_lookup.specs.declared.seen_project.SeenProject.{SeenProject}
 use Rattle.dh_lookup.specs.SeenProject.{resolved, page_at, forced_result, not_found_result}
 use Rattle.dh_wire.specs.Bodies.{body_reply}

@@ -11,7 +11,7 @@ use Rattle.dh_versions.specs.declared.version.Version.{Version}
 use Rattle.dh_lookup.specs.declared.found.Named.{Named}
 use Rattle.dh_lookup.specs.declared.seen_project.SeenProject.{SeenProject}
 use Rattle.dh_lookup.specs.SeenProject.{resolved}
-use Rattle.dh_wire.specs.declared.answer.Reply.{Reply}
+use Rattle.dh_wire.specs.declared.reply.Reply.{Reply}
 use Rattle.dh_wire.specs.Bodies.{plain_text, json, body_reply}
 use Rattle.dh_wire.specs.Statuses.{host_not_found}
 

@@ -19,7 +19,7 @@ use Rattle.dh_requests.specs.Scan.{after_byte, end_from, ended_or, behind, at_fi
 use Rattle.dh_requests.specs.Head.{Parts, parts_of}
 use Rattle.dh_requests.specs.Lengths.{is_number, limited, told_length, body_length}
 use Rattle.dh_paths.specs.Targets.{target_of}
-use Rattle.dh_wire.specs.declared.answer.Allow.TheVariants as allow
+use Rattle.dh_wire.specs.declared.reply.Allow.TheVariants as allow
 use Rattle.dh_requests.specs.declared.request.Request.TheVariants.{Refused}
 use Rattle.dh_requests.specs.Request.{is_head, requested_host, not_allowed, post_at, read_by, posted, post_by, asked_at, asked_where_right, asked_of, AsksFor}
 use Rattle.dh_requests.specs.Needs.{NeedsMore, IsNeeded}

@@ -5,8 +5,8 @@ use Rattle.std.specs.Str.{bytes_eq, is_utf8}
 use Rattle.httparse.specs.Grammar.{RequestHead}
 use Rattle.dh_paths.specs.declared.target.Target.{Target}
 use Rattle.dh_paths.specs.Targets.{target_of, host_of}
-use Rattle.dh_wire.specs.declared.answer.Allow.{Allow}
-use Rattle.dh_wire.specs.declared.answer.Allow.TheVariants as allow
+use Rattle.dh_wire.specs.declared.reply.Allow.{Allow}
+use Rattle.dh_wire.specs.declared.reply.Allow.TheVariants as allow
 use Rattle.dh_bodies.specs.Bodies.{change_of}
 use Rattle.dh_bodies.specs.declared.post.Post.{Post}
 use Rattle.dh_bodies.specs.declared.post.Post.TheVariants.{Push, Upload}

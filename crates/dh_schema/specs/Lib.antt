@@ -1,5 +1,5 @@
 pub mod Tables
-pub mod Columns
+pub mod ColumnLemmas
 pub mod Calling
 pub mod InTurn
 pub mod Making

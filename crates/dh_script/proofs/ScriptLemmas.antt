@@ -4,7 +4,7 @@ use Rattle.std.proofs.Common.{option_and_then, Bool, sym, subst}
 use Rattle.std.proofs.lemmas.Result.{IfOk-weaker}
 use Rattle.dh_paths.specs.declared.target.Target.{Target}
 use Rattle.dh_reply.specs.Replies.{reply_to}
-use Rattle.dh_wire.specs.declared.answer.Reply.{Reply}
+use Rattle.dh_wire.specs.declared.reply.Reply.{Reply}
 use Rattle.dh_faults.specs.declared.fault.Fault.{Fault}
 use Rattle.dh_world.specs.World.{Text, World}
 use Rattle.dh_world.specs.Seen.{seen}

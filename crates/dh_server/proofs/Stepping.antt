@@ -1,6 +1,6 @@
 -- What connections do to the world, as steps of commands.
 use Rattle.std.proofs.Common.{◌≡◌, ◌⊎◌, ℕ, ◌+◌, ◌≤◌, Bool, true, false, List, Option, inl, inr, arith, add-one, if◌then◌else◌, sym, subst}
-use Rattle.dh_wire.specs.declared.answer.Reply.{Reply}
+use Rattle.dh_wire.specs.declared.reply.Reply.{Reply}
 use Rattle.dh_requests.specs.declared.request.Request.{Request}
 use Rattle.dh_requests.specs.declared.request.Request.TheVariants as request
 use Rattle.dh_world.specs.World.{World}

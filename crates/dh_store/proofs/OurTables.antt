@@ -18,7 +18,7 @@ use Rattle.dh_records.specs.Typed.{IsProject, IsLanguage, IsVersion, IsPage, IsU
 use Rattle.dh_records.specs.Codings.{projects, langs, versions, pages, used, picks, passes, held, rules, redirects}
 use Rattle.dh_schema.specs.Tables.{Holds, project_table, lang_table, version_table, page_table, used_table, pick_table, pass_table, holds_table, rule_table, redirect_table}
 use Rattle.dh_schema.proofs.CallLemmas.{Changed}
-use Rattle.dh_schema.specs.Columns.{project_simple, project_plain, project_back, lang_simple, lang_plain, lang_back, version_simple, version_plain, version_back, page_simple, page_plain, page_back, used_simple, used_plain, used_back, pick_simple, pick_plain, pick_back, pass_simple, pass_plain, pass_back, holds_simple, holds_plain, holds_back, rule_simple, rule_plain, rule_back, redirect_simple, redirect_plain, redirect_back}
+use Rattle.dh_schema.specs.ColumnLemmas.{project_simple, project_plain, project_back, lang_simple, lang_plain, lang_back, version_simple, version_plain, version_back, page_simple, page_plain, page_back, used_simple, used_plain, used_back, pick_simple, pick_plain, pick_back, pass_simple, pass_plain, pass_back, holds_simple, holds_plain, holds_back, rule_simple, rule_plain, rule_back, redirect_simple, redirect_plain, redirect_back}
 use Rattle.dh_store.proofs.Others.{changed}
 use Rattle.dh_store.proofs.OneTable.{TableOf}
 

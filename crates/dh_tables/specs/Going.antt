@@ -7,7 +7,7 @@ use Rattle.dh_rows.specs.Calls.{IsHonest, Goes, GoesWithin, seen, committed}
 use Rattle.dh_records.specs.Lists.{Lists}
 pub use Rattle.dh_schema.specs.Calling.{HasRecords, IsWithin, Lacks}
 use Rattle.dh_schema.specs.Tables.{lists_of}
-use Rattle.dh_world.specs.Checks.{IsFault}
+use Rattle.dh_world.specs.CheckResults.{IsFault}
 use Rattle.dh_world.specs.declared.answer.Answer.{Answer}
 use Rattle.dh_world.specs.declared.refusal.Refusal.{Refusal}
 

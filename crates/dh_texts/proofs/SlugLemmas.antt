@@ -2,7 +2,7 @@
 use Rattle.std.proofs.Common.{◌≡◌, ℕ, ◌+◌, ◌<◌, Bool, true, false, cond, List, [], ◌∷◌, ◌++◌, length, get_or, take, drop, map, refl, ap, sym, subst, ◌∙◌, arith}
 use Rattle.std.proofs.lemmas.List.{map-append, take_more, take-append-drop}
 use Rattle.dh_texts.specs.Texts.{is_lower_or_digit}
-use Rattle.dh_texts.specs.Slugs.{slug_char, from_letter, with_byte}
+use Rattle.dh_texts.specs.SlugOfName.{slug_char, from_letter, with_byte}
 
 begins : (b : ℕ) (t : Bool) → is_lower_or_digit b ≡ t → from_letter (b ∷ []) ≡ with_byte [] b
 begins b true e = rw e refl

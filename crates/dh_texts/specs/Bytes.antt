@@ -1,4 +1,4 @@
--- The ASCII bytes that have a meaning in addresses, and the lengths that the texts are held to.
+-- The ASCII bytes that have a meaning in addresses.
 use Rattle.std.specs.Prelude.{ℕ}
 
 -- `!`
@@ -76,27 +76,3 @@ tilde = 126
 -- the byte 0x7F, the last control byte of ASCII
 abbrev pub delete : ℕ
 delete = 127
-
--- the most bytes of a host's name
-abbrev pub most_host_name : ℕ
-most_host_name = 253
-
--- the most bytes of a language
-abbrev pub most_lang : ℕ
-most_lang = 16
-
--- the most bytes of the name of a branch or a tag
-abbrev pub most_ref_name : ℕ
-most_ref_name = 255
-
--- the most bytes of a version's slug
-abbrev pub most_slug : ℕ
-most_slug = 128
-
--- the most bytes of the path of a page
-abbrev pub most_page_path : ℕ
-most_page_path = 512
-
--- the most bytes of a pass or a key
-abbrev pub most_token : ℕ
-most_token = 64

@@ -1,3 +1,4 @@
 pub mod Bytes
+pub mod Lengths
 pub mod Texts
-pub mod Slugs
+pub mod SlugOfName

@@ -2,7 +2,8 @@
 use Rattle.std.specs.Prelude.{◌≡◌, ◌⊎◌, ℕ, Option, Some, None, ◌-◌, Bool, false, ◌&&◌, ◌||◌, not, ◌==◌, nat_le, nat_eq, if◌then◌else◌, List, length, drop, slice_index, codes, Result, Ok, Err, IsTrue}
 use Rattle.std.specs.List.{list_all, slice_split, starts_with}
 use Rattle.std.specs.Str.{bytes_eq}
-use Rattle.dh_texts.specs.Bytes.{dash, dot, slash, underscore, tilde, delete, most_host_name, most_lang, most_ref_name, most_slug, most_page_path, most_token}
+use Rattle.dh_texts.specs.Bytes.{dash, dot, slash, underscore, tilde, delete}
+use Rattle.dh_texts.specs.Lengths.{most_host_name, most_lang, most_ref_name, most_slug, most_page_path, most_token}
 use Rattle.dh_texts.specs.declared.fault.TextFault.{TextFault}
 use Rattle.dh_texts.specs.declared.fault.TextFault.TheVariants.{Memory}
 

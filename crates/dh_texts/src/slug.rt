@@ -2,7 +2,7 @@
 
 ghost use Rattle.std.specs.Prelude.{◌≡◌, ◌<◌, IfOk, OnOk, OnErr, Err, string_bytes, length};
 ghost use Rattle.dh_texts.specs.Texts.{Answers};
-ghost use Rattle.dh_texts.specs.Slugs.{slug_char, slug_text, slug_from, with_byte};
+ghost use Rattle.dh_texts.specs.SlugOfName.{slug_char, slug_text, slug_from, with_byte};
 
 use crate::classes::lower_or_digit;
 use crate::fault::TextFault;

@@ -10,9 +10,9 @@ use Rattle.dh_records.specs.Lists.{Lists, world_of}
 use Rattle.dh_schema.specs.Tables.{lists_of}
 use Rattle.dh_world.specs.declared.command.Command.{Command}
 use Rattle.dh_world.specs.declared.refusal.Refusal.{Refusal}
-use Rattle.dh_world.specs.Texts.{bad_text}
+use Rattle.dh_world.specs.WrongTexts.{bad_text}
 use Rattle.dh_world.specs.Step.{step}
-use Rattle.dh_world.specs.Checks.{IsFault}
+use Rattle.dh_world.specs.CheckResults.{IsFault}
 use Rattle.dh_transactions.specs.Steps.{Turns}
 use Rattle.dh_transactions.specs.Crashes.{spelled, LeavesStep, LeavesEnd}
 use Rattle.dh_transactions.proofs.Turning.{right_texts}

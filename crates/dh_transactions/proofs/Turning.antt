@@ -8,9 +8,9 @@ use Rattle.dh_checks.specs.declared.checked.CheckedChange.{CheckedChange}
 use Rattle.dh_records.specs.Lists.{Lists, world_of}
 use Rattle.dh_records.specs.Constraints.{AreSound}
 use Rattle.dh_transactions.specs.Steps.{Turns, Steps}
-use Rattle.dh_world.specs.Checks.{IsFault}
+use Rattle.dh_world.specs.CheckResults.{IsFault}
 use Rattle.dh_world.specs.Step.{RuleRefused, IsSetAside, change_at, settled, turn, step, after_texts}
-use Rattle.dh_world.specs.Texts.{bad_text}
+use Rattle.dh_world.specs.WrongTexts.{bad_text}
 use Rattle.dh_world.specs.World.{Text, Project}
 use Rattle.dh_world.specs.declared.answer.Answer.{Answer}
 use Rattle.dh_world.specs.declared.command.Command.{Command}

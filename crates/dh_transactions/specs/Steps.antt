@@ -9,7 +9,7 @@ use Rattle.dh_records.specs.Lists.{Lists, world_of}
 use Rattle.dh_tables.specs.Going.{IsOver, last_records}
 use Rattle.dh_records.specs.Constraints.{AreSound}
 use Rattle.dh_transactions.specs.Crashes.{LeavesStep}
-use Rattle.dh_world.specs.Checks.{IsFault}
+use Rattle.dh_world.specs.CheckResults.{IsFault}
 use Rattle.dh_world.specs.Step.{turn, step, PushRefusedAt, IsSetAside}
 use Rattle.dh_world.specs.declared.answer.Answer.{Answer}
 use Rattle.dh_world.specs.declared.command.Command.{Command}

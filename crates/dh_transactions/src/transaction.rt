@@ -4,7 +4,7 @@ ghost use Rattle.sqlite.specs.Held.{state};
 ghost use Rattle.sqlite.specs.State.{HasCleanDisk};
 ghost use Rattle.dh_checks.specs.Commands.{command_of};
 ghost use Rattle.dh_rows.specs.Calls.{IsHonest, LeavesNoMore, Goes};
-ghost use Rattle.dh_world.specs.Checks.{IsFault};
+ghost use Rattle.dh_world.specs.CheckResults.{IsFault};
 ghost use Rattle.dh_transactions.specs.Crashes.{LeavesEnd};
 ghost use Rattle.dh_tables.specs.Going.{HasRecords, IsOver, IsWithin, Stays, records, last_records};
 ghost use Rattle.dh_records.specs.Constraints.{AreSound};

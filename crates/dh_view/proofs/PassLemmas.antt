@@ -7,7 +7,8 @@ use Rattle.dh_versions.specs.declared.version.Version.{Version}
 use Rattle.dh_records.specs.declared.records.ProjectRow.{ProjectRow}
 use Rattle.dh_records.specs.declared.records.VersionRow.{VersionRow}
 use Rattle.dh_records.specs.declared.records.HeldRow.{HeldRow}
-use Rattle.dh_world.specs.World.{Text, holds, may_see}
+use Rattle.dh_world.specs.World.{Text}
+use Rattle.dh_world.specs.Visibility.{holds, may_see}
 use Rattle.dh_records.specs.Lists.{Lists, project_of, is_pass, is_held, is_held_by}
 use Rattle.dh_view.specs.View.{opens}
 use Rattle.dh_records.proofs.SeenLemmas.{holds_is}

@@ -20,7 +20,8 @@ use Rattle.dh_records.specs.declared.records.ProjectRow.{ProjectRow}
 use Rattle.dh_records.specs.declared.records.VersionRow.{VersionRow}
 use Rattle.dh_records.specs.declared.records.PickRow.{PickRow}
 use Rattle.dh_records.specs.declared.records.HeldRow.{HeldRow}
-use Rattle.dh_world.specs.World.{Text, text_cmp, Project, holds, is_visible, may_see}
+use Rattle.dh_world.specs.World.{Text, text_cmp, Project}
+use Rattle.dh_world.specs.Visibility.{holds, is_visible, may_see}
 use Rattle.dh_records.specs.Lists.{Lists, project_of, world_of, is_project, is_version, is_version_of, is_page, is_lang_of, is_pick_of, is_redirect_of}
 use Rattle.dh_world.specs.Seen.{seen_project, without_default, default_of, visible_versions}
 use Rattle.dh_records.specs.Constraints.{RiseBySlug}

@@ -18,7 +18,8 @@ use Rattle.dh_lookup.specs.declared.seen_project.SeenProject.{SeenProject}
 use Rattle.dh_records.specs.declared.records.VersionRow.{VersionRow}
 use Rattle.dh_records.specs.declared.records.HeldRow.{HeldRow}
 use Rattle.dh_records.specs.declared.records.ProjectRow.{ProjectRow}
-use Rattle.dh_world.specs.World.{Text, text_cmp, Project, holds, may_see}
+use Rattle.dh_world.specs.World.{Text, text_cmp, Project}
+use Rattle.dh_world.specs.Visibility.{holds, may_see}
 use Rattle.dh_world.specs.Seen as caller
 use Rattle.dh_schema.specs.Calling.{Blames, Learns}
 use Rattle.dh_schema.specs.InTurn.{blamed_before, lasts_none, lasts_on, same_none, same_on, shut_before}

@@ -6,7 +6,7 @@ ghost use Rattle.std.proofs.Common.{◌∙◌, refl};
 ghost use Rattle.sqlite.specs.Held.{Held};
 ghost use Rattle.dh_rows.specs.Calls.{IsHonest};
 ghost use Rattle.dh_lookup.specs.Lookup.{Asks, TellsMaybe};
-ghost use Rattle.dh_lookup.specs.SeenProject.{first_result};
+ghost use Rattle.dh_redirects.specs.FirstResult.{first_result};
 ghost use Rattle.dh_records.specs.Lists.{project_of};
 ghost use Rattle.dh_schema.specs.Calling.{IsSettled, Learns};
 ghost use Rattle.dh_view.specs.View.{doubt_of, fails_on, looks_none, looks_on, meaning_of, project_in, unmoved_none, unmoved_on};

@@ -1,6 +1,6 @@
 -- Replies with a body.
 use Rattle.std.specs.Prelude.{ℕ, Some, None, List, codes}
-use Rattle.dh_wire.specs.declared.answer.Reply.{Reply}
+use Rattle.dh_wire.specs.declared.reply.Reply.{Reply}
 
 abbrev pub plain_text : List ℕ
 plain_text = codes "text/plain; charset=utf-8"

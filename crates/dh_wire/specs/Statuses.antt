@@ -2,8 +2,8 @@
 use Rattle.std.specs.Prelude.{ℕ, Bool, ◌||◌, ◌==◌, if◌then◌else◌, Option, Some, None, List, [], ◌∷◌, ◌++◌, codes}
 use Rattle.std.specs.Fmt.{decimal}
 use Rattle.dh_wire.specs.Bodies.{plain_text}
-use Rattle.dh_wire.specs.declared.answer.Allow.{Allow}
-use Rattle.dh_wire.specs.declared.answer.Reply.{Reply}
+use Rattle.dh_wire.specs.declared.reply.Allow.{Allow}
+use Rattle.dh_wire.specs.declared.reply.Reply.{Reply}
 
 -- the phrase of a status that the host answers (RFC 9110, section 15; for 431 RFC 6585, section 5); any other has none
 abbrev pub phrase_of : ℕ → List ℕ

@@ -3,9 +3,9 @@ use Rattle.std.specs.Prelude.{ℕ, Bool, if◌then◌else◌, Option, Some, None
 use Rattle.std.specs.Fmt.{decimal}
 use Rattle.std.specs.Option.{option_map}
 use Rattle.dh_wire.specs.Statuses.{phrase_of}
-use Rattle.dh_wire.specs.declared.answer.Allow.{Allow}
-use Rattle.dh_wire.specs.declared.answer.Allow.TheVariants.{Get, Post}
-use Rattle.dh_wire.specs.declared.answer.Reply.{Reply}
+use Rattle.dh_wire.specs.declared.reply.Allow.{Allow}
+use Rattle.dh_wire.specs.declared.reply.Allow.TheVariants.{Get, Post}
+use Rattle.dh_wire.specs.declared.reply.Reply.{Reply}
 
 abbrev pub crlf : List ℕ
 crlf = 13 ∷ 10 ∷ []

@@ -3,7 +3,7 @@
 ghost use Rattle.std.specs.Prelude.{◌≡◌, IfOk, string_bytes};
 ghost use Rattle.dh_wire.specs.Bodies.{body_reply};
 
-use crate::answer::Reply;
+use crate::reply::Reply;
 use dh_paths::{Bytes, Text};
 use std::alloc::{AllocError, Global};
 

@@ -3,7 +3,7 @@
 ghost use Rattle.std.specs.Prelude.{◌≡◌, IfOk, IsTrue, string_bytes};
 ghost use Rattle.dh_wire.specs.Statuses.{phrase_of, is_registered_status, fault_text, fault_reply_of};
 
-use crate::answer::{Allow, Reply};
+use crate::reply::{Allow, Reply};
 use dh_paths::{Bytes, Text};
 use http::StatusCode;
 use std::alloc::{AllocError, Global};

@@ -4,7 +4,7 @@ ghost use Rattle.std.specs.Prelude.{◌≡◌, ◌++◌, IfOk, OnOk, None, codes
 ghost use Rattle.dh_wire.specs.Statuses.{fault_reply_of};
 ghost use Rattle.dh_wire.specs.Wire.{line, optional_line, allow_line, status_line, subject_of, framing_of, head_of, reply_bytes_of};
 
-use crate::answer::{Allow, Reply};
+use crate::reply::{Allow, Reply};
 use crate::statuses::phrase;
 use dh_paths::Text;
 use std::alloc::{AllocError, Global};

@@ -8,7 +8,7 @@ use Rattle.std.specs.FinMap.{get, insert, contains_key, len, get-insert}
 use Rattle.std.proofs.lemmas.Cmp.{tied_itself}
 use Rattle.std.proofs.lemmas.Map.Lookups.{exact_bytes}
 use Rattle.std.proofs.lemmas.Slice.Eq.{bytes_eq-Decides}
-use Rattle.dh_texts.specs.Slugs.{slug_text}
+use Rattle.dh_texts.specs.SlugOfName.{slug_text}
 use Rattle.dh_versions.specs.Kinds.{same_kind}
 use Rattle.dh_versions.specs.declared.version.Version.{Version}
 use Rattle.dh_rules.specs.Rules.{after_rules}
@@ -21,7 +21,7 @@ use Rattle.dh_world.specs.declared.command.CommandChange.TheVariants as change
 use Rattle.dh_world.specs.declared.refusal.Refusal.{Refusal}
 use Rattle.dh_world.specs.declared.refusal.Refusal.TheVariants.{WrongKey, NoProject}
 use Rattle.dh_world.specs.World.{Text, text_cmp, UsedKey, used_cmp, Project, World}
-use Rattle.dh_world.specs.Texts.{bad_text}
+use Rattle.dh_world.specs.WrongTexts.{bad_text}
 use Rattle.dh_world.specs.Seen.{is_alias}
 use Rattle.dh_world.specs.Changes.{Change, change, opened, has_lang, set_to, with_rules, with_redirects, fresh, with_fresh, stored, once, at_version, at_pass, pushed, push_key, uploaded, upload_key}
 use Rattle.dh_world.specs.Step.{change_at, settled, after_texts, step}

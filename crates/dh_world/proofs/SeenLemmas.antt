@@ -8,7 +8,8 @@ use Rattle.std.specs.FinMap as finite
 use Rattle.dh_lookup.specs.declared.found.Page.{Page}
 use Rattle.dh_lookup.specs.declared.seen_project.StoredPage.{StoredPage}
 use Rattle.dh_lookup.specs.SeenProject.{stands_at, page_at}
-use Rattle.dh_world.specs.World.{Text, PageKey, page_cmp, Project, is_visible}
+use Rattle.dh_world.specs.World.{Text, PageKey, page_cmp, Project}
+use Rattle.dh_world.specs.Visibility.{is_visible}
 use Rattle.dh_world.specs.Seen.{seen_project, without_default, visible_pages, stored_page}
 use Rattle.dh_world.proofs.MapLemmas.{tied_page, page_exact}
 

@@ -10,7 +10,8 @@ use Rattle.std.proofs.lemmas.Slice.Eq.{bytes_eq-Decides}
 use Rattle.dh_versions.specs.declared.version.Version.{Version}
 use Rattle.dh_lookup.specs.declared.seen_project.SeenProject.{SeenProject}
 use Rattle.dh_lookup.specs.SeenProject.{resolved}
-use Rattle.dh_world.specs.World.{Text, text_cmp, Project, World, holds, may_see, is_visible}
+use Rattle.dh_world.specs.World.{Text, text_cmp, Project, World}
+use Rattle.dh_world.specs.Visibility.{holds, may_see, is_visible}
 use Rattle.dh_world.specs.Seen.{default_of, visible_versions, visible_pages, without_default, with_default, seen_project, seen, is_alias, is_own, is_seen_name, veiled, alone, veil}
 use Rattle.dh_world.proofs.MapLemmas.{tied_text, text_total, page_total, page_exact, held_exact}
 

@@ -3,7 +3,7 @@ use Rattle.std.specs.Prelude.{ℕ, ◌+◌, ◌-◌, Bool, true, false, not, ◌
 use Rattle.std.specs.List.{list_any}
 use Rattle.std.specs.Str.{bytes_eq}
 use Rattle.std.specs.FinMap.{FinMap, empty, get, insert, remove, retain_keys, contains_key, len}
-use Rattle.dh_texts.specs.Slugs.{slug_text}
+use Rattle.dh_texts.specs.SlugOfName.{slug_text}
 use Rattle.dh_versions.specs.declared.version.Kind.{Kind}
 use Rattle.dh_versions.specs.declared.version.Kind.TheVariants.{Branch}
 use Rattle.dh_versions.specs.Kinds.{same_kind}

@@ -1,9 +1,10 @@
 pub mod World
+pub mod Visibility
 pub mod Answers
 pub mod Seen
 pub mod Refusals
-pub mod Checks
-pub mod Texts
+pub mod CheckResults
+pub mod WrongTexts
 pub mod Changes
 pub mod Step
 pub mod Retries

@@ -1,7 +1,7 @@
 -- Whose project is asked for, and by whom.
 use Rattle.std.specs.Prelude.{Bool, true, false, if◌then◌else◌, Option, Some, None, Result, Err}
 use Rattle.dh_texts.specs.Texts.{is_host_name, is_token}
-use Rattle.dh_wire.specs.declared.answer.Reply.{Reply}
+use Rattle.dh_wire.specs.declared.reply.Reply.{Reply}
 use Rattle.dh_faults.specs.declared.fault.Fault.{Fault}
 use Rattle.dh_faults.specs.declared.fault.Fault.TheVariants.{Store}
 use Rattle.dh_world.specs.World.{Text}

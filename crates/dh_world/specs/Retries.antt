@@ -1,7 +1,7 @@
 -- Retry keys: a push or an upload that is done again gives its first answer, for good.
 use Rattle.std.specs.Prelude.{◌≡◌, true, List, [], ◌∷◌, Option, Some, None, is_some, Result, Ok, Err, option_map, option_and_then}
 use Rattle.std.specs.FinMap.{get}
-use Rattle.dh_texts.specs.Slugs.{slug_text}
+use Rattle.dh_texts.specs.SlugOfName.{slug_text}
 use Rattle.dh_world.specs.declared.answer.Answer.{Answer}
 use Rattle.dh_world.specs.World.{Text, World, UsedKey}
 use Rattle.dh_world.specs.declared.command.Command.{Command}
@@ -9,7 +9,7 @@ use Rattle.dh_world.specs.declared.command.CommandChange.{CommandChange}
 use Rattle.dh_world.specs.declared.command.CommandChange.TheVariants.{Push, Upload}
 use Rattle.dh_world.specs.declared.refusal.Refusal.{Refusal}
 use Rattle.dh_world.specs.Changes.{push_key, upload_key}
-use Rattle.dh_world.specs.Texts.{bad_text}
+use Rattle.dh_world.specs.WrongTexts.{bad_text}
 use Rattle.dh_world.specs.Step.{step}
 
 -- the retry key of a push or an upload, with its slug

@@ -9,7 +9,8 @@ use Rattle.dh_lookup.specs.declared.found.Page.{Page}
 use Rattle.dh_lookup.specs.declared.seen_project.SeenProject.{SeenProject}
 use Rattle.dh_lookup.specs.declared.seen_project.StoredPage.{StoredPage}
 use Rattle.dh_lookup.specs.SeenProject.{resolved}
-use Rattle.dh_world.specs.World.{Text, text_cmp, PageKey, page_cmp, Project, World, is_visible}
+use Rattle.dh_world.specs.World.{Text, text_cmp, PageKey, page_cmp, Project, World}
+use Rattle.dh_world.specs.Visibility.{is_visible}
 
 -- `latest` or `stable`
 abbrev pub is_alias : Text → Bool

@@ -2,7 +2,7 @@
 use Rattle.std.specs.Prelude.{◌≡◌, ◌⊎◌, ℕ, true, Option, Some, None, Result, Ok, Err}
 use Rattle.std.specs.FinMap.{get, insert}
 use Rattle.std.specs.Str.{bytes_eq}
-use Rattle.dh_texts.specs.Slugs.{slug_text}
+use Rattle.dh_texts.specs.SlugOfName.{slug_text}
 use Rattle.dh_rules.specs.Patterns.{IsCustom}
 use Rattle.dh_rules.specs.Rules.{IsCustomAt}
 use Rattle.dh_versions.specs.declared.version.Kind.{Kind}
@@ -13,8 +13,8 @@ use Rattle.dh_world.specs.declared.command.CommandChange.{CommandChange}
 use Rattle.dh_world.specs.declared.command.CommandChange.TheVariants.{Push, AddRule}
 use Rattle.dh_world.specs.declared.refusal.Refusal.{Refusal}
 use Rattle.dh_world.specs.declared.refusal.Refusal.TheVariants.{BadPattern, PatternRefused}
-use Rattle.dh_world.specs.Texts.{bad_text}
-use Rattle.dh_world.specs.Checks.{IsFault}
+use Rattle.dh_world.specs.WrongTexts.{bad_text}
+use Rattle.dh_world.specs.CheckResults.{IsFault}
 use Rattle.dh_world.specs.Changes.{Change, change, opened, push_key}
 
 abbrev pub change_at : CommandChange → Option Project → Change

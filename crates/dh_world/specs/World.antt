@@ -1,11 +1,10 @@
 -- What a documentation host holds: to each host its project.
-use Rattle.std.specs.Prelude.{ℕ, Bool, true, false, not, ◌&&◌, ◌||◌, List, Option, Some, None}
-use Rattle.std.specs.Option.{option_map_or}
+use Rattle.std.specs.Prelude.{ℕ, Bool, true, false, ◌&&◌, List, Option, Some, None}
 use Rattle.std.specs.Str.{bytes_eq}
 use Rattle.std.specs.declared.cmp.Ordering.{Ordering}
 use Rattle.std.specs.Ordering.{nat_cmp, ordering_then}
 use Rattle.std.specs.Cmp.Lexicographic.{slice_cmp}
-use Rattle.std.specs.FinMap.{FinMap, get, contains_key}
+use Rattle.std.specs.FinMap.{FinMap}
 use Rattle.std.specs.FinSet.{FinSet}
 use Rattle.dh_versions.specs.declared.version.Version.{Version}
 use Rattle.dh_rules.specs.declared.rule.Rule.{Rule}
@@ -85,16 +84,3 @@ pub record Project : Type 0 where
 
 abbrev pub World : Type 0
 World = FinMap text_cmp Project
-
--- the pass is one of the project's, and holds the version
-abbrev pub holds : Project → Option Text → Text → Bool
-holds p None slug = false
-holds p (Some pass) slug = contains_key p.passes pass && contains_key p.held (pass, slug)
-
--- the version is active, and it is public or the caller's pass holds it
-abbrev pub may_see : Version → Bool → Bool
-may_see v held = v.active && (not v.private || held)
-
--- the version with the slug is one that the caller may see
-abbrev pub is_visible : Project → Option Text → Text → Bool
-is_visible p pass slug = option_map_or (λ v. may_see v (holds p pass slug)) (get p.versions slug) false

@@ -1,7 +1,7 @@
 //! Why commands are refused.
 ghost use Rattle.std.specs.Prelude.{◌≡◌};
 ghost use Rattle.dh_world.specs.Refusals.{number_of, name_of};
-ghost use Rattle.dh_world.specs.Checks.{refusal_of, refusal_from};
+ghost use Rattle.dh_world.specs.CheckResults.{refusal_of, refusal_from};
 ghost use Rattle.dh_world.specs.declared.refusal.Refusal.TheVariants.{OutOfMemory};
 
 use dh_lookup::Fault;

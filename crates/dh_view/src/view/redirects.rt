@@ -1,7 +1,7 @@
 //! Where the redirects of a project lead.
 
 ghost use Rattle.dh_records.specs.Lists.{project_of};
-ghost use Rattle.dh_lookup.specs.SeenProject as spec;
+ghost use Rattle.dh_redirects.specs.FirstResult as choice;
 ghost use Rattle.dh_view.specs.View.{Reads};
 
 use crate::view::ProjectView;
@@ -20,7 +20,7 @@ impl ProjectView<'_> {
         asked: &Asked,
     ) -> Found<Location>
         ensures { Reads S.Store tables.old tables.new result
-            (λ l. spec.first_result forced (project_of l self.now.project.now).redirects
+            (λ l. choice.first_result forced (project_of l self.now.project.now).redirects
             asked.now) }
     {
         let redirects = tables.list::<RedirectRow>(self.alloc, &self.project.host)?;

@@ -5,7 +5,7 @@ ghost use Rattle.std.specs.List.{list_any};
 ghost use Rattle.std.specs.FinMap.{get, keys, values};
 ghost use Rattle.dh_view.specs.View as view;
 ghost use Rattle.dh_view.specs.View.{Obtains, Reads, OpensAs, ShowsAs, held_in, is_shown, visible_in};
-ghost use Rattle.dh_world.specs.World as world;
+ghost use Rattle.dh_world.specs.Visibility as visibility;
 
 use crate::view::ProjectView;
 use dh_lookup::{Fault, Found};
@@ -17,7 +17,7 @@ use sqlite::Alter;
 use std::alloc::{AllocError, Global};
 
 fn may_see(version: &Version, held: bool) -> bool
-    ensures { result ≡ world.may_see version.now held }
+    ensures { result ≡ visibility.may_see version.now held }
 {
     version.active && (!version.private || held)
 }
@@ -84,7 +84,7 @@ impl ProjectView<'_> {
     /// Whether the caller may see a version of the project. Only of a private one is the pass asked.
     fn is_seen<S: Alter>(&self, tables: &mut Tables<S>, version: &Version) -> Result<bool, Fault>
         ensures { Reads S.Store tables.old tables.new result
-            (λ l. world.may_see version.now
+            (λ l. visibility.may_see version.now
             (held_in l self.now.project.now self.now.pass.now version.now.slug)) }
     {
         if !version.private {

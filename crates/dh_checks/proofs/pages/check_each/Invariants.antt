@@ -1,5 +1,5 @@
 use Rattle.std.proofs.Common.{◌≡◌, [], take, drop}
-use Rattle.dh_world.specs.Texts.{bad_pages}
+use Rattle.dh_world.specs.WrongTexts.{bad_pages}
 use Rattle.dh_checks.proofs.pages.check_each.Given as goal
 
 abbrev pub invariant-loop-i : goal.invariant-loop-i

@@ -1,6 +1,6 @@
 use Rattle.std.proofs.Common.{◌≡◌, Some, take}
 use Rattle.std.specs.List.{AllByRecursion}
-use Rattle.dh_texts.specs.Slugs.{slug_from}
+use Rattle.dh_texts.specs.SlugOfName.{slug_from}
 use Rattle.dh_constraints.proofs.constraints.slugs_are_of_names.Given as goal
 
 abbrev pub invariant-loop-row : goal.invariant-loop-row

@@ -1,5 +1,5 @@
 use Rattle.std.proofs.Common.{◌≡◌, drop}
-use Rattle.dh_lookup.specs.SeenProject.{first_result}
+use Rattle.dh_redirects.specs.FirstResult.{first_result}
 use Rattle.dh_lookup.proofs.seen.first_result.Given as goal
 
 abbrev pub invariant-loop-redirect : goal.invariant-loop-redirect

@@ -3,7 +3,7 @@ use Rattle.std.proofs.lemmas.Iterator.{YieldsList-from_chars}
 use Rattle.std.proofs.lemmas.Iterator.Consumers.{YieldsList-end, YieldsList-so_far, YieldsList-turn}
 use Rattle.std.proofs.lemmas.List.{map-id}
 use Rattle.std.specs.Str.{chars}
-use Rattle.dh_texts.specs.Slugs.{slug_char, slug_text, from_letter}
+use Rattle.dh_texts.specs.SlugOfName.{slug_char, slug_text, from_letter}
 use Rattle.dh_texts.proofs.SlugLemmas.{slug_more, slug_some}
 use Rattle.dh_texts.proofs.slug.make_slug_text.Goals as goal
 

@@ -1,5 +1,5 @@
 use Rattle.std.proofs.Common.{◌≡◌, map, string_bytes}
-use Rattle.dh_texts.specs.Slugs.{slug_char, from_letter}
+use Rattle.dh_texts.specs.SlugOfName.{slug_char, from_letter}
 use Rattle.dh_texts.proofs.slug.make_slug_text.Given as goal
 
 abbrev pub invariant-loop-c : goal.invariant-loop-c

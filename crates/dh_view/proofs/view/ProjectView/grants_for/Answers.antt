@@ -2,7 +2,7 @@ use Rattle.std.proofs.Common.{rules, sym, ◌∙◌}
 use Rattle.dh_rows.specs.Calls.{seen}
 use Rattle.dh_records.specs.Lists.{project_of}
 use Rattle.dh_schema.specs.Tables.{lists_of}
-use Rattle.dh_world.specs.World.{holds}
+use Rattle.dh_world.specs.Visibility.{holds}
 use Rattle.dh_view.proofs.PassLemmas.{none_private}
 use Rattle.dh_view.proofs.view.ProjectView.grants_for.Goals as goal
 

@@ -1,5 +1,5 @@
 use Rattle.std.proofs.Common.{rules, ◌∙◌, ap}
-use Rattle.dh_lookup.specs.SeenProject.{first_result}
+use Rattle.dh_redirects.specs.FirstResult.{first_result}
 use Rattle.dh_rows.specs.Calls.{seen}
 use Rattle.dh_schema.specs.Tables.{lists_of}
 use Rattle.dh_view.proofs.Shown.{redirects_are}

@@ -2,7 +2,7 @@ use Rattle.std.proofs.Common.{rules, ap, ◌∙◌}
 use Rattle.dh_rows.specs.Calls.{seen}
 use Rattle.dh_records.specs.Lists.{project_of}
 use Rattle.dh_schema.specs.Tables.{lists_of}
-use Rattle.dh_world.specs.World.{may_see, holds}
+use Rattle.dh_world.specs.Visibility.{may_see, holds}
 use Rattle.dh_view.proofs.Shown.{when_absent, when_told}
 use Rattle.dh_view.proofs.ViewLemmas.{asked, asks_on, obtains_handed, still}
 use Rattle.dh_view.proofs.view.ProjectView.visible_version.Goals as goal
