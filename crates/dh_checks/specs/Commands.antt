@@ -12,9 +12,9 @@ use Rattle.dh_world.specs.declared.property.Property.{Property}
 use Rattle.dh_world.specs.declared.property.Property.TheVariants as property
 use Rattle.dh_world.specs.declared.pages.UploadedPage.{UploadedPage}
 use Rattle.dh_world.specs.declared.refusal.Refusal.{Refusal}
-use Rattle.dh_checks.specs.declared.checked.CheckedChange.{CheckedChange}
-use Rattle.dh_checks.specs.declared.checked.CheckedCommand.{CheckedCommand}
-use Rattle.dh_checks.specs.declared.checked.CheckedChange.TheVariants.{NewProject, AddLang, Push, Upload, SetProperty, Deactivate, Gone, SetDefault, AddRule, DropRule, AddRedirect, DropRedirect, AddPass, DropPass, Grant, Revoke}
+use Rattle.dh_checks.specs.declared.checking.CheckedChange.{CheckedChange}
+use Rattle.dh_checks.specs.declared.checking.CheckedCommand.{CheckedCommand}
+use Rattle.dh_checks.specs.declared.checking.CheckedChange.TheVariants.{NewProject, AddLang, Push, Upload, SetProperty, Deactivate, Gone, SetDefault, AddRule, DropRule, AddRedirect, DropRedirect, AddPass, DropPass, Grant, Revoke}
 
 -- ---- the change
 

@@ -1,15 +1,15 @@
-//! Commands whose texts are values of their types.
+//! The parts of commands whose texts are values of their types.
 ghost use Rattle.std.specs.Prelude.{◌≡◌, ◌≤◌, Some, None, IsTrue, length};
 ghost use Rattle.std.proofs.Props.{props};
 ghost use Rattle.dh_texts.specs.SlugOfName.{slug_from};
 ghost use Rattle.dh_rules.specs.Rules.{is_allowed};
 ghost use Rattle.dh_redirects.specs.Redirects.{first_fault};
 
-use dh_paths::{HostName, Lang, PagePath, RefName, Slug, Token};
+use dh_paths::{Lang, PagePath, RefName, Slug, Token};
 use dh_redirects::Redirect;
 use dh_rules::Rule;
 use dh_versions::Kind;
-use dh_world::{Property, UploadedPage};
+use dh_world::UploadedPage;
 use std::marker::Model;
 
 /// A project's own parts, without its lists.
@@ -92,33 +92,4 @@ pub struct CheckedRedirect {
     pub place: u32,
     pub redirect: Redirect,
     ghost good: { first_fault redirect ≡ None } by { Prim.hlevel props },
-}
-
-/// What a command asks of the project of its host.
-#[derive(Drop)]
-pub enum CheckedChange<'c> {
-    NewProject(NewProject),
-    AddLang { lang: Lang },
-    Push(CheckedPush),
-    Upload(CheckedUpload<'c>),
-    /// Activate, Hide, Unhide, Publish and MakePrivate.
-    SetProperty { slug: Slug, property: Property },
-    Deactivate { slug: Slug },
-    Gone { slug: Slug },
-    SetDefault { name: Slug },
-    AddRule(CheckedRule),
-    DropRule { place: u32 },
-    AddRedirect(CheckedRedirect),
-    DropRedirect { place: u32 },
-    AddPass { pass: Token },
-    DropPass { pass: Token },
-    Grant { pass: Token, slug: Slug },
-    Revoke { pass: Token, slug: Slug },
-}
-
-/// A command whose texts are right. The pages of an upload are borrowed from the command itself.
-#[derive(Drop)]
-pub struct CheckedCommand<'c> {
-    pub host: HostName,
-    pub change: CheckedChange<'c>,
 }

@@ -1,16 +1,45 @@
-//! The checks of a command that look at its texts alone.
+//! A command whose texts are values of their types, and the check that makes it, which looks at its
+//! texts alone.
 ghost use Rattle.dh_checks.specs.Commands.{ChecksChange, ChecksCommand, setting};
 
 use crate::checked::{
-    CheckedChange, CheckedCommand, CheckedPush, CheckedRedirect, CheckedRule, CheckedUpload,
-    NewProject, ProjectSettings,
+    CheckedPush, CheckedRedirect, CheckedRule, CheckedUpload, NewProject, ProjectSettings,
 };
 use crate::pages::check_pages;
 use crate::texts::{redirect_in, retry_key_in, rule_in, slug_in_name, text_in};
-use dh_paths::Text;
+use dh_paths::{HostName, Lang, Slug, Text, Token};
 use dh_versions::Kind;
 use dh_world::{Command, CommandChange, Pages, Property, Refusal};
 use std::alloc::Global;
+
+/// What a command asks of the project of its host.
+#[derive(Drop)]
+pub enum CheckedChange<'c> {
+    NewProject(NewProject),
+    AddLang { lang: Lang },
+    Push(CheckedPush),
+    Upload(CheckedUpload<'c>),
+    /// Activate, Hide, Unhide, Publish and MakePrivate.
+    SetProperty { slug: Slug, property: Property },
+    Deactivate { slug: Slug },
+    Gone { slug: Slug },
+    SetDefault { name: Slug },
+    AddRule(CheckedRule),
+    DropRule { place: u32 },
+    AddRedirect(CheckedRedirect),
+    DropRedirect { place: u32 },
+    AddPass { pass: Token },
+    DropPass { pass: Token },
+    Grant { pass: Token, slug: Slug },
+    Revoke { pass: Token, slug: Slug },
+}
+
+/// A command whose texts are right. The pages of an upload are borrowed from the command itself.
+#[derive(Drop)]
+pub struct CheckedCommand<'c> {
+    pub host: HostName,
+    pub change: CheckedChange<'c>,
+}
 
 fn new_project_in<'c>(
     alloc: Global,

@@ -4,12 +4,12 @@
 #![tactic(auto)]
 
 pub mod checked;
-mod checking;
+pub mod checking;
 mod pages;
 mod texts;
 
 pub use checked::{
-    CheckedChange, CheckedCommand, CheckedPage, CheckedPush, CheckedRedirect, CheckedRule,
-    CheckedUpload, NewProject, ProjectSettings,
+    CheckedPage, CheckedPush, CheckedRedirect, CheckedRule, CheckedUpload, NewProject,
+    ProjectSettings,
 };
-pub use checking::check;
+pub use checking::{CheckedChange, CheckedCommand, check};

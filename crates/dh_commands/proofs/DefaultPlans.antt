@@ -13,7 +13,7 @@ use Rattle.dh_world.specs.declared.refusal.Refusal.TheVariants.{Inactive}
 use Rattle.dh_plans.specs.Edits.{IsNewFront}
 use Rattle.dh_plans.specs.Knowing.{Knows}
 use Rattle.dh_plans.specs.Plans.{wrong_default, wrong_default_version}
-use Rattle.dh_checks.specs.declared.checked.CheckedChange.TheVariants as change
+use Rattle.dh_checks.specs.declared.checking.CheckedChange.TheVariants as change
 use Rattle.dh_plans.specs.declared.facts.Facts.{Facts}
 
 module _ (name : Text) (f : Facts) (p : Project) (k : Knows (change.SetDefault name) f p) where

@@ -10,7 +10,7 @@ use Rattle.dh_world.specs.declared.answer.Answer.TheVariants.{Done}
 use Rattle.dh_world.specs.declared.refusal.Refusal.TheVariants.{LangTaken, TooMany}
 use Rattle.dh_plans.specs.Edits.{Plans}
 use Rattle.dh_plans.specs.Knowing.{Knows}
-use Rattle.dh_checks.specs.declared.checked.CheckedChange.TheVariants as change
+use Rattle.dh_checks.specs.declared.checking.CheckedChange.TheVariants as change
 use Rattle.dh_plans.specs.declared.edits.Edit.TheVariants.{AddLang}
 use Rattle.dh_plans.specs.declared.facts.Facts.{Facts}
 

@@ -17,7 +17,7 @@ use Rattle.dh_world.specs.declared.refusal.Refusal.TheVariants.{BadPlace, TooMan
 use Rattle.dh_plans.specs.Edits.{Plans}
 use Rattle.dh_plans.specs.Knowing.{Knows}
 use Rattle.dh_plans.specs.Planned.{planned}
-use Rattle.dh_checks.specs.declared.checked.CheckedChange.TheVariants as change
+use Rattle.dh_checks.specs.declared.checking.CheckedChange.TheVariants as change
 use Rattle.dh_checks.specs.declared.checked.CheckedRedirect.{CheckedRedirect}
 use Rattle.dh_checks.specs.declared.checked.CheckedRule.{CheckedRule}
 use Rattle.dh_plans.specs.declared.edits.Edit.TheVariants.{SetRules, SetRedirects}

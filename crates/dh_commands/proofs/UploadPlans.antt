@@ -16,7 +16,7 @@ use Rattle.dh_plans.specs.Edits.{edited, all_edited, is_active, MayEditAll, Plan
 use Rattle.dh_plans.specs.Knowing.{Answers, Knows}
 use Rattle.dh_plans.specs.Plans.{pages_put, pages_cleared, upload_answered, plan_stored}
 use Rattle.dh_plans.specs.Asking.{asked_by}
-use Rattle.dh_checks.specs.declared.checked.CheckedChange.TheVariants as change
+use Rattle.dh_checks.specs.declared.checking.CheckedChange.TheVariants as change
 use Rattle.dh_checks.specs.declared.checked.CheckedUpload.{CheckedUpload}
 use Rattle.dh_plans.specs.declared.edits.Edit.{Edit}
 use Rattle.dh_plans.specs.declared.edits.Edit.TheVariants.{PutPage}

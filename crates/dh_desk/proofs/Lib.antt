@@ -1,4 +1,3 @@
-pub mod Applying
 pub mod Moving
 pub mod Reading
 pub mod Veiling

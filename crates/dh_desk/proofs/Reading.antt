@@ -8,7 +8,6 @@ use Rattle.dh_faults.specs.declared.fault.Fault.{Fault}
 use Rattle.dh_rows.specs.Calls.{IsBlamed, IsHonest, Lasts}
 use Rattle.dh_schema.proofs.CallLemmas.{on_store}
 use Rattle.dh_schema.specs.Calling.{Blames}
-use Rattle.dh_schema.specs.Tables.{lists_of}
 use Rattle.dh_schema.specs.InTurn.{blamed_before, shut_before}
 use Rattle.dh_view.specs.View.{Fails}
 

@@ -18,7 +18,7 @@ use Rattle.dh_world.specs.declared.refusal.Refusal.TheVariants.{Store, OutOfMemo
 -- words of the layers below that the clauses of a desk are made of
 pub use Rattle.sqlite.specs.Held.{state}
 pub use Rattle.sqlite.specs.State.{HasCleanDisk}
-pub use Rattle.dh_rows.specs.Calls.{IsHonest, IsRefused}
+pub use Rattle.dh_rows.specs.Calls.{IsHonest, IsRefused, Lasts}
 pub use Rattle.dh_schema.specs.Calling.{Blames}
 pub use Rattle.dh_schema.specs.Tables.{lists_of}
 pub use Rattle.dh_tables.specs.Going.{last_records}
@@ -53,9 +53,9 @@ module _ {S : Type 0} (g : Ghosts S) where
   abbrev pub world : Standing S → World
   world d = world_of (last_records g d.tables)
 
-  -- where the store is honest it was so before, and the worlds before and after stand so to each other
+  -- What every call lasts, and where the store is honest the worlds before and after stand so to each other.
   pub record Moves (old new : Standing S) (Relates : World → World → Type 0) : Type 0 where
-    pub was : IsHonest g new.tables → IsHonest g old.tables
+    pub lasts : Lasts g old.tables new.tables
     pub moves : IsHonest g new.tables → Relates (world old) (world new)
 
   -- while the store is honest, what is committed is sound

@@ -150,9 +150,7 @@ impl<S: Alter> Desk<S> {
         ensures closed { self.old.closed ≡ true
             → (result ≡ Err Refusal.Store) × (self.new ≡ self.old) }
         ensures closes { self.new.closed ≡ is_fault result }
-        ensures clean { HasCleanDisk (state S.Store self.new.tables)
-            → HasCleanDisk (state S.Store self.old.tables) }
-        ensures was { IsHonest S.Store self.new.tables → IsHonest S.Store self.old.tables }
+        ensures lasts { Lasts S.Store self.old.tables self.new.tables }
     {
         if self.closed {
             return Err(Refusal::Store);
@@ -192,9 +190,7 @@ impl<S: Alter> Desk<S> {
         ensures closed { self.old.closed ≡ true
             → (result ≡ Err Fault.Store) × (self.new ≡ self.old) }
         ensures closes { self.new.closed ≡ is_unanswered result }
-        ensures clean { HasCleanDisk (state S.Store self.new.tables)
-            → HasCleanDisk (state S.Store self.old.tables) }
-        ensures was { IsHonest S.Store self.new.tables → IsHonest S.Store self.old.tables }
+        ensures lasts { Lasts S.Store self.old.tables self.new.tables }
     {
         if self.closed {
             return Err(Fault::Store);

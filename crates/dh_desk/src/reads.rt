@@ -7,8 +7,9 @@ ghost use Rattle.dh_records.specs.Lists.{world_of};
 ghost use Rattle.dh_view.specs.View.{Fails, Looks, shown};
 ghost use Rattle.dh_world.specs.Reads.{host_named, pass_named};
 ghost use Rattle.dh_world.specs.Seen as caller;
-ghost use Rattle.dh_desk.specs.Desk.{Blames, HasCleanDisk, IsHonest, IsRefused, last_records, lists_of};
-ghost use Rattle.dh_desk.specs.Desk.{reply_in, state, veil_of};
+ghost use Rattle.dh_rows.specs.Calls.{Lasts};
+ghost use Rattle.dh_desk.specs.Desk.{Blames, IsHonest, IsRefused, last_records, lists_of};
+ghost use Rattle.dh_desk.specs.Desk.{reply_in, veil_of};
 
 use dh_faults::{Fault, Found};
 use dh_paths::{HostName, TextFault, Token};
@@ -87,9 +88,7 @@ pub fn read<S: Alter>(
         → IsRefused S.Store lists_of tables.old tables.new }
     ensures told { Blames S.Store tables.old tables.new result ⊥ }
     ensures outside { IsHonest S.Store tables.new → OnOk result (tables.new.in_transaction ≡ false) }
-    ensures clean { HasCleanDisk (state S.Store tables.new)
-        → HasCleanDisk (state S.Store tables.old) }
-    ensures was { IsHonest S.Store tables.new → IsHonest S.Store tables.old }
+    ensures lasts { Lasts S.Store tables.old tables.new }
 {
     let host = text_in(alloc, host)?;
     let pass = pass_in(alloc, pass)?;

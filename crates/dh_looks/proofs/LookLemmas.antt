@@ -11,7 +11,7 @@ use Rattle.sqlite_keyed.proofs.ListLemmas.{all-filter, all_map}
 use Rattle.dh_plans.specs.Asking.{asked}
 use Rattle.dh_plans.specs.Knowing.{Answers}
 use Rattle.dh_plans.specs.Questions.{seen_questions}
-use Rattle.dh_checks.specs.declared.checked.CheckedChange.{CheckedChange}
+use Rattle.dh_checks.specs.declared.checking.CheckedChange.{CheckedChange}
 use Rattle.dh_plans.specs.declared.facts.Facts.{Facts}
 use Rattle.dh_plans.specs.declared.questions.Questions.{Questions}
 use Rattle.dh_texts.specs.SlugOfName.{slug_from}

@@ -11,7 +11,7 @@ use Rattle.dh_plans.specs.Knowing.{Answers, Knows, Decides}
 use Rattle.dh_plans.specs.Planned.{Planned}
 use Rattle.dh_plans.specs.Asking.{has_right_key, asked_by}
 use Rattle.dh_plans.specs.Questions.{Asked, nothing}
-use Rattle.dh_checks.specs.declared.checked.CheckedChange.{CheckedChange}
+use Rattle.dh_checks.specs.declared.checking.CheckedChange.{CheckedChange}
 use Rattle.dh_plans.specs.declared.edits.Edit.{Edit}
 use Rattle.dh_plans.specs.declared.facts.Facts.{Facts}
 

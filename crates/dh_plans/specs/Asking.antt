@@ -4,8 +4,8 @@ use Rattle.std.specs.Str.{bytes_eq}
 use Rattle.dh_world.specs.World.{Text, op_code}
 use Rattle.dh_world.specs.declared.operation.Operation.{Operation}
 use Rattle.dh_world.specs.declared.operation.Operation.TheVariants as operation
-use Rattle.dh_checks.specs.declared.checked.CheckedChange.{CheckedChange}
-use Rattle.dh_checks.specs.declared.checked.CheckedChange.TheVariants.{NewProject, AddLang, Push, Upload, SetProperty, Deactivate, Gone, SetDefault, AddRule, DropRule, AddRedirect, DropRedirect, AddPass, DropPass, Grant, Revoke}
+use Rattle.dh_checks.specs.declared.checking.CheckedChange.{CheckedChange}
+use Rattle.dh_checks.specs.declared.checking.CheckedChange.TheVariants.{NewProject, AddLang, Push, Upload, SetProperty, Deactivate, Gone, SetDefault, AddRule, DropRule, AddRedirect, DropRedirect, AddPass, DropPass, Grant, Revoke}
 use Rattle.dh_checks.specs.declared.checked.ProjectSettings.{ProjectSettings}
 use Rattle.dh_plans.specs.Questions.{Asked, nothing, version_named}
 

@@ -15,7 +15,7 @@ use Rattle.dh_plans.specs.Asking.{asked}
 use Rattle.dh_plans.specs.Edits.{Plans}
 use Rattle.dh_plans.specs.Planned.{Planned}
 use Rattle.dh_plans.specs.Questions.{Asked}
-use Rattle.dh_checks.specs.declared.checked.CheckedChange.{CheckedChange}
+use Rattle.dh_checks.specs.declared.checking.CheckedChange.{CheckedChange}
 use Rattle.dh_plans.specs.declared.facts.Facts.{Facts}
 use Rattle.dh_checks.specs.declared.checked.ProjectSettings.{ProjectSettings}
 

@@ -19,7 +19,7 @@ use Rattle.dh_world.specs.declared.refusal.Refusal.{Refusal}
 use Rattle.dh_world.specs.declared.refusal.Refusal.TheVariants.{NoVersion, Inactive, NoPass, PatternRefused, OutOfMemory}
 use Rattle.dh_checks.specs.Commands.{change_of}
 use Rattle.dh_plans.specs.Planned.{Planned}
-use Rattle.dh_checks.specs.declared.checked.CheckedChange.{CheckedChange}
+use Rattle.dh_checks.specs.declared.checking.CheckedChange.{CheckedChange}
 use Rattle.dh_checks.specs.declared.checked.CheckedPush.{CheckedPush}
 use Rattle.dh_checks.specs.declared.checked.CheckedUpload.{CheckedUpload}
 use Rattle.dh_checks.specs.declared.checked.NewProject.{NewProject}

@@ -24,7 +24,7 @@ use Rattle.dh_plans.specs.Knowing.{Answers, Knows, Decides}
 use Rattle.dh_plans.specs.Planned.{Planned}
 use Rattle.dh_plans.specs.Plans.{pushed_fresh, MakesNew, chosen_put, push_answered, plan_made, plan_known}
 use Rattle.dh_plans.specs.Asking.{asked_by}
-use Rattle.dh_checks.specs.declared.checked.CheckedChange.TheVariants as change
+use Rattle.dh_checks.specs.declared.checking.CheckedChange.TheVariants as change
 use Rattle.dh_checks.specs.declared.checked.CheckedPush.{CheckedPush}
 use Rattle.dh_plans.specs.declared.facts.Facts.{Facts}
 use Rattle.std.proofs.lemmas.Slice.Eq.{bytes_eq-Decides}

@@ -1,5 +1,5 @@
 -- What a call on a database shows of it: words over a view, which is what the caller reads of the database.
-use Rattle.std.specs.Prelude.{◌≡◌, ◌⊎◌, ℕ, ◌≤◌, Bool, true, false, if◌then◌else◌, Result, Ok, Err, OnOk, OnErr, IfOk, IsTrue, List, [], None, ⊤}
+use Rattle.std.specs.Prelude.{◌≡◌, ◌⊎◌, ℕ, ◌≤◌, Bool, true, false, if◌then◌else◌, Result, Ok, Err, OnOk, OnErr, IfOk, IsTrue, List, [], codes, None, ⊤}
 use Rattle.sqlite_disk.specs.Disk.{MoreFaults}
 use Rattle.sqlite_value.specs.Order.{Row}
 use Rattle.sqlite_schema.specs.declared.command.Command.{Command}
@@ -175,6 +175,17 @@ module _ {S : Type 0} (g : Ghosts S) where
     -- A crash leaves what it could leave before the call or, outside a transaction, what the edit makes.
     abbrev pub EditsAtMost : Type 0
     EditsAtMost = LeavesTrees old new (λ db. (old.in_transaction ≡ false) × (after : Database) × Edits (state g old) sql params after × (db ≡ after.trees))
+
+  module _ (old new : Held S) where
+    -- the begin, the commit, or the rollback of a transaction was refused for what the fault tells
+    abbrev pub IsNotBegun : Fault → Type 0
+    IsNotBegun = IsRejected old new (codes "BEGIN") []
+
+    abbrev pub IsNotCommitted : Fault → Type 0
+    IsNotCommitted = IsRejected old new (codes "COMMIT") []
+
+    abbrev pub IsNotUndone : Fault → Type 0
+    IsNotUndone = IsRejected old new (codes "ROLLBACK") []
 
   module _ {W : Type 0} (view : Database → W) where
     -- what is seen now, and what was seen at the last commit

@@ -4,7 +4,7 @@ ghost use Rattle.std.specs.Prelude.{◌≡◌, false, true, IfErr};
 ghost use Rattle.sqlite.specs.Held.{state};
 ghost use Rattle.sqlite.specs.State.{Survives, CommitsBy};
 ghost use Rattle.sqlite.specs.Values.{bound};
-ghost use Rattle.dh_rows.specs.Calls.{AreRows, Begins, Blames, Commits, Finds, Goes, IsHonest, IsPlainEdit, IsPlainLook, IsRejected, IsUnanswered, IsUnfit, Lasts, LeavesNoMore, LeavesSeen, OnlyEdits, OnlyLooks, Refuses, Runs, Stops, Undoes, whole};
+ghost use Rattle.dh_rows.specs.Calls.{AreRows, Begins, Blames, Commits, Finds, Goes, IsHonest, IsNotBegun, IsNotCommitted, IsNotUndone, IsPlainEdit, IsPlainLook, IsRejected, IsUnanswered, IsUnfit, Lasts, LeavesNoMore, LeavesSeen, OnlyEdits, OnlyLooks, Refuses, Runs, Stops, Undoes, whole};
 
 use crate::fault::fault_of;
 use dh_faults::Fault;
@@ -36,6 +36,7 @@ pub fn begin<S: Alter>(conn: &mut Connection<S>) -> Result<(), Fault>
     ensures begun { Begins S.Store whole conn.old conn.new result }
     ensures err { Refuses S.Store whole conn.old conn.new result }
     ensures told { Blames S.Store conn.old conn.new result (conn.old.in_transaction ≡ true) }
+    ensures rejected { IfErr result (IsNotBegun S.Store conn.old conn.new) }
     ensures quiet { LeavesNoMore S.Store conn.old conn.new }
 {
     run(conn, "BEGIN", &[])
@@ -47,6 +48,7 @@ pub fn commit<S: Alter>(conn: &mut Connection<S>) -> Result<(), Fault>
     ensures committed { Commits S.Store whole conn.old conn.new result }
     ensures err { Refuses S.Store whole conn.old conn.new result }
     ensures told { Blames S.Store conn.old conn.new result (conn.old.in_transaction ≡ false) }
+    ensures rejected { IfErr result (IsNotCommitted S.Store conn.old conn.new) }
     ensures crash { LeavesSeen S.Store conn.old conn.new }
 {
     run(conn, "COMMIT", &[])
@@ -58,6 +60,7 @@ pub fn rollback<S: Alter>(conn: &mut Connection<S>) -> Result<(), Fault>
     ensures undone { Undoes S.Store whole conn.old conn.new result }
     ensures err { Refuses S.Store whole conn.old conn.new result }
     ensures told { Blames S.Store conn.old conn.new result ⊥ }
+    ensures rejected { IfErr result (IsNotUndone S.Store conn.old conn.new) }
     ensures quiet { LeavesNoMore S.Store conn.old conn.new }
 {
     if conn.is_autocommit() {

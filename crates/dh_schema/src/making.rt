@@ -1,6 +1,7 @@
 //! Making the tables, one after the other.
 
 ghost use Rattle.std.specs.Prelude.{◌≡◌, ◌↔◌, [], map, IsTrue, OnOk, OnErr};
+ghost use Rattle.std.specs.List.{AllByRecursion};
 ghost use Rattle.sqlite.specs.Held.{state};
 ghost use Rattle.sqlite.specs.State.{HasCleanDisk};
 ghost use Rattle.dh_rows.specs.Calls.{IsHonest, Lasts};
@@ -25,6 +26,21 @@ const TABLES: [&str; 11] = [
     "CREATE TABLE pick (host TEXT NOT NULL, name TEXT NOT NULL, rank INTEGER NOT NULL, PRIMARY KEY (host, name)) STRICT",
     "CREATE TABLE pass (host TEXT NOT NULL, pass TEXT NOT NULL, PRIMARY KEY (host, pass)) STRICT",
     "CREATE TABLE holds (host TEXT NOT NULL, pass TEXT NOT NULL, slug TEXT NOT NULL, PRIMARY KEY (host, pass, slug)) STRICT",
+];
+
+/// Their names, in the same order.
+const NAMES: [&[u8]; 11] = [
+    b"meta",
+    b"rule",
+    b"redirect",
+    b"project",
+    b"lang",
+    b"version",
+    b"page",
+    b"used",
+    b"pick",
+    b"pass",
+    b"holds",
 ];
 
 /// Makes the tables, one after the other.
@@ -65,22 +81,23 @@ fn can_have(schema: &Schema, name: &[u8]) -> bool
     is_free(schema, name) && is_unmentioned(schema, name)
 }
 
+fn can_have_all(schema: &Schema, names: &[&[u8]]) -> bool
+    ensures { IsTrue result ↔ AllByRecursion
+        (λ name. IsFree schema.now name.now × IsUnmentioned schema.now name.now) names.now }
+{
+    for name in names {
+        if !can_have(schema, name) {
+            return false;
+        }
+    }
+    true
+}
+
 /// Whether the tables can be made among those that are there.
 pub fn can_make(schema: &Schema) -> bool
     ensures { IsTrue result ↔ CanMake schema.now }
 {
-    can_have(schema, b"meta")
-        && can_have(schema, b"rule")
-        && can_have(schema, b"redirect")
-        && can_have(schema, b"project")
-        && can_have(schema, b"lang")
-        && can_have(schema, b"version")
-        && can_have(schema, b"page")
-        && can_have(schema, b"used")
-        && can_have(schema, b"pick")
-        && can_have(schema, b"pass")
-        && can_have(schema, b"holds")
-        && keeps_counts(schema)
+    can_have_all(schema, &NAMES) && keeps_counts(schema)
 }
 
 /// Makes the tables in a transaction of their own.

@@ -1,8 +1,8 @@
 //! Scripts: lines of commands and reads, one after another.
 
 ghost use Rattle.std.specs.Prelude.{◌≡◌, true, false, map, string_bytes, Some, IfOk, IfErr};
-ghost use Rattle.std.specs.Prelude.{IfSome, OnOk, OnErr, [], ◌∷◌, ◌++◌};
-ghost use Rattle.dh_ports.specs.Ports.{CountsUpTo};
+ghost use Rattle.std.specs.Prelude.{IfSome, IsErrOf, OnOk, OnErr, [], ◌∷◌, ◌++◌};
+ghost use Rattle.dh_ports.specs.Ports.{CountsAtLeast, CountsUpTo};
 ghost use Rattle.dh_desk.specs.Desk.{Moves};
 ghost use Rattle.dh_words.specs.Apps.{StandsFor};
 ghost use Rattle.dh_lines.specs.App.{docs_app};
@@ -16,7 +16,7 @@ use crate::orders::perform;
 use crate::reading::read_script;
 use dh_desk::Desk;
 use dh_lines::{Line, LineFault, docs_command, line_by};
-use dh_ports::{Sink, Source, put_all};
+use dh_ports::{Sink, Source, Stop, put_all};
 use sqlite::Alter;
 use std::alloc::{AllocError, Global};
 
@@ -193,6 +193,8 @@ pub fn run_script<S: Alter, R: Source, W: Sink>(
         (W.held sink.old) (W.held sink.new) result) }
     ensures taken { TookAtMost (R.left source.old) (R.left source.new) 1052672 }
     ensures reads { CountsUpTo (R.fills source.old) (R.fills source.new) 100000 }
+    ensures full { IsErrOf result (ScriptFault.Unread Stop.TooManyTurns)
+        → CountsAtLeast (R.fills source.old) (R.fills source.new) 100000 }
 {
     let bytes = read_script(alloc, source)?;
     match str::from_utf8(bytes.as_slice()) {

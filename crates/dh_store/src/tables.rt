@@ -1,10 +1,10 @@
 //! The tables, and transactions on them.
 
-ghost use Rattle.std.specs.Prelude.{◌≡◌, ◌<◌, ◌^◌, true, false, not, IfOk, IsTrue};
+ghost use Rattle.std.specs.Prelude.{◌≡◌, ◌<◌, ◌^◌, true, false, not, IfOk, IfErr, IsTrue};
 ghost use Rattle.std.specs.FinMap.{empty};
 ghost use Rattle.sqlite.specs.Held.{state};
 ghost use Rattle.sqlite.specs.Steps.{over_memory};
-ghost use Rattle.dh_rows.specs.Calls.{AreOurs, IsHonest, Lasts, Goes, Begins, Commits, Undoes, Refuses, Leaves, LeavesNoMore, LeavesCommitted, seen, committed};
+ghost use Rattle.dh_rows.specs.Calls.{AreOurs, IsHonest, Lasts, Goes, Begins, Commits, Undoes, Refuses, IsNotBegun, IsNotCommitted, IsNotUndone, Leaves, LeavesNoMore, LeavesCommitted, seen, committed};
 ghost use Rattle.dh_schema.specs.Calling.{Blames, IsSettled, KeepsSchema};
 ghost use Rattle.dh_schema.specs.Making.{no_lists};
 ghost use Rattle.dh_schema.specs.Tables.{Holds, lists_of};
@@ -61,6 +61,7 @@ impl<S: Alter> Tables<S> {
         ensures begun { Begins S.Store lists_of self.old self.new result }
         ensures err { Refuses S.Store lists_of self.old self.new result }
         ensures told { Blames S.Store self.old self.new result (self.old.in_transaction ≡ true) }
+        ensures rejected { IfErr result (IsNotBegun S.Store self.old self.new) }
         ensures quiet { LeavesNoMore S.Store self.old self.new }
     {
         begin(&mut self.conn)
@@ -72,6 +73,7 @@ impl<S: Alter> Tables<S> {
         ensures committed { Commits S.Store lists_of self.old self.new result }
         ensures err { Refuses S.Store lists_of self.old self.new result }
         ensures told { Blames S.Store self.old self.new result (self.old.in_transaction ≡ false) }
+        ensures rejected { IfErr result (IsNotCommitted S.Store self.old self.new) }
         ensures crash { Leaves S.Store lists_of self.old self.new
             (λ l. l ≡ seen S.Store lists_of self.old) }
         ensures steady { KeepsSchema S.Store self.old self.new }
@@ -86,6 +88,7 @@ impl<S: Alter> Tables<S> {
         ensures undone { Undoes S.Store lists_of self.old self.new result }
         ensures err { Refuses S.Store lists_of self.old self.new result }
         ensures told { Blames S.Store self.old self.new result ⊥ }
+        ensures rejected { IfErr result (IsNotUndone S.Store self.old self.new) }
         ensures quiet { LeavesNoMore S.Store self.old self.new }
     {
         rollback(&mut self.conn)

@@ -1,4 +1,5 @@
-pub mod Turning
-pub mod OpenLemmas
-pub mod Working
 pub mod Crashing
+pub mod Ending
+pub mod OpenLemmas
+pub mod Turning
+pub mod Working

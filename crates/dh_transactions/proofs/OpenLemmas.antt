@@ -5,7 +5,7 @@ use Rattle.std.specs.Str.{bytes_eq}
 use Rattle.std.specs.FinMap.{get}
 use Rattle.dh_checks.specs.Commands.{command_of}
 use Rattle.dh_plans.specs.Plans.{Opens}
-use Rattle.dh_checks.specs.declared.checked.CheckedChange.{CheckedChange}
+use Rattle.dh_checks.specs.declared.checking.CheckedChange.{CheckedChange}
 use Rattle.dh_checks.specs.declared.checked.NewProject.{NewProject}
 use Rattle.sqlite_keyed.proofs.ListLemmas.{filter_none}
 use Rattle.dh_rows.specs.Keyed.{IsFreeKey}

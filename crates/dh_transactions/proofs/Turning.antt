@@ -4,7 +4,7 @@ use Rattle.std.specs.FinMap.{get}
 use Rattle.std.specs.Result.{IsErrAnd}
 use Rattle.std.proofs.lemmas.Result.{err_from_is_err_and}
 use Rattle.dh_checks.specs.Commands.{change_of, command_of}
-use Rattle.dh_checks.specs.declared.checked.CheckedChange.{CheckedChange}
+use Rattle.dh_checks.specs.declared.checking.CheckedChange.{CheckedChange}
 use Rattle.dh_records.specs.Lists.{Lists, world_of}
 use Rattle.dh_records.specs.Constraints.{AreSound}
 use Rattle.dh_transactions.specs.Steps.{Turns, Steps}

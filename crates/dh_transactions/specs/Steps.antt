@@ -4,12 +4,13 @@ use Rattle.std.specs.FinMap.{get}
 use Rattle.sqlite_trees.specs.declared.store.Store.{Ghosts}
 use Rattle.sqlite.specs.Held.{Held, state}
 use Rattle.sqlite.specs.State.{HasCleanDisk}
-use Rattle.dh_rows.specs.Calls.{IsHonest, LeavesNoMore}
+use Rattle.dh_rows.specs.Calls.{IsHonest, IsNotCommitted, IsNotUndone, Lasts, LeavesNoMore}
 use Rattle.dh_records.specs.Lists.{Lists, world_of}
 use Rattle.dh_tables.specs.Going.{IsOver, last_records}
 use Rattle.dh_records.specs.Constraints.{AreSound}
 use Rattle.dh_transactions.specs.Crashes.{LeavesStep}
-use Rattle.dh_world.specs.CheckResults.{IsFault}
+use Rattle.dh_faults.specs.declared.fault.Fault.{Fault}
+use Rattle.dh_world.specs.CheckResults.{IsFault, refusal_from}
 use Rattle.dh_world.specs.Step.{turn, step, PushRefusedAt, IsSetAside}
 use Rattle.dh_world.specs.declared.answer.Answer.{Answer}
 use Rattle.dh_world.specs.declared.command.Command.{Command}
@@ -30,6 +31,11 @@ Steps before after c (Ok answer) =
 Steps before after c (Err e) =
     (after ≡ before) × (IsSetAside (world_of before) c e ⊎ (step (world_of before) c ≡ Err e))
 
+-- the refusal is what the store said of the commit, or of the rollback
+abbrev pub IsNotEnded : {S : Type 0} (g : Ghosts S) (old new : Held S) → Refusal → Type 0
+IsNotEnded g old new e =
+    (f : Fault) × (e ≡ refusal_from f) × (IsNotCommitted g old new f ⊎ IsNotUndone g old new f)
+
 -- What a command leaves that is done as one transaction.
 pub record Transacts {S : Type 0} (g : Ghosts S) (old new : Held S) (c : Command)
     (result : Result Answer Refusal) : Type 0 where
@@ -43,5 +49,5 @@ pub record Transacts {S : Type 0} (g : Ghosts S) (old new : Held S) (c : Command
   pub refused : IfErr result (λ e. IsFault e ⊎ LeavesNoMore g old new)
   -- an answer comes of an honest store alone
   pub live : HasCleanDisk (state g new) → OnOk result (IsHonest g new)
-  pub clean : HasCleanDisk (state g new) → HasCleanDisk (state g old)
-  pub was : IsHonest g new → IsHonest g old
+  -- no fault is forgotten, and only one shuts the store
+  pub lasts : Lasts g old new

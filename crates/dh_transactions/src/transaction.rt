@@ -3,12 +3,12 @@ ghost use Rattle.std.specs.Prelude.{◌≡◌, ◌⊎◌, false, Ok, Err, IfOk, 
 ghost use Rattle.sqlite.specs.Held.{state};
 ghost use Rattle.sqlite.specs.State.{HasCleanDisk};
 ghost use Rattle.dh_checks.specs.Commands.{command_of};
-ghost use Rattle.dh_rows.specs.Calls.{IsHonest, LeavesNoMore, Goes};
+ghost use Rattle.dh_rows.specs.Calls.{IsHonest, Lasts, LeavesNoMore, Goes};
 ghost use Rattle.dh_world.specs.CheckResults.{IsFault};
 ghost use Rattle.dh_transactions.specs.Crashes.{LeavesEnd};
 ghost use Rattle.dh_tables.specs.Going.{HasRecords, IsOver, IsWithin, Stays, records, last_records};
 ghost use Rattle.dh_records.specs.Constraints.{AreSound};
-ghost use Rattle.dh_transactions.specs.Steps.{Transacts, Turns};
+ghost use Rattle.dh_transactions.specs.Steps.{IsNotEnded, Transacts, Turns};
 
 use crate::opening::open_project;
 use dh_checks::{CheckedChange, CheckedCommand, check};
@@ -52,15 +52,15 @@ fn end<S: Alter>(tables: &mut Tables<S>, worked: Result<Answer, Refusal>) -> Res
     ensures err { IsHonest S.Store tables.new → IfErr result (λ e.
         (last_records S.Store tables.new ≡ last_records S.Store tables.old)
         × (IsFault e ⊎ (worked ≡ Err e))) }
+    ensures told { IfErr result
+        (λ e. (worked ≡ Err e) ⊎ IsNotEnded S.Store tables.old tables.new e) }
     ensures outside { IsHonest S.Store tables.new → IsOver S.Store tables.new result }
     ensures crash { LeavesEnd S.Store tables.old tables.new worked }
     ensures refused { IfErr result
         (λ e. IsFault e ⊎ LeavesNoMore S.Store tables.old tables.new) }
     ensures live { OnOk worked (IsHonest S.Store tables.old)
         → HasCleanDisk (state S.Store tables.new) → OnOk result (IsHonest S.Store tables.new) }
-    ensures clean { HasCleanDisk (state S.Store tables.new)
-        → HasCleanDisk (state S.Store tables.old) }
-    ensures was { IsHonest S.Store tables.new → IsHonest S.Store tables.old }
+    ensures lasts { Lasts S.Store tables.old tables.new }
 {
     match worked {
         Ok(answer) => {

@@ -3,7 +3,7 @@ use Rattle.std.proofs.Common.{◌≡◌, Result, sym, subst}
 use Rattle.dh_world.specs.declared.refusal.Refusal.{Refusal}
 use Rattle.dh_plans.specs.Knowing.{Decides}
 use Rattle.dh_plans.specs.Planned.{Planned}
-use Rattle.dh_checks.specs.declared.checked.CheckedChange.{CheckedChange}
+use Rattle.dh_checks.specs.declared.checking.CheckedChange.{CheckedChange}
 use Rattle.dh_plans.specs.declared.facts.Facts.{Facts}
 use Rattle.dh_commands.proofs.decision.decide_by.Goals as goal
 

@@ -1,8 +1,9 @@
 use Rattle.std.proofs.Common.{◌∙◌, rules, sym, subst}
-use Rattle.dh_desk.proofs.Applying.{steps_aside, over_aside, stays}
 use Rattle.dh_desk.proofs.desk.act.Goals as goal
 use Rattle.dh_records.specs.Lists.{Lists}
 use Rattle.dh_transactions.proofs.Crashing.{step_after}
+use Rattle.dh_transactions.proofs.Ending.{over_aside, stays, steps_aside}
+use Rattle.dh_schema.specs.InTurn.{lasts_on}
 use Rattle.dh_tables.specs.Going.{last_records}
 use Rattle.dh_records.specs.Constraints.{AreSound}
 use Rattle.dh_transactions.specs.Steps.{Steps}
@@ -16,8 +17,7 @@ returns-in_err-back g c = record {
   crash = search rules;
   refused = search rules;
   live = search rules;
-  clean = search rules;
-  was = search rules;
+  lasts = search rules;
 }
 
 pub run-requires : goal.run-requires
@@ -30,13 +30,12 @@ run-requires g c = record {
 pub returns : goal.returns
 returns g c = record {
   steps = λ honest.
-      let h1 = c.run.ensures.was honest in
+      let h1 = c.run.ensures.lasts.was honest in
       let P : Lists → Type 0 = λ l. Steps l (last_records g.S.Store c.run.new.tables) c.args.command.now c.run.result in
       subst P (c.in_ok-back.ensures.undone h1).last_is (c.run.ensures.steps honest);
   outside = c.run.ensures.outside;
-  crash = step_after g.S.Store c.args.tables.now c.back.new.self c.run.new.tables c.args.command.now c.back.ensures.goes.lasts.was c.back.ensures.quiet c.back.ensures.goes.kept c.run.ensures.clean c.run.ensures.crash;
+  crash = step_after g.S.Store c.args.tables.now c.back.new.self c.run.new.tables c.args.command.now c.back.ensures.goes.lasts.was c.back.ensures.quiet c.back.ensures.goes.kept c.run.ensures.lasts.clean c.run.ensures.crash;
   refused = search rules;
   live = c.run.ensures.live;
-  clean = λ it. c.back.ensures.goes.lasts.clean (c.run.ensures.clean it);
-  was = λ it. c.back.ensures.goes.lasts.was (c.run.ensures.was it);
+  lasts = lasts_on c.back.ensures.goes.lasts c.run.ensures.lasts;
 }

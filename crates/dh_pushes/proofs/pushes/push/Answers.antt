@@ -2,7 +2,7 @@ use Rattle.std.proofs.Common.{◌∙◌, sym, subst, inl, inr, Ok}
 use Rattle.dh_plans.specs.Plans.{MakesNew}
 use Rattle.dh_plans.proofs.Planning.{plans_by, decides_by}
 use Rattle.dh_pushes.proofs.PushPlans.{again, taken, knows, decides_new}
-use Rattle.dh_checks.specs.declared.checked.CheckedChange.TheVariants as CheckedChange
+use Rattle.dh_checks.specs.declared.checking.CheckedChange.TheVariants as CheckedChange
 use Rattle.dh_pushes.proofs.pushes.push.Goals as goal
 
 pub returns-in-Some : goal.returns-in-Some

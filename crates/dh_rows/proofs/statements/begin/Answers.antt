@@ -7,5 +7,6 @@ returns g c = record {
   begun = begun g.S.Store c.args.conn.now c.run.new.conn c.run.result c.run.ensures.survives c.run.ensures.runs;
   err = fails g.S.Store c.args.conn.now c.run.new.conn c.run.result _ c.run.ensures.survives c.run.ensures.err;
   told = begin_blames g.S.Store c.args.conn.now c.run.new.conn c.run.result c.run.ensures.told;
+  rejected = c.run.ensures.told;
   quiet = begun_no_more g.S.Store c.args.conn.now c.run.new.conn c.run.result c.run.ensures.survives c.run.ensures.runs;
 }

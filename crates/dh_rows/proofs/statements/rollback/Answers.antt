@@ -7,5 +7,6 @@ returns g c = record {
   undone = undoes g.S.Store c.args.conn.now c.run.new.conn c.run.result c.run.ensures.survives c.run.ensures.runs;
   err = fails g.S.Store c.args.conn.now c.run.new.conn c.run.result _ c.run.ensures.survives c.run.ensures.err;
   told = rollback_blames g.S.Store c.args.conn.now c.run.new.conn c.run.result c.run.ensures.told (within _ _ c.is_autocommit.ensures.value c.if-is_autocommit.false);
+  rejected = c.run.ensures.told;
   quiet = undone_no_more g.S.Store c.args.conn.now c.run.new.conn c.run.result c.run.ensures.survives c.run.ensures.runs;
 }

@@ -8,7 +8,7 @@ use Rattle.dh_script.proofs.orders.perform.Goals as goal
 
 pub returns-in-Act-clause-may : goal.returns-in-Act-clause-may
 returns-in-Act-clause-may g c = record {
-  was = c.apply.ensures.was;
+  lasts = c.apply.ensures.lasts;
   moves = λ honest.
       let outcome = outcome_of c.apply.result in
       on_err c.told.result

@@ -7,7 +7,7 @@ use Rattle.dh_server.proofs.serving.answer_joined.Goals as goal
 
 pub returns-in_err-done-clause-answers : goal.returns-in_err-done-clause-answers
 returns-in_err-done-clause-answers g c = record {
-  was = c.answer.ensures.answers.was;
+  lasts = c.answer.ensures.answers.lasts;
   moves = λ honest.
       let held = append_known (g.W.Sink.held c.args.sink.now.inner) (drop c.args.sink.now.gone c.args.sink.now.kept.items) in
       let kept = append_known (g.W.Sink.held c.answer.new.sink.inner) (drop c.answer.new.sink.gone c.answer.new.sink.kept.items) in

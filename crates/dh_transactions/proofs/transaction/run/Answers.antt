@@ -3,6 +3,7 @@ use Rattle.dh_checks.specs.Commands.{command_of}
 use Rattle.dh_rows.specs.Calls.{IsHonest}
 use Rattle.dh_records.specs.Lists.{Lists}
 use Rattle.dh_transactions.proofs.Crashing.{given_ok, ended_leaves, refused_after, worked_no_more}
+use Rattle.dh_transactions.proofs.Ending.{over_aside, stays, steps_aside}
 use Rattle.dh_transactions.proofs.transaction.run.Goals as goal
 use Rattle.dh_tables.specs.Going.{records, last_records}
 use Rattle.dh_transactions.specs.Steps.{Turns}
@@ -10,13 +11,14 @@ use Rattle.dh_world.specs.declared.command.Command.{Command}
 
 pub returns-in_err-begin : goal.returns-in_err-begin
 returns-in_err-begin g c = record {
-  steps = search rules;
-  outside = search rules;
+  steps = λ honest.
+      steps_aside (last_records g.S.Store c.args.tables.now) (last_records g.S.Store c.begin.new.self) c.args.command.now _ _
+      (stays g.S.Store c.args.tables.now c.begin.new.self (c.in_err-begin.ensures.err honest)) c.from_residual-in_err-begin.ensures.1;
+  outside = λ honest. over_aside g.S.Store c.begin.new.self _ _ c.from_residual-in_err-begin.ensures.1;
   crash = search rules;
   refused = search rules;
   live = search rules;
-  clean = search rules;
-  was = search rules;
+  lasts = search rules;
 }
 
 pub returns : goal.returns
@@ -37,12 +39,11 @@ returns g c = record {
       ended_leaves g.S.Store old begun worked c.end.new.tables c.args.command.now result c.in_ok-host.ensures.0
       (λ clean. (c.in_ok-begin.ensures.begun clean).was_honest) c.begin.ensures.goes.kept c.begin.ensures.quiet (λ _. c.in_ok-begin.ensures.begun)
       c.work-worked.ensures.goes.lasts.clean c.work-worked.ensures.goes.kept c.work-worked.ensures.goes.quiet
-      (given_ok _ _ _ result c.work-worked.ensures.live) turned c.end.ensures.clean c.end.ensures.crash;
+      (given_ok _ _ _ result c.work-worked.ensures.live) turned c.end.ensures.lasts.clean c.end.ensures.crash;
   refused =
       refused_after g.S.Store c.args.tables.now c.work-worked.new.tables c.end.new.tables c.end.result
       (worked_no_more g.S.Store c.args.tables.now c.begin.new.self c.work-worked.new.tables (λ clean. (c.in_ok-begin.ensures.begun clean).was_honest) c.begin.ensures.quiet (λ _. c.in_ok-begin.ensures.begun) c.work-worked.ensures.goes.lasts.clean c.work-worked.ensures.goes.quiet)
-      c.end.ensures.clean c.end.ensures.refused;
+      c.end.ensures.lasts.clean c.end.ensures.refused;
   live = search rules;
-  clean = search rules;
-  was = search rules;
+  lasts = search rules;
 }
