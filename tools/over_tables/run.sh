@@ -21,7 +21,7 @@ trap 'rm -rf "$copy"' EXIT
 cp -r "$here/../../crates" "$here/../../crates.txt" "$copy"
 mkdir -p "$copy/crates/over_tables/src"
 cp "$here/$which.rt.in" "$copy/crates/over_tables/src/main.rt"
-echo "over_tables: dh_paths dh_versions dh_world dh_reply dh_opening dh_tables sqlite sqlite_disk sqlite_store sqlite_pager" >>"$copy/crates.txt"
+echo "over_tables: dh_paths dh_versions dh_rules dh_redirects dh_world dh_reply dh_opening dh_tables sqlite sqlite_disk sqlite_store sqlite_pager" >>"$copy/crates.txt"
 git -C "$copy" init -q
 cd "$copy/crates/over_tables"
 echo "run.sh: building; the run itself takes some minutes at most" >&2
@@ -34,4 +34,4 @@ import sys
 sys.stdout.buffer.write(bytes(int(word) for word in sys.stdin.read().split()))" >"$copy/tables.db"
 sqlite3 "$copy/tables.db" .schema 'PRAGMA integrity_check' 'SELECT * FROM meta' 'SELECT * FROM project' 'SELECT * FROM lang' \
   'SELECT * FROM version' 'SELECT host, slug, lang, path, media, CAST(body AS TEXT) FROM page' 'SELECT * FROM used' \
-  'SELECT * FROM pick' 'SELECT * FROM pass' 'SELECT * FROM holds'
+  'SELECT * FROM pick' 'SELECT * FROM pass' 'SELECT * FROM holds' 'SELECT * FROM rule' 'SELECT * FROM redirect'
