@@ -1,9 +1,9 @@
 -- The change that a checked one is of, and which command is one whose texts are right.
-use Rattle.std.specs.Prelude.{◌≡◌, ◌≤◌, List, [], ◌∷◌, length, Option, Result}
+use Rattle.std.specs.Prelude.{◌≡◌, ◌≤◌, List, [], ◌∷◌, length, Option, Result, IsTrue}
 use Rattle.dh_world.specs.CheckResults.{ChecksOr}
 use Rattle.dh_world.specs.Refusals.{first_of}
 use Rattle.dh_world.specs.Step.{RuleRefused}
-use Rattle.dh_world.specs.WrongTexts.{bad_count, bad_pages, bad_change, bad_text}
+use Rattle.dh_world.specs.WrongTexts.{have_contents, bad_count, bad_pages, bad_change, bad_text}
 use Rattle.dh_world.specs.World.{Text}
 use Rattle.dh_world.specs.declared.command.Command.{Command}
 use Rattle.dh_world.specs.declared.command.CommandChange.{CommandChange}
@@ -50,9 +50,10 @@ command_of host c = record { host = host; change = change_of c }
 
 -- ---- checks
 
--- the pages of an upload, which are few
-abbrev pub AreFewPages : List UploadedPage → List UploadedPage → Type 0
-AreFewPages pages checked = (checked ≡ pages) × (length checked ≤ 256)
+-- the pages of an upload, which are few, and each may have its media type and body
+abbrev pub AreRightPages : List UploadedPage → List UploadedPage → Type 0
+AreRightPages pages checked =
+    (checked ≡ pages) × (length checked ≤ 256) × IsTrue (have_contents checked)
 
 -- what is wrong with the pages of an upload: that there are too many, or the first bad one
 abbrev pub bad_upload : List UploadedPage → Option Refusal

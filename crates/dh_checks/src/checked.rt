@@ -4,6 +4,7 @@ ghost use Rattle.std.proofs.Props.{props};
 ghost use Rattle.dh_texts.specs.SlugOfName.{slug_from};
 ghost use Rattle.dh_rules.specs.Rules.{is_allowed};
 ghost use Rattle.dh_redirects.specs.Redirects.{first_fault};
+ghost use Rattle.dh_world.specs.WrongTexts.{have_contents};
 
 use dh_paths::{Lang, PagePath, RefName, Slug, Token};
 use dh_redirects::Redirect;
@@ -74,6 +75,7 @@ pub struct CheckedUpload<'c> {
     pub replace: bool,
     pub pages: Vec<CheckedPage<'c>>,
     ghost few: { length pages.items ≤ 256 },
+    ghost fit: { IsTrue (have_contents pages.items) } by { Prim.hlevel props },
 }
 
 /// A rule that passes its check, and the place that it is to have.

@@ -1,40 +1,17 @@
 //! The checks of the pages of an upload.
 ghost use Rattle.std.specs.Prelude.{◌≡◌, [], ◌∷◌, ◌++◌, OnOk};
-ghost use Rattle.std.specs.List.{list_all};
 ghost use Rattle.dh_texts.specs.Texts.{is_page_path};
 ghost use Rattle.dh_world.specs.CheckResults.{Reads, Checks};
-ghost use Rattle.dh_world.specs.WrongTexts.{is_media_byte, is_media, has_path, bad_page, bad_pages};
-ghost use Rattle.dh_checks.specs.Commands.{AreFewPages, bad_upload};
+ghost use Rattle.dh_world.specs.WrongTexts.{has_path, bad_page, bad_pages};
+ghost use Rattle.dh_checks.specs.Commands.{AreRightPages, bad_upload};
 
 use crate::checked::CheckedPage;
 use dh_paths::{PagePath, Text};
-use dh_world::{Pages, Refusal, UploadedPage};
+use dh_world::{Pages, Refusal, UploadedPage, is_content};
 use std::alloc::{AllocError, Global};
 
 /// The most pages of an upload.
 const MOST_PAGES: usize = 256;
-
-/// The most bytes of a page.
-const MOST_BYTES: usize = 1_048_576;
-
-/// The most bytes of a media type.
-const MOST_MEDIA: usize = 100;
-
-fn all_media(bytes: &[u8]) -> bool
-    ensures { result ≡ list_all is_media_byte bytes.now }
-{
-    bytes.iter().all(|b| matches!(*b, 0x20..=0x7E))
-}
-
-fn passes_media(bytes: &[u8]) -> bool
-    ensures { result ≡ is_media bytes.now }
-{
-    1 <= bytes.len()
-        && bytes.len() <= MOST_MEDIA
-        && all_media(bytes)
-        && bytes[0] != b' '
-        && bytes[bytes.len() - 1] != b' '
-}
 
 fn stands_in(path: &Text, pages: &[UploadedPage]) -> bool
     ensures { result ≡ has_path path.now pages.now }
@@ -57,10 +34,7 @@ fn check_page<'c>(
     ensures { Checks (bad_page before.now page.now) (λ checked. checked ≡ page.now) result }
 {
     let path = path_in(alloc, &page.path)?;
-    if !passes_media(page.media.as_str().as_bytes()) {
-        return Err(Refusal::BadPage);
-    }
-    if page.body.as_slice().len() > MOST_BYTES {
+    if !is_content(page.media.as_str(), page.body.as_slice()) {
         return Err(Refusal::BadPage);
     }
     if stands_in(&page.path, before) {
@@ -89,7 +63,7 @@ fn check_each<'c>(alloc: Global, pages: &'c [UploadedPage]) -> Result<Vec<Checke
 
 /// How many pages there are, and then each.
 pub fn check_pages<'c>(alloc: Global, pages: &'c Pages) -> Result<Vec<CheckedPage<'c>>, Refusal>
-    ensures { Checks (bad_upload pages.now) (λ found. AreFewPages pages.now found.items) result }
+    ensures { Checks (bad_upload pages.now) (λ found. AreRightPages pages.now found.items) result }
 {
     let pages = pages.as_slice();
     if pages.len() > MOST_PAGES {

@@ -5,8 +5,10 @@ use Rattle.std.specs.List.{list_any}
 use Rattle.std.specs.Option.{option_map_or}
 use Rattle.std.specs.FinMap.{get}
 use Rattle.std.specs.Str.{bytes_eq}
+use Rattle.std.proofs.lemmas.Bool.{and_parts}
 use Rattle.dh_versions.specs.declared.version.Version.{Version}
 use Rattle.dh_world.specs.Changes.{Change, upload, uploaded, once, upload_key, keep, stored, cleared, with_pages, has_lang}
+use Rattle.dh_world.specs.WrongTexts.{have_contents}
 use Rattle.dh_world.specs.World.{Text, Project}
 use Rattle.dh_world.specs.declared.answer.Answer.{Answer}
 use Rattle.dh_world.specs.declared.answer.Answer.TheVariants.{Stored}
@@ -30,9 +32,11 @@ module _ (slug lang : Text) where
   put_is [] p = refl
   put_is (x ∷ xs) p = put_is xs (edited (PutPage slug lang x) p)
 
-  may_put : (xs : List UploadedPage) (p : Project) → IsTrue (is_active p slug) → IsTrue (has_lang p lang) → MayEditAll (pages_put slug lang xs) p
-  may_put [] p on spoken = tt
-  may_put (x ∷ xs) p on spoken = ((on, spoken), may_put xs (edited (PutPage slug lang x) p) on spoken)
+  may_put : (xs : List UploadedPage) (p : Project) → IsTrue (is_active p slug) → IsTrue (has_lang p lang) → IsTrue (have_contents xs) → MayEditAll (pages_put slug lang xs) p
+  may_put [] p on spoken fit = tt
+  may_put (x ∷ xs) p on spoken fit =
+      let fits = and_parts _ _ fit in
+      ((on, spoken, fits.0), may_put xs (edited (PutPage slug lang x) p) on spoken fits.1)
 
   cleared_is : (replace : Bool) (p : Project) → all_edited (pages_cleared replace slug lang) p ≡ record p { pages = cleared replace slug lang p.pages }
   cleared_is true p = refl
@@ -103,6 +107,6 @@ module _ (x : CheckedUpload) (f : Facts) (p : Project) (k : Knows (change.Upload
             let before_answer = edited_twice clear put p ∙ ap (all_edited put) (cleared_is x.slug x.lang x.replace p) ∙ put_is x.slug x.lang x.pages.items p1 in (
               spoken_by true spoken ∙ ap (λ q. Ok (q, Stored (length x.pages.items))) (sym all_is),
               may_twice (clear ++ put) answer p
-                  (may_twice clear put p (may_clear x.slug x.lang x.replace p) (subst (MayEditAll put) (sym (cleared_is x.slug x.lang x.replace p)) (may_put x.slug x.lang x.pages.items p1 active (spoken_is ∙ spoken))))
-                  (subst (MayEditAll answer) (sym before_answer) ((found.first_answer ∙ unused, few, refl), tt)),
+                  (may_twice clear put p (may_clear x.slug x.lang x.replace p) (subst (MayEditAll put) (sym (cleared_is x.slug x.lang x.replace p)) (may_put x.slug x.lang x.pages.items p1 active (spoken_is ∙ spoken) x.fit)))
+                  (subst (MayEditAll answer) (sym before_answer) ((found.first_answer ∙ unused, few, refl, refl), tt)),
             )

@@ -1,11 +1,12 @@
 //! Each constraint of the records, and all of them.
 
-ghost use Rattle.std.specs.Prelude.{◌≡◌, ◌≤◌, ◌↔◌, ◌&&◌, ◌||◌, IsTrue, IsSome, IfOk, Some, None, filter, length};
+ghost use Rattle.std.specs.Prelude.{◌≡◌, ◌≤◌, ◌↔◌, ◌&&◌, ◌||◌, IsTrue, IfOk, Some, None, filter, length};
 ghost use Rattle.std.specs.List.{AllByRecursion};
 ghost use Rattle.dh_texts.specs.SlugOfName.{slug_from};
 ghost use Rattle.dh_redirects.specs.Redirects.{first_fault};
 ghost use Rattle.dh_rules.specs.Rules as rules;
-ghost use Rattle.dh_world.specs.Answers.{answer_of};
+ghost use Rattle.dh_world.specs.Answers.{tells};
+ghost use Rattle.dh_world.specs.WrongTexts as wrong;
 ghost use Rattle.dh_world.specs.Seen as names;
 ghost use Rattle.dh_records.specs.Lists.{is_lang_of, is_pass_of, is_pick_of, is_rule_of, is_redirect_of};
 ghost use Rattle.dh_records.specs.Constraints as kept;
@@ -21,10 +22,11 @@ use crate::places::{are_defaults, are_languages, have_places};
 use crate::records::Records;
 use crate::rows::Hosted;
 use dh_paths::{Slug, TextFault, slug_of};
-use dh_records::ProjectRow;
+use dh_records::{PageRow, ProjectRow};
 use dh_redirects::Redirect;
 use dh_stored_texts::{is_allowed, tells_answer};
 use dh_versions::Version;
+use dh_world::is_content;
 use std::alloc::{AllocError, Global};
 
 /// The most passes of a project.
@@ -138,6 +140,20 @@ fn pages_have_languages(records: &Records) -> bool
         .all(|x| has_language(records, &x.host, &x.lang))
 }
 
+/// Whether the page may have its media type and body.
+fn is_fit(row: &PageRow) -> bool
+    ensures { result ≡ wrong.is_content row.now.page.media row.now.page.body }
+{
+    is_content(row.page.media.as_str(), row.page.body.as_slice())
+}
+
+fn pages_are_fit(records: &Records) -> bool
+    ensures { IsTrue result ↔ AllByRecursion
+        (λ x. IsTrue (wrong.is_content x.page.media x.page.body)) (lists_in records.now).pages }
+{
+    records.pages.as_slice().iter().all(|x| is_fit(x))
+}
+
 fn is_alias(name: &Slug) -> bool
     ensures { result ≡ names.is_alias name.now }
 {
@@ -207,10 +223,10 @@ fn slugs_are_of_names(alloc: Global, records: &Records) -> Result<bool, AllocErr
 
 fn answers_are_told(alloc: Global, records: &Records) -> Result<bool, AllocError>
     ensures { IfOk result (λ b. IsTrue b ↔ AllByRecursion
-        (λ u. IsSome (answer_of u.answer)) (lists_in records.now).used) }
+        (λ u. IsTrue (tells u.op u.answer)) (lists_in records.now).used) }
 {
     for row in records.used.as_slice() {
-        if !tells_answer(alloc, row.answer.as_str())? {
+        if !tells_answer(alloc, row.op, row.answer.as_str())? {
             return Ok(false);
         }
     }
@@ -259,6 +275,7 @@ fn records_are_kept(records: &Records) -> bool
 {
     pages_have_versions(records)
         && pages_have_languages(records)
+        && pages_are_fit(records)
         && defaults_have_versions(records)
         && grants_have_parts(records)
         && redirects_are_good(records)

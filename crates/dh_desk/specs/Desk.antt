@@ -1,6 +1,5 @@
 -- A desk, and the world of its tables.
 use Rattle.std.specs.Prelude.{◌≡◌, Bool, true, false, Option, Result, Err, IfErr, refl}
-use Rattle.std.specs.Option.{option_and_then}
 use Rattle.std.specs.Coded.{Coded, code_by, coded×, coded_bool}
 use Rattle.sqlite_trees.specs.declared.store.Store.{Ghosts}
 use Rattle.sqlite.specs.Held.{Held, held_code}
@@ -10,7 +9,7 @@ use Rattle.dh_reply.specs.Replies.{reply_to}
 use Rattle.dh_wire.specs.declared.reply.Read.{Read}
 use Rattle.dh_wire.specs.declared.reply.Reply.{Reply}
 use Rattle.dh_world.specs.World.{Text, World}
-use Rattle.dh_world.specs.Reads.{host_named, pass_named}
+use Rattle.dh_world.specs.Reads.{host_named, caller_named}
 use Rattle.dh_world.specs.Seen.{seen, veil}
 use Rattle.dh_world.specs.declared.answer.Answer.{Answer}
 use Rattle.dh_world.specs.declared.refusal.Refusal.{Refusal}
@@ -42,18 +41,19 @@ is_fault _ = false
 -- sees of the world
 abbrev pub reply_in : World → Text → Option Text → Read → Reply
 reply_in w host pass asked =
-    reply_to (seen w (host_named host) (option_and_then pass_named pass)) asked.path asked.query
+    reply_to (seen w (host_named host) (caller_named pass)) asked.path asked.query
 
 -- the world that holds nothing but what that caller sees under the host
 abbrev pub veil_of : World → Text → Option Text → World
-veil_of w host pass = veil w (host_named host) (option_and_then pass_named pass)
+veil_of w host pass = veil w (host_named host) (caller_named pass)
 
 module _ {S : Type 0} (g : Ghosts S) where
   -- the world that the tables spell, as it was committed last
   abbrev pub world : Standing S → World
   world d = world_of (last_records g d.tables)
 
-  -- What every call lasts, and where the store is honest the worlds before and after stand so to each other.
+  -- What every call leaves. Where the store is honest, the worlds before and after stand so to each
+  -- other.
   pub record Moves (old new : Standing S) (Relates : World → World → Type 0) : Type 0 where
     pub lasts : Lasts g old.tables new.tables
     pub moves : IsHonest g new.tables → Relates (world old) (world new)

@@ -7,15 +7,16 @@ ghost use Rattle.dh_reply.specs.Replies.{reply_to};
 ghost use Rattle.dh_wire.specs.declared.reply.Reply.{Reply};
 ghost use Rattle.dh_faults.specs.declared.fault.Fault.{Fault};
 ghost use Rattle.dh_schema.specs.Calling.{Blames};
+ghost use Rattle.dh_world.specs.declared.caller.Caller.{Caller};
 ghost use Rattle.dh_world.specs.World.{Text, World};
 ghost use Rattle.dh_world.specs.Seen.{seen, veil};
 ghost use Rattle.dh_desk.specs.Desk.{Standing};
 
 /// Each reply to a caller, at every path, is the reply in the world that holds nothing but what he sees.
 pub fn veiled_reply()
-    ensures { (w : World) (host pass : Option Text) (path : Text) (query : Option Text)
-        → reply_to (seen (veil w host pass) host pass) path query
-        ≡ reply_to (seen w host pass) path query }
+    ensures { (w : World) (host : Option Text) (caller : Caller) (path : Text) (query : Option Text)
+        → reply_to (seen (veil w host caller) host caller) path query
+        ≡ reply_to (seen w host caller) path query }
 {}
 
 /// Over a store in memory only a closed desk answers a read the fault `Store`.

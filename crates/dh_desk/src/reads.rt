@@ -1,22 +1,21 @@
 //! Reads.
 ghost use Rattle.std.specs.Prelude.{◌≡◌, Some, None, false, IfOk, OnOk, if◌then◌else◌};
-ghost use Rattle.std.specs.Option.{option_map, option_and_then};
+ghost use Rattle.std.specs.Option.{option_map};
 ghost use Rattle.dh_faults.specs.Faults.{OnStore};
 ghost use Rattle.dh_reply.specs.Replies.{reply_to};
 ghost use Rattle.dh_records.specs.Lists.{world_of};
+ghost use Rattle.dh_desk.specs.Desk.{Blames, IsHonest, IsRefused, Lasts, last_records, lists_of, reply_in, veil_of};
 ghost use Rattle.dh_view.specs.View.{Fails, Looks, shown};
-ghost use Rattle.dh_world.specs.Reads.{host_named, pass_named};
-ghost use Rattle.dh_world.specs.Seen as caller;
-ghost use Rattle.dh_rows.specs.Calls.{Lasts};
-ghost use Rattle.dh_desk.specs.Desk.{Blames, IsHonest, IsRefused, last_records, lists_of};
-ghost use Rattle.dh_desk.specs.Desk.{reply_in, veil_of};
+ghost use Rattle.dh_world.specs.Reads.{host_named, caller_named};
+ghost use Rattle.dh_world.specs.Seen.{seen};
 
 use dh_faults::{Fault, Found};
-use dh_paths::{HostName, TextFault, Token};
+use dh_paths::{HostName, TextFault};
 use dh_reply::{Read, Reply, reply};
 use dh_tables::Tables;
 use dh_texts::{Checked, Kind};
 use dh_view::View;
+use dh_world::Caller;
 use sqlite::Alter;
 use std::alloc::Global;
 
@@ -33,16 +32,17 @@ fn text_in<K: Kind>(alloc: Global, text: &str) -> Found<Checked<K>>
     }
 }
 
-/// The pass that a caller shows: a text that is none counts as none.
-fn pass_in(alloc: Global, pass: Option<&str>) -> Found<Token>
-    ensures value { IfOk result (λ o. o
-        ≡ option_and_then pass_named (option_map (λ text. text.now) pass.entry)) }
+/// The caller who shows this pass or none: a text that is no pass counts as none.
+fn caller_in(alloc: Global, pass: Option<&str>) -> Result<Caller, Fault>
+    ensures value { IfOk result (λ caller. caller
+        ≡ caller_named (option_map (λ text. text.now) pass.entry)) }
     ensures told { OnStore result ⊥ }
 {
-    match pass {
-        Some(text) => text_in(alloc, text),
-        None => Ok(None),
-    }
+    let pass = match pass {
+        Some(text) => text_in(alloc, text)?,
+        None => None,
+    };
+    Ok(Caller { pass })
 }
 
 /// The reply to a read, of tables outside a transaction.
@@ -50,16 +50,16 @@ fn look<S: Alter>(
     tables: &mut Tables<S>,
     alloc: Global,
     host: Option<HostName>,
-    pass: Option<Token>,
+    caller: Caller,
     read: &Read,
 ) -> Result<Reply, Fault>
     ensures looks { Looks S.Store tables.old tables.new }
     ensures told { OnStore result (Fails S.Store tables.old tables.new) }
     ensures value { IsHonest S.Store tables.new
         → IfOk result (λ r. r
-        ≡ reply_to (shown S.Store tables.old host pass) read.now.path read.now.query) }
+        ≡ reply_to (shown S.Store tables.old host caller) read.now.path read.now.query) }
 {
-    let mut view = View::new(tables, host, pass);
+    let mut view = View::new(tables, host, caller);
     let answer = reply(alloc, &mut view, read);
     let _tables = view.close();
     answer
@@ -74,9 +74,8 @@ pub fn read<S: Alter>(
     asked: &Read,
 ) -> Result<Reply, Fault>
     ensures value { IsHonest S.Store tables.new
-        → IfOk result (λ r. r ≡ reply_to (caller.seen (world_of (last_records S.Store tables.old))
-        (host_named host.now)
-        (option_and_then pass_named (option_map (λ text. text.now) pass.entry)))
+        → IfOk result (λ r. r ≡ reply_to (seen (world_of (last_records S.Store tables.old))
+        (host_named host.now) (caller_named (option_map (λ text. text.now) pass.entry)))
         asked.now.path asked.now.query) }
     ensures veiled { IsHonest S.Store tables.new
         → IfOk result (λ r. r ≡ reply_in (veil_of (world_of (last_records S.Store tables.old))
@@ -91,7 +90,7 @@ pub fn read<S: Alter>(
     ensures lasts { Lasts S.Store tables.old tables.new }
 {
     let host = text_in(alloc, host)?;
-    let pass = pass_in(alloc, pass)?;
+    let caller = caller_in(alloc, pass)?;
     tables.back()?;
-    look(tables, alloc, host, pass, asked)
+    look(tables, alloc, host, caller, asked)
 }

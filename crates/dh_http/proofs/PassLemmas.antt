@@ -1,6 +1,6 @@
 -- What the bytes of a pass show, and the reply to them.
 use Rattle.std.proofs.Common.{◌≡◌, ℕ, ◌<◌, Bool, true, false, ◌&&◌, List, [], ◌∷◌, Option, None, Result, Ok, Err, IfOk, refl, sym, ap, subst, ◌∙◌, arith, IsAscii, IsUtf8}
-use Rattle.std.specs.Prelude.{IfSome, MatchResult, option_map}
+use Rattle.std.specs.Prelude.{IfSome, MatchResult, option_map, option_and_then}
 use Rattle.std.specs.Result.{result_ok}
 use Rattle.std.specs.List.{list_all}
 use Rattle.std.proofs.lemmas.Bool.{false≢true}
@@ -13,8 +13,9 @@ use Rattle.dh_wire.specs.declared.reply.Read.{Read}
 use Rattle.dh_wire.specs.declared.reply.Reply.{Reply}
 use Rattle.dh_world.specs.World.{World}
 use Rattle.dh_world.specs.Seen.{seen}
-use Rattle.dh_world.specs.Reads.{pass_named}
-use Rattle.dh_http.specs.Answers.{pass_shown, read_reply}
+use Rattle.dh_world.specs.Reads.{pass_named, caller_named}
+use Rattle.dh_world.specs.declared.caller.Caller.{Caller}
+use Rattle.dh_http.specs.Answers.{read_reply}
 
 both : (a b : Bool) → (a && b) ≡ true → (a ≡ true) × (b ≡ true)
 both true true e = (refl, refl)
@@ -39,7 +40,7 @@ pub no_text_is_no_pass : (text : List ℕ) → (IsUtf8 text → ⊥) → None �
 no_text_is_no_pass text h = named_at text (is_token text) refl h
 
 -- bytes that are read as a text show the same pass as they do
-pub text_shown : {B E : Type 0} (now : B → List ℕ) (r : Result B E) (bytes : List ℕ) (P : E → Type 0) → MatchResult r (λ s. (now s ≡ bytes) × IsUtf8 bytes) (λ e. ¬ (IsUtf8 bytes) × P e) → pass_shown (option_map now (result_ok r)) ≡ pass_named bytes
+pub text_shown : {B E : Type 0} (now : B → List ℕ) (r : Result B E) (bytes : List ℕ) (P : E → Type 0) → MatchResult r (λ s. (now s ≡ bytes) × IsUtf8 bytes) (λ e. ¬ (IsUtf8 bytes) × P e) → option_and_then pass_named (option_map now (result_ok r)) ≡ pass_named bytes
 text_shown now (Ok s) bytes P h = ap pass_named h.0
 text_shown now (Err e) bytes P h = no_text_is_no_pass bytes h.0
 
@@ -47,11 +48,15 @@ taken_ok : {E : Type 0} (r : Result Reply E) (a b : Reply) → a ≡ b → IfOk 
 taken_ok (Ok q) a b same h = h ∙ same
 taken_ok (Err e) a b same h = tt
 
+-- who shows this pass, or none
+abbrev pub by : Option (List ℕ) → Caller
+by pass = record { pass = pass }
+
 -- the reply to the texts of a host and of a pass
-pub read_shown : {E : Type 0} (r : Result Reply E) (o : Option Reply) (w : World) (named host shown pass : Option (List ℕ)) (read : Read) → o ≡ result_ok r → named ≡ host → shown ≡ pass_shown pass → IfOk r (λ q. q ≡ reply_to (seen w named shown) read.path read.query) → IfSome o (λ q. q ≡ read_reply w host pass read)
-read_shown r o w named host shown pass read taken host_is pass_is value =
-    let reply = λ (h p : Option (List ℕ)). reply_to (seen w h p) read.path read.query in
+pub read_shown : {E : Type 0} (r : Result Reply E) (o : Option Reply) (w : World) (named host : Option (List ℕ)) (shown : Caller) (pass : Option (List ℕ)) (read : Read) → o ≡ result_ok r → named ≡ host → shown ≡ caller_named pass → IfOk r (λ q. q ≡ reply_to (seen w named shown) read.path read.query) → IfSome o (λ q. q ≡ read_reply w host pass read)
+read_shown r o w named host shown pass read taken host_is caller_is value =
+    let reply = λ (h : Option (List ℕ)) (c : Caller). reply_to (seen w h c) read.path read.query in
     let same : reply named shown ≡ read_reply w host pass read =
-    ap (λ h. reply h shown) host_is ∙ ap (λ p. reply host p) pass_is in
+    ap (λ h. reply h shown) host_is ∙ ap (λ c. reply host c) caller_is in
     subst (λ v. IfSome v (λ q. q ≡ read_reply w host pass read)) (sym taken)
     (taken_ok r (reply named shown) (read_reply w host pass read) same value)

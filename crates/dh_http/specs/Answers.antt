@@ -1,5 +1,5 @@
 -- What is written for a request, and what it does to the world.
-use Rattle.std.specs.Prelude.{◌≡◌, ◌⊎◌, ℕ, Bool, true, false, List, Option, Some, None, Result, Ok, Err, IfSome, option_and_then}
+use Rattle.std.specs.Prelude.{◌≡◌, ◌⊎◌, ℕ, Bool, true, false, List, Option, Some, None, Result, Ok, Err, IfSome}
 use Rattle.std.specs.Io.KnownBytes.{Appends}
 use Rattle.dh_ports.specs.Ports.{PutsFirst}
 use Rattle.dh_reply.specs.Replies.{reply_to}
@@ -12,7 +12,7 @@ use Rattle.dh_requests.specs.declared.request.Request.{Request}
 use Rattle.dh_requests.specs.declared.request.Request.TheVariants as request
 use Rattle.dh_world.specs.World.{World}
 use Rattle.dh_world.specs.Seen.{seen}
-use Rattle.dh_world.specs.Reads.{pass_named}
+use Rattle.dh_world.specs.Reads.{caller_named}
 use Rattle.dh_world.specs.Step.{IsStep}
 use Rattle.dh_world.specs.declared.answer.Answer.{Answer}
 use Rattle.dh_world.specs.declared.command.Command.{Command}
@@ -22,14 +22,10 @@ use Rattle.dh_http.specs.declared.fault.Done.{Done}
 use Rattle.dh_http.specs.declared.fault.EngineFault.{EngineFault}
 use Rattle.dh_http.specs.declared.fault.EngineFault.TheVariants as fault
 
--- the pass of a request: bytes that are no pass count as none
-abbrev pub pass_shown : Option (List ℕ) → Option (List ℕ)
-pass_shown = option_and_then pass_named
-
 -- the reply to a read: that of the definition, of what the caller sees of the world
 abbrev pub read_reply : World → Option (List ℕ) → Option (List ℕ) → Read → Reply
 read_reply world host pass read =
-    reply_to (seen world host (pass_shown pass)) read.path read.query
+    reply_to (seen world host (caller_named pass)) read.path read.query
 
 -- a command is one step of the world, or is refused, or set aside, and this replies to it
 abbrev pub IsAppliedAs : World → World → Command → Reply → Type 0

@@ -6,9 +6,10 @@ use Rattle.dh_wire.specs.declared.reply.Read.{Read}
 use Rattle.dh_requests.specs.Request.{IsRequest}
 use Rattle.dh_requests.specs.declared.request.Request.TheVariants as request
 use Rattle.dh_world.specs.World.{World}
+use Rattle.dh_world.specs.Reads.{caller_named}
 use Rattle.dh_world.specs.Seen.{seen, veil}
 use Rattle.dh_http.specs.Commands.{unavailable}
-use Rattle.dh_http.specs.Answers.{pass_shown, read_reply}
+use Rattle.dh_http.specs.Answers.{read_reply}
 use Rattle.dh_http.specs.declared.fault.Done.{Done}
 use Rattle.dh_http.specs.declared.fault.EngineFault.{EngineFault}
 
@@ -39,12 +40,12 @@ Headline world left held now result =
 abbrev pub SameProjectSameBytes : Type 0
 SameProjectSameBytes =
     (one other : World) (host pass : Option (List ℕ)) (read : Read) (head : Bool)
-    → seen one host (pass_shown pass) ≡ seen other host (pass_shown pass)
+    → seen one host (caller_named pass) ≡ seen other host (caller_named pass)
     → read_bytes one host pass read head ≡ read_bytes other host pass read head
 
 -- the bytes are those in a world that holds nothing but what the caller sees of that project
 abbrev pub VeiledBytes : Type 0
 VeiledBytes =
     (world : World) (host pass : Option (List ℕ)) (read : Read) (head : Bool)
-    → read_bytes (veil world host (pass_shown pass)) host pass read head
+    → read_bytes (veil world host (caller_named pass)) host pass read head
     ≡ read_bytes world host pass read head

@@ -1,8 +1,7 @@
 //! Who asks, and under which host.
 
 ghost use Rattle.std.specs.Prelude.{◌≡◌, option_map};
-ghost use Rattle.dh_world.specs.Reads.{host_named};
-ghost use Rattle.dh_http.specs.Answers.{pass_shown};
+ghost use Rattle.dh_world.specs.Reads.{caller_named, host_named};
 
 use dh_paths::{Bytes, HostName};
 
@@ -18,7 +17,7 @@ pub fn host_text(host: &Option<HostName>) -> &str
 
 /// The pass, where its bytes are a text; any other bytes are no pass.
 pub fn pass_text(pass: &Option<Bytes>) -> Option<&str>
-    ensures { pass_shown (option_map (λ text. text.now) result) ≡ pass_shown pass.now }
+    ensures { caller_named (option_map (λ text. text.now) result) ≡ caller_named pass.now }
 {
     match pass {
         Some(pass) => str::from_utf8(pass.as_slice()).ok(),

@@ -1,5 +1,5 @@
 -- What looks find is what a command has to know: once for each kind of question.
-use Rattle.std.proofs.Common.{◌≡◌, ◌≤◌, ℕ, Bool, true, false, cond, List, [], map, filter, length, Option, Some, None, find, refl, sym, ap, ◌∙◌, subst, arith}
+use Rattle.std.proofs.Common.{◌≡◌, ◌≤◌, ℕ, Bool, true, false, cond, List, [], map, filter, length, Option, Some, None, find, sym, ap, ◌∙◌, subst, arith}
 use Rattle.std.specs.Prelude.{option_map, IfSome, IsTrue}
 use Rattle.std.specs.List.{AllByRecursion}
 use Rattle.std.specs.Option.{option_and_then, option_map_or}
@@ -28,8 +28,6 @@ use Rattle.dh_records.proofs.WorldLemmas.{branch_of, defaults_in, languages_in, 
 use Rattle.dh_records.specs.Lists.{Lists, world_of, project_of, is_lang_of, is_pick_of, is_project, is_rule_of, is_redirect_of, is_version}
 use Rattle.dh_records.specs.Constraints as constraints
 use Rattle.dh_records.specs.declared.records.ProjectRow.{ProjectRow}
-use Rattle.dh_records.specs.declared.records.RedirectRow.{RedirectRow}
-use Rattle.dh_records.specs.declared.records.RuleRow.{RuleRow}
 use Rattle.dh_records.specs.declared.records.VersionRow.{VersionRow}
 use Rattle.dh_checks.specs.declared.checked.ProjectSettings.{ProjectSettings}
 use Rattle.dh_looks.specs.declared.looks.FoundAt.{FoundAt}
@@ -78,9 +76,6 @@ module _ (host : Text) (lists : Lists) where
   )
 
   -- ---- the version
-
-  pub no_version_asked : OfProject host (IsVersion None None) lists
-  no_version_asked p was = record { is = refl; named = tt }
 
   pub version_here
       : (slug : Text) (o : Option VersionRow) → AreSound lists

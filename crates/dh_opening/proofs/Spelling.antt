@@ -20,12 +20,6 @@ Numbers db = StandFor meta (λ n. n < 2 ^ 32) (codes "meta") db
 pub no_number : (db : Database) → ((ns : List ℕ) → ¬ Numbers db ns) → ¬ IsNumbered db
 no_number db none it = none (1 ∷ []) (record { rows = it.rows; records = it.number; typed = (lit≤ tt, tt) })
 
-pub numbered : (db : Database) (ns : List ℕ) → Numbers db ns → ns ≡ 1 ∷ [] → IsNumbered db
-numbered db ns it one = record { rows = it.rows; number = it.records ∙ one }
-
-pub other_number : (db : Database) (ns : List ℕ) → Numbers db ns → ¬ (ns ≡ 1 ∷ []) → ¬ IsNumbered db
-other_number db ns it other one = other (sym it.records ∙ one.number)
-
 -- ---- all tables
 
 pub ours_numbered : (db : Database) → IsOurs db → IsNumbered db

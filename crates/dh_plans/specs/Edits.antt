@@ -7,9 +7,10 @@ use Rattle.std.specs.Str.{bytes_eq}
 use Rattle.dh_texts.specs.SlugOfName.{slug_from}
 use Rattle.dh_rules.specs.Rules.{is_allowed}
 use Rattle.dh_redirects.specs.Redirects.{first_fault}
-use Rattle.dh_world.specs.Answers.{IsAnswer, json_of}
+use Rattle.dh_world.specs.Answers.{IsAnswer, json_of, answers_to}
 use Rattle.dh_world.specs.Changes.{Change, has_lang, with_version, without_pages, without_name, without_version}
 use Rattle.dh_world.specs.Seen.{is_alias}
+use Rattle.dh_world.specs.WrongTexts.{is_content}
 use Rattle.dh_world.specs.World.{Text, Project, op_code, lies_under}
 use Rattle.dh_world.specs.declared.refusal.Refusal.{Refusal}
 use Rattle.dh_world.specs.declared.refusal.Refusal.TheVariants.{OutOfMemory}
@@ -49,14 +50,15 @@ pub record IsNewFront (p : Project) (names : List Text) : Type 0 where
   pub may : IsTrue (is_alias name || contains_key p.versions name)
 
 -- What has to hold of a project before an edit, so that it is one again: a version's slug comes from its name, one that has
--- pages stays active, pages and grants lead to what is there, lists are no longer than they may be,
--- their rules and redirects pass their checks, and a first answer is one that has a JSON, under a free key.
+-- pages stays active, pages and grants lead to what is there, a page may have its media type and body,
+-- lists are no longer than they may be, their rules and redirects pass their checks, and a first answer
+-- is one of its operation that has a JSON, under a free key.
 abbrev pub MayEdit : Edit → Project → Type 0
 MayEdit (AddLang lang place) p = (has_lang p lang ≡ false) × (place ≡ length p.languages + 1) × (place ≤ 30)
 MayEdit (PutVersion v) p = (slug_from v.name ≡ Some v.slug) × (v.active ≡ false → is_active p v.slug ≡ false)
 MayEdit (PutWithoutPages v) p = slug_from v.name ≡ Some v.slug
 MayEdit (RemoveVersion slug defaults) p = defaults ≡ without_name slug p.defaults
-MayEdit (PutPage slug lang x) p = IsTrue (is_active p slug) × IsTrue (has_lang p lang)
+MayEdit (PutPage slug lang x) p = IsTrue (is_active p slug) × IsTrue (has_lang p lang) × IsTrue (is_content x.media x.body)
 MayEdit (RemovePages slug lang) p = Unit {0}
 MayEdit (SetDefaults names) p = IsNewFront p names
 MayEdit (SetRules rules) p = (length rules ≤ 50) × AllByRecursion (λ r. IsTrue (is_allowed r.pattern)) rules
@@ -65,7 +67,7 @@ MayEdit (AddPass pass) p = (contains_key p.passes pass ≡ false) × (len p.pass
 MayEdit (RemovePass pass) p = Unit {0}
 MayEdit (Grant pass slug) p = IsTrue (contains_key p.passes pass) × IsTrue (contains_key p.versions slug)
 MayEdit (Revoke pass slug) p = Unit {0}
-MayEdit (PutAnswer a) p = (get p.used (a.slug, (op_code a.operation, a.key)) ≡ None) × IsAnswer a.answer × IsSome (json_of a.answer)
+MayEdit (PutAnswer a) p = (get p.used (a.slug, (op_code a.operation, a.key)) ≡ None) × IsAnswer a.answer × IsSome (json_of a.answer) × IsTrue (answers_to a.operation a.answer)
 
 abbrev pub MayEditAll : List Edit → Project → Type 0
 MayEditAll [] p = Unit {0}

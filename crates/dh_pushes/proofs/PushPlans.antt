@@ -113,9 +113,9 @@ module _ (x : CheckedPush) (f : Facts) (p : Project) (k : Knows (change.Push x) 
         may_choose : (b : Bool) → MayEditAll (chosen_put b x.slug p.defaults ++ push_answered x (made v) ∷ []) (with_version p x.slug v)
         may_choose true = (
           record { name = x.slug; names_are = refl; may = ap (λ b. is_alias x.slug || b) (put_there p x.slug v) ∙ or_true (is_alias x.slug) },
-          ((free, (named_slug x.name x.slug x.named).1, refl), tt),
+          ((free, (named_slug x.name x.slug x.named).1, refl, refl), tt),
         )
-        may_choose false = ((free, (named_slug x.name x.slug x.named).1, refl), tt)
+        may_choose false = ((free, (named_slug x.name x.slug x.named).1, refl, refl), tt)
 
         plan_is : Plans p (by_fresh y) (Ok (plan_made x p.defaults y))
         plan_is = (
@@ -151,7 +151,7 @@ module _ (x : CheckedPush) (f : Facts) (p : Project) (k : Knows (change.Push x) 
       knows same =
           let slug_here : v.slug ≡ x.slug = same_slug v.slug x.slug (is_asked _ f p found v there).0 in (
             at_found (Some v) there ∙ ap compared same ∙ ap (λ s. keep (push_key s x.key) (Known v.slug) p) slug_is ∙ ap (λ s. keep (push_key x.slug x.key) (Known s) p) slug_here,
-            ((free, (named_slug x.name x.slug x.named).1, refl), tt),
+            ((free, (named_slug x.name x.slug x.named).1, refl, refl), tt),
           )
 
 -- what is made of a new branch or tag is what is decided

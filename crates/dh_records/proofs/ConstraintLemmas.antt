@@ -1,6 +1,5 @@
 -- The constraints of the records are kept by each change: what speaks of no list that changes is at hand, so each lemma lists the rest.
 use Rattle.std.proofs.Common.{◌≡◌, ℕ, zero, suc, ◌<◌, ◌≤◌, ◌+◌, Bool, true, false, not, ◌&&◌, ◌||◌, cond, List, [], ◌∷◌, ◌++◌, map, filter, find, length, slice_get, is_some, Option, Some, None, IsTrue, refl, sym, ap, ap₂, ◌∙◌, subst, arith, true≢false, length-append, map-id}
-use Rattle.std.specs.Prelude.{IsSome}
 use Rattle.std.specs.List.{AllByRecursion, IsDistinct, list_any, range_with_len}
 use Rattle.std.specs.Option.{option_map_or}
 use Rattle.std.specs.Str.{bytes_eq}
@@ -22,7 +21,8 @@ use Rattle.dh_records.specs.declared.records.UsedRow.{UsedRow}
 use Rattle.dh_records.specs.declared.records.PassRow.{PassRow}
 use Rattle.dh_records.specs.declared.records.HeldRow.{HeldRow}
 use Rattle.dh_records.specs.Codings as coding
-use Rattle.dh_world.specs.Answers.{answer_of}
+use Rattle.dh_world.specs.Answers.{tells}
+use Rattle.dh_world.specs.WrongTexts.{is_content}
 use Rattle.dh_world.specs.World.{Text}
 use Rattle.dh_world.specs.Seen.{is_alias}
 use Rattle.dh_records.specs.Lists.{Lists, is_project, is_lang_of, is_version, is_page_of, is_pass}
@@ -108,12 +108,14 @@ constraints_with_version lists row constraints host named bare =
 -- ---- pages
 
 pub constraints_with_page : (lists : Lists) (row : PageRow) → KeepsConstraints lists → IsTrue (has_project lists row.host) → IsTrue (has_active lists row.host row.slug) → IsTrue (has_language lists row.host row.lang)
+    → IsTrue (is_content row.page.media row.page.body)
     → KeepsConstraints (record lists { pages = put coding.pages.key row lists.pages })
-constraints_with_page lists row constraints host shown spoken =
+constraints_with_page lists row constraints host shown spoken fit =
     assumption (
       all_put coding.pages.key (λ x. IsTrue (has_project lists x.host)) row lists.pages host constraints.hosts.pages,
       all_put coding.pages.key (λ x. IsTrue (has_active lists x.host x.slug)) row lists.pages shown constraints.records.active,
       all_put coding.pages.key (λ x. IsTrue (has_language lists x.host x.lang)) row lists.pages spoken constraints.records.spoken,
+      all_put coding.pages.key (λ x. IsTrue (is_content x.page.media x.page.body)) row lists.pages fit constraints.records.fit,
     )
 
 -- some pages less
@@ -123,16 +125,17 @@ constraints_without lists p constraints =
       all-filter _ p lists.pages constraints.hosts.pages,
       all-filter _ p lists.pages constraints.records.active,
       all-filter _ p lists.pages constraints.records.spoken,
+      all-filter _ p lists.pages constraints.records.fit,
     )
 
 -- ---- used keys
 
-pub constraints_with_used : (lists : Lists) (row : UsedRow) → KeepsConstraints lists → IsTrue (has_project lists row.host) → IsSome (answer_of row.answer)
+pub constraints_with_used : (lists : Lists) (row : UsedRow) → KeepsConstraints lists → IsTrue (has_project lists row.host) → IsTrue (tells row.op row.answer)
     → KeepsConstraints (record lists { used = added coding.used.key row lists.used })
 constraints_with_used lists row constraints host read =
     assumption (
       all_added (λ u. IsTrue (has_project lists u.host)) (by_key coding.used.key) row lists.used host constraints.hosts.used,
-      all_added (λ u. IsSome (answer_of u.answer)) (by_key coding.used.key) row lists.used read constraints.texts.answers,
+      all_added (λ u. IsTrue (tells u.op u.answer)) (by_key coding.used.key) row lists.used read constraints.texts.answers,
     )
 
 -- ---- languages

@@ -1,5 +1,5 @@
 -- The versions of a host stand in the order of their slugs, and so do those that a caller sees.
-use Rattle.std.proofs.Common.{◌≡◌, Bool, true, false, ◌&&◌, cond, List, [], ◌∷◌, map, filter, Option, Some, None, T, refl, sym, ap, subst, ◌∙◌, Ordering, Less, Equal, Greater, is_lt, true≢false}
+use Rattle.std.proofs.Common.{◌≡◌, Bool, true, false, ◌&&◌, cond, List, [], ◌∷◌, map, filter, Some, None, T, refl, sym, ap, subst, ◌∙◌, Ordering, Less, Equal, Greater, is_lt, true≢false}
 use Rattle.std.specs.Option.{option_map_or}
 use Rattle.std.specs.List.{AllByRecursion}
 use Rattle.std.specs.Str.{bytes_eq}
@@ -17,6 +17,7 @@ use Rattle.dh_versions.specs.declared.version.Version.{Version}
 use Rattle.dh_records.specs.declared.records.ProjectRow.{ProjectRow}
 use Rattle.dh_records.specs.declared.records.VersionRow.{VersionRow}
 use Rattle.dh_records.specs.Codings.{versions}
+use Rattle.dh_world.specs.declared.caller.Caller.{Caller}
 use Rattle.dh_world.specs.World.{text_cmp}
 use Rattle.dh_world.specs.Visibility.{holds, is_visible, may_see}
 use Rattle.dh_world.specs.World as world
@@ -145,14 +146,14 @@ seen_entries held (r ∷ rows) = go (may_see r.version (held r.version.slug)) (s
 versions_are : (lists : Lists) (row : ProjectRow) → (project_of lists row).versions ≡ from_entries (map by_slug (filter (is_version_of row.host) lists.versions))
 versions_are lists row = ap (λ x. x.versions) (spelled lists row)
 
-pub visible_entries : (lists : Lists) (row : ProjectRow) (pass : Option world.Text) → RiseBySlug (filter (is_version_of row.host) lists.versions)
-    → entries (visible_versions (project_of lists row) pass) ≡ map by_slug (filter (λ r. may_see r.version (holds (project_of lists row) pass r.version.slug)) (filter (is_version_of row.host) lists.versions))
-visible_entries lists row pass up =
+pub visible_entries : (lists : Lists) (row : ProjectRow) (c : Caller) → RiseBySlug (filter (is_version_of row.host) lists.versions)
+    → entries (visible_versions (project_of lists row) c) ≡ map by_slug (filter (λ r. may_see r.version (holds (project_of lists row) c.pass r.version.slug)) (filter (is_version_of row.host) lists.versions))
+visible_entries lists row c up =
     let rows = filter (is_version_of row.host) lists.versions in
     let es = map by_slug rows in
     let sorted : T (is_sorted text_cmp es) = subst T (sym up) tt in
-    let seen : world.Text → Bool = is_visible (project_of lists row) pass in
-    let held : world.Text → Bool = holds (project_of lists row) pass in
+    let seen : world.Text → Bool = is_visible (project_of lists row) c in
+    let held : world.Text → Bool = holds (project_of lists row) c.pass in
     let told : (e : world.Text × Version) → IsFound es e → seen e.0 ≡ may_see e.1 (held e.0) = λ e found.
     ap (λ m. option_map_or (λ v. may_see v (held e.0)) (get m e.0) false) (versions_are lists row) ∙ ap (λ o. option_map_or (λ v. may_see v (held e.0)) o false) (get-from_entries text_total es e.0 ∙ found) in
     ap (λ m. entries (retain_keys m seen)) (versions_are lists row) ∙ kept_entries es seen sorted ∙ same_filter (λ e. seen e.0) (λ e. may_see e.1 (held e.0)) es (each told es (each_found es sorted)) ∙ seen_entries held rows

@@ -1,5 +1,5 @@
 -- What the records keep besides being in the order of their keys.
-use Rattle.std.specs.Prelude.{◌≡◌, ◌≤◌, ℕ, Bool, false, ◌&&◌, ◌||◌, IsTrue, List, map, filter, length, slice_get, find, Some, None, is_some, IsSome}
+use Rattle.std.specs.Prelude.{◌≡◌, ◌≤◌, ℕ, Bool, false, ◌&&◌, ◌||◌, IsTrue, List, map, filter, length, slice_get, find, Some, None, is_some}
 use Rattle.std.specs.declared.cmp.Ordering.TheVariants.{Less}
 use Rattle.std.specs.List.{AllByRecursion, IsDistinct, list_any, range_with_len}
 use Rattle.std.specs.Option.{option_map_or}
@@ -11,7 +11,8 @@ use Rattle.dh_texts.specs.SlugOfName.{slug_from}
 use Rattle.dh_rules.specs.Rules.{is_allowed}
 use Rattle.dh_redirects.specs.Redirects.{first_fault}
 use Rattle.dh_rows.specs.Keyed.{by_key}
-use Rattle.dh_world.specs.Answers.{answer_of}
+use Rattle.dh_world.specs.Answers.{tells}
+use Rattle.dh_world.specs.WrongTexts.{is_content}
 use Rattle.dh_world.specs.World.{Text, text_cmp}
 use Rattle.dh_world.specs.Seen.{is_alias}
 use Rattle.dh_records.specs.Codings as coding
@@ -115,6 +116,8 @@ pub record KeepRecords (lists : Lists) : Type 0 where
   -- a page's version is there and active, and its language is one of the project's
   pub active : AllByRecursion (λ x. IsTrue (has_active lists x.host x.slug)) lists.pages
   pub spoken : AllByRecursion (λ x. IsTrue (has_language lists x.host x.lang)) lists.pages
+  -- a page may have its media type and body
+  pub fit : AllByRecursion (λ x. IsTrue (is_content x.page.media x.page.body)) lists.pages
   -- a default is an alias or a version that is there
   pub default_names : AllByRecursion (λ d. IsTrue (is_alias d.name || has_version lists d.host d.name)) lists.picks
   -- a grant's pass and version are there
@@ -125,8 +128,8 @@ pub record KeepRecords (lists : Lists) : Type 0 where
 pub record KeepTexts (lists : Lists) : Type 0 where
   -- a version's slug comes from its name
   pub slugs : AllByRecursion (λ v. slug_from v.version.name ≡ Some v.version.slug) lists.versions
-  -- each kept answer is read again
-  pub answers : AllByRecursion (λ u. IsSome (answer_of u.answer)) lists.used
+  -- each kept answer is read again, as one of its operation
+  pub answers : AllByRecursion (λ u. IsTrue (tells u.op u.answer)) lists.used
   -- each rule may be added
   pub allowed : AllByRecursion (λ r. IsTrue (is_allowed r.rule.pattern)) lists.rules
 

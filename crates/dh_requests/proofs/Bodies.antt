@@ -1,5 +1,5 @@
 -- Reading up to the end of a body.
-use Rattle.std.proofs.Common.{◌≡◌, ℕ, ◌+◌, ◌-◌, ◌<◌, ◌≤◌, min, Bool, true, false, cond, leb, List, [], ◌++◌, length, length-append, take, Option, Some, None, Err, inl, inr, refl, arith, append_assoc, append-nil, ap, sym, subst, ◌∙◌}
+use Rattle.std.proofs.Common.{◌≡◌, ℕ, ◌+◌, ◌-◌, ◌<◌, ◌≤◌, min, Bool, true, false, cond, leb, List, ◌++◌, length, length-append, take, Option, Some, None, Err, inl, inr, refl, arith, append_assoc, ap, sym, subst, ◌∙◌}
 use Rattle.std.proofs.lemmas.Bool.{leb-true, leb-false}
 use Rattle.std.proofs.lemmas.List.{take-append-le, take_min}
 use Rattle.std.specs.Io.KnownBytes.{Consumes}
@@ -17,11 +17,7 @@ use Rattle.dh_requests.specs.Takes.{AddsBytes, FillsUpTo, TookWhile, TookAtLeast
 use Rattle.dh_requests.specs.Needs.{OpenBody, IsNeeded, StaysNeeded}
 use Rattle.dh_requests.proofs.Ends.{window, end_stays, head_end_of-search}
 use Rattle.dh_requests.proofs.Little.{no_end}
-use Rattle.dh_requests.proofs.Takes.{consumes_on, consumes_none, needed_on, stopped}
-
--- before any read
-pub adds_none : (left : Option (List ℕ)) (bytes : List ℕ) → AddsBytes left left bytes bytes
-adds_none left bytes = ([], consumes_none left, sym (append-nil bytes))
+use Rattle.dh_requests.proofs.Takes.{consumes_on, needed_on, stopped}
 
 -- one more read
 pub adds_on : (old mid new : Option (List ℕ)) (before bytes after : List ℕ) (came : Bool) → AddsBytes old mid before bytes → AddsSome mid new bytes after came → AddsBytes old new before after

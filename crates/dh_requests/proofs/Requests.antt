@@ -37,20 +37,6 @@ pub whole_text : (left : Option (List ℕ)) (bytes text : List ℕ) (start : ℕ
 whole_text None bytes text start request le same asks = tt
 whole_text (Some more) bytes text start request le same asks = request_text (Ok request) (Some more) bytes text start (Whole request) le same asks refl
 
--- a body that is cut short
-pub cut_body : (old new : Option (List ℕ)) (before after : List ℕ) (start : ℕ) (posted : Posted) (whole : Bool) → whole ≡ false → start ≤ length before → AddsUpTo old new before after (start + posted.length) whole → IfSome old (λ left. Refused 400 None false ≡ request_behind (Command posted) (drop start (before ++ left)))
-cut_body old new before after start posted true w le h = absurd (cc)
-cut_body None new before after start posted false w le h = tt
-cut_body (Some x) None before after start posted false w le h = absurd h.0.1
-cut_body (Some x) (Some y) before after start posted false w le h =
-    let added = h.0 in
-    let came : length x ≡ length added.0 + length y = ap length added.1 ∙ length-append added.0 y in
-    let all : length after ≡ length before + length added.0 = ap length added.2 ∙ length-append before added.0 in
-    let rest : length (drop start (before ++ x)) ≡ length before + length x - start = length-drop start (before ++ x) ∙ ap (λ n. n - start) (length-append before x) in
-    let none : length y ≡ 0 = ap length h.1.1 in
-    let short : leb posted.length (length (drop start (before ++ x))) ≡ false = grind (arith, nat_tests, h.1.0, came, all, rest, none) in
-    sym (ap (λ b. cond b (command_of posted (take posted.length (drop start (before ++ x)))) (Refused 400 None false)) short)
-
 -- a body that is whole
 pub whole_body : (r : Result Request Stop) (old new : Option (List ℕ)) (before after body : List ℕ) (start : ℕ) (posted : Posted) (whole : Bool) → whole ≡ true → start ≤ length before → AddsUpTo old new before after (start + posted.length) whole → body ≡ take (start + posted.length - start) (drop start after) → IfOk r (λ q. q ≡ command_of posted body) → IfOk r (λ q. IfSome old (λ left. q ≡ request_behind (Command posted) (drop start (before ++ left))))
 whole_body r old new before after body start posted false w le h same is = absurd (cc)

@@ -3,6 +3,7 @@ use Rattle.std.proofs.Common.{◌≡◌, ◌+◌, ◌<◌, ℕ, Bool, false, not
 use Rattle.std.specs.Prelude.{option_map, unwrap_or, IsSome, IsTrue}
 use Rattle.std.specs.FinMap.{get, insert}
 use Rattle.std.specs.List.{IsDistinct}
+use Rattle.std.specs.Option.{option_map_or}
 use Rattle.std.specs.Str.{bytes_eq}
 use Rattle.dh_plans.specs.Edits.{edited, all_edited, MayEdit, MayEditAll}
 use Rattle.dh_plans.specs.declared.edits.Edit.{Edit}
@@ -31,7 +32,7 @@ use Rattle.dh_row_edits.specs.RowEdits.{lang_row, version_row, page_row, pass_ro
 use Rattle.dh_records.specs.Constraints.{AreSound}
 use Rattle.dh_world.proofs.AnswerLemmas.{told_again}
 use Rattle.dh_world.proofs.MapLemmas.{put_same, get_back}
-use Rattle.dh_world.specs.Answers.{IsAnswer, json_of, answer_of}
+use Rattle.dh_world.specs.Answers.{IsAnswer, json_of, answer_of, answers_to, tells}
 use Rattle.dh_world.specs.Changes as change
 use Rattle.dh_world.specs.Seen.{is_alias}
 use Rattle.dh_world.specs.World.{Text, Project, op_code}
@@ -50,12 +51,12 @@ kept_is host slug key op a is told = go (json_of a) refl told
     go (Some text) e some = ap (λ x. unwrap_or x Done) (told_again a text is e)
 
 -- and its text is read again
-kept_reads : (a : Answer) → IsAnswer a → IsSome (json_of a) → IsSome (answer_of (unwrap_or (json_of a) []))
-kept_reads a is told = go (json_of a) refl told
+kept_reads : (op : Operation) (a : Answer) → IsAnswer a → IsSome (json_of a) → IsTrue (answers_to op a) → IsTrue (tells op (unwrap_or (json_of a) []))
+kept_reads op a is told its = go (json_of a) refl told
   where
-    go : (o : Option (List ℕ)) → json_of a ≡ o → IsSome o → IsSome (answer_of (unwrap_or o []))
+    go : (o : Option (List ℕ)) → json_of a ≡ o → IsSome o → IsTrue (tells op (unwrap_or o []))
     go None e some = absurd (cc)
-    go (Some text) e some = ap is_some (told_again a text is e)
+    go (Some text) e some = ap (λ x. option_map_or (answers_to op) x false) (told_again a text is e) ∙ its
 
 unmapped : {A B : Type 0} (f : A → B) (o : Option A) → option_map f o ≡ None → o ≡ None
 unmapped f None e = refl
@@ -157,7 +158,7 @@ module _ (host : Text) (lists : Lists) (p : Project) (sound : AreSound lists) (w
         world_is = world_with_page lists row p was;
         sound = record {
           order = order_with_page lists sound.order row;
-          constraints = constraints_with_page lists row sound.constraints owned (sym (active_in lists host p was slug) ∙ may.0) (sym (speaks_in lists host p was lang) ∙ may.1);
+          constraints = constraints_with_page lists row sound.constraints owned (sym (active_in lists host p was slug) ∙ may.0) (sym (speaks_in lists host p was lang) ∙ may.1) may.2;
         };
       }
   edit_spells (RemovePages slug lang) may =
@@ -225,7 +226,7 @@ module _ (host : Text) (lists : Lists) (p : Project) (sound : AreSound lists) (w
             (kept_is host a.slug a.key a.operation a.answer may.1 may.2);
         sound = record {
           order = order_with_used lists sound.order row free;
-          constraints = constraints_with_used lists row sound.constraints owned (kept_reads a.answer may.1 may.2);
+          constraints = constraints_with_used lists row sound.constraints owned (kept_reads a.operation a.answer may.1 may.2 may.3);
         };
       }
 

@@ -1,5 +1,5 @@
 -- What a statement does to one table among others, in terms of its records.
-use Rattle.std.proofs.Common.{◌≡◌, ◌≢◌, ◌⊎◌, inl, inr, ℕ, zero, suc, ℤ, List, [], ◌∷◌, ◌++◌, length, map, filter, not, Bool, true, false, Option, None, Some, Ok, Err, Result, slice_get, find, ◌==◌, ◌/◌, refl, sym, ap, ap₂, subst, ◌∙◌, true≢false, append-nil, is_eq}
+use Rattle.std.proofs.Common.{◌≡◌, ◌≢◌, ◌⊎◌, inl, inr, ℕ, zero, suc, ℤ, List, [], ◌∷◌, length, map, filter, not, Bool, true, false, Option, None, Some, Ok, Err, Result, slice_get, find, ◌==◌, ◌/◌, refl, sym, ap, ap₂, subst, ◌∙◌, true≢false, append-nil}
 use Rattle.std.specs.List.{AllByRecursion}
 use Rattle.std.proofs.lemmas.List.Sorted.{All-permutation}
 use Rattle.std.proofs.lemmas.List.Elements.{recursion_from_All, All-from_recursion}
@@ -214,12 +214,3 @@ pub select_reads : (db : Database) (t : Table) {X : Type 0} (c : Coding X) → K
     → rows ≡ map show (filter test (records_of c t.name db))
 select_reads db t c keeps params terms shown order names test show sees shows sorts rows h =
     reads_records c terms shown order (tree_of db.schema t.name) params test c.key show sees shows sorts db.trees rows keeps.rows (h.answer Null)
-
--- A key is free once the records with it are taken out.
-pub freed : {X : Type 0} (key : X → Row) (x : X) (xs : List X) → IsFreeKey key x (filter (λ y. not (same_key key x y)) xs)
-freed key x [] = tt
-freed key x (y ∷ ys) = go (same_key key x y) refl (freed key x ys)
-  where
-    go : (b : Bool) → same_key key x y ≡ b → IsFreeKey key x (filter (λ z. not (same_key key x z)) ys) → IsFreeKey key x (Rattle.std.proofs.Common.cond (not b) (y ∷ filter (λ z. not (same_key key x z)) ys) (filter (λ z. not (same_key key x z)) ys))
-    go true e rest = rest
-    go false e rest = (e, rest)

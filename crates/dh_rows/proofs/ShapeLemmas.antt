@@ -53,10 +53,6 @@ module _ {A : Type 0} (a : A) where
   abbrev alone : Bool → List A
   alone none = if none then [] else a ∷ []
 
-  all_alone : (none : Bool) → AllByRecursion (λ x. x ≡ a) (alone none)
-  all_alone true = tt
-  all_alone false = (refl, tt)
-
   length-alone : (n : ℕ) → length (alone (n == 0)) ≡ min n 1
   length-alone n = go (n == 0) refl
     where

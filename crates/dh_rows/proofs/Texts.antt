@@ -36,7 +36,7 @@ use Rattle.sqlite_schema.specs.declared.schema.Schema.{Schema}
 use Rattle.sqlite_schema.specs.declared.command.Command.{Command}
 use Rattle.sqlite_schema.specs.declared.command.Command.TheVariants as command
 use Rattle.sqlite_schema.specs.declared.command.Source.TheVariants.{Values}
-use Rattle.sqlite_schema.specs.Names.{table_named, column_named}
+use Rattle.sqlite_schema.specs.Names.{column_named}
 use Rattle.sqlite_draft.specs.declared.join.Step.TheVariants.{Inner}
 use Rattle.sqlite_draft.specs.declared.query.Draft.{Draft}
 use Rattle.sqlite_typing.specs.Types.{Slots, class_of, class_in, row_classes, term_class, are_tests, are_typed, accepts_program}
@@ -209,9 +209,6 @@ pub record Follows (s after : State) (cost : ℕ) : Type 0 where
   pub steps : after.steps ≡ s.steps
   pub aggregates : after.aggregates ≡ s.aggregates
   pub budget : s.budget ≤ after.budget + cost
-
-follows_on : {s t u : State} {m n : ℕ} → Follows s t m → Follows t u n → Follows s u (m + n)
-follows_on p q = record { next = q.next ∙ p.next; steps = q.steps ∙ p.steps; aggregates = q.aggregates ∙ p.aggregates; budget = omega (arith, p.budget, q.budget) }
 
 flat : (b : Bool) → cond b affinity.None affinity.None ≡ affinity.None
 flat true = refl

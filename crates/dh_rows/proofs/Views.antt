@@ -1,5 +1,5 @@
 -- From the view that hides nothing to any other.
-use Rattle.std.proofs.Common.{◌≡◌, ◌⊎◌, inl, inr, ℕ, List, Bool, true, false, cond, Result, Ok, Err, IsTrue, OnOk, OnErr, refl, sym, ap, subst, ◌∙◌, true≢false}
+use Rattle.std.proofs.Common.{◌≡◌, inl, inr, ℕ, List, Bool, true, false, cond, Result, Ok, Err, OnOk, OnErr, refl, sym, ap, subst, ◌∙◌}
 use Rattle.sqlite_value.specs.Order.{Row}
 use Rattle.sqlite_trees.specs.Tree.{Trees}
 use Rattle.sqlite_trees.specs.declared.store.Store.{Ghosts}
@@ -60,12 +60,6 @@ module _ {S : Type 0} (g : Ghosts S) {W : Type 0} (view : Database → W) (old n
       where
         known : (after : Database) (db : Trees) → Edits (state g old) sql params after → db ≡ after.trees → record { schema = (state g old).committed.schema; trees = db } ≡ after
         known after db edits e = Rattle.std.proofs.Common.ap₂ (λ s d. record { schema = s; trees = d }) (sym (steady honest) ∙ sym (effect honest after edits).0) e
-
-  pub leaves_none : (Q : W → Type 0) → LeavesTrees g old new (λ db. ⊥) → Leaves g view old new Q
-  leaves_none Q it honest clean db may = elim (it honest clean db may) [
-    | inl before ↦ inl before
-    | inr none ↦ absurd none
-  ]
 
   pub leaves_now : (IsHonest g old → (state g old).now.schema ≡ (state g old).committed.schema) → LeavesTrees g old new (λ db. db ≡ (state g old).now.trees) → Leaves g view old new (λ v. v ≡ view (state g old).now)
   leaves_now steady it honest clean db may = elim (it honest clean db may) [

@@ -7,7 +7,7 @@ use Rattle.sqlite_trees.specs.declared.store.Store.{Ghosts}
 use Rattle.sqlite.specs.State.{HasCleanDisk}
 use Rattle.sqlite.specs.Held.{Held, state}
 use Rattle.sqlite.specs.Effect.{Database}
-use Rattle.dh_rows.specs.Calls.{IsBlamed, IsHonest, Lasts, Goes, GoesWithin, Sees, Shows, IsSame, IsRefused}
+use Rattle.dh_rows.specs.Calls.{IsBlamed, IsHonest, Lasts, Goes, GoesWithin, Shows, IsSame, IsRefused}
 
 -- as faults are counted: more than later is more than before
 more_before
@@ -128,15 +128,3 @@ module _ {S : Type 0} {g : Ghosts S} where
       last_is = q.last_is ∙ p.last_is;
       mode = q.mode;
     })
-
-    -- the last of two changes is what is seen
-    pub sees_on
-        : {a b c : Held S} (v w : W)
-        → (HasCleanDisk (state g c) → HasCleanDisk (state g b)) → (IsHonest g c → IsHonest g b)
-        → Sees g view a b v → Sees g view b c w → Sees g view a c w
-    sees_on v w clean was p q = record {
-      live = λ it now. q.live (p.live it (clean now)) now;
-      now_is = q.now_is;
-      mode = λ it. q.mode it ∙ p.mode (was it);
-      done = λ it out. q.done it (p.mode (was it) ∙ out);
-    }

@@ -1,6 +1,6 @@
 -- Lines of a script.
 use Rattle.std.proofs.Common.{◌≡◌, inl, inr, Option, Some, None, Result, IfOk}
-use Rattle.std.proofs.Common.{option_and_then, Bool, sym, subst}
+use Rattle.std.proofs.Common.{Bool, sym, subst}
 use Rattle.std.proofs.lemmas.Result.{IfOk-weaker}
 use Rattle.dh_paths.specs.declared.target.Target.{Target}
 use Rattle.dh_reply.specs.Replies.{reply_to}
@@ -8,19 +8,19 @@ use Rattle.dh_wire.specs.declared.reply.Reply.{Reply}
 use Rattle.dh_faults.specs.declared.fault.Fault.{Fault}
 use Rattle.dh_world.specs.World.{Text, World}
 use Rattle.dh_world.specs.Seen.{seen}
-use Rattle.dh_world.specs.Reads.{host_named, pass_named}
+use Rattle.dh_world.specs.Reads.{host_named, caller_named}
 use Rattle.dh_world.specs.declared.outcome.Outcome.{Outcome}
 use Rattle.dh_lines.specs.declared.lines.Line.{Line}
 use Rattle.dh_script.specs.Script.{outcome_of_read, Tells, GetsAt, DoesOver, MayDo, MayDoOrder}
 
 -- what is told of a read's outcome, whose reply is the definition's
 pub got : {P E : Type 0} (text_in : P → Text) (refused_in : P → Bool) (w : World) (named host : Text) (shown pass : Option Text) (t : Target) (reply : Result Reply Fault) (outcome : Outcome) (result : Result P E)
-    → IfOk reply (λ r. r ≡ reply_to (seen w (host_named named) (option_and_then pass_named shown)) t.path t.query)
+    → IfOk reply (λ r. r ≡ reply_to (seen w (host_named named) (caller_named shown)) t.path t.query)
     → named ≡ host → shown ≡ pass → outcome ≡ outcome_of_read reply → IfOk result (λ p. Tells outcome (text_in p) (refused_in p))
     → IfOk result (λ p. GetsAt w host pass (Some t) (text_in p) (refused_in p))
 got text_in refused_in w named host shown pass t reply outcome result value same_host same_pass same told =
-    let by_host = subst (λ (h : Text). IfOk reply (λ r. r ≡ reply_to (seen w (host_named h) (option_and_then pass_named shown)) t.path t.query)) same_host value in
-    let by_pass = subst (λ (p : Option Text). IfOk reply (λ r. r ≡ reply_to (seen w (host_named host) (option_and_then pass_named p)) t.path t.query)) same_pass by_host in
+    let by_host = subst (λ (h : Text). IfOk reply (λ r. r ≡ reply_to (seen w (host_named h) (caller_named shown)) t.path t.query)) same_host value in
+    let by_pass = subst (λ (p : Option Text). IfOk reply (λ r. r ≡ reply_to (seen w (host_named host) (caller_named p)) t.path t.query)) same_pass by_host in
     IfOk-weaker result _ _ (λ p is. (reply, by_pass, subst (λ (o : Outcome). Tells o (text_in p) (refused_in p)) same is)) told
 
 -- a line that names no store may do what its order may

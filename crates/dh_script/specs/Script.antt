@@ -1,5 +1,5 @@
 -- What a line of a script does and prints, and what a script leaves.
-use Rattle.std.specs.Prelude.{◌≡◌, ◌⊎◌, Bool, true, false, codes, Option, Some, None, option_and_then}
+use Rattle.std.specs.Prelude.{◌≡◌, ◌⊎◌, Bool, true, false, codes, Option, Some, None}
 use Rattle.std.specs.Prelude.{Result, Ok, Err, IfOk}
 use Rattle.dh_paths.specs.Targets.{target_of}
 use Rattle.dh_paths.specs.declared.target.Target.{Target}
@@ -10,7 +10,7 @@ use Rattle.dh_world.specs.World.{Text, World}
 use Rattle.dh_world.specs.Seen.{seen}
 use Rattle.dh_world.specs.declared.answer.Answer.{Answer}
 use Rattle.dh_world.specs.Step.{IsStep}
-use Rattle.dh_world.specs.Reads.{host_named, pass_named}
+use Rattle.dh_world.specs.Reads.{host_named, caller_named}
 use Rattle.dh_world.specs.declared.command.Command.{Command}
 use Rattle.dh_world.specs.declared.outcome.Outcome.{Outcome}
 use Rattle.dh_world.specs.declared.outcome.Outcome.TheVariants.{Applied, Refused, Replied, Failed}
@@ -47,7 +47,7 @@ abbrev pub GetsAt : World → Text → Option Text → Option Target → Text �
 GetsAt w host pass None text refused = (text ≡ codes "bad target") × (refused ≡ true)
 GetsAt w host pass (Some t) text refused =
     (reply : Result Reply Fault)
-    × IfOk reply (λ r. r ≡ reply_to (seen w (host_named host) (option_and_then pass_named pass)) t.path t.query)
+    × IfOk reply (λ r. r ≡ reply_to (seen w (host_named host) (caller_named pass)) t.path t.query)
     × Tells (outcome_of_read reply) text refused
 
 -- an order that is none of a desk is refused

@@ -1,11 +1,13 @@
 //! Whether a kept text is read as an answer, however it is spelled: `Answer::read` takes one spelling alone.
 
-ghost use Rattle.std.specs.Prelude.{◌≡◌, IfOk, codes, is_some, option_map, option_and_then};
+ghost use Rattle.std.specs.Prelude.{◌≡◌, IfOk, codes, false, is_some, option_map, option_and_then};
+ghost use Rattle.std.specs.Option.{option_map_or};
 ghost use Rattle.serde_json.specs.Find.{get, as_number, as_u64};
 ghost use Rattle.serde_json.specs.View.{view};
 ghost use Rattle.dh_world.specs.Answers as spec;
 
 use dh_paths::{Slug, TextFault};
+use dh_world::Operation;
 use serde_json::Value;
 use std::alloc::{AllocError, Global};
 
@@ -62,23 +64,24 @@ fn is_made(alloc: Global, value: &Value) -> Result<bool, AllocError>
     Ok(has_slug(alloc, value)? && flags)
 }
 
-fn is_answer(alloc: Global, value: &Value) -> Result<bool, AllocError>
-    ensures { IfOk result (λ b. b ≡ is_some (spec.answer_in (view value.now))) }
+fn is_answer(alloc: Global, operation: Operation, value: &Value) -> Result<bool, AllocError>
+    ensures { IfOk result (λ b. b
+        ≡ option_map_or (spec.answers_to operation) (spec.answer_in (view value.now)) false) }
 {
-    match text_at(value, "answer") {
-        Some("made") => is_made(alloc, value),
-        Some("known") => has_slug(alloc, value),
-        Some("stored") => Ok(has_pages(value)),
+    match (operation, text_at(value, "answer")) {
+        (Operation::Push, Some("made")) => is_made(alloc, value),
+        (Operation::Push, Some("known")) => has_slug(alloc, value),
+        (Operation::Upload, Some("stored")) => Ok(has_pages(value)),
         _ => Ok(false),
     }
 }
 
-/// Whether the text is read as an answer, in whatever spelling of its JSON.
-pub fn tells_answer(alloc: Global, text: &str) -> Result<bool, AllocError>
-    ensures { IfOk result (λ b. b ≡ is_some (spec.answer_of text.now)) }
+/// Whether the text is read as an answer to the operation, in whatever spelling of its JSON.
+pub fn tells_answer(alloc: Global, operation: Operation, text: &str) -> Result<bool, AllocError>
+    ensures { IfOk result (λ b. b ≡ spec.tells operation text.now) }
 {
     match Value::from_str(alloc, text) {
-        Ok(value) => is_answer(alloc, &value),
+        Ok(value) => is_answer(alloc, operation, &value),
         Err(error) => {
             if error.is_memory() {
                 Err(AllocError)

@@ -1,21 +1,18 @@
 -- What a command makes of the world, by what is found under its host.
-use Rattle.std.proofs.Common.{◌≡◌, ◌⊎◌, Some, None, Option, Result, Ok, Err, IfOk, IfErr, refl, sym, ap, ◌∙◌, subst, inl, inr}
+use Rattle.std.proofs.Common.{◌≡◌, ◌⊎◌, None, Option, Result, Ok, Err, IfOk, IfErr, sym, ap, ◌∙◌, subst, inl, inr}
 use Rattle.std.specs.FinMap.{get}
-use Rattle.std.specs.Result.{IsErrAnd}
-use Rattle.std.proofs.lemmas.Result.{err_from_is_err_and}
 use Rattle.dh_checks.specs.Commands.{change_of, command_of}
 use Rattle.dh_checks.specs.declared.checking.CheckedChange.{CheckedChange}
 use Rattle.dh_records.specs.Lists.{Lists, world_of}
 use Rattle.dh_records.specs.Constraints.{AreSound}
 use Rattle.dh_transactions.specs.Steps.{Turns, Steps}
 use Rattle.dh_world.specs.CheckResults.{IsFault}
-use Rattle.dh_world.specs.Step.{RuleRefused, IsSetAside, change_at, settled, turn, step, after_texts}
+use Rattle.dh_world.specs.Step.{IsSetAside, change_at, settled, turn, step, after_texts}
 use Rattle.dh_world.specs.WrongTexts.{bad_text}
 use Rattle.dh_world.specs.World.{Text, Project}
 use Rattle.dh_world.specs.declared.answer.Answer.{Answer}
 use Rattle.dh_world.specs.declared.command.Command.{Command}
 use Rattle.dh_world.specs.declared.refusal.Refusal.{Refusal}
-use Rattle.dh_world.specs.declared.refusal.Refusal.TheVariants.{OutOfMemory}
 
 -- a turn by what is found under the host
 pub turn_at
@@ -31,23 +28,6 @@ pub right_texts
     : (lists : Lists) (c : Command) → bad_text c ≡ None
     → step (world_of lists) c ≡ turn (world_of lists) c
 right_texts lists c e = ap (after_texts (world_of lists) c) e
-
--- a command whose texts are not right is refused, unless out of memory; or its pattern is not taken
-pub steps_wrong
-    : (start : Lists) (c : Command) (e : Refusal) (r : Result Answer Refusal)
-    → IsErrAnd r (λ x. x ≡ e)
-    → (bad_text c ≡ Some e) ⊎ ((e ≡ OutOfMemory) ⊎ ((bad_text c ≡ None) × RuleRefused c.change e))
-    → Steps start start c r
-steps_wrong start c e r is why =
-    let at = err_from_is_err_and r is in
-    subst (Steps start start c) (sym (at.1 ∙ ap Err at.2)) (refl, go why)
-  where
-    go
-        : (bad_text c ≡ Some e) ⊎ ((e ≡ OutOfMemory) ⊎ ((bad_text c ≡ None) × RuleRefused c.change e))
-        → IsSetAside (world_of start) c e ⊎ (step (world_of start) c ≡ Err e)
-    go (inl is) = inr (ap (after_texts (world_of start) c) is)
-    go (inr (inl is)) = inl (inl (inr is))
-    go (inr (inr it)) = inl (inr (it.0, inl it.1))
 
 -- ---- the end
 

@@ -20,6 +20,7 @@ use Rattle.dh_records.specs.declared.records.ProjectRow.{ProjectRow}
 use Rattle.dh_records.specs.declared.records.VersionRow.{VersionRow}
 use Rattle.dh_records.specs.declared.records.PickRow.{PickRow}
 use Rattle.dh_records.specs.declared.records.HeldRow.{HeldRow}
+use Rattle.dh_world.specs.declared.caller.Caller.{Caller}
 use Rattle.dh_world.specs.World.{Text, text_cmp, Project}
 use Rattle.dh_world.specs.Visibility.{holds, is_visible, may_see}
 use Rattle.dh_records.specs.Lists.{Lists, project_of, world_of, is_project, is_version, is_version_of, is_page, is_lang_of, is_pick_of, is_redirect_of}
@@ -41,11 +42,11 @@ if_seen held (Some r) = cond (may_see r.version held) (Some r.version) None
 alike : (p : Text → Bool) (q x : Text) → text_cmp q x ≡ Equal → p x ≡ p q
 alike p q x e = ap p (sym (exact_bytes q x e))
 
-pub visible_is : (lists : Lists) (row : ProjectRow) (pass : Option Text) (slug : Text)
-    → get (visible_versions (project_of lists row) pass) slug ≡ if_seen (holds (project_of lists row) pass slug) (find (is_version row.host slug) lists.versions)
-visible_is lists row pass slug =
-    let held = holds (project_of lists row) pass slug in
-    get-retain_keys (project_of lists row).versions (is_visible (project_of lists row) pass) slug (alike _ slug)
+pub visible_is : (lists : Lists) (row : ProjectRow) (c : Caller) (slug : Text)
+    → get (visible_versions (project_of lists row) c) slug ≡ if_seen (holds (project_of lists row) c.pass slug) (find (is_version row.host slug) lists.versions)
+visible_is lists row c slug =
+    let held = holds (project_of lists row) c.pass slug in
+    get-retain_keys (project_of lists row).versions (is_visible (project_of lists row) c) slug (alike _ slug)
     ∙ ap (λ o. cond (option_map_or (λ v. may_see v held) o false) o None) (get_version lists row slug) ∙ go held (find (is_version row.host slug) lists.versions)
   where
     go : (held : Bool) (o : Option VersionRow) → cond (option_map_or (λ v. may_see v held) (option_map (λ r. r.version) o) false) (option_map (λ r. r.version) o) None ≡ if_seen held o
@@ -100,10 +101,10 @@ found_version name (e ∷ es) own =
     let rest = find (λ (v : Version). bytes_eq v.slug name) (map (λ e. e.1) es) in
     ap (λ s. cond (bytes_eq s name) (Some e.1) rest) own.0 ∙ ap (λ b. cond b (Some e.1) rest) (sym (tied_text name e.0)) ∙ ap (cond (eq_by_cmp text_cmp name e.0) (Some e.1)) (found_version name es own.1)
 
-own_keys : (lists : Lists) (row : ProjectRow) (pass : Option Text) → AllByRecursion IsOwnKey (entries (visible_versions (project_of lists row) pass))
-own_keys lists row pass =
-    let m = visible_versions (project_of lists row) pass in
-    each (λ e found. slug_of (holds (project_of lists row) pass e.0) row.host e.0 lists.versions e.1 (sym (visible_is lists row pass e.0) ∙ get-entries m e.0 ∙ found)) (entries m) (each_found (entries m) (entries_sorted m))
+own_keys : (lists : Lists) (row : ProjectRow) (c : Caller) → AllByRecursion IsOwnKey (entries (visible_versions (project_of lists row) c))
+own_keys lists row c =
+    let m = visible_versions (project_of lists row) c in
+    each (λ e found. slug_of (holds (project_of lists row) c.pass e.0) row.host e.0 lists.versions e.1 (sym (visible_is lists row c e.0) ∙ get-entries m e.0 ∙ found)) (entries m) (each_found (entries m) (entries_sorted m))
 
 abbrev pub own_name : Version → Named
 own_name v = record { slug = v.slug; alias = false }
@@ -111,22 +112,16 @@ own_name v = record { slug = v.slug; alias = false }
 abbrev pub alias_name : Text → Named
 alias_name s = record { slug = s; alias = true }
 
-pub resolved_is : (lists : Lists) (row : ProjectRow) (pass : Option Text) (name : Text) → let p = project_of lists row in
-    resolved (seen_project p pass) name ≡ option_or (option_map own_name (get (visible_versions p pass) name)) (alias_of (seen_project p pass) name)
+pub resolved_is : (lists : Lists) (row : ProjectRow) (c : Caller) (name : Text) → let p = project_of lists row in
+    resolved (seen_project p c) name ≡ option_or (option_map own_name (get (visible_versions p c) name)) (alias_of (seen_project p c) name)
 unfolding resolved seen_project without_default
-resolved_is lists row pass name =
-    let m = visible_versions (project_of lists row) pass in
-    ap (λ o. option_or (option_map own_name o) (alias_of (seen_project (project_of lists row) pass) name)) (found_version name (entries m) (own_keys lists row pass) ∙ sym (get-entries m name))
+resolved_is lists row c name =
+    let m = visible_versions (project_of lists row) c in
+    ap (λ o. option_or (option_map own_name o) (alias_of (seen_project (project_of lists row) c) name)) (found_version name (entries m) (own_keys lists row c) ∙ sym (get-entries m name))
 
-pub alias_is : (p : Project) (pass : Option Text) (name : Text) → alias_of (seen_project p pass) name ≡
-    cond (bytes_eq name (codes "latest")) (option_map alias_name (option_and_then (slice_get (keys (visible_versions p pass))) (latest_of (values (visible_versions p pass)) p.branch)))
-    (cond (bytes_eq name (codes "stable")) (option_map alias_name (option_and_then (slice_get (keys (visible_versions p pass))) (stable_of (values (visible_versions p pass))))) None)
-unfolding seen_project without_default
-alias_is p pass name = refl
-
-pub default_is : (p : Project) (pass : Option Text) → (seen_project p pass).default ≡ default_of (λ name. is_some (resolved (seen_project p pass) name)) p.defaults
+pub default_is : (p : Project) (c : Caller) → (seen_project p c).default ≡ default_of (λ name. is_some (resolved (seen_project p c) name)) p.defaults
 unfolding seen_project without_default resolved
-default_is p pass = refl
+default_is p c = refl
 
 -- the first name that resolves is the default, and without one it is an alias
 default_first : (resolves : Text → Bool) (names : List Text) → default_of resolves names ≡ option_or (find resolves names) (default_of resolves [])
@@ -165,20 +160,20 @@ names_are : (lists : Lists) (row : ProjectRow) → (project_of lists row).defaul
 unfolding project_of
 names_are lists row = refl
 
-module _ (lists : Lists) (row : ProjectRow) (pass : Option Text) where
+module _ (lists : Lists) (row : ProjectRow) (c : Caller) where
   abbrev visible : FinMap text_cmp Version
-  visible = visible_versions (project_of lists row) pass
+  visible = visible_versions (project_of lists row) c
 
   abbrev whole : SeenProject
-  whole = seen_project (project_of lists row) pass
+  whole = seen_project (project_of lists row) c
 
   abbrev held : Text → Bool
-  held = holds (project_of lists row) pass
+  held = holds (project_of lists row) c.pass
 
   found_as : (name : Text) (o : Option VersionRow) (r : VersionRow) → o ≡ find (is_version row.host name) lists.versions → o ≡ Some r → cond (may_see r.version (held r.version.slug)) (Some r.version) None ≡ get visible name
   found_as name o r e is =
       ap (λ slug. cond (may_see r.version (held slug)) (Some r.version) None) (own_slug_of row.host name lists.versions r (sym e ∙ is))
-      ∙ ap (if_seen (held name)) (sym is ∙ e) ∙ sym (visible_is lists row pass name)
+      ∙ ap (if_seen (held name)) (sym is ∙ e) ∙ sym (visible_is lists row c name)
 
   pub when_told : (seen : Bool) (name : Text) (o : Option VersionRow) (r : VersionRow) → o ≡ find (is_version row.host name) lists.versions → o ≡ Some r → seen ≡ may_see r.version (held r.version.slug) → then_some seen r.version ≡ get visible name
   when_told seen name o r e is told = ap (λ b. then_some b r.version) told ∙ as_cond (may_see r.version (held r.version.slug)) ∙ found_as name o r e is
@@ -188,7 +183,7 @@ module _ (lists : Lists) (row : ProjectRow) (pass : Option Text) where
       as_cond false = refl
 
   pub when_absent : (name : Text) (o : Option VersionRow) → o ≡ find (is_version row.host name) lists.versions → o ≡ None → None ≡ get visible name
-  when_absent name o e is = ap (if_seen (held name)) (sym is ∙ e) ∙ sym (visible_is lists row pass name)
+  when_absent name o e is = ap (if_seen (held name)) (sym is ∙ e) ∙ sym (visible_is lists row c name)
 
   abbrev is_shown : VersionRow → Bool
   is_shown r = may_see r.version (held r.version.slug)
@@ -196,18 +191,18 @@ module _ (lists : Lists) (row : ProjectRow) (pass : Option Text) where
   -- what decides over the versions as the pass does leaves those that are shown
   pub kept_are : (at : Lists) (grants opened : List HeldRow) (rows asked kept : List VersionRow) → at ≡ lists → rows ≡ filter (is_version_of row.host) lists.versions → asked ≡ rows → opened ≡ grants
       → kept ≡ filter (λ r. may_see r.version (opens opened r.version.slug)) rows
-      → AllByRecursion (λ r. may_see r.version (opens grants r.version.slug) ≡ may_see r.version (holds (project_of at row) pass r.version.slug)) asked
+      → AllByRecursion (λ r. may_see r.version (opens grants r.version.slug) ≡ may_see r.version (holds (project_of at row) c.pass r.version.slug)) asked
       → kept ≡ filter is_shown (filter (is_version_of row.host) lists.versions)
   kept_are at grants opened rows asked kept same e a o k all =
-      let told = subst (λ l. AllByRecursion (λ r. may_see r.version (opens grants r.version.slug) ≡ may_see r.version (holds (project_of l row) pass r.version.slug)) asked) same all in
+      let told = subst (λ l. AllByRecursion (λ r. may_see r.version (opens grants r.version.slug) ≡ may_see r.version (holds (project_of l row) c.pass r.version.slug)) asked) same all in
       k ∙ ap (λ gs. filter (λ r. may_see r.version (opens gs r.version.slug)) rows) o
       ∙ same_filter (λ r. may_see r.version (opens grants r.version.slug)) is_shown rows (subst (AllByRecursion (λ r. may_see r.version (opens grants r.version.slug) ≡ is_shown r)) a told) ∙ ap (filter is_shown) e
 
   pub values_are : (kept : List VersionRow) → RiseBySlug (filter (is_version_of row.host) lists.versions) → kept ≡ filter is_shown (filter (is_version_of row.host) lists.versions) → map (λ r. r.version) kept ≡ values visible
-  values_are kept up k = ap (map (λ r. r.version)) k ∙ sym (versions_of _) ∙ ap (map (λ e. e.1)) (sym (visible_entries lists row pass up))
+  values_are kept up k = ap (map (λ r. r.version)) k ∙ sym (versions_of _) ∙ ap (map (λ e. e.1)) (sym (visible_entries lists row c up))
 
   pub keys_are : (kept : List VersionRow) → RiseBySlug (filter (is_version_of row.host) lists.versions) → kept ≡ filter is_shown (filter (is_version_of row.host) lists.versions) → map (λ v. v.slug) (map (λ r. r.version) kept) ≡ keys visible
-  keys_are kept up k = ap (λ l. map (λ v. v.slug) (map (λ r. r.version) l)) k ∙ sym (slugs_of _) ∙ ap (map (λ e. e.0)) (sym (visible_entries lists row pass up))
+  keys_are kept up k = ap (λ l. map (λ v. v.slug) (map (λ r. r.version) l)) k ∙ sym (slugs_of _) ∙ ap (map (λ e. e.0)) (sym (visible_entries lists row c up))
 
   pub latest_is : (vs : List Version) → vs ≡ values visible → map (λ v. v.slug) vs ≡ keys visible
       → option_map alias_name (option_and_then (slice_get (map (λ v. v.slug) vs)) (latest_of vs row.branch)) ≡ option_map alias_name whole.latest
@@ -220,10 +215,10 @@ module _ (lists : Lists) (row : ProjectRow) (pass : Option Text) where
   stable_is vs e k = λ i. option_map alias_name (option_and_then (slice_get (k i)) (stable_of (e i)))
 
   pub own_slug : (name : Text) (o : Option Version) (v : Version) → o ≡ get visible name → o ≡ Some v → Some (own_name v) ≡ resolved whole name
-  own_slug name o v e is = sym (resolved_is lists row pass name ∙ ap (λ o. option_or (option_map own_name o) (alias_of whole name)) (sym e ∙ is))
+  own_slug name o v e is = sym (resolved_is lists row c name ∙ ap (λ o. option_or (option_map own_name o) (alias_of whole name)) (sym e ∙ is))
 
   pub no_slug : (name : Text) (o : Option Version) → o ≡ get visible name → o ≡ None → alias_of whole name ≡ resolved whole name
-  no_slug name o e is = sym (resolved_is lists row pass name ∙ ap (λ o. option_or (option_map own_name o) (alias_of whole name)) (sym e ∙ is))
+  no_slug name o e is = sym (resolved_is lists row c name ∙ ap (λ o. option_or (option_map own_name o) (alias_of whole name)) (sym e ∙ is))
 
   -- the name stands for a version that the caller sees
   abbrev pub resolves : Text → Bool
@@ -257,14 +252,14 @@ module _ (lists : Lists) (row : ProjectRow) (pass : Option Text) where
 
   -- one default on, in tables that show the same
   found_next : (at : Lists) (picks : List PickRow) (i : ℕ) (x : PickRow) (text : Text) (found : Option Text) → at ≡ lists → i < length picks → x ≡ slice_index_or picks i x → text ≡ x.name
-      → found ≡ option_map (λ n. text) (resolved (seen_project (project_of at row) pass) text)
+      → found ≡ option_map (λ n. text) (resolved (seen_project (project_of at row) c) text)
       → find resolves (map (λ d. d.name) (drop i picks)) ≡ option_or found (find resolves (map (λ d. d.name) (drop (i + 1) picks)))
   found_next at picks i x text found same low is e f =
       at_drop_more (λ l. find resolves (map (λ d. d.name) l)) picks i x low
       ∙ ap (λ y. cond (resolves y.name) (Some y.name) (find resolves (map (λ d. d.name) (drop (i + 1) picks)))) (sym is)
       ∙ go (resolved whole x.name) (find resolves (map (λ d. d.name) (drop (i + 1) picks)))
       ∙ ap (λ o. option_or o (find resolves (map (λ d. d.name) (drop (i + 1) picks))))
-      (sym (f ∙ ap (λ l. option_map (λ n. text) (resolved (seen_project (project_of l row) pass) text)) same ∙ ap (λ t. option_map (λ n. t) (resolved whole t)) e))
+      (sym (f ∙ ap (λ l. option_map (λ n. text) (resolved (seen_project (project_of l row) c) text)) same ∙ ap (λ t. option_map (λ n. t) (resolved whole t)) e))
     where
       go : (o : Option Named) (rest : Option Text) → cond (is_some o) (Some x.name) rest ≡ option_or (option_map (λ n. x.name) o) rest
       go None rest = refl
@@ -272,7 +267,7 @@ module _ (lists : Lists) (row : ProjectRow) (pass : Option Text) where
 
   -- it is found now, or it is among those that are left
   module _ (at : Lists) (picks : List PickRow) (i : ℕ) (x : PickRow) (text : Text) (found : Option Text) (same : at ≡ lists) (low : i < length picks) (is : x ≡ slice_index_or picks i x) (e : text ≡ x.name)
-      (f : found ≡ option_map (λ n. text) (resolved (seen_project (project_of at row) pass) text)) (left : find resolves (map (λ d. d.name) (drop i picks)) ≡ find resolves (map (λ d. d.name) picks)) where
+      (f : found ≡ option_map (λ n. text) (resolved (seen_project (project_of at row) c) text)) (left : find resolves (map (λ d. d.name) (drop i picks)) ≡ find resolves (map (λ d. d.name) picks)) where
     pub found_now : is_some found ≡ true → found ≡ find resolves (map (λ d. d.name) picks)
     found_now some = sym (settles found (find resolves (map (λ d. d.name) (drop (i + 1) picks))) some) ∙ sym (found_next at picks i x text found same low is e f) ∙ left
 
@@ -282,28 +277,28 @@ module _ (lists : Lists) (row : ProjectRow) (pass : Option Text) where
   default_by : (picks : List PickRow) → picks ≡ filter (is_pick_of row.host) lists.picks → option_or (find resolves (map (λ d. d.name) picks)) (default_of resolves []) ≡ whole.default
   default_by picks e =
       ap (λ l. option_or (find resolves (map (λ d. d.name) l)) (default_of resolves [])) e
-      ∙ sym (default_is (project_of lists row) pass ∙ ap (default_of resolves) (names_are lists row) ∙ default_first resolves (map (λ d. d.name) (filter (is_pick_of row.host) lists.picks)))
+      ∙ sym (default_is (project_of lists row) c ∙ ap (default_of resolves) (names_are lists row) ∙ default_first resolves (map (λ d. d.name) (filter (is_pick_of row.host) lists.picks)))
 
   module _ (at : Lists) (same : at ≡ lists) (picks asked : List PickRow) (e : picks ≡ filter (is_pick_of row.host) lists.picks) (a : asked ≡ picks) (o : Option Text)
-      (f : o ≡ find (λ name. is_some (resolved (seen_project (project_of at row) pass) name)) (map (λ d. d.name) asked)) where
+      (f : o ≡ find (λ name. is_some (resolved (seen_project (project_of at row) c) name)) (map (λ d. d.name) asked)) where
     found_as_default : option_or o (default_of resolves []) ≡ whole.default
     found_as_default =
         ap (λ o. option_or o (default_of resolves []))
-        (f ∙ ap (λ l. find (λ name. is_some (resolved (seen_project (project_of l row) pass) name)) (map (λ d. d.name) asked)) same ∙ ap (λ ps. find resolves (map (λ d. d.name) ps)) a)
+        (f ∙ ap (λ l. find (λ name. is_some (resolved (seen_project (project_of l row) c) name)) (map (λ d. d.name) asked)) same ∙ ap (λ ps. find resolves (map (λ d. d.name) ps)) a)
         ∙ default_by picks e
 
     pub default_chosen : (t : Text) → o ≡ Some t → Some t ≡ whole.default
     default_chosen t is = ap (λ o. option_or o (default_of resolves [])) (sym is) ∙ found_as_default
 
-    pub default_alias : (now : Lists) → now ≡ at → o ≡ None → default_of (λ name. is_some (resolved (seen_project (project_of now row) pass) name)) [] ≡ whole.default
+    pub default_alias : (now : Lists) → now ≡ at → o ≡ None → default_of (λ name. is_some (resolved (seen_project (project_of now row) c) name)) [] ≡ whole.default
     default_alias now still is =
-        ap (λ l. default_of (λ name. is_some (resolved (seen_project (project_of l row) pass) name)) []) (still ∙ same)
+        ap (λ l. default_of (λ name. is_some (resolved (seen_project (project_of l row) c) name)) []) (still ∙ same)
         ∙ ap (λ o. option_or o (default_of resolves [])) (sym is) ∙ found_as_default
 
-  seen_when : (slug : Text) → is_visible (project_of lists row) pass slug ≡ is_some (get visible slug)
+  seen_when : (slug : Text) → is_visible (project_of lists row) c slug ≡ is_some (get visible slug)
   seen_when slug =
       ap (λ o. option_map_or (λ v. may_see v (held slug)) o false) (get_version lists row slug)
-      ∙ go (held slug) (find (is_version row.host slug) lists.versions) ∙ ap is_some (sym (visible_is lists row pass slug))
+      ∙ go (held slug) (find (is_version row.host slug) lists.versions) ∙ ap is_some (sym (visible_is lists row c slug))
     where
       go : (held : Bool) (o : Option VersionRow) → option_map_or (λ v. may_see v held) (option_map (λ r. r.version) o) false ≡ is_some (if_seen held o)
       go held None = refl
@@ -314,14 +309,14 @@ module _ (lists : Lists) (row : ProjectRow) (pass : Option Text) where
           more false = refl
 
   pub page_is : (lang slug path : Text) → page_at whole lang slug path ≡ cond (is_some (get visible slug)) (option_map (λ x. x.page) (find (is_page row.host slug lang path) lists.pages)) None
-  page_is lang slug path = seen_page (project_of lists row) pass lang slug path ∙ rw (seen_when slug, get_page lists row slug lang path) refl
+  page_is lang slug path = seen_page (project_of lists row) c lang slug path ∙ rw (seen_when slug, get_page lists row slug lang path) refl
 
-module _ (lists : Lists) (row : ProjectRow) (pass : Option Text) (lang slug path : Text) (o : Option Version) (e : o ≡ get (visible_versions (project_of lists row) pass) slug) where
-  pub page_when : (v : Version) → o ≡ Some v → option_map (λ x. x.page) (find (is_page row.host slug lang path) lists.pages) ≡ page_at (seen_project (project_of lists row) pass) lang slug path
-  page_when v is = sym (page_is lists row pass lang slug path ∙ ap (λ o. cond (is_some o) (option_map (λ x. x.page) (find (is_page row.host slug lang path) lists.pages)) None) (sym e ∙ is))
+module _ (lists : Lists) (row : ProjectRow) (c : Caller) (lang slug path : Text) (o : Option Version) (e : o ≡ get (visible_versions (project_of lists row) c) slug) where
+  pub page_when : (v : Version) → o ≡ Some v → option_map (λ x. x.page) (find (is_page row.host slug lang path) lists.pages) ≡ page_at (seen_project (project_of lists row) c) lang slug path
+  page_when v is = sym (page_is lists row c lang slug path ∙ ap (λ o. cond (is_some o) (option_map (λ x. x.page) (find (is_page row.host slug lang path) lists.pages)) None) (sym e ∙ is))
 
-  pub no_page : o ≡ None → None ≡ page_at (seen_project (project_of lists row) pass) lang slug path
-  no_page is = sym (page_is lists row pass lang slug path ∙ ap (λ o. cond (is_some o) (option_map (λ x. x.page) (find (is_page row.host slug lang path) lists.pages)) None) (sym e ∙ is))
+  pub no_page : o ≡ None → None ≡ page_at (seen_project (project_of lists row) c) lang slug path
+  no_page is = sym (page_is lists row c lang slug path ∙ ap (λ o. cond (is_some o) (option_map (λ x. x.page) (find (is_page row.host slug lang path) lists.pages)) None) (sym e ∙ is))
 
 pub known_is : (lists : Lists) (o : Option Text) (host : Text) → o ≡ Some host → is_some (find (is_project host) lists.projects) ≡ is_some (option_and_then (get (world_of lists)) o)
 known_is lists o host e = rw e (sym (ap is_some (get_project lists host) ∙ mapped (find (is_project host) lists.projects)))
@@ -337,23 +332,23 @@ pub languages_are : (lists : Lists) (row : ProjectRow) → map (λ l. l.lang) (f
 unfolding project_of
 languages_are lists row = refl
 
-pub some_shown : (pass : Option Text) (o : Option Project) → is_some o ≡ is_some (option_map (λ p. seen_project p pass) o)
-some_shown pass None = refl
-some_shown pass (Some p) = refl
+pub some_shown : (c : Caller) (o : Option Project) → is_some o ≡ is_some (option_map (λ p. seen_project p c) o)
+some_shown c None = refl
+some_shown c (Some p) = refl
 
-pub langs_shown : (p : Project) (pass : Option Text) → p.languages ≡ (seen_project p pass).langs
+pub langs_shown : (p : Project) (c : Caller) → p.languages ≡ (seen_project p c).langs
 unfolding seen_project without_default
-langs_shown p pass = refl
+langs_shown p c = refl
 
-pub versions_shown : (p : Project) (pass : Option Text) → values (visible_versions p pass) ≡ (seen_project p pass).versions
+pub versions_shown : (p : Project) (c : Caller) → values (visible_versions p c) ≡ (seen_project p c).versions
 unfolding seen_project without_default
-versions_shown p pass = refl
+versions_shown p c = refl
 
 pub redirects_are : (lists : Lists) (row : ProjectRow) → map (λ r. r.redirect) (filter (is_redirect_of row.host) lists.redirects) ≡ (project_of lists row).redirects
 unfolding project_of
 redirects_are lists row = refl
 
 -- every caller sees all redirects
-pub redirects_shown : (p : Project) (pass : Option Text) → p.redirects ≡ (seen_project p pass).redirects
+pub redirects_shown : (p : Project) (c : Caller) → p.redirects ≡ (seen_project p c).redirects
 unfolding seen_project without_default
-redirects_shown p pass = refl
+redirects_shown p c = refl

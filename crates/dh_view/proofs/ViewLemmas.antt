@@ -13,22 +13,19 @@ use Rattle.dh_lookup.specs.Lookup as lookup
 use Rattle.dh_lookup.specs.declared.seen_project.SeenProject.{SeenProject}
 use Rattle.dh_rows.specs.Calls.{IsBlamed, IsHonest, IsSame, Lasts, seen}
 use Rattle.dh_schema.specs.Tables.{lists_of}
+use Rattle.dh_world.specs.declared.caller.Caller.{Caller}
 use Rattle.dh_world.specs.World.{Text}
 use Rattle.dh_records.specs.Lists.{Lists, project_of}
 use Rattle.dh_records.specs.declared.records.ProjectRow.{ProjectRow}
-use Rattle.dh_world.specs.Seen as caller
+use Rattle.dh_world.specs.Seen as sight
 use Rattle.dh_schema.proofs.CallLemmas.{on_store}
 use Rattle.dh_schema.specs.Calling as call
-use Rattle.dh_schema.specs.Calling.{Blames, IsSettled}
-use Rattle.dh_schema.specs.InTurn.{blamed_before, goes_none, goes_on, lasts_none, refused_on, same_none, same_on}
-use Rattle.dh_view.specs.View.{doubt_of, meaning_of, project_in, shown, shown_in, shown_under, fails_on, looks_none, looks_on, Asks, Fails, Looks, Obtains}
+use Rattle.dh_schema.specs.Calling.{IsSettled}
+use Rattle.dh_schema.specs.InTurn.{blamed_before, goes_none, goes_on, refused_on, same_none, same_on}
+use Rattle.dh_view.specs.View.{doubt_of, meaning_of, project_in, shown, shown_in, shown_under, fails_on, looks_on, Asks, Fails, Looks, Obtains}
 use Rattle.dh_view.specs.declared.view.View.{View}
 
 -- ---- doubt
-
-doubts : Bool → Bool → ℕ
-unfolding doubt
-doubts a b = doubt (a && b)
 
 none_doubted : (a b : Bool) → doubt (a && b) ≡ 0 → (doubt a ≡ 0) × IsTrue b
 unfolding doubt
@@ -77,13 +74,13 @@ module _ {S : Type 0} (g : Ghosts S) where
       go zero e = let z = undoubted a (was_honest a b it (honest b e)) in omega arith
       go (suc n) e = let m = most a in omega arith
 
-  pub shown_same : (a b : Held S) (host pass : Option Text) → Looks g a b → IsHonest g b → shown g b host pass ≡ shown g a host pass
-  shown_same a b host pass it h = ap (λ l. shown_under l host pass) (it.unmoved h).same.now_is
+  pub shown_same : (a b : Held S) (host : Option Text) (c : Caller) → Looks g a b → IsHonest g b → shown g b host c ≡ shown g a host c
+  shown_same a b host c it h = ap (λ l. shown_under l host c) (it.unmoved h).same.now_is
 
   -- what looks at the tables of a view leave of the view
   view_looks
       : {T : Type 0} (old new : View S) (r : Result T Fault)
-      → (new.tables.ghost_name ≡ old.tables.ghost_name) × (new.host ≡ old.host) × (new.pass ≡ old.pass)
+      → (new.tables.ghost_name ≡ old.tables.ghost_name) × (new.host ≡ old.host) × (new.caller ≡ old.caller)
       → Looks g old.tables.now new.tables.now → OnStore r (Fails g old.tables.now new.tables.now)
       → lookup.Asks (meaning_of g) old new r
   view_looks old new r stay it told = record {
@@ -91,7 +88,7 @@ module _ {S : Type 0} (g : Ghosts S) where
     doubt = looks_grow old.tables.now new.tables.now it;
     told = told;
     keeps = unless_store r it.unmoved;
-    kept = λ d. unless_store r (ap (λ h. shown g new.tables.now h new.pass) stay.1 ∙ ap (shown g new.tables.now old.host) stay.2 ∙ shown_same old.tables.now new.tables.now old.host old.pass it (honest new.tables.now d));
+    kept = λ d. unless_store r (ap (λ h. shown g new.tables.now h new.caller) stay.1 ∙ ap (shown g new.tables.now old.host) stay.2 ∙ shown_same old.tables.now new.tables.now old.host old.caller it (honest new.tables.now d));
   }
 
 -- ---- looks at the tables, one after the other
@@ -177,14 +174,6 @@ module _ {S : Type 0} {g : Ghosts S} where
         }
       ]
 
-  -- answered looks leave what is seen committed
-  pub still_settled : {T : Type 0} {a b : Held S} {x : T} → (IsHonest g a → IsSettled g a) → Asks g a b (Ok x) → IsHonest g b → IsSettled g b
-  still_settled settled p it =
-      let was = p.goes.lasts.was it in
-      let same = p.same was it.0 in
-      let before = settled was in
-      record { outside = same.mode ∙ before.outside; same = same.now_is ∙ before.same ∙ sym same.last_is }
-
   looks_from : {T : Type 0} {a b : Held S} {r : Result T Fault} → (IsHonest g a → IsSettled g a) → Asks g a b r → Looks g a b
   looks_from {a = a} {b = b} {r = r} settled p = record {
     lasts = p.goes.lasts;
@@ -224,14 +213,10 @@ module _ {S : Type 0} {g : Ghosts S} {T U : Type 0} where
       none (Err f) same = tt
 
 module _ {S : Type 0} (g : Ghosts S) where
-  -- `Store` where a transaction is open
-  pub view_within : {T : Type 0} (a : View S) → a.tables.now.in_transaction ≡ true → lookup.Asks {T = T} (meaning_of g) a a (Err Store)
-  view_within a within = view_looks g a a (Err Store) (refl, refl, refl) (looks_none g a.tables.now) (record { lasts = lasts_none a.tables.now; cause = λ _. inr within })
-
   -- looks at the tables of a view outside a transaction
   pub view_asks
       : {T : Type 0} {a b : View S} {r : Result T Fault}
-      → (b.tables.ghost_name ≡ a.tables.ghost_name) × (b.host ≡ a.host) × (b.pass ≡ a.pass)
+      → (b.tables.ghost_name ≡ a.tables.ghost_name) × (b.host ≡ a.host) × (b.caller ≡ a.caller)
       → (IsHonest g a.tables.now → IsSettled g a.tables.now) → Asks g a.tables.now b.tables.now r
       → lookup.Asks (meaning_of g) a b r
   view_asks {a = a} {b = b} {r = r} stay settled p = view_looks g a b r stay (looks_from settled p) (fails_from r p)
@@ -240,7 +225,7 @@ module _ {S : Type 0} (g : Ghosts S) where
   pub view_on
       : {T U : Type 0} {a b c : View S} {x : T} {r : Result U Fault}
       → lookup.Asks (meaning_of g) a b (Ok x)
-      → (c.tables.ghost_name ≡ b.tables.ghost_name) × (c.host ≡ b.host) × (c.pass ≡ b.pass)
+      → (c.tables.ghost_name ≡ b.tables.ghost_name) × (c.host ≡ b.host) × (c.caller ≡ b.caller)
       → (IsHonest g b.tables.now → IsSettled g b.tables.now) → Asks g b.tables.now c.tables.now r
       → lookup.Asks (meaning_of g) a c r
   view_on {a = a} {b = b} {c = c} {r = r} p stay settled q =
@@ -253,42 +238,42 @@ module _ {S : Type 0} (g : Ghosts S) where
       (value : IsHonest g b.tables.now → option_map (project_of (seen g lists_of a.tables.now)) o ≡ project_in (seen g lists_of a.tables.now) a.host) where
     shown_found
         : (row : ProjectRow) → o ≡ Some row → IsHonest g b.tables.now
-        → Some (shown_in (seen g lists_of b.tables.now) row b.pass) ≡ shown g a.tables.now a.host a.pass
+        → Some (shown_in (seen g lists_of b.tables.now) row b.caller) ≡ shown g a.tables.now a.host a.caller
     shown_found row is it =
         let lists = seen g lists_of a.tables.now in
-        ap (λ l. Some (shown_in l row b.pass)) (p.leads.3.unmoved it).same.now_is
-        ∙ ap (λ pass. Some (shown_in lists row pass)) p.leads.2
-        ∙ ap (λ o. option_map (λ q. caller.seen_project q a.pass) (option_map (project_of lists) o)) (sym is)
-        ∙ ap (option_map (λ q. caller.seen_project q a.pass)) (value it)
+        ap (λ l. Some (shown_in l row b.caller)) (p.leads.3.unmoved it).same.now_is
+        ∙ ap (λ c. Some (shown_in lists row c)) p.leads.2
+        ∙ ap (λ o. option_map (λ q. sight.seen_project q a.caller) (option_map (project_of lists) o)) (sym is)
+        ∙ ap (option_map (λ q. sight.seen_project q a.caller)) (value it)
 
-    none_shown : o ≡ None → IsHonest g b.tables.now → None ≡ shown g a.tables.now a.host a.pass
+    none_shown : o ≡ None → IsHonest g b.tables.now → None ≡ shown g a.tables.now a.host a.caller
     none_shown is it =
         let lists = seen g lists_of a.tables.now in
-        ap (λ o. option_map (λ q. caller.seen_project q a.pass) (option_map (project_of lists) o)) (sym is)
-        ∙ ap (option_map (λ q. caller.seen_project q a.pass)) (value it)
+        ap (λ o. option_map (λ q. sight.seen_project q a.caller) (option_map (project_of lists) o)) (sym is)
+        ∙ ap (option_map (λ q. sight.seen_project q a.caller)) (value it)
 
     -- what a look at the tables tells of it
     pub maybe_shown
         : {U : Type 0} {h : Held S} {r : Result (Option U) Fault} {v : Option U} (f : SeenProject → Option U) (row : ProjectRow) → o ≡ Some row
-        → v ≡ f (shown_in (seen g lists_of b.tables.now) row b.pass) → Asks g b.tables.now h r → (IsHonest g h → IfOk r (λ x. x ≡ v))
-        → doubt_of g h ≡ 0 → IfOk r (λ x. x ≡ option_and_then f (shown g a.tables.now a.host a.pass))
+        → v ≡ f (shown_in (seen g lists_of b.tables.now) row b.caller) → Asks g b.tables.now h r → (IsHonest g h → IfOk r (λ x. x ≡ v))
+        → doubt_of g h ≡ 0 → IfOk r (λ x. x ≡ option_and_then f (shown g a.tables.now a.host a.caller))
     maybe_shown {h = h} {r = r} f row is e asks reads d =
         let it = honest g h d in
         same_answer (λ x. x) r _ _ (e ∙ ap (option_and_then f) (shown_found row is (asks.goes.lasts.was it))) (reads it)
 
-    pub maybe_none : {U : Type 0} (f : SeenProject → Option U) → o ≡ None → doubt_of g b.tables.now ≡ 0 → None ≡ option_and_then f (shown g a.tables.now a.host a.pass)
+    pub maybe_none : {U : Type 0} (f : SeenProject → Option U) → o ≡ None → doubt_of g b.tables.now ≡ 0 → None ≡ option_and_then f (shown g a.tables.now a.host a.caller)
     maybe_none f is d = ap (option_and_then f) (none_shown is (honest g b.tables.now d))
 
     -- the same of a list
     pub all_shown
         : {U Z : Type 0} {h : Held S} {r : Result (Vec U Z) Fault} {v : List U} (f : SeenProject → List U) (row : ProjectRow) → o ≡ Some row
-        → v ≡ f (shown_in (seen g lists_of b.tables.now) row b.pass) → Asks g b.tables.now h r → (IsHonest g h → IfOk r (λ list. list.items ≡ v))
-        → doubt_of g h ≡ 0 → IfOk r (λ list. list.items ≡ option_map_or f (shown g a.tables.now a.host a.pass) [])
+        → v ≡ f (shown_in (seen g lists_of b.tables.now) row b.caller) → Asks g b.tables.now h r → (IsHonest g h → IfOk r (λ list. list.items ≡ v))
+        → doubt_of g h ≡ 0 → IfOk r (λ list. list.items ≡ option_map_or f (shown g a.tables.now a.host a.caller) [])
     all_shown {h = h} {r = r} f row is e asks reads d =
         let it = honest g h d in
         same_answer (λ list. list.items) r _ _ (e ∙ ap (λ o. option_map_or f o []) (shown_found row is (asks.goes.lasts.was it))) (reads it)
 
-    pub all_none : {U : Type 0} {list : List U} (f : SeenProject → List U) → list ≡ [] → o ≡ None → doubt_of g b.tables.now ≡ 0 → list ≡ option_map_or f (shown g a.tables.now a.host a.pass) []
+    pub all_none : {U : Type 0} {list : List U} (f : SeenProject → List U) → list ≡ [] → o ≡ None → doubt_of g b.tables.now ≡ 0 → list ≡ option_map_or f (shown g a.tables.now a.host a.caller) []
     all_none f e is d = e ∙ ap (λ o. option_map_or f o []) (none_shown is (honest g b.tables.now d))
 
 -- ---- answers

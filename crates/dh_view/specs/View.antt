@@ -18,9 +18,10 @@ use Rattle.dh_lookup.specs.declared.seen_project.SeenProject.{SeenProject}
 use Rattle.dh_records.specs.declared.records.VersionRow.{VersionRow}
 use Rattle.dh_records.specs.declared.records.HeldRow.{HeldRow}
 use Rattle.dh_records.specs.declared.records.ProjectRow.{ProjectRow}
+use Rattle.dh_world.specs.declared.caller.Caller.{Caller}
 use Rattle.dh_world.specs.World.{Text, text_cmp, Project}
 use Rattle.dh_world.specs.Visibility.{holds, may_see}
-use Rattle.dh_world.specs.Seen as caller
+use Rattle.dh_world.specs.Seen as sight
 use Rattle.dh_schema.specs.Calling.{Blames, Learns}
 use Rattle.dh_schema.specs.InTurn.{blamed_before, lasts_none, lasts_on, same_none, same_on, shut_before}
 use Rattle.dh_records.specs.Lists.{Lists, project_of, world_of}
@@ -51,20 +52,20 @@ abbrev pub project_in : Lists → Option Text → Option Project
 project_in l host = option_and_then (get (world_of l)) host
 
 -- the same as the caller sees it
-abbrev pub shown_under : Lists → Option Text → Option Text → Option SeenProject
-shown_under l host pass = caller.seen (world_of l) host pass
+abbrev pub shown_under : Lists → Option Text → Caller → Option SeenProject
+shown_under l host caller = sight.seen (world_of l) host caller
 
-module _ (l : Lists) (row : ProjectRow) (pass : Option Text) where
-  -- the pass is one of the project's, and holds the version
+module _ (l : Lists) (row : ProjectRow) (caller : Caller) where
+  -- the caller's pass is one of the project's, and holds the version
   abbrev pub held_in : Text → Bool
-  held_in slug = holds (project_of l row) pass slug
+  held_in slug = holds (project_of l row) caller.pass slug
 
   abbrev pub visible_in : FinMap text_cmp Version
-  visible_in = caller.visible_versions (project_of l row) pass
+  visible_in = sight.visible_versions (project_of l row) caller
 
   -- the project as the caller sees it
   abbrev pub shown_in : SeenProject
-  shown_in = caller.seen_project (project_of l row) pass
+  shown_in = sight.seen_project (project_of l row) caller
 
   -- the name stands for a version that the caller sees
   abbrev pub resolves : Text → Bool
@@ -77,9 +78,9 @@ module _ {S : Type 0} (g : Ghosts S) where
   unfoldable pub doubt_of : Held S → ℕ
   doubt_of h = doubt ((state g h).is_clean && (state g h).is_open)
 
-  -- what the tables show under a host to the holder of this pass, or to a caller with none
-  abbrev pub shown : Held S → Option Text → Option Text → Option SeenProject
-  shown h host pass = shown_under (seen g lists_of h) host pass
+  -- what the tables show under a host to this caller
+  abbrev pub shown : Held S → Option Text → Caller → Option SeenProject
+  shown h host caller = shown_under (seen g lists_of h) host caller
 
   -- The lists are those of before, and a crash leaves nothing that it could not leave before.
   pub record IsUnmoved (old new : Held S) : Type 0 where
@@ -118,13 +119,13 @@ module _ {S : Type 0} (g : Ghosts S) where
     abbrev pub Reads : (Lists → T) → Type 0
     Reads value = Obtains (λ l read. read ≡ value l)
 
-  -- How a view is read: by what its tables show under its host and pass, which stay.
+  -- How a view is read: by what its tables show under its host to its caller, who both stay.
   abbrev pub meaning_of : Meaning (View S)
   meaning_of = record {
-    content = λ v. shown v.tables.now v.host v.pass;
+    content = λ v. shown v.tables.now v.host v.caller;
     doubt = λ v. doubt_of v.tables.now;
     leads = λ a b. (b.tables.ghost_name ≡ a.tables.ghost_name) × (b.host ≡ a.host)
-        × (b.pass ≡ a.pass) × Looks a.tables.now b.tables.now;
+        × (b.caller ≡ a.caller) × Looks a.tables.now b.tables.now;
     keeps = λ a b. IsHonest g b.tables.now → IsUnmoved a.tables.now b.tables.now;
     fails = λ a b. Fails a.tables.now b.tables.now;
   }

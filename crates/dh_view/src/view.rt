@@ -18,36 +18,36 @@ mod redirects;
 mod versions;
 
 use dh_lookup::{Fault, Found, Lookup, Named, Page};
-use dh_paths::{HostName, Lang, Slug, Text, Token};
+use dh_paths::{HostName, Lang, Slug, Text};
 use dh_records::ProjectRow;
 use dh_redirects::{Asked, Location};
 use dh_store::Tables;
 use dh_versions::Version;
+use dh_world::Caller;
 use sqlite::Alter;
 use std::alloc::Global;
 
-/// The project under a host, as the holder of a pass sees it, or a caller with none. Within a
-/// transaction each look answers `Store`. Outside one a look does so only where the store counted a
-/// fault in it or was shut before it.
+/// The project under a host, as a caller sees it. Within a transaction each look answers `Store`.
+/// Outside one a look does so only where the store counted a fault in it or was shut before it.
 #[derive(Drop)]
 pub struct View<'a, S: Alter> {
     tables: &'a mut Tables<S>,
     host: Option<HostName>,
-    pass: Option<Token>,
+    caller: Caller,
 }
 
 impl<'a, S: Alter> View<'a, S> {
-    pub fn new(
-        tables: &'a mut Tables<S>,
-        host: Option<HostName>,
-        pass: Option<Token>,
-    ) -> View<'a, S>
+    pub fn new(tables: &'a mut Tables<S>, host: Option<HostName>, caller: Caller) -> View<'a, S>
         ensures same { result.tables.ghost_name ≡ tables.entry.ghost_name }
         ensures now { result.tables.now ≡ tables.old }
         ensures host { result.host ≡ host }
-        ensures pass { result.pass ≡ pass }
+        ensures caller { result.caller ≡ caller }
     {
-        View { tables, host, pass }
+        View {
+            tables,
+            host,
+            caller,
+        }
     }
 
     /// The tables again. A view that is dropped in place of this tells nothing of them.
@@ -58,7 +58,7 @@ impl<'a, S: Alter> View<'a, S> {
         let View {
             tables,
             host: _host,
-            pass: _pass,
+            caller: _caller,
         } = self;
         tables
     }
@@ -87,7 +87,7 @@ impl<'a, S: Alter> View<'a, S> {
             (λ p. first_result forced p.redirects asked.now) }
     {
         match self.project(alloc)? {
-            Some(project) => ProjectView::new(alloc, &project, &self.pass).redirected(
+            Some(project) => ProjectView::new(alloc, &project, &self.caller).redirected(
                 self.tables,
                 forced,
                 asked,
@@ -97,23 +97,23 @@ impl<'a, S: Alter> View<'a, S> {
     }
 }
 
-/// The project that stands under the host of a view, with its pass; looks at it take memory from the allocator.
+/// The project that stands under the host of a view, with its caller; looks at it take memory from the allocator.
 #[derive(Clone, Copy)]
 struct ProjectView<'a> {
     alloc: Global,
     project: &'a ProjectRow,
-    pass: &'a Option<Token>,
+    caller: &'a Caller,
 }
 
 impl<'a> ProjectView<'a> {
-    fn new(alloc: Global, project: &'a ProjectRow, pass: &'a Option<Token>) -> ProjectView<'a>
+    fn new(alloc: Global, project: &'a ProjectRow, caller: &'a Caller) -> ProjectView<'a>
         ensures project { result.project.now ≡ project.now }
-        ensures pass { result.pass.now ≡ pass.now }
+        ensures caller { result.caller.now ≡ caller.now }
     {
         ProjectView {
             alloc,
             project,
-            pass,
+            caller,
         }
     }
 }
@@ -150,7 +150,7 @@ impl<'a, S: Alter> Lookup for View<'a, S> {
 
     fn name(&mut self, alloc: Global, name: &str) -> Found<Named> {
         match self.project(alloc)? {
-            Some(project) => ProjectView::new(alloc, &project, &self.pass).version_for(
+            Some(project) => ProjectView::new(alloc, &project, &self.caller).version_for(
                 self.tables,
                 name,
             ),
@@ -160,7 +160,7 @@ impl<'a, S: Alter> Lookup for View<'a, S> {
 
     fn default(&mut self, alloc: Global) -> Found<Text> {
         match self.project(alloc)? {
-            Some(project) => ProjectView::new(alloc, &project, &self.pass).default_name(
+            Some(project) => ProjectView::new(alloc, &project, &self.caller).default_name(
                 self.tables,
             ),
             None => Ok(None),
@@ -169,7 +169,7 @@ impl<'a, S: Alter> Lookup for View<'a, S> {
 
     fn langs(&mut self, alloc: Global) -> Result<Vec<Lang>, Fault> {
         match self.project(alloc)? {
-            Some(project) => ProjectView::new(alloc, &project, &self.pass).all_langs(self.tables),
+            Some(project) => ProjectView::new(alloc, &project, &self.caller).all_langs(self.tables),
             None => Ok(Vec::new(alloc)),
         }
     }
@@ -177,7 +177,7 @@ impl<'a, S: Alter> Lookup for View<'a, S> {
     fn page(&mut self, alloc: Global, lang: &Lang, slug: &Slug, path: &str) -> Found<Page> {
         match self.project(alloc)? {
             Some(project) => {
-                ProjectView::new(alloc, &project, &self.pass).visible_page(
+                ProjectView::new(alloc, &project, &self.caller).visible_page(
                     self.tables,
                     lang,
                     slug,
@@ -198,7 +198,9 @@ impl<'a, S: Alter> Lookup for View<'a, S> {
 
     fn listing(&mut self, alloc: Global) -> Result<Vec<Version>, Fault> {
         match self.project(alloc)? {
-            Some(project) => ProjectView::new(alloc, &project, &self.pass).all_visible(self.tables),
+            Some(project) => ProjectView::new(alloc, &project, &self.caller).all_visible(
+                self.tables,
+            ),
             None => Ok(Vec::new(alloc)),
         }
     }

@@ -1,5 +1,5 @@
 -- The page that is seen is that of a visible version.
-use Rattle.std.proofs.Common.{◌≡◌, Bool, true, false, ◌&&◌, cond, List, [], ◌∷◌, map, Option, Some, None, refl, sym, ap, ◌∙◌}
+use Rattle.std.proofs.Common.{◌≡◌, Bool, true, false, ◌&&◌, cond, List, [], ◌∷◌, map, Some, None, refl, sym, ap, ◌∙◌}
 use Rattle.std.specs.Prelude.{option_map}
 use Rattle.std.specs.List.{find}
 use Rattle.std.specs.Str.{bytes_eq}
@@ -8,6 +8,7 @@ use Rattle.std.specs.FinMap as finite
 use Rattle.dh_lookup.specs.declared.found.Page.{Page}
 use Rattle.dh_lookup.specs.declared.seen_project.StoredPage.{StoredPage}
 use Rattle.dh_lookup.specs.SeenProject.{stands_at, page_at}
+use Rattle.dh_world.specs.declared.caller.Caller.{Caller}
 use Rattle.dh_world.specs.World.{Text, PageKey, page_cmp, Project}
 use Rattle.dh_world.specs.Visibility.{is_visible}
 use Rattle.dh_world.specs.Seen.{seen_project, without_default, visible_pages, stored_page}
@@ -27,8 +28,8 @@ shown_page lang slug path (e ∷ es) =
     go false false c more = more
 
 -- the page of a visible version
-pub seen_page : (p : Project) (pass : Option Text) (lang slug path : Text) → page_at (seen_project p pass) lang slug path ≡ cond (is_visible p pass slug) (get p.pages (slug, (lang, path))) None
+pub seen_page : (p : Project) (c : Caller) (lang slug path : Text) → page_at (seen_project p c) lang slug path ≡ cond (is_visible p c slug) (get p.pages (slug, (lang, path))) None
 unfolding page_at seen_project without_default
-seen_page p pass lang slug path =
-    shown_page lang slug path (entries (visible_pages p pass)) ∙ sym (get-entries (visible_pages p pass) (slug, (lang, path)))
-    ∙ get-retain_keys p.pages (λ key. is_visible p pass key.0) (slug, (lang, path)) (λ x t. ap (λ (k : PageKey). is_visible p pass k.0) (sym (page_exact (slug, (lang, path)) x t)))
+seen_page p c lang slug path =
+    shown_page lang slug path (entries (visible_pages p c)) ∙ sym (get-entries (visible_pages p c) (slug, (lang, path)))
+    ∙ get-retain_keys p.pages (λ key. is_visible p c key.0) (slug, (lang, path)) (λ x t. ap (λ (k : PageKey). is_visible p c k.0) (sym (page_exact (slug, (lang, path)) x t)))

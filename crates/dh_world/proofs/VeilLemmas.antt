@@ -10,6 +10,7 @@ use Rattle.std.proofs.lemmas.Slice.Eq.{bytes_eq-Decides}
 use Rattle.dh_versions.specs.declared.version.Version.{Version}
 use Rattle.dh_lookup.specs.declared.seen_project.SeenProject.{SeenProject}
 use Rattle.dh_lookup.specs.SeenProject.{resolved}
+use Rattle.dh_world.specs.declared.caller.Caller.{Caller}
 use Rattle.dh_world.specs.World.{Text, text_cmp, Project, World}
 use Rattle.dh_world.specs.Visibility.{holds, may_see, is_visible}
 use Rattle.dh_world.specs.Seen.{default_of, visible_versions, visible_pages, without_default, with_default, seen_project, seen, is_alias, is_own, is_seen_name, veiled, alone, veil}
@@ -37,28 +38,31 @@ module _ {K X : Type 0} {R : K → K → Ordering} (exact : IsAntisymmetric R) w
 own_pass : (pass : Text) → bytes_eq pass pass ≡ true
 own_pass pass = (bytes_eq-Decides pass pass).1 refl
 
-module _ (p : Project) (pass : Option Text) (slug : Text) where
+module _ (p : Project) (c : Caller) (slug : Text) where
   abbrev visible_as : Option Version → Bool → Bool
   visible_as o held = option_map_or (λ v. may_see v held) o false
 
-  still_held : is_visible p pass slug ≡ true → holds (veiled p pass) pass slug ≡ holds p pass slug
-  still_held e = go pass e
+  abbrev by : Option Text → Caller
+  by t = record { pass = t }
+
+  still_held : is_visible p c slug ≡ true → holds (veiled p c) c.pass slug ≡ holds p c.pass slug
+  still_held e = go c.pass e
     where
-      go : (t : Option Text) → is_visible p t slug ≡ true → holds (veiled p t) t slug ≡ holds p t slug
+      go : (t : Option Text) → is_visible p (by t) slug ≡ true → holds (veiled p (by t)) t slug ≡ holds p t slug
       go None e = refl
       go (Some t) e = λ i.
           is_some (get_passing exact_bytes p.passes (is_own (Some t)) t (own_pass t) i)
-          && is_some (get_passing held_exact p.held (λ key. is_own (Some t) key.0 && is_visible p (Some t) key.1) (t, slug) (ap (λ b. b && is_visible p (Some t) slug) (own_pass t) ∙ e) i)
+          && is_some (get_passing held_exact p.held (λ key. is_own (Some t) key.0 && is_visible p (by (Some t)) key.1) (t, slug) (ap (λ b. b && is_visible p (by (Some t)) slug) (own_pass t) ∙ e) i)
 
-  same_visible : is_visible (veiled p pass) pass slug ≡ is_visible p pass slug
-  same_visible = go (is_visible p pass slug) refl
+  same_visible : is_visible (veiled p c) c slug ≡ is_visible p c slug
+  same_visible = go (is_visible p c slug) refl
     where
-      go : (b : Bool) → is_visible p pass slug ≡ b → is_visible (veiled p pass) pass slug ≡ b
+      go : (b : Bool) → is_visible p c slug ≡ b → is_visible (veiled p c) c slug ≡ b
       go true e =
-          ap (λ o. visible_as o (holds (veiled p pass) pass slug)) (get_passing exact_bytes p.versions (is_visible p pass) slug e)
+          ap (λ o. visible_as o (holds (veiled p c) c.pass slug)) (get_passing exact_bytes p.versions (is_visible p c) slug e)
           ∙ ap (visible_as (get p.versions slug)) (still_held e) ∙ e
       go false e =
-          ap (λ o. visible_as o (holds (veiled p pass) pass slug)) (get_retained exact_bytes p.versions (is_visible p pass) slug ∙ ap (λ b. cond b (get p.versions slug) None) e)
+          ap (λ o. visible_as o (holds (veiled p c) c.pass slug)) (get_retained exact_bytes p.versions (is_visible p c) slug ∙ ap (λ b. cond b (get p.versions slug) None) e)
 
 -- ---- the same is seen
 
@@ -72,47 +76,47 @@ default_filter resolves keep h (n ∷ names) = go (keep n) refl (default_filter 
     go true e more = ap (cond (resolves n) (Some n)) more
     go false e more = more ∙ sym (ap (λ b. cond b (Some n) (default_of resolves names)) (h n e))
 
-module _ (p : Project) (pass : Option Text) where
+module _ (p : Project) (c : Caller) where
   abbrev undecided : SeenProject
-  undecided = without_default p.languages p.branch (visible_versions p pass) (visible_pages p pass) p.redirects
+  undecided = without_default p.languages p.branch (visible_versions p c) (visible_pages p c) p.redirects
 
   -- what a name stands for does not go by the default
-  same_name : (name : Text) → resolved (seen_project p pass) name ≡ resolved undecided name
+  same_name : (name : Text) → resolved (seen_project p c) name ≡ resolved undecided name
   unfolding seen_project resolved
   same_name name = refl
 
-  passed_over : (name : Text) → is_seen_name p pass name ≡ false → is_some (resolved undecided name) ≡ false
-  passed_over name e = ap is_some (sym (same_name name)) ∙ last (is_alias name) (is_some (resolved (seen_project p pass) name)) e
+  passed_over : (name : Text) → is_seen_name p c name ≡ false → is_some (resolved undecided name) ≡ false
+  passed_over name e = ap is_some (sym (same_name name)) ∙ last (is_alias name) (is_some (resolved (seen_project p c) name)) e
     where
       last : (a b : Bool) → (a || b) ≡ false → b ≡ false
       last true b e = absurd (true≢false e)
       last false b e = e
 
-  same_versions : visible_versions (veiled p pass) pass ≡ visible_versions p pass
+  same_versions : visible_versions (veiled p c) c ≡ visible_versions p c
   same_versions =
-      ap (retain_keys (visible_versions p pass)) (λ i slug. same_visible p pass slug i)
-      ∙ retain_wider exact_bytes text_total p.versions (is_visible p pass) (is_visible p pass) (λ slug e. e)
+      ap (retain_keys (visible_versions p c)) (λ i slug. same_visible p c slug i)
+      ∙ retain_wider exact_bytes text_total p.versions (is_visible p c) (is_visible p c) (λ slug e. e)
 
-  same_pages : visible_pages (veiled p pass) pass ≡ visible_pages p pass
+  same_pages : visible_pages (veiled p c) c ≡ visible_pages p c
   same_pages =
-      ap (retain_keys (visible_pages p pass)) (λ i key. same_visible p pass key.0 i)
-      ∙ retain_wider page_exact page_total p.pages (λ key. is_visible p pass key.0) (λ key. is_visible p pass key.0) (λ key e. e)
+      ap (retain_keys (visible_pages p c)) (λ i key. same_visible p c key.0 i)
+      ∙ retain_wider page_exact page_total p.pages (λ key. is_visible p c key.0) (λ key. is_visible p c key.0) (λ key e. e)
 
-  seen_veiled : seen_project (veiled p pass) pass ≡ seen_project p pass
+  seen_veiled : seen_project (veiled p c) c ≡ seen_project p c
   unfolding seen_project
   seen_veiled =
-      (λ i. with_default (without_default p.languages p.branch (same_versions i) (same_pages i) p.redirects) (filter (is_seen_name p pass) p.defaults))
-      ∙ ap (λ d. record undecided { «default» = d }) (default_filter (λ name. is_some (resolved undecided name)) (is_seen_name p pass) passed_over p.defaults)
+      (λ i. with_default (without_default p.languages p.branch (same_versions i) (same_pages i) p.redirects) (filter (is_seen_name p c) p.defaults))
+      ∙ ap (λ d. record undecided { «default» = d }) (default_filter (λ name. is_some (resolved undecided name)) (is_seen_name p c) passed_over p.defaults)
 
 -- ---- worlds
 
 found_alone : (host : Text) (p : Project) → get (alone host (Some p)) host ≡ Some p
 found_alone host p = get-insert text_total (empty {R = text_cmp}) host p host ∙ ap (λ b. cond b (Some p) (get (empty {R = text_cmp}) host)) (tied_text host host ∙ (bytes_eq-Decides host host).1 refl)
 
-seen_alone : (host : Text) (pass : Option Text) (o : Option Project) → seen (alone host (option_map (λ p. veiled p pass) o)) (Some host) pass ≡ option_map (λ p. seen_project p pass) o
-seen_alone host pass None = ap (option_map (λ p. seen_project p pass)) (get-empty text_cmp host)
-seen_alone host pass (Some p) = ap (option_map (λ p. seen_project p pass)) (found_alone host (veiled p pass)) ∙ ap Some (seen_veiled p pass)
+seen_alone : (host : Text) (c : Caller) (o : Option Project) → seen (alone host (option_map (λ p. veiled p c) o)) (Some host) c ≡ option_map (λ p. seen_project p c) o
+seen_alone host c None = ap (option_map (λ p. seen_project p c)) (get-empty text_cmp host)
+seen_alone host c (Some p) = ap (option_map (λ p. seen_project p c)) (found_alone host (veiled p c)) ∙ ap Some (seen_veiled p c)
 
-pub veil_law : (w : World) (host pass : Option Text) → seen (veil w host pass) host pass ≡ seen w host pass
-veil_law w None pass = refl
-veil_law w (Some host) pass = seen_alone host pass (get w host)
+pub veil_law : (w : World) (host : Option Text) (c : Caller) → seen (veil w host c) host c ≡ seen w host c
+veil_law w None c = refl
+veil_law w (Some host) c = seen_alone host c (get w host)

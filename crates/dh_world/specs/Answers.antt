@@ -1,5 +1,6 @@
 -- What a command answers, and the JSON that is kept and sent of it.
-use Rattle.std.specs.Prelude.{◌<◌, ◌^◌, ℕ, Bool, List, Option, Some, None, codes, nat_lt, option_map, option_and_then, if◌then◌else◌, IsTrue}
+use Rattle.std.specs.Prelude.{◌<◌, ◌^◌, ℕ, Bool, true, false, List, Option, Some, None, codes, nat_lt, option_map, option_and_then, if◌then◌else◌, IsTrue}
+use Rattle.std.specs.Option.{option_map_or}
 use Rattle.std.specs.Str.{bytes_eq}
 use Rattle.serde_json.specs.Data.{Data, boolean, number, unsigned, string, object, no_members, member}
 use Rattle.serde_json.specs.Find.{get, as_str, as_bool, as_number, as_u64}
@@ -8,6 +9,8 @@ use Rattle.serde_json.specs.Written.{compact_text}
 use Rattle.dh_texts.specs.Texts.{is_slug}
 use Rattle.dh_world.specs.declared.answer.Answer.{Answer}
 use Rattle.dh_world.specs.declared.answer.Answer.TheVariants.{Done, Made, Known, Stored}
+use Rattle.dh_world.specs.declared.operation.Operation.{Operation}
+use Rattle.dh_world.specs.declared.operation.Operation.TheVariants.{Push, Upload}
 
 -- its slug is one, its count of pages fits 32 bits
 abbrev pub IsAnswer : Answer → Type 0
@@ -62,3 +65,16 @@ answer_in d = option_and_then (λ name. named_in name d) (text_at (codes "answer
 -- the answer that a kept text tells
 abbrev pub answer_of : List ℕ → Option Answer
 answer_of text = option_and_then answer_in (read text)
+
+-- ---- the answers of the two operations
+
+-- a push tells which version it made or knew, an upload its number of pages
+abbrev pub answers_to : Operation → Answer → Bool
+answers_to Push (Made slug active hidden private) = true
+answers_to Push (Known slug) = true
+answers_to Upload (Stored pages) = true
+answers_to _ _ = false
+
+-- the text tells an answer to the operation
+abbrev pub tells : Operation → List ℕ → Bool
+tells operation text = option_map_or (answers_to operation) (answer_of text) false

@@ -9,6 +9,7 @@ use Rattle.dh_lookup.specs.declared.found.Page.{Page}
 use Rattle.dh_lookup.specs.declared.seen_project.SeenProject.{SeenProject}
 use Rattle.dh_lookup.specs.declared.seen_project.StoredPage.{StoredPage}
 use Rattle.dh_lookup.specs.SeenProject.{resolved}
+use Rattle.dh_world.specs.declared.caller.Caller.{Caller}
 use Rattle.dh_world.specs.World.{Text, text_cmp, PageKey, page_cmp, Project, World}
 use Rattle.dh_world.specs.Visibility.{is_visible}
 
@@ -24,11 +25,11 @@ default_of resolves [] =
     else None
 default_of resolves (name ∷ names) = if resolves name then Some name else default_of resolves names
 
-abbrev pub visible_versions : Project → Option Text → FinMap text_cmp Version
-visible_versions p pass = retain_keys p.versions (is_visible p pass)
+abbrev pub visible_versions : Project → Caller → FinMap text_cmp Version
+visible_versions p caller = retain_keys p.versions (is_visible p caller)
 
-abbrev pub visible_pages : Project → Option Text → FinMap page_cmp Page
-visible_pages p pass = retain_keys p.pages (λ key. is_visible p pass key.0)
+abbrev pub visible_pages : Project → Caller → FinMap page_cmp Page
+visible_pages p caller = retain_keys p.pages (λ key. is_visible p caller key.0)
 
 abbrev pub stored_page : PageKey × Page → StoredPage
 stored_page e = record { lang = e.0.1.0; slug = e.0.0; path = e.0.1.1; page = e.1 }
@@ -48,13 +49,13 @@ without_default languages branch versions pages redirects = record {
 abbrev pub with_default : SeenProject → List Text → SeenProject
 with_default p names = record p { «default» = default_of (λ name. is_some (resolved p name)) names }
 
--- the project as the holder of this pass sees it, or a caller with none: no private version that the pass does not hold, no rank, pass, key or rule
-unfoldable pub seen_project : Project → Option Text → SeenProject
-seen_project p pass = with_default (without_default p.languages p.branch (visible_versions p pass) (visible_pages p pass) p.redirects) p.defaults
+-- the project as this caller sees it: no private version that his pass does not hold, no rank, pass, key or rule
+unfoldable pub seen_project : Project → Caller → SeenProject
+seen_project p caller = with_default (without_default p.languages p.branch (visible_versions p caller) (visible_pages p caller) p.redirects) p.defaults
 
--- what that caller sees under a host
-abbrev pub seen : World → Option Text → Option Text → Option SeenProject
-seen w host pass = option_map (λ p. seen_project p pass) (option_and_then (get w) host)
+-- what the caller sees under a host
+abbrev pub seen : World → Option Text → Caller → Option SeenProject
+seen w host caller = option_map (λ p. seen_project p caller) (option_and_then (get w) host)
 
 -- the caller's own pass
 abbrev pub is_own : Option Text → Text → Bool
@@ -62,21 +63,21 @@ is_own None x = false
 is_own (Some pass) x = bytes_eq x pass
 
 -- An alias, or a name that stands for a version that the caller sees.
-abbrev pub is_seen_name : Project → Option Text → Text → Bool
-is_seen_name p pass name = is_alias name || is_some (resolved (seen_project p pass) name)
+abbrev pub is_seen_name : Project → Caller → Text → Bool
+is_seen_name p caller name = is_alias name || is_some (resolved (seen_project p caller) name)
 
 -- What is left of a project that holds nothing but what this caller sees: the visible versions, their pages, the redirects, the defaults that he may see, and of the passes his own with the visible slugs that it holds.
-abbrev pub veiled : Project → Option Text → Project
-veiled p pass = record {
+abbrev pub veiled : Project → Caller → Project
+veiled p caller = record {
   languages = p.languages;
   branch = p.branch;
   new_private = false;
   wkey = codes "x";
-  versions = visible_versions p pass;
-  pages = visible_pages p pass;
-  defaults = filter (is_seen_name p pass) p.defaults;
-  passes = retain_keys p.passes (is_own pass);
-  held = retain_keys p.held (λ key. is_own pass key.0 && is_visible p pass key.1);
+  versions = visible_versions p caller;
+  pages = visible_pages p caller;
+  defaults = filter (is_seen_name p caller) p.defaults;
+  passes = retain_keys p.passes (is_own caller.pass);
+  held = retain_keys p.held (λ key. is_own caller.pass key.0 && is_visible p caller key.1);
   used = empty;
   rules = [];
   redirects = p.redirects;
@@ -88,6 +89,6 @@ alone host None = empty
 alone host (Some p) = insert empty host p
 
 -- the world with the project of that host alone, and of it only what this caller sees
-abbrev pub veil : World → Option Text → Option Text → World
-veil w None pass = empty
-veil w (Some host) pass = alone host (option_map (λ p. veiled p pass) (get w host))
+abbrev pub veil : World → Option Text → Caller → World
+veil w None caller = empty
+veil w (Some host) caller = alone host (option_map (λ p. veiled p caller) (get w host))

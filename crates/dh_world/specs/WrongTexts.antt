@@ -1,6 +1,6 @@
 -- The checks of a command that look at its texts alone, in the order of its arguments.
 use Rattle.std.specs.Prelude.{◌==◌, ℕ, Bool, not, ◌&&◌, nat_le, List, [], ◌∷◌, ◌++◌, length, Option, None, is_some, option_map}
-use Rattle.std.specs.List.{list_any}
+use Rattle.std.specs.List.{list_all, list_any}
 use Rattle.std.specs.Str.{bytes_eq}
 use Rattle.dh_texts.specs.Texts.{is_within, first_byte, last_byte, is_host_name, is_lang, is_ref_name, is_slug, is_page_path, is_token}
 use Rattle.dh_texts.specs.SlugOfName.{slug_from}
@@ -29,6 +29,14 @@ is_media text = is_within 1 100 is_media_byte text && not (first_byte text == 32
 abbrev pub is_body : List ℕ → Bool
 is_body body = nat_le (length body) 1048576
 
+-- a page may have this media type and this body
+abbrev pub is_content : Text → List ℕ → Bool
+is_content media body = is_media media && is_body body
+
+-- each of the pages may have its own
+abbrev pub have_contents : List UploadedPage → Bool
+have_contents = list_all (λ (x : UploadedPage). is_content x.media x.body)
+
 -- at most 256 pages
 abbrev pub is_count : List UploadedPage → Bool
 is_count pages = nat_le (length pages) 256
@@ -41,8 +49,7 @@ has_path path pages = list_any (λ (x : UploadedPage). bytes_eq x.path path) pag
 abbrev pub bad_page : List UploadedPage → UploadedPage → Option Refusal
 bad_page before x = first_of
     (unless (is_page_path x.path) BadPath
-    ∷ unless (is_media x.media) BadPage
-    ∷ unless (is_body x.body) BadPage
+    ∷ unless (is_content x.media x.body) BadPage
     ∷ unless (not (has_path x.path before)) BadPage
     ∷ [])
 

@@ -2,7 +2,9 @@
 #![tactic(auto)]
 
 pub mod answer;
+pub mod caller;
 pub mod command;
+mod content;
 mod laws;
 pub mod operation;
 pub mod outcome;
@@ -11,7 +13,9 @@ pub mod property;
 pub mod refusal;
 
 pub use answer::Answer;
+pub use caller::Caller;
 pub use command::{Command, CommandChange};
+pub use content::is_content;
 pub use laws::{answers_for_good, first_is_kept, kept_is_answered, kept_stays, veil_law};
 pub use operation::Operation;
 pub use outcome::Outcome;

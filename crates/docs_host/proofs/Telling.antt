@@ -15,12 +15,12 @@ use Rattle.docs_host.specs.declared.failure.Status.TheVariants.{Done, Refused, U
 
 module _ {S : Type 0} (broken : S → Bool) (held : S → Option Text) where
   module _ (line : Option Line) where
-    end_is_last : (a b : S) (s : Status) → TellsLast broken held line a b s → TellsEnd broken held line a b s
-    end_is_last a b Done it = tt
-    end_is_last a b Refused it = tt
-    end_is_last a b Usage it = tt
-    end_is_last a b Faulty it = it
-    end_is_last a b Unanswered it = it
+    end_is_last : {a b : S} (s : Status) → TellsLast broken held line a b s → TellsEnd broken held line a b s
+    end_is_last Done it = tt
+    end_is_last Refused it = tt
+    end_is_last Usage it = tt
+    end_is_last Faulty it = it
+    end_is_last Unanswered it = it
 
     -- what is no fault wants nothing
     pub no_fault : (a b : S) (s : Status) → is_fault s ≡ false → TellsEnd broken held line a b s
@@ -35,7 +35,7 @@ module _ {S : Type 0} (broken : S → Bool) (held : S → Option Text) where
         : (a b c : S) (failure : Failure) (s : Status) → IsTrue (may_fail (is_of_line line) failure) → s ≡ status_after failure
         → TellsSome broken held a b → TellsFault broken held b c failure (option_and_then file_of line) → TellsEnd broken held line a c s
     told_last a b c failure s may is some told =
-        end_is_last a c s (
+        end_is_last s (
           some.0,
           failure,
           told.0,
@@ -48,7 +48,7 @@ module _ {S : Type 0} (broken : S → Bool) (held : S → Option Text) where
     pub told_alone
         : (a b : S) (failure : Failure) (s : Status) → IsTrue (may_fail (is_of_line line) failure) → s ≡ status_after failure
         → TellsFault broken held a b failure (option_and_then file_of line) → TellsEnd broken held line a b s
-    told_alone a b failure s may is told = end_is_last a b s ([], failure, told.0, is, may, told.1)
+    told_alone a b failure s may is told = end_is_last s ([], failure, told.0, is, may, told.1)
 
     -- no file is named where memory is out
     pub told_memory : (a b : S) (s : Status) → s ≡ Faulty → TellsFault broken held a b Memory None → TellsEnd broken held line a b s

@@ -6,6 +6,7 @@ use dh_paths::HostName;
 use dh_rows::{place_of, run};
 use dh_tables::Tables;
 use dh_view::View;
+use dh_world::Caller;
 use sqlite::{Connection, MemStore};
 use std::alloc::Global;
 use std::test::Fail;
@@ -33,7 +34,7 @@ fn within_a_transaction_a_view_answers_nothing(rt: HostRuntime) -> Result<(), Fa
     let mut tables = Tables::in_memory(alloc)?;
     tables.begin()?;
     let host = HostName::parse(alloc, "docs.test")?;
-    let mut view = View::new(&mut tables, Some(host), None);
+    let mut view = View::new(&mut tables, Some(host), Caller { pass: None });
     assert!(rt; matches!(view.known(), Err(Fault::Store)));
     let tables = view.close();
     tables.back()?;

@@ -20,6 +20,9 @@ const INACTIVE: &str = "INSERT INTO version VALUES ('docs.test', '2.0', '2.0', 1
 const PAGE: &str =
     "INSERT INTO page VALUES ('docs.test', '1.0', 'en', 'a.html', 'text/html', x'61')";
 
+const ANSWER: &str =
+    "INSERT INTO used VALUES ('docs.test', '1.0', 1, 'k1', '{\"answer\":\"stored\",\"pages\":1}')";
+
 const UNSEEN: &str =
     "INSERT INTO page VALUES ('docs.test', '2.0', 'en', 'a.html', 'text/html', x'61')";
 
@@ -54,7 +57,7 @@ fn what_we_made_is_ours(rt: HostRuntime) -> Result<(), Fail> {
     let alloc = rt.alloc();
     assert_eq!(rt; said(alloc, &[])?, "ours");
     assert_eq!(rt; said(alloc, &[PROJECT, ENGLISH])?, "ours");
-    let whole = [PROJECT, ENGLISH, ACTIVE, INACTIVE, PAGE];
+    let whole = [PROJECT, ENGLISH, ACTIVE, INACTIVE, PAGE, ANSWER];
     assert_eq!(rt; said(alloc, &whole)?, "ours");
     Ok(())
 }
@@ -69,10 +72,12 @@ fn rows_that_break_a_constraint_are_not_ours(rt: HostRuntime) -> Result<(), Fail
         FRENCH,
         UNSEEN,
         "INSERT INTO page VALUES ('docs.test', '1.0', 'fr', 'a.html', 'text/html', x'61')",
+        "INSERT INTO page VALUES ('docs.test', '1.0', 'en', 'b.html', 'a/b\r\nX: y', x'61')",
         "INSERT INTO pick VALUES ('docs.test', '3.0', 1)",
         "INSERT INTO pick VALUES ('docs.test', 'latest', 2)",
         "INSERT INTO holds VALUES ('docs.test', 'reader', '1.0')",
         "INSERT INTO used VALUES ('docs.test', '1.0', 0, 'k1', '{}')",
+        "INSERT INTO used VALUES ('docs.test', '1.0', 0, 'k1', '{\"answer\":\"stored\",\"pages\":1}')",
         "INSERT INTO redirect VALUES ('docs.test', 1, 1, 307, 0, '/a', '/b')",
         "INSERT INTO rule VALUES ('docs.test', 2, 1, 0, 'all')",
         "INSERT INTO pick VALUES ('docs.test', '1.0', 0)",

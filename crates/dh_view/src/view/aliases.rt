@@ -28,7 +28,7 @@ fn alias_at(versions: Vec<Version>, place: Option<usize>) -> Option<Named>
 impl ProjectView<'_> {
     fn latest_named<S: Alter>(&self, tables: &mut Tables<S>) -> Found<Named>
         ensures { Reads S.Store tables.old tables.new result
-            (λ l. alias_to (shown_in l self.now.project.now self.now.pass.now).latest) }
+            (λ l. alias_to (shown_in l self.now.project.now self.now.caller.now).latest) }
     {
         let versions = self.all_visible(tables)?;
         let place = latest(versions.as_slice(), &self.project.branch);
@@ -37,7 +37,7 @@ impl ProjectView<'_> {
 
     fn stable_named<S: Alter>(&self, tables: &mut Tables<S>) -> Found<Named>
         ensures { Reads S.Store tables.old tables.new result
-            (λ l. alias_to (shown_in l self.now.project.now self.now.pass.now).stable) }
+            (λ l. alias_to (shown_in l self.now.project.now self.now.caller.now).stable) }
     {
         let versions = self.all_visible(tables)?;
         let place = stable(self.alloc, versions.as_slice())?;
@@ -46,7 +46,7 @@ impl ProjectView<'_> {
 
     fn alias_named<S: Alter>(&self, tables: &mut Tables<S>, name: &str) -> Found<Named>
         ensures { Reads S.Store tables.old tables.new result
-            (λ l. alias_of (shown_in l self.now.project.now self.now.pass.now) name.now) }
+            (λ l. alias_of (shown_in l self.now.project.now self.now.caller.now) name.now) }
     {
         match name {
             "latest" => self.latest_named(tables),
@@ -58,7 +58,7 @@ impl ProjectView<'_> {
     /// The visible version with that slug, else the alias of that name.
     pub fn version_for<S: Alter>(&self, tables: &mut Tables<S>, name: &str) -> Found<Named>
         ensures { Reads S.Store tables.old tables.new result
-            (λ l. resolved (shown_in l self.now.project.now self.now.pass.now) name.now) }
+            (λ l. resolved (shown_in l self.now.project.now self.now.caller.now) name.now) }
     {
         match self.visible_version(tables, name)? {
             Some(version) => Ok(Some(Named {

@@ -19,7 +19,7 @@ impl ProjectView<'_> {
     fn if_resolved<S: Alter>(&self, tables: &mut Tables<S>, name: &str) -> Found<Text>
         ensures { Reads S.Store tables.old tables.new result
             (λ l. option_map (λ _. name.now)
-            (resolved (shown_in l self.now.project.now self.now.pass.now) name.now)) }
+            (resolved (shown_in l self.now.project.now self.now.caller.now) name.now)) }
     {
         match self.version_for(tables, name)? {
             Some(_named) => Ok(Some(Text::copy_of(self.alloc, name)?)),
@@ -30,7 +30,7 @@ impl ProjectView<'_> {
     /// `latest`, else `stable`, each if it stands for a version.
     fn default_alias<S: Alter>(&self, tables: &mut Tables<S>) -> Found<Text>
         ensures { Reads S.Store tables.old tables.new result
-            (λ l. default_of (resolves l self.now.project.now self.now.pass.now) []) }
+            (λ l. default_of (resolves l self.now.project.now self.now.caller.now) []) }
     {
         match self.if_resolved(tables, "latest")? {
             Some(name) => Ok(Some(name)),
@@ -41,7 +41,7 @@ impl ProjectView<'_> {
     /// The first of these defaults that stands for a version.
     fn first_resolved<S: Alter>(&self, tables: &mut Tables<S>, picks: &[PickRow]) -> Found<Text>
         ensures { Reads S.Store tables.old tables.new result
-            (λ l. find (resolves l self.now.project.now self.now.pass.now)
+            (λ l. find (resolves l self.now.project.now self.now.caller.now)
             (map (λ d. d.name) picks.now)) }
     {
         for pick in picks {
@@ -56,7 +56,7 @@ impl ProjectView<'_> {
     /// The first default that stands for a version the caller sees, else an alias.
     pub fn default_name<S: Alter>(&self, tables: &mut Tables<S>) -> Found<Text>
         ensures { Reads S.Store tables.old tables.new result
-            (λ l. (shown_in l self.now.project.now self.now.pass.now).default) }
+            (λ l. (shown_in l self.now.project.now self.now.caller.now).default) }
     {
         let picks = PickRow::rows(tables, self.alloc, &self.project.host)?;
         match self.first_resolved(tables, picks.as_slice())? {

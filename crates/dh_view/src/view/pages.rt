@@ -29,7 +29,7 @@ impl ProjectView<'_> {
         path: &str,
     ) -> Found<Page>
         ensures { Reads S.Store tables.old tables.new result
-            (λ l. page_at (shown_in l self.now.project.now self.now.pass.now)
+            (λ l. page_at (shown_in l self.now.project.now self.now.caller.now)
             lang.now slug.now path.now) }
     {
         match self.visible_version(tables, slug.as_str())? {

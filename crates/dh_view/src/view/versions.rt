@@ -66,9 +66,9 @@ impl ProjectView<'_> {
     /// Whether the caller's pass is one of the project's, and holds the version.
     fn is_held<S: Alter>(&self, tables: &mut Tables<S>, slug: &Slug) -> Result<bool, Fault>
         ensures { Reads S.Store tables.old tables.new result
-            (λ l. held_in l self.now.project.now self.now.pass.now slug.now) }
+            (λ l. held_in l self.now.project.now self.now.caller.now slug.now) }
     {
-        match self.pass {
+        match &self.caller.pass {
             Some(pass) => {
                 let known = tables.has_pass(&self.project.host, pass)?;
                 if known {
@@ -85,7 +85,7 @@ impl ProjectView<'_> {
     fn is_seen<S: Alter>(&self, tables: &mut Tables<S>, version: &Version) -> Result<bool, Fault>
         ensures { Reads S.Store tables.old tables.new result
             (λ l. visibility.may_see version.now
-            (held_in l self.now.project.now self.now.pass.now version.now.slug)) }
+            (held_in l self.now.project.now self.now.caller.now version.now.slug)) }
     {
         if !version.private {
             return Ok(version.active);
@@ -97,7 +97,7 @@ impl ProjectView<'_> {
     /// The visible version with this slug.
     pub fn visible_version<S: Alter>(&self, tables: &mut Tables<S>, name: &str) -> Found<Version>
         ensures { Reads S.Store tables.old tables.new result
-            (λ l. get (visible_in l self.now.project.now self.now.pass.now) name.now) }
+            (λ l. get (visible_in l self.now.project.now self.now.caller.now) name.now) }
     {
         match tables.version(self.alloc, &self.project.host, name)? {
             Some(row) => Ok(self.is_seen(tables, &row.version)?.then_some(row.version)),
@@ -108,9 +108,9 @@ impl ProjectView<'_> {
     /// What the caller's pass holds, if it is one of the project's.
     fn grants_of<S: Alter>(&self, tables: &mut Tables<S>) -> Result<Vec<HeldRow>, Fault>
         ensures { Obtains S.Store tables.old tables.new result
-            (λ l grants. OpensAs grants.items (held_in l self.now.project.now self.now.pass.now)) }
+            (λ l grants. OpensAs grants.items (held_in l self.now.project.now self.now.caller.now)) }
     {
-        match self.pass {
+        match &self.caller.pass {
             Some(pass) => {
                 let known = tables.has_pass(&self.project.host, pass)?;
                 if known {
@@ -132,7 +132,7 @@ impl ProjectView<'_> {
     ) -> Result<Vec<HeldRow>, Fault>
         ensures { Obtains S.Store tables.old tables.new result
             (λ l grants. ShowsAs rows.now grants.items
-            (held_in l self.now.project.now self.now.pass.now)) }
+            (held_in l self.now.project.now self.now.caller.now)) }
     {
         if any_private(rows) {
             self.grants_of(tables)
@@ -144,9 +144,9 @@ impl ProjectView<'_> {
     /// The visible versions in the order of their slugs.
     pub fn all_visible<S: Alter>(&self, tables: &mut Tables<S>) -> Result<Vec<Version>, Fault>
         ensures { Obtains S.Store tables.old tables.new result
-            (λ l v. (v.items ≡ values (visible_in l self.now.project.now self.now.pass.now))
+            (λ l v. (v.items ≡ values (visible_in l self.now.project.now self.now.caller.now))
             × (map (λ x. x.slug) v.items
-            ≡ keys (visible_in l self.now.project.now self.now.pass.now))) }
+            ≡ keys (visible_in l self.now.project.now self.now.caller.now))) }
     {
         let rows = tables.versions(self.alloc, &self.project.host)?;
         let grants = self.grants_for(tables, rows.as_slice())?;

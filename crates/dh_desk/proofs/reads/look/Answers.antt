@@ -7,4 +7,4 @@ pub returns-clause-value : goal.returns-clause-value
 returns-clause-value g c honest =
     let same : _ ≡ c.reply-answer.new.lookup.tables.now = c.close-tables.ensures.now in
     let then : IsHonest g.S.Store c.reply-answer.new.lookup.tables.now = search (rules, honest, same) in
-    rw (c.new-view.ensures.now, c.new-view.ensures.host, c.new-view.ensures.pass) at (c.reply-answer.ensures.value (undoubted g.S.Store c.reply-answer.new.lookup.tables.now then))
+    rw (c.new-view.ensures.now, c.new-view.ensures.host, c.new-view.ensures.caller) at (c.reply-answer.ensures.value (undoubted g.S.Store c.reply-answer.new.lookup.tables.now then))

@@ -1,7 +1,7 @@
 use Rattle.std.proofs.Common.{◌≡◌, IfOk, inr, subst}
 use Rattle.dh_reply.specs.Replies.{reply_to}
 use Rattle.dh_records.specs.Lists.{Lists, world_of}
-use Rattle.dh_world.specs.Seen as caller
+use Rattle.dh_world.specs.Seen as sight
 use Rattle.std.specs.Option.{option_map}
 use Rattle.dh_tables.specs.Going.{last_records}
 use Rattle.dh_schema.specs.InTurn.{shows_on}
@@ -12,8 +12,8 @@ use Rattle.dh_desk.proofs.reads.read.Goals as goal
 pub returns-clause-value : goal.returns-clause-value
 returns-clause-value g c honest =
     let undone = c.in_ok-back.ensures.undone (c.look.ensures.looks.unmoved honest).same.was_honest in
-    let by_lists : Lists → Type 0 = λ l. IfOk c.look.result (λ r. r ≡ reply_to (caller.seen (world_of l) c.in_ok-host.host c.in_ok-pass.pass) c.args.asked.now.path c.args.asked.now.query) in
-    rw (c.in_ok-host.ensures.value, c.in_ok-pass.ensures.value) at (subst by_lists undone.now_is (c.look.ensures.value honest))
+    let by_lists : Lists → Type 0 = λ l. IfOk c.look.result (λ r. r ≡ reply_to (sight.seen (world_of l) c.in_ok-host.host c.in_ok-caller.caller) c.args.asked.now.path c.args.asked.now.query) in
+    rw (c.in_ok-host.ensures.value, c.in_ok-caller.ensures.value) at (subst by_lists undone.now_is (c.look.ensures.value honest))
 
 pub returns-clause-veiled : goal.returns-clause-veiled
 returns-clause-veiled g c honest =

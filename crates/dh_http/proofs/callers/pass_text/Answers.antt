@@ -1,14 +1,13 @@
 use Rattle.std.proofs.Common.{ℕ, List, Bor, ap, sym, ◌∙◌}
 use Rattle.std.specs.Prelude.{option_map}
-use Rattle.dh_world.specs.Reads.{pass_named}
-use Rattle.dh_http.specs.Answers.{pass_shown}
-use Rattle.dh_http.proofs.PassLemmas.{text_shown}
+use Rattle.dh_world.specs.Reads.{pass_named, caller_named}
+use Rattle.dh_http.proofs.PassLemmas.{by, text_shown}
 use Rattle.dh_http.proofs.callers.pass_text.Goals as goal
 
 pub returns-in-Some : goal.returns-in-Some
 returns-in-Some c =
     let now = λ (text : Bor (List ℕ)). text.now in
-    ap (λ o. pass_shown (option_map now o)) c.ok.ensures.value
-    ∙ text_shown now c.from_utf8.result c.as_slice.result.now _ c.from_utf8.ensures.cases
-    ∙ ap pass_named c.as_slice.ensures
-    ∙ ap pass_shown (sym c.in-Some.is)
+    ap (λ o. caller_named (option_map now o)) c.ok.ensures.value
+    ∙ ap by (text_shown now c.from_utf8.result c.as_slice.result.now _ c.from_utf8.ensures.cases
+    ∙ ap pass_named c.as_slice.ensures)
+    ∙ ap caller_named (sym c.in-Some.is)

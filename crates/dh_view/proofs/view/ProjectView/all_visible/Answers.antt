@@ -19,9 +19,9 @@ returns g c = record {
       let lists = seen g.S.Store lists_of c.args.tables.now in
       let found = c.in_ok-rows.ensures.value before in
       let rise = subst RiseBySlug found.0 found.1 in
-      let kept = kept_are lists c.args.self.now.project.now c.args.self.now.pass.now (seen g.S.Store lists_of c.versions.new.self) c.in_ok-grants.grants.items c.as_slice-2.result.now c.in_ok-rows.rows.items c.as_slice.result.now c.only_visible.result.items
+      let kept = kept_are lists c.args.self.now.project.now c.args.self.now.caller.now (seen g.S.Store lists_of c.versions.new.self) c.in_ok-grants.grants.items c.as_slice-2.result.now c.in_ok-rows.rows.items c.as_slice.result.now c.only_visible.result.items
       (still (asked c.in_ok-rows.ensures.asks) before) found.0 c.as_slice.ensures.value c.as_slice-2.ensures.value c.only_visible.ensures (c.in_ok-grants.ensures.value honest) in (
-        c.in_ok-versions_of.ensures ∙ values_are lists c.args.self.now.project.now c.args.self.now.pass.now c.only_visible.result.items rise kept,
-        ap (map (λ v. v.slug)) c.in_ok-versions_of.ensures ∙ keys_are lists c.args.self.now.project.now c.args.self.now.pass.now c.only_visible.result.items rise kept,
+        c.in_ok-versions_of.ensures ∙ values_are lists c.args.self.now.project.now c.args.self.now.caller.now c.only_visible.result.items rise kept,
+        ap (map (λ v. v.slug)) c.in_ok-versions_of.ensures ∙ keys_are lists c.args.self.now.project.now c.args.self.now.caller.now c.only_visible.result.items rise kept,
       );
 }

@@ -19,7 +19,7 @@ returns-then-is_some g c = record {
   asks = asks_on c.loop-pick.invariant.0 c.in_ok-found.ensures.asks;
   value = λ honest.
       let before = c.if_resolved.ensures.asks.goes.lasts.was honest in
-      found_now (seen g.S.Store lists_of c.args.tables.now) c.args.self.now.project.now c.args.self.now.pass.now (seen g.S.Store lists_of c.loop-pick.tables) c.args.picks.now c.loop-pick.pick-index c.pick-item.result c.as_str.result.now c.in_ok-found.found
+      found_now (seen g.S.Store lists_of c.args.tables.now) c.args.self.now.project.now c.args.self.now.caller.now (seen g.S.Store lists_of c.loop-pick.tables) c.args.picks.now c.loop-pick.pick-index c.pick-item.result c.as_str.result.now c.in_ok-found.found
       (still c.loop-pick.invariant.0 before) c.loop-pick-test.true c.pick-item.is c.as_str.ensures.text (c.in_ok-found.ensures.value honest) (c.loop-pick.invariant.1 before)
       (sym c.is_some.ensures ∙ c.if-is_some.true);
 }
@@ -29,7 +29,7 @@ loop-pick-preserved g c = (
   asks_then (Ok tt) tt (asks_on c.loop-pick.invariant.0 c.in_ok-found.ensures.asks),
   λ honest.
       let before = c.if_resolved.ensures.asks.goes.lasts.was honest in
-      found_later (seen g.S.Store lists_of c.args.tables.now) c.args.self.now.project.now c.args.self.now.pass.now (seen g.S.Store lists_of c.loop-pick.tables) c.args.picks.now c.loop-pick.pick-index c.pick-item.result c.as_str.result.now c.in_ok-found.found
+      found_later (seen g.S.Store lists_of c.args.tables.now) c.args.self.now.project.now c.args.self.now.caller.now (seen g.S.Store lists_of c.loop-pick.tables) c.args.picks.now c.loop-pick.pick-index c.pick-item.result c.as_str.result.now c.in_ok-found.found
       (still c.loop-pick.invariant.0 before) c.loop-pick-test.true c.pick-item.is c.as_str.ensures.text (c.in_ok-found.ensures.value honest) (c.loop-pick.invariant.1 before)
       (sym c.is_some.ensures ∙ c.if-is_some.false),
 )
@@ -39,5 +39,5 @@ returns g c = record {
   asks = asks_then (Ok None) tt c.loop-pick.invariant.0;
   value = λ honest.
       let past = c.loop-pick-test.false in
-      none_left (resolves (seen g.S.Store lists_of c.args.tables.now) c.args.self.now.project.now c.args.self.now.pass.now) c.args.picks.now c.loop-pick.pick-index (omega arith) (c.loop-pick.invariant.1 honest);
+      none_left (resolves (seen g.S.Store lists_of c.args.tables.now) c.args.self.now.project.now c.args.self.now.caller.now) c.args.picks.now c.loop-pick.pick-index (omega arith) (c.loop-pick.invariant.1 honest);
 }

@@ -10,5 +10,5 @@ pub returns-else-any_private : goal.returns-else-any_private
 returns-else-any_private g c = record {
   asks = search rules;
   value = λ honest.
-      none_private c.no_grants.result.items (holds (project_of (seen g.S.Store lists_of c.args.tables.now) c.args.self.now.project.now) c.args.self.now.pass.now) c.args.rows.now (sym c.any_private.ensures ∙ c.if-any_private.false);
+      none_private c.no_grants.result.items (holds (project_of (seen g.S.Store lists_of c.args.tables.now) c.args.self.now.project.now) c.args.self.now.caller.now.pass) c.args.rows.now (sym c.any_private.ensures ∙ c.if-any_private.false);
 }

@@ -12,7 +12,7 @@ returns-then-known g c = record {
   value = λ honest.
       let before = c.held_by.ensures.asks.goes.lasts.was honest in
       from_answer c.held_by.result
-      (λ o e. grants_open (seen g.S.Store lists_of c.args.tables.now) c.args.self.now.project.now c.args.self.now.pass.now c.in-Some.pass c.in-Some.is (sym (c.in_ok-known-in-Some.ensures.value before) ∙ c.if-known.true)
+      (λ o e. grants_open (seen g.S.Store lists_of c.args.tables.now) c.args.self.now.project.now c.args.self.now.caller.now.pass c.in-Some.pass c.in-Some.is (sym (c.in_ok-known-in-Some.ensures.value before) ∙ c.if-known.true)
       o.items (e ∙ ap (λ l. filter (is_held_by c.args.self.now.project.now.host c.in-Some.pass) l.held) (still (asked c.in_ok-known-in-Some.ensures.asks) before)))
       (c.held_by.ensures.value honest);
 }
@@ -22,5 +22,5 @@ returns-else-known g c = record {
   asks = search rules;
   value = λ honest slug.
       none_open c.no_grants.result.items c.no_grants.ensures slug
-      ∙ held_unknown (seen g.S.Store lists_of c.args.tables.now) c.args.self.now.project.now c.args.self.now.pass.now c.in-Some.pass c.in-Some.is (sym (c.in_ok-known-in-Some.ensures.value honest) ∙ c.if-known.false) slug;
+      ∙ held_unknown (seen g.S.Store lists_of c.args.tables.now) c.args.self.now.project.now c.args.self.now.caller.now.pass c.in-Some.pass c.in-Some.is (sym (c.in_ok-known-in-Some.ensures.value honest) ∙ c.if-known.false) slug;
 }

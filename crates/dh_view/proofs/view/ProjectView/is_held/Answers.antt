@@ -15,7 +15,7 @@ returns-then-known g c = record {
       let before = c.held.ensures.asks.goes.lasts.was honest in
       same_answer (λ b. b) c.held.result _ _
       (ap (λ l. is_some (find (is_held c.args.self.now.project.now.host c.in-Some.pass c.args.slug.now) l.held)) (still (asked c.in_ok-known-in-Some.ensures.asks) before)
-      ∙ held_known (seen g.S.Store lists_of c.args.tables.now) c.args.self.now.project.now c.args.self.now.pass.now c.in-Some.pass c.in-Some.is (sym (c.in_ok-known-in-Some.ensures.value before) ∙ c.if-known.true) c.args.slug.now)
+      ∙ held_known (seen g.S.Store lists_of c.args.tables.now) c.args.self.now.project.now c.args.self.now.caller.now.pass c.in-Some.pass c.in-Some.is (sym (c.in_ok-known-in-Some.ensures.value before) ∙ c.if-known.true) c.args.slug.now)
       (c.held.ensures.value honest);
 }
 
@@ -23,5 +23,5 @@ pub returns-else-known : goal.returns-else-known
 returns-else-known g c = record {
   asks = search rules;
   value = λ honest.
-      held_unknown (seen g.S.Store lists_of c.args.tables.now) c.args.self.now.project.now c.args.self.now.pass.now c.in-Some.pass c.in-Some.is (sym (c.in_ok-known-in-Some.ensures.value honest) ∙ c.if-known.false) c.args.slug.now;
+      held_unknown (seen g.S.Store lists_of c.args.tables.now) c.args.self.now.project.now c.args.self.now.caller.now.pass c.in-Some.pass c.in-Some.is (sym (c.in_ok-known-in-Some.ensures.value honest) ∙ c.if-known.false) c.args.slug.now;
 }

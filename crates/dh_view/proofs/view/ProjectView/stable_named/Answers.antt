@@ -11,5 +11,5 @@ returns g c = record {
   asks = search rules;
   value = λ honest.
       c.alias_at.ensures ∙ ap (λ place. option_map alias_name (option_and_then (slice_get (map (λ v. v.slug) c.in_ok-versions.versions.items)) place)) (c.in_ok-place.ensures.value ∙ ap (λ vs. stable_of vs) c.as_slice.ensures.value)
-      ∙ stable_is (seen g.S.Store lists_of c.args.tables.now) c.args.self.now.project.now c.args.self.now.pass.now c.in_ok-versions.versions.items (c.in_ok-versions.ensures.value honest).0 (c.in_ok-versions.ensures.value honest).1;
+      ∙ stable_is (seen g.S.Store lists_of c.args.tables.now) c.args.self.now.project.now c.args.self.now.caller.now c.in_ok-versions.versions.items (c.in_ok-versions.ensures.value honest).0 (c.in_ok-versions.ensures.value honest).1;
 }

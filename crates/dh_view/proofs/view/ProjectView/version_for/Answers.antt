@@ -11,12 +11,12 @@ use Rattle.dh_view.proofs.view.ProjectView.version_for.Goals as goal
 pub returns-in-None : goal.returns-in-None
 returns-in-None g c =
     reads_on c.in_ok-version.ensures.asks c.alias_named.ensures
-    (λ before. ap (λ l. alias_of (seen_project (project_of l c.args.self.now.project.now) c.args.self.now.pass.now) c.args.name.now) (still c.in_ok-version.ensures.asks before)
-    ∙ no_slug (seen g.S.Store lists_of c.args.tables.now) c.args.self.now.project.now c.args.self.now.pass.now c.args.name.now c.in_ok-version.field-0 (c.in_ok-version.ensures.value before) c.in-None.is)
+    (λ before. ap (λ l. alias_of (seen_project (project_of l c.args.self.now.project.now) c.args.self.now.caller.now) c.args.name.now) (still c.in_ok-version.ensures.asks before)
+    ∙ no_slug (seen g.S.Store lists_of c.args.tables.now) c.args.self.now.project.now c.args.self.now.caller.now c.args.name.now c.in_ok-version.field-0 (c.in_ok-version.ensures.value before) c.in-None.is)
 
 pub returns-in-Some : goal.returns-in-Some
 returns-in-Some g c = record {
   asks = search rules;
   value = λ honest.
-      own_slug (seen g.S.Store lists_of c.args.tables.now) c.args.self.now.project.now c.args.self.now.pass.now c.args.name.now c.in_ok-version.field-0 c.in-Some.version (c.in_ok-version.ensures.value honest) c.in-Some.is;
+      own_slug (seen g.S.Store lists_of c.args.tables.now) c.args.self.now.project.now c.args.self.now.caller.now c.args.name.now c.in_ok-version.field-0 c.in-Some.version (c.in_ok-version.ensures.value honest) c.in-Some.is;
 }

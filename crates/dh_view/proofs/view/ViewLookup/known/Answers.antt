@@ -15,5 +15,5 @@ pub returns-in-Some-clause-value : goal.returns-in-Some-clause-value
 returns-in-Some-clause-value g c d =
     let lists = seen g.S.Store lists_of c.args.self.now.tables.now in
     same_answer (λ b. b) c.has_project.result _ _
-    (known_is lists c.args.self.now.host c.in-Some.host c.in-Some.is ∙ some_shown c.args.self.now.pass (option_and_then (get (world_of lists)) c.args.self.now.host))
+    (known_is lists c.args.self.now.host c.in-Some.host c.in-Some.is ∙ some_shown c.args.self.now.caller (option_and_then (get (world_of lists)) c.args.self.now.host))
     (c.has_project.ensures.value (honest g.S.Store _ d))

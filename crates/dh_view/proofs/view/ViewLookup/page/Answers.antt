@@ -4,7 +4,7 @@ use Rattle.dh_view.proofs.ViewLemmas.{maybe_none, maybe_shown, view_on}
 use Rattle.dh_view.proofs.view.ViewLookup.page.Goals as goal
 
 pub returns-in-Some : goal.returns-in-Some
-returns-in-Some g c = record { asks = view_on g.S.Store c.in_ok-project.ensures.asks (refl, refl, refl) c.in_ok-project.ensures.settled c.visible_page.ensures.asks; value = maybe_shown g.S.Store c.in_ok-project.ensures.asks c.in_ok-project.ensures.value (λ p. page_at p c.args.lang.now c.args.slug.now c.args.path.now) c.in-Some.project c.in-Some.is refl c.visible_page.ensures.asks (rw (c.new.ensures.project, c.new.ensures.pass) at c.visible_page.ensures.value) }
+returns-in-Some g c = record { asks = view_on g.S.Store c.in_ok-project.ensures.asks (refl, refl, refl) c.in_ok-project.ensures.settled c.visible_page.ensures.asks; value = maybe_shown g.S.Store c.in_ok-project.ensures.asks c.in_ok-project.ensures.value (λ p. page_at p c.args.lang.now c.args.slug.now c.args.path.now) c.in-Some.project c.in-Some.is refl c.visible_page.ensures.asks (rw (c.new.ensures.project, c.new.ensures.caller) at c.visible_page.ensures.value) }
 
 pub returns-in-None-clause-value : goal.returns-in-None-clause-value
 returns-in-None-clause-value g c = maybe_none g.S.Store c.in_ok-project.ensures.asks c.in_ok-project.ensures.value (λ p. page_at p c.args.lang.now c.args.slug.now c.args.path.now) c.in-None.is
