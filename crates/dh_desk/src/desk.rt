@@ -6,7 +6,7 @@ ghost use Rattle.dh_transactions.specs.Crashes.{LeavesEither};
 ghost use Rattle.dh_tables.specs.Going.{IsOver};
 ghost use Rattle.dh_transactions.specs.Steps.{Transacts};
 ghost use Rattle.dh_world.specs.CheckResults.{IsFault};
-ghost use Rattle.dh_world.specs.Reads.{is_unanswered};
+ghost use Rattle.dh_world.specs.Reads as spec;
 ghost use Rattle.dh_world.specs.Step.{IsStep};
 ghost use Rattle.dh_desk.specs.Desk.{Blames, HasCleanDisk, IsHonest, IsRefused, last_records, lists_of};
 ghost use Rattle.dh_desk.specs.Desk.{IsKept, TellsMemory, is_fault, reply_in, state, veil_of, world};
@@ -102,8 +102,8 @@ fn has_failed(answer: &Result<Answer, Refusal>) -> bool
 }
 
 /// Whether the store has failed in a read.
-fn is_unread(answer: &Result<Reply, Fault>) -> bool
-    ensures { result ≡ is_unanswered answer.now }
+fn is_unanswered(answer: &Result<Reply, Fault>) -> bool
+    ensures { result ≡ spec.is_unanswered answer.now }
 {
     matches!(answer, Err(Fault::Store))
 }
@@ -189,14 +189,14 @@ impl<S: Alter> Desk<S> {
             → LeavesCommitted S.Store lists_of self.new.tables }
         ensures closed { self.old.closed ≡ true
             → (result ≡ Err Fault.Store) × (self.new ≡ self.old) }
-        ensures closes { self.new.closed ≡ is_unanswered result }
+        ensures closes { self.new.closed ≡ spec.is_unanswered result }
         ensures lasts { Lasts S.Store self.old.tables self.new.tables }
     {
         if self.closed {
             return Err(Fault::Store);
         }
         let answer = read(&mut self.tables, alloc, host, pass, asked);
-        self.closed = is_unread(&answer);
+        self.closed = is_unanswered(&answer);
         answer
     }
 }

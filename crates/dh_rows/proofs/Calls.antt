@@ -30,7 +30,7 @@ use Rattle.dh_faults.specs.declared.fault.Fault.{Fault}
 use Rattle.dh_faults.specs.declared.fault.Fault.TheVariants.{Store, Memory}
 use Rattle.dh_rows.specs.Faults.{fault_of}
 use Rattle.dh_faults.specs.Faults.{OnStore}
-use Rattle.dh_rows.specs.Calls.{command_of, statement_of, IsEdit, Edits, EditsAs, whole, IsHonest, LeavesTrees, LeavesNoMore, Lasts, Goes, GoesWithin, Sees, Runs as Ran, Makes, EditsAtMost, OnlyLooks, OnlyEdits, Begins, Commits, Undoes, Refuses, IsPlainLook, IsPlainEdit, AreRows, IsBlamed, Blames, IsRejected, IsUnfit, Shows, IsSame, IsUndone, IsRefused, Becomes}
+use Rattle.dh_rows.specs.Calls.{command_of, statement_of, IsEdit, Edits, EditsAs, whole, IsHonest, LeavesTrees, LeavesNoMore, Lasts, Goes, GoesWithin, Sees, Runs as Ran, Makes, EditsAtMost, Controls, OnlyBegins, OnlyCommits, OnlyUndoes, OnlyLooks, OnlyEdits, Begins, Commits, Undoes, Refuses, IsPlainLook, IsPlainEdit, AreRows, IsBlamed, Blames, IsRejected, IsUnfit, Shows, IsSame, IsUndone, IsRefused, Becomes}
 
 -- ---- refusals
 
@@ -191,21 +191,21 @@ module _ {S : Type 0} (g : Ghosts S) (old new : Held S) (text : List ℕ) (k : C
       elim (why it.0 it.2 (sym it.1)) [ inl own ↦ inl own | inr misplaced ↦ inr (out it.0 misplaced) ]
 
 module _ {S : Type 0} (g : Ghosts S) (old new : Held S) (r : Result (Unit {0}) Fault) where
-  pub begin_blames : IfErr r (IsRejected g old new begin_text []) → Blames g old new r (old.in_transaction ≡ true)
+  begin_blames : IfErr r (IsRejected g old new begin_text []) → Blames g old new r (old.in_transaction ≡ true)
   begin_blames told = blames g old new begin_text Begin are_bare.0 _ r told out
     where
       out : (e : Error) → state.IsMisplaced (state_of g old) Begin e → old.in_transaction ≡ true
       out e (inl it) = elim it.1 [ inl within ↦ within.1 | inr ends ↦ absurd (elim ends.0 [ inl x ↦ cc | inr x ↦ cc ]) ]
       out e (inr it) = absurd (elim it.2 [ inl x ↦ cc | inr x ↦ cc ])
 
-  pub commit_blames : IfErr r (IsRejected g old new commit_text []) → Blames g old new r (old.in_transaction ≡ false)
+  commit_blames : IfErr r (IsRejected g old new commit_text []) → Blames g old new r (old.in_transaction ≡ false)
   commit_blames told = blames g old new commit_text Commit are_bare.1 _ r told out
     where
       out : (e : Error) → state.IsMisplaced (state_of g old) Commit e → old.in_transaction ≡ false
       out e (inl it) = elim it.1 [ inl begins ↦ absurd (let x = begins.0 in cc) | inr ends ↦ ends.1 ]
       out e (inr it) = absurd (elim it.2 [ inl x ↦ cc | inr x ↦ cc ])
 
-  pub rollback_blames : IfErr r (IsRejected g old new rollback_text []) → old.in_transaction ≡ true → Blames g old new r ⊥
+  rollback_blames : IfErr r (IsRejected g old new rollback_text []) → old.in_transaction ≡ true → Blames g old new r ⊥
   rollback_blames told within = blames g old new rollback_text Rollback are_bare.2 _ r told out
     where
       out : (e : Error) → state.IsMisplaced (state_of g old) Rollback e → ⊥
@@ -360,32 +360,46 @@ module _ {S : Type 0} (g : Ghosts S) (old new : Held S) (r : Result (Unit {0}) F
         go (Ok u) err = tt
         go (Err e) err = stopped g old new P survives err honest
 
+    controls : (sql : List ℕ) (Done Misplaced : Type 0) → IfErr r (IsRejected g old new sql []) → Done → Blames g old new r Misplaced → Controls g whole old new r sql Done Misplaced
+    controls sql Done Misplaced told done blames = record { done = done; err = fails; told = blames; rejected = told }
+
   module _ (survives : Survives (state_of g old) (state_of g new) (CommitsBy begin_text [] (state_of g old))) (ran : Ran g old new begin_text [] r) where
-    pub begun : Begins g whole old new r
+    begun : Begins g whole old new r
     begun clean = on_ok r (ran clean) (λ it. told g old new _ survives _ _ _ (runs_bare are_bare.0 _ _ it.0 it.1).1 clean)
 
-    pub begun_no_more : LeavesNoMore g old new
+    begun_no_more : LeavesNoMore g old new
     begun_no_more = leaves_no_more g old new _ survives (begin_commits _)
 
-    pub begun_goes : Lasts g old new → Failed → Goes g old new
-    begun_goes lasts failed = goes_by g old new _ r (λ it. it.last_is) (λ honest. begun honest.0) (fails _ survives failed) begun_no_more lasts
+    pub only_begins : Lasts g old new → Failed → IfErr r (IsRejected g old new begin_text []) → OnlyBegins g whole old new r
+    only_begins lasts failed told = record {
+      goes = goes_by g old new _ r (λ it. it.last_is) (λ honest. begun honest.0) (fails _ survives failed) begun_no_more lasts;
+      quiet = begun_no_more;
+      begun = controls _ survives failed _ _ _ told begun (begin_blames g old new r told);
+    }
 
   module _ (survives : Survives (state_of g old) (state_of g new) (CommitsBy commit_text [] (state_of g old))) where
-    pub done : Ran g old new commit_text [] r → Commits g whole old new r
+    done : Ran g old new commit_text [] r → Commits g whole old new r
     done ran clean = on_ok r (ran clean) (λ it. told g old new _ survives _ _ _ (runs_bare are_bare.1 _ _ it.0 it.1).1 clean)
+
+    pub only_commits : Ran g old new commit_text [] r → Lasts g old new → Failed → IfErr r (IsRejected g old new commit_text []) → OnlyCommits g whole old new r
+    only_commits ran lasts failed told = record { lasts = lasts; committed = controls _ survives failed _ _ _ told (done ran) (commit_blames g old new r told) }
 
     pub done_leaves : LeavesTrees g old new (λ db. db ≡ (state_of g old).now.trees)
     done_leaves = leaves g old new _ survives _ (λ _ db it. (bare_commits are_bare.1 _ db it).1)
 
   module _ (survives : Survives (state_of g old) (state_of g new) (CommitsBy rollback_text [] (state_of g old))) (ran : Ran g old new rollback_text [] r) where
-    pub undoes : Undoes g whole old new r
+    undoes : Undoes g whole old new r
     undoes honest = on_ok r (ran honest.0) (λ it. undone g old new _ survives (runs_bare are_bare.2 _ _ it.0 it.1).1 honest)
 
-    pub undone_no_more : LeavesNoMore g old new
+    undone_no_more : LeavesNoMore g old new
     undone_no_more = leaves_no_more g old new _ survives (rollback_commits _)
 
-    pub undone_goes : Lasts g old new → Failed → Goes g old new
-    undone_goes lasts failed = goes_by g old new _ r (λ it. it.last_is) undoes (fails _ survives failed) undone_no_more lasts
+    pub only_undoes : Lasts g old new → Failed → IfErr r (IsRejected g old new rollback_text []) → old.in_transaction ≡ true → OnlyUndoes g whole old new r
+    only_undoes lasts failed told within = record {
+      goes = goes_by g old new _ r (λ it. it.last_is) undoes (fails _ survives failed) undone_no_more lasts;
+      quiet = undone_no_more;
+      undone = controls _ survives failed _ _ _ told undoes (rollback_blames g old new r told within);
+    }
 
 -- ---- one write, and one query, of tables
 

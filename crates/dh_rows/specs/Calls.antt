@@ -1,5 +1,5 @@
 -- What a call on a database shows of it: words over a view, which is what the caller reads of the database.
-use Rattle.std.specs.Prelude.{◌≡◌, ◌⊎◌, ℕ, ◌≤◌, Bool, true, false, if◌then◌else◌, Result, Ok, Err, OnOk, OnErr, IfOk, IsTrue, List, [], codes, None, ⊤}
+use Rattle.std.specs.Prelude.{◌≡◌, ◌⊎◌, ℕ, ◌≤◌, Bool, true, false, if◌then◌else◌, Result, Ok, Err, OnOk, OnErr, IfOk, IfErr, IsTrue, List, [], codes, None, ⊤}
 use Rattle.sqlite_disk.specs.Disk.{MoreFaults}
 use Rattle.sqlite_value.specs.Order.{Row}
 use Rattle.sqlite_schema.specs.declared.command.Command.{Command}
@@ -177,10 +177,7 @@ module _ {S : Type 0} (g : Ghosts S) where
     EditsAtMost = LeavesTrees old new (λ db. (old.in_transaction ≡ false) × (after : Database) × Edits (state g old) sql params after × (db ≡ after.trees))
 
   module _ (old new : Held S) where
-    -- the begin, the commit, or the rollback of a transaction was refused for what the fault tells
-    abbrev pub IsNotBegun : Fault → Type 0
-    IsNotBegun = IsRejected old new (codes "BEGIN") []
-
+    -- the commit, or the rollback of a transaction was refused for what the fault tells
     abbrev pub IsNotCommitted : Fault → Type 0
     IsNotCommitted = IsRejected old new (codes "COMMIT") []
 
@@ -262,6 +259,37 @@ module _ {S : Type 0} (g : Ghosts S) where
       -- A crash leaves what it could leave before the call or, outside a transaction, this.
       abbrev pub CommitsAtMost : W → Type 0
       CommitsAtMost w = Leaves (λ v. (old.in_transaction ≡ false) × (v ≡ w))
+
+  module _ {W : Type 0} (view : Database → W) (old new : Held S) (result : Result (Unit {0}) Fault) where
+    -- What a statement that begins or ends a transaction leaves by its answer: `Done` is what it has done. Where it is
+    -- `Misplaced` it may be refused at any store.
+    pub record Controls (sql : List ℕ) (Done Misplaced : Type 0) : Type 0 where
+      pub done : Done
+      -- one that was refused left all as it was, or undid the transaction
+      pub err : Refuses view old new result
+      -- the refusal is the store's own, but for a misplaced one
+      pub told : Blames old new result Misplaced
+      -- it was refused for what the fault tells
+      pub rejected : IfErr result (IsRejected old new sql [])
+
+    -- What a BEGIN leaves, whatever it answers. Within a transaction it is refused.
+    pub record OnlyBegins : Type 0 where
+      -- nothing is committed, and a crash leaves nothing more
+      pub goes : Goes old new
+      pub quiet : LeavesNoMore old new
+      pub begun : Controls (codes "BEGIN") (Begins view old new result) (old.in_transaction ≡ true)
+
+    -- What a COMMIT leaves, whatever it answers. Outside a transaction it is refused.
+    pub record OnlyCommits : Type 0 where
+      pub lasts : Lasts old new
+      pub committed : Controls (codes "COMMIT") (Commits view old new result) (old.in_transaction ≡ false)
+
+    -- What a ROLLBACK leaves, whatever it answers. Outside a transaction there is nothing to undo.
+    pub record OnlyUndoes : Type 0 where
+      -- nothing is committed, and a crash leaves nothing more
+      pub goes : Goes old new
+      pub quiet : LeavesNoMore old new
+      pub undone : Controls (codes "ROLLBACK") (Undoes view old new result) ⊥
 
   -- What a look leaves, whatever it answers.
   pub record OnlyLooks (old new : Held S) {T E : Type 0} (result : Result T E) : Type 0 where

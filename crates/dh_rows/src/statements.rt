@@ -1,10 +1,10 @@
 //! Transactions and statements.
 
-ghost use Rattle.std.specs.Prelude.{◌≡◌, false, true, IfErr};
+ghost use Rattle.std.specs.Prelude.{IfErr};
 ghost use Rattle.sqlite.specs.Held.{state};
 ghost use Rattle.sqlite.specs.State.{Survives, CommitsBy};
 ghost use Rattle.sqlite.specs.Values.{bound};
-ghost use Rattle.dh_rows.specs.Calls.{AreRows, Begins, Blames, Commits, Finds, Goes, IsHonest, IsNotBegun, IsNotCommitted, IsNotUndone, IsPlainEdit, IsPlainLook, IsRejected, IsUnanswered, IsUnfit, Lasts, LeavesNoMore, LeavesSeen, OnlyEdits, OnlyLooks, Refuses, Runs, Stops, Undoes, whole};
+ghost use Rattle.dh_rows.specs.Calls.{AreRows, Blames, Finds, IsHonest, IsPlainEdit, IsPlainLook, IsRejected, IsUnanswered, IsUnfit, Lasts, LeavesSeen, OnlyBegins, OnlyCommits, OnlyEdits, OnlyLooks, OnlyUndoes, Runs, Stops, whole};
 
 use crate::fault::fault_of;
 use dh_faults::Fault;
@@ -32,23 +32,14 @@ pub fn run<S: Alter>(
 
 /// Begins a transaction. Within one it is refused.
 pub fn begin<S: Alter>(conn: &mut Connection<S>) -> Result<(), Fault>
-    ensures goes { Goes S.Store conn.old conn.new }
-    ensures begun { Begins S.Store whole conn.old conn.new result }
-    ensures err { Refuses S.Store whole conn.old conn.new result }
-    ensures told { Blames S.Store conn.old conn.new result (conn.old.in_transaction ≡ true) }
-    ensures rejected { IfErr result (IsNotBegun S.Store conn.old conn.new) }
-    ensures quiet { LeavesNoMore S.Store conn.old conn.new }
+    ensures { OnlyBegins S.Store whole conn.old conn.new result }
 {
     run(conn, "BEGIN", &[])
 }
 
 /// Commits what was changed since the begin. Outside a transaction it is refused.
 pub fn commit<S: Alter>(conn: &mut Connection<S>) -> Result<(), Fault>
-    ensures lasts { Lasts S.Store conn.old conn.new }
-    ensures committed { Commits S.Store whole conn.old conn.new result }
-    ensures err { Refuses S.Store whole conn.old conn.new result }
-    ensures told { Blames S.Store conn.old conn.new result (conn.old.in_transaction ≡ false) }
-    ensures rejected { IfErr result (IsNotCommitted S.Store conn.old conn.new) }
+    ensures commits { OnlyCommits S.Store whole conn.old conn.new result }
     ensures crash { LeavesSeen S.Store conn.old conn.new }
 {
     run(conn, "COMMIT", &[])
@@ -56,12 +47,7 @@ pub fn commit<S: Alter>(conn: &mut Connection<S>) -> Result<(), Fault>
 
 /// Undoes what was changed since the begin. Outside a transaction it does nothing.
 pub fn rollback<S: Alter>(conn: &mut Connection<S>) -> Result<(), Fault>
-    ensures goes { Goes S.Store conn.old conn.new }
-    ensures undone { Undoes S.Store whole conn.old conn.new result }
-    ensures err { Refuses S.Store whole conn.old conn.new result }
-    ensures told { Blames S.Store conn.old conn.new result ⊥ }
-    ensures rejected { IfErr result (IsNotUndone S.Store conn.old conn.new) }
-    ensures quiet { LeavesNoMore S.Store conn.old conn.new }
+    ensures { OnlyUndoes S.Store whole conn.old conn.new result }
 {
     if conn.is_autocommit() {
         return Ok(());

@@ -1,11 +1,11 @@
 //! The tables, and transactions on them.
 
-ghost use Rattle.std.specs.Prelude.{◌≡◌, ◌<◌, ◌^◌, true, false, not, IfOk, IfErr, IsTrue};
+ghost use Rattle.std.specs.Prelude.{◌≡◌, ◌<◌, ◌^◌, true, false, not, IfOk, IsTrue};
 ghost use Rattle.std.specs.FinMap.{empty};
 ghost use Rattle.sqlite.specs.Held.{state};
 ghost use Rattle.sqlite.specs.Steps.{over_memory};
-ghost use Rattle.dh_rows.specs.Calls.{AreOurs, IsHonest, Lasts, Goes, Begins, Commits, Undoes, Refuses, IsNotBegun, IsNotCommitted, IsNotUndone, Leaves, LeavesNoMore, LeavesCommitted, seen, committed};
-ghost use Rattle.dh_schema.specs.Calling.{Blames, IsSettled, KeepsSchema};
+ghost use Rattle.dh_rows.specs.Calls.{AreOurs, IsHonest, OnlyBegins, OnlyCommits, OnlyUndoes, Leaves, LeavesCommitted, seen, committed};
+ghost use Rattle.dh_schema.specs.Calling.{IsSettled, KeepsSchema};
 ghost use Rattle.dh_schema.specs.Making.{no_lists};
 ghost use Rattle.dh_schema.specs.Tables.{Holds, lists_of};
 ghost use Rattle.dh_records.specs.Lists as spec;
@@ -57,23 +57,14 @@ impl<S: Alter> Model for Tables<S> {
 impl<S: Alter> Tables<S> {
     /// Begins a transaction. Within one it is refused.
     pub fn begin(&mut self) -> Result<(), Fault>
-        ensures goes { Goes S.Store self.old self.new }
-        ensures begun { Begins S.Store lists_of self.old self.new result }
-        ensures err { Refuses S.Store lists_of self.old self.new result }
-        ensures told { Blames S.Store self.old self.new result (self.old.in_transaction ≡ true) }
-        ensures rejected { IfErr result (IsNotBegun S.Store self.old self.new) }
-        ensures quiet { LeavesNoMore S.Store self.old self.new }
+        ensures { OnlyBegins S.Store lists_of self.old self.new result }
     {
         begin(&mut self.conn)
     }
 
     /// Commits what was changed since the begin. Outside a transaction it is refused.
     pub fn commit(&mut self) -> Result<(), Fault>
-        ensures lasts { Lasts S.Store self.old self.new }
-        ensures committed { Commits S.Store lists_of self.old self.new result }
-        ensures err { Refuses S.Store lists_of self.old self.new result }
-        ensures told { Blames S.Store self.old self.new result (self.old.in_transaction ≡ false) }
-        ensures rejected { IfErr result (IsNotCommitted S.Store self.old self.new) }
+        ensures commits { OnlyCommits S.Store lists_of self.old self.new result }
         ensures crash { Leaves S.Store lists_of self.old self.new
             (λ l. l ≡ seen S.Store lists_of self.old) }
         ensures steady { KeepsSchema S.Store self.old self.new }
@@ -84,12 +75,7 @@ impl<S: Alter> Tables<S> {
 
     /// Goes back to the begin. Outside a transaction it does nothing.
     pub fn back(&mut self) -> Result<(), Fault>
-        ensures goes { Goes S.Store self.old self.new }
-        ensures undone { Undoes S.Store lists_of self.old self.new result }
-        ensures err { Refuses S.Store lists_of self.old self.new result }
-        ensures told { Blames S.Store self.old self.new result ⊥ }
-        ensures rejected { IfErr result (IsNotUndone S.Store self.old self.new) }
-        ensures quiet { LeavesNoMore S.Store self.old self.new }
+        ensures { OnlyUndoes S.Store lists_of self.old self.new result }
     {
         rollback(&mut self.conn)
     }

@@ -11,7 +11,7 @@ use Rattle.dh_desk.proofs.reads.read.Goals as goal
 
 pub returns-clause-value : goal.returns-clause-value
 returns-clause-value g c honest =
-    let undone = c.in_ok-back.ensures.undone (c.look.ensures.looks.unmoved honest).same.was_honest in
+    let undone = c.in_ok-back.ensures.undone.done (c.look.ensures.looks.unmoved honest).same.was_honest in
     let by_lists : Lists → Type 0 = λ l. IfOk c.look.result (λ r. r ≡ reply_to (sight.seen (world_of l) c.in_ok-host.host c.in_ok-caller.caller) c.args.asked.now.path c.args.asked.now.query) in
     rw (c.in_ok-host.ensures.value, c.in_ok-caller.ensures.value) at (subst by_lists undone.now_is (c.look.ensures.value honest))
 
@@ -22,8 +22,8 @@ returns-clause-veiled g c honest =
 pub returns-clause-rests : goal.returns-clause-rests
 returns-clause-rests g c honest =
     let same = (c.look.ensures.looks.unmoved honest).same in
-    inr (shows_on (c.in_ok-back.ensures.undone same.was_honest) same)
+    inr (shows_on (c.in_ok-back.ensures.undone.done same.was_honest) same)
 
 pub returns-clause-told : goal.returns-clause-told
 returns-clause-told g c =
-    blamed_on g.S.Store c.args.tables.now c.back.new.self c.look.new.tables c.look.result c.back.ensures.goes.lasts (λ honest. (c.in_ok-back.ensures.undone honest).mode) c.look.ensures.told
+    blamed_on g.S.Store c.args.tables.now c.back.new.self c.look.new.tables c.look.result c.back.ensures.goes.lasts (λ honest. (c.in_ok-back.ensures.undone.done honest).mode) c.look.ensures.told

@@ -13,7 +13,7 @@ pub returns-in_err-begin : goal.returns-in_err-begin
 returns-in_err-begin g c = record {
   steps = λ honest.
       steps_aside (last_records g.S.Store c.args.tables.now) (last_records g.S.Store c.begin.new.self) c.args.command.now _ _
-      (stays g.S.Store c.args.tables.now c.begin.new.self (c.in_err-begin.ensures.err honest)) c.from_residual-in_err-begin.ensures.1;
+      (stays g.S.Store c.args.tables.now c.begin.new.self (c.in_err-begin.ensures.begun.err honest)) c.from_residual-in_err-begin.ensures.1;
   outside = λ honest. over_aside g.S.Store c.begin.new.self _ _ c.from_residual-in_err-begin.ensures.1;
   crash = search rules;
   refused = search rules;
@@ -32,17 +32,17 @@ returns g c = record {
       let result = c.work-worked.result in
       let turned : IsHonest g.S.Store old → IsHonest g.S.Store begun → IsHonest g.S.Store worked → Turns (last_records g.S.Store old) (records g.S.Store worked) c.args.command.now result =
       λ h0 h1 h2.
-      let before = (c.in_ok-begin.ensures.begun h1.0).now_is ∙ c.requires.settled h0 in
+      let before = (c.in_ok-begin.ensures.begun.done h1.0).now_is ∙ c.requires.settled h0 in
       let P : Lists → Command → Type 0 = λ l x. Turns l (records g.S.Store worked) x result in
       subst (P (last_records g.S.Store old)) c.in_ok-host.ensures.1
       (subst (λ l. P l (command_of c.in_ok-host.field-0.host c.in_ok-host.field-0.change)) before (c.work-worked.ensures.turns h2)) in
       ended_leaves g.S.Store old begun worked c.end.new.tables c.args.command.now result c.in_ok-host.ensures.0
-      (λ clean. (c.in_ok-begin.ensures.begun clean).was_honest) c.begin.ensures.goes.kept c.begin.ensures.quiet (λ _. c.in_ok-begin.ensures.begun)
+      (λ clean. (c.in_ok-begin.ensures.begun.done clean).was_honest) c.begin.ensures.goes.kept c.begin.ensures.quiet (λ _. c.in_ok-begin.ensures.begun.done)
       c.work-worked.ensures.goes.lasts.clean c.work-worked.ensures.goes.kept c.work-worked.ensures.goes.quiet
       (given_ok _ _ _ result c.work-worked.ensures.live) turned c.end.ensures.lasts.clean c.end.ensures.crash;
   refused =
       refused_after g.S.Store c.args.tables.now c.work-worked.new.tables c.end.new.tables c.end.result
-      (worked_no_more g.S.Store c.args.tables.now c.begin.new.self c.work-worked.new.tables (λ clean. (c.in_ok-begin.ensures.begun clean).was_honest) c.begin.ensures.quiet (λ _. c.in_ok-begin.ensures.begun) c.work-worked.ensures.goes.lasts.clean c.work-worked.ensures.goes.quiet)
+      (worked_no_more g.S.Store c.args.tables.now c.begin.new.self c.work-worked.new.tables (λ clean. (c.in_ok-begin.ensures.begun.done clean).was_honest) c.begin.ensures.quiet (λ _. c.in_ok-begin.ensures.begun.done) c.work-worked.ensures.goes.lasts.clean c.work-worked.ensures.goes.quiet)
       c.end.ensures.lasts.clean c.end.ensures.refused;
   live = search rules;
   lasts = search rules;

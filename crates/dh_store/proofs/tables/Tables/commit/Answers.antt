@@ -6,7 +6,7 @@ use Rattle.dh_store.proofs.tables.Tables.commit.Goals as goal
 
 pub invariant_of-self : goal.invariant_of-self
 invariant_of-self g c =
-    stay_ours g.S.Store c.self.inside.conn c.commit.new.conn _ c.commit.result c.self.invariant c.commit.ensures.lasts (λ _. c.commit.ensures.committed) c.commit.ensures.err (done_keeps g.S.Store c.self.inside.conn c.commit.new.conn)
+    stay_ours g.S.Store c.self.inside.conn c.commit.new.conn _ c.commit.result c.self.invariant c.commit.ensures.commits.lasts (λ _. c.commit.ensures.commits.committed.done) c.commit.ensures.commits.committed.err (done_keeps g.S.Store c.self.inside.conn c.commit.new.conn)
 
 pub returns-clause-crash : goal.returns-clause-crash
 returns-clause-crash g c = rw (← c.self.view_is) (commit_leaves g.S.Store c.self.inside.conn c.commit.new.conn c.self.invariant c.commit.ensures.crash)
@@ -16,4 +16,4 @@ returns-clause-left g c honest w left =
     left.2 ∙ ap (λ trees. lists_of (record { schema = (state g.S.Store c.commit.new.conn).committed.schema; trees = trees })) (g.met.S.Store.settled c.commit.new.conn.store left.0 honest.1 left.1)
 
 pub returns-clause-steady : goal.returns-clause-steady
-returns-clause-steady g c = rw (← c.self.view_is) (done_steady g.S.Store c.self.inside.conn c.commit.new.conn c.commit.result c.self.invariant c.commit.ensures.lasts.was (λ _. c.commit.ensures.committed) c.commit.ensures.err)
+returns-clause-steady g c = rw (← c.self.view_is) (done_steady g.S.Store c.self.inside.conn c.commit.new.conn c.commit.result c.self.invariant c.commit.ensures.commits.lasts.was (λ _. c.commit.ensures.commits.committed.done) c.commit.ensures.commits.committed.err)
