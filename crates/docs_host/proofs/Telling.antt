@@ -1,4 +1,4 @@
--- What the error output was told of a failure.
+-- What standard error was told of a failure.
 use Rattle.std.proofs.Common.{◌≡◌, Bool, false, true≢false, [], Option, None, refl, sym, subst}
 use Rattle.std.specs.Prelude.{IsTrue, option_and_then}
 use Rattle.dh_server.proofs.Told.{tells_both}

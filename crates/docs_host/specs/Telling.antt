@@ -1,4 +1,4 @@
--- What the error output is told.
+-- What standard error is told.
 use Rattle.std.specs.Prelude.{◌≡◌, ⊤, Bool, IsTrue, [], ◌∷◌, ◌++◌, codes, Option, Some, None, option_and_then}
 use Rattle.dh_server.specs.Telling.{Tells}
 use Rattle.dh_lines.specs.declared.lines.Line.{Line}

@@ -5,6 +5,7 @@ mod failure;
 mod orders;
 mod program;
 mod serving;
+mod streams;
 mod usage;
 
 use dh_ports::Port;
@@ -14,6 +15,7 @@ use sqlite_disk::Unknown;
 use std::io::{self, ErrorKind};
 use std::process::ExitCode;
 use std::rt::Env;
+use streams::Streams;
 
 /// The words behind the program's own name.
 fn words_of<R: Env + AllocGlobal>(rt: &R) -> io::Result<Vec<String>> {
@@ -40,15 +42,11 @@ fn main(rt: HostRuntime) -> ExitCode {
         Ok(words) => words,
         Err(error) => return ExitCode::from(tell_unread(&rt, &error).code()),
     };
-    let mut source = Port::new(rt.stdin());
-    let mut sink = Port::new(rt.stdout());
-    let mut errors = Port::new(rt.stderr());
-    ExitCode::from(run_program(
-        &rt,
-        Unknown,
-        words.as_slice(),
-        &mut source,
-        &mut sink,
-        &mut errors,
-    ))
+    let mut streams = Streams {
+        source: Port::new(rt.stdin()),
+        sink: Port::new(rt.stdout()),
+        errors: Port::new(rt.stderr()),
+    };
+    let status = run_program(&rt, Unknown, words.as_slice(), &mut streams);
+    ExitCode::from(status)
 }

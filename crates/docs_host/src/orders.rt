@@ -14,6 +14,7 @@ ghost use Rattle.docs_host.specs.Orders.{AreUnbroken, RunsSingle, RunsRequest, R
 
 use crate::failure::{Failure, Status};
 use crate::serving::{Served, serve};
+use crate::streams::Streams;
 use dh_http::{Desk, answer};
 use dh_lines::Order;
 use dh_ports::{Sink, Source, put_both};
@@ -103,26 +104,24 @@ pub fn run_order<S: Alter, R: Source, W: Sink, E: Sink>(
     desk: &mut Desk<S>,
     served: Served<'_>,
     order: &Order,
-    source: &mut R,
-    sink: &mut W,
-    errors: &mut E,
+    streams: &mut Streams<R, W, E>,
 ) -> Result<Status, Failure>
-    requires ready { AreUnbroken (R.broken source.old) (W.broken sink.old) }
+    requires ready { AreUnbroken (R.broken streams.old.source) (W.broken streams.old.sink) }
     ensures runs { Moves S.Store desk.old desk.new
         (λ before after. RunsOrder before order.now after
-        (R.left source.old) (W.held sink.old) (W.held sink.new) result) }
+        (R.left streams.old.source) (W.held streams.old.sink) (W.held streams.new.sink) result) }
     ensures ends { Ended (λ status. IsTrue (may_end_order order.now status))
         (is_of_order order.now) result }
-    ensures tells { TellsSome E.broken E.held errors.old errors.new }
+    ensures tells { TellsSome E.broken E.held streams.old.errors streams.new.errors }
 {
     match order {
-        Order::Script => run_lines(rt.alloc(), desk, source, sink),
-        Order::Answer => answer_request(rt.alloc(), desk, source, sink),
+        Order::Script => run_lines(rt.alloc(), desk, &mut streams.source, &mut streams.sink),
+        Order::Answer => answer_request(rt.alloc(), desk, &mut streams.source, &mut streams.sink),
         Order::Serve { count, port, log } => {
-            serve(rt, desk, served, *count, *port, *log, sink, errors)
+            serve(rt, desk, served, *count, *port, *log, streams)
         }
         Order::Act(_) | Order::Get { .. } | Order::Init { .. } => {
-            run_single(rt.alloc(), desk, order, sink)
+            run_single(rt.alloc(), desk, order, &mut streams.sink)
         }
     }
 }

@@ -14,6 +14,7 @@ ghost use Rattle.docs_host.specs.Telling as telling;
 use crate::failure::{Failure, Status, tell, tell_usage};
 use crate::orders::{run_lines, run_order, say};
 use crate::serving::Served;
+use crate::streams::Streams;
 use crate::usage::{tell_help, tell_mistake};
 use dh_files::{close_desk, init_file, open_desk};
 use dh_lines::{Line, LineFault, Order, line_of};
@@ -39,22 +40,20 @@ fn run_over<S: Start, R: Source, W: Sink, E: Sink>(
     start: S,
     order: &Order,
     file: &str,
-    source: &mut R,
-    sink: &mut W,
-    errors: &mut E,
+    streams: &mut Streams<R, W, E>,
 ) -> Result<Status, Failure>
-    requires ready { AreUnbroken (R.broken source.old) (W.broken sink.old) }
-    ensures ends { Ended (EndsOver order.now (W.held sink.old) (W.held sink.new))
+    requires ready { AreUnbroken (R.broken streams.old.source) (W.broken streams.old.sink) }
+    ensures ends { Ended (EndsOver order.now (W.held streams.old.sink) (W.held streams.new.sink))
         (is_of_file order.now) result }
-    ensures tells { TellsSome E.broken E.held errors.old errors.new }
+    ensures tells { TellsSome E.broken E.held streams.old.errors streams.new.errors }
 {
     if has_bad_target(rt.alloc(), order)? {
-        say(sink, "bad target")?;
+        say(&mut streams.sink, "bad target")?;
         return Ok(Status::Refused);
     }
     let (mut desk, projects) = open_desk(rt, file, start)?;
     let served = Served { file, projects };
-    let ran = run_order(rt, &mut desk, served, order, source, sink, errors);
+    let ran = run_order(rt, &mut desk, served, order, streams);
     let closed = close_desk(desk);
     let status = ran?;
     closed?;
@@ -102,23 +101,25 @@ fn run_line<S: Start, R: Source, W: Sink, E: Sink>(
     rt: &HostRuntime,
     start: S,
     line: &Line,
-    source: &mut R,
-    sink: &mut W,
-    errors: &mut E,
+    streams: &mut Streams<R, W, E>,
 ) -> Result<Status, Failure>
-    requires ready { AreUnbroken (R.broken source.old) (W.broken sink.old) }
+    requires ready { AreUnbroken (R.broken streams.old.source) (W.broken streams.old.sink) }
     ensures ends { Ended (EndsBy line.now.store line.now.order
-        (R.left source.old) (W.held sink.old) (W.held sink.new))
+        (R.left streams.old.source) (W.held streams.old.sink) (W.held streams.new.sink))
         (is_of_run line.now.store line.now.order) result }
-    ensures tells { TellsSome E.broken E.held errors.old errors.new }
+    ensures tells { TellsSome E.broken E.held streams.old.errors streams.new.errors }
 {
     match (&line.order, &line.store) {
         (Order::Init { file }, None) => init(rt, start, file.as_str()),
-        (Order::Script, None) => run_in_memory(rt.alloc(), source, sink),
-        (Order::Answer, None) => answer_over_sample(rt.alloc(), source, sink),
-        (order, Some(file)) => run_over(rt, start, order, file.as_str(), source, sink, errors),
+        (Order::Script, None) => run_in_memory(rt.alloc(), &mut streams.source, &mut streams.sink),
+        (Order::Answer, None) => answer_over_sample(
+            rt.alloc(),
+            &mut streams.source,
+            &mut streams.sink,
+        ),
+        (order, Some(file)) => run_over(rt, start, order, file.as_str(), streams),
         (Order::Act(_) | Order::Get { .. } | Order::Serve { .. }, None) => Ok(tell_usage(
-            errors,
+            &mut streams.errors,
             "which file has the records is missing: --store FILE",
         )),
     }
@@ -141,18 +142,17 @@ fn run_told<S: Start, R: Source, W: Sink, E: Sink>(
     rt: &HostRuntime,
     start: S,
     line: &Line,
-    source: &mut R,
-    sink: &mut W,
-    errors: &mut E,
+    streams: &mut Streams<R, W, E>,
 ) -> Status
-    requires ready { AreUnbroken (R.broken source.old) (W.broken sink.old) }
+    requires ready { AreUnbroken (R.broken streams.old.source) (W.broken streams.old.sink) }
     ensures ends { EndsBy line.now.store line.now.order
-        (R.left source.old) (W.held sink.old) (W.held sink.new) result }
-    ensures told { TellsEnd E.broken E.held (Some line.now) errors.old errors.new result }
+        (R.left streams.old.source) (W.held streams.old.sink) (W.held streams.new.sink) result }
+    ensures told { TellsEnd E.broken E.held (Some line.now)
+        streams.old.errors streams.new.errors result }
 {
-    match run_line(rt, start, line, source, sink, errors) {
+    match run_line(rt, start, line, streams) {
         Ok(status) => status,
-        Err(failure) => tell(errors, failure, file_of(line)),
+        Err(failure) => tell(&mut streams.errors, failure, file_of(line)),
     }
 }
 
@@ -161,22 +161,25 @@ fn run_words<S: Start, R: Source, W: Sink, E: Sink>(
     rt: &HostRuntime,
     start: S,
     words: &[String],
-    source: &mut R,
-    sink: &mut W,
-    errors: &mut E,
+    streams: &mut Streams<R, W, E>,
 ) -> Status
-    requires ready { AreUnbroken (R.broken source.old) (W.broken sink.old) }
+    requires ready { AreUnbroken (R.broken streams.old.source) (W.broken streams.old.sink) }
     ensures ends { EndsAsked false (map string_bytes words.now)
-        (R.left source.old) (W.held sink.old) (W.held sink.new) result }
+        (R.left streams.old.source) (W.held streams.old.sink) (W.held streams.new.sink) result }
     ensures told { TellsEnd E.broken E.held (line_in (map string_bytes words.now))
-        errors.old errors.new result }
+        streams.old.errors streams.new.errors result }
 {
     let line = match line_of(rt.alloc(), words) {
         Ok(line) => line,
-        Err(LineFault::Usage) => return tell_mistake(rt.alloc(), words, sink, errors),
-        Err(LineFault::Memory) => return tell(errors, Failure::Memory, None),
+        Err(LineFault::Usage) => return tell_mistake(
+            rt.alloc(),
+            words,
+            &mut streams.sink,
+            &mut streams.errors,
+        ),
+        Err(LineFault::Memory) => return tell(&mut streams.errors, Failure::Memory, None),
     };
-    run_told(rt, start, &line, source, sink, errors)
+    run_told(rt, start, &line, streams)
 }
 
 /// The file that a line names.
@@ -195,41 +198,37 @@ fn run_asked<S: Start, R: Source, W: Sink, E: Sink>(
     rt: &HostRuntime,
     start: S,
     words: &[String],
-    source: &mut R,
-    sink: &mut W,
-    errors: &mut E,
+    streams: &mut Streams<R, W, E>,
 ) -> Status
-    requires ready { AreUnbroken (R.broken source.old) (W.broken sink.old) }
+    requires ready { AreUnbroken (R.broken streams.old.source) (W.broken streams.old.sink) }
     ensures ends { EndsWords (map string_bytes words.now)
-        (R.left source.old) (W.held sink.old) (W.held sink.new) result }
+        (R.left streams.old.source) (W.held streams.old.sink) (W.held streams.new.sink) result }
     ensures told { TellsEnd E.broken E.held (line_run (map string_bytes words.now))
-        errors.old errors.new result }
+        streams.old.errors streams.new.errors result }
 {
     match helped(words) {
-        Some(names) => tell_help(rt.alloc(), names, sink, errors),
-        None => run_words(rt, start, words, source, sink, errors),
+        Some(names) => tell_help(rt.alloc(), names, &mut streams.sink, &mut streams.errors),
+        None => run_words(rt, start, words, streams),
     }
 }
 
-/// The whole program over its words, without its own name: the input, the output and the error output are
-/// given, and `start` stands for what the file of the records holds. It gives the exit status: 0 done, 1 a
-/// single command was refused or failed, 2 a mistake in the words, 3 a fault of a store, file, script or
-/// output, 4 a request without a whole reply.
+/// The whole program over its words, without its own name: its streams are given, and `start` stands for what
+/// the file of the records holds. It gives the exit status: 0 done, 1 a single command was refused or failed,
+/// 2 a mistake in the words, 3 a fault of a store, file, script, port or output, 4 a request without a whole
+/// reply.
 ///
 /// Faults are found in this order: the words, the target of a read, the file, the port, the run.
 pub fn run_program<S: Start, R: Source, W: Sink, E: Sink>(
     rt: &HostRuntime,
     start: S,
     words: &[String],
-    source: &mut R,
-    sink: &mut W,
-    errors: &mut E,
+    streams: &mut Streams<R, W, E>,
 ) -> u8
-    requires ready { AreUnbroken (R.broken source.old) (W.broken sink.old) }
+    requires ready { AreUnbroken (R.broken streams.old.source) (W.broken streams.old.sink) }
     ensures { EndsProgram (map string_bytes words.now)
-        (R.left source.old) (W.held sink.old) (W.held sink.new)
-        (TellsEnd E.broken E.held (line_run (map string_bytes words.now)) errors.old errors.new)
-        result }
+        (R.left streams.old.source) (W.held streams.old.sink) (W.held streams.new.sink)
+        (TellsEnd E.broken E.held (line_run (map string_bytes words.now))
+        streams.old.errors streams.new.errors) result }
 {
-    run_asked(rt, start, words, source, sink, errors).code()
+    run_asked(rt, start, words, streams).code()
 }

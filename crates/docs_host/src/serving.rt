@@ -8,8 +8,9 @@ ghost use Rattle.docs_host.specs.Failing.{IsDoneOr, is_of_server, may_fail};
 
 use crate::failure::{Failure, Status, put};
 use crate::orders::say;
+use crate::streams::Streams;
 use dh_http::Desk;
-use dh_ports::Sink;
+use dh_ports::{Sink, Source};
 use dh_server::{Listening, Log, serve_on};
 use sqlite::Alter;
 use std::alloc::Global;
@@ -50,26 +51,26 @@ fn bind<W: Sink>(rt: &HostRuntime, port: u16, sink: &mut W) -> Result<TcpListene
     Ok(listener)
 }
 
-/// Answers so many connections at a port, one request each, which the log tells to `errors`.
-pub fn serve<S: Alter, W: Sink, E: Sink>(
+/// Answers so many connections at a port, one request each, which the log tells to standard error.
+pub fn serve<S: Alter, R: Source, W: Sink, E: Sink>(
     rt: &HostRuntime,
     desk: &mut Desk<S>,
     served: Served<'_>,
     count: u32,
     port: u16,
     log: bool,
-    sink: &mut W,
-    errors: &mut E,
+    streams: &mut Streams<R, W, E>,
 ) -> Result<Status, Failure>
-    requires { W.broken sink.old ≡ false }
+    requires { W.broken streams.old.sink ≡ false }
     ensures steps { Moves S.Store desk.old desk.new (Steps count) }
     ensures ends { IsDoneOr is_of_server result }
-    ensures tells { TellsSome E.broken E.held errors.old errors.new }
+    ensures tells { TellsSome E.broken E.held streams.old.errors streams.new.errors }
 {
-    let listener = bind(rt, port, sink)?;
-    tell_served(rt.alloc(), served, errors);
+    let listener = bind(rt, port, &mut streams.sink)?;
+    tell_served(rt.alloc(), served, &mut streams.errors);
     let mut listening = Listening::new(&listener);
     let log = Log::new(rt, log);
+    let errors = &mut streams.errors;
     let _answered = serve_on(rt.alloc(), desk, &mut listening, count, &log, errors);
     Ok(Status::Done)
 }

@@ -72,7 +72,7 @@ fn tell_values<E: Sink>(alloc: Global, matches: &ArgMatches<'_>, errors: &mut E)
     }
 }
 
-/// Writes the help that was asked for to the output, and a mistake to the error output.
+/// Writes the help that was asked for to standard output, and a mistake to standard error.
 fn tell_error<W: Sink, E: Sink>(
     alloc: Global,
     error: &Error,

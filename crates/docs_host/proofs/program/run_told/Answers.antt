@@ -6,12 +6,12 @@ use Rattle.docs_host.proofs.program.run_told.Goals as goal
 
 pub returns-in-Ok-clause-told : goal.returns-in-Ok-clause-told
 returns-in-Ok-clause-told g c =
-    no_fault g.E.Sink.broken g.E.Sink.held (Some c.args.line.now) c.args.errors.now c.run_line.new.errors c.in-Ok.status
+    no_fault g.E.Sink.broken g.E.Sink.held (Some c.args.line.now) c.args.streams.now.errors c.run_line.new.streams.errors c.in-Ok.status
     c.in-Ok.ensures.ends.1
 
 pub returns-in-Err-clause-told : goal.returns-in-Err-clause-told
 returns-in-Err-clause-told g c =
-    told_last g.E.Sink.broken g.E.Sink.held (Some c.args.line.now) c.args.errors.now c.run_line.new.errors c.tell.new.errors
+    told_last g.E.Sink.broken g.E.Sink.held (Some c.args.line.now) c.args.streams.now.errors c.run_line.new.streams.errors c.tell.new.errors
     c.in-Err.failure c.tell.result c.in-Err.ensures.ends.1 c.tell.ensures.status c.in-Err.ensures.tells
-    (subst (TellsFault g.E.Sink.broken g.E.Sink.held c.run_line.new.errors c.tell.new.errors c.in-Err.failure)
+    (subst (TellsFault g.E.Sink.broken g.E.Sink.held c.run_line.new.streams.errors c.tell.new.errors c.in-Err.failure)
     c.file_of.ensures c.tell.ensures.told)

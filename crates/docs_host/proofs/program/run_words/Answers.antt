@@ -5,5 +5,5 @@ use Rattle.docs_host.proofs.program.run_words.Goals as goal
 
 pub returns-in-Err-Memory-clause-told : goal.returns-in-Err-Memory-clause-told
 returns-in-Err-Memory-clause-told g c =
-    told_memory g.E.Sink.broken g.E.Sink.held (line_in (map string_bytes c.args.words.now)) c.args.errors.now c.tell.new.errors
+    told_memory g.E.Sink.broken g.E.Sink.held (line_in (map string_bytes c.args.words.now)) c.args.streams.now.errors c.tell.new.errors
     c.tell.result c.tell.ensures.status c.tell.ensures.told

@@ -8,5 +8,5 @@ returns-in_err-listener-clause-steps g c = Moves-refl (no_steps c.args.count)
 
 pub returns-clause-tells : goal.returns-clause-tells
 returns-clause-tells g c =
-    some_more g.E.Sink.broken g.E.Sink.held c.args.errors.now c.tell_served.new.errors c.serve_on-answered.new.errors
+    some_more g.E.Sink.broken g.E.Sink.held c.args.streams.now.errors c.tell_served.new.errors c.serve_on-answered.new.errors
     c.tell_served.ensures c.serve_on-answered.ensures.tells
