@@ -1,5 +1,5 @@
 //! The texts of commands, read one by one.
-ghost use Rattle.std.specs.Prelude.{◌≡◌, Some, None, IsTrue};
+ghost use Rattle.std.specs.Prelude.{◌≡◌, ◌⊎◌, Some, None, IfErr, IsTrue};
 ghost use Rattle.dh_texts.specs.Texts.{is_token};
 ghost use Rattle.dh_texts.specs.SlugOfName.{slug_from};
 ghost use Rattle.dh_rules.specs.Patterns.{IsCustom};
@@ -17,13 +17,15 @@ use std::alloc::Global;
 
 /// The text as one of a kind.
 pub fn text_in<K: Kind>(alloc: Global, text: &Text) -> Result<Checked<K>, Refusal>
-    ensures { Reads K.test (refusal_of K.refusal) text.now result }
+    ensures reads { Reads K.test (refusal_of K.refusal) text.now result }
+    ensures memory { IfErr result (λ e. (e ≡ refusal_of K.refusal) ⊎ IsTrue (K.test text.now)) }
 {
     Ok(Checked::parse(alloc, text.as_str())?)
 }
 
 pub fn retry_key_in(alloc: Global, text: &Text) -> Result<Token, Refusal>
-    ensures { Reads is_token Refusal.BadKey text.now result }
+    ensures reads { Reads is_token Refusal.BadKey text.now result }
+    ensures memory { IfErr result (λ e. (e ≡ Refusal.BadKey) ⊎ IsTrue (is_token text.now)) }
 {
     match Token::parse(alloc, text.as_str()) {
         Ok(key) => Ok(key),
@@ -54,8 +56,10 @@ pub fn rule_in(alloc: Global, rule: &Rule) -> Result<Rule, Refusal>
 
 /// A redirect that passes its check.
 pub fn redirect_in(alloc: Global, redirect: &Redirect) -> Result<Redirect, Refusal>
-    ensures { Checks (bad_redirect redirect.now)
+    ensures checks { Checks (bad_redirect redirect.now)
         (λ r. (r ≡ redirect.now) × (first_fault r ≡ None)) result }
+    ensures memory { IfErr result
+        (λ e. (bad_redirect redirect.now ≡ Some e) ⊎ (first_fault redirect.now ≡ None)) }
 {
     if let Err(fault) = redirect.check() {
         return Err(Refusal::BadRedirect(fault.number()));
