@@ -26,10 +26,7 @@ fn connect<S: Start>(rt: &HostRuntime, path: &str, start: S) -> Result<FileConne
 
 /// Closes a file: what its log holds is copied into it.
 fn close<S: Start>(conn: FileConnection<S>) -> Result<(), FileFault> {
-    match conn.close() {
-        Ok(()) => Ok(()),
-        Err(error) => Err(FileFault::from(error)),
-    }
+    Ok(conn.close()?)
 }
 
 /// Makes the tables in a database that has none at all.

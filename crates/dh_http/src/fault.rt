@@ -5,7 +5,7 @@ use thiserror::Error;
 /// The whole reply was written.
 #[derive(Clone, Copy, Debug, PartialEq, Eq)]
 pub struct Done {
-    /// Of the reply.
+    /// The status of the reply.
     pub status: u16,
 }
 

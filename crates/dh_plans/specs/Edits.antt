@@ -49,10 +49,11 @@ pub record IsNewFront (p : Project) (names : List Text) : Type 0 where
   pub names_are : names ≡ name ∷ without_name name p.defaults
   pub may : IsTrue (is_alias name || contains_key p.versions name)
 
--- What has to hold of a project before an edit, so that it is one again: a version's slug comes from its name, one that has
--- pages stays active, pages and grants lead to what is there, a page may have its media type and body,
--- lists are no longer than they may be, their rules and redirects pass their checks, and a first answer
--- is one of its operation that has a JSON, under a free key.
+-- What has to hold of a project before an edit, so that it is one again: a language and a pass are new, and the language takes
+-- the next place; a version's slug comes from its name, and one that is active stays so, unless its pages go with it;
+-- a removal takes its name from the defaults, which else get one new name in front; pages and grants lead to what is
+-- there, a page may have its media type and body; lists are no longer than they may be, their rules and redirects pass their
+-- checks; and a first answer is one of its operation that has a JSON, under a free key.
 abbrev pub MayEdit : Edit → Project → Type 0
 MayEdit (AddLang lang place) p = (has_lang p lang ≡ false) × (place ≡ length p.languages + 1) × (place ≤ 30)
 MayEdit (PutVersion v) p = (slug_from v.name ≡ Some v.slug) × (v.active ≡ false → is_active p v.slug ≡ false)

@@ -33,6 +33,7 @@ impl<'c> Plan<'c> {
         }
     }
 
+    /// A plan of one edit.
     pub fn one(alloc: Global, edit: Edit<'c>, answer: Answer) -> Result<Plan<'c>, AllocError>
         ensures { IfOk result (λ plan. plan ≡ planned (edit.entry ∷ []) answer) }
     {

@@ -89,9 +89,9 @@ AreRules = HavePlaces (λ r. r.place) 50
 abbrev pub AreRedirects : List RedirectRow → Type 0
 AreRedirects = HavePlaces (λ r. r.place) 100
 
--- ---- the constraints of the records, beyond what each says for itself, in four parts
+-- ---- the constraints of the records, in four parts
 
--- every host has its project
+-- every host has its project; that of a grant by its pass
 pub record HaveProjects (lists : Lists) : Type 0 where
   pub langs : AllByRecursion (λ l. IsTrue (has_project lists l.host)) lists.langs
   pub versions : AllByRecursion (λ v. IsTrue (has_project lists v.host)) lists.versions
@@ -111,7 +111,7 @@ pub record KeepProjects (lists : Lists) : Type 0 where
   pub rule_places : AllByRecursion (λ r. AreRules (filter (is_rule_of r.host) lists.rules)) lists.projects
   pub places : AllByRecursion (λ r. AreRedirects (filter (is_redirect_of r.host) lists.redirects)) lists.projects
 
--- what the other records stand on, and that no redirect has a fault
+-- what the other records stand on, and that a page is fit and no redirect has a fault
 pub record KeepRecords (lists : Lists) : Type 0 where
   -- a page's version is there and active, and its language is one of the project's
   pub active : AllByRecursion (λ x. IsTrue (has_active lists x.host x.slug)) lists.pages

@@ -16,6 +16,7 @@ pub fn show_number(n: u32)
 }
 
 impl ProjectRow {
+    /// Its columns, in the order of the table.
     pub fn values(&self) -> [ValueRef<'_>; 5]
         ensures encoded { AreValuesOf result (coding.projects.encode self.now) }
         ensures typed { IsProject self.now }
@@ -31,6 +32,7 @@ impl ProjectRow {
 }
 
 impl LangRow {
+    /// Its columns, in the order of the table.
     pub fn values(&self) -> [ValueRef<'_>; 3]
         ensures encoded { AreValuesOf result (coding.langs.encode self.now) }
         ensures typed { IsLanguage self.now }
@@ -45,6 +47,7 @@ impl LangRow {
 }
 
 impl VersionRow {
+    /// Its columns, in the order of the table.
     pub fn values(&self) -> [ValueRef<'_>; 7]
         ensures encoded { AreValuesOf result (coding.versions.encode self.now) }
         ensures typed { IsVersion self.now }
@@ -62,6 +65,7 @@ impl VersionRow {
 }
 
 impl PageRow {
+    /// Its columns, in the order of the table.
     pub fn values(&self) -> [ValueRef<'_>; 6]
         ensures encoded { AreValuesOf result (coding.pages.encode self.now) }
         ensures typed { IsPage self.now }
@@ -78,6 +82,7 @@ impl PageRow {
 }
 
 impl PassRow {
+    /// Its columns, in the order of the table.
     pub fn values(&self) -> [ValueRef<'_>; 2]
         ensures encoded { AreValuesOf result (coding.passes.encode self.now) }
         ensures typed { IsPass self.now }
@@ -87,6 +92,7 @@ impl PassRow {
 }
 
 impl HeldRow {
+    /// Its columns, in the order of the table.
     pub fn values(&self) -> [ValueRef<'_>; 3]
         ensures encoded { AreValuesOf result (coding.held.encode self.now) }
         ensures typed { IsHeld self.now }

@@ -72,7 +72,7 @@ abbrev pub all_rows_edited : Text → List Edit → Lists → Lists
 all_rows_edited host [] l = l
 all_rows_edited host (e ∷ es) l = all_rows_edited host es (rows_edited host e l)
 
--- what is added has a free key
+-- what is added has a free key, a language is new, and no default stands twice
 abbrev pub RowsMay : Text → Edit → Lists → Type 0
 RowsMay host (AddLang lang place) l =
     IsFreeKey coding.langs.key (lang_row host lang place) l.langs

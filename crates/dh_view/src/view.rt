@@ -37,6 +37,7 @@ pub struct View<'a, S: Alter> {
 }
 
 impl<'a, S: Alter> View<'a, S> {
+    /// What the caller sees under the host; no host has no project.
     pub fn new(tables: &'a mut Tables<S>, host: Option<HostName>, caller: Caller) -> View<'a, S>
         ensures same { result.tables.ghost_name ≡ tables.entry.ghost_name }
         ensures now { result.tables.now ≡ tables.old }

@@ -13,6 +13,7 @@ use dh_store::Tables;
 use sqlite::Alter;
 
 impl ProjectView<'_> {
+    /// All languages of the project, the first one in front.
     pub fn all_langs<S: Alter>(&self, tables: &mut Tables<S>) -> Result<Vec<Lang>, Fault>
         ensures { Obtains S.Store tables.old tables.new result
             (λ l langs. langs.items ≡ (project_of l self.now.project.now).languages) }
