@@ -108,7 +108,7 @@ impl BadRedirect {
 }
 
 impl Redirect {
-    ghost use Rattle.dh_redirects.specs.Redirects.{first_fault};
+    ghost use Rattle.dh_redirects.specs.Redirects.{first_fault, same_redirect};
 
     /// The same redirect again.
     pub fn try_copy(&self, alloc: Global) -> Result<Redirect, AllocError>
@@ -125,7 +125,8 @@ impl Redirect {
 
     /// Whether both are one redirect.
     pub fn is_same(&self, other: &Redirect) -> bool
-        ensures { IsTrue result ↔ self.now ≡ other.now }
+        ensures same { IsTrue result ↔ self.now ≡ other.now }
+        ensures test { result ≡ same_redirect self.now other.now }
     {
         self.kind == other.kind
             && self.status == other.status
