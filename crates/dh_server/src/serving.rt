@@ -7,8 +7,8 @@ ghost use Rattle.dh_http.specs.Answers as spec;
 ghost use Rattle.dh_server.specs.Serving.{Answers, Turn, Serves, Steps, Counts};
 ghost use Rattle.dh_server.specs.Telling.{TellsSome};
 
+use crate::beginning::{Beginning, Heard};
 use crate::counted::Counted;
-use crate::first_line::{FirstLine, Heard};
 use crate::joined::Joined;
 use crate::listening::Listen;
 use crate::log::Log;
@@ -50,6 +50,11 @@ pub fn answer_joined<S: Alter, R: Source, W: Sink>(
     }
 }
 
+/// Whether input may be left unread behind a reply.
+fn leaves_input(answered: Result<Done, EngineFault>, came: &Beginning) -> bool {
+    answered.is_ok() && !came.is_whole()
+}
+
 /// Answers the request of a connection, and tells it.
 fn answer_stream<S: Alter, T: Clock + Copy, L: Sink>(
     alloc: Global,
@@ -75,19 +80,14 @@ fn answer_stream<S: Alter, T: Clock + Copy, L: Sink>(
         alloc,
         errors,
         Some(result),
-        source.line(),
+        source.beginning().first_line(),
         sink.inner().count(),
         start,
     );
-    result
-}
-
-/// Whether input may be left unread behind a reply: where the request was refused by its head.
-fn leaves_input(answered: Result<Done, EngineFault>) -> bool {
-    match answered {
-        Ok(done) => matches!(done.status, 400 | 405 | 411 | 413 | 431),
-        Err(_) => false,
+    if leaves_input(result, source.beginning()) {
+        read_out(log.clock(), stream);
     }
+    result
 }
 
 /// Answers the next connection, and says whether a whole reply was handed to it.
@@ -104,13 +104,10 @@ fn serve_next<S: Alter, N: Listen, T: Clock + Copy, L: Sink>(
     ensures off { log.now.is_on ≡ false → errors.new ≡ errors.old }
 {
     let Some(stream) = listener.accept() else {
-        log.tell(alloc, errors, None, &FirstLine::new(alloc), 0, None);
+        log.tell(alloc, errors, None, &[], 0, None);
         return false;
     };
     let result = answer_stream(alloc, desk, &stream, log, errors);
-    if leaves_input(result) {
-        read_out(&stream);
-    }
     result.is_ok()
 }
 

@@ -28,16 +28,30 @@ fn others_do_not_stop_it(rt: &HostRuntime) -> Result<bool, Fail> {
     )
 }
 
-/// The body of a refused request waits unread, and the reply comes whole all the same.
-fn refusal_comes_whole(rt: &HostRuntime) -> Result<bool, Fail> {
+/// The reply to a request, behind whose head wait 100,000 bytes that nobody reads; the empty text where it is not whole.
+fn reply_beside_body(rt: &HostRuntime, head: &str) -> Result<String, Fail> {
     let listener = listen(rt)?;
-    let head = "POST /_/upload HTTP/1.1\r\nHost: docs.test\r\nContent-Length: 9999999\r\n\r\n";
     let large = client(rt, &listener, head)?;
-    (&large).write_all(&[b'x'; 9000])?;
+    (&large).write_all(&[b'x'; 100_000])?;
     large.shutdown(Shutdown::Write)?;
     let served = serve(rt, &listener, 1)?;
-    let refused = received(rt, large)?;
-    Ok(served == 1 && refused.as_str().starts_with("HTTP/1.1 413 "))
+    if served != 1 {
+        return Ok(String::new(rt.alloc()));
+    }
+    received(rt, large)
+}
+
+/// The body of a refused request waits unread, and the reply comes whole all the same.
+fn refusal_comes_whole(rt: &HostRuntime) -> Result<bool, Fail> {
+    let head = "POST /_/upload HTTP/1.1\r\nHost: docs.test\r\nContent-Length: 9999999\r\n\r\n";
+    let refused = reply_beside_body(rt, head)?;
+    Ok(refused.as_str().starts_with("HTTP/1.1 413 "))
+}
+
+/// So does that of a page.
+fn page_comes_whole(rt: &HostRuntime) -> Result<bool, Fail> {
+    let head = "GET /en/latest/install.html HTTP/1.1\r\nHost: docs.test\r\nContent-Length: 100000\r\n\r\n";
+    Ok(reply_beside_body(rt, head)?.as_str() == PAGE)
 }
 
 #[test]
@@ -45,6 +59,7 @@ fn clients_get_replies(rt: HostRuntime) -> Result<(), Fail> {
     assert!(rt; page_is_served(&rt)?, "a good one");
     assert!(rt; others_do_not_stop_it(&rt)?, "one behind bad ones");
     assert!(rt; refusal_comes_whole(&rt)?, "one that is refused");
+    assert!(rt; page_comes_whole(&rt)?, "one that sends a body with a GET");
     Ok(())
 }
 
