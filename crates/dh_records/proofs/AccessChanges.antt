@@ -40,7 +40,7 @@ world_with_defaults lists host names p up =
 
 -- a pass that was not there is added
 pub world_with_pass : (lists : Lists) (row : PassRow) (p : Project) → IsFreeKey coding.passes.key row lists.passes → get (world_of lists) row.host ≡ Some p
-    → world_of (record lists { passes = added coding.passes.key row lists.passes }) ≡ insert (world_of lists) row.host (record p { passes = insert p.passes row.pass tt })
+    → world_of (record lists { passes = added coding.passes.key row lists.passes }) ≡ insert (world_of lists) row.host (record p { passes = insert p.passes row.pass row.until })
 world_with_pass = world_added parts.pass_maps parts.passes
 
 -- a pass is removed
@@ -128,8 +128,8 @@ world_pass_gone lists host pass p was =
 
 -- ---- how many passes a project has
 
-abbrev marks : List PassRow → List (Text × Unit {0})
-marks rows = map (λ y. (y.pass, tt)) rows
+abbrev marks : List PassRow → List (Text × Option ℕ)
+marks rows = map (λ y. (y.pass, y.until)) rows
 
 apart_from : (host : Text) (x : PassRow) → is_pass_of host x ≡ true → (rows : List PassRow) → AllByRecursion (λ y. by_key coding.passes.key x y ≡ Less) rows → AllByRecursion (λ y. is_pass_of host y ≡ true) rows
     → finite.find text_cmp x.pass (marks rows) ≡ None
@@ -145,10 +145,10 @@ one_more : (n m : ℕ) → n ≡ m → n + 1 ≡ suc m
 one_more n m e = omega arith
 
 count_rows : (host : Text) (rows : List PassRow) → InOrder coding.passes.key rows → AllByRecursion (λ y. is_pass_of host y ≡ true) rows → len (from_entries {R = text_cmp} (marks rows)) ≡ length rows
-count_rows host [] up all = len-empty text_cmp (Unit {0})
+count_rows host [] up all = len-empty text_cmp (Option ℕ)
 count_rows host (x ∷ rows) up all =
     let m = from_entries {R = text_cmp} (marks rows) in
-    len-insert text_total m x.pass tt
+    len-insert text_total m x.pass x.until
     ∙ ap (λ b. cond b (len m) (len m + 1)) (ap is_some (get-from_entries text_total (marks rows) x.pass ∙ apart_from host x all.0 rows up.0 all.1))
     ∙ one_more (len m) (length rows) (count_rows host rows up.1 all.1)
 

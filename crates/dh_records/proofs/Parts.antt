@@ -1,5 +1,5 @@
 -- The lists of the tables, each with the part of a project that its records make.
-use Rattle.std.proofs.Common.{◌≡◌, List, map, refl}
+use Rattle.std.proofs.Common.{◌≡◌, ℕ, Option, List, map, refl}
 use Rattle.std.proofs.lemmas.Map.Lookups.{exact_bytes}
 use Rattle.dh_versions.specs.declared.version.Version.{Version}
 use Rattle.dh_lookup.specs.declared.found.Page.{Page}
@@ -32,8 +32,8 @@ page_maps = record { total = page_total; exact = page_exact; code = coding.pages
 abbrev pub used_maps : MapOf UsedRow Answer used_cmp
 used_maps = record { total = used_total; exact = used_exact; code = coding.used.key; host_of = λ x. x.host; place = used_place; value = kept_answer; same = same_used }
 
-abbrev pub pass_maps : MapOf PassRow (Unit {0}) text_cmp
-pass_maps = record { total = text_total; exact = exact_bytes; code = coding.passes.key; host_of = λ x. x.host; place = λ x. x.pass; value = λ x. tt; same = same_pass }
+abbrev pub pass_maps : MapOf PassRow (Option ℕ) text_cmp
+pass_maps = record { total = text_total; exact = exact_bytes; code = coding.passes.key; host_of = λ x. x.host; place = λ x. x.pass; value = λ x. x.until; same = same_pass }
 
 abbrev pub held_maps : MapOf HeldRow (Unit {0}) held_cmp
 held_maps = record { total = held_total; exact = held_exact; code = coding.held.key; host_of = λ x. x.host; place = held_place; value = λ x. tt; same = same_held }

@@ -1,13 +1,15 @@
 -- What a project holds, by look-ups in the lists.
-use Rattle.std.proofs.Common.{◌≡◌, ◌&&◌, Option, Some, None, refl, sym, ap, ap₂, ◌∙◌}
+use Rattle.std.proofs.Common.{◌≡◌, ℕ, ◌&&◌, false, Option, Some, None, refl, sym, ap, ◌∙◌}
 use Rattle.std.specs.Prelude.{option_map, is_some}
 use Rattle.std.specs.List.{find}
+use Rattle.std.specs.Option.{option_map_or}
 use Rattle.std.specs.Str.{bytes_eq}
 use Rattle.std.specs.FinMap.{get, get-from_entries}
+use Rattle.dh_records.specs.declared.records.PassRow.{PassRow}
 use Rattle.dh_records.specs.declared.records.ProjectRow.{ProjectRow}
 use Rattle.dh_world.specs.declared.operation.Operation.{Operation}
 use Rattle.dh_world.specs.World.{Text, text_cmp, op_code}
-use Rattle.dh_world.specs.Visibility.{holds}
+use Rattle.dh_world.specs.Visibility.{is_before, is_live, holds}
 use Rattle.dh_records.specs.Lists.{Lists, project_of, world_of, kept_answer, same_op, is_project, is_version, is_page, is_used, is_pass, is_held}
 use Rattle.dh_world.proofs.MapLemmas.{text_total, tied_text, tied_page, tied_held, found_in}
 use Rattle.dh_records.proofs.Keys.{host_first, host_first_of_four}
@@ -37,7 +39,7 @@ get_used lists row slug op retry =
     get_by used_maps row.host (slug, (op_code op, retry)) (is_used row.host slug op retry)
     (λ u. ap (λ b. bytes_eq u.host row.host && b) (tied_used_key slug op retry u) ∙ sym (host_first_of_four (bytes_eq u.host row.host) (bytes_eq u.slug slug) (same_op u.op op) (bytes_eq u.retry retry))) lists.used
 
-pub get_pass : (lists : Lists) (row : ProjectRow) (pass : Text) → get (project_of lists row).passes pass ≡ option_map (λ x. tt) (find (is_pass row.host pass) lists.passes)
+pub get_pass : (lists : Lists) (row : ProjectRow) (pass : Text) → get (project_of lists row).passes pass ≡ option_map (λ x. x.until) (find (is_pass row.host pass) lists.passes)
 unfolding project_of
 get_pass lists row pass =
     get_by pass_maps row.host pass (is_pass row.host pass)
@@ -53,7 +55,16 @@ pub mapped_some : {A X : Type 0} (f : A → X) (o : Option A) → is_some (optio
 mapped_some f None = refl
 mapped_some f (Some x) = refl
 
--- a pass opens what the records of grants say, if it is one of the project's
-pub holds_is : (lists : Lists) (row : ProjectRow) (pass slug : Text) → holds (project_of lists row) (Some pass) slug ≡ (is_some (find (is_pass row.host pass) lists.passes) && is_some (find (is_held row.host pass slug) lists.held))
-holds_is lists row pass slug =
-    rw (get_pass lists row pass, get_held lists row pass slug) (ap₂ ◌&&◌ (mapped_some (λ x. tt) (find (is_pass row.host pass) lists.passes)) (mapped_some (λ x. tt) (find (is_held row.host pass slug) lists.held)))
+-- a pass holds what the records of grants say
+pub holds_is : (lists : Lists) (row : ProjectRow) (pass slug : Text) → holds (project_of lists row) (Some pass) slug ≡ is_some (find (is_held row.host pass slug) lists.held)
+holds_is lists row pass slug = ap is_some (get_held lists row pass slug) ∙ mapped_some (λ x. tt) (find (is_held row.host pass slug) lists.held)
+
+-- it is live as its own record says
+pub live_is : (lists : Lists) (row : ProjectRow) (moment : ℕ) (pass : Text)
+    → is_live (project_of lists row) moment pass ≡ option_map_or (λ x. is_before moment x.until) (find (is_pass row.host pass) lists.passes) false
+live_is lists row moment pass =
+    ap (λ end. option_map_or (is_before moment) end false) (get_pass lists row pass) ∙ by_row (find (is_pass row.host pass) lists.passes)
+  where
+    by_row : (o : Option PassRow) → option_map_or (is_before moment) (option_map (λ x. x.until) o) false ≡ option_map_or (λ x. is_before moment x.until) o false
+    by_row None = refl
+    by_row (Some x) = refl

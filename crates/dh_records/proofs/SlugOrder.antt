@@ -19,7 +19,7 @@ use Rattle.dh_records.specs.declared.records.VersionRow.{VersionRow}
 use Rattle.dh_records.specs.Codings.{versions}
 use Rattle.dh_world.specs.declared.caller.Caller.{Caller}
 use Rattle.dh_world.specs.World.{text_cmp}
-use Rattle.dh_world.specs.Visibility.{holds, is_visible, may_see}
+use Rattle.dh_world.specs.Visibility.{live_pass, holds, is_visible, may_see}
 use Rattle.dh_world.specs.World as world
 use Rattle.dh_records.specs.Lists.{Lists, project_of, is_version_of}
 use Rattle.dh_world.specs.Seen.{visible_versions}
@@ -147,13 +147,13 @@ versions_are : (lists : Lists) (row : ProjectRow) → (project_of lists row).ver
 versions_are lists row = ap (λ x. x.versions) (spelled lists row)
 
 pub visible_entries : (lists : Lists) (row : ProjectRow) (c : Caller) → RiseBySlug (filter (is_version_of row.host) lists.versions)
-    → entries (visible_versions (project_of lists row) c) ≡ map by_slug (filter (λ r. may_see r.version (holds (project_of lists row) c.pass r.version.slug)) (filter (is_version_of row.host) lists.versions))
+    → entries (visible_versions (project_of lists row) c) ≡ map by_slug (filter (λ r. may_see r.version (holds (project_of lists row) (live_pass (project_of lists row) c) r.version.slug)) (filter (is_version_of row.host) lists.versions))
 visible_entries lists row c up =
     let rows = filter (is_version_of row.host) lists.versions in
     let es = map by_slug rows in
     let sorted : T (is_sorted text_cmp es) = subst T (sym up) tt in
     let seen : world.Text → Bool = is_visible (project_of lists row) c in
-    let held : world.Text → Bool = holds (project_of lists row) c.pass in
+    let held : world.Text → Bool = holds (project_of lists row) (live_pass (project_of lists row) c) in
     let told : (e : world.Text × Version) → IsFound es e → seen e.0 ≡ may_see e.1 (held e.0) = λ e found.
     ap (λ m. option_map_or (λ v. may_see v (held e.0)) (get m e.0) false) (versions_are lists row) ∙ ap (λ o. option_map_or (λ v. may_see v (held e.0)) o false) (get-from_entries text_total es e.0 ∙ found) in
     ap (λ m. entries (retain_keys m seen)) (versions_are lists row) ∙ kept_entries es seen sorted ∙ same_filter (λ e. seen e.0) (λ e. may_see e.1 (held e.0)) es (each told es (each_found es sorted)) ∙ seen_entries held rows

@@ -99,11 +99,11 @@ module _ (lists : Lists) (host : Text) (p : Project) (was : get (world_of lists)
   pub defaults_in : p.defaults ≡ map (λ d. d.name) (filter (is_pick_of host) lists.picks)
   defaults_in = told_of (λ x. x.defaults) (λ h. map (λ d. d.name) (filter (is_pick_of h) lists.picks)) (defaults_are lists)
 
-  pub pass_in : (pass : Text) → get p.passes pass ≡ option_map (λ x. tt) (find (is_pass host pass) lists.passes)
-  pass_in pass = told_of (λ x. get x.passes pass) (λ h. option_map (λ x. tt) (find (is_pass h pass) lists.passes)) (λ r. get_pass lists r pass)
+  pub pass_in : (pass : Text) → get p.passes pass ≡ option_map (λ x. x.until) (find (is_pass host pass) lists.passes)
+  pass_in pass = told_of (λ x. get x.passes pass) (λ h. option_map (λ x. x.until) (find (is_pass h pass) lists.passes)) (λ r. get_pass lists r pass)
 
   pub has_pass_in : (pass : Text) → contains_key p.passes pass ≡ has_pass lists host pass
-  has_pass_in pass = ap is_some (pass_in pass) ∙ mapped_some (λ x. tt) (find (is_pass host pass) lists.passes)
+  has_pass_in pass = ap is_some (pass_in pass) ∙ mapped_some (λ x. x.until) (find (is_pass host pass) lists.passes)
 
   pub held_in : (pass slug : Text) → get p.held (pass, slug) ≡ option_map (λ x. tt) (find (is_held host pass slug) lists.held)
   held_in pass slug = told_of (λ x. get x.held (pass, slug)) (λ h. option_map (λ x. tt) (find (is_held h pass slug) lists.held)) (λ r. get_held lists r pass slug)

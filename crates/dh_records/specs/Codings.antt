@@ -1,5 +1,5 @@
 -- How the records of each table are kept in its columns.
-use Rattle.std.specs.Prelude.{◌≡◌, ℕ, pos, ◌==◌, Bool, true, false, if◌then◌else◌, List, [], ◌∷◌, codes, drop, map}
+use Rattle.std.specs.Prelude.{◌≡◌, ℕ, ℤ, pos, negsuc, Option, Some, None, ◌==◌, Bool, true, false, if◌then◌else◌, List, [], ◌∷◌, codes, drop, map}
 use Rattle.std.specs.Str.{bytes_eq}
 use Rattle.sqlite_value.specs.declared.value.Value.{Value}
 use Rattle.sqlite_value.specs.declared.value.Value.TheVariants.{Int, Text, Blob}
@@ -63,6 +63,16 @@ text_in r at = bytes (column r at)
 abbrev pub flag_in : Row → ℕ → Bool
 flag_in r at = is_set (column r at)
 
+-- the end of a pass as a number, which is -1 where there is none
+abbrev pub end_number : Option ℕ → ℤ
+end_number None = negsuc 0
+end_number (Some end) = pos end
+
+-- any number below 0 reads as no end
+abbrev pub end_in : Value → Option ℕ
+end_in (Int (pos end)) = Some end
+end_in _ = None
+
 abbrev pub projects : Coding ProjectRow
 projects = record {
   encode = λ x. Text x.host ∷ Text x.main ∷ Text x.branch ∷ Text x.wkey ∷ flag x.new_private ∷ [];
@@ -121,8 +131,8 @@ picks = record {
 
 abbrev pub passes : Coding PassRow
 passes = record {
-  encode = λ x. Text x.host ∷ Text x.pass ∷ [];
-  decode = λ r. record { host = text_in r 1; pass = text_in r 2 };
+  encode = λ x. Text x.host ∷ Text x.pass ∷ Int (end_number x.until) ∷ [];
+  decode = λ r. record { host = text_in r 1; pass = text_in r 2; until = end_in (column r 3) };
   key = λ x. Text x.host ∷ Text x.pass ∷ [];
 }
 

@@ -1,5 +1,5 @@
 -- Which columns and which records can be read: each text is one of its type, and each number fits.
-use Rattle.std.specs.Prelude.{◌≡◌, ℕ, pos, ◌<◌, ◌^◌, Bool, List, IsTrue, IsUtf8, Some, Result, IfOk}
+use Rattle.std.specs.Prelude.{◌≡◌, ℕ, pos, ◌<◌, ◌^◌, Bool, List, IsTrue, IsUtf8, Option, Some, Result, IfOk, IfSome}
 use Rattle.std.specs.List.{AllByRecursion}
 use Rattle.sqlite_value.specs.declared.value.Value.TheVariants.{Int, Text, Blob}
 use Rattle.sqlite_value.specs.Order.{Row, column}
@@ -11,7 +11,7 @@ use Rattle.dh_world.specs.declared.answer.Answer.{Answer}
 use Rattle.dh_world.specs.Answers.{IsAnswer, json_of}
 use Rattle.dh_faults.specs.Faults.{OnStore}
 use Rattle.dh_faults.specs.declared.fault.Fault.{Fault}
-use Rattle.dh_records.specs.Codings.{text_in}
+use Rattle.dh_records.specs.Codings.{text_in, end_number}
 use Rattle.dh_records.specs.Lists.{Lists}
 use Rattle.dh_records.specs.declared.records.ProjectRow.{ProjectRow}
 use Rattle.dh_records.specs.declared.records.LangRow.{LangRow}
@@ -41,6 +41,10 @@ module _ (row : Row) (at : ℕ) where
 
   abbrev pub IsRank : Type 0
   IsRank = (n : ℕ) × (column row at ≡ Int (pos n))
+
+  -- -1, or a number that fits
+  abbrev pub IsUntil : Type 0
+  IsUntil = (until : Option ℕ) × (column row at ≡ Int (end_number until)) × IfSome until (λ end. end < 2 ^ 63)
 
   abbrev pub IsBody : Type 0
   IsBody = (b : List ℕ) × (column row at ≡ Blob b)
@@ -107,6 +111,7 @@ pub record IsPick (x : PickRow) : Type 0 where
 pub record IsPass (x : PassRow) : Type 0 where
   pub host : Passes is_host_name x.host
   pub pass : Passes is_token x.pass
+  pub until : IfSome x.until (λ end. end < 2 ^ 63)
 
 pub record IsHeld (x : HeldRow) : Type 0 where
   pub host : Passes is_host_name x.host

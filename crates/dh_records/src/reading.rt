@@ -22,7 +22,7 @@ use dh_rows::fault_of;
 use dh_rules::{Action, Pattern, Rule};
 use dh_texts::{Checked, Kind};
 use dh_versions::{Kind as VersionKind, Version};
-use dh_world::{Answer, Operation};
+use dh_world::{Answer, Operation, PassEnd};
 use sqlite::{Error, Row};
 use std::alloc::Global;
 
@@ -115,6 +115,18 @@ fn rank_at(row: &Row, at: usize) -> Result<u64, Fault>
     ensures told { OnStore result (¬ typed.IsRank row.now at) }
 {
     row.get(at).map_err(fault_of_column)
+}
+
+/// The end of a pass, or none where the number is below 0.
+fn until_at(row: &Row, at: usize) -> Result<Option<PassEnd>, Fault>
+    ensures value { IfOk result (λ until. spec.end_in (column row.now at) ≡ until) }
+    ensures told { OnStore result (¬ typed.IsUntil row.now at) }
+{
+    let number: i64 = row.get(at).map_err(fault_of_column)?;
+    match u64::try_from(number) {
+        Ok(second) => Ok(PassEnd::new(second)),
+        Err(_) => Ok(None),
+    }
 }
 
 fn body_at(row: &Row, at: usize) -> Result<Bytes, Fault>
@@ -280,6 +292,7 @@ impl Record for PassRow {
         Ok(PassRow {
             host: checked_at(alloc, row, 0)?,
             pass: checked_at(alloc, row, 1)?,
+            until: until_at(row, 2)?,
         })
     }
 }

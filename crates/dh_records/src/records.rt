@@ -8,7 +8,7 @@ use dh_paths::{HostName, Lang, PagePath, RefName, Slug, Text, Token};
 use dh_redirects::{Redirect, RedirectKind};
 use dh_rules::{Action, Rule};
 use dh_versions::{Kind, Version};
-use dh_world::Operation;
+use dh_world::{Operation, PassEnd};
 
 /// A project, but for its lists.
 #[derive(Drop)]
@@ -65,6 +65,8 @@ pub struct PickRow {
 pub struct PassRow {
     pub host: HostName,
     pub pass: Token,
+    /// When it ends, if it does.
+    pub until: Option<PassEnd>,
 }
 
 /// A grant: the pass opens the version.

@@ -1,11 +1,12 @@
 //! What the columns of a record hold, in their order.
 
-ghost use Rattle.std.specs.Prelude.{◌<◌, ◌^◌};
+ghost use Rattle.std.specs.Prelude.{◌≡◌, ◌<◌, ◌^◌};
 ghost use Rattle.dh_records.specs.Codings as coding;
 ghost use Rattle.dh_records.specs.Codings.{AreValuesOf};
 ghost use Rattle.dh_records.specs.Typed.{IsHeld, IsLanguage, IsPage, IsPass, IsProject, IsVersion};
 
 use crate::records::{HeldRow, LangRow, PageRow, PassRow, ProjectRow, VersionRow, is_tag};
+use dh_world::PassEnd;
 use sqlite::types::{ToSql, ValueRef};
 
 /// That a number fits 32 bits, as its type says. It does nothing.
@@ -13,6 +14,16 @@ pub fn show_number(n: u32)
     ensures { n < 2 ^ 32 }
 {
     let _ = n;
+}
+
+/// The end of a pass as its column holds it, -1 for none.
+fn end_number(until: &Option<PassEnd>) -> i64
+    ensures { result ≡ coding.end_number until.now }
+{
+    match until {
+        Some(end) => end.number(),
+        None => -1,
+    }
 }
 
 impl ProjectRow {
@@ -83,11 +94,15 @@ impl PageRow {
 
 impl PassRow {
     /// Its columns, in the order of the table.
-    pub fn values(&self) -> [ValueRef<'_>; 2]
+    pub fn values(&self) -> [ValueRef<'_>; 3]
         ensures encoded { AreValuesOf result (coding.passes.encode self.now) }
         ensures typed { IsPass self.now }
     {
-        [self.host.as_str().to_sql(), self.pass.as_str().to_sql()]
+        [
+            self.host.as_str().to_sql(),
+            self.pass.as_str().to_sql(),
+            end_number(&self.until).to_sql(),
+        ]
     }
 }
 

@@ -1,8 +1,10 @@
 -- Redirects of a documentation host (Read the Docs, Redirects), and which of them are refused.
-use Rattle.std.specs.Prelude.{ℕ, ◌-◌, Bool, true, false, ◌&&◌, ◌||◌, not, ◌==◌, nat_le, nat_eq, List, [], ◌∷◌, length, take, codes, find, Option, Some, None}
+use Rattle.std.specs.Prelude.{ℕ, ◌-◌, ◌^◌, Bool, true, false, ◌&&◌, ◌||◌, not, ◌==◌, nat_le, nat_eq, if◌then◌else◌, List, [], ◌∷◌, ◌++◌, length, take, codes, find, Option, Some, None}
 use Rattle.std.specs.List.{list_all, list_any, starts_with, before_first}
+use Rattle.std.specs.Str.{bytes_eq}
 use Rattle.dh_texts.specs.Bytes.{hash, star, slash, question}
 use Rattle.dh_texts.specs.Texts.{is_no_control, first_byte, last_byte, rest_after}
+use Rattle.dh_texts.specs.Numbers.{decimal_below}
 use Rattle.dh_redirects.specs.declared.redirect.RedirectKind.{RedirectKind}
 use Rattle.dh_redirects.specs.declared.redirect.RedirectKind.TheVariants.{Page, Exact, CleanToHtml, HtmlToClean}
 use Rattle.dh_redirects.specs.declared.redirect.Redirect.{Redirect}
@@ -59,6 +61,19 @@ has_texts Exact = true
 has_texts CleanToHtml = false
 has_texts HtmlToClean = false
 
+-- the kind that a word names, and the number that the digits of a status write
+
+abbrev pub redirect_kind_of : List ℕ → Option RedirectKind
+redirect_kind_of text =
+    if bytes_eq text (codes "page") then Some Page
+    else if bytes_eq text (codes "exact") then Some Exact
+    else if bytes_eq text (codes "clean-to-html") then Some CleanToHtml
+    else if bytes_eq text (codes "html-to-clean") then Some HtmlToClean
+    else None
+
+abbrev pub redirect_status_of : List ℕ → Option ℕ
+redirect_status_of text = decimal_below (2 ^ 16) text
+
 -- whether a redirect has this fault
 abbrev pub has_fault : Redirect → BadRedirect → Bool
 has_fault r BadSource = has_texts r.kind && not (is_path r.source && is_short_text r.source)
@@ -82,3 +97,43 @@ fault_number = elim [
   | BadStatus ↦ 5
   | UnusedText ↦ 6
 ]
+
+-- ---- two redirects
+
+abbrev pub same_redirect_kind : RedirectKind → RedirectKind → Bool
+same_redirect_kind Page Page = true
+same_redirect_kind Exact Exact = true
+same_redirect_kind CleanToHtml CleanToHtml = true
+same_redirect_kind HtmlToClean HtmlToClean = true
+same_redirect_kind _ _ = false
+
+abbrev pub same_force : Bool → Bool → Bool
+same_force true b = b
+same_force false b = not b
+
+-- all five fields are equal
+abbrev pub same_redirect : Redirect → Redirect → Bool
+same_redirect a b =
+    same_redirect_kind a.kind b.kind && a.status == b.status && same_force a.force b.force
+    && bytes_eq a.source b.source && bytes_eq a.target b.target
+
+-- ---- redirects of old lists
+
+-- what stands at the end of an old From for any rest
+abbrev pub old_rest : List ℕ
+old_rest = codes "$rest"
+
+-- what stands before it, where From ends so
+abbrev pub before_rest : List ℕ → Option (List ℕ)
+before_rest source =
+    let front = take (length source - length old_rest) source in
+    if bytes_eq source (front ++ old_rest) then Some front else None
+
+-- a `*` follows what stands before the rest, and To gets `:splat` at its end
+abbrev pub with_rest : Redirect → Option (List ℕ) → Redirect
+with_rest r None = r
+with_rest r (Some front) = record r { source = front ++ codes "*"; target = r.target ++ splat }
+
+-- a redirect of an old list as it is written now: one whose From has no rest at its end stays as it was
+abbrev pub from_old : Redirect → Redirect
+from_old r = with_rest r (before_rest r.source)

@@ -418,6 +418,7 @@ wrote old new (Insert at from) text ps n it h = h
 wrote old new (InsertOr at how from clauses) text ps n it h = h
 wrote old new (Delete at q) text ps n it h = h
 wrote old new CreateTable text ps n it h = h
+wrote old new (DropTable at) text ps n it h = h
 wrote old new _ text ps n it h = absurd it
 
 module _ {S : Type 0} (g : Ghosts S) (old new : Held S) (sql : List ℕ) (params : Row) where

@@ -152,7 +152,7 @@ counts_kept schema new plain fine = settled (list_any (λ t. t.is_counted) schem
         there (Some t) stands = rw (position_kept (λ t. same_name t.name (codes "sqlite_sequence")) 0 at schema.tables (record new { tree = next_tree schema } ∷ []) is, slice_kept schema.tables (record new { tree = next_tree schema } ∷ []) at t stands) (either_false (list_any (λ t. t.is_counted) (created schema new).tables))
     settled true some None is = absurd (true≢false (sym (rw (some, is) refl) ∙ fine))
 
-row_kept : (tables : List Table) (at : ℕ) (table : Table) (old new : Trees) → slice_get tables at ≡ Some table → KeepsRows tables old new → new table.tree ≡ old table.tree
+pub row_kept : (tables : List Table) (at : ℕ) (table : Table) (old new : Trees) → slice_get tables at ≡ Some table → KeepsRows tables old new → new table.tree ≡ old table.tree
 row_kept [] at table old new e keeps = absurd (cc)
 row_kept (t ∷ ts) zero table old new e keeps = let same : t ≡ table = cc in subst (λ (u : Table). new u.tree ≡ old u.tree) same keeps.0
 row_kept (t ∷ ts) (suc at) table old new e keeps = row_kept ts at table old new e keeps.1
@@ -193,7 +193,7 @@ module _ {A : Type 0} (test : A → Bool) where
       go true rec e = absurd (cc)
       go false rec e = rec e
 
-tree_is : (schema : Schema) (name : List ℕ) (at : ℕ) (table : Table) → HasTable schema name at table → tree_of schema name ≡ table.tree
+pub tree_is : (schema : Schema) (name : List ℕ) (at : ℕ) (table : Table) → HasTable schema name at table → tree_of schema name ≡ table.tree
 tree_is schema name at table has = rw (has.named, has.stands) refl
 
 module _ (schema : Schema) (t : Table) (unmentioned : IsUnmentioned schema t.name) (plain : t.references ≡ []) where

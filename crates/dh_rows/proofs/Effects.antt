@@ -138,7 +138,7 @@ row_kept next db (t ∷ ts) tree zero other e apart all = let same : t ≡ other
 row_kept next db (t ∷ ts) tree (suc place) other e apart all = row_kept next db ts tree place other e apart all.1
 
 -- two tables of other names have other trees
-trees_apart : (schema : Schema) (t u : Table) → Stands schema t → Stands schema u → same_name u.name t.name ≡ false → tree_of schema u.name ≢ tree_of schema t.name
+pub trees_apart : (schema : Schema) (t u : Table) → Stands schema t → Stands schema u → same_name u.name t.name ≡ false → tree_of schema u.name ≢ tree_of schema t.name
 trees_apart schema t u s v apart e =
     let both : Some (table_in schema u) ≡ Some (table_in schema t) = sym v.has.found ∙ ap (λ tree. find (λ x. x.tree == tree) schema.tables) e ∙ s.has.found in
     let same : table_in schema u ≡ table_in schema t = cc in

@@ -14,6 +14,7 @@ pub mod Equal
 pub mod Indexes
 pub mod Replaced
 pub mod Create
+pub mod Drop
 pub mod Upsert
 pub mod Asks
 pub mod Whole

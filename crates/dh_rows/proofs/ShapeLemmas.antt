@@ -71,7 +71,7 @@ first_by one other (y ∷ ys) x e h all = go (one y) refl (other y) refl (λ f. 
     go false is true also rec f = absurd (true≢false (sym (all.0 also) ∙ is))
     go false is false also rec f = rec f
 
-found : {A : Type 0} (test : A → Bool) (xs : List A) (at : ℕ) (x : A) → position_from test 0 xs ≡ Some at → slice_get xs at ≡ Some x → find test xs ≡ Some x
+pub found : {A : Type 0} (test : A → Bool) (xs : List A) (at : ℕ) (x : A) → position_from test 0 xs ≡ Some at → slice_get xs at ≡ Some x → find test xs ≡ Some x
 found test xs at x e f = find_at test xs ∙ ap (slice_get xs) (go (ltb (position_or_len test xs) (length xs)) (position_from-zero test xs ∙ e)) ∙ f
   where
     go : (b : Bool) → cond b (Some (position_or_len test xs)) None ≡ Some at → position_or_len test xs ≡ at

@@ -3,7 +3,7 @@ use Rattle.std.specs.Prelude.{◌≡◌, ◌⊎◌, ℕ, ◌≤◌, Bool, true, 
 use Rattle.sqlite_disk.specs.Disk.{MoreFaults}
 use Rattle.sqlite_value.specs.Order.{Row}
 use Rattle.sqlite_schema.specs.declared.command.Command.{Command}
-use Rattle.sqlite_schema.specs.declared.command.Command.TheVariants.{Insert, InsertOr, Delete, CreateTable, Nothing}
+use Rattle.sqlite_schema.specs.declared.command.Command.TheVariants.{Insert, InsertOr, Delete, CreateTable, DropTable, Nothing}
 use Rattle.sqlite_resolve.specs.declared.compiled.Compiled.{Compiled}
 use Rattle.sqlite_resolve.specs.declared.error.CompileError.{CompileError}
 use Rattle.sqlite_trees.specs.Tree.{Trees}
@@ -29,12 +29,13 @@ abbrev pub statement_of : List ℕ → Result Compiled CompileError → List ℕ
 statement_of sql (Ok c) = text_of sql c
 statement_of sql (Err e) = []
 
--- INSERT, DELETE or CREATE TABLE
+-- INSERT, DELETE, CREATE TABLE or DROP TABLE
 abbrev pub IsEdit : Command → Type 0
 IsEdit (Insert at from) = ⊤
 IsEdit (InsertOr at how from clauses) = ⊤
 IsEdit (Delete at q) = ⊤
 IsEdit CreateTable = ⊤
+IsEdit (DropTable at) = ⊤
 IsEdit _ = ⊥
 
 -- the statement of this meaning, run on what the connection sees, makes this sound database
@@ -48,7 +49,7 @@ Edits s sql params after = EditsAs s sql params after (understood s.now.schema s
 abbrev pub IsPlainText : State → List ℕ → Type 0
 IsPlainText s sql = IsPlain (understood s.now.schema sql)
 
--- the text is an INSERT, a DELETE or a CREATE TABLE
+-- the text is an INSERT, a DELETE, a CREATE TABLE or a DROP TABLE
 abbrev pub IsEditText : State → List ℕ → Type 0
 IsEditText s sql = IsEdit (command_of (understood s.now.schema sql))
 
@@ -300,7 +301,7 @@ module _ {S : Type 0} (g : Ghosts S) where
     -- one that was refused left all as it was, or undid the transaction
     pub err : Refuses whole old new result
 
-  -- What an INSERT, a DELETE or a CREATE TABLE leaves, whatever it answers.
+  -- What an INSERT, a DELETE, a CREATE TABLE or a DROP TABLE leaves, whatever it answers.
   pub record OnlyEdits (old new : Held S) (sql : List ℕ) (params : Row) {E : Type 0} (result : Result (Unit {0}) E) : Type 0 where
     -- within a transaction nothing is committed, and a crash leaves nothing more
     pub goes : GoesWithin old new

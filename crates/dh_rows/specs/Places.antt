@@ -43,6 +43,11 @@ pub record IsFree (schema : Schema) (name : List ℕ) : Type 0 where
   pub indexes : index_named schema name ≡ None
   pub views : view_named schema name ≡ None
 
+-- the name is of no index and no view
+pub record IsUnshared (schema : Schema) (name : List ℕ) : Type 0 where
+  pub indexes : index_named schema name ≡ None
+  pub views : view_named schema name ≡ None
+
 -- the name is of the table at this place, which alone has its tree
 pub record HasTable (schema : Schema) (name : List ℕ) (at : ℕ) (table : Table) : Type 0 where
   pub named : table_named schema name ≡ Some at

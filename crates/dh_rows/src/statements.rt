@@ -55,7 +55,7 @@ pub fn rollback<S: Alter>(conn: &mut Connection<S>) -> Result<(), Fault>
     run(conn, "ROLLBACK", &[])
 }
 
-/// Runs one INSERT, DELETE or CREATE TABLE.
+/// Runs one INSERT, DELETE, CREATE TABLE or DROP TABLE.
 pub fn change<S: Alter>(
     conn: &mut Connection<S>,
     sql: &str,

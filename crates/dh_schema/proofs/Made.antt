@@ -207,11 +207,11 @@ number_read : (schema : Schema) (tree : ℕ) → insert_of schema (record meta_t
 unfolding everything
 number_read schema tree = refl
 
-pub number_writes : (s : State) → IsReady made_tables [] s.now → Writes s number_text (meta.encode 1) meta_table meta (added meta.key 1)
+pub number_writes : (s : State) → IsReady made_tables [] s.now → Writes s number_text (meta.encode 2) meta_table meta (added meta.key 2)
 number_writes s r =
     let m = r.standing.1.1.1.1.1.1.1.1.1.1.0 in
-    insert meta_table meta_simple meta_plain meta s (bare meta meta_table s.now m.0 m.1) number_text _ _ (number_read _ _) 1 (λ n. refl) (tt, tt) refl
-    (subst (λ rows. AllByRecursion (λ y. Rattle.dh_rows.specs.Keyed.same_key meta.key 1 y ≡ false) (records meta rows)) (sym m.1) tt)
+    insert meta_table meta_simple meta_plain meta s (bare meta meta_table s.now m.0 m.1) number_text _ _ (number_read _ _) 2 (λ n. refl) (tt, tt) refl
+    (subst (λ rows. AllByRecursion (λ y. Rattle.dh_rows.specs.Keyed.same_key meta.key 2 y ≡ false) (records meta rows)) (sym m.1) tt)
 
 -- a table with no row stays so
 stays_bare : {X : Type 0} {change : List ℕ → List ℕ} {db after : Database} → Turns meta_table meta change db after → (c : Coding X) (t : Table) → Stands db.schema t × (rows_of db t.name ≡ []) → same_name t.name meta_table.name ≡ false → Keeps t c after × (records_of c t.name after ≡ [])
@@ -220,7 +220,7 @@ stays_bare {db = db} it c t r apart = let o = other_keeps it t c (bare c t db r.
 none_typed : AreTyped no_lists
 none_typed = record { projects = tt; langs = tt; versions = tt; pages = tt; used = tt; picks = tt; passes = tt; held = tt; rules = tt; redirects = tt }
 
-pub number_makes : (s : State) → IsReady made_tables [] s.now → (after : Database) → Edits s number_text (meta.encode 1) after → IsMade after
+pub number_makes : (s : State) → IsReady made_tables [] s.now → (after : Database) → Edits s number_text (meta.encode 2) after → IsMade after
 number_makes s r after edits =
     let it = (number_writes s r).turns after edits in
     let m = r.standing.1.1.1.1.1.1.1.1.1.1.0 in
@@ -236,7 +236,7 @@ number_makes s r after edits =
     let holds_kept = stays_bare it held holds_table r.standing.0 are_apart.1.1.1.1.1.1.1.1.1.0 in
     let none : lists_of after ≡ no_lists = λ i. record { projects = project_kept.1 i; langs = lang_kept.1 i; versions = version_kept.1 i; pages = page_kept.1 i; used = used_kept.1 i; picks = pick_kept.1 i; passes = pass_kept.1 i; held = holds_kept.1 i; rules = rule_kept.1 i; redirects = redirect_kept.1 i } in
     record {
-      holds = record { meta = it.keeps; number = it.records ∙ ap (λ rows. added meta.key 1 (records meta rows)) m.1; projects = project_kept.0; langs = lang_kept.0; versions = version_kept.0; pages = page_kept.0; used = used_kept.0; picks = pick_kept.0; passes = pass_kept.0; held = holds_kept.0; rules = rule_kept.0; redirects = redirect_kept.0; typed = subst AreTyped (sym none) none_typed };
+      holds = record { meta = it.keeps; number = it.records ∙ ap (λ rows. added meta.key 2 (records meta rows)) m.1; projects = project_kept.0; langs = lang_kept.0; versions = version_kept.0; pages = page_kept.0; used = used_kept.0; picks = pick_kept.0; passes = pass_kept.0; held = holds_kept.0; rules = rule_kept.0; redirects = redirect_kept.0; typed = subst AreTyped (sym none) none_typed };
       empty = none;
     }
 

@@ -1,5 +1,5 @@
 -- Our tables in the words of `dh_rows`: their columns are plain, and what is read of a row is what was kept.
-use Rattle.std.proofs.Common.{◌≡◌, ℤ, ◌∷◌, Bool, true, false, cond, refl}
+use Rattle.std.proofs.Common.{◌≡◌, ℕ, ℤ, Option, Some, None, ◌∷◌, Bool, true, false, cond, refl}
 use Rattle.sqlite_value.specs.declared.value.Value.TheVariants.{Int}
 use Rattle.dh_versions.specs.declared.version.Kind.{Kind}
 use Rattle.dh_versions.specs.declared.version.Kind.TheVariants.{Branch, Tag}
@@ -26,7 +26,7 @@ use Rattle.dh_records.specs.declared.records.PassRow.{PassRow}
 use Rattle.dh_records.specs.declared.records.HeldRow.{HeldRow}
 use Rattle.dh_records.specs.declared.records.RuleRow.{RuleRow}
 use Rattle.dh_records.specs.declared.records.RedirectRow.{RedirectRow}
-use Rattle.dh_records.specs.Codings.{is_tag, action_number, stored_action, stored_pattern, kind_number, stored_kind}
+use Rattle.dh_records.specs.Codings.{is_tag, end_number, end_in, action_number, stored_action, stored_pattern, kind_number, stored_kind}
 use Rattle.dh_records.specs.Codings.{projects, langs, versions, pages, used, picks, passes, held, rules, redirects}
 use Rattle.dh_schema.specs.Tables.{project_table, lang_table, version_table, page_table, used_table, pick_table, pass_table, holds_table, rule_table, redirect_table}
 
@@ -61,6 +61,10 @@ redirect_kind_back Page = refl
 redirect_kind_back Exact = refl
 redirect_kind_back CleanToHtml = refl
 redirect_kind_back HtmlToClean = refl
+
+pub end_back : (until : Option ℕ) → end_in (Int (end_number until)) ≡ until
+end_back None = refl
+end_back (Some end) = refl
 
 -- ---- project
 
@@ -134,10 +138,10 @@ pub pass_simple : IsSimple pass_table
 pass_simple = refl
 
 pub pass_plain : ArePlain pass_table.columns
-pass_plain = ((refl, refl), ((refl, refl), tt))
+pass_plain = ((refl, refl), ((refl, refl), ((refl, refl), tt)))
 
 pub pass_back : (x : PassRow) (n : ℤ) → passes.decode (Int n ∷ passes.encode x) ≡ x
-pass_back x n = refl
+pass_back x n = rw (end_back x.until) refl
 
 -- ---- holds
 

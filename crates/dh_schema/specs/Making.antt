@@ -72,7 +72,7 @@ table_texts =
     codes "CREATE TABLE page (host TEXT NOT NULL, slug TEXT NOT NULL, lang TEXT NOT NULL, path TEXT NOT NULL, media TEXT NOT NULL, body BLOB NOT NULL, PRIMARY KEY (host, slug, lang, path)) STRICT" ∷
     codes "CREATE TABLE used (host TEXT NOT NULL, slug TEXT NOT NULL, op INTEGER NOT NULL, retry TEXT NOT NULL, answer TEXT NOT NULL, PRIMARY KEY (host, slug, op, retry)) STRICT" ∷
     codes "CREATE TABLE pick (host TEXT NOT NULL, name TEXT NOT NULL, rank INTEGER NOT NULL, PRIMARY KEY (host, name)) STRICT" ∷
-    codes "CREATE TABLE pass (host TEXT NOT NULL, pass TEXT NOT NULL, PRIMARY KEY (host, pass)) STRICT" ∷
+    codes "CREATE TABLE pass (host TEXT NOT NULL, pass TEXT NOT NULL, until INTEGER NOT NULL, PRIMARY KEY (host, pass)) STRICT" ∷
     codes "CREATE TABLE holds (host TEXT NOT NULL, pass TEXT NOT NULL, slug TEXT NOT NULL, PRIMARY KEY (host, pass, slug)) STRICT" ∷
     []
 

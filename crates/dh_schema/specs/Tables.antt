@@ -52,7 +52,7 @@ abbrev pub pick_table : Table
 pick_table = keyed_table (codes "pick") (1 ∷ 2 ∷ []) (text (codes "host") ∷ text (codes "name") ∷ integer (codes "rank") ∷ [])
 
 abbrev pub pass_table : Table
-pass_table = keyed_table (codes "pass") (1 ∷ 2 ∷ []) (text (codes "host") ∷ text (codes "pass") ∷ [])
+pass_table = keyed_table (codes "pass") (1 ∷ 2 ∷ []) (text (codes "host") ∷ text (codes "pass") ∷ integer (codes "until") ∷ [])
 
 abbrev pub holds_table : Table
 holds_table = keyed_table (codes "holds") (1 ∷ 2 ∷ 3 ∷ []) (text (codes "host") ∷ text (codes "pass") ∷ text (codes "slug") ∷ [])
@@ -77,10 +77,10 @@ lists_of db = record {
 }
 
 -- The database has our tables, among those of others, and each of their rows stands for a record
--- that can be read again; the schema's number is 1.
+-- that can be read again; the schema's number is 2.
 pub record Holds (db : Database) : Type 0 where
   pub meta : Keeps meta_table Rattle.dh_schema.specs.Tables.meta db
-  pub number : records_of Rattle.dh_schema.specs.Tables.meta (codes "meta") db ≡ 1 ∷ []
+  pub number : records_of Rattle.dh_schema.specs.Tables.meta (codes "meta") db ≡ 2 ∷ []
   pub projects : Keeps project_table coding.projects db
   pub langs : Keeps lang_table coding.langs db
   pub versions : Keeps version_table coding.versions db

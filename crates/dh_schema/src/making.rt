@@ -24,7 +24,7 @@ const TABLES: [&str; 11] = [
     "CREATE TABLE page (host TEXT NOT NULL, slug TEXT NOT NULL, lang TEXT NOT NULL, path TEXT NOT NULL, media TEXT NOT NULL, body BLOB NOT NULL, PRIMARY KEY (host, slug, lang, path)) STRICT",
     "CREATE TABLE used (host TEXT NOT NULL, slug TEXT NOT NULL, op INTEGER NOT NULL, retry TEXT NOT NULL, answer TEXT NOT NULL, PRIMARY KEY (host, slug, op, retry)) STRICT",
     "CREATE TABLE pick (host TEXT NOT NULL, name TEXT NOT NULL, rank INTEGER NOT NULL, PRIMARY KEY (host, name)) STRICT",
-    "CREATE TABLE pass (host TEXT NOT NULL, pass TEXT NOT NULL, PRIMARY KEY (host, pass)) STRICT",
+    "CREATE TABLE pass (host TEXT NOT NULL, pass TEXT NOT NULL, until INTEGER NOT NULL, PRIMARY KEY (host, pass)) STRICT",
     "CREATE TABLE holds (host TEXT NOT NULL, pass TEXT NOT NULL, slug TEXT NOT NULL, PRIMARY KEY (host, pass, slug)) STRICT",
 ];
 
@@ -62,7 +62,7 @@ fn number<S: Alter>(conn: &mut Connection<S>) -> Result<(), Fault>
         → IsReady made_tables [] (state S.Store conn.old).now }
     ensures builds { BuildsOne S.Store conn.old conn.new result IsMade }
 {
-    change(conn, "INSERT INTO meta VALUES (?1)", params![1i64])
+    change(conn, "INSERT INTO meta VALUES (?1)", params![2i64])
 }
 
 /// Makes the tables, with no record in them.

@@ -218,9 +218,9 @@ pub picks_asked : (s : State) (host : List ℕ) → AsksFor picks.encode IsPick 
 picks_asked s host = asks of_picks s picks_text _ _ _ _ picks_is refl (is_pick_of host) (λ n x. rw (equal_text x.host host) (one (bytes_eq x.host host))) (λ tree n x. refl) (λ x y. refl)
 
 abbrev pub pass_text : List ℕ
-pass_text = codes "SELECT host, pass FROM pass WHERE host = ?1 AND pass = ?2 ORDER BY host, pass"
+pass_text = codes "SELECT host, pass, until FROM pass WHERE host = ?1 AND pass = ?2 ORDER BY host, pass"
 
-pass_is : (select_of pass_table pass_text ≡ Some (0 ∷ 1 ∷ [], (0, 0) ∷ (1, 1) ∷ [], 0 ∷ 1 ∷ [])) × (parameters_in pass_text ≡ Some 2)
+pass_is : (select_of pass_table pass_text ≡ Some (0 ∷ 1 ∷ 2 ∷ [], (0, 0) ∷ (1, 1) ∷ [], 0 ∷ 1 ∷ [])) × (parameters_in pass_text ≡ Some 2)
 unfolding everything
 pass_is = (refl, refl)
 
@@ -228,9 +228,9 @@ pub pass_asked : (s : State) (host pass : List ℕ) → AsksFor passes.encode Is
 pass_asked s host pass = asks of_passes s pass_text _ _ _ _ pass_is refl (is_pass host pass) (λ n x. rw (equal_text x.host host, equal_text x.pass pass) (two (bytes_eq x.host host) (bytes_eq x.pass pass))) (λ tree n x. refl) (λ x y. refl)
 
 abbrev pub passes_text : List ℕ
-passes_text = codes "SELECT host, pass FROM pass WHERE host = ?1 ORDER BY host, pass"
+passes_text = codes "SELECT host, pass, until FROM pass WHERE host = ?1 ORDER BY host, pass"
 
-passes_is : (select_of pass_table passes_text ≡ Some (0 ∷ 1 ∷ [], (0, 0) ∷ [], 0 ∷ 1 ∷ [])) × (parameters_in passes_text ≡ Some 1)
+passes_is : (select_of pass_table passes_text ≡ Some (0 ∷ 1 ∷ 2 ∷ [], (0, 0) ∷ [], 0 ∷ 1 ∷ [])) × (parameters_in passes_text ≡ Some 1)
 unfolding everything
 passes_is = (refl, refl)
 
@@ -264,14 +264,14 @@ add_pick_ranked s had x typed rank e free =
     subst (λ n. Alters s add_pick_text (Text x.host ∷ Text x.name ∷ Int n ∷ []) (change.add_pick x)) (sym e) (add_pick_alters s had x typed free)
 
 abbrev pub add_pass_text : List ℕ
-add_pass_text = codes "INSERT INTO pass VALUES (?1, ?2)"
+add_pass_text = codes "INSERT INTO pass VALUES (?1, ?2, ?3)"
 
-add_pass_read : (schema : Schema) (tree : ℕ) → insert_of schema (record pass_table { tree = tree }) add_pass_text ≡ Some (lit Null ∷ col 0 0 ∷ col 0 1 ∷ [], 3)
+add_pass_read : (schema : Schema) (tree : ℕ) → insert_of schema (record pass_table { tree = tree }) add_pass_text ≡ Some (lit Null ∷ col 0 0 ∷ col 0 1 ∷ col 0 2 ∷ [], 4)
 unfolding everything
 add_pass_read schema tree = refl
 
 pub add_pass_alters : (s : State) → Holds s.now → (x : PassRow) → IsPass x → IsFreeKey passes.key x (lists_of s.now).passes → Alters s add_pass_text (passes.encode x) (change.add_pass x)
-add_pass_alters s had x typed free = inserts of_passes s had x typed add_pass_text _ _ add_pass_read (tt, (tt, tt)) refl free
+add_pass_alters s had x typed free = inserts of_passes s had x typed add_pass_text _ _ add_pass_read (tt, (tt, (tt, tt))) refl free
 
 abbrev pub add_grant_text : List ℕ
 add_grant_text = codes "INSERT INTO holds VALUES (?1, ?2, ?3)"

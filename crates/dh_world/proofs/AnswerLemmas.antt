@@ -14,7 +14,7 @@ use Rattle.serde_json.specs.Read.{read, of_json, max_depth}
 use Rattle.serde_json.specs.Written.{compact_text, outline}
 use Rattle.dh_texts.specs.Texts.{is_slug}
 use Rattle.dh_world.specs.declared.answer.Answer.{Answer}
-use Rattle.dh_world.specs.declared.answer.Answer.TheVariants.{Done, Made, Known, Stored}
+use Rattle.dh_world.specs.declared.answer.Answer.TheVariants.{Done, Made, Known, Stored, Added}
 use Rattle.dh_world.specs.Answers.{IsAnswer, json_of, answer_in, answer_of}
 use Rattle.serde_json.proofs.Texts.{print-outline}
 use Rattle.serde_json.proofs.Numbers.{number_of-decimal}
@@ -63,6 +63,7 @@ few_pass n h = rw (lt-ltb n (2 ^ 32) h) refl
 -- what was written is told again
 pub told_again : (a : Answer) (text : List ℕ) → IsAnswer a → json_of a ≡ Some text → answer_of text ≡ Some a
 told_again Done text is e = absurd (cc)
+told_again (Added count) text is e = absurd (cc)
 told_again (Made slug x y z) text is e = ap answer_of (sym (told e)) ∙ ap (option_and_then answer_in) (made_reads slug x y z) ∙ rw (slug_passes slug is) refl
 told_again (Known slug) text is e = ap answer_of (sym (told e)) ∙ ap (option_and_then answer_in) (known_reads slug) ∙ rw (slug_passes slug is) refl
 told_again (Stored n) text is e = ap answer_of (sym (told e)) ∙ ap (option_and_then answer_in) (stored_reads n (omega arith)) ∙ rw (few_pass n is) refl

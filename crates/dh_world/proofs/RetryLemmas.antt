@@ -1,6 +1,6 @@
 -- What is kept under a retry key stays kept, and is answered again.
 use Rattle.std.proofs.Common.{◌≡◌, ◌&&◌, not, Bool, true, false, cond, length, List, [], ◌∷◌, Option, Some, None, is_some, Result, Ok, Err, ◌⊎◌, inl, inr, refl, sym, ap, ◌∙◌, subst}
-use Rattle.std.specs.Prelude.{nat_lt, option_map, option_and_then}
+use Rattle.std.specs.Prelude.{nat_le, nat_lt, option_map, option_and_then}
 use Rattle.std.specs.Str.{bytes_eq}
 use Rattle.std.specs.Ordering.{eq_by_cmp, is_eq}
 use Rattle.std.specs.Cmp.{Equal-is}
@@ -23,7 +23,7 @@ use Rattle.dh_world.specs.declared.refusal.Refusal.TheVariants.{WrongKey, NoProj
 use Rattle.dh_world.specs.World.{Text, text_cmp, UsedKey, used_cmp, Project, World}
 use Rattle.dh_world.specs.WrongTexts.{bad_text}
 use Rattle.dh_world.specs.Seen.{is_alias}
-use Rattle.dh_world.specs.Changes.{Change, change, opened, has_lang, set_to, with_rules, with_redirects, fresh, with_fresh, stored, once, at_version, at_pass, pushed, push_key, uploaded, upload_key}
+use Rattle.dh_world.specs.Changes.{Change, change, opened, has_lang, with_new, set_to, with_rules, with_redirects, fresh, with_fresh, stored, once, at_version, at_pass, pushed, push_key, uploaded, upload_key}
 use Rattle.dh_world.specs.Step.{change_at, settled, after_texts, step}
 use Rattle.dh_world.specs.Retries.{retry_key, write_key, write_key_at, kept, left_by, after}
 use Rattle.dh_world.proofs.MapLemmas.{text_total, used_total, used_exact, get_back, put_same}
@@ -209,7 +209,11 @@ sort_of (change.AddRule place rule) = inl (refl, λ p. sets p (with_rules p) (λ
 sort_of (change.DropRule place) = inl (refl, λ p. sets p (with_rules p) (λ _. done p _ _ refl refl) _)
 sort_of (change.AddRedirect place redirect) = inl (refl, λ p. sets p (with_redirects p) (λ _. done p _ _ refl refl) _)
 sort_of (change.DropRedirect place) = inl (refl, λ p. sets p (with_redirects p) (λ _. done p _ _ refl refl) _)
-sort_of (change.AddPass pass) = inl (
+sort_of (change.ImportRedirects list) = inl (
+  refl,
+  λ p. by_test (Leaves p None) (nat_le (length (with_new list p.redirects)) 100) _ _ (done p _ _ refl refl) (refuses (Leaves p None) _),
+)
+sort_of (change.AddPass pass until) = inl (
   refl,
   λ p.
       by_test (Leaves p None) (contains_key p.passes pass) _ _ (refuses (Leaves p None) _)

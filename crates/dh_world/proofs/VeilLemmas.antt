@@ -12,7 +12,7 @@ use Rattle.dh_lookup.specs.declared.seen_project.SeenProject.{SeenProject}
 use Rattle.dh_lookup.specs.SeenProject.{resolved}
 use Rattle.dh_world.specs.declared.caller.Caller.{Caller}
 use Rattle.dh_world.specs.World.{Text, text_cmp, Project, World}
-use Rattle.dh_world.specs.Visibility.{holds, may_see, is_visible}
+use Rattle.dh_world.specs.Visibility.{is_before, is_live, live_pass, holds, may_see, is_visible}
 use Rattle.dh_world.specs.Seen.{default_of, visible_versions, visible_pages, without_default, with_default, seen_project, seen, is_alias, is_own, is_seen_name, veiled, alone, veil}
 use Rattle.dh_world.proofs.MapLemmas.{tied_text, text_total, page_total, page_exact, held_exact}
 
@@ -43,26 +43,37 @@ module _ (p : Project) (c : Caller) (slug : Text) where
   visible_as o held = option_map_or (λ v. may_see v held) o false
 
   abbrev by : Option Text → Caller
-  by t = record { pass = t }
+  by t = record { pass = t; moment = c.moment }
 
-  still_held : is_visible p c slug ≡ true → holds (veiled p c) c.pass slug ≡ holds p c.pass slug
-  still_held e = go c.pass e
+  -- the caller's own pass is kept with its end, so it is live where it was
+  still_live : live_pass (veiled p c) c ≡ live_pass p c
+  still_live = go c.pass
     where
-      go : (t : Option Text) → is_visible p (by t) slug ≡ true → holds (veiled p (by t)) t slug ≡ holds p t slug
+      go : (t : Option Text) → live_pass (veiled p (by t)) (by t) ≡ live_pass p (by t)
+      go None = refl
+      go (Some t) = ap (λ end. cond (option_map_or (is_before c.moment) end false) (Some t) None) (get_passing exact_bytes p.passes (is_own (Some t)) t (own_pass t))
+
+  -- and it holds the visible versions that it held
+  still_held : is_visible p c slug ≡ true → holds (veiled p c) (live_pass (veiled p c) c) slug ≡ holds p (live_pass p c) slug
+  still_held e = ap (λ t. holds (veiled p c) t slug) still_live ∙ go c.pass e
+    where
+      go : (t : Option Text) → is_visible p (by t) slug ≡ true → holds (veiled p (by t)) (live_pass p (by t)) slug ≡ holds p (live_pass p (by t)) slug
       go None e = refl
-      go (Some t) e = λ i.
-          is_some (get_passing exact_bytes p.passes (is_own (Some t)) t (own_pass t) i)
-          && is_some (get_passing held_exact p.held (λ key. is_own (Some t) key.0 && is_visible p (by (Some t)) key.1) (t, slug) (ap (λ b. b && is_visible p (by (Some t)) slug) (own_pass t) ∙ e) i)
+      go (Some t) e = if_live (is_live p c.moment t)
+        where
+          if_live : (live : Bool) → holds (veiled p (by (Some t))) (cond live (Some t) None) slug ≡ holds p (cond live (Some t) None) slug
+          if_live false = refl
+          if_live true = ap is_some (get_passing held_exact p.held (λ key. is_own (Some t) key.0 && is_visible p (by (Some t)) key.1) (t, slug) (ap (λ b. b && is_visible p (by (Some t)) slug) (own_pass t) ∙ e))
 
   same_visible : is_visible (veiled p c) c slug ≡ is_visible p c slug
   same_visible = go (is_visible p c slug) refl
     where
       go : (b : Bool) → is_visible p c slug ≡ b → is_visible (veiled p c) c slug ≡ b
       go true e =
-          ap (λ o. visible_as o (holds (veiled p c) c.pass slug)) (get_passing exact_bytes p.versions (is_visible p c) slug e)
+          ap (λ o. visible_as o (holds (veiled p c) (live_pass (veiled p c) c) slug)) (get_passing exact_bytes p.versions (is_visible p c) slug e)
           ∙ ap (visible_as (get p.versions slug)) (still_held e) ∙ e
       go false e =
-          ap (λ o. visible_as o (holds (veiled p c) c.pass slug)) (get_retained exact_bytes p.versions (is_visible p c) slug ∙ ap (λ b. cond b (get p.versions slug) None) e)
+          ap (λ o. visible_as o (holds (veiled p c) (live_pass (veiled p c) c) slug)) (get_retained exact_bytes p.versions (is_visible p c) slug ∙ ap (λ b. cond b (get p.versions slug) None) e)
 
 -- ---- the same is seen
 

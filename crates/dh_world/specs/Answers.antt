@@ -8,20 +8,22 @@ use Rattle.serde_json.specs.Read.{read}
 use Rattle.serde_json.specs.Written.{compact_text}
 use Rattle.dh_texts.specs.Texts.{is_slug}
 use Rattle.dh_world.specs.declared.answer.Answer.{Answer}
-use Rattle.dh_world.specs.declared.answer.Answer.TheVariants.{Done, Made, Known, Stored}
+use Rattle.dh_world.specs.declared.answer.Answer.TheVariants.{Done, Made, Known, Stored, Added}
 use Rattle.dh_world.specs.declared.operation.Operation.{Operation}
 use Rattle.dh_world.specs.declared.operation.Operation.TheVariants.{Push, Upload}
 
--- its slug is one, its count of pages fits 32 bits
+-- its slug is one, its count fits 32 bits
 abbrev pub IsAnswer : Answer → Type 0
 IsAnswer Done = Unit {0}
 IsAnswer (Made slug active hidden private) = IsTrue (is_slug slug)
 IsAnswer (Known slug) = IsTrue (is_slug slug)
 IsAnswer (Stored pages) = pages < 2 ^ 32
+IsAnswer (Added count) = count < 2 ^ 32
 
--- the answer as a JSON object, its keys in the order of their bytes; `Done` has none
+-- the answer as a JSON object, its keys in the order of their bytes; those of commands that have no retry key have none
 abbrev pub data_of : Answer → Option Data
 data_of Done = None
+data_of (Added count) = None
 data_of (Made slug active hidden private) = Some (object
     (member (codes "active") (boolean active) (member (codes "answer") (string (codes "made"))
     (member (codes "hidden") (boolean hidden) (member (codes "private") (boolean private)

@@ -11,15 +11,16 @@ use Rattle.dh_versions.specs.declared.version.Version.{Version}
 use Rattle.dh_rules.specs.Rules.{after_rules}
 use Rattle.dh_rules.specs.declared.rule.Fresh.{Fresh}
 use Rattle.dh_rules.specs.declared.rule.Rule.{Rule}
+use Rattle.dh_redirects.specs.Redirects.{same_redirect}
 use Rattle.dh_redirects.specs.declared.redirect.Redirect.{Redirect}
 use Rattle.dh_lookup.specs.declared.found.Page.{Page}
 use Rattle.dh_world.specs.declared.answer.Answer.{Answer}
-use Rattle.dh_world.specs.declared.answer.Answer.TheVariants.{Done, Made, Known, Stored}
+use Rattle.dh_world.specs.declared.answer.Answer.TheVariants.{Done, Made, Known, Stored, Added}
 use Rattle.dh_world.specs.declared.operation.Operation.TheVariants as operation
 use Rattle.dh_world.specs.World.{Text, Project, page_cmp, lies_under, UsedKey, op_code}
 use Rattle.dh_world.specs.Seen.{is_alias}
 use Rattle.dh_world.specs.declared.command.CommandChange.{CommandChange}
-use Rattle.dh_world.specs.declared.command.CommandChange.TheVariants.{NewProject, AddLang, Push, Upload, Activate, Deactivate, Hide, Unhide, Publish, MakePrivate, Gone, SetDefault, AddRule, DropRule, AddRedirect, DropRedirect, AddPass, DropPass, Grant, Revoke}
+use Rattle.dh_world.specs.declared.command.CommandChange.TheVariants.{NewProject, AddLang, Push, Upload, Activate, Deactivate, Hide, Unhide, Publish, MakePrivate, Gone, SetDefault, AddRule, DropRule, AddRedirect, DropRedirect, ImportRedirects, AddPass, DropPass, Grant, Revoke}
 use Rattle.dh_world.specs.declared.pages.UploadedPage.{UploadedPage}
 use Rattle.dh_world.specs.declared.property.Property.{Property}
 use Rattle.dh_world.specs.declared.property.Property.TheVariants as property
@@ -258,13 +259,29 @@ add_redirect place redirect p = set_to (with_redirects p) (added 100 place redir
 abbrev pub drop_redirect : ℕ → Project → Change
 drop_redirect place p = set_to (with_redirects p) (dropped place p.redirects)
 
+-- the redirects that are there, and then those of a list that are not, each once, in the order of the list
+abbrev pub with_new : List Redirect → List Redirect → List Redirect
+with_new [] there = there
+with_new (x ∷ xs) there =
+    with_new xs (if list_any (λ r. same_redirect r x) there then there else there ++ x ∷ [])
+
+-- these are the redirects, where they are at most 100; the answer is how many more they are
+abbrev pub imported : List Redirect → Project → Change
+imported all p =
+    if nat_le (length all) 100 then Ok (with_redirects p all, Added (length all - length p.redirects))
+    else Err TooMany
+
+-- the redirects of a list that are not there are added last
+abbrev pub import_redirects : List Redirect → Project → Change
+import_redirects list p = imported (with_new list p.redirects) p
+
 -- ---- passes
 
--- the pass is not there, there are fewer than 1,000: it is added, and holds nothing
-abbrev pub add_pass : Text → Project → Change
-add_pass pass p =
+-- the pass is not there, there are fewer than 1,000: it is added with its end, and holds nothing
+abbrev pub add_pass : Text → Option ℕ → Project → Change
+add_pass pass until p =
     if contains_key p.passes pass then Err PassTaken
-    else if nat_lt (len p.passes) 1000 then Ok (record p { passes = insert p.passes pass tt }, Done)
+    else if nat_lt (len p.passes) 1000 then Ok (record p { passes = insert p.passes pass until }, Done)
     else Err TooMany
 
 -- what follows where the project has the pass
@@ -308,7 +325,8 @@ change (AddRule place rule) p = add_rule place rule p
 change (DropRule place) p = drop_rule place p
 change (AddRedirect place redirect) p = add_redirect place redirect p
 change (DropRedirect place) p = drop_redirect place p
-change (AddPass pass) p = add_pass pass p
+change (ImportRedirects list) p = import_redirects list p
+change (AddPass pass until) p = add_pass pass until p
 change (DropPass pass) p = drop_pass pass p
 change (Grant pass slug) p = grant pass slug p
 change (Revoke pass slug) p = revoke pass slug p

@@ -1,5 +1,5 @@
 -- Whose project is asked for, and by whom.
-use Rattle.std.specs.Prelude.{Bool, true, false, if◌then◌else◌, Option, Some, None, Result, Err, option_and_then}
+use Rattle.std.specs.Prelude.{ℕ, Bool, true, false, if◌then◌else◌, Option, Some, None, Result, Err, option_and_then}
 use Rattle.dh_texts.specs.Texts.{is_host_name, is_token}
 use Rattle.dh_wire.specs.declared.reply.Reply.{Reply}
 use Rattle.dh_faults.specs.declared.fault.Fault.{Fault}
@@ -15,9 +15,9 @@ host_named name = if is_host_name name then Some name else None
 abbrev pub pass_named : Text → Option Text
 pass_named text = if is_token text then Some text else None
 
--- who shows this text as his pass, or none
-abbrev pub caller_named : Option Text → Caller
-caller_named shown = record { pass = option_and_then pass_named shown }
+-- who shows this text as his pass, or none, and reads at this moment
+abbrev pub caller_named : Option Text → ℕ → Caller
+caller_named shown moment = record { pass = option_and_then pass_named shown; moment = moment }
 
 -- whether the answer is a fault of the store
 abbrev pub is_unanswered : Result Reply Fault → Bool

@@ -1,7 +1,7 @@
 -- The numbers and names of refusals, and how checks stand one after the other.
 use Rattle.std.specs.Prelude.{ℕ, Bool, true, false, List, [], ◌∷◌, Option, Some, None, codes}
 use Rattle.dh_world.specs.declared.refusal.Refusal.{Refusal}
-use Rattle.dh_world.specs.declared.refusal.Refusal.TheVariants.{BadHost, BadLang, BadRef, BadPath, BadPage, BadPattern, BadRedirect, BadToken, BadKey, NoProject, ProjectTaken, WrongKey, LangTaken, NoLang, NoVersion, SlugTaken, Inactive, BadPlace, TooMany, PassTaken, NoPass, PatternRefused, Store, OutOfMemory}
+use Rattle.dh_world.specs.declared.refusal.Refusal.TheVariants.{BadHost, BadLang, BadRef, BadPath, BadPage, BadPattern, BadRedirect, BadToken, BadKey, NoProject, ProjectTaken, WrongKey, LangTaken, NoLang, NoVersion, SlugTaken, Inactive, BadPlace, TooMany, PassTaken, NoPass, PatternRefused, Store, OutOfMemory, BadUntil}
 
 abbrev pub number_of : Refusal → ℕ
 number_of = elim [
@@ -29,6 +29,7 @@ number_of = elim [
   | PatternRefused place ↦ 22
   | Store ↦ 23
   | OutOfMemory ↦ 24
+  | BadUntil ↦ 25
 ]
 
 abbrev pub name_of : Refusal → List ℕ
@@ -56,6 +57,7 @@ name_of NoPass = codes "NoPass"
 name_of (PatternRefused place) = codes "PatternRefused"
 name_of Store = codes "Store"
 name_of OutOfMemory = codes "OutOfMemory"
+name_of BadUntil = codes "BadUntil"
 
 -- the refusal, unless the test passes
 abbrev pub unless : Bool → Refusal → Option Refusal

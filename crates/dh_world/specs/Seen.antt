@@ -49,7 +49,7 @@ without_default languages branch versions pages redirects = record {
 abbrev pub with_default : SeenProject → List Text → SeenProject
 with_default p names = record p { «default» = default_of (λ name. is_some (resolved p name)) names }
 
--- the project as this caller sees it: no private version that his pass does not hold, no rank, pass, key or rule
+-- the project as this caller sees it: no private version that his live pass does not hold, no rank, pass, end of one, key or rule
 unfoldable pub seen_project : Project → Caller → SeenProject
 seen_project p caller = with_default (without_default p.languages p.branch (visible_versions p caller) (visible_pages p caller) p.redirects) p.defaults
 
@@ -66,7 +66,7 @@ is_own (Some pass) x = bytes_eq x pass
 abbrev pub is_seen_name : Project → Caller → Text → Bool
 is_seen_name p caller name = is_alias name || is_some (resolved (seen_project p caller) name)
 
--- What is left of a project that holds nothing but what this caller sees: the visible versions, their pages, the redirects, the defaults that he may see, and of the passes his own with the visible slugs that it holds.
+-- What is left of a project that holds nothing but what this caller sees: the visible versions, their pages, the redirects, the defaults that he may see, and of the passes his own, with its end and the visible slugs that it holds.
 abbrev pub veiled : Project → Caller → Project
 veiled p caller = record {
   languages = p.languages;

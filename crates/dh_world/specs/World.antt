@@ -72,7 +72,8 @@ pub record Project : Type 0 where
   pub pages : FinMap page_cmp Page
   -- slugs and names of aliases, the newest first
   pub defaults : List Text
-  pub passes : FinSet text_cmp
+  -- to each pass the second at which it ends, or none
+  pub passes : FinMap text_cmp (Option ℕ)
   -- a pass and the slug of a version that it opens
   pub held : FinSet held_cmp
   -- the first answer to each retry key

@@ -1,6 +1,7 @@
 -- The checks of a command that look at its texts alone, in the order of its arguments.
-use Rattle.std.specs.Prelude.{◌==◌, ℕ, Bool, not, ◌&&◌, nat_le, List, [], ◌∷◌, ◌++◌, length, Option, None, is_some, option_map}
+use Rattle.std.specs.Prelude.{◌==◌, ◌^◌, ℕ, Bool, true, not, ◌&&◌, nat_le, nat_lt, List, [], ◌∷◌, ◌++◌, length, Option, None, is_some, option_map}
 use Rattle.std.specs.List.{list_all, list_any}
+use Rattle.std.specs.Option.{option_map_or}
 use Rattle.std.specs.Str.{bytes_eq}
 use Rattle.dh_texts.specs.Texts.{is_within, first_byte, last_byte, is_host_name, is_lang, is_ref_name, is_slug, is_page_path, is_token}
 use Rattle.dh_texts.specs.SlugOfName.{slug_from}
@@ -11,10 +12,10 @@ use Rattle.dh_redirects.specs.declared.redirect.Redirect.{Redirect}
 use Rattle.dh_world.specs.World.{Text}
 use Rattle.dh_world.specs.declared.command.Command.{Command}
 use Rattle.dh_world.specs.declared.command.CommandChange.{CommandChange}
-use Rattle.dh_world.specs.declared.command.CommandChange.TheVariants.{NewProject, AddLang, Push, Upload, Activate, Deactivate, Hide, Unhide, Publish, MakePrivate, Gone, SetDefault, AddRule, DropRule, AddRedirect, DropRedirect, AddPass, DropPass, Grant, Revoke}
+use Rattle.dh_world.specs.declared.command.CommandChange.TheVariants.{NewProject, AddLang, Push, Upload, Activate, Deactivate, Hide, Unhide, Publish, MakePrivate, Gone, SetDefault, AddRule, DropRule, AddRedirect, DropRedirect, ImportRedirects, AddPass, DropPass, Grant, Revoke}
 use Rattle.dh_world.specs.declared.pages.UploadedPage.{UploadedPage}
 use Rattle.dh_world.specs.declared.refusal.Refusal.{Refusal}
-use Rattle.dh_world.specs.declared.refusal.Refusal.TheVariants.{BadHost, BadLang, BadRef, BadPath, BadPage, BadPattern, BadRedirect, BadToken, BadKey}
+use Rattle.dh_world.specs.declared.refusal.Refusal.TheVariants.{BadHost, BadLang, BadRef, BadPath, BadPage, BadPattern, BadRedirect, BadToken, BadKey, BadUntil}
 use Rattle.dh_world.specs.Refusals.{unless, or_else, first_of}
 
 -- 0x20 to 0x7E
@@ -75,6 +76,14 @@ bad_slug slug = unless (is_slug slug) BadRef
 abbrev pub bad_token : Text → Option Refusal
 bad_token token = unless (is_token token) BadToken
 
+-- a pass may end at this second
+abbrev pub is_end : ℕ → Bool
+is_end second = nat_lt second (2 ^ 63)
+
+-- of the end of a pass, where it has one
+abbrev pub bad_until : Option ℕ → Option Refusal
+bad_until until = unless (option_map_or is_end until true) BadUntil
+
 abbrev pub bad_retry_key : Text → Option Refusal
 bad_retry_key key = unless (is_token key) BadKey
 
@@ -93,6 +102,11 @@ bad_rule rule = unless (is_allowed rule.pattern) BadPattern
 -- the number of a redirect's first fault
 abbrev pub bad_redirect : Redirect → Option Refusal
 bad_redirect redirect = option_map (λ fault. BadRedirect (fault_number fault)) (first_fault redirect)
+
+-- of a list of redirects, the first fault of the first one that has any
+abbrev pub bad_redirects : List Redirect → Option Refusal
+bad_redirects [] = None
+bad_redirects (x ∷ xs) = or_else (bad_redirect x) (bad_redirects xs)
 
 -- what is wrong with the texts of a change, in their order
 abbrev pub wrong_texts : CommandChange → List (Option Refusal)
@@ -113,7 +127,8 @@ wrong_texts (AddRule place rule) = bad_rule rule ∷ []
 wrong_texts (DropRule place) = []
 wrong_texts (AddRedirect place redirect) = bad_redirect redirect ∷ []
 wrong_texts (DropRedirect place) = []
-wrong_texts (AddPass pass) = bad_token pass ∷ []
+wrong_texts (ImportRedirects list) = bad_redirects list ∷ []
+wrong_texts (AddPass pass until) = bad_token pass ∷ bad_until until ∷ []
 wrong_texts (DropPass pass) = bad_token pass ∷ []
 wrong_texts (Grant pass slug) = bad_token pass ∷ bad_slug slug ∷ []
 wrong_texts (Revoke pass slug) = bad_token pass ∷ bad_slug slug ∷ []

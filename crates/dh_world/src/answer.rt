@@ -29,6 +29,10 @@ pub enum Answer {
     Stored {
         pages: u32,
     },
+    /// An import added so many redirects.
+    Added {
+        count: u32,
+    },
 }
 
 impl Answer {
@@ -63,7 +67,7 @@ fn value_of(alloc: Global, answer: &Answer) -> Result<Value, AllocError>
     ensures { IfOk result (λ v. spec.data_of answer.now ≡ Some (view v)) }
 {
     match answer {
-        Answer::Done => unreachable!(),
+        Answer::Done | Answer::Added { .. } => unreachable!(),
         Answer::Made {
             slug,
             active,

@@ -1,5 +1,6 @@
 //! Administrative commands.
 use crate::pages::Pages;
+use crate::redirects::Redirects;
 use dh_paths::Text;
 use dh_redirects::Redirect;
 use dh_rules::Rule;
@@ -105,9 +106,15 @@ pub enum CommandChange {
         /// From 1.
         place: u32,
     },
+    /// Adds the redirects of a list that are not there, each once, behind the others.
+    ImportRedirects {
+        list: Redirects,
+    },
     /// There is a pass, which holds nothing.
     AddPass {
         pass: Text,
+        /// The second since 1970 at which it ends, if it does.
+        until: Option<u64>,
     },
     /// A pass is gone, with its grants.
     DropPass {

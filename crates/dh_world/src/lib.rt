@@ -9,7 +9,9 @@ mod laws;
 pub mod operation;
 pub mod outcome;
 pub mod pages;
+pub mod pass_end;
 pub mod property;
+pub mod redirects;
 pub mod refusal;
 
 pub use answer::Answer;
@@ -20,5 +22,7 @@ pub use laws::{answers_for_good, first_is_kept, kept_is_answered, kept_stays, ve
 pub use operation::Operation;
 pub use outcome::Outcome;
 pub use pages::{Pages, UploadedPage};
+pub use pass_end::PassEnd;
 pub use property::Property;
+pub use redirects::Redirects;
 pub use refusal::Refusal;

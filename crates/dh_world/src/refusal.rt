@@ -59,6 +59,8 @@ pub enum Refusal {
     Store,
     /// Out of memory.
     OutOfMemory,
+    /// The end of a pass is no `PassEnd`.
+    BadUntil,
 }
 
 impl Refusal {
@@ -91,6 +93,7 @@ impl Refusal {
             Refusal::PatternRefused(_) => 22,
             Refusal::Store => 23,
             Refusal::OutOfMemory => 24,
+            Refusal::BadUntil => 25,
         }
     }
 
@@ -123,6 +126,7 @@ impl Refusal {
             Refusal::PatternRefused(_) => "PatternRefused",
             Refusal::Store => "Store",
             Refusal::OutOfMemory => "OutOfMemory",
+            Refusal::BadUntil => "BadUntil",
         }
     }
 }

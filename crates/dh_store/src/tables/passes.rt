@@ -7,7 +7,7 @@ ghost use Rattle.dh_records.specs.Codings as coding;
 ghost use Rattle.dh_records.specs.Lists as spec;
 
 use super::Tables;
-use dh_lookup::Fault;
+use dh_lookup::{Fault, Found};
 use dh_paths::{HostName, Token};
 use dh_records::PassRow;
 use sqlite::{Alter, params};
@@ -19,8 +19,22 @@ impl<S: Alter> Tables<S> {
         ensures { Reads S.Store self.old self.new result
             (λ l. is_some (find (spec.is_pass host.now pass.now) l.passes)) }
     {
-        let sql = "SELECT host, pass FROM pass WHERE host = ?1 AND pass = ?2 ORDER BY host, pass";
+        let sql =
+            "SELECT host, pass, until FROM pass WHERE host = ?1 AND pass = ?2 ORDER BY host, pass";
         self.has_record::<PassRow>(sql, params![host.as_str(), pass.as_str()])
+    }
+
+    /// A pass of a project, with its end.
+    pub fn pass(&mut self, alloc: Global, host: &HostName, pass: &Token) -> Found<PassRow>
+        ensures { Reads S.Store self.old self.new result
+            (λ l. find (spec.is_pass host.now pass.now) l.passes) }
+    {
+        let key = params![host.as_str(), pass.as_str()];
+        self.first_record(
+            alloc,
+            "SELECT host, pass, until FROM pass WHERE host = ?1 AND pass = ?2 ORDER BY host, pass",
+            key,
+        )
     }
 
     /// How many passes a project has.
@@ -28,16 +42,16 @@ impl<S: Alter> Tables<S> {
         ensures { Reads S.Store self.old self.new result
             (λ l. length (filter (spec.is_pass_of host.now) l.passes)) }
     {
-        let sql = "SELECT host, pass FROM pass WHERE host = ?1 ORDER BY host, pass";
+        let sql = "SELECT host, pass, until FROM pass WHERE host = ?1 ORDER BY host, pass";
         self.count_records::<PassRow>(sql, params![host.as_str()])
     }
 
-    /// Adds a pass, which the project has not.
+    /// Adds a pass with its end, which the project has not.
     pub fn add_pass(&mut self, row: &PassRow) -> Result<(), Fault>
         requires free { Lacks S.Store self.old coding.passes (λ l. l.passes) row.now }
         ensures writes { Writes S.Store self.old self.new result (change.add_pass row.now) }
     {
-        self.write("INSERT INTO pass VALUES (?1, ?2)", &row.values())
+        self.write("INSERT INTO pass VALUES (?1, ?2, ?3)", &row.values())
     }
 
     /// Removes a pass. What it holds stays.

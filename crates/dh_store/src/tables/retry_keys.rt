@@ -29,6 +29,7 @@ fn show_parts(answer: &Answer)
             let _ = slug.as_str();
         }
         Answer::Stored { pages } => show_number(*pages),
+        Answer::Added { count } => show_number(*count),
     }
 }
 
