@@ -8,8 +8,8 @@ use std::test::Fail;
 fn page_is_served(rt: &HostRuntime) -> Result<bool, Fail> {
     let listener = listen(rt)?;
     let good = client(rt, &listener, INSTALL)?;
-    let served = serve(rt, &listener, 1)?;
-    Ok(served == 1 && received(rt, good)?.as_str() == PAGE)
+    let asked = serve(rt, &listener, 1)?;
+    Ok(asked == 1 && received(rt, good)?.as_str() == PAGE)
 }
 
 /// One client closes at once, one stops after half a head, and the third one is good.
@@ -19,10 +19,10 @@ fn others_do_not_stop_it(rt: &HostRuntime) -> Result<bool, Fail> {
     let half = client(rt, &listener, "GET /en/latest/install.html HTTP/1.1\r\nHo")?;
     half.shutdown(Shutdown::Write)?;
     let good = client(rt, &listener, INSTALL)?;
-    let served = serve(rt, &listener, 3)?;
+    let asked = serve(rt, &listener, 3)?;
     let refused = received(rt, half)?;
     Ok(
-        served >= 2
+        asked == 3
             && refused.as_str().starts_with("HTTP/1.1 400 Bad Request\r\n")
             && received(rt, good)?.as_str() == PAGE,
     )
@@ -34,8 +34,8 @@ fn reply_beside_body(rt: &HostRuntime, head: &str) -> Result<String, Fail> {
     let large = client(rt, &listener, head)?;
     (&large).write_all(&[b'x'; 100_000])?;
     large.shutdown(Shutdown::Write)?;
-    let served = serve(rt, &listener, 1)?;
-    if served != 1 {
+    let asked = serve(rt, &listener, 1)?;
+    if asked != 1 {
         return Ok(String::new(rt.alloc()));
     }
     received(rt, large)
