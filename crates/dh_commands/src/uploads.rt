@@ -1,5 +1,6 @@
 //! Uploads of pages.
-ghost use Rattle.std.specs.Prelude.{◌≡◌, ◌++◌, IfOk, OnOk};
+ghost use Rattle.std.specs.Prelude.{◌≡◌, ◌++◌, OnOk};
+ghost use Rattle.dh_plans.specs.Edits.{Makes};
 ghost use Rattle.dh_plans.specs.Knowing.{Decides};
 ghost use Rattle.dh_plans.specs.Plans.{pages_put, plan_stored};
 
@@ -32,8 +33,8 @@ fn put_pages<'c>(
 }
 
 /// The pages are stored, and their number is the first answer to the retry key.
-fn store<'c>(alloc: Global, upload: CheckedUpload<'c>) -> Result<Plan<'c>, AllocError>
-    ensures { IfOk result (λ plan. plan ≡ plan_stored upload.entry) }
+fn store<'c>(alloc: Global, upload: CheckedUpload<'c>) -> Result<Plan<'c>, Refusal>
+    ensures { Makes (plan_stored upload.entry) result }
 {
     let CheckedUpload {
         key,
@@ -90,5 +91,5 @@ pub fn upload<'c>(
     if !is_among(&facts.languages, &upload.lang) {
         return Err(Refusal::NoLang);
     }
-    Ok(store(alloc, upload)?)
+    store(alloc, upload)
 }
