@@ -41,8 +41,8 @@ Serves IsMoment (suc count) before after =
     (between : World) × Serves IsMoment count before between × Turn IsMoment between after
 
 -- a call of the clock may give this moment
-abbrev pub GivenBy : {C : Type 0} → (C → Unit {0} → ℕ → Type 0) → ℕ → Type 0
-GivenBy {C} gives moment = (clock : C) × gives clock tt moment
+abbrev pub GivenBy : {C : Type 0} → (C → ℕ → Type 0) → ℕ → Type 0
+GivenBy {C} gives moment = (clock : C) × gives clock moment
 
 -- it was asked so many times, where that is counted
 abbrev pub Counts : Option ℕ → Option ℕ → ℕ → Type 0
