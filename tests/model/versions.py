@@ -89,6 +89,9 @@ PIECE = re.compile(
     re.VERBOSE,
 )
 
+# What `regex` has not: references back to a group, and looks around.
+WRONG = re.compile(r"\\[0-9]|\(\?<?[=!]")
+
 
 def stands_well(kind, text, before):
     """Whether a piece may stand behind one of the kind `before`; `Unsaid` where the two do not agree on that."""
@@ -108,7 +111,7 @@ def is_expression(text):
     while rest:
         found = PIECE.match(rest)
         if not found:
-            if rest == "\\" or (rest[0] == "[" and "]" not in rest):
+            if rest == "\\" or WRONG.match(rest) or (rest[0] == "[" and "]" not in rest):
                 return False
             raise Unsaid(text)
         kind = found.lastgroup

@@ -1,0 +1,494 @@
+"""Scripts and requests by a seed. They are made beside a model's world, so that most of what is asked for can be done."""
+
+import base64
+import json
+import random
+
+import pools
+import texts
+
+# How often a line is of each form; 'get' apart.
+WEIGHTS = {
+    "push": 16,
+    "upload": 12,
+    "activate": 8,
+    "grant": 7,
+    "add-redirect": 10,
+    "add-rule": 6,
+    "set-default": 5,
+    "publish": 4,
+    "make-private": 5,
+    "hide": 3,
+    "add-pass": 5,
+    "unhide": 2,
+    "deactivate": 2,
+    "gone": 3,
+    "add-lang": 3,
+    "revoke": 2,
+    "drop-pass": 1,
+    "drop-redirect": 2,
+    "drop-rule": 1,
+    "new-project": 1,
+}
+
+WORDS = {
+    "new-project": ("host", "lang", "branch", "privacy", "wkey"),
+    "add-lang": ("host", "lang"),
+    "push": ("host", "wkey", "key", "kind", "ref"),
+    "upload": ("host", "wkey", "key", "slug", "lang", "path", "type", "text"),
+    "add-pass": ("host", "new-pass"),
+    "drop-pass": ("host", "pass"),
+    "grant": ("host", "pass", "slug"),
+    "revoke": ("host", "pass", "slug"),
+    "drop-redirect": ("host", "place"),
+    "add-rule": ("host", "next-place", "kind", "pattern", "action"),
+    "drop-rule": ("host", "place"),
+}
+
+
+class Maker:
+    """Makes lines and requests over a world that it only looks at."""
+
+    def __init__(self, seed, world, with_ends):
+        self.random = random.Random(seed)
+        self.world = world
+        self.with_ends = with_ends
+        self.host = pools.HOSTS[0]
+        self.tags = self.random.sample(pools.TAGS, 7)
+        self.branches = self.random.sample(pools.BRANCHES, 3)
+        self.count = 0
+
+    def often(self, share):
+        return self.random.random() < share
+
+    def one(self, choices):
+        return self.random.choice(list(choices))
+
+    # ---- words
+
+    def project(self):
+        return self.world.get(self.host)
+
+    def word(self, what, form=""):
+        """A word of this meaning that can be, or at times one of the limits."""
+        limits = pools.LIMITS.get(what.removeprefix("new-").removeprefix("next-"), [])
+        if limits and self.often(0.04):
+            return self.one(limits)
+        return getattr(self, "word_" + what.replace("-", "_"))(form)
+
+    def word_host(self, form):
+        return self.host
+
+    def word_lang(self, form):
+        known = self.project().languages if self.project() else pools.LANGS
+        return self.one(known if self.often(0.7) and form != "add-lang" else pools.LANGS + [b"de", b"ja"])
+
+    def word_branch(self, form):
+        return self.one([b"main", b"main", b"main", *pools.BRANCHES])
+
+    def word_privacy(self, form):
+        return self.one([b"public", b"public", b"private"])
+
+    def word_wkey(self, form):
+        project = self.project()
+        return project.wkey if project and form != "new-project" and self.often(0.97) else pools.WKEY
+
+    def word_key(self, form):
+        if self.often(0.25):
+            return self.one(pools.KEYS)
+        self.count += 1
+        return b"u%d" % self.count
+
+    def word_kind(self, form):
+        return self.one([b"branch", b"tag", b"tag"])
+
+    def word_ref(self, form):
+        return self.one(self.tags + self.branches)
+
+    def word_slug(self, form):
+        project = self.project()
+        if project and project.versions and self.often(0.9):
+            active = [slug for slug, it in project.versions.items() if it.active]
+            return self.one(active if active and form == "upload" and self.often(0.8) else project.versions)
+        return self.one([b"latest", b"stable", *(texts.slug_text(name) or b"x" for name in self.tags + self.branches)])
+
+    def word_path(self, form):
+        return self.one(pools.FILES if self.often(0.85) else pools.MORE_FILES)
+
+    def word_type(self, form):
+        return self.one(pools.MEDIA)
+
+    def word_text(self, form):
+        return b"t" * self.random.randint(1, 40)
+
+    def word_new_pass(self, form):
+        return self.one(pools.PASSES)
+
+    def word_pass(self, form):
+        project = self.project()
+        return self.one(project.passes if project and project.passes and self.often(0.9) else pools.PASSES)
+
+    def word_place(self, form):
+        project = self.project()
+        there = (project.rules if form == "drop-rule" else project.redirects) if project else []
+        return b"%d" % self.random.randint(1, max(len(there), 1))
+
+    def word_next_place(self, form):
+        project = self.project()
+        there = (project.rules if form == "add-rule" else project.redirects) if project else []
+        return b"%d" % self.random.randint(1, len(there) + (2 if self.often(0.05) else 1))
+
+    def word_pattern(self, form):
+        return self.one([b"all", b"semver", b"re:" + self.one(pools.EXPRESSIONS), b"re:" + self.one(pools.EXPRESSIONS)])
+
+    def word_action(self, form):
+        return self.one([b"activate", b"activate", b"hide", b"public", b"private", b"default"])
+
+    # ---- lines
+
+    def line(self):
+        """A line as bytes, without its end."""
+        self.host = self.one(pools.HOSTS)
+        if not self.project() and self.often(0.9):
+            words = self.command_words("new-project")
+        elif self.often(0.42):
+            words = self.get_words()
+        else:
+            words = self.command_words(self.random.choices(list(WEIGHTS), WEIGHTS.values())[0])
+        if self.often(0.02):
+            words = self.mangled(words)
+        return self.one([b" ", b" ", b" ", b"\t", b"  "]).join(words)
+
+    def setup(self):
+        """Lines that make a project with versions and pages, in the order in which they can be done."""
+        host, key = self.host, pools.WKEY
+        privacy = self.one([b"public", b"public", b"private"])
+        made = [b"new-project %b en %b %b %b" % (host, self.one([b"main", b"main", b"dev", b"Main"]), privacy, key)]
+        made += [b"add-pass %b %b" % (host, word) for word in pools.PASSES[:2]]
+        names = [(b"branch", b"main"), *((b"tag", tag) for tag in self.tags[:4]), (b"branch", self.branches[0])]
+        for number, (kind, name) in enumerate(names):
+            made.append(b"push %b %b s%d %b %b" % (host, key, number, kind, name))
+            slug = texts.slug_text(name)
+            made += [b"activate %b %b" % (host, slug)] * self.often(0.8)
+            files = self.random.sample(pools.FILES, 4)
+            made += [b"upload %b %b %b %b en %b t %b" % (host, key, file[:3], slug, file, b"x" * self.random.randint(1, 60)) for file in files]
+            made += [b"grant %b %b %b" % (host, self.one(pools.PASSES[:2]), slug)] * self.often(0.5)
+        return made
+
+    def command_words(self, form):
+        if form == "add-redirect":
+            return self.redirect_words()
+        words = [self.word(what, form) for what in WORDS.get(form, ("host", "slug"))]
+        if form == "upload" and self.often(0.2):
+            words.insert(self.random.randint(0, len(words)), b"--replace")
+        if form == "add-pass" and self.with_ends and self.often(0.5):
+            words += [b"--until", self.word("until")]
+        return [form.encode(), *words]
+
+    def word_until(self, form):
+        return b"%d" % self.random.choice([0, 1, 999, 1000, 1001, 4_000_000_000])
+
+    def word_now(self, form):
+        return b"%d" % self.random.choice([0, 1, 998, 999, 1000, 1001, 4_000_000_000])
+
+    def redirect_words(self):
+        kind = self.one([b"page", b"page", b"exact", b"exact", b"exact", b"clean-to-html", b"html-to-clean"])
+        source, target = b"none", b"none"
+        if kind in (b"page", b"exact") or self.often(0.03):
+            source = self.word("from", kind)
+            target = self.word("to", source)
+        words = [self.word("host"), self.word("next-place"), self.word("redirect-kind", kind), self.word("status"), source, target]
+        if self.often(0.35):
+            words.insert(self.random.randint(0, len(words)), b"--force")
+        return [b"add-redirect", *words]
+
+    def word_redirect_kind(self, kind):
+        return kind
+
+    def word_status(self, form):
+        return self.one([b"301", b"302"])
+
+    def word_from(self, kind):
+        return self.one(pools.FROM_PAGE if kind == b"page" else pools.FROM_EXACT)
+
+    def word_to(self, source):
+        with_rest = source.endswith(b"*") if self.often(0.95) else True
+        return self.one(pools.TO_REST if with_rest and self.often(0.8) else pools.TO)
+
+    def mangled(self, words):
+        """The words with one that is missing, that is one too many, or that stands elsewhere."""
+        words, place = list(words), self.random.randrange(len(words))
+        how = self.random.randrange(5)
+        if how == 0:
+            del words[place]
+        elif how == 1:
+            more = [b"--", b"-", b"--replace", b"--force", b"--pass", b"--pass=r1", b"-r", b"more", b"--until", b"--now=1", b"--store=f"]
+            words.insert(place, self.one(more))
+        elif how == 2:
+            words.insert(place, words[place])
+        elif how == 3:
+            self.random.shuffle(words)
+        else:
+            words[place] = self.one([b"#", b"help", b"get", "\ufeff".encode() + words[place], words[place] + b"\r", words[place].upper()])
+        return words or [b"#"]
+
+    def get_words(self):
+        words = [b"get", self.word("host"), self.word("target")]
+        shown = self.shown()
+        if shown is not None:
+            place = self.random.randint(1, len(words))
+            words[place:place] = [b"--pass=" + shown] if self.often(0.3) else [b"--pass", shown]
+        if self.with_ends and self.often(0.9 if shown is not None else 0.1):
+            words += [b"--now", self.word("now")]
+        return words
+
+    def shown(self):
+        """A pass that a reader shows, or None."""
+        return None if self.often(0.5) else self.word("pass")
+
+    # ---- targets
+
+    def word_target(self, form):
+        target = self.path()
+        if self.often(0.12):
+            place = self.random.randrange(len(target))
+            target = target[:place] + b"%%%02x" % target[place] + target[place + 1 :]
+        target += self.one(pools.QUERIES) if self.often(0.25) else b""
+        if self.often(0.03):
+            target = self.one([b"http://other.test", b"HTTPS://Docs.Test:8", b"http://docs.test:", b"http://a_b"]) + target
+        return target
+
+    def path(self):
+        """A path, escaped: of a page that may be there, of what redirects compare, or of the host's own."""
+        project, chance = self.project(), self.random.random()
+        if chance < 0.2:
+            return self.one([b"/", b"/robots.txt", b"/_/versions", b"/", b"/_/x", b"/_/push", b"/_/", b"/_", b"/robots.txt/", b"/page", b"/page/"])
+        if chance < 0.3:
+            return b"/page/" + texts.escaped(self.word_path(""))
+        if chance < 0.5 and project and project.redirects:
+            return texts.escaped(self.path_of(self.one(project.redirects)))
+        if chance < 0.58:
+            return self.one([b"/x", b"/x/y", b"//evil.test/x", b"/old/a/b", b"/old/", b"/en", b"/en/", b"/en//a", b"//", b"/%41", b"/y", b"/x%2Fz"])
+        address = b"/" + self.word_lang("") + b"/" + self.name()
+        if project and project.pages and self.often(0.5):
+            slug, lang, file = self.one(project.pages)
+            return b"/" + lang + b"/" + self.one([slug, self.name()]) + b"/" + texts.escaped(file)
+        return address if self.often(0.12) else address + b"/" + texts.escaped(self.file())
+
+    def path_of(self, redirect):
+        """A path that a redirect may fit."""
+        rest = self.one([b"", b"a.html", b"b", b"a/b.html", b"main/a.html", b"x y", b"/x", b"?#", "é".encode()])
+        text = redirect.source[:-1] + rest if redirect.source.endswith(b"*") else redirect.source
+        if redirect.kind == b"exact":
+            return text or b"/"
+        return b"/" + self.word_lang("") + b"/" + self.name() + (text or b"/" + self.file())
+
+    def name(self):
+        return self.one([b"latest", b"stable", b"latest", self.word_slug("get"), self.word_slug("get"), b"nothing"])
+
+    def file(self):
+        file = self.word_path("")
+        how = self.random.random()
+        if how < 0.15:
+            return file.removesuffix(b"index.html")
+        if how < 0.3:
+            return self.one([b"", b"guide/", b"a/", b"a", b"a/index.html", b"/index.html", b"guide//", b"x.html/", b"nothing.html"])
+        return file
+
+    def sweep(self):
+        """Reads of some pages of each version as each caller, and of the host's own."""
+        targets = [b"/", b"/_/versions", b"/robots.txt", b"/page/a.html", b"/en/latest", b"/en/nothing/x"]
+        project = self.project()
+        if not project:
+            return [b"get %b %b" % (self.host, target) for target in targets]
+        targets += [b"/en/%b/%b" % (self.name(), texts.escaped(self.file())) for _ in range(8)]
+        targets += [texts.escaped(self.path_of(redirect)) for redirect in project.redirects[:6]]
+        callers = [b"", *(b" --pass " + word for word in list(project.passes)[:3]), b" --pass other"]
+        now = b" --now 1000" if self.with_ends else b""
+        return [b"get %b %b%b%b" % (self.host, target, caller, now) for target in targets for caller in callers]
+
+    def full_list(self):
+        """Lines that fill a list of a project up to its limit and past it."""
+        what, host = self.random.randrange(4), self.host
+        if what == 0:
+            return [b"add-lang %b l%d" % (host, number) for number in range(10, 45)]
+        if what == 1:
+            return [b"add-rule %b %d tag re:x%d hide" % (host, self.random.randint(1, 50), number) for number in range(70)]
+        if what == 2:
+            return [b"add-redirect %b %d exact 301 /f%d /t%d" % (host, self.random.randint(1, 101), it, it) for it in range(180)]
+        return [b"add-pass %b p%d" % (host, number) for number in range(1003)]
+
+    # ---- lists of old redirects
+
+    def old_list(self):
+        """A list of redirects as CSV, most of whose records are right; some are redirects that are there."""
+        project = self.project()
+        there = [[it.kind, b"%d" % it.status, b"yes" if it.force else b"no", it.source, it.target] for it in project.redirects] if project else []
+        records = [self.record(there) for _ in range(self.one([0, 1, 2, 3, 5]))]
+        if self.often(0.05):
+            records += [[b"exact", b"301", b"no", b"/n%d" % number, b"/t"] for number in range(self.random.randint(90, 110))]
+        end = self.one([b"\n", b"\n", b"\r\n", b"\r", b"\n\n"])
+        text = b"".join(self.csv_line(record) + end for record in records)
+        text = text.removesuffix(end) if self.often(0.2) else text
+        return b"\xef\xbb\xbf" + text if self.often(0.05) else text
+
+    def record(self, there):
+        if there and self.often(0.3):
+            return list(self.one(there))
+        kind, source, target = self.redirect_texts()
+        if source.endswith(b"*") and self.often(0.6):
+            source, target = source[:-1] + b"$rest", target.replace(b":splat", b"")
+        record = [kind, self.word("status"), self.one([b"yes", b"no", b"no"]), source, target]
+        if self.often(0.04):
+            place = self.random.randrange(5)
+            record[place] = self.one([b"maybe", b"\xff", b"", b"x/$rest", b"+301", b"Page"])
+        if self.often(0.02):
+            record += [b""]
+        return record
+
+    def redirect_texts(self):
+        kind, source, target = self.one([b"page", b"exact", b"exact", b"clean-to-html", b"html-to-clean"]), b"", b""
+        if kind in (b"page", b"exact"):
+            source = self.word("from", kind)
+            target = self.word("to", source)
+        return kind, source, target
+
+    def csv_line(self, fields):
+        return b",".join(b'"' + it.replace(b'"', b'""') + b'"' if self.often(0.2) else it for it in fields)
+
+    # ---- requests
+
+    def request(self):
+        """A request as bytes."""
+        host = self.host = self.one([*self.world, pools.HOSTS[0]])
+        is_post = self.often(0.3)
+        method = b"POST" if is_post else self.one([b"GET"] * 8 + [b"HEAD", b"HEAD", b"PUT", b"get", b"POST", b"DELETE"])
+        target, body = self.word("target"), None
+        if is_post:
+            target, body = self.posted()
+        lines = [self.one([b"Host", b"Host", b"host", b"HOST"]) + b":" + self.blanks() + self.host_part(host) + self.blanks()]
+        shown = self.shown()
+        if shown is not None:
+            lines.append(self.one([b"Docs-Pass: ", b"docs-pass:", b"DOCS-PASS:\t"]) + shown)
+        if body is not None:
+            lines += self.lines_of_body(body)
+        lines += [self.one([b"A: b", b"Accept: */*", b"X:", b"B: " + "é".encode(), b"Content-Length: 5", b"Expect: 100-continue"])] * self.often(0.2)
+        self.random.shuffle(lines)
+        return self.joined(method, target, self.changed(lines), body or b"")
+
+    def blanks(self):
+        return self.one([b" ", b" ", b" ", b"", b"\t", b"  "])
+
+    def host_part(self, host):
+        if self.often(0.9):
+            return host
+        return self.one([host.upper(), host.upper() + b":1", host + b":80", host + b":", host + b".", b"", b":80", b"[::1]:80", b"a b", b"[]", b"a_b", b"other.test"])
+
+    def changed(self, lines):
+        """The lines of a head, at times with one twice, without one, or with one that is none."""
+        lines, how = list(lines), self.random.random()
+        place = self.random.randrange(len(lines))
+        if how < 0.02:
+            lines.append(lines[place])
+        elif how < 0.04:
+            del lines[place]
+        elif how < 0.07:
+            lines.insert(place, self.one([b" folded", b"no colon", b"a b: c", b":", b"A: \x01", b"A: \xff", b"A: \x7f", b"A\xff: b"]))
+        elif how < 0.08:
+            lines += [b"A: b"] * (self.random.randint(62, 66) - len(lines))
+        return lines
+
+    def joined(self, method, target, lines, body):
+        """The bytes of a request, at times with one that is missing, another or more, or cut short."""
+        end = self.one([b"\r\n"] * 8 + [b"\n", b"\r\n"])
+        version = self.one([b"HTTP/1.1"] * 60 + [b"HTTP/1.0", b"HTTP/2.0", b"HTTP/1.2", b"http/1.1"])
+        data = end.join([method + b" " + target + b" " + version, *lines, b"", b""]) + body
+        if self.often(0.05):
+            data = end + data
+        if self.often(0.05):
+            data += b"rest"
+        if self.often(0.05):
+            place = self.random.randrange(len(data))
+            change = self.one([b"", b" ", b"\n", b"\r", b"\x00", b":", b"%", b"\xff"])
+            data = data[:place] if self.often(0.3) else data[:place] + change + data[place + self.random.randint(0, 1) :]
+        return data
+
+    def lines_of_body(self, body):
+        length = b"%d" % len(body)
+        if self.often(0.1):
+            wrong = [b"%d" % (len(body) + 1), b"%d" % max(len(body) - 1, 0), b"12x", b"+%d" % len(body), b"", b"4194304", b"4194305", b"9" * 30]
+            length = self.one([*wrong, b"000" + length, length + b", " + length])
+        lines = [self.one([b"Content-Length: ", b"content-length:"]) + length]
+        if self.often(0.04):
+            lines.append(self.one([b"Transfer-Encoding: chunked", b"transfer-encoding:", b"Content-Length: " + length]))
+        if self.often(0.97):
+            lines.append(self.one([b"Docs-Key: ", b"docs-key:"]) + self.word("wkey"))
+        return lines
+
+    # ---- bodies of POST
+
+    def posted(self):
+        """The target of a POST, and its body."""
+        is_push = self.often(0.5)
+        target = b"/_/push" if is_push else b"/_/upload"
+        if self.often(0.1):
+            target = self.one([b"/_/%70ush", b"/_/push?x", b"/_/upload/", b"/%5F/upload", b"http://docs.test/_/push", b"/_/other"])
+        fields = self.push_fields() if is_push else self.upload_fields()
+        return target, self.body_of(fields)
+
+    def text(self, what, form=""):
+        return self.word(what, form).decode("utf-8", "replace")
+
+    def push_fields(self):
+        kind, name = self.text("kind"), self.text("ref")
+        if self.often(0.05):
+            name = self.one(["x y", "a\tb", 'q"\\u', "\u2028", "\U0001f600z", ""])
+        return [("key", self.text("key")), ("kind", kind), ("ref", name)]
+
+    def upload_fields(self):
+        pages = [self.page_fields() for _ in range(self.one([0, 1, 1, 2, 3]))]
+        if self.often(0.02):
+            pages = [{"path": f"p{number}", "type": "t", "text": ""} for number in range(self.random.randint(255, 258))]
+        fields = [("key", self.text("key")), ("version", self.text("slug", "upload")), ("language", self.text("lang")), ("pages", pages)]
+        if self.often(0.4):
+            fields.append(("replace", self.one([True, False, False, True, None, 1, "true"])))
+        return fields
+
+    def page_fields(self):
+        page = {"path": self.text("path"), "type": self.text("type")}
+        if self.often(0.5):
+            page["text"] = self.one(["", "x" * self.random.randint(1, 30), "é\n\x7f", '"\\', "\x01"])
+        if ("text" not in page) if self.often(0.97) else self.often(0.5):
+            encoded = base64.b64encode(self.random.randbytes(self.random.randint(0, 9))).decode()
+            page["base64"] = encoded if self.often(0.9) else self.one([encoded.rstrip("="), encoded + "=", "aGl=", "a-_b", "aGk=\n", " aGk=", "a"])
+        return page
+
+    def body_of(self, fields):
+        """The bytes of an object, at times with a field twice, without one, with another kind of one, or with more."""
+        how = self.random.random()
+        fields = list(fields)
+        self.random.shuffle(fields)
+        place = self.random.randrange(len(fields))
+        if how < 0.04:
+            del fields[place]
+        elif how < 0.08:
+            fields.insert(self.random.randint(0, len(fields)), (fields[place][0], self.one([1, None, "k9", [], {}, True])))
+        elif how < 0.12:
+            fields[place] = (fields[place][0], self.one([1, None, [], {}, 1.5, ["x"]]))
+        more = ', "more": ' + self.one(MORE_VALUES) if self.often(0.15) else ""
+        blank = self.one(["", "", " ", "\n", "\t\r "])
+        members = ("," + blank).join(json.dumps(name) + ":" + json.dumps(value, ensure_ascii=self.often(0.5)) for name, value in fields)
+        text = blank + "{" + members + more + "}" + blank
+        if self.often(0.04):
+            text = self.one([text + "x", "[" + text + "]", text[:-1], "\ufeff" + text, "null", "", text.replace('"', "'"), text.replace(":", ": ,", 1)])
+        return text.encode("utf-8", "replace")
+
+
+# Values of a field that does not count: some are no JSON.
+MORE_VALUES = [
+    *("1", "-0", "1e5", "1E+2", "0.5", "null", "true", '"x"', "[]", "{}", '{"a":{"a":1}}', "123456789012345678901234567890"),
+    *("1e400", "-1e400", "01", "1.", ".5", "+1", "NaN", "Infinity", "-", "1e", "tru", "truex", '"\\ud800"', '"\\ud800\\udc00"'),
+    *('"\\udc00"', '"\\ud800x"', '"\\x41"', '"\\u12"', '"\t"', '"\x7f"', '"\\/"', "[1,]", "[,1]", "[1 2]", '{"a"}', '{"a":1,}', "{1:2}"),
+    *("[" * 126 + "]" * 126, "[" * 127 + "]" * 127, '{"a":' * 126 + "1" + "}" * 126, '{"a":' * 127 + "1" + "}" * 127),
+    *('{"\\ud800":1}', '{"a":1e999,"a":1}', "9" * 400, "1.7976931348623157e308", "1.7976931348623159e308", "1e-400", "[1]]"),
+]
