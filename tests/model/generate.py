@@ -165,6 +165,9 @@ class Maker:
         privacy = self.one([b"public", b"public", b"private"])
         made = [b"new-project %b en %b %b %b" % (host, self.one([b"main", b"main", b"dev", b"Main"]), privacy, key)]
         made += [b"add-pass %b %b" % (host, word) for word in pools.PASSES[:2]]
+        made[-1] += b" --until 1000" * (self.with_ends and self.often(0.7))
+        for _ in range(self.one([0, 0, 2, 4])):
+            made.append(b" ".join([b"add-rule", host, b"1", self.word_kind(""), self.word_pattern(""), self.word_action("")]))
         names = [(b"branch", b"main"), *((b"tag", tag) for tag in self.tags[:4]), (b"branch", self.branches[0])]
         for number, (kind, name) in enumerate(names):
             made.append(b"push %b %b s%d %b %b" % (host, key, number, kind, name))
@@ -268,7 +271,7 @@ class Maker:
         if chance < 0.5 and project and project.redirects:
             return texts.escaped(self.path_of(self.one(project.redirects)))
         if chance < 0.58:
-            return self.one([b"/x", b"/x/y", b"//evil.test/x", b"/old/a/b", b"/old/", b"/en", b"/en/", b"/en//a", b"//", b"/%41", b"/y", b"/x%2Fz"])
+            return self.one([b"/x", b"/x/y", b"//evil.test/x", b"/old/a/b", b"/old/", b"/en", b"/en/", b"/en//a", b"/en//", b"//", b"/%41", b"/y", b"/x%2Fz"])
         address = b"/" + self.word_lang("") + b"/" + self.name()
         if project and project.pages and self.often(0.5):
             slug, lang, file = self.one(project.pages)
@@ -304,19 +307,19 @@ class Maker:
         targets += [b"/en/%b/%b" % (self.name(), texts.escaped(self.file())) for _ in range(8)]
         targets += [texts.escaped(self.path_of(redirect)) for redirect in project.redirects[:6]]
         callers = [b"", *(b" --pass " + word for word in list(project.passes)[:3]), b" --pass other"]
-        now = b" --now 1000" if self.with_ends else b""
+        now = self.one([b" --now 999", b" --now 1000", b""]) if self.with_ends else b""
         return [b"get %b %b%b%b" % (self.host, target, caller, now) for target in targets for caller in callers]
 
     def full_list(self):
         """Lines that fill a list of a project up to its limit and past it."""
-        what, host = self.random.randrange(4), self.host
-        if what == 0:
+        host, how = self.host, self.random.randrange(4)
+        if how == 0:
             return [b"add-lang %b l%d" % (host, number) for number in range(10, 45)]
-        if what == 1:
-            return [b"add-rule %b %d tag re:x%d hide" % (host, self.random.randint(1, 50), number) for number in range(70)]
-        if what == 2:
-            return [b"add-redirect %b %d exact 301 /f%d /t%d" % (host, self.random.randint(1, 101), it, it) for it in range(180)]
-        return [b"add-pass %b p%d" % (host, number) for number in range(1003)]
+        if how == 1:
+            return [b"add-pass %b p%d" % (host, number) for number in range(1003)]
+        most, line = (50, b"add-rule %b %d tag re:x%d hide") if how == 2 else (100, b"add-redirect %b %d exact 301 /f%d /t")
+        places = [self.random.randint(1, min(number, most + 2) + 1) for number in range(most + 12)]
+        return [line % (host, place, number) for number, place in enumerate(places)]
 
     # ---- lists of old redirects
 
@@ -324,7 +327,9 @@ class Maker:
         """A list of redirects as CSV, most of whose records are right; some are redirects that are there."""
         project = self.project()
         there = [[it.kind, b"%d" % it.status, b"yes" if it.force else b"no", it.source, it.target] for it in project.redirects] if project else []
-        records = [self.record(there) for _ in range(self.one([0, 1, 2, 3, 5]))]
+        records = []
+        for _ in range(self.one([0, 1, 2, 3, 5])):
+            records.append(self.record(there + records))
         if self.often(0.05):
             records += [[b"exact", b"301", b"no", b"/n%d" % number, b"/t"] for number in range(self.random.randint(90, 110))]
         end = self.one([b"\n", b"\n", b"\r\n", b"\r", b"\n\n"])

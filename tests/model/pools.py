@@ -51,7 +51,7 @@ LIMITS = {
     "wkey": [b"nokey", b"k" * 64, b"k" * 65, b"k@", b"k/", b"none"],
     "key": [b"k" * 64, b"k" * 65, b"k@", b"k:", b"none"],
     "pass": [b"p" * 64, b"p" * 65, b"re@der", b"none", b"-", b"p%41"],
-    "path": [b"a//b", b"/a", b"a/", b".", b"a/../b", b"p" * 512, b"p" * 513, b"a/.", b"..a", b"\x1f", b"..."],
+    "path": [b"a//b", b"/a", b"a/", b".", b"a/../b", b"..", b"p" * 512, b"p" * 513, b"a/.", b"..a", b"\x1f", b"..."],
     "type": [b"t" * 100, b"t" * 101, "té".encode(), b"\x7f", b"a\x01"],
     "place": [b"0", b"4294967295", b"4294967296", b"+1", b"-1", b"01", b"x", b"1.0", b"99", "٣".encode()],
     "status": [b"300", b"303", b"200", b"65535", b"65536", b"0301", b"x", b"+301"],
