@@ -344,9 +344,9 @@ class Maker:
         if source.endswith(b"*") and self.often(0.6):
             source, target = source[:-1] + b"$rest", target.replace(b":splat", b"")
         record = [kind, self.word("status"), self.one([b"yes", b"no", b"no"]), source, target]
-        if self.often(0.04):
+        if self.often(0.08):
             place = self.random.randrange(5)
-            record[place] = self.one([b"maybe", b"\xff", b"", b"x/$rest", b"+301", b"Page"])
+            record[place] = self.one([b"maybe", b"\xff", b"", b"x/$rest", b"+301", b"Page", b'a"b', b'"a"b'])
         if self.often(0.02):
             record += [b""]
         return record
