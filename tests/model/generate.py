@@ -1,7 +1,5 @@
-"""Scripts and requests by a seed. They are made beside a model's world, so that most of what is asked for can be done."""
+"""Scripts by a seed. They are made beside a model's world, so that most of what is asked for can be done."""
 
-import base64
-import json
 import random
 
 import pools
@@ -47,7 +45,7 @@ WORDS = {
 
 
 class Maker:
-    """Makes lines and requests over a world that it only looks at."""
+    """Makes lines over a world that it only looks at."""
 
     def __init__(self, seed, world, with_ends):
         self.random = random.Random(seed)
@@ -167,14 +165,17 @@ class Maker:
         made += [b"add-pass %b %b" % (host, word) for word in pools.PASSES[:2]]
         made[-1] += b" --until 1000" * (self.with_ends and self.often(0.7))
         for _ in range(self.one([0, 0, 2, 4])):
-            made.append(b" ".join([b"add-rule", host, b"1", self.word_kind(""), self.word_pattern(""), self.word_action("")]))
+            rule = [self.word_kind(""), self.word_pattern(""), self.word_action("")]
+            made.append(b" ".join([b"add-rule", host, b"1", *rule]))
         names = [(b"branch", b"main"), *((b"tag", tag) for tag in self.tags[:4]), (b"branch", self.branches[0])]
         for number, (kind, name) in enumerate(names):
             made.append(b"push %b %b s%d %b %b" % (host, key, number, kind, name))
             slug = texts.slug_text(name)
             made += [b"activate %b %b" % (host, slug)] * self.often(0.8)
             files = self.random.sample(pools.FILES, 4)
-            made += [b"upload %b %b %b %b en %b t %b" % (host, key, file[:3], slug, file, b"x" * self.random.randint(1, 60)) for file in files]
+            for file in files:
+                body = b"x" * self.random.randint(1, 60)
+                made.append(b"upload %b %b %b %b en %b t %b" % (host, key, file[:3], slug, file, body))
             made += [b"grant %b %b %b" % (host, self.one(pools.PASSES[:2]), slug)] * self.often(0.5)
         return made
 
@@ -200,7 +201,8 @@ class Maker:
         if kind in (b"page", b"exact") or self.often(0.03):
             source = self.word("from", kind)
             target = self.word("to", source)
-        words = [self.word("host"), self.word("next-place"), self.word("redirect-kind", kind), self.word("status"), source, target]
+        words = [self.word("host"), self.word("next-place"), self.word("redirect-kind", kind)]
+        words += [self.word("status"), source, target]
         if self.often(0.35):
             words.insert(self.random.randint(0, len(words)), b"--force")
         return [b"add-redirect", *words]
@@ -225,14 +227,14 @@ class Maker:
         if how == 0:
             del words[place]
         elif how == 1:
-            more = [b"--", b"-", b"--replace", b"--force", b"--pass", b"--pass=r1", b"-r", b"more", b"--until", b"--now=1", b"--store=f"]
-            words.insert(place, self.one(more))
+            words.insert(place, self.one(pools.MORE_WORDS))
         elif how == 2:
             words.insert(place, words[place])
         elif how == 3:
             self.random.shuffle(words)
         else:
-            words[place] = self.one([b"#", b"help", b"get", "\ufeff".encode() + words[place], words[place] + b"\r", words[place].upper()])
+            word = words[place]
+            words[place] = self.one([b"#", b"help", b"get", "\ufeff".encode() + word, word + b"\r", word.upper()])
         return words or [b"#"]
 
     def get_words(self):
@@ -265,13 +267,13 @@ class Maker:
         """A path, escaped: of a page that may be there, of what redirects compare, or of the host's own."""
         project, chance = self.project(), self.random.random()
         if chance < 0.2:
-            return self.one([b"/", b"/robots.txt", b"/_/versions", b"/", b"/_/x", b"/_/push", b"/_/", b"/_", b"/robots.txt/", b"/page", b"/page/"])
+            return self.one(pools.SYSTEM_PATHS)
         if chance < 0.3:
             return b"/page/" + texts.escaped(self.word_path(""))
         if chance < 0.5 and project and project.redirects:
             return texts.escaped(self.path_of(self.one(project.redirects)))
         if chance < 0.58:
-            return self.one([b"/x", b"/x/y", b"//evil.test/x", b"/old/a/b", b"/old/", b"/en", b"/en/", b"/en//a", b"/en//", b"//", b"/%41", b"/y", b"/x%2Fz"])
+            return self.one(pools.OTHER_PATHS)
         address = b"/" + self.word_lang("") + b"/" + self.name()
         if project and project.pages and self.often(0.5):
             slug, lang, file = self.one(project.pages)
@@ -295,7 +297,7 @@ class Maker:
         if how < 0.15:
             return file.removesuffix(b"index.html")
         if how < 0.3:
-            return self.one([b"", b"guide/", b"a/", b"a", b"a/index.html", b"/index.html", b"guide//", b"x.html/", b"nothing.html"])
+            return self.one(pools.OTHER_FILES)
         return file
 
     def sweep(self):
@@ -320,180 +322,3 @@ class Maker:
         most, line = (50, b"add-rule %b %d tag re:x%d hide") if how == 2 else (100, b"add-redirect %b %d exact 301 /f%d /t")
         places = [self.random.randint(1, min(number, most + 2) + 1) for number in range(most + 12)]
         return [line % (host, place, number) for number, place in enumerate(places)]
-
-    # ---- lists of old redirects
-
-    def old_list(self):
-        """A list of redirects as CSV, most of whose records are right; some are redirects that are there."""
-        project = self.project()
-        there = [[it.kind, b"%d" % it.status, b"yes" if it.force else b"no", it.source, it.target] for it in project.redirects] if project else []
-        records = []
-        for _ in range(self.one([0, 1, 2, 3, 5])):
-            records.append(self.record(there + records))
-        if self.often(0.05):
-            records += [[b"exact", b"301", b"no", b"/n%d" % number, b"/t"] for number in range(self.random.randint(90, 110))]
-        end = self.one([b"\n", b"\n", b"\r\n", b"\r", b"\n\n"])
-        text = b"".join(self.csv_line(record) + end for record in records)
-        text = text.removesuffix(end) if self.often(0.2) else text
-        return b"\xef\xbb\xbf" + text if self.often(0.05) else text
-
-    def record(self, there):
-        if there and self.often(0.3):
-            return list(self.one(there))
-        kind, source, target = self.redirect_texts()
-        if source.endswith(b"*") and self.often(0.6):
-            source, target = source[:-1] + b"$rest", target.replace(b":splat", b"")
-        record = [kind, self.word("status"), self.one([b"yes", b"no", b"no"]), source, target]
-        if self.often(0.08):
-            place = self.random.randrange(5)
-            record[place] = self.one([b"maybe", b"\xff", b"", b"x/$rest", b"+301", b"Page", b'a"b', b'"a"b'])
-        if self.often(0.02):
-            record += [b""]
-        return record
-
-    def redirect_texts(self):
-        kind, source, target = self.one([b"page", b"exact", b"exact", b"clean-to-html", b"html-to-clean"]), b"", b""
-        if kind in (b"page", b"exact"):
-            source = self.word("from", kind)
-            target = self.word("to", source)
-        return kind, source, target
-
-    def csv_line(self, fields):
-        return b",".join(b'"' + it.replace(b'"', b'""') + b'"' if self.often(0.2) else it for it in fields)
-
-    # ---- requests
-
-    def request(self):
-        """A request as bytes."""
-        host = self.host = self.one([*self.world, pools.HOSTS[0]])
-        is_post = self.often(0.3)
-        method = b"POST" if is_post else self.one([b"GET"] * 8 + [b"HEAD", b"HEAD", b"PUT", b"get", b"POST", b"DELETE"])
-        target, body = self.word("target"), None
-        if is_post:
-            target, body = self.posted()
-        lines = [self.one([b"Host", b"Host", b"host", b"HOST"]) + b":" + self.blanks() + self.host_part(host) + self.blanks()]
-        shown = self.shown()
-        if shown is not None:
-            lines.append(self.one([b"Docs-Pass: ", b"docs-pass:", b"DOCS-PASS:\t"]) + shown)
-        if body is not None:
-            lines += self.lines_of_body(body)
-        lines += [self.one([b"A: b", b"Accept: */*", b"X:", b"B: " + "é".encode(), b"Content-Length: 5", b"Expect: 100-continue"])] * self.often(0.2)
-        self.random.shuffle(lines)
-        return self.joined(method, target, self.changed(lines), body or b"")
-
-    def blanks(self):
-        return self.one([b" ", b" ", b" ", b"", b"\t", b"  "])
-
-    def host_part(self, host):
-        if self.often(0.9):
-            return host
-        return self.one([host.upper(), host.upper() + b":1", host + b":80", host + b":", host + b".", b"", b":80", b"[::1]:80", b"a b", b"[]", b"a_b", b"other.test"])
-
-    def changed(self, lines):
-        """The lines of a head, at times with one twice, without one, or with one that is none."""
-        lines, how = list(lines), self.random.random()
-        place = self.random.randrange(len(lines))
-        if how < 0.02:
-            lines.append(lines[place])
-        elif how < 0.04:
-            del lines[place]
-        elif how < 0.07:
-            lines.insert(place, self.one([b" folded", b"no colon", b"a b: c", b":", b"A: \x01", b"A: \xff", b"A: \x7f", b"A\xff: b"]))
-        elif how < 0.08:
-            lines += [b"A: b"] * (self.random.randint(62, 66) - len(lines))
-        return lines
-
-    def joined(self, method, target, lines, body):
-        """The bytes of a request, at times with one that is missing, another or more, or cut short."""
-        end = self.one([b"\r\n"] * 8 + [b"\n", b"\r\n"])
-        version = self.one([b"HTTP/1.1"] * 60 + [b"HTTP/1.0", b"HTTP/2.0", b"HTTP/1.2", b"http/1.1"])
-        data = end.join([method + b" " + target + b" " + version, *lines, b"", b""]) + body
-        if self.often(0.05):
-            data = end + data
-        if self.often(0.05):
-            data += b"rest"
-        if self.often(0.05):
-            place = self.random.randrange(len(data))
-            change = self.one([b"", b" ", b"\n", b"\r", b"\x00", b":", b"%", b"\xff"])
-            data = data[:place] if self.often(0.3) else data[:place] + change + data[place + self.random.randint(0, 1) :]
-        return data
-
-    def lines_of_body(self, body):
-        length = b"%d" % len(body)
-        if self.often(0.1):
-            wrong = [b"%d" % (len(body) + 1), b"%d" % max(len(body) - 1, 0), b"12x", b"+%d" % len(body), b"", b"4194304", b"4194305", b"9" * 30]
-            length = self.one([*wrong, b"000" + length, length + b", " + length])
-        lines = [self.one([b"Content-Length: ", b"content-length:"]) + length]
-        if self.often(0.04):
-            lines.append(self.one([b"Transfer-Encoding: chunked", b"transfer-encoding:", b"Content-Length: " + length]))
-        if self.often(0.97):
-            lines.append(self.one([b"Docs-Key: ", b"docs-key:"]) + self.word("wkey"))
-        return lines
-
-    # ---- bodies of POST
-
-    def posted(self):
-        """The target of a POST, and its body."""
-        is_push = self.often(0.5)
-        target = b"/_/push" if is_push else b"/_/upload"
-        if self.often(0.1):
-            target = self.one([b"/_/%70ush", b"/_/push?x", b"/_/upload/", b"/%5F/upload", b"http://docs.test/_/push", b"/_/other"])
-        fields = self.push_fields() if is_push else self.upload_fields()
-        return target, self.body_of(fields)
-
-    def text(self, what, form=""):
-        return self.word(what, form).decode("utf-8", "replace")
-
-    def push_fields(self):
-        kind, name = self.text("kind"), self.text("ref")
-        if self.often(0.05):
-            name = self.one(["x y", "a\tb", 'q"\\u', "\u2028", "\U0001f600z", ""])
-        return [("key", self.text("key")), ("kind", kind), ("ref", name)]
-
-    def upload_fields(self):
-        pages = [self.page_fields() for _ in range(self.one([0, 1, 1, 2, 3]))]
-        if self.often(0.02):
-            pages = [{"path": f"p{number}", "type": "t", "text": ""} for number in range(self.random.randint(255, 258))]
-        fields = [("key", self.text("key")), ("version", self.text("slug", "upload")), ("language", self.text("lang")), ("pages", pages)]
-        if self.often(0.4):
-            fields.append(("replace", self.one([True, False, False, True, None, 1, "true"])))
-        return fields
-
-    def page_fields(self):
-        page = {"path": self.text("path"), "type": self.text("type")}
-        if self.often(0.5):
-            page["text"] = self.one(["", "x" * self.random.randint(1, 30), "é\n\x7f", '"\\', "\x01"])
-        if ("text" not in page) if self.often(0.97) else self.often(0.5):
-            encoded = base64.b64encode(self.random.randbytes(self.random.randint(0, 9))).decode()
-            page["base64"] = encoded if self.often(0.9) else self.one([encoded.rstrip("="), encoded + "=", "aGl=", "a-_b", "aGk=\n", " aGk=", "a"])
-        return page
-
-    def body_of(self, fields):
-        """The bytes of an object, at times with a field twice, without one, with another kind of one, or with more."""
-        how = self.random.random()
-        fields = list(fields)
-        self.random.shuffle(fields)
-        place = self.random.randrange(len(fields))
-        if how < 0.04:
-            del fields[place]
-        elif how < 0.08:
-            fields.insert(self.random.randint(0, len(fields)), (fields[place][0], self.one([1, None, "k9", [], {}, True])))
-        elif how < 0.12:
-            fields[place] = (fields[place][0], self.one([1, None, [], {}, 1.5, ["x"]]))
-        more = ', "more": ' + self.one(MORE_VALUES) if self.often(0.15) else ""
-        blank = self.one(["", "", " ", "\n", "\t\r "])
-        members = ("," + blank).join(json.dumps(name) + ":" + json.dumps(value, ensure_ascii=self.often(0.5)) for name, value in fields)
-        text = blank + "{" + members + more + "}" + blank
-        if self.often(0.04):
-            text = self.one([text + "x", "[" + text + "]", text[:-1], "\ufeff" + text, "null", "", text.replace('"', "'"), text.replace(":", ": ,", 1)])
-        return text.encode("utf-8", "replace")
-
-
-# Values of a field that does not count: some are no JSON.
-MORE_VALUES = [
-    *("1", "-0", "1e5", "1E+2", "0.5", "null", "true", '"x"', "[]", "{}", '{"a":{"a":1}}', "123456789012345678901234567890"),
-    *("1e400", "-1e400", "01", "1.", ".5", "+1", "NaN", "Infinity", "-", "1e", "tru", "truex", '"\\ud800"', '"\\ud800\\udc00"'),
-    *('"\\udc00"', '"\\ud800x"', '"\\x41"', '"\\u12"', '"\t"', '"\x7f"', '"\\/"', "[1,]", "[,1]", "[1 2]", '{"a"}', '{"a":1,}', "{1:2}"),
-    *("[" * 126 + "]" * 126, "[" * 127 + "]" * 127, '{"a":' * 126 + "1" + "}" * 126, '{"a":' * 127 + "1" + "}" * 127),
-    *('{"\\ud800":1}', '{"a":1e999,"a":1}', "9" * 400, "1.7976931348623157e308", "1.7976931348623159e308", "1e-400", "[1]]"),
-]

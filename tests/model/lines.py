@@ -146,8 +146,9 @@ def answer_text(answer):
         return b"ok"
     if what == "made":
         slug, active, hidden, private = more
-        words = (b"active" if active else b"inactive", b"hidden" if hidden else b"shown", b"private" if private else b"public")
-        return b" ".join((b"made", slug, *words))
+        words = [b"made", slug, b"active" if active else b"inactive"]
+        words += [b"hidden" if hidden else b"shown", b"private" if private else b"public"]
+        return b" ".join(words)
     return what.encode() + b" " + (more[0] if what == "known" else b"%d" % more[0])
 
 

@@ -57,7 +57,7 @@ def is_short_text(text):
 
 
 def first_fault(redirect):
-    """The number of the first fault, of BadSource 1, EarlyStar 2, BadTarget 3, SplatWithoutStar 4, UnusedText 6, BadStatus 5."""
+    """The number of the first fault: BadSource 1, EarlyStar 2, BadTarget 3, SplatWithoutStar 4, UnusedText 6, BadStatus 5."""
     source, target = redirect.source, redirect.target
     if redirect.kind in WITH_TEXTS:
         if not is_path(source) or not is_short_text(source):

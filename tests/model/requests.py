@@ -76,7 +76,7 @@ def head_of(data):
 
 
 def body_length(head):
-    """How long the body is; 411 without a length that is told, 400 for none that is a number, 413 for one that is too large."""
+    """How long the body is. Without a length it is refused by 411, by 400 for one that is no number, by 413 above the limit."""
     if b"transfer-encoding" in head.fields or b"content-length" not in head.fields:
         raise Refusal(411)
     try:
