@@ -234,7 +234,8 @@ class Maker:
             self.random.shuffle(words)
         else:
             word = words[place]
-            words[place] = self.one([b"#", b"help", b"get", "\ufeff".encode() + word, word + b"\r", word.upper()])
+            others = [b"#", b"help", b"import", b"migrate", b"get"]
+            words[place] = self.one([*others, "\ufeff".encode() + word, word + b"\r", word.upper()])
         return words or [b"#"]
 
     def get_words(self):
