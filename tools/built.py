@@ -6,7 +6,6 @@ Exit status: 0 the program is there and was built from the present text, 1 it wa
 """
 import hashlib
 import os
-import shutil
 import sys
 
 ROOT = os.path.join(os.path.dirname(os.path.realpath(__file__)), "..")
@@ -56,14 +55,15 @@ def text_sum(root=ROOT):
 
 def toolchain():
     """What `rt version` prints, or None where there is no toolchain."""
-    rt = shutil.which("rt")
+    places = [os.path.join(place, "rt") for place in os.get_exec_path()]
+    rt = next((it for it in places if os.path.isfile(it) and os.access(it, os.X_OK)), None)
     if not rt:
         return None
-    # a kit keeps the line in a file, which is read in a twentieth of the time
+    # a kit keeps the line in a file, which is read sooner
     kept = os.path.join(os.path.dirname(os.path.realpath(rt)), "..", "KIT-ID")
     if os.path.isfile(kept):
         return read("", kept).decode().strip()
-    import subprocess
+    import subprocess  # (which takes its time too)
 
     return subprocess.run([rt, "version"], stdin=subprocess.DEVNULL, capture_output=True, encoding="utf-8").stdout.strip()
 

@@ -127,7 +127,7 @@ def named(part, checkout):
     part.same("the program that DOCS_HOST names", (ended.returncode, ended.stdout, ended.stderr), (0, wanted, ""))
     ended = checkout("docs_host", "--help", DOCS_HOST=part.path("none"))
     part.check("DOCS_HOST names none", ended.returncode == 3 and part.path("none") in ended.stderr, ended)
-    ended = checkout("docs_host", "--help", DOCS_HOST=str(checkout.root / "docs_host"))
+    ended = checkout("docs_host", "--help", DOCS_HOST="docs_host")
     part.same("DOCS_HOST names the script itself", (ended.returncode, ended.stdout), (0, wanted))
 
 
