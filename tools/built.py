@@ -65,7 +65,8 @@ def toolchain():
         return read("", kept).decode().strip()
     import subprocess  # (which takes its time too)
 
-    return subprocess.run([rt, "version"], stdin=subprocess.DEVNULL, capture_output=True, encoding="utf-8").stdout.strip()
+    ended = subprocess.run([rt, "version"], stdin=subprocess.DEVNULL, capture_output=True, encoding="utf-8")
+    return ended.stdout.strip()
 
 
 def program_sum(root=ROOT):
@@ -100,8 +101,10 @@ def why_not(root=ROOT):
     if not os.access(os.path.join(root, PROGRAM), os.X_OK):
         return "no program is built here"
     said, now = kept(root), toolchain()
+    if not said:
+        return "nothing says from what text the program was built"
     if said.get("text") != text_sum(root):
-        return "the program that is built here is not of the present text" if said else "nothing says from what text the program was built"
+        return "the program that is built here is not of the present text"
     # without a toolchain there is none to compare it with, and none that could build
     if now and said.get("toolchain") != now:
         return f"the program was built by another toolchain, {said.get('toolchain')}"

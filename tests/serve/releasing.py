@@ -93,9 +93,9 @@ class Checkout:
             words, cwd=self.root, env=env, stdin=given, input=stdin, capture_output=True, encoding="utf-8", timeout=120
         )
 
-    def takes_its_own(self):
+    def takes_its_own(self, **env):
         """Whether ./docs_host takes the program that was built there."""
-        ended = self("docs_host", "--help")
+        ended = self("docs_host", "--help", **env)
         return ended.returncode == 0 and ended.stderr == ""
 
     def git(self, *words):
@@ -135,8 +135,14 @@ def unbuilt(part, checkout):
     """Where nothing is built, words that need no file run by `rt try`, and end as the program does."""
     request = (ROOT / "examples" / "install.http").read_text()
     script = (ROOT / "examples" / "first.script").read_text()
-    cases = (["answer"], request), (["answer"], "GET"), (["script"], script), (["script", "x"], ""), (["help", "init"], ""), (["init", "-h"], "")
-    for words, given in cases:
+    for words, given in (
+        (["answer"], request),
+        (["answer"], "GET"),
+        (["script"], script),
+        (["script", "x"], ""),
+        (["help", "init"], ""),
+        (["init", "-h"], ""),
+    ):
         wanted, ended = run(part.program, *words, stdin=given), checkout("docs_host", *words, stdin=given)
         seen = ended.stdout, ended.returncode, ended.stderr.partition("\n")[2]
         part.same(f"{words} unproved", seen, (wanted.stdout, wanted.returncode, wanted.stderr))
@@ -149,12 +155,18 @@ def unbuilt(part, checkout):
     ended = checkout("docs_host", "answer", stdin=request, REFUSED="1")
     good = ended.returncode == 3 and ended.stdout == "" and "error[test]" in ended.stderr
     part.check("a text that `rt try` refuses", good, ended)
-    without = [place for place in os.environ["PATH"].split(":") if not os.path.exists(f"{place}/rt")]
-    if shutil.which("python3", path=":".join(without)):
-        ended = checkout("docs_host", "answer", stdin=request, PATH=":".join(without))
-        part.check("no toolchain", ended.returncode == 3 and "toolchain is missing" in ended.stderr, ended)
-    else:
-        part.skip("python3 stands beside rt, so that no PATH has it without rt")
+    ended = checkout("docs_host", "answer", stdin=request, PATH=no_toolchain(part))
+    part.check("no toolchain", ended.returncode == 3 and "toolchain is missing" in ended.stderr, ended)
+
+
+def no_toolchain(part):
+    """A PATH with what ./docs_host needs, and no toolchain."""
+    folder = Path(part.path("plain"))
+    folder.mkdir(exist_ok=True)
+    for name in ("bash", "dirname", "env", "python3", "readlink", "realpath"):
+        if not (folder / name).exists():
+            (folder / name).symlink_to(os.path.realpath(shutil.which(name)))
+    return str(folder)
 
 
 def sums(part, checkout):
@@ -189,10 +201,13 @@ def sums(part, checkout):
     rt.write_text(text.replace("toolchain of the test", "another toolchain"))
     part.check("another toolchain", not checkout.takes_its_own())
     rt.write_text(text)
+    part.check("no toolchain, which a built program does not need", checkout.takes_its_own(PATH=no_toolchain(part)))
 
 
 def one_of_each_part(crate):
-    return [str(sorted(it for it in (crate / part).rglob("*") if it.is_file())[0].relative_to(crate.parent.parent)) for part in ("src", "specs", "proofs")]
+    """A file of its code, one of its definitions and one of its proofs, by their paths from the top."""
+    files = [sorted(it for it in (crate / part).rglob("*") if it.is_file())[0] for part in ("src", "specs", "proofs")]
+    return [str(file.relative_to(crate.parent.parent)) for file in files]
 
 
 def meanwhile(part, checkout):
@@ -378,7 +393,8 @@ def asks(part, what, port):
     """Reads, a push, and an upload of the largest body, through what stands in front."""
     part.same(f"a get through {what}", through(port, "GET", "/?q=1")[0], 302)
     part.same(f"a push through {what}", through(port, "POST", "/_/push", b'{"key":"k1","kind":"tag","ref":"1.0"}')[0], 200)
-    part.same(f"the largest upload through {what}", through(port, "POST", "/_/upload", upload(4194304)), (200, b'{"answer":"stored","pages":1}'))
+    stored = 200, b'{"answer":"stored","pages":1}'
+    part.same(f"the largest upload through {what}", through(port, "POST", "/_/upload", upload(4194304)), stored)
     part.same(f"a page of 1 MiB through {what}", through(port, "GET", "/en/main/large.txt"), (200, b"x" * 1048576))
     part.same(f"a larger upload through {what}", through(port, "POST", "/_/upload", upload(4194305))[0], 413)
 
