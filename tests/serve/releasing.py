@@ -100,7 +100,7 @@ class Checkout:
 
     def git(self, *words):
         own = ["-c", "user.name=test", "-c", "user.email=test@docs.test", "-c", "init.defaultBranch=main"]
-        subprocess.run(["git", *own, *words], cwd=self.root, check=True, capture_output=True)
+        return subprocess.run(["git", *own, *words], cwd=self.root, check=True, capture_output=True, encoding="utf-8").stdout
 
 
 def release(part):
@@ -251,7 +251,12 @@ def refusals(part, checkout):
     checkout.git("commit", "--message", "test")
     ended = checkout("tools/release")
     part.check("an archive", ended.returncode == 0 and os.path.isfile(ended.stdout.rstrip()), ended)
-    part.check("it says what is known", "by toolchain" not in ended.stderr and "no pass over this commit is known" in ended.stderr, ended)
+    good = "toolchain  toolchain of the test" in ended.stderr and "no pass over this commit is known" in ended.stderr
+    part.check("it says what is known", good, ended)
+    for commit, says in ((checkout.git("rev-parse", "HEAD").strip(), "passed over this commit: 5 passed"), ("0" * 40, "no pass over")):
+        Path(made, "gate").write_text(f"{commit} 5 passed, 0 failed, by the test\n")
+        ended = checkout("tools/release")
+        part.check(f"the gate over {commit}", f".ci/run: {says}" in ended.stderr, ended)
     shutil.rmtree(made)
     (checkout.root / "crates.txt").open("a").write("# more\n")
     checkout.git("commit", "--all", "--message", "test")
