@@ -217,7 +217,7 @@ def meanwhile(part, checkout):
     file = "crates/dh_texts/src/lib.rt"
     for what, command in (
         ("a file changed", f"echo >> {file}"),
-        ("a file changed and changed back", f"cp -p {file} kept; echo >> {file}; mv kept {file}"),
+        ("a file and its time changed back", f"cp -p {file} kept; echo >> {file}; cat kept > {file}; touch -r kept {file}"),
         ("a file came and went", "touch crates/dh_texts/specs/New.antt; rm crates/dh_texts/specs/New.antt"),
         ("crates.txt changed", "echo '# more' >> crates.txt"),
     ):
