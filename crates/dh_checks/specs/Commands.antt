@@ -14,7 +14,7 @@ use Rattle.dh_world.specs.declared.pages.UploadedPage.{UploadedPage}
 use Rattle.dh_world.specs.declared.refusal.Refusal.{Refusal}
 use Rattle.dh_checks.specs.declared.checking.CheckedChange.{CheckedChange}
 use Rattle.dh_checks.specs.declared.checking.CheckedCommand.{CheckedCommand}
-use Rattle.dh_checks.specs.declared.checking.CheckedChange.TheVariants.{NewProject, AddLang, Push, Upload, SetProperty, Deactivate, Gone, SetDefault, AddRule, DropRule, AddRedirect, DropRedirect, AddPass, DropPass, Grant, Revoke}
+use Rattle.dh_checks.specs.declared.checking.CheckedChange.TheVariants.{NewProject, AddLang, Push, Upload, SetProperty, Deactivate, Gone, SetDefault, AddRule, DropRule, AddRedirect, DropRedirect, ImportRedirects, AddPass, DropPass, Grant, Revoke}
 
 -- ---- the change
 
@@ -39,7 +39,8 @@ change_of (AddRule x) = change.AddRule x.place x.rule
 change_of (DropRule place) = change.DropRule place
 change_of (AddRedirect x) = change.AddRedirect x.place x.redirect
 change_of (DropRedirect place) = change.DropRedirect place
-change_of (AddPass pass) = change.AddPass pass
+change_of (ImportRedirects x) = change.ImportRedirects x.redirects.now
+change_of (AddPass pass until) = change.AddPass pass until
 change_of (DropPass pass) = change.DropPass pass
 change_of (Grant pass slug) = change.Grant pass slug
 change_of (Revoke pass slug) = change.Revoke pass slug

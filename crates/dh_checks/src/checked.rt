@@ -4,7 +4,7 @@ ghost use Rattle.std.proofs.Props.{props};
 ghost use Rattle.dh_texts.specs.SlugOfName.{slug_from};
 ghost use Rattle.dh_rules.specs.Rules.{is_allowed};
 ghost use Rattle.dh_redirects.specs.Redirects.{first_fault};
-ghost use Rattle.dh_world.specs.WrongTexts.{have_contents};
+ghost use Rattle.dh_world.specs.WrongTexts.{bad_redirects, have_contents};
 
 use dh_paths::{Lang, PagePath, RefName, Slug, Token};
 use dh_redirects::Redirect;
@@ -94,4 +94,11 @@ pub struct CheckedRedirect {
     pub place: u32,
     pub redirect: Redirect,
     ghost good: { first_fault redirect ≡ None } by { Prim.hlevel props },
+}
+
+/// Redirects of a list that pass their checks, in its order. They stay where the command has them.
+#[derive(Drop)]
+pub struct CheckedImport<'c> {
+    pub redirects: &'c [Redirect],
+    ghost good: { bad_redirects redirects.now ≡ None } by { Prim.hlevel props },
 }

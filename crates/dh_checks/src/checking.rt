@@ -3,13 +3,15 @@
 ghost use Rattle.dh_checks.specs.Commands.{ChecksChange, ChecksCommand, setting};
 
 use crate::checked::{
-    CheckedPush, CheckedRedirect, CheckedRule, CheckedUpload, NewProject, ProjectSettings,
+    CheckedImport, CheckedPush, CheckedRedirect, CheckedRule, CheckedUpload, NewProject, ProjectSettings,
 };
 use crate::pages::check_pages;
-use crate::texts::{redirect_in, retry_key_in, rule_in, slug_in_name, text_in};
+use crate::texts::{
+    check_redirects, redirect_in, retry_key_in, rule_in, slug_in_name, text_in, until_in,
+};
 use dh_paths::{HostName, Lang, Slug, Text, Token};
 use dh_versions::Kind;
-use dh_world::{Command, CommandChange, Pages, Property, Refusal};
+use dh_world::{Command, CommandChange, Pages, PassEnd, Property, Refusal};
 use std::alloc::Global;
 
 /// What a command asks of the project of its host.
@@ -28,13 +30,14 @@ pub enum CheckedChange<'c> {
     DropRule { place: u32 },
     AddRedirect(CheckedRedirect),
     DropRedirect { place: u32 },
-    AddPass { pass: Token },
+    ImportRedirects(CheckedImport<'c>),
+    AddPass { pass: Token, until: Option<PassEnd> },
     DropPass { pass: Token },
     Grant { pass: Token, slug: Slug },
     Revoke { pass: Token, slug: Slug },
 }
 
-/// A command whose texts are right. The pages of an upload are borrowed from the command itself.
+/// A command whose texts are right. The pages of an upload, and the redirects of a list, are borrowed from the command itself.
 #[derive(Drop)]
 pub struct CheckedCommand<'c> {
     pub host: HostName,
@@ -182,9 +185,14 @@ fn check_change<'c>(alloc: Global, change: &'c CommandChange) -> Result<CheckedC
             Ok(CheckedChange::AddRedirect(CheckedRedirect { place, redirect }))
         }
         CommandChange::DropRedirect { place } => Ok(CheckedChange::DropRedirect { place: *place }),
-        CommandChange::AddPass { pass } => {
+        CommandChange::ImportRedirects { list } => {
+            let redirects = check_redirects(list.as_slice())?;
+            Ok(CheckedChange::ImportRedirects(CheckedImport { redirects }))
+        }
+        CommandChange::AddPass { pass, until } => {
             let pass = text_in(alloc, pass)?;
-            Ok(CheckedChange::AddPass { pass })
+            let until = until_in(*until)?;
+            Ok(CheckedChange::AddPass { pass, until })
         }
         CommandChange::DropPass { pass } => {
             let pass = text_in(alloc, pass)?;

@@ -9,7 +9,7 @@ mod pages;
 mod texts;
 
 pub use checked::{
-    CheckedPage, CheckedPush, CheckedRedirect, CheckedRule, CheckedUpload, NewProject,
-    ProjectSettings,
+    CheckedImport, CheckedPage, CheckedPush, CheckedRedirect, CheckedRule, CheckedUpload,
+    NewProject, ProjectSettings,
 };
 pub use checking::{CheckedChange, CheckedCommand, check};

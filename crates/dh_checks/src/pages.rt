@@ -1,5 +1,5 @@
 //! The checks of the pages of an upload.
-ghost use Rattle.std.specs.Prelude.{◌≡◌, [], ◌∷◌, ◌++◌, OnOk};
+ghost use Rattle.std.specs.Prelude.{◌≡◌, ◌⊎◌, [], ◌∷◌, ◌++◌, OnOk, IfErr, IsTrue};
 ghost use Rattle.dh_texts.specs.Texts.{is_page_path};
 ghost use Rattle.dh_world.specs.CheckResults.{Reads, Checks};
 ghost use Rattle.dh_world.specs.WrongTexts.{has_path, bad_page, bad_pages};
@@ -20,7 +20,8 @@ fn stands_in(path: &Text, pages: &[UploadedPage]) -> bool
 }
 
 fn path_in(alloc: Global, text: &Text) -> Result<PagePath, Refusal>
-    ensures { Reads is_page_path Refusal.BadPath text.now result }
+    ensures reads { Reads is_page_path Refusal.BadPath text.now result }
+    ensures memory { IfErr result (λ e. (e ≡ Refusal.BadPath) ⊎ IsTrue (is_page_path text.now)) }
 {
     Ok(PagePath::parse(alloc, text.as_str())?)
 }

@@ -1,18 +1,18 @@
 //! The texts of commands, read one by one.
-ghost use Rattle.std.specs.Prelude.{◌≡◌, ◌⊎◌, Some, None, IfErr, IsTrue};
+ghost use Rattle.std.specs.Prelude.{◌≡◌, ◌⊎◌, ◌<◌, Some, None, IfErr, IsTrue, length};
 ghost use Rattle.dh_texts.specs.Texts.{is_token};
-ghost use Rattle.dh_texts.specs.SlugOfName.{slug_from};
+ghost use Rattle.dh_texts.specs.SlugOfName.{slug_from, slug_text};
 ghost use Rattle.dh_rules.specs.Patterns.{IsCustom};
 ghost use Rattle.dh_rules.specs.Rules.{is_allowed};
 ghost use Rattle.dh_world.specs.CheckResults.{Checks, ChecksOr, Reads, refusal_of};
 ghost use Rattle.dh_redirects.specs.Redirects.{first_fault};
-ghost use Rattle.dh_world.specs.WrongTexts.{bad_name, bad_rule, bad_redirect};
+ghost use Rattle.dh_world.specs.WrongTexts.{bad_name, bad_rule, bad_redirect, bad_redirects, bad_until};
 
 use dh_paths::{RefName, Slug, Text, TextFault, Token, slug_of};
 use dh_redirects::Redirect;
 use dh_rules::{CheckFault, Rule};
 use dh_texts::{Checked, Kind};
-use dh_world::Refusal;
+use dh_world::{PassEnd, Refusal};
 use std::alloc::Global;
 
 /// The text as one of a kind.
@@ -36,7 +36,9 @@ pub fn retry_key_in(alloc: Global, text: &Text) -> Result<Token, Refusal>
 
 /// The slug of a branch or tag.
 pub fn slug_in_name(alloc: Global, name: &RefName) -> Result<Slug, Refusal>
-    ensures { Checks (bad_name name.now) (λ slug. slug_from name.now ≡ Some slug) result }
+    ensures checks { Checks (bad_name name.now) (λ slug. slug_from name.now ≡ Some slug) result }
+    ensures memory { IfErr result
+        (λ e. (bad_name name.now ≡ Some e) ⊎ (0 < length (slug_text name.now))) }
 {
     Ok(slug_of(alloc, name)?)
 }
@@ -65,4 +67,32 @@ pub fn redirect_in(alloc: Global, redirect: &Redirect) -> Result<Redirect, Refus
         return Err(Refusal::BadRedirect(fault.number()));
     }
     Ok(redirect.try_copy(alloc)?)
+}
+
+/// The redirects of a list, where each passes its check; or the refusal of the first that does not.
+pub fn check_redirects(list: &[Redirect]) -> Result<&[Redirect], Refusal>
+    ensures checks { Checks (bad_redirects list.now)
+        (λ all. (all.now ≡ list.now) × (bad_redirects all.now ≡ None)) result }
+    ensures told { IfErr result (λ e. bad_redirects list.now ≡ Some e) }
+{
+    for redirect in list {
+        if let Err(bad) = redirect.check() {
+            return Err(Refusal::BadRedirect(bad.number()));
+        }
+    }
+    Ok(list)
+}
+
+/// When a pass ends, if it does.
+pub fn until_in(until: Option<u64>) -> Result<Option<PassEnd>, Refusal>
+    ensures checks { Checks (bad_until until) (λ end. end ≡ until) result }
+    ensures told { IfErr result (λ e. bad_until until ≡ Some e) }
+{
+    match until {
+        None => Ok(None),
+        Some(second) => match PassEnd::new(second) {
+            Some(end) => Ok(Some(end)),
+            None => Err(Refusal::BadUntil),
+        },
+    }
 }

@@ -2,3 +2,4 @@ pub mod UploadPlans
 pub mod LanguagePlans
 pub mod DefaultPlans
 pub mod PlacePlans
+pub mod ImportPlans

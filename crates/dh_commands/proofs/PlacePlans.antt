@@ -36,7 +36,7 @@ module _ {X : Type 0} (Q : X → Type 0) where
   good_behind (suc n) [] good = tt
   good_behind (suc n) (x ∷ xs) good = good_behind n xs good.1
 
-  good_both : (xs ys : List X) → AllByRecursion Q xs → AllByRecursion Q ys → AllByRecursion Q (xs ++ ys)
+  pub good_both : (xs ys : List X) → AllByRecursion Q xs → AllByRecursion Q ys → AllByRecursion Q (xs ++ ys)
   good_both [] ys good more = more
   good_both (x ∷ xs) ys good more = (good.0, good_both xs ys good.1 more)
 
@@ -91,7 +91,7 @@ set_found with change mine found r same is = ap (λ xs. set_to with (change xs))
 abbrev IsGoodRule : Rule → Type 0
 IsGoodRule r = IsTrue (is_allowed r.pattern)
 
-abbrev IsGoodRedirect : Redirect → Type 0
+abbrev pub IsGoodRedirect : Redirect → Type 0
 IsGoodRedirect r = first_fault r ≡ None
 
 module _ (f : Facts) (p : Project) where

@@ -1,9 +1,18 @@
 -- What a list comes to.
-use Rattle.std.specs.Prelude.{◌≡◌, ◌⊎◌, List, Result, Ok, Err}
+use Rattle.std.specs.Prelude.{◌≡◌, ◌≤◌, ◌<◌, ◌+◌, ◌⊎◌, List, length, Result, Ok, Err, IsOk}
+use Rattle.dh_redirects.specs.declared.redirect.Redirect.{Redirect}
+use Rattle.dh_world.specs.Changes.{with_new}
 use Rattle.dh_world.specs.declared.refusal.Refusal.{Refusal}
-use Rattle.dh_world.specs.declared.refusal.Refusal.TheVariants.{OutOfMemory}
+use Rattle.dh_world.specs.declared.refusal.Refusal.TheVariants.{OutOfMemory, TooMany}
 
--- what is said of it; out of memory may come anywhere
+-- what is said of it; where it is refused, memory is not told in its place
 abbrev pub Comes : {X : Type 0} → Result (List X) Refusal → Result (List X) Refusal → Type 0
 Comes said (Ok xs) = said ≡ Ok xs
-Comes said (Err e) = (e ≡ OutOfMemory) ⊎ (said ≡ Err e)
+Comes said (Err e) = ((e ≡ OutOfMemory) × IsOk said) ⊎ (said ≡ Err e)
+
+-- the redirects of a list that are not there stand behind those that are, unless they are too many; at most 100 come in
+abbrev pub TakesIn : List Redirect → List Redirect → Result (List Redirect) Refusal → Type 0
+TakesIn list there (Ok all) =
+    (with_new list there ≡ all) × (length there ≤ length all) × (length all ≤ length there + 100)
+    × (length there ≤ 100 → length all ≤ 100)
+TakesIn list there (Err e) = (e ≡ OutOfMemory) ⊎ ((e ≡ TooMany) × (100 < length (with_new list there)))

@@ -4,7 +4,7 @@ ghost use Rattle.dh_plans.specs.Knowing.{Decides};
 use crate::defaults::set_default;
 use crate::passes::{add_pass, drop_pass, grant, revoke};
 use crate::projects::add_lang;
-use crate::redirects::{add_redirect, drop_redirect};
+use crate::redirects::{add_redirect, drop_redirect, import_redirects};
 use crate::rules::{add_rule, drop_rule};
 use crate::uploads::upload;
 use crate::versions::remove_version;
@@ -38,7 +38,8 @@ fn decide_by<'c>(
         CheckedChange::DropRule { place } => drop_rule(alloc, place, facts),
         CheckedChange::AddRedirect(added) => add_redirect(alloc, added, facts),
         CheckedChange::DropRedirect { place } => drop_redirect(alloc, place, facts),
-        CheckedChange::AddPass { pass } => add_pass(alloc, pass, facts),
+        CheckedChange::ImportRedirects(import) => import_redirects(alloc, import, facts),
+        CheckedChange::AddPass { pass, until } => add_pass(alloc, pass, until, facts),
         CheckedChange::DropPass { pass } => drop_pass(alloc, pass, facts),
         CheckedChange::Grant { pass, slug } => grant(alloc, pass, slug, facts),
         CheckedChange::Revoke { pass, slug } => revoke(alloc, pass, slug, facts),

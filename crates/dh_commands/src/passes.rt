@@ -6,15 +6,20 @@ ghost use Rattle.dh_plans.specs.Plans.{missing_for_grant};
 use dh_checks::CheckedChange;
 use dh_paths::{Slug, Token};
 use dh_plans::{Edit, Facts, Plan};
-use dh_world::{Answer, Refusal};
+use dh_world::{Answer, PassEnd, Refusal};
 use std::alloc::Global;
 
 /// The most passes of a project.
 const MOST_PASSES: usize = 1000;
 
 /// Adds a pass that is not there, where there is room.
-pub fn add_pass<'c>(alloc: Global, pass: Token, facts: &Facts) -> Result<Plan<'c>, Refusal>
-    ensures { Decides (CheckedChange.AddPass pass) facts.now result }
+pub fn add_pass<'c>(
+    alloc: Global,
+    pass: Token,
+    until: Option<PassEnd>,
+    facts: &Facts,
+) -> Result<Plan<'c>, Refusal>
+    ensures { Decides (CheckedChange.AddPass pass until) facts.now result }
 {
     if facts.has_pass {
         return Err(Refusal::PassTaken);
@@ -22,7 +27,7 @@ pub fn add_pass<'c>(alloc: Global, pass: Token, facts: &Facts) -> Result<Plan<'c
     if facts.pass_count >= MOST_PASSES {
         return Err(Refusal::TooMany);
     }
-    Ok(Plan::one(alloc, Edit::AddPass(pass), Answer::Done)?)
+    Ok(Plan::one(alloc, Edit::AddPass { pass, until }, Answer::Done)?)
 }
 
 /// Removes a pass that is there, with its grants.

@@ -1,5 +1,5 @@
 -- A desk, and the world of its tables.
-use Rattle.std.specs.Prelude.{◌≡◌, Bool, true, false, Option, Result, Err, IfErr, refl}
+use Rattle.std.specs.Prelude.{◌≡◌, ℕ, Bool, true, false, Option, Result, Err, IfErr, refl}
 use Rattle.std.specs.Coded.{Coded, code_by, coded×, coded_bool}
 use Rattle.sqlite_trees.specs.declared.store.Store.{Ghosts}
 use Rattle.sqlite.specs.Held.{Held, held_code}
@@ -37,15 +37,15 @@ abbrev pub is_fault : Result Answer Refusal → Bool
 is_fault (Err Store) = true
 is_fault _ = false
 
--- the reply to a read under a host, for a caller who shows this pass or none: that of what the caller
--- sees of the world
-abbrev pub reply_in : World → Text → Option Text → Read → Reply
-reply_in w host pass asked =
-    reply_to (seen w (host_named host) (caller_named pass)) asked.path asked.query
+-- the reply to a read under a host, for a caller who shows this pass or none at this moment: that of what
+-- the caller sees of the world
+abbrev pub reply_in : World → Text → Option Text → ℕ → Read → Reply
+reply_in w host pass moment asked =
+    reply_to (seen w (host_named host) (caller_named pass moment)) asked.path asked.query
 
 -- the world that holds nothing but what that caller sees under the host
-abbrev pub veil_of : World → Text → Option Text → World
-veil_of w host pass = veil w (host_named host) (caller_named pass)
+abbrev pub veil_of : World → Text → Option Text → ℕ → World
+veil_of w host pass moment = veil w (host_named host) (caller_named pass moment)
 
 module _ {S : Type 0} (g : Ghosts S) where
   -- the world that the tables spell, as it was committed last

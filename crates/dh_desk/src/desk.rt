@@ -129,6 +129,13 @@ impl<S: Alter> Desk<S> {
         tables.into_conn()
     }
 
+    /// Whether a fault of the store has closed it.
+    pub fn is_closed(&self) -> bool
+        ensures { result ≡ self.now.closed }
+    {
+        self.closed
+    }
+
     /// Does a command, as one transaction. An accepted one has changed the world; a refused one has
     /// left it as it was. After a fault of the store the desk answers it to each command. Out of memory
     /// is told where the store answers after it: one that is out of memory too is told as a fault.
@@ -161,22 +168,24 @@ impl<S: Alter> Desk<S> {
     }
 
     /// The reply to a read under a host, for a caller who shows this pass or none. A name that is no
-    /// host's names no project, and a text that is no pass counts as none. After a fault of the store
-    /// the desk answers it to each call.
+    /// host's names no project, and a text that is no pass counts as none. `now` is the moment of the
+    /// read, in seconds since 1970. After a fault of the store the desk answers it to each call.
     pub fn read(
         &mut self,
         alloc: Global,
         host: &str,
         pass: Option<&str>,
         asked: &Read,
+        now: u64,
     ) -> Result<Reply, Fault>
         ensures value { IsHonest S.Store self.new.tables
             → IfOk result (λ r. r ≡ reply_in (world S.Store self.old) host.now
-            (option_map (λ text. text.now) pass.entry) asked.now) }
+            (option_map (λ text. text.now) pass.entry) now asked.now) }
         ensures veiled { IsHonest S.Store self.new.tables
             → IfOk result (λ r. r ≡ reply_in
-            (veil_of (world S.Store self.old) host.now (option_map (λ text. text.now) pass.entry))
-            host.now (option_map (λ text. text.now) pass.entry) asked.now) }
+            (veil_of (world S.Store self.old) host.now
+            (option_map (λ text. text.now) pass.entry) now)
+            host.now (option_map (λ text. text.now) pass.entry) now asked.now) }
         ensures same { IsHonest S.Store self.new.tables
             → world S.Store self.new ≡ world S.Store self.old }
         ensures rests { IsHonest S.Store self.new.tables
@@ -195,7 +204,7 @@ impl<S: Alter> Desk<S> {
         if self.closed {
             return Err(Fault::Store);
         }
-        let answer = read(&mut self.tables, alloc, host, pass, asked);
+        let answer = read(&mut self.tables, alloc, host, pass, asked, now);
         self.closed = is_unanswered(&answer);
         answer
     }

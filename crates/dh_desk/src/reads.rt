@@ -1,5 +1,5 @@
 //! Reads.
-ghost use Rattle.std.specs.Prelude.{◌≡◌, Some, None, false, IfOk, OnOk, if◌then◌else◌};
+ghost use Rattle.std.specs.Prelude.{◌≡◌, ◌⊎◌, Some, None, false, IfOk, IsTrue, OnErr, OnOk, if◌then◌else◌};
 ghost use Rattle.std.specs.Option.{option_map};
 ghost use Rattle.dh_faults.specs.Faults.{OnStore};
 ghost use Rattle.dh_reply.specs.Replies.{reply_to};
@@ -24,6 +24,7 @@ fn text_in<K: Kind>(alloc: Global, text: &str) -> Found<Checked<K>>
     ensures value { IfOk result (λ found.
         found ≡ (if K.test text.now then Some text.now else None)) }
     ensures told { OnStore result ⊥ }
+    ensures memory { OnErr result ((K.refusal ≡ TextFault.Memory) ⊎ IsTrue (K.test text.now)) }
 {
     match Checked::parse(alloc, text) {
         Ok(found) => Ok(Some(found)),
@@ -32,17 +33,17 @@ fn text_in<K: Kind>(alloc: Global, text: &str) -> Found<Checked<K>>
     }
 }
 
-/// The caller who shows this pass or none: a text that is no pass counts as none.
-fn caller_in(alloc: Global, pass: Option<&str>) -> Result<Caller, Fault>
+/// The caller who shows this pass or none at a moment: a text that is no pass counts as none.
+fn caller_in(alloc: Global, pass: Option<&str>, moment: u64) -> Result<Caller, Fault>
     ensures value { IfOk result (λ caller. caller
-        ≡ caller_named (option_map (λ text. text.now) pass.entry)) }
+        ≡ caller_named (option_map (λ text. text.now) pass.entry) moment) }
     ensures told { OnStore result ⊥ }
 {
     let pass = match pass {
         Some(text) => text_in(alloc, text)?,
         None => None,
     };
-    Ok(Caller { pass })
+    Ok(Caller { pass, moment })
 }
 
 /// The reply to a read, of tables outside a transaction.
@@ -72,15 +73,16 @@ pub fn read<S: Alter>(
     host: &str,
     pass: Option<&str>,
     asked: &Read,
+    moment: u64,
 ) -> Result<Reply, Fault>
     ensures value { IsHonest S.Store tables.new
         → IfOk result (λ r. r ≡ reply_to (seen (world_of (last_records S.Store tables.old))
-        (host_named host.now) (caller_named (option_map (λ text. text.now) pass.entry)))
+        (host_named host.now) (caller_named (option_map (λ text. text.now) pass.entry) moment))
         asked.now.path asked.now.query) }
     ensures veiled { IsHonest S.Store tables.new
         → IfOk result (λ r. r ≡ reply_in (veil_of (world_of (last_records S.Store tables.old))
-        host.now (option_map (λ text. text.now) pass.entry))
-        host.now (option_map (λ text. text.now) pass.entry) asked.now) }
+        host.now (option_map (λ text. text.now) pass.entry) moment)
+        host.now (option_map (λ text. text.now) pass.entry) moment asked.now) }
     ensures same { IsHonest S.Store tables.new
         → last_records S.Store tables.new ≡ last_records S.Store tables.old }
     ensures rests { IsHonest S.Store tables.new
@@ -90,7 +92,7 @@ pub fn read<S: Alter>(
     ensures lasts { Lasts S.Store tables.old tables.new }
 {
     let host = text_in(alloc, host)?;
-    let caller = caller_in(alloc, pass)?;
+    let caller = caller_in(alloc, pass, moment)?;
     tables.back()?;
     look(tables, alloc, host, caller, asked)
 }

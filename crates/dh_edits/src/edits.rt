@@ -13,7 +13,7 @@ use dh_paths::{Bytes, HostName, Lang, Slug, Text, Token};
 use dh_plans::{Edit, FirstAnswer};
 use dh_tables::{HeldRow, LangRow, PageRow, PassRow, Tables, VersionRow};
 use dh_versions::Version;
-use dh_world::Refusal;
+use dh_world::{PassEnd, Refusal};
 use sqlite::Alter;
 use std::alloc::{AllocError, Global};
 
@@ -171,14 +171,16 @@ fn add_pass<S: Alter>(
     alloc: Global,
     host: &HostName,
     pass: Token,
+    until: Option<PassEnd>,
 ) -> Result<(), Refusal>
-    requires may { HasRecords S.Store tables.old (RowsMay host.now (Edit.AddPass pass)) }
+    requires may { HasRecords S.Store tables.old (RowsMay host.now (Edit.AddPass pass until)) }
     ensures makes { Makes S.Store tables.old tables.new result
-        (rows_edited host.now (Edit.AddPass pass)) }
+        (rows_edited host.now (Edit.AddPass pass until)) }
 {
     let row = PassRow {
         host: host.try_copy(alloc)?,
         pass,
+        until,
     };
     Ok(tables.add_pass(&row)?)
 }
@@ -269,7 +271,7 @@ fn make_edit<S: Alter>(
         Edit::SetRedirects(redirects) => {
             Ok(tables.set_redirects(alloc, host, redirects.as_slice())?)
         }
-        Edit::AddPass(pass) => add_pass(tables, alloc, host, pass),
+        Edit::AddPass { pass, until } => add_pass(tables, alloc, host, pass, until),
         Edit::RemovePass(pass) => remove_pass(tables, host, &pass),
         Edit::Grant { pass, slug } => grant(tables, alloc, host, pass, slug),
         Edit::Revoke { pass, slug } => revoke(tables, host, &pass, &slug),

@@ -48,15 +48,15 @@ taken_ok : {E : Type 0} (r : Result Reply E) (a b : Reply) → a ≡ b → IfOk 
 taken_ok (Ok q) a b same h = h ∙ same
 taken_ok (Err e) a b same h = tt
 
--- who shows this pass, or none
-abbrev pub by : Option (List ℕ) → Caller
-by pass = record { pass = pass }
+-- who shows this pass, or none, at a moment
+abbrev pub by : ℕ → Option (List ℕ) → Caller
+by moment pass = record { pass = pass; moment = moment }
 
 -- the reply to the texts of a host and of a pass
-pub read_shown : {E : Type 0} (r : Result Reply E) (o : Option Reply) (w : World) (named host : Option (List ℕ)) (shown : Caller) (pass : Option (List ℕ)) (read : Read) → o ≡ result_ok r → named ≡ host → shown ≡ caller_named pass → IfOk r (λ q. q ≡ reply_to (seen w named shown) read.path read.query) → IfSome o (λ q. q ≡ read_reply w host pass read)
-read_shown r o w named host shown pass read taken host_is caller_is value =
+pub read_shown : {E : Type 0} (r : Result Reply E) (o : Option Reply) (moment : ℕ) (w : World) (named host : Option (List ℕ)) (shown : Caller) (pass : Option (List ℕ)) (read : Read) → o ≡ result_ok r → named ≡ host → shown ≡ caller_named pass moment → IfOk r (λ q. q ≡ reply_to (seen w named shown) read.path read.query) → IfSome o (λ q. q ≡ read_reply moment w host pass read)
+read_shown r o moment w named host shown pass read taken host_is caller_is value =
     let reply = λ (h : Option (List ℕ)) (c : Caller). reply_to (seen w h c) read.path read.query in
-    let same : reply named shown ≡ read_reply w host pass read =
+    let same : reply named shown ≡ read_reply moment w host pass read =
     ap (λ h. reply h shown) host_is ∙ ap (λ c. reply host c) caller_is in
-    subst (λ v. IfSome v (λ q. q ≡ read_reply w host pass read)) (sym taken)
-    (taken_ok r (reply named shown) (read_reply w host pass read) same value)
+    subst (λ v. IfSome v (λ q. q ≡ read_reply moment w host pass read)) (sym taken)
+    (taken_ok r (reply named shown) (read_reply moment w host pass read) same value)

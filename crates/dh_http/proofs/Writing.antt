@@ -18,21 +18,21 @@ writes_as P Q held now (Err (fault.Write n)) h w = (w.0, w.1, h w.0 w.1 w.2, w.3
 writes_as P Q held now (Err fault.Read) h w = w
 writes_as P Q held now (Err fault.TooManyTurns) h w = w
 
-answers_source : (before after : World) (left : Option (List ℕ)) (request : Request) → IfSome left (λ input. IsRequest input request) → (s : ℕ) (t : List ℕ) → AnswersRequest before after request s t → AnswersSource left before after s t
-answers_source before after left request is s t a = inl (request, is, a)
+answers_source : (moment : ℕ) (before after : World) (left : Option (List ℕ)) (request : Request) → IfSome left (λ input. IsRequest input request) → (s : ℕ) (t : List ℕ) → AnswersRequest moment before after request s t → AnswersSource moment left before after s t
+answers_source moment before after left request is s t a = inl (request, is, a)
 
 -- the answer to the request that the input is
-pub request_answered : (before after : World) (left held now : Option (List ℕ)) (request : Request) (r : Result Done EngineFault) → IfSome left (λ input. IsRequest input request) → Writes (AnswersRequest before after request) held now r → Writes (AnswersSource left before after) held now r
-request_answered before after left held now request r is w =
-    writes_as (AnswersRequest before after request) (AnswersSource left before after) held now r (answers_source before after left request is) w
+pub request_answered : (moment : ℕ) (before after : World) (left held now : Option (List ℕ)) (request : Request) (r : Result Done EngineFault) → IfSome left (λ input. IsRequest input request) → Writes (AnswersRequest moment before after request) held now r → Writes (AnswersSource moment left before after) held now r
+request_answered moment before after left held now request r is w =
+    writes_as (AnswersRequest moment before after request) (AnswersSource moment left before after) held now r (answers_source moment before after left request is) w
 
-unread : (world : World) (left : Option (List ℕ)) (s : ℕ) (t : List ℕ) → IsWritten unavailable false s t → AnswersSource left world world s t
-unread world left s t w = inr (refl, w)
+unread : (moment : ℕ) (world : World) (left : Option (List ℕ)) (s : ℕ) (t : List ℕ) → IsWritten unavailable false s t → AnswersSource moment left world world s t
+unread moment world left s t w = inr (refl, w)
 
 -- the 503 where memory ran out while the request was read
-pub unread_answered : (world : World) (left held now : Option (List ℕ)) (r : Result Done EngineFault) → Writes (IsWritten unavailable false) held now r → Writes (AnswersSource left world world) held now r
-unread_answered world left held now r w =
-    writes_as (IsWritten unavailable false) (AnswersSource left world world) held now r (unread world left) w
+pub unread_answered : (moment : ℕ) (world : World) (left held now : Option (List ℕ)) (r : Result Done EngineFault) → Writes (IsWritten unavailable false) held now r → Writes (AnswersSource moment left world world) held now r
+unread_answered moment world left held now r w =
+    writes_as (IsWritten unavailable false) (AnswersSource moment left world world) held now r (unread moment world left) w
 
 -- what holds where a request is refused holds where the input asks in vain: it is but one request
 pub in_vain : (P : Type 0) (left : Option (List ℕ)) (request : Request) → IfSome left (λ input. IsRequest input request) → (IsRefusal request → P) → IfSome left (λ input. AsksInVain input → P)

@@ -22,10 +22,10 @@ use Rattle.dh_http.specs.declared.fault.Done.{Done}
 use Rattle.dh_http.specs.declared.fault.EngineFault.{EngineFault}
 use Rattle.dh_http.specs.declared.fault.EngineFault.TheVariants as fault
 
--- the reply to a read: that of the definition, of what the caller sees of the world
-abbrev pub read_reply : World → Option (List ℕ) → Option (List ℕ) → Read → Reply
-read_reply world host pass read =
-    reply_to (seen world host (caller_named pass)) read.path read.query
+-- the reply to a read at a moment: that of the definition, of what the caller sees of the world
+abbrev pub read_reply : ℕ → World → Option (List ℕ) → Option (List ℕ) → Read → Reply
+read_reply moment world host pass read =
+    reply_to (seen world host (caller_named pass moment)) read.path read.query
 
 -- a command is one step of the world, or is refused, or set aside, and this replies to it
 abbrev pub IsAppliedAs : World → World → Command → Reply → Type 0
@@ -34,12 +34,13 @@ IsAppliedAs before after command reply =
     × IsStep before after command outcome
     × (reply ≡ command_reply outcome)
 
--- the reply to a request: a command alone changes the world
-abbrev pub IsReplyTo : World → World → Request → Reply → Type 0
-IsReplyTo before after (request.Read host pass read head) reply =
-    (after ≡ before) × (reply ≡ read_reply before host pass read)
-IsReplyTo before after (request.Apply command) reply = IsAppliedAs before after command reply
-IsReplyTo before after (request.Refused status allow head) reply =
+-- the reply to a request at a moment: a command alone changes the world
+abbrev pub IsReplyTo : ℕ → World → World → Request → Reply → Type 0
+IsReplyTo moment before after (request.Read host pass read head) reply =
+    (after ≡ before) × (reply ≡ read_reply moment before host pass read)
+IsReplyTo moment before after (request.Apply command) reply =
+    IsAppliedAs before after command reply
+IsReplyTo moment before after (request.Refused status allow head) reply =
     (after ≡ before) × (reply ≡ fault_reply_of status allow)
 
 -- a command was done, or refused, or set aside
@@ -54,9 +55,9 @@ MayDo before after (request.Apply command) = MayApply before after command
 MayDo before after (request.Refused status allow head) = after ≡ before
 
 -- the reply to a request, where one was made
-abbrev pub Makes : World → World → Request → Option Reply → Type 0
-Makes before after request (Some reply) = IsReplyTo before after request reply
-Makes before after request None = MayDo before after request
+abbrev pub Makes : ℕ → World → World → Request → Option Reply → Type 0
+Makes moment before after request (Some reply) = IsReplyTo moment before after request reply
+Makes moment before after request None = MayDo before after request
 
 -- the reply's body is left out
 abbrev pub is_bodiless : Request → Bool
@@ -70,20 +71,20 @@ pub record IsWritten (reply : Reply) (head : Bool) (status : ℕ) (text : List �
   pub text_is : text ≡ reply_bytes_of reply head
 
 -- the status and the bytes that answer a request: those of its reply; or of a 503, whose cause is not told
-abbrev pub AnswersRequest : World → World → Request → ℕ → List ℕ → Type 0
-AnswersRequest before after request status text =
+abbrev pub AnswersRequest : ℕ → World → World → Request → ℕ → List ℕ → Type 0
+AnswersRequest moment before after request status text =
     (reply : Reply)
-    × (IsReplyTo before after request reply
+    × (IsReplyTo moment before after request reply
     ⊎ ((reply ≡ unavailable) × MayDo before after request))
     × IsWritten reply (is_bodiless request) status text
 
 -- the same for a source: of the request that it holds, and of some request where it does not tell its bytes; or a 503 before
 -- the request was known, and then nothing was done
-abbrev pub AnswersSource : Option (List ℕ) → World → World → ℕ → List ℕ → Type 0
-AnswersSource left before after status text =
+abbrev pub AnswersSource : ℕ → Option (List ℕ) → World → World → ℕ → List ℕ → Type 0
+AnswersSource moment left before after status text =
     ((request : Request)
     × IfSome left (λ input. IsRequest input request)
-    × AnswersRequest before after request status text)
+    × AnswersRequest moment before after request status text)
     ⊎ ((after ≡ before) × IsWritten unavailable false status text)
 
 -- a whole answer was written, and its status told; or exactly its first n bytes, where the writer failed; or nothing

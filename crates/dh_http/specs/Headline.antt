@@ -13,39 +13,40 @@ use Rattle.dh_http.specs.Answers.{read_reply}
 use Rattle.dh_http.specs.declared.fault.Done.{Done}
 use Rattle.dh_http.specs.declared.fault.EngineFault.{EngineFault}
 
--- the bytes of the reply to a read in a world, with its body or without: those of the reply's definition, of what the caller with
--- this pass sees under this host
-abbrev pub read_bytes : World → Option (List ℕ) → Option (List ℕ) → Read → Bool → List ℕ
-read_bytes world host pass read head = reply_bytes_of (read_reply world host pass read) head
+-- the bytes of the reply to a read at a moment in a world, with its body or without: those of the reply's definition, of what the
+-- caller with this pass sees under this host
+abbrev pub read_bytes : ℕ → World → Option (List ℕ) → Option (List ℕ) → Read → Bool → List ℕ
+read_bytes moment world host pass read head = reply_bytes_of (read_reply moment world host pass read) head
 
 -- the bytes are a 503, with its body or without
 abbrev pub IsUnavailable : List ℕ → Type 0
 IsUnavailable text = (head : Bool) × (text ≡ reply_bytes_of unavailable head)
 
 -- where the input is a read request, the bytes are those of its reply in this world, or a 503
-abbrev pub AnswersRead : World → List ℕ → List ℕ → Type 0
-AnswersRead world input text =
+abbrev pub AnswersRead : ℕ → World → List ℕ → List ℕ → Type 0
+AnswersRead moment world input text =
     (host pass : Option (List ℕ)) (read : Read) (head : Bool)
     → IsRequest input (request.Read host pass read head)
-    → (text ≡ read_bytes world host pass read head) ⊎ IsUnavailable text
+    → (text ≡ read_bytes moment world host pass read head) ⊎ IsUnavailable text
 
 -- where all was written, it answers what the source held, if that is a read request
 abbrev pub Headline
-    : World → Option (List ℕ) → Option (List ℕ) → Option (List ℕ) → Result Done EngineFault → Type 0
-Headline world left held now result =
+    : ℕ → World → Option (List ℕ) → Option (List ℕ) → Option (List ℕ) → Result Done EngineFault
+    → Type 0
+Headline moment world left held now result =
     OnOk result (IfSome left (λ input.
-    (text : List ℕ) × Appends held now text × AnswersRead world input text))
+    (text : List ℕ) × Appends held now text × AnswersRead moment world input text))
 
 -- two worlds that show the caller the same project under the host give the same bytes
 abbrev pub SameProjectSameBytes : Type 0
 SameProjectSameBytes =
-    (one other : World) (host pass : Option (List ℕ)) (read : Read) (head : Bool)
-    → seen one host (caller_named pass) ≡ seen other host (caller_named pass)
-    → read_bytes one host pass read head ≡ read_bytes other host pass read head
+    (one other : World) (host pass : Option (List ℕ)) (moment : ℕ) (read : Read) (head : Bool)
+    → seen one host (caller_named pass moment) ≡ seen other host (caller_named pass moment)
+    → read_bytes moment one host pass read head ≡ read_bytes moment other host pass read head
 
 -- the bytes are those in a world that holds nothing but what the caller sees of that project
 abbrev pub VeiledBytes : Type 0
 VeiledBytes =
-    (world : World) (host pass : Option (List ℕ)) (read : Read) (head : Bool)
-    → read_bytes (veil world host (caller_named pass)) host pass read head
-    ≡ read_bytes world host pass read head
+    (world : World) (host pass : Option (List ℕ)) (moment : ℕ) (read : Read) (head : Bool)
+    → read_bytes moment (veil world host (caller_named pass moment)) host pass read head
+    ≡ read_bytes moment world host pass read head

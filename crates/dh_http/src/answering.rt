@@ -1,6 +1,6 @@
 //! One request: read, done and answered.
 
-ghost use Rattle.std.specs.Prelude.{◌≡◌, true, false, IfSome, IsErrOf, option_map, if◌then◌else◌};
+ghost use Rattle.std.specs.Prelude.{◌≡◌, ℕ, true, false, IfSome, IsErrOf, option_map, if◌then◌else◌};
 ghost use Rattle.dh_ports.specs.Ports.{CountsUpTo, CountsAtLeast};
 ghost use Rattle.dh_requests.specs.Needs.{IsNeeded};
 ghost use Rattle.dh_requests.specs.Takes.{TookAtLeast};
@@ -31,28 +31,34 @@ fn read_reply<S: Alter>(
     host: &Option<HostName>,
     pass: &Option<Bytes>,
     read: &Read,
+    moment: u64,
 ) -> Option<Reply>
     ensures reads { Moves S.Store desk.old desk.new
         (λ before after. (after ≡ before) × IfSome result
-        (λ r. r ≡ spec.read_reply before host.now pass.now read.now)) }
+        (λ r. r ≡ spec.read_reply moment before host.now pass.now read.now)) }
 {
-    desk.read(alloc, host_text(host), pass_text(pass), read)
+    desk.read(alloc, host_text(host), pass_text(pass), read, moment)
         .ok()
 }
 
 /// Does a command, and gives its reply, unless memory is out.
 fn apply_reply<S: Alter>(alloc: Global, desk: &mut Desk<S>, command: &Command) -> Option<Reply>
-    ensures makes { Moves S.Store desk.old desk.new
-        (λ before after. spec.Makes before after (Request.Apply command.now) result) }
+    ensures makes { (moment : ℕ) → Moves S.Store desk.old desk.new
+        (λ before after. spec.Makes moment before after (Request.Apply command.now) result) }
 {
     command_reply(alloc, desk.apply(alloc, command)).ok()
 }
 
 /// Does what a request asks for, and gives the reply, unless memory is out or the store fails in a
 /// read.
-fn request_reply<S: Alter>(alloc: Global, desk: &mut Desk<S>, request: &Request) -> Option<Reply>
+fn request_reply<S: Alter>(
+    alloc: Global,
+    desk: &mut Desk<S>,
+    request: &Request,
+    moment: u64,
+) -> Option<Reply>
     ensures makes { Moves S.Store desk.old desk.new
-        (λ before after. spec.Makes before after request.now result) }
+        (λ before after. spec.Makes moment before after request.now result) }
     ensures refused { spec.IsRefusal request.now → desk.new ≡ desk.old }
 {
     match request {
@@ -61,7 +67,7 @@ fn request_reply<S: Alter>(alloc: Global, desk: &mut Desk<S>, request: &Request)
             pass,
             read,
             ..
-        } => read_reply(alloc, desk, host, pass, read),
+        } => read_reply(alloc, desk, host, pass, read, moment),
         Request::Apply { command } => apply_reply(alloc, desk, command),
         Request::Refused { status, allow, .. } => fault_reply(alloc, *status, *allow).ok(),
     }
@@ -83,13 +89,15 @@ fn make_answer<S: Alter>(
     alloc: Global,
     desk: &mut Desk<S>,
     request: &Request,
+    moment: u64,
 ) -> Option<(Reply, Vec<u8>)>
     ensures makes { Moves S.Store desk.old desk.new
-        (λ before after. spec.Makes before after request.now (option_map (λ made. made.0) result)) }
+        (λ before after. spec.Makes moment before after request.now
+        (option_map (λ made. made.0) result)) }
     ensures head { IfSome result (λ made. made.1.items ≡ head_of made.0) }
     ensures refused { spec.IsRefusal request.now → desk.new ≡ desk.old }
 {
-    let reply = request_reply(alloc, desk, request)?;
+    let reply = request_reply(alloc, desk, request, moment)?;
     let head = head_bytes(alloc, &reply).ok()?;
     Some((reply, head))
 }
@@ -100,16 +108,17 @@ fn answer_request<S: Alter, W: Sink>(
     desk: &mut Desk<S>,
     request: &Request,
     sink: &mut W,
+    moment: u64,
 ) -> Result<Done, EngineFault>
     requires { W.broken sink.old ≡ false }
     ensures writes { Moves S.Store desk.old desk.new
-        (λ before after. spec.Writes (spec.AnswersRequest before after request.now)
+        (λ before after. spec.Writes (spec.AnswersRequest moment before after request.now)
         (W.held sink.old) (W.held sink.new) result) }
     ensures refused { spec.IsRefusal request.now → desk.new ≡ desk.old }
     ensures writer_fault { W.broken sink.new ≡ spec.writer_failed result }
     ensures read { spec.is_unread result ≡ false }
 {
-    match make_answer(alloc, desk, request) {
+    match make_answer(alloc, desk, request, moment) {
         Some((reply, head)) => send_reply(sink, &reply, head.as_slice(), is_bodiless(request)),
         None => answer_unavailable(sink, is_bodiless(request)),
     }
@@ -119,19 +128,20 @@ fn answer_request<S: Alter, W: Sink>(
 ///
 /// A read is answered by what its caller sees of the project of its host; a POST to `/_/push` or
 /// `/_/upload` is one command; anything else is refused, and the desk is not asked. Out of memory, and where the store fails
-/// in a read, the reply is 503. At `Write` an accepted command stays.
+/// in a read, the reply is 503. At `Write` an accepted command stays. `now` is the moment of the request, in seconds since 1970.
 pub fn answer<S: Alter, R: Source, W: Sink>(
     alloc: Global,
     desk: &mut Desk<S>,
     source: &mut R,
     sink: &mut W,
+    now: u64,
 ) -> Result<Done, EngineFault>
     requires reader { R.broken source.old ≡ false }
     requires writer { W.broken sink.old ≡ false }
     ensures answers { Moves S.Store desk.old desk.new
-        (λ before after. spec.Writes (spec.AnswersSource (R.left source.old) before after)
+        (λ before after. spec.Writes (spec.AnswersSource now (R.left source.old) before after)
         (W.held sink.old) (W.held sink.new) result) }
-    ensures headline { IsHonest S.Store desk.new.tables → Headline
+    ensures headline { IsHonest S.Store desk.new.tables → Headline now
         (world S.Store desk.old) (R.left source.old) (W.held sink.old) (W.held sink.new) result }
     ensures unread { spec.is_unread result ≡ true
         → (desk.new ≡ desk.old) × (sink.new ≡ sink.old) }
@@ -148,7 +158,7 @@ pub fn answer<S: Alter, R: Source, W: Sink>(
     ensures reads { CountsUpTo (R.fills source.old) (R.fills source.new) 100000 }
 {
     match read_request(alloc, source) {
-        Ok(request) => answer_request(alloc, desk, &request, sink),
+        Ok(request) => answer_request(alloc, desk, &request, sink, now),
         Err(Stop::Memory) => answer_unavailable(sink, false),
         Err(Stop::Read) => Err(EngineFault::Read),
         Err(Stop::TooManyTurns) => Err(EngineFault::TooManyTurns),

@@ -1,6 +1,6 @@
 //! Who asks, and under which host.
 
-ghost use Rattle.std.specs.Prelude.{◌≡◌, option_map};
+ghost use Rattle.std.specs.Prelude.{◌≡◌, ℕ, option_map};
 ghost use Rattle.dh_world.specs.Reads.{caller_named, host_named};
 
 use dh_paths::{Bytes, HostName};
@@ -17,7 +17,8 @@ pub fn host_text(host: &Option<HostName>) -> &str
 
 /// The pass, where its bytes are a text; any other bytes are no pass.
 pub fn pass_text(pass: &Option<Bytes>) -> Option<&str>
-    ensures { caller_named (option_map (λ text. text.now) result) ≡ caller_named pass.now }
+    ensures { (moment : ℕ) → caller_named (option_map (λ text. text.now) result) moment
+        ≡ caller_named pass.now moment }
 {
     match pass {
         Some(pass) => str::from_utf8(pass.as_slice()).ok(),

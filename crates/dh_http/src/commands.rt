@@ -23,7 +23,8 @@ fn status_of(refusal: Refusal) -> u16
         | Refusal::BadPage
         | Refusal::BadPattern
         | Refusal::BadRedirect(_)
-        | Refusal::BadKey => 400,
+        | Refusal::BadKey
+        | Refusal::BadUntil => 400,
         Refusal::PatternRefused(_) | Refusal::Store | Refusal::OutOfMemory => 503,
         Refusal::ProjectTaken
         | Refusal::LangTaken
@@ -54,7 +55,7 @@ fn answer_text(alloc: Global, answer: &Answer) -> Result<String, AllocError>
     ensures { IfOk result (λ text. string_bytes text ≡ spec.answer_text answer.now) }
 {
     match answer {
-        Answer::Done => done_value(alloc)?.to_string(alloc),
+        Answer::Done | Answer::Added { .. } => done_value(alloc)?.to_string(alloc),
         Answer::Made { .. } => answer.json(alloc),
         Answer::Known { .. } => answer.json(alloc),
         Answer::Stored { .. } => answer.json(alloc),

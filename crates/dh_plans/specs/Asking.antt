@@ -5,7 +5,7 @@ use Rattle.dh_world.specs.World.{Text, op_code}
 use Rattle.dh_world.specs.declared.operation.Operation.{Operation}
 use Rattle.dh_world.specs.declared.operation.Operation.TheVariants as operation
 use Rattle.dh_checks.specs.declared.checking.CheckedChange.{CheckedChange}
-use Rattle.dh_checks.specs.declared.checking.CheckedChange.TheVariants.{NewProject, AddLang, Push, Upload, SetProperty, Deactivate, Gone, SetDefault, AddRule, DropRule, AddRedirect, DropRedirect, AddPass, DropPass, Grant, Revoke}
+use Rattle.dh_checks.specs.declared.checking.CheckedChange.TheVariants.{NewProject, AddLang, Push, Upload, SetProperty, Deactivate, Gone, SetDefault, AddRule, DropRule, AddRedirect, DropRedirect, ImportRedirects, AddPass, DropPass, Grant, Revoke}
 use Rattle.dh_checks.specs.declared.checked.ProjectSettings.{ProjectSettings}
 use Rattle.dh_plans.specs.Questions.{Asked, nothing, version_named}
 
@@ -31,7 +31,8 @@ asked_by (AddRule x) = record nothing { rules = true }
 asked_by (DropRule place) = record nothing { rules = true }
 asked_by (AddRedirect x) = record nothing { redirects = true }
 asked_by (DropRedirect place) = record nothing { redirects = true }
-asked_by (AddPass pass) = record nothing { pass = Some pass; pass_count = true }
+asked_by (ImportRedirects x) = record nothing { redirects = true }
+asked_by (AddPass pass until) = record nothing { pass = Some pass; pass_count = true }
 asked_by (DropPass pass) = record nothing { pass = Some pass }
 asked_by (Grant pass slug) = record (of_version slug) { pass = Some pass }
 asked_by (Revoke pass slug) = record (of_version slug) { pass = Some pass }

@@ -1,5 +1,5 @@
 -- What edits make of a project, and when they may be made.
-use Rattle.std.specs.Prelude.{◌≡◌, ◌≤◌, ◌<◌, ◌⊎◌, ◌+◌, Bool, false, ◌||◌, not, IsTrue, List, [], ◌∷◌, ◌++◌, length, Some, None, Result, Ok, Err, IsSome}
+use Rattle.std.specs.Prelude.{◌≡◌, ◌≤◌, ◌<◌, ◌⊎◌, ◌+◌, Bool, false, ◌||◌, not, IsTrue, List, [], ◌∷◌, ◌++◌, length, Some, None, Result, Ok, Err, IsSome, ⊤}
 use Rattle.std.specs.List.{AllByRecursion}
 use Rattle.std.specs.Option.{option_map_or}
 use Rattle.std.specs.FinMap.{get, insert, remove, retain_keys, contains_key, len}
@@ -13,7 +13,7 @@ use Rattle.dh_world.specs.Seen.{is_alias}
 use Rattle.dh_world.specs.WrongTexts.{is_content}
 use Rattle.dh_world.specs.World.{Text, Project, op_code, lies_under}
 use Rattle.dh_world.specs.declared.refusal.Refusal.{Refusal}
-use Rattle.dh_world.specs.declared.refusal.Refusal.TheVariants.{OutOfMemory}
+use Rattle.dh_world.specs.declared.refusal.Refusal.TheVariants.{OutOfMemory, TooMany}
 use Rattle.dh_plans.specs.Planned.{Planned}
 use Rattle.dh_plans.specs.declared.edits.Edit.{Edit}
 use Rattle.dh_plans.specs.declared.edits.Edit.TheVariants.{AddLang, PutVersion, PutWithoutPages, RemoveVersion, PutPage, RemovePages, SetDefaults, SetRules, SetRedirects, AddPass, RemovePass, Grant, Revoke, PutAnswer}
@@ -28,7 +28,7 @@ edited (RemovePages slug lang) p = record p { pages = retain_keys p.pages (λ ke
 edited (SetDefaults names) p = record p { defaults = names }
 edited (SetRules rules) p = record p { rules = rules }
 edited (SetRedirects redirects) p = record p { redirects = redirects }
-edited (AddPass pass) p = record p { passes = insert p.passes pass tt }
+edited (AddPass pass until) p = record p { passes = insert p.passes pass until }
 edited (RemovePass pass) p = record p { passes = remove p.passes pass; held = retain_keys p.held (λ key. not (bytes_eq key.0 pass)) }
 edited (Grant pass slug) p = record p { held = insert p.held (pass, slug) tt }
 edited (Revoke pass slug) p = record p { held = remove p.held (pass, slug) }
@@ -64,7 +64,7 @@ MayEdit (RemovePages slug lang) p = Unit {0}
 MayEdit (SetDefaults names) p = IsNewFront p names
 MayEdit (SetRules rules) p = (length rules ≤ 50) × AllByRecursion (λ r. IsTrue (is_allowed r.pattern)) rules
 MayEdit (SetRedirects redirects) p = (length redirects ≤ 100) × AllByRecursion (λ r. first_fault r ≡ None) redirects
-MayEdit (AddPass pass) p = (contains_key p.passes pass ≡ false) × (len p.passes < 1000)
+MayEdit (AddPass pass until) p = (contains_key p.passes pass ≡ false) × (len p.passes < 1000)
 MayEdit (RemovePass pass) p = Unit {0}
 MayEdit (Grant pass slug) p = IsTrue (contains_key p.passes pass) × IsTrue (contains_key p.versions slug)
 MayEdit (Revoke pass slug) p = Unit {0}
@@ -74,10 +74,16 @@ abbrev pub MayEditAll : List Edit → Project → Type 0
 MayEditAll [] p = Unit {0}
 MayEditAll (e ∷ es) p = MayEdit e p × MayEditAll es (edited e p)
 
--- a plan that is the change of this project, or the change's refusal; out of memory may come anywhere
+-- memory may run out before the change is made, or before a list is found too long
+abbrev pub MayRunOut : Change → Type 0
+MayRunOut (Ok made) = ⊤
+MayRunOut (Err TooMany) = ⊤
+MayRunOut (Err refusal) = ⊥
+
+-- a plan that is the change of this project, or the change's refusal, or out of memory
 abbrev pub Plans : Project → Change → Result Planned Refusal → Type 0
 Plans p change (Ok plan) = (change ≡ Ok (all_edited plan.edits p, plan.answer)) × MayEditAll plan.edits p
-Plans p change (Err e) = (e ≡ OutOfMemory) ⊎ (change ≡ Err e)
+Plans p change (Err e) = ((e ≡ OutOfMemory) × MayRunOut change) ⊎ (change ≡ Err e)
 
 -- this plan, unless out of memory
 abbrev pub Makes : Planned → Result Planned Refusal → Type 0

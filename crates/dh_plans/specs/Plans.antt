@@ -7,12 +7,13 @@ use Rattle.dh_versions.specs.Kinds.{same_kind}
 use Rattle.dh_rules.specs.Rules.{after_rules, IsCustomAt}
 use Rattle.dh_rules.specs.declared.rule.Fresh.{Fresh}
 use Rattle.dh_rules.specs.declared.rule.Rule.{Rule}
+use Rattle.dh_redirects.specs.declared.redirect.Redirect.{Redirect}
 use Rattle.dh_world.specs.Changes.{made, new_project, opened, version_of, without_name}
 use Rattle.dh_world.specs.Refusals.{unless}
 use Rattle.dh_world.specs.Seen.{is_alias}
 use Rattle.dh_world.specs.World.{Text}
 use Rattle.dh_world.specs.declared.answer.Answer.{Answer}
-use Rattle.dh_world.specs.declared.answer.Answer.TheVariants.{Done, Known, Stored}
+use Rattle.dh_world.specs.declared.answer.Answer.TheVariants.{Done, Known, Stored, Added}
 use Rattle.dh_world.specs.declared.operation.Operation.TheVariants as operation
 use Rattle.dh_world.specs.declared.pages.UploadedPage.{UploadedPage}
 use Rattle.dh_world.specs.declared.refusal.Refusal.{Refusal}
@@ -24,7 +25,7 @@ use Rattle.dh_checks.specs.declared.checked.CheckedPush.{CheckedPush}
 use Rattle.dh_checks.specs.declared.checked.CheckedUpload.{CheckedUpload}
 use Rattle.dh_checks.specs.declared.checked.NewProject.{NewProject}
 use Rattle.dh_plans.specs.declared.edits.Edit.{Edit}
-use Rattle.dh_plans.specs.declared.edits.Edit.TheVariants.{PutVersion, PutWithoutPages, PutPage, RemovePages, SetDefaults, PutAnswer}
+use Rattle.dh_plans.specs.declared.edits.Edit.TheVariants.{PutVersion, PutWithoutPages, PutPage, RemovePages, SetDefaults, SetRedirects, PutAnswer}
 use Rattle.dh_checks.specs.declared.checked.ProjectSettings.{ProjectSettings}
 
 -- ---- where the host has no project
@@ -94,6 +95,12 @@ plan_stored x = record {
   edits = pages_cleared x.replace x.slug x.lang ++ pages_put x.slug x.lang x.pages.items ++ upload_answered x ∷ [];
   answer = Stored (length x.pages.items);
 }
+
+-- ---- lists of redirects
+
+-- these are the redirects, so many more than before
+abbrev pub plan_imported : List Redirect → ℕ → Planned
+plan_imported redirects count = record { edits = SetRedirects redirects ∷ []; answer = Added count }
 
 -- ---- versions and their defaults
 

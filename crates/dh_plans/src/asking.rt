@@ -66,11 +66,13 @@ fn asked_by<'q>(change: &'q CheckedChange<'_>) -> Questions<'q>
             rules: true,
             ..nothing()
         },
-        CheckedChange::AddRedirect(_) | CheckedChange::DropRedirect { place: _ } => Questions {
+        CheckedChange::AddRedirect(_)
+        | CheckedChange::DropRedirect { place: _ }
+        | CheckedChange::ImportRedirects(_) => Questions {
             redirects: true,
             ..nothing()
         },
-        CheckedChange::AddPass { pass } => Questions {
+        CheckedChange::AddPass { pass, until: _ } => Questions {
             pass: Some(pass),
             pass_count: true,
             ..nothing()

@@ -5,7 +5,7 @@ use dh_paths::{Lang, Slug, Token};
 use dh_redirects::Redirect;
 use dh_rules::Rule;
 use dh_versions::Version;
-use dh_world::{Answer, Operation};
+use dh_world::{Answer, Operation, PassEnd};
 use std::marker::Model;
 
 /// The first answer to a retry key. It is one that has a JSON.
@@ -66,8 +66,11 @@ pub enum Edit<'c> {
     SetRules(Items<Rule>),
     /// These are the redirects, in the order in which they are tried.
     SetRedirects(Items<Redirect>),
-    /// There is a pass, which holds nothing.
-    AddPass(Token),
+    /// Adds a pass, which holds nothing.
+    AddPass {
+        pass: Token,
+        until: Option<PassEnd>,
+    },
     /// The pass is gone, with its grants.
     RemovePass(Token),
     /// The pass holds the version.

@@ -29,7 +29,7 @@ use Rattle.dh_checks.specs.declared.checked.CheckedPush.{CheckedPush}
 use Rattle.dh_plans.specs.declared.facts.Facts.{Facts}
 use Rattle.std.proofs.lemmas.Slice.Eq.{bytes_eq-Decides}
 use Rattle.dh_world.proofs.MapLemmas.{tied_text, text_total}
-use Rattle.dh_plans.proofs.Planning.{answered, is_asked, same_slug}
+use Rattle.dh_plans.proofs.Planning.{answered, is_asked, plans_by, same_slug}
 
 -- a slug that comes from a name is the name's text, and a slug
 named_slug : (name slug : Text) → slug_from name ≡ Some slug → (slug_text name ≡ slug) × IsTrue (is_slug slug)
@@ -158,5 +158,5 @@ module _ (x : CheckedPush) (f : Facts) (p : Project) (k : Knows (change.Push x) 
 pub decides_new : (x : CheckedPush) (f : Facts) → bytes_eq x.wkey f.settings.wkey ≡ true → f.first_answer ≡ None → f.version ≡ None
     → (r : Result Planned Refusal) → MakesNew f.settings x f.rules.items f.defaults.items r → Decides (change.Push x) f r
 decides_new x f right unused none (Ok plan) is = λ p k. subst (λ y. Plans p (push x.wkey x.key x.kind x.name p) (Ok y)) (sym is) (makes x f p k right unused none)
-decides_new x f right unused none (Err e) (inl is) = λ p k. inl (inl is)
+decides_new x f right unused none (Err e) (inl is) = λ p k. inl (plans_by p _ (plan_made x f.defaults.items (after_rules f.rules.items (pushed_fresh f.settings x))) (Err e) is (makes x f p k right unused none))
 decides_new x f right unused none (Err e) (inr (place, custom, is)) = λ p k. inr (stops x f p k right unused none place custom e is)

@@ -1,9 +1,10 @@
 -- Redirects of a documentation host (Read the Docs, Redirects), and which of them are refused.
-use Rattle.std.specs.Prelude.{ℕ, ◌-◌, Bool, true, false, ◌&&◌, ◌||◌, not, ◌==◌, nat_le, nat_eq, if◌then◌else◌, List, [], ◌∷◌, ◌++◌, length, take, codes, find, Option, Some, None}
+use Rattle.std.specs.Prelude.{ℕ, ◌-◌, ◌^◌, Bool, true, false, ◌&&◌, ◌||◌, not, ◌==◌, nat_le, nat_eq, if◌then◌else◌, List, [], ◌∷◌, ◌++◌, length, take, codes, find, Option, Some, None}
 use Rattle.std.specs.List.{list_all, list_any, starts_with, before_first}
 use Rattle.std.specs.Str.{bytes_eq}
 use Rattle.dh_texts.specs.Bytes.{hash, star, slash, question}
 use Rattle.dh_texts.specs.Texts.{is_no_control, first_byte, last_byte, rest_after}
+use Rattle.dh_texts.specs.Numbers.{decimal_below}
 use Rattle.dh_redirects.specs.declared.redirect.RedirectKind.{RedirectKind}
 use Rattle.dh_redirects.specs.declared.redirect.RedirectKind.TheVariants.{Page, Exact, CleanToHtml, HtmlToClean}
 use Rattle.dh_redirects.specs.declared.redirect.Redirect.{Redirect}
@@ -59,6 +60,19 @@ has_texts Page = true
 has_texts Exact = true
 has_texts CleanToHtml = false
 has_texts HtmlToClean = false
+
+-- the kind that a word names, and the number that the digits of a status write
+
+abbrev pub redirect_kind_of : List ℕ → Option RedirectKind
+redirect_kind_of text =
+    if bytes_eq text (codes "page") then Some Page
+    else if bytes_eq text (codes "exact") then Some Exact
+    else if bytes_eq text (codes "clean-to-html") then Some CleanToHtml
+    else if bytes_eq text (codes "html-to-clean") then Some HtmlToClean
+    else None
+
+abbrev pub redirect_status_of : List ℕ → Option ℕ
+redirect_status_of text = decimal_below (2 ^ 16) text
 
 -- whether a redirect has this fault
 abbrev pub has_fault : Redirect → BadRedirect → Bool

@@ -13,4 +13,4 @@ mod texts;
 pub use laws::to_is_filled_from_the_left;
 pub use old::from_old;
 pub use query::with_query;
-pub use redirect::{Asked, BadRedirect, Location, Parts, Redirect, RedirectKind};
+pub use redirect::{Asked, BadRedirect, Location, Parts, Redirect, RedirectKind, read_status};

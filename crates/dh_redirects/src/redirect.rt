@@ -2,9 +2,11 @@
 
 ghost use Rattle.std.specs.Prelude.{◌≡◌, ◌↔◌, IsTrue, IfOk};
 ghost use Rattle.std.specs.Result.{result_err};
+ghost use Rattle.dh_redirects.specs.Redirects.{redirect_status_of};
 
 use crate::texts::{absolute, early_star, final_star, holds_splat, path, short_text};
 use dh_paths::{Lang, Slug, Text};
+use dh_texts::read_u16;
 use std::alloc::{AllocError, Global};
 use thiserror::Error;
 
@@ -79,7 +81,20 @@ pub struct Location {
 }
 
 impl RedirectKind {
-    ghost use Rattle.dh_redirects.specs.Redirects.{has_texts};
+    ghost use Rattle.dh_redirects.specs.Redirects.{has_texts, redirect_kind_of};
+
+    /// The kind that a word names.
+    pub fn read(text: &str) -> Option<RedirectKind>
+        ensures { result ≡ redirect_kind_of text.now }
+    {
+        match text {
+            "page" => Some(RedirectKind::Page),
+            "exact" => Some(RedirectKind::Exact),
+            "clean-to-html" => Some(RedirectKind::CleanToHtml),
+            "html-to-clean" => Some(RedirectKind::HtmlToClean),
+            _ => None,
+        }
+    }
 
     /// Whether redirects of this kind have a From and a To.
     pub fn has_texts(self) -> bool
@@ -87,6 +102,13 @@ impl RedirectKind {
     {
         matches!(self, RedirectKind::Page | RedirectKind::Exact)
     }
+}
+
+/// The status that digits alone write: any number of 16 bits, whether or not a redirect may have it.
+pub fn read_status(text: &str) -> Option<u16>
+    ensures { result ≡ redirect_status_of text.now }
+{
+    read_u16(text)
 }
 
 impl BadRedirect {

@@ -90,8 +90,8 @@ module _ (host : Text) (lists : Lists) (p : Project) (sound : AreSound lists) (w
       subst (IsDistinct bytes_eq) (sym may.names_are) (front_distinct may.name p.defaults (defaults_distinct lists host p sound.constraints was))
   rows_may (SetRules rules) may = tt
   rows_may (SetRedirects redirects) may = tt
-  rows_may (AddPass pass) may =
-      pass_is_free (pass_row host pass) lists.passes (missing _ (sym (has_pass_in lists host p was pass) ∙ may.0))
+  rows_may (AddPass pass until) may =
+      pass_is_free (pass_row host pass until) lists.passes (missing _ (sym (has_pass_in lists host p was pass) ∙ may.0))
   rows_may (RemovePass pass) may = tt
   rows_may (Grant pass slug) may = tt
   rows_may (Revoke pass slug) may = tt
@@ -183,9 +183,9 @@ module _ (host : Text) (lists : Lists) (p : Project) (sound : AreSound lists) (w
       constraints = constraints_with_redirects lists host redirects sound.constraints sound.order.redirects owned may.0 may.1;
     };
   }
-  edit_spells (AddPass pass) may =
-      let row : PassRow = pass_row host pass in
-      let free : IsFreeKey coding.passes.key row lists.passes = rows_may (AddPass pass) may in
+  edit_spells (AddPass pass until) may =
+      let row : PassRow = pass_row host pass until in
+      let free : IsFreeKey coding.passes.key row lists.passes = rows_may (AddPass pass until) may in
       let few : length (filter (is_pass_of host) lists.passes) < 1000 =
       subst (λ n. n < 1000) (pass_count_in lists host p sound.order.passes was) may.1 in record {
         world_is = world_with_pass lists row p free was;

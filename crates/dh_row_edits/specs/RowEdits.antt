@@ -1,5 +1,5 @@
 -- What edits make of the records, and when they may be made of them.
-use Rattle.std.specs.Prelude.{◌≡◌, ℕ, false, List, [], ◌∷◌, Some, None}
+use Rattle.std.specs.Prelude.{◌≡◌, ℕ, false, List, [], ◌∷◌, Option, Some, None}
 use Rattle.std.specs.List.{IsDistinct}
 use Rattle.std.specs.Str.{bytes_eq}
 use Rattle.dh_plans.specs.declared.edits.Edit.{Edit}
@@ -37,8 +37,8 @@ page_row host slug lang x = record {
   page = record { media = x.media; body = x.body };
 }
 
-abbrev pub pass_row : Text → Text → PassRow
-pass_row host pass = record { host = host; pass = pass }
+abbrev pub pass_row : Text → Text → Option ℕ → PassRow
+pass_row host pass until = record { host = host; pass = pass; until = until }
 
 abbrev pub grant_row : Text → Text → Text → HeldRow
 grant_row host pass slug = record { host = host; pass = pass; slug = slug }
@@ -61,7 +61,7 @@ rows_edited host (RemovePages slug lang) l = change.drop_pages host slug (Some l
 rows_edited host (SetDefaults names) l = change.set_picks host names l
 rows_edited host (SetRules rules) l = change.set_rules host rules l
 rows_edited host (SetRedirects redirects) l = change.set_redirects host redirects l
-rows_edited host (AddPass pass) l = change.add_pass (pass_row host pass) l
+rows_edited host (AddPass pass until) l = change.add_pass (pass_row host pass until) l
 rows_edited host (RemovePass pass) l = change.drop_pass host pass (change.drop_grants_by host pass l)
 rows_edited host (Grant pass slug) l = change.grant (grant_row host pass slug) l
 rows_edited host (Revoke pass slug) l = change.revoke host pass slug l
@@ -79,7 +79,7 @@ RowsMay host (AddLang lang place) l =
     × (has_language l host lang ≡ false)
 RowsMay host (RemoveVersion slug defaults) l = IsDistinct bytes_eq defaults
 RowsMay host (SetDefaults names) l = IsDistinct bytes_eq names
-RowsMay host (AddPass pass) l = IsFreeKey coding.passes.key (pass_row host pass) l.passes
+RowsMay host (AddPass pass until) l = IsFreeKey coding.passes.key (pass_row host pass until) l.passes
 RowsMay host (PutAnswer a) l = IsFreeKey coding.used.key (answer_row host a) l.used
 RowsMay host _ l = Unit {0}
 

@@ -37,15 +37,17 @@ fn told(answered: Result<Done, EngineFault>) -> Result<Done, SampleFault>
 /// Reads one request, does what it asks for, and writes the whole reply to it, over a desk with the sample
 /// project alone.
 ///
-/// Where memory is out while the desk is made, the reply is 503 before anything is read.
+/// Where memory is out while the desk is made, the reply is 503 before anything is read. `now` is the moment of the request, in
+/// seconds since 1970.
 pub fn answer_sample<R: Source, W: Sink>(
     alloc: Global,
     source: &mut R,
     sink: &mut W,
+    now: u64,
 ) -> Result<Done, SampleFault>
     requires reader { R.broken source.old ≡ false }
     requires writer { W.broken sink.old ≡ false }
-    ensures writes { WritesTold (AnswersSample (R.left source.old))
+    ensures writes { WritesTold (AnswersSample now (R.left source.old))
         (W.held sink.old) (W.held sink.new) (engine_told result) }
     ensures reader_fault { R.broken source.new ≡ reader_failed (engine_told result) }
     ensures writer_fault { W.broken sink.new ≡ writer_failed (engine_told result) }
@@ -60,7 +62,7 @@ pub fn answer_sample<R: Source, W: Sink>(
         → (source.new ≡ source.old) × (sink.new ≡ sink.old) }
 {
     match sample_desk(alloc) {
-        Ok(mut desk) => told(answer(alloc, &mut desk, source, sink)),
+        Ok(mut desk) => told(answer(alloc, &mut desk, source, sink, now)),
         Err(Refusal::OutOfMemory) => told(answer_unavailable(sink, false)),
         Err(_) => Err(SampleFault::Store),
     }

@@ -1,1 +1,2 @@
 pub mod SlugLemmas
+pub mod NumberLemmas

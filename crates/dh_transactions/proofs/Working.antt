@@ -3,6 +3,7 @@ use Rattle.std.proofs.Common.{◌≡◌, ◌⊎◌, Some, Result, Ok, Err, sym, 
 use Rattle.std.specs.Result.{IsErrAnd}
 use Rattle.std.proofs.lemmas.Result.{err_from_is_err_and}
 use Rattle.dh_checks.specs.Commands.{change_of, command_of}
+use Rattle.dh_plans.specs.Edits.{MayRunOut}
 use Rattle.dh_plans.specs.Knowing.{Decides}
 use Rattle.dh_plans.specs.Planned.{Planned}
 use Rattle.dh_checks.specs.declared.checking.CheckedChange.{CheckedChange}
@@ -32,9 +33,9 @@ module _ (host : Text) (change : CheckedChange) (lists : Lists) (f : Facts) (fou
       subst (Turns lists after (command_of host change)) (sym (at.1 ∙ ap Err at.2)) (go (decided found.0 found.2))
     where
       go
-          : ((e ≡ OutOfMemory) ⊎ (world.change (change_of change) found.0 ≡ Err e)) ⊎ PushRefused (change_of change) found.0 e
+          : (((e ≡ OutOfMemory) × MayRunOut (world.change (change_of change) found.0)) ⊎ (world.change (change_of change) found.0 ≡ Err e)) ⊎ PushRefused (change_of change) found.0 e
           → Turns lists after (command_of host change) (Err e)
-      go (inl (inl memory)) = inl (inr memory)
+      go (inl (inl memory)) = inl (inr memory.0)
       go (inl (inr is)) = inr (inr (turn_at host change lists (Some found.0) found.1 ∙ ap (settled (world_of lists) host) is))
       go (inr refused) = inr (inl (subst (λ o. PushRefusedAt (change_of change) o e) (sym found.1) refused))
 

@@ -22,7 +22,7 @@ use Rattle.dh_records.specs.declared.records.PickRow.{PickRow}
 use Rattle.dh_records.specs.declared.records.HeldRow.{HeldRow}
 use Rattle.dh_world.specs.declared.caller.Caller.{Caller}
 use Rattle.dh_world.specs.World.{Text, text_cmp, Project}
-use Rattle.dh_world.specs.Visibility.{holds, is_visible, may_see}
+use Rattle.dh_world.specs.Visibility.{live_pass, holds, is_visible, may_see}
 use Rattle.dh_records.specs.Lists.{Lists, project_of, world_of, is_project, is_version, is_version_of, is_page, is_lang_of, is_pick_of, is_redirect_of}
 use Rattle.dh_world.specs.Seen.{seen_project, without_default, default_of, visible_versions}
 use Rattle.dh_records.specs.Constraints.{RiseBySlug}
@@ -43,9 +43,9 @@ alike : (p : Text → Bool) (q x : Text) → text_cmp q x ≡ Equal → p x ≡ 
 alike p q x e = ap p (sym (exact_bytes q x e))
 
 pub visible_is : (lists : Lists) (row : ProjectRow) (c : Caller) (slug : Text)
-    → get (visible_versions (project_of lists row) c) slug ≡ if_seen (holds (project_of lists row) c.pass slug) (find (is_version row.host slug) lists.versions)
+    → get (visible_versions (project_of lists row) c) slug ≡ if_seen (holds (project_of lists row) (live_pass (project_of lists row) c) slug) (find (is_version row.host slug) lists.versions)
 visible_is lists row c slug =
-    let held = holds (project_of lists row) c.pass slug in
+    let held = holds (project_of lists row) (live_pass (project_of lists row) c) slug in
     get-retain_keys (project_of lists row).versions (is_visible (project_of lists row) c) slug (alike _ slug)
     ∙ ap (λ o. cond (option_map_or (λ v. may_see v held) o false) o None) (get_version lists row slug) ∙ go held (find (is_version row.host slug) lists.versions)
   where
@@ -104,7 +104,7 @@ found_version name (e ∷ es) own =
 own_keys : (lists : Lists) (row : ProjectRow) (c : Caller) → AllByRecursion IsOwnKey (entries (visible_versions (project_of lists row) c))
 own_keys lists row c =
     let m = visible_versions (project_of lists row) c in
-    each (λ e found. slug_of (holds (project_of lists row) c.pass e.0) row.host e.0 lists.versions e.1 (sym (visible_is lists row c e.0) ∙ get-entries m e.0 ∙ found)) (entries m) (each_found (entries m) (entries_sorted m))
+    each (λ e found. slug_of (holds (project_of lists row) (live_pass (project_of lists row) c) e.0) row.host e.0 lists.versions e.1 (sym (visible_is lists row c e.0) ∙ get-entries m e.0 ∙ found)) (entries m) (each_found (entries m) (entries_sorted m))
 
 abbrev pub own_name : Version → Named
 own_name v = record { slug = v.slug; alias = false }
@@ -168,7 +168,7 @@ module _ (lists : Lists) (row : ProjectRow) (c : Caller) where
   whole = seen_project (project_of lists row) c
 
   abbrev held : Text → Bool
-  held = holds (project_of lists row) c.pass
+  held = holds (project_of lists row) (live_pass (project_of lists row) c)
 
   found_as : (name : Text) (o : Option VersionRow) (r : VersionRow) → o ≡ find (is_version row.host name) lists.versions → o ≡ Some r → cond (may_see r.version (held r.version.slug)) (Some r.version) None ≡ get visible name
   found_as name o r e is =
@@ -191,10 +191,10 @@ module _ (lists : Lists) (row : ProjectRow) (c : Caller) where
   -- what decides over the versions as the pass does leaves those that are shown
   pub kept_are : (at : Lists) (grants opened : List HeldRow) (rows asked kept : List VersionRow) → at ≡ lists → rows ≡ filter (is_version_of row.host) lists.versions → asked ≡ rows → opened ≡ grants
       → kept ≡ filter (λ r. may_see r.version (opens opened r.version.slug)) rows
-      → AllByRecursion (λ r. may_see r.version (opens grants r.version.slug) ≡ may_see r.version (holds (project_of at row) c.pass r.version.slug)) asked
+      → AllByRecursion (λ r. may_see r.version (opens grants r.version.slug) ≡ may_see r.version (holds (project_of at row) (live_pass (project_of at row) c) r.version.slug)) asked
       → kept ≡ filter is_shown (filter (is_version_of row.host) lists.versions)
   kept_are at grants opened rows asked kept same e a o k all =
-      let told = subst (λ l. AllByRecursion (λ r. may_see r.version (opens grants r.version.slug) ≡ may_see r.version (holds (project_of l row) c.pass r.version.slug)) asked) same all in
+      let told = subst (λ l. AllByRecursion (λ r. may_see r.version (opens grants r.version.slug) ≡ may_see r.version (holds (project_of l row) (live_pass (project_of l row) c) r.version.slug)) asked) same all in
       k ∙ ap (λ gs. filter (λ r. may_see r.version (opens gs r.version.slug)) rows) o
       ∙ same_filter (λ r. may_see r.version (opens grants r.version.slug)) is_shown rows (subst (AllByRecursion (λ r. may_see r.version (opens grants r.version.slug) ≡ is_shown r)) a told) ∙ ap (filter is_shown) e
 

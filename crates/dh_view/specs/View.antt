@@ -20,7 +20,7 @@ use Rattle.dh_records.specs.declared.records.HeldRow.{HeldRow}
 use Rattle.dh_records.specs.declared.records.ProjectRow.{ProjectRow}
 use Rattle.dh_world.specs.declared.caller.Caller.{Caller}
 use Rattle.dh_world.specs.World.{Text, text_cmp, Project}
-use Rattle.dh_world.specs.Visibility.{holds, may_see}
+use Rattle.dh_world.specs.Visibility.{live_pass, holds, may_see}
 use Rattle.dh_world.specs.Seen as sight
 use Rattle.dh_schema.specs.Calling.{Blames, Learns}
 use Rattle.dh_schema.specs.InTurn.{blamed_before, lasts_none, lasts_on, same_none, same_on, shut_before}
@@ -56,9 +56,9 @@ abbrev pub shown_under : Lists → Option Text → Caller → Option SeenProject
 shown_under l host caller = sight.seen (world_of l) host caller
 
 module _ (l : Lists) (row : ProjectRow) (caller : Caller) where
-  -- the caller's pass is one of the project's, and holds the version
+  -- the caller's live pass holds the version
   abbrev pub held_in : Text → Bool
-  held_in slug = holds (project_of l row) caller.pass slug
+  held_in slug = holds (project_of l row) (live_pass (project_of l row) caller) slug
 
   abbrev pub visible_in : FinMap text_cmp Version
   visible_in = sight.visible_versions (project_of l row) caller

@@ -1,20 +1,43 @@
 //! The versions that a caller sees, and the grants that open the private ones.
 
-ghost use Rattle.std.specs.Prelude.{◌≡◌, map, filter, [], IfOk};
+ghost use Rattle.std.specs.Prelude.{◌≡◌, false, map, filter, [], IfOk};
 ghost use Rattle.std.specs.List.{list_any};
+ghost use Rattle.std.specs.Option.{option_map_or};
 ghost use Rattle.std.specs.FinMap.{get, keys, values};
+ghost use Rattle.dh_records.specs.Lists.{project_of};
 ghost use Rattle.dh_view.specs.View as view;
 ghost use Rattle.dh_view.specs.View.{Obtains, Reads, OpensAs, ShowsAs, held_in, is_shown, visible_in};
 ghost use Rattle.dh_world.specs.Visibility as visibility;
 
 use crate::view::ProjectView;
 use dh_lookup::{Fault, Found};
-use dh_paths::Slug;
-use dh_records::{HeldRow, VersionRow};
+use dh_paths::{Slug, Token};
+use dh_records::{HeldRow, PassRow, VersionRow};
 use dh_store::Tables;
 use dh_versions::Version;
+use dh_world::PassEnd;
 use sqlite::Alter;
 use std::alloc::{AllocError, Global};
+
+/// Whether the moment comes before the end, where there is one.
+fn is_before(moment: u64, until: &Option<PassEnd>) -> bool
+    ensures { result ≡ visibility.is_before moment until.now }
+{
+    match until {
+        Some(end) => moment < end.second(),
+        None => true,
+    }
+}
+
+/// Whether a pass that was looked up is there, and has not ended at a moment.
+fn is_live_at(moment: u64, found: &Option<PassRow>) -> bool
+    ensures { result ≡ option_map_or (λ row. visibility.is_before moment row.until) found.now false }
+{
+    match found {
+        Some(row) => is_before(moment, &row.until),
+        None => false,
+    }
+}
 
 fn may_see(version: &Version, held: bool) -> bool
     ensures { result ≡ visibility.may_see version.now held }
@@ -63,15 +86,25 @@ fn versions_of(alloc: Global, rows: Vec<VersionRow>) -> Result<Vec<Version>, All
 }
 
 impl ProjectView<'_> {
-    /// Whether the caller's pass is one of the project's, and holds the version.
+    /// Whether a pass is one of the project's that has not ended when the caller reads.
+    fn is_live<S: Alter>(&self, tables: &mut Tables<S>, pass: &Token) -> Result<bool, Fault>
+        ensures { Reads S.Store tables.old tables.new result
+            (λ l. visibility.is_live (project_of l self.now.project.now)
+            self.now.caller.now.moment pass.now) }
+    {
+        let found = tables.pass(self.alloc, &self.project.host, pass)?;
+        Ok(is_live_at(self.caller.moment, &found))
+    }
+
+    /// Whether the caller's pass is live, and holds the version.
     fn is_held<S: Alter>(&self, tables: &mut Tables<S>, slug: &Slug) -> Result<bool, Fault>
         ensures { Reads S.Store tables.old tables.new result
             (λ l. held_in l self.now.project.now self.now.caller.now slug.now) }
     {
         match &self.caller.pass {
             Some(pass) => {
-                let known = tables.has_pass(&self.project.host, pass)?;
-                if known {
+                let live = self.is_live(tables, pass)?;
+                if live {
                     tables.held(&self.project.host, pass, slug)
                 } else {
                     Ok(false)
@@ -105,15 +138,15 @@ impl ProjectView<'_> {
         }
     }
 
-    /// What the caller's pass holds, if it is one of the project's.
+    /// What the caller's pass holds, if it is live.
     fn grants_of<S: Alter>(&self, tables: &mut Tables<S>) -> Result<Vec<HeldRow>, Fault>
         ensures { Obtains S.Store tables.old tables.new result
             (λ l grants. OpensAs grants.items (held_in l self.now.project.now self.now.caller.now)) }
     {
         match &self.caller.pass {
             Some(pass) => {
-                let known = tables.has_pass(&self.project.host, pass)?;
-                if known {
+                let live = self.is_live(tables, pass)?;
+                if live {
                     tables.held_by(self.alloc, &self.project.host, pass)
                 } else {
                     Ok(no_grants(self.alloc))

@@ -17,7 +17,7 @@ returns-clause-value g c honest =
 
 pub returns-clause-veiled : goal.returns-clause-veiled
 returns-clause-veiled g c honest =
-    behind_veil (world_of (last_records g.S.Store c.args.tables.now)) c.args.host.now (option_map (λ text. text.now) c.args.pass) c.args.asked.now c.look.result (returns-clause-value g c honest)
+    behind_veil (world_of (last_records g.S.Store c.args.tables.now)) c.args.host.now (option_map (λ text. text.now) c.args.pass) c.args.moment c.args.asked.now c.look.result (returns-clause-value g c honest)
 
 pub returns-clause-rests : goal.returns-clause-rests
 returns-clause-rests g c honest =

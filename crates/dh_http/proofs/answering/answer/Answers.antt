@@ -8,15 +8,15 @@ use Rattle.dh_http.proofs.answering.answer.Goals as goal
 pub returns-in-Ok-clause-answers : goal.returns-in-Ok-clause-answers
 returns-in-Ok-clause-answers g c =
     Moves-weaker c.answer_request.ensures.writes
-    (λ u v. request_answered u v (g.R.Source.left c.args.source.now) _ _ c.in-Ok.request c.answer_request.result c.in-Ok.ensures.asked)
+    (λ u v. request_answered c.args.now u v (g.R.Source.left c.args.source.now) _ _ c.in-Ok.request c.answer_request.result c.in-Ok.ensures.asked)
 
 pub returns-in-Ok-clause-headline : goal.returns-in-Ok-clause-headline
 returns-in-Ok-clause-headline g c honest =
-    headline_of (world g.S.Store c.args.desk.now) (world g.S.Store c.answer_request.new.desk) (g.R.Source.left c.args.source.now) _ _ c.answer_request.result ((returns-in-Ok-clause-answers g c).moves honest)
+    headline_of c.args.now (world g.S.Store c.args.desk.now) (world g.S.Store c.answer_request.new.desk) (g.R.Source.left c.args.source.now) _ _ c.answer_request.result ((returns-in-Ok-clause-answers g c).moves honest)
 
 pub returns-in-Err-Memory-clause-answers : goal.returns-in-Err-Memory-clause-answers
 returns-in-Err-Memory-clause-answers g c =
-    Moves-refl (λ w. unread_answered w (g.R.Source.left c.args.source.now) _ _ c.answer_unavailable.result c.answer_unavailable.ensures.writes)
+    Moves-refl (λ w. unread_answered c.args.now w (g.R.Source.left c.args.source.now) _ _ c.answer_unavailable.result c.answer_unavailable.ensures.writes)
 
 pub returns-in-Ok-clause-refused : goal.returns-in-Ok-clause-refused
 returns-in-Ok-clause-refused g c =

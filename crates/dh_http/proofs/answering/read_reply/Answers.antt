@@ -8,7 +8,7 @@ returns g c = record {
     lasts = c.read.ensures.lasts;
     moves = λ honest. (
       c.read.ensures.same honest,
-      read_shown c.read.result c.ok.result (world g.S.Store c.args.desk.now) _ c.args.host.now _ c.args.pass.now c.args.read.now c.ok.ensures.value c.host_text.ensures c.pass_text.ensures (c.read.ensures.value honest),
+      read_shown c.read.result c.ok.result c.args.moment (world g.S.Store c.args.desk.now) _ c.args.host.now _ c.args.pass.now c.args.read.now c.ok.ensures.value c.host_text.ensures (c.pass_text.ensures c.args.moment) (c.read.ensures.value honest),
     );
   };
 }

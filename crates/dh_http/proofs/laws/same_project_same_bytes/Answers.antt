@@ -4,5 +4,5 @@ use Rattle.dh_wire.specs.Wire.{reply_bytes_of}
 use Rattle.dh_http.proofs.laws.same_project_same_bytes.Goals as goal
 
 pub returns : goal.returns
-returns c one other host pass read head same =
+returns c one other host pass moment read head same =
     ap (λ p. reply_bytes_of (reply_to p read.path read.query) head) same

@@ -1,10 +1,10 @@
 use Rattle.std.proofs.Common.{rules, ap, ◌∙◌}
 use Rattle.dh_rows.specs.Calls.{seen}
-use Rattle.dh_records.specs.Lists.{project_of}
 use Rattle.dh_schema.specs.Tables.{lists_of}
-use Rattle.dh_world.specs.Visibility.{may_see, holds}
+use Rattle.dh_world.specs.Visibility.{may_see}
 use Rattle.dh_view.proofs.Shown.{when_absent, when_told}
 use Rattle.dh_view.proofs.ViewLemmas.{asked, asks_on, obtains_handed, still}
+use Rattle.dh_view.specs.View.{held_in}
 use Rattle.dh_view.proofs.view.ProjectView.visible_version.Goals as goal
 
 pub returns-in-None : goal.returns-in-None
@@ -20,7 +20,7 @@ returns-in_ok-is_seen-in-Some g c = record {
   value = λ honest.
       let before = c.is_seen.ensures.asks.goes.lasts.was honest in
       let version = c.in-Some.row.version in
-      let told = ap (λ l. may_see version (holds (project_of l c.args.self.now.project.now) c.args.self.now.caller.now.pass version.slug)) (still (asked c.in_ok-row.ensures.asks) before) in
+      let told = ap (λ l. may_see version (held_in l c.args.self.now.project.now c.args.self.now.caller.now version.slug)) (still (asked c.in_ok-row.ensures.asks) before) in
       c.then_some.ensures ∙ when_told (seen g.S.Store lists_of c.args.tables.now) c.args.self.now.project.now c.args.self.now.caller.now _ c.args.name.now c.in_ok-row.field-0 c.in-Some.row (c.in_ok-row.ensures.value before) c.in-Some.is
       (c.in_ok-is_seen-in-Some.ensures.value honest ∙ told);
 }
