@@ -84,11 +84,9 @@ class Page:
         self.ask("Page.navigate", url=address)
 
     def value(self, expression):
-        """What an expression is in the page; an error is a text."""
+        """What an expression is in the page; None where it fails, as while a page loads."""
         answer = self.ask("Runtime.evaluate", expression=expression, returnByValue=True)
-        if "exceptionDetails" in answer:
-            return answer["exceptionDetails"].get("exception", {}).get("description", "an error")
-        return answer["result"].get("value")
+        return None if "exceptionDetails" in answer else answer["result"].get("value")
 
     def wait_for(self, expression, seconds=TIME_LIMIT):
         """The first value of an expression that counts as true, or the last one when the time is over."""
