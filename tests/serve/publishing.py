@@ -1,4 +1,4 @@
-"""Publishing: what tools/publish stores, what it says, and what a browser finds then. The part `publish` of tests/serve/run."""
+"""What tools/publish stores and says, and what a browser finds then: the part `publish` of tests/serve/run."""
 
 import importlib.machinery
 import importlib.util
@@ -68,8 +68,10 @@ def copy_of(part, name, there):
 
 def pages_of(what, count, first=0):
     """A start page, and pages that say what they are of."""
-    pages = {f"p/{number}.html": f"<p>{number} of {what}</p>\n" for number in range(first, first + count)}
-    return {"index.html": f"<h1>{what}</h1>\n", "404.html": f"none in {what}\n", "s.css": f"/* {what} */\n", **pages}
+    pages = {"index.html": f"<h1>{what}</h1>\n", "404.html": f"none in {what}\n", "s.css": f"/* {what} */\n"}
+    for number in range(first, first + count):
+        pages[f"p/{number}.html"] = f"<p>{number} of {what}</p>\n"
+    return pages
 
 
 def line_of(folder, url, *words, version=("--version", "main"), key=KEY, host=HOST):
@@ -84,6 +86,13 @@ def once(folder, url, *words, **more):
     """One run of the tool."""
     line = line_of(folder, url, *words, **more)
     return subprocess.run(line, stdin=subprocess.DEVNULL, capture_output=True, encoding="utf-8", timeout=120)
+
+
+def upload_page(server, path, media, text):
+    """An upload of one page by another than the tool: its status."""
+    pages = [{"path": path, "type": media, "text": text}]
+    value = {"key": os.urandom(8).hex(), "version": "main", "language": "en", "pages": pages}
+    return server.post("/_/upload", HOST, KEY, value)[0]
 
 
 def last(ended):
@@ -103,9 +112,10 @@ def target(path, version="main"):
 def is_whole(part, what, server, folder, version="main", but=()):
     """Each file of the folder is served as it is."""
     files = [path.relative_to(folder).as_posix() for path in sorted(folder.rglob("*")) if path.is_file()]
+    files = [path for path in files if path not in but and not path.startswith(".")]
     wrong = []
     for path in files:
-        if path not in but and not path.startswith(".") and server.get(target(path, version), HOST) != (200, (folder / path).read_bytes()):
+        if server.get(target(path, version), HOST) != (200, (folder / path).read_bytes()):
             wrong.append(path)
     part.check(what, files and not wrong, (len(files), wrong[:5]))
 
@@ -127,7 +137,8 @@ def example(part, server):
     part.same("no version", once(folder, url, version=()).returncode, 2)
     part.same("an empty folder", once(site_of(part, "empty", {".x": ""}), url).returncode, 2)
     begun = time.monotonic()
-    ends(part, "nobody there", once(folder, "http://127.0.0.1:1", "--wait", "1"), 3, "waiting for it", "waited for 1 second")
+    ended = once(folder, "http://127.0.0.1:1", "--wait", "1")
+    ends(part, "nobody there", ended, 3, "waiting for it", "waited for 1 second")
     part.check("it waits no longer", time.monotonic() - begun < 5, time.monotonic() - begun)
 
 
@@ -136,7 +147,8 @@ def again(part, server):
     a, b = site_of(part, "again-a", pages_of("A", 600)), site_of(part, "again-b", pages_of("B", 300, 300))
     for what, folder, count in (("A", a, 603), ("B", b, 303), ("A after B", a, 603)):
         ended = once(folder, url_of(server), "--replace")
-        ends(part, f"{what}, published", ended, 0, f"stored {count} pages in", f"read back {count} of {count}, none differs")
+        read = f"read back {count} of {count}, none differs"
+        ends(part, f"{what}, published", ended, 0, f"stored {count} pages in", read)
         is_whole(part, f"{what} is served whole", server, folder)
     ends(part, "B with --replace", once(b, url_of(server), "--replace"), 0)
     is_missing(part, "a page of A is gone then", server, "p/1.html")
@@ -170,7 +182,8 @@ def stop_at(part, server, folder, number, sent, *words):
 
 
 def stopped(part, server):
-    a, b = site_of(part, "stopped-a", pages_of("A", 600)), site_of(part, "stopped-b", pages_of("B", 1200, 300))
+    a = site_of(part, "stopped-a", pages_of("A", 600))
+    b = site_of(part, "stopped-b", pages_of("B", 1200, 300))
     ends(part, "A before", once(a, url_of(server), "--replace"), 0)
     status, told, uploads = stop_at(part, server, b, 3, signal.SIGINT)
     part.same("B, stopped by Ctrl-C at its third upload", (status, uploads), (130, [256, 256]))
@@ -186,12 +199,14 @@ def stopped(part, server):
     with Relay(server.port) as relay:
         ended = once(b, relay.url, "--replace", "--build", "b-7")
         part.same("B again sends what was missing alone", relay.uploads, [256, 256, 179])
-        before = "stored 691 pages in 3 uploads; this build had stored 512 pages in 2 uploads before; read back 1,203 of 1,203"
-        ends(part, "B again under the same name", ended, 0, before, "pages were missing since the run that was stopped")
+        now, before = "stored 691 pages in 3 uploads", "this build had stored 512 pages in 2 uploads before"
+        missing, read = "pages were missing since the run that was stopped", "read back 1,203 of 1,203, none differs"
+        ends(part, "B again under the same name", ended, 0, f"{now}; {before}; {read}", missing)
         is_whole(part, "B is served whole", server, b)
         ended = once(b, relay.url, "--replace", "--build", "b-7")
         part.same("B once more sends nothing", relay.uploads, [256, 256, 179])
-        ends(part, "it says so", ended, 0, "stored 0 pages in 0 uploads; this build had stored 1,203 pages in 5 uploads before")
+        now, before = "stored 0 pages in 0 uploads", "this build had stored 1,203 pages in 5 uploads before"
+        ends(part, "it says so", ended, 0, f"{now}; {before}; {read}")
 
 
 def refused(part, server):
@@ -200,16 +215,18 @@ def refused(part, server):
     with Relay(server.port) as relay:
         begun = time.monotonic()
         ended = once(a, relay.url, key="other")
-        ends(part, "a wrong key", ended, 1, "refused 12 WrongKey: this is not the project's write key", "no page was stored")
+        says = "refused 12 WrongKey: this is not the project's write key", "no page was stored"
+        ends(part, "a wrong key", ended, 1, *says)
         part.check("it ends at once", time.monotonic() - begun < 3, time.monotonic() - begun)
         part.same("it uploads nothing", relay.uploads, [])
     for what, more, says in (
         ("another host", {"host": "other.test"}, "refused 10 NoProject"),
-        ("no such version", {"version": ("--version", "9.9")}, "refused 15 NoVersion: the project has no such version: --push"),
+        ("no such version", {"version": ("--version", "9.9")}, "refused 15 NoVersion"),
     ):
         ends(part, what, once(a, url_of(server), **more), 1, says)
+    leads_on = reply_bytes(301, b"", "Location: https://docs.test/")
     for what, reply, says in (
-        ("a server that leads on", reply_bytes(301, b"", "Location: https://docs.test/"), "leads on to https://docs.test/"),
+        ("a server that leads on", leads_on, "leads on to https://docs.test/"),
         ("a server that takes less", reply_bytes(413), "status 413"),
         ("a server of another kind", reply_bytes(200, b"<html>"), "answered with status 200: <html>"),
     ):
@@ -220,19 +237,27 @@ def refused(part, server):
 
 
 def left_out(part, server):
-    texts = {**pages_of("large", 2), "over.bin": bytes(LIMIT + 1), "full.bin": random.Random(1).randbytes(LIMIT)}
-    texts |= {"over.json": "[" + " " * LIMIT + "]", "a.mjs": "export {};" + " " * LIMIT, "m.js": "import './x.js';\n" * 70000}
-    texts |= {"latin.js": "// \xe9".encode("latin-1") * LIMIT, "taken.js": " " * (LIMIT + 1), "taken.js.part-b2": "x"}
-    folder = site_of(part, "large", texts)
+    """Files that are left out, and a page of just the limit."""
+    over = {
+        "over.bin": bytes(LIMIT + 1),
+        "over.json": "[" + " " * LIMIT + "]",
+        "a.mjs": "export {};" + " " * LIMIT,
+        "m.js": "import './x.js';\n" * 70_000,
+        "bundle.js": "var a;" + " " * LIMIT + "export{a as b};\n//# sourceMappingURL=bundle.js.map\n",
+        "latin.js": "// \xe9".encode("latin-1") * LIMIT,
+        "taken.js": " " * (LIMIT + 1),
+    }
+    kept = {"taken.js.part-b2": "x", "full.bin": random.Random(1).randbytes(LIMIT), **pages_of("large", 2)}
+    folder = site_of(part, "large", {**over, **kept})
     os.symlink("full.bin", folder / "link.bin")
-    names = ("over.bin", "over.json", "a.mjs", "m.js", "latin.js", "taken.js", "link.bin")
-    says = [f"left out {name}: " for name in names]
-    says += ["over.bin: 1,048,577 bytes; a page has 1,048,576 at most", "m.js: 1,190,000 bytes, and a module", "not UTF-8"]
-    says += ["stored 7 pages in 1 upload; read back 7 of 7, none differs; left out 7 files"]
+    says = [f"left out {name}: " for name in (*over, "link.bin")]
+    says += ["over.bin: 1,048,577 bytes; a page has 1,048,576 at most", "m.js: 1,190,000 bytes, and a module"]
+    says += ["not UTF-8", "stored 7 pages in 1 upload; read back 7 of 7, none differs; left out 8 files"]
     ends(part, "files that are left out", once(folder, url_of(server)), 1, *says)
     ends(part, "files that may be left out", once(folder, url_of(server), "--allow-left-out"), 0, *says)
-    is_whole(part, "a page of 1 MiB, and the others", server, folder, but=names)
-    ends(part, "only files that are left out", once(site_of(part, "over", {"o": bytes(LIMIT + 1)}), url_of(server)), 2, "no file")
+    is_whole(part, "a page of 1 MiB, and the others", server, folder, but=(*over, "link.bin"))
+    folder = site_of(part, "over", {"over.bin": bytes(LIMIT + 1)})
+    ends(part, "only files that are left out", once(folder, url_of(server)), 2, "no file that can be stored")
 
 
 class Reader(threading.Thread):
@@ -270,7 +295,8 @@ def changed(part, server):
         with Reader(server, watched) as reader:
             ended = once(folder, url_of(server), *words)
         ends(part, f"ten changed, {what}", ended, 0, "stored 1,000 pages", "read back 1,000 of 1,000, none differs")
-        part.same(f"{what}: it says for how long pages were missing", "pages were missing for " in ended.stderr, bool(words))
+        says_how_long = "pages were missing for " in ended.stderr
+        part.same(f"{what}: it says for how long pages were missing", says_how_long, bool(words))
         kept = first_come if words else watched
         seen = {path: reader.statuses[path] for path in kept}
         part.check(f"{what}: nothing is missing that is asked for", reader.rounds > 1, reader.rounds)
@@ -300,8 +326,10 @@ def told(part, server):
     part.same("on a terminal", process.wait(60), 0)
     lines = written.decode().splitlines()
     anew = written.count(b"\r\x1b[Kpublish: ")
-    good = anew > 3 and b"\r\x1b[Kpublish: 512 of 603 pages, " in written and b"\r\x1b[Kpublish: 600 of 603 pages read back" in written
-    part.check("on a terminal: one line, written anew", good and lines[-1].startswith("publish: stored 603 pages"), written)
+    good = anew > 3 and lines[-1].startswith("publish: stored 603 pages")
+    for text in (b"512 of 603 pages, ", b"600 of 603 pages read back"):
+        good = good and b"\r\x1b[Kpublish: " + text in written
+    part.check("on a terminal: one line, written anew", good, written)
     ended = once(folder, url_of(server))
     plain = all(line.isprintable() and line.startswith("publish: ") for line in ended.stderr.splitlines())
     part.check("plain lines where there is none", plain and "\npublish: 512 of 603 pages, " in ended.stderr, ended)
@@ -313,16 +341,14 @@ def differing(part, server):
     ends(part, "A under a name", once(a, url_of(server), "--replace", "--build", "a-1"), 0)
     ends(part, "B over it", once(b, url_of(server), "--replace"), 0)
     ended = once(a, url_of(server), "--replace", "--build", "a-1")
-    says = ["differs /en/main/index.html: other bytes are served (11, and 11 were stored)", "run again with another --build"]
-    ends(part, "A under that name again", ended, 1, *says, "differs /en/main/p/8.html: status 404", "read back 12 of 12, 12 differ")
-    page = [{"path": "index.html", "type": "text/plain", "text": "<h1>A</h1>\n"}]
+    says = ["differs /en/main/index.html: other bytes are served (11, and 11 were stored)"]
+    says += ["differs /en/main/p/8.html: status 404", "read back 12 of 12, 12 differ", "run again with another --build"]
+    ends(part, "A under that name again", ended, 1, *says)
 
     def spoil(path, pages):
-        if pages:
-            return None
+        """Another upload of a page, when the one before it is read back."""
         if path == "/en/main/404.html":
-            server.post("/_/upload", HOST, KEY, {"key": os.urandom(8).hex(), "version": "main", "language": "en", "pages": page})
-        return None
+            upload_page(server, "index.html", "text/plain", "<h1>A</h1>\n")
 
     with Relay(server.port, spoil) as relay:
         says = "differs /en/main/index.html: its media type is text/plain, and text/html; charset=utf-8 was stored"
@@ -331,7 +357,8 @@ def differing(part, server):
     ends(part, "a sample of more than 2,000", ended, 0, "read back 2,000 of 2,103, none differs")
     ended = once(part.path("many"), url_of(server), "--verify", "all")
     ends(part, "all of more than 2,000", ended, 0, "read back 2,103 of 2,103")
-    ends(part, "none", once(a, url_of(server), "--verify", "none"), 0, "stored 12 pages in 1 upload; none was read back")
+    ended = once(a, url_of(server), "--verify", "none")
+    ends(part, "none", ended, 0, "stored 12 pages in 1 upload; none was read back")
 
 
 def waited(part, server):
@@ -346,10 +373,12 @@ def waited(part, server):
         part.same("what was uploaded", relay.uploads, [256, 47])
     with Relay(server.port, lost=1) as relay:
         ended = once(folder, relay.url)
-        ends(part, "an answer that was lost", ended, 0, "does not answer", "stored 303 pages in 2 uploads; read back 303 of 303")
+        says = "stored 303 pages in 2 uploads; read back 303 of 303, none differs"
+        ends(part, "an answer that was lost", ended, 0, "does not answer", says)
         part.same("it is sent again", relay.uploads, [256, 256, 47])
     with Relay(server.port, lambda path, pages: reply_bytes(503)) as relay:
-        ends(part, "a server that stays away", once(folder, relay.url, "--wait", "1.2"), 3, "waited for 1.2 seconds (--wait)")
+        ended = once(folder, relay.url, "--wait", "1.2")
+        ends(part, "a server that stays away", ended, 3, "waited for 1.2 seconds (--wait)")
 
 
 # ---- what a browser finds
@@ -376,28 +405,51 @@ def scripts(part, server):
         site_of(part, "scripts", script_site("third"))
         ends(part, "a third build", once(folder, url_of(server)), 0, "none differs")
         runs_scripts(part, page, "third")
-        stale = {"key": os.urandom(8).hex(), "version": "main", "language": "en"}
-        stale["pages"] = [{"path": "big.js", "type": "text/javascript", "text": loader.decode()}]
-        part.same("an old loader over new parts", server.post("/_/upload", HOST, KEY, stale)[0], 200)
+        status = upload_page(server, "big.js", "text/javascript", loader.decode())
+        part.same("an old loader over new parts", status, 200)
         page.open(f"http://{HOST}{target('index.html')}?stale")
         said = page.wait_for("wrong")
         part.check("it says so", said and "part 1 of 2 is of another build; load the page again" in said, said)
 
 
+# Its characters have two, three and four bytes, so that parts end within them unless that is looked after.
+FILLING = "/* " + "é€𝒳" * 120_000 + " */\n"
+
+# The text of a script is fetched and run without an element of its own, as jQuery does it.
+RUN_TEXT = """
+var request = new XMLHttpRequest(), one = document.createElement('script');
+request.open('GET', 'old.js', false);
+request.send();
+one.text = request.responseText;
+document.head.appendChild(one).parentNode.removeChild(one);
+"""
+
+
 def script_site(build):
-    """A page and a worker that go by scripts over the limit. Each character of the filling has two bytes or more."""
-    filling = "/* " + "é€𝒳" * 120_000 + " */\n"
-    big = f"\ufeff'use strict';\nvar one = '{build}';\nlet two = 'é€𝒳';\nconst from = document.currentScript.src, kind = document.currentScript.dataset.kind;\n"
-    big += filling + "function three() { return [one, two].join(' '); }\nclass Four {}\n// no line behind this one"
-    small = "var found = three() + ' ' + typeof Four + ' ' + kind + ' ' + from.split('?')[0].split('/').slice(3).join('/');\n"
-    work = "importScripts('deep.js'); postMessage(typeof lent + ' ' + deep());\n"
-    deep = "let lent = 1;\n" + filling + f"function deep() {{ return '{build}'; }}\n"
-    page = (
-        "<!doctype html><meta charset='utf-8'><script>var wrong = '', answer = ''; onerror = text => { wrong += text; };</script>\n"
-        "<script src='big.js' data-kind='odd'></script><script src='small.js'></script>\n"
-        "<script>new Worker('lib/work.js').onmessage = event => { answer = event.data; };</script>\n"
-    )
-    return {"index.html": page, "big.js": big, "small.js": small, "lib/work.js": work, "lib/deep.js": deep}
+    """A page and a worker that go by scripts over the limit."""
+    page = f"""<!doctype html><meta charset='utf-8'>
+<script>var wrong = '', answer = ''; onerror = text => {{ wrong += text; }};</script>
+<script src='big.js' data-kind='odd'></script><script src='small.js'></script>
+<script>{RUN_TEXT}</script>
+<script>new Worker('lib/work.js').onmessage = event => {{ answer = event.data; }};</script>
+"""
+    big = f"""\ufeff'use strict';
+var first = '{build}';
+let second = 'é€𝒳';
+const from = document.currentScript.src, kind = document.currentScript.dataset.kind;
+{FILLING}
+function third() {{ return [first, second].join(' '); }}
+class Fourth {{}}
+// no line behind this one"""
+    small = "var found = [third(), typeof Fourth, kind, from.split('?')[0].split('/').slice(3).join('/')].join(' ');\n"
+    return {
+        "index.html": page,
+        "big.js": big,
+        "small.js": small,
+        "old.js": f"var old = '{build}';\n{FILLING}",
+        "lib/work.js": "importScripts('deep.js'); postMessage(typeof lent + ' ' + deep());\n",
+        "lib/deep.js": f"let lent = 1;\n{FILLING}function deep() {{ return '{build}'; }}\n",
+    }
 
 
 def runs_scripts(part, page, build):
@@ -406,17 +458,19 @@ def runs_scripts(part, page, build):
     part.same(f"{build}: the worker's script", answer, f"number {build}")
     wanted = f"{build} é€𝒳 function odd en/main/big.js"
     part.same(f"{build}: the page's script", page.value("found"), wanted)
+    part.same(f"{build}: a script without an element", page.value("old"), build)
     part.same(f"{build}: no error", page.value("wrong"), "")
 
 
 def packages(part, server):
     """Search in the sites of Debian's packages."""
+    sphinx = "Number((document.body.innerText.match(/found ([0-9]+) page/) || [])[1])"
+    mkdocs = "document.querySelectorAll('#mkdocs-search-results article').length"
+    large = ["contents.html", "genindex-all.html", "searchindex.js"]
     for name, there, words, left, address, count in (
-        ("python3-doc", PYTHON, ["--allow-left-out"], ["contents.html", "genindex-all.html", "searchindex.js"],
-         "search.html?q=asyncio", "Number((document.body.innerText.match(/found ([0-9]+) page/) || [])[1])"),
-        ("mkdocs-doc", MKDOCS, [], [],
-         "index.html?q=theme", "document.querySelectorAll('#mkdocs-search-results article').length"),
-    ):  # fmt: skip
+        ("python3-doc", PYTHON, ["--allow-left-out"], large, "search.html?q=asyncio", sphinx),
+        ("mkdocs-doc", MKDOCS, [], [], "index.html?q=theme", mkdocs),
+    ):
         if not there.is_dir():
             part.skip(f"{name} is not installed, so its site is not published")
             continue
@@ -477,7 +531,8 @@ def types(part):
     ):
         part.same(f"the media type of {name}", media_of(name, "text"), media)
     part.same("that of a text that is not UTF-8", media_of("a.html", None), "text/html")
-    part.same("that of a page without a suffix", media_of("about", "\ufeff\n<!DOCTYPE html>\n<p>"), "text/html" + text)
+    page = "\ufeff\n<!DOCTYPE html>\n<p>"
+    part.same("that of a page without a suffix", media_of("about", page), "text/html" + text)
     part.same("that of bytes without a suffix", media_of("about", None), "application/octet-stream")
 
 
@@ -493,19 +548,22 @@ def documents(part):
     ours, text = tool(), (DOCS / "SCRIPTS.md").read_text()
     limits = dict(rows_of(text, "| Thing | Limit |"))
     page, pages = limits["a page; pages of one upload"].split("; ")
-    part.same("the limits of a page and of its number", (page, pages), (f"{ours.MOST_PAGE:,} bytes", str(ours.MOST_PAGES)))
+    part.same("the limit of a page", page, f"{ours.MOST_PAGE:,} bytes")
+    part.same("the most pages of an upload", pages, str(ours.MOST_PAGES))
     part.check("the limit of a body", f"it is over {ours.MOST_BODY:,} bytes" in text, ours.MOST_BODY)
     part.check("the length of a media type", limits["a media type"].startswith("1 to 100 bytes"), limits)
     long = [media for media in ours.TYPES.values() if len(media + "; charset=utf-8") > 100]
     part.same("media types that are longer", long, [])
     refusals = rows_of(text, "| N | Name | When | Over HTTP |")
     over_http = {int(row[0]): row[1].strip("`") for row in refusals if row[3].rstrip("| ")}
-    part.same("the refusals of a push or an upload", {number: name for number, (name, _) in ours.REFUSALS.items()}, over_http)
+    known = {number: name for number, (name, _) in ours.REFUSALS.items()}
+    part.same("the refusals of a push or an upload", known, over_http)
     when = {row[1].strip("`"): row[2] for row in refusals}
-    part.check("the length of a path", f"1 to {ours.MOST_PATH} bytes, no control byte" in when["BadPath"], when["BadPath"])
-    part.check("a retry key", "1 to 64 bytes" in when["BadToken"] and len(ours.key_of(b"a", b"b")) == 64, when["BadToken"])
-    named = {ours.NO_LANG: "NoLang", ours.INACTIVE: "Inactive", ours.STORE: "Store", ours.OUT_OF_MEMORY: "OutOfMemory"}
-    part.same("the refusals that it knows by number", named, {number: over_http[number] for number in named})
+    path, key = when["BadPath"], when["BadToken"]
+    part.check("the length of a path", f"1 to {ours.MOST_PATH} bytes, no control byte" in path, path)
+    part.check("a retry key", "1 to 64 bytes" in key and re.fullmatch("[0-9a-f]{64}", ours.key_of(b"a", b"b")), key)
+    by_number = [over_http.get(number) for number in (ours.NO_LANG, ours.INACTIVE, ours.STORE, ours.OUT_OF_MEMORY)]
+    part.same("those that it knows by number", by_number, ["NoLang", "Inactive", "Store", "OutOfMemory"])
 
 
 # ---- what takes an operator
@@ -533,19 +591,22 @@ def pushes(part):
         with project.serve() as server:
             return once(folder, url_of(server), "--push", name, *words, version=version)
 
-    ended = push("branch:main")
-    ends(part, "a push of the default branch", ended, 0, "push of the branch main: made main, active", "stored 5 pages in 1 upload")
-    ends(part, "the push again", push("branch:main"), 0, "push of the branch main: main is known", "stored 5 pages in 1 upload")
+    says = "push of the branch main: made main, active", "stored 5 pages in 1 upload"
+    ends(part, "a push of the default branch", push("branch:main"), 0, *says)
+    says = "push of the branch main: main is known", "stored 5 pages in 1 upload"
+    ends(part, "the push again", push("branch:main"), 0, *says)
     ended = push("tag:v1.0.0", "--build", "7")
     ends(part, "a push of a tag", ended, 1, "made v1.0.0, inactive", "refused 17 Inactive", "no page was stored")
-    says = [f"docs_host activate {HOST} v1.0.0 --store FILE", f"docs_host add-rule {HOST} 1 tag semver activate --store FILE"]
+    says = f"docs_host activate {HOST} v1.0.0", f"docs_host add-rule {HOST} 1 tag semver activate"
     ends(part, "it says what an operator has to do", ended, 1, *says)
     project.command(f"activate {HOST} v1.0.0")
-    ends(part, "the same call then", push("tag:v1.0.0", "--build", "7"), 0, "stored 5 pages in 1 upload; read back 5 of 5")
+    says = "stored 5 pages in 1 upload; read back 5 of 5, none differs"
+    ends(part, "the same call then", push("tag:v1.0.0", "--build", "7"), 0, says)
     project.command(f"add-rule {HOST} 1 tag semver activate")
     ends(part, "a push of a tag with a rule", push("tag:v2.0.0"), 0, "made v2.0.0, active", "pages were missing for")
     ended = push("branch:Feature/X", version=("--version", "other"))
-    ends(part, "another version than the push's", ended, 1, "the version of the branch Feature/X is feature-x, and not other")
+    says = "the version of the branch Feature/X is feature-x, and not other"
+    ends(part, "another version than the push's", ended, 1, says)
     ends(part, "a branch whose slug is taken", push("branch:V2.0.0"), 1, "refused 16 SlugTaken")
     part.same("a push of neither", push("2.0").returncode, 2)
 
@@ -556,10 +617,11 @@ def private(part):
     for line in (f"push {HOST} {KEY} k0 branch main", f"make-private {HOST} main", f"add-pass {HOST} {PASS}"):
         project.command(line)
     with project.serve() as server:
+        says = "where the version is private, this takes a pass that opens it: --pass"
         ended = once(folder, url_of(server))
-        ends(part, "a private version without a pass", ended, 1, "where the version is private, this takes a pass that opens it: --pass")
+        ends(part, "a private version without a pass", ended, 1, says)
         part.same("it names one page", ended.stderr.count("differs "), 1)
-        ends(part, "with a pass that does not open it", once(folder, url_of(server), "--pass", PASS), 1, "a pass that opens it")
+        ends(part, "with a pass that does not open it", once(folder, url_of(server), "--pass", PASS), 1, says)
         ends(part, "unread", once(folder, url_of(server), "--verify", "none"), 0, "none was read back")
     project.command(f"grant {HOST} {PASS} main")
     project.command(f"add-redirect {HOST} 1 exact 301 /en/main/index.html https://elsewhere.test/ --force")
@@ -586,7 +648,8 @@ def away(part):
     with project.serve(*words) as second:
         rest = process.communicate(timeout=60)[1]
         part.check("it had begun", "512 of 1,203 pages" in lines[1], lines)
-        good = process.returncode == 0 and "waiting for it" in rest and "read back 1,203 of 1,203, none differs" in rest
+        good = process.returncode == 0 and "waiting for it" in rest
+        good = good and "read back 1,203 of 1,203, none differs" in rest
         part.check("a server that is stopped for twenty seconds", good, (process.returncode, rest))
         is_whole(part, "all is served then", second, folder)
 
@@ -599,7 +662,8 @@ def readme(part):
     lines = [line.strip() for line in (hosts.ROOT / "README.md").read_text().splitlines() if line.startswith("    ")]
     first = next(place for place, line in enumerate(lines) if line.startswith("./docs_host init "))
     given = lines[first : first + 5]
-    part.check("README: a server, and then the tool", " serve " in given[3] and given[4].startswith("tools/publish "), given)
+    good = " serve " in given[3] and given[4].startswith("tools/publish ")
+    part.check("README: a server, and then the tool", good, given)
     store = part.path("site.db")
     for line in given[:3]:
         words = line.replace("site.db", store).split()[1:]
@@ -662,8 +726,9 @@ class Recipe:
             page.write_text(f"{text}\n")
 
     def shell(self, step, **given):
-        line = ["bash", "-eu", "-o", "pipefail", "-c", step]
-        return subprocess.run(line, cwd=self.repository, env={**self.given, **given}, capture_output=True, encoding="utf-8", timeout=60)
+        line, given = ["bash", "-e", "-c", step], {**self.given, **given}
+        texts = {"capture_output": True, "encoding": "utf-8"}
+        return subprocess.run(line, cwd=self.repository, env=given, timeout=60, **texts)
 
     def steps(self, what, steps, **given):
         """Runs the steps of a job one after another, and gives how the last one ended."""
@@ -695,12 +760,13 @@ def github(part):
 
     def build(kind, name, number, text):
         recipe.write(text)
-        given = {"GITHUB_REF_TYPE": kind, "GITHUB_REF_NAME": name, "GITHUB_RUN_ID": number, "GITHUB_RUN_ATTEMPT": "1"}
+        given = {"REF_TYPE": kind, "REF_NAME": name, "RUN_ID": number, "RUN_ATTEMPT": "1"}
+        given = {f"GITHUB_{word}": text for word, text in given.items()}
         return recipe.steps(f"GitHub, {kind} {name}", steps, **given)
 
     ends(part, "GitHub: a branch", build("branch", "main", "1", "first"), 0, "made main, active", "stored 2 pages")
     ended = build("tag", "v1.2.0", "2", "released")
-    ends(part, "GitHub: a tag", ended, 0, "made v1.2.0, active", "stored 2 pages in 1 upload; read back 2 of 2, none differs")
+    ends(part, "GitHub: a tag", ended, 0, "made v1.2.0, active", "read back 2 of 2, none differs")
     ends(part, "GitHub: the branch again", build("branch", "main", "3", "second"), 0, "main is known", "stored 2 pages")
     recipe.serves("GitHub", "second", "/en/main/", "/en/latest/guide/")
     recipe.serves("GitHub", "released", "/en/v1.2.0/", "/en/stable/guide/")
@@ -714,10 +780,12 @@ def gitlab(part):
 
     def build(number, text, tag="", branch=""):
         recipe.write(text)
-        return recipe.steps(f"GitLab, {tag or branch}", [script], CI_COMMIT_TAG=tag, CI_COMMIT_BRANCH=branch, CI_JOB_ID=number)
+        of = {"CI_COMMIT_TAG": tag} if tag else {"CI_COMMIT_BRANCH": branch}
+        return recipe.steps(f"GitLab, {tag or branch}", [script], CI_JOB_ID=number, **of)
 
-    ends(part, "GitLab: a branch", build("1", "first", branch="main"), 0, "made main, active", "stored 2 pages")
-    ends(part, "GitLab: a tag", build("2", "released", tag="v1.2.0"), 0, "made v1.2.0, active", "read back 2 of 2, none differs")
+    read = "read back 2 of 2, none differs"
+    ends(part, "GitLab: a branch", build("1", "first", branch="main"), 0, "made main, active", read)
+    ends(part, "GitLab: a tag", build("2", "released", tag="v1.2.0"), 0, "made v1.2.0, active", read)
     recipe.serves("GitLab", "first", "/en/main/", "/en/latest/guide/")
     recipe.serves("GitLab", "released", "/en/v1.2.0/", "/en/stable/guide/")
 
@@ -745,7 +813,8 @@ def rollback(part):
     recipe.steps("a rollback", block_of("A rollback", "sh"), COMMIT=old)
     recipe.serves("a rollback", "old", "/en/main/", "/en/main/guide/")
     with recipe.project.serve() as server:
-        part.same("a rollback: what came later is gone", server.get("/en/main/added.html", "docs.example.org")[0], 404)
+        status = server.get("/en/main/added.html", "docs.example.org")[0]
+        part.same("a rollback: what came later is gone", status, 404)
 
 
 def private_recipe(part):

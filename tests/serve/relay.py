@@ -10,8 +10,8 @@ import host as hosts
 class Relay(http.server.ThreadingHTTPServer):
     """Hands each request on to a server and its reply back; knows the pages of each upload that was handed on.
 
-    `instead` is asked first, with the path and the number of pages; where it gives bytes, these are the reply. Of so many
-    uploads as `lost` says the server's answer is kept back."""
+    `instead` is asked first, with the path and the number of pages; where it gives bytes, these are
+    the reply. Of so many uploads as `lost` says the server's answer is kept back."""
 
     daemon_threads = True
 
