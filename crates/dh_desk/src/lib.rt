@@ -7,6 +7,7 @@ mod laws;
 mod reads;
 
 pub use desk::Desk;
+pub use dh_histories::{Call, done_is_run, purge_law, runs_answer_for_good};
 pub use dh_tables::Tables;
 pub use dh_world::{Answer, Command, CommandChange, Outcome, Pages, Refusal, UploadedPage};
 pub use laws::{memory_answers, veiled_reply};
