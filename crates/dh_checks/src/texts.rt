@@ -76,8 +76,8 @@ pub fn check_redirects(list: &[Redirect]) -> Result<&[Redirect], Refusal>
     ensures told { IfErr result (λ e. bad_redirects list.now ≡ Some e) }
 {
     for redirect in list {
-        if let Err(fault) = redirect.check() {
-            return Err(Refusal::BadRedirect(fault.number()));
+        if let Err(bad) = redirect.check() {
+            return Err(Refusal::BadRedirect(bad.number()));
         }
     }
     Ok(list)

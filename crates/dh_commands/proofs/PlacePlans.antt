@@ -1,6 +1,6 @@
 -- The plans of lists in order: rules and redirects.
-use Rattle.std.proofs.Common.{◌≡◌, ℕ, ◌+◌, ◌-◌, ◌<◌, ◌≤◌, Bool, true, false, not, cond, zero, suc, List, [], ◌∷◌, ◌++◌, length, take, drop, None, Result, Ok, Err, inl, inr, refl, sym, ap, ◌∙◌, subst, arith}
-use Rattle.std.specs.Prelude.{nat_le, nat_lt, IsTrue, IsOk}
+use Rattle.std.proofs.Common.{◌≡◌, ℕ, ◌+◌, ◌-◌, ◌<◌, ◌≤◌, Bool, true, false, not, cond, zero, suc, List, [], ◌∷◌, ◌++◌, length, take, drop, None, Result, Ok, Err, refl, ap, ◌∙◌, subst, arith}
+use Rattle.std.specs.Prelude.{nat_le, nat_lt, IsTrue}
 use Rattle.std.specs.List.{AllByRecursion}
 use Rattle.std.proofs.lemmas.Bool.{and_parts, leb-true, ltb-true}
 use Rattle.std.proofs.lemmas.List.{length-append, length-drop, length-take-le}
@@ -14,7 +14,7 @@ use Rattle.dh_world.specs.World.{Project}
 use Rattle.dh_world.specs.declared.answer.Answer.TheVariants.{Done}
 use Rattle.dh_world.specs.declared.refusal.Refusal.{Refusal}
 use Rattle.dh_world.specs.declared.refusal.Refusal.TheVariants.{BadPlace, TooMany}
-use Rattle.dh_plans.specs.Edits.{MayRunOut, Plans}
+use Rattle.dh_plans.specs.Edits.{Plans}
 use Rattle.dh_plans.specs.Knowing.{Knows}
 use Rattle.dh_plans.specs.Planned.{planned}
 use Rattle.dh_checks.specs.declared.checking.CheckedChange.TheVariants as change
@@ -22,7 +22,6 @@ use Rattle.dh_checks.specs.declared.checked.CheckedRedirect.{CheckedRedirect}
 use Rattle.dh_checks.specs.declared.checked.CheckedRule.{CheckedRule}
 use Rattle.dh_plans.specs.declared.edits.Edit.TheVariants.{SetRules, SetRedirects}
 use Rattle.dh_plans.specs.declared.facts.Facts.{Facts}
-use Rattle.dh_commands.specs.Lists.{Comes}
 
 -- ---- what holds of each of a list
 
@@ -87,16 +86,6 @@ module _ {X : Type 0} (most : ℕ) (IsGood : X → Type 0) where
 pub set_found : {X : Type 0} (with : List X → Project) (change : List X → Result (List X) Refusal) (mine found : List X) (r : Result (List X) Refusal) → mine ≡ found → change found ≡ r → set_to with (change mine) ≡ set_to with r
 set_found with change mine found r same is = ap (λ xs. set_to with (change xs)) same ∙ ap (set_to with) is
 
--- or of one that was refused
-pub set_refused : {X : Type 0} (p : Project) (with : List X → Project) (change : List X → Result (List X) Refusal) (mine found : List X) (e : Refusal) → mine ≡ found → Comes (change found) (Err e)
-    → Plans p (set_to with (change mine)) (Err e)
-set_refused p with change mine found e same (inl out) = inl (out.0, made (change mine) (subst (λ xs. IsOk (change xs)) (sym same) out.1))
-  where
-    made : (r : Result (List X) Refusal) → IsOk r → MayRunOut (set_to with r)
-    made (Ok xs) ok = tt
-    made (Err x) ok = absurd (cc)
-set_refused p with change mine found e same (inr is) = inr (set_found with change mine found (Err e) same is)
-
 -- ---- rules and redirects
 
 abbrev IsGoodRule : Rule → Type 0
@@ -133,20 +122,3 @@ module _ (f : Facts) (p : Project) where
     set_found (with_redirects p) (dropped place) p.redirects f.redirects.items (Ok set) k.answers.redirects is,
     (may_drop 100 IsGoodRedirect place f.redirects.items k.answers.good_redirects k.answers.few_redirects set is, tt),
   )
-
-  -- where the list refuses it, or memory ran out
-  pub rule_not_added : (x : CheckedRule) → Knows (change.AddRule x) f p → (e : Refusal) → Comes (added 50 x.place x.rule f.rules.items) (Err e)
-      → Plans p (set_to (with_rules p) (added 50 x.place x.rule p.rules)) (Err e)
-  rule_not_added x k e = set_refused p (with_rules p) (added 50 x.place x.rule) p.rules f.rules.items e k.answers.rules
-
-  pub rule_not_dropped : (place : ℕ) → Knows (change.DropRule place) f p → (e : Refusal) → Comes (dropped place f.rules.items) (Err e)
-      → Plans p (set_to (with_rules p) (dropped place p.rules)) (Err e)
-  rule_not_dropped place k e = set_refused p (with_rules p) (dropped place) p.rules f.rules.items e k.answers.rules
-
-  pub redirect_not_added : (x : CheckedRedirect) → Knows (change.AddRedirect x) f p → (e : Refusal) → Comes (added 100 x.place x.redirect f.redirects.items) (Err e)
-      → Plans p (set_to (with_redirects p) (added 100 x.place x.redirect p.redirects)) (Err e)
-  redirect_not_added x k e = set_refused p (with_redirects p) (added 100 x.place x.redirect) p.redirects f.redirects.items e k.answers.redirects
-
-  pub redirect_not_dropped : (place : ℕ) → Knows (change.DropRedirect place) f p → (e : Refusal) → Comes (dropped place f.redirects.items) (Err e)
-      → Plans p (set_to (with_redirects p) (dropped place p.redirects)) (Err e)
-  redirect_not_dropped place k e = set_refused p (with_redirects p) (dropped place) p.redirects f.redirects.items e k.answers.redirects

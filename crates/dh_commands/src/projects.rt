@@ -1,8 +1,10 @@
 //! New projects, and their languages.
-ghost use Rattle.std.specs.Prelude.{◌≡◌};
+ghost use Rattle.std.specs.Prelude.{◌≡◌, ◌∷◌, []};
 ghost use Rattle.std.specs.List.{list_any};
 ghost use Rattle.std.specs.Str.{bytes_eq};
+ghost use Rattle.dh_plans.specs.Edits.{Makes};
 ghost use Rattle.dh_plans.specs.Knowing.{Decides};
+ghost use Rattle.dh_plans.specs.Planned.{planned};
 ghost use Rattle.dh_plans.specs.Plans.{Opens};
 
 use dh_checks::{CheckedChange, NewProject};
@@ -31,6 +33,13 @@ pub fn is_among(languages: &[Lang], lang: &Lang) -> bool
     languages.iter().any(|l| l.as_str() == lang.as_str())
 }
 
+/// The plan by which a language takes a place.
+fn append_lang<'c>(alloc: Global, lang: Lang, place: u32) -> Result<Plan<'c>, Refusal>
+    ensures { Makes (planned (Edit.AddLang lang place ∷ []) Answer.Done) result }
+{
+    Ok(Plan::one(alloc, Edit::AddLang { lang, place }, Answer::Done)?)
+}
+
 /// Adds a language after the others, where it is not there and there is room.
 pub fn add_lang<'c>(alloc: Global, lang: Lang, facts: &Facts) -> Result<Plan<'c>, Refusal>
     ensures { Decides (CheckedChange.AddLang lang) facts.now result }
@@ -44,5 +53,5 @@ pub fn add_lang<'c>(alloc: Global, lang: Lang, facts: &Facts) -> Result<Plan<'c>
         return Err(Refusal::TooMany);
     }
     let place = count as u32 + 1;
-    Ok(Plan::one(alloc, Edit::AddLang { lang, place }, Answer::Done)?)
+    append_lang(alloc, lang, place)
 }

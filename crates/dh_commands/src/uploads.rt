@@ -1,5 +1,6 @@
 //! Uploads of pages.
 ghost use Rattle.std.specs.Prelude.{◌≡◌, ◌++◌, IfOk, OnOk};
+ghost use Rattle.dh_plans.specs.Edits.{Makes};
 ghost use Rattle.dh_plans.specs.Knowing.{Decides};
 ghost use Rattle.dh_plans.specs.Plans.{pages_put, plan_stored};
 
@@ -64,6 +65,13 @@ fn store<'c>(alloc: Global, upload: CheckedUpload<'c>) -> Result<Plan<'c>, Alloc
     })
 }
 
+/// The same, or the refusal of an upload for want of memory.
+fn store_or_refuse<'c>(alloc: Global, upload: CheckedUpload<'c>) -> Result<Plan<'c>, Refusal>
+    ensures { Makes (plan_stored upload.entry) result }
+{
+    Ok(store(alloc, upload)?)
+}
+
 /// An upload: a retry key that was used gives its first answer; else the version has to be there
 /// and active, and the language one of the project's.
 pub fn upload<'c>(
@@ -90,5 +98,5 @@ pub fn upload<'c>(
     if !is_among(&facts.languages, &upload.lang) {
         return Err(Refusal::NoLang);
     }
-    Ok(store(alloc, upload)?)
+    store_or_refuse(alloc, upload)
 }

@@ -129,6 +129,13 @@ impl<S: Alter> Desk<S> {
         tables.into_conn()
     }
 
+    /// Whether a fault of the store has closed it.
+    pub fn is_closed(&self) -> bool
+        ensures { result ≡ self.now.closed }
+    {
+        self.closed
+    }
+
     /// Does a command, as one transaction. An accepted one has changed the world; a refused one has
     /// left it as it was. After a fault of the store the desk answers it to each command. Out of memory
     /// is told where the store answers after it: one that is out of memory too is told as a fault.

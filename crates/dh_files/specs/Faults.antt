@@ -8,7 +8,7 @@ use Rattle.dh_opening.specs.declared.fault.TablesFault.{TablesFault}
 use Rattle.dh_opening.specs.declared.fault.TablesFault.TheVariants as tables
 use Rattle.dh_files.specs.declared.fault.FileFault.{FileFault}
 use Rattle.dh_files.specs.declared.fault.FileFault.TheVariants.{Missing, Empty, Folder, Forbidden, Unopened, NoDatabase}
-use Rattle.dh_files.specs.declared.fault.FileFault.TheVariants.{Damaged, Busy, Taken, NotOurs, Full, Failed, Memory}
+use Rattle.dh_files.specs.declared.fault.FileFault.TheVariants.{Damaged, Busy, Taken, NotOurs, OldSchema, Full, Failed, Memory}
 
 abbrev pub name_of : FileFault → List ℕ
 name_of = elim [
@@ -24,11 +24,13 @@ name_of = elim [
   | Failed ↦ codes "Store"
   | Taken ↦ codes "NotOurs"
   | NotOurs ↦ codes "NotOurs"
+  | OldSchema ↦ codes "OldSchema"
   | Memory ↦ codes "Memory"
 ]
 
 abbrev pub fault_of : TablesFault → FileFault
 fault_of tables.NotOurs = NotOurs
+fault_of tables.OldSchema = OldSchema
 fault_of (tables.Failed below.Store) = Failed
 fault_of (tables.Failed below.Memory) = Memory
 

@@ -31,6 +31,8 @@ pub enum FileFault {
     Taken,
     /// Its tables are not ours, or its rows break a constraint.
     NotOurs,
+    /// Its tables are of an earlier schema.
+    OldSchema,
     /// The disk is full.
     Full,
     /// The disk failed.
@@ -40,12 +42,13 @@ pub enum FileFault {
 }
 
 impl FileFault {
-    /// The name that programs read: `NotOurs`, `Store` or `Memory`.
+    /// The name that programs read: `NotOurs`, `OldSchema`, `Store` or `Memory`.
     pub fn name(self) -> &'static str
         ensures { result.now ≡ name_of self }
     {
         match self {
             FileFault::Taken | FileFault::NotOurs => "NotOurs",
+            FileFault::OldSchema => "OldSchema",
             FileFault::Memory => "Memory",
             FileFault::Missing
             | FileFault::Empty
@@ -77,6 +80,9 @@ impl FileFault {
             FileFault::NotOurs => {
                 "its tables are not those of docs_host, or a row breaks a constraint"
             }
+            FileFault::OldSchema => {
+                "an earlier docs_host made it; docs_host migrate FILE brings it to this one's schema"
+            }
             FileFault::Full => "the disk is full",
             FileFault::Failed => "the disk failed",
             FileFault::Memory => "memory is out",
@@ -106,6 +112,7 @@ impl From<TablesFault> for FileFault {
     fn from(fault: TablesFault) -> FileFault {
         match fault {
             TablesFault::NotOurs => FileFault::NotOurs,
+            TablesFault::OldSchema => FileFault::OldSchema,
             TablesFault::Failed(Fault::Store) => FileFault::Failed,
             TablesFault::Failed(Fault::Memory) => FileFault::Memory,
         }

@@ -74,6 +74,22 @@ fn open_tables<S: Alter + Drop>(
     }
 }
 
+/// Connects to a file that is a database. It makes no file.
+fn connect_to_database<S: Start>(
+    rt: &HostRuntime,
+    path: &str,
+    start: S,
+) -> Result<FileConnection<S>, FileFault>
+    ensures { IfOk result (λ conn. conn.in_transaction ≡ false) }
+{
+    match look(rt, path)? {
+        Found::Nothing => Err(FileFault::Missing),
+        Found::Empty => Err(FileFault::Empty),
+        Found::Other => Err(FileFault::NoDatabase),
+        Found::Database => connect(rt, path, start),
+    }
+}
+
 /// Opens a file that `init_file` made, and tells how many projects it has. The whole file is read. No
 /// other program can open it until it is closed. It makes no file, and leaves one that it refuses as it
 /// is.
@@ -82,12 +98,26 @@ pub fn open_desk<S: Start>(
     path: &str,
     start: S,
 ) -> Result<(FileDesk<S>, i64), FileFault> {
-    match look(rt, path)? {
-        Found::Nothing => Err(FileFault::Missing),
-        Found::Empty => Err(FileFault::Empty),
-        Found::Other => Err(FileFault::NoDatabase),
-        Found::Database => open_tables(rt.alloc(), connect(rt, path, start)?),
+    open_tables(rt.alloc(), connect_to_database(rt, path, start)?)
+}
+
+/// Brings the tables of a connection to the schema of this program.
+fn migrate_tables<S: Alter + Drop>(
+    alloc: Global,
+    conn: Connection<S>,
+) -> Result<Connection<S>, FileFault>
+    requires { conn.in_transaction ≡ false }
+{
+    match dh_opening::migrate(alloc, conn) {
+        Ok(tables) => Ok(tables.into_conn()),
+        Err((fault, _conn)) => Err(FileFault::from(fault)),
     }
+}
+
+/// Brings a file to the schema of this program, in one transaction: each pass of a file of schema 1 has no
+/// end. A file of this schema stays as it is. It leaves a file that it refuses as it is.
+pub fn migrate_file<S: Start>(rt: &HostRuntime, path: &str, start: S) -> Result<(), FileFault> {
+    close(migrate_tables(rt.alloc(), connect_to_database(rt, path, start)?)?)
 }
 
 /// Closes a file. Where it fails nothing is lost: the log beside the file holds what is not in it, and

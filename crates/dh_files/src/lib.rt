@@ -6,4 +6,4 @@ mod files;
 mod looking;
 
 pub use fault::FileFault;
-pub use files::{FileDesk, close_desk, init_file, open_desk};
+pub use files::{FileDesk, close_desk, init_file, migrate_file, open_desk};

@@ -27,7 +27,8 @@ use Rattle.dh_lines.specs.Lines.{line_in, as_line, asking, named_line, line_with
 use Rattle.dh_lines.specs.Lines.{change_in, access_in, redirect_change_in, rule_change_in}
 use Rattle.dh_lines.specs.Lines.{Orders, OrdersOnVersion, OrdersRedirectBy}
 use Rattle.dh_lines.specs.Lines.{OrdersRuleOf, OrdersRule}
-use Rattle.dh_lines.specs.Lines.{redirect_of, redirect_kind_of, place_of, status_of}
+use Rattle.dh_redirects.specs.Redirects.{redirect_kind_of, redirect_status_of}
+use Rattle.dh_lines.specs.Lines.{redirect_of, place_of}
 use Rattle.dh_lines.specs.Lines.{rule_of, kind_of, pattern_of, action_of}
 use Rattle.dh_lines.specs.declared.lines.Line.{Line}
 use Rattle.dh_lines.specs.declared.lines.Order.{Order}
@@ -174,7 +175,7 @@ module _ (more : List Token) (force : Bool) where
       → Fits (redirect_words host place kind status source target))
       → ((host place kind status source target : Text) → ReadsAs (codes "add-redirect")
       (redirect_words host place kind status source target)
-      (redirect_by host source target (place_of place) (redirect_kind_of kind) (status_of status)))
+      (redirect_by host source target (place_of place) (redirect_kind_of kind) (redirect_status_of status)))
       → (word : Text) (kind : RedirectKind) → is_plain word ≡ true
       → redirect_kind_of word ≡ Some kind → OrdersRedirectBy (map text_of more) force word kind
   redirect_line fits reads word kind word_plain is_kind host p s source target place status plain

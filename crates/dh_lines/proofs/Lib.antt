@@ -1,4 +1,3 @@
 pub mod LineLemmas
 pub mod FormLines
-pub mod NumberLemmas
 pub mod PatternLemmas

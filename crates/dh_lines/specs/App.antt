@@ -45,13 +45,16 @@ version_apps =
 abbrev pub pass_app : Text → App
 pass_app name = form name (codes "host" ∷ codes "pass" ∷ [])
 
+abbrev pub add_pass_app : App
+add_pass_app = with_rule (pass_app (codes "add-pass")) (option_rule (codes "until"))
+
 -- `NAME HOST PASS SLUG`: a command on one grant
 abbrev pub grant_app : Text → App
 grant_app name = form name (codes "host" ∷ codes "pass" ∷ codes "slug" ∷ [])
 
 abbrev pub pass_apps : List App
 pass_apps =
-    pass_app (codes "add-pass")
+    add_pass_app
     ∷ pass_app (codes "drop-pass")
     ∷ grant_app (codes "grant")
     ∷ grant_app (codes "revoke")
@@ -80,8 +83,11 @@ abbrev pub rule_apps : List App
 rule_apps = add_rule_app ∷ drop_rule_app ∷ []
 
 abbrev pub get_app : App
-get_app = with_rule (form (codes "get") (codes "host" ∷ codes "target" ∷ []))
-    (option_rule (codes "pass"))
+get_app = with_rule (with_rule (form (codes "get") (codes "host" ∷ codes "target" ∷ []))
+    (option_rule (codes "pass"))) (option_rule (codes "now"))
+
+abbrev pub import_app : App
+import_app = form (codes "import") (codes "host" ∷ codes "list" ∷ [])
 
 abbrev pub script_app : App
 script_app = form (codes "script") []
@@ -93,7 +99,7 @@ answer_app = form (codes "answer") []
 abbrev pub store_apps : List App
 store_apps =
     project_apps ++ version_apps ++ pass_apps ++ redirect_apps ++ rule_apps
-    ++ (get_app ∷ script_app ∷ answer_app ∷ [])
+    ++ (get_app ∷ import_app ∷ script_app ∷ answer_app ∷ [])
 
 -- a form that takes `--store FILE`, too
 abbrev pub with_store : App → App
@@ -101,6 +107,9 @@ with_store app = with_rule app (option_rule (codes "store"))
 
 abbrev pub init_app : App
 init_app = form (codes "init") (codes "file" ∷ [])
+
+abbrev pub migrate_app : App
+migrate_app = form (codes "migrate") (codes "file" ∷ [])
 
 abbrev pub serve_app : App
 serve_app =
@@ -114,4 +123,4 @@ bare_app = program_of (new_app (codes "docs_host"))
 
 -- the program: the lines of scripts, and what it does with a file or with its input
 abbrev pub docs_app : App
-docs_app = with_apps bare_app (map with_store store_apps ++ (init_app ∷ serve_app ∷ []))
+docs_app = with_apps bare_app (map with_store store_apps ++ (init_app ∷ migrate_app ∷ serve_app ∷ []))

@@ -1,5 +1,5 @@
 -- The forms of the program's words, as `clap` sees them.
-use Rattle.std.specs.Prelude.{map}
+use Rattle.std.specs.Prelude.{map, fold}
 use Rattle.clap.specs.Simple.{App, with_rule}
 use Rattle.dh_words.specs.Apps.{option_rule, flag_rule, form}
 use Rattle.dh_lines.specs.App.{with_store}
@@ -9,12 +9,11 @@ use Rattle.dh_lines.specs.declared.app.More.TheVariants as more
 
 -- an app that takes this too, behind its words
 abbrev pub with_more : App → More → App
-with_more app more.Nothing = app
 with_more app (more.Flag id help) = with_rule app (flag_rule id.now)
 with_more app (more.Value id help) = with_rule app (option_rule id.now)
 
 abbrev pub app_of_form : Form → App
-app_of_form f = with_more (form f.name.now (map (λ id. id.now) f.ids.now)) f.more
+app_of_form f = fold with_more (form f.name.now (map (λ id. id.now) f.ids.now)) f.more.now
 
 -- the app of a form that may name the file of its records
 abbrev pub store_app_of : Form → App

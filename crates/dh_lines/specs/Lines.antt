@@ -2,17 +2,15 @@
 use Rattle.std.specs.Prelude.{◌≡◌, ◌≢◌, Bool, true, false, if◌then◌else◌, List, [], ◌∷◌, Option}
 use Rattle.std.specs.Prelude.{◌++◌}
 use Rattle.std.specs.Prelude.{Some, None, is_some, option_map, option_and_then, codes, Result, Ok, Err, ⊤}
-use Rattle.std.specs.Prelude.{ℕ, ◌&&◌, ◌^◌, nat_lt, length, take, drop}
-use Rattle.std.specs.Char.{is_ascii_digit}
-use Rattle.std.specs.List.{list_all}
+use Rattle.std.specs.Prelude.{ℕ, ◌^◌, take, drop}
 use Rattle.std.specs.Option.{option_map_or}
 use Rattle.std.specs.Str.{bytes_eq}
-use Rattle.std.specs.Str.Parse.{digits_value}
 use Rattle.clap.specs.Walk.{Text, Row, first_of}
 use Rattle.clap.specs.Simple.{subcommand_of, subcommand_rows_of}
 use Rattle.clap.specs.Kinds.{Kinds}
 use Rattle.clap.specs.Faults.{fault_of}
 use Rattle.clap.specs.declared.parser.matches.ArgMatches.{ArgMatches}
+use Rattle.dh_texts.specs.Numbers.{decimal_below}
 use Rattle.dh_versions.specs.declared.version.Kind.{Kind}
 use Rattle.dh_versions.specs.declared.version.Kind.TheVariants.{Branch, Tag}
 use Rattle.dh_rules.specs.Patterns.{pattern_text, expression_mark}
@@ -21,10 +19,9 @@ use Rattle.dh_rules.specs.declared.pattern.Pattern.TheVariants.{All, SemVer, Cus
 use Rattle.dh_rules.specs.declared.rule.Action.{Action}
 use Rattle.dh_rules.specs.declared.rule.Action.TheVariants as action
 use Rattle.dh_rules.specs.declared.rule.Rule.{Rule}
+use Rattle.dh_redirects.specs.Redirects.{redirect_kind_of, redirect_status_of}
 use Rattle.dh_redirects.specs.declared.redirect.Redirect.{Redirect}
 use Rattle.dh_redirects.specs.declared.redirect.RedirectKind.{RedirectKind}
-use Rattle.dh_redirects.specs.declared.redirect.RedirectKind.TheVariants.{Page, Exact, CleanToHtml}
-use Rattle.dh_redirects.specs.declared.redirect.RedirectKind.TheVariants.{HtmlToClean}
 use Rattle.dh_world.specs.declared.command.Command.{Command}
 use Rattle.dh_world.specs.declared.command.CommandChange.{CommandChange}
 use Rattle.dh_world.specs.declared.pages.UploadedPage.{UploadedPage}
@@ -40,7 +37,8 @@ use Rattle.dh_words.specs.Words.{is_plain, ArePlain}
 use Rattle.dh_lines.specs.App.{docs_app}
 use Rattle.dh_lines.specs.declared.lines.Line.{Line}
 use Rattle.dh_lines.specs.declared.lines.Order.{Order}
-use Rattle.dh_lines.specs.declared.lines.Order.TheVariants.{Act, Get, Init, Script, Answer, Serve}
+use Rattle.dh_lines.specs.declared.lines.Order.TheVariants.{Act, Get, Import, Init, Migrate, Script}
+use Rattle.dh_lines.specs.declared.lines.Order.TheVariants.{Answer, Serve}
 use Rattle.dh_lines.specs.declared.lines.LineFault.{LineFault}
 use Rattle.dh_lines.specs.declared.lines.LineFault.TheVariants.{Usage, Memory}
 
@@ -65,14 +63,6 @@ kind_of text =
     else if bytes_eq text (codes "tag") then Some Tag
     else None
 
-abbrev pub redirect_kind_of : Text → Option RedirectKind
-redirect_kind_of text =
-    if bytes_eq text (codes "page") then Some Page
-    else if bytes_eq text (codes "exact") then Some Exact
-    else if bytes_eq text (codes "clean-to-html") then Some CleanToHtml
-    else if bytes_eq text (codes "html-to-clean") then Some HtmlToClean
-    else None
-
 -- the pattern that the text writes
 abbrev pub pattern_of : Text → Option Pattern
 pattern_of text =
@@ -90,25 +80,18 @@ action_of text =
     else if bytes_eq text (codes "default") then Some action.Default
     else None
 
--- the number that the text writes, where it is decimal digits alone, at least one, and the number
--- is below the bound
-abbrev pub number_in : ℕ → Text → Option ℕ
-number_in bound text =
-    if list_all is_ascii_digit text && nat_lt 0 (length text) && nat_lt (digits_value 10 text) bound
-    then Some (digits_value 10 text)
-    else None
-
 abbrev pub place_of : Text → Option ℕ
-place_of text = number_in (2 ^ 32) text
-
-abbrev pub status_of : Text → Option ℕ
-status_of text = number_in (2 ^ 16) text
+place_of text = decimal_below (2 ^ 32) text
 
 abbrev pub count_of : Text → Option ℕ
-count_of text = number_in (2 ^ 32) text
+count_of text = decimal_below (2 ^ 32) text
 
 abbrev pub port_of : Text → Option ℕ
-port_of text = number_in (2 ^ 16) text
+port_of text = decimal_below (2 ^ 16) text
+
+-- seconds since 1970
+abbrev pub moment_of : Text → Option ℕ
+moment_of text = decimal_below (2 ^ 64) text
 
 -- whether this value may be that of the word with this id; of any other word each may be
 abbrev pub reads : Text → Text → Bool
@@ -120,8 +103,10 @@ reads id value =
     else if bytes_eq id (codes "action") then is_some (action_of value)
     else if bytes_eq id (codes "place") then is_some (place_of value)
     else if bytes_eq id (codes "count") then is_some (count_of value)
-    else if bytes_eq id (codes "status") then is_some (status_of value)
+    else if bytes_eq id (codes "status") then is_some (redirect_status_of value)
     else if bytes_eq id (codes "port") then is_some (port_of value)
+    else if bytes_eq id (codes "until") then is_some (moment_of value)
+    else if bytes_eq id (codes "now") then is_some (moment_of value)
     else true
 
 -- the text that a word stands for: `none` for the empty one, any other for itself
@@ -188,11 +173,16 @@ change_on name slug =
 abbrev pub version_in : Text → List Row → Option CommandChange
 version_in name rows = with_word (codes "slug") rows (λ slug. change_on name slug)
 
--- `add-pass HOST PASS`
+-- the moment that an option gives, or none where it is left out
+abbrev pub moment_in : Text → List Row → Option (Option ℕ)
+moment_in id rows =
+    option_map_or (λ text. option_map Some (moment_of text)) (first_of id rows) (Some None)
+
+-- `add-pass HOST PASS [--until SECONDS]`
 abbrev pub add_pass_in : List Row → Option CommandChange
 add_pass_in rows =
     with_word (codes "pass") rows (λ pass.
-    Some (AddPass pass))
+    option_map (AddPass pass) (moment_in (codes "until") rows))
 
 -- `drop-pass HOST PASS`
 abbrev pub drop_pass_in : List Row → Option CommandChange
@@ -236,7 +226,7 @@ redirect_in rows =
     with_word (codes "to") rows (λ target.
     option_and_then (λ kind.
     option_map (λ status. redirect_of kind status source target (is_set (codes "force") rows))
-    (status_of status)) (redirect_kind_of kind)))))
+    (redirect_status_of status)) (redirect_kind_of kind)))))
 
 -- `add-redirect HOST PLACE KIND STATUS FROM TO [--force]`
 abbrev pub add_redirect_in : List Row → Option CommandChange
@@ -270,16 +260,26 @@ add_rule_in rows =
 abbrev pub drop_rule_in : List Row → Option CommandChange
 drop_rule_in rows = option_map DropRule (place_in rows)
 
--- `get HOST TARGET [--pass PASS]`
+-- `get HOST TARGET [--pass PASS] [--now SECONDS]`
 abbrev pub get_in : List Row → Option Order
 get_in rows =
     with_word (codes "host") rows (λ host.
     with_word (codes "target") rows (λ target.
-    Some (Get host target (first_of (codes "pass") rows))))
+    option_map (Get host target (first_of (codes "pass") rows)) (moment_in (codes "now") rows)))
+
+-- `import HOST LIST`
+abbrev pub import_in : List Row → Option Order
+import_in rows =
+    with_word (codes "host") rows (λ host.
+    with_word (codes "list") rows (λ list. Some (Import host list)))
 
 -- `init FILE`
 abbrev pub init_in : List Row → Option Order
 init_in rows = with_word (codes "file") rows (λ file. Some (Init file))
+
+-- `migrate FILE`
+abbrev pub migrate_in : List Row → Option Order
+migrate_in rows = with_word (codes "file") rows (λ file. Some (Migrate file))
 
 -- the count of a line
 abbrev pub count_in : List Row → Option ℕ
@@ -342,9 +342,11 @@ command_in name rows =
 abbrev pub order_in : Text → List Row → Option Order
 order_in name rows =
     if bytes_eq name (codes "get") then get_in rows
+    else if bytes_eq name (codes "import") then import_in rows
     else if bytes_eq name (codes "script") then Some Script
     else if bytes_eq name (codes "answer") then Some Answer
     else if bytes_eq name (codes "init") then init_in rows
+    else if bytes_eq name (codes "migrate") then migrate_in rows
     else if bytes_eq name (codes "serve") then serve_in rows
     else option_map Act (command_in name rows)
 
@@ -412,7 +414,7 @@ abbrev pub OrdersRedirectBy : List Text → Bool → Text → RedirectKind → T
 OrdersRedirectBy more force word kind =
     (host place_word status_word source target : Text) (place status : ℕ)
     → ArePlain (host ∷ place_word ∷ status_word ∷ source ∷ target ∷ [])
-    → place_of place_word ≡ Some place → status_of status_word ≡ Some status
+    → place_of place_word ≡ Some place → redirect_status_of status_word ≡ Some status
     → Orders (codes "add-redirect" ∷ host ∷ place_word ∷ word ∷ status_word ∷ source ∷ target
     ∷ more)
     (Act (asking host (AddRedirect place (redirect_of kind status source target force))))

@@ -1,9 +1,10 @@
 //! The words of the program and of a script's line, as `clap` sees them.
 
-ghost use Rattle.std.specs.Prelude.{◌≡◌, IfOk, map, [], ◌∷◌};
+ghost use Rattle.std.specs.Prelude.{◌≡◌, IfOk, map, fold, [], ◌∷◌};
 ghost use Rattle.dh_words.specs.Apps.{IsApp, with_apps};
 ghost use Rattle.dh_words.specs.Apps.{with_words as words_added};
-ghost use Rattle.dh_lines.specs.App.{bare_app, docs_app, init_app, serve_app, store_apps, with_store};
+ghost use Rattle.dh_lines.specs.App.{bare_app, docs_app, init_app, migrate_app, serve_app};
+ghost use Rattle.dh_lines.specs.App.{store_apps, with_store};
 ghost use Rattle.dh_lines.specs.Forms.{app_of_form, store_app_of, with_more};
 
 use clap::Command;
@@ -13,7 +14,6 @@ use std::alloc::{AllocError, Global};
 /// What a form may take beside its words.
 #[derive(Drop)]
 enum More<'a> {
-    Nothing,
     /// `--id`
     Flag { id: &'a str, help: &'a str },
     /// `--id VALUE`
@@ -28,7 +28,7 @@ struct Form<'a> {
     about: &'a str,
     example: &'a str,
     ids: &'a [&'a str],
-    more: More<'a>,
+    more: &'a [More<'a>],
 }
 
 /// What `--help` says of a word.
@@ -53,7 +53,9 @@ fn word_help(id: &str) -> &'static str {
         "from" => "The path that is led away, as /old/*, or none",
         "to" => "Where it is led, as /en/latest/:splat, or none",
         "pattern" => "Which names: all, semver, or re: and an expression, as re:^v[0-9]+$",
-        "file" => "The file that is made, as docs.db: none may be there by this name",
+        "list" =>
+            "A file of records kind,status,force,from,to, as exact,301,no,/old/*,/en/latest/:splat",
+        "file" => "The file of the records, as docs.db",
         "action" => "activate, hide, public, private or default: what becomes of a new version",
         "target" => "The path that is read, and its query, as /en/latest/?q=1",
         _ => "",
@@ -70,21 +72,30 @@ fn with_words<'a>(syntax: Syntax<'a>, ids: &[&'a str]) -> Result<Syntax<'a>, All
     Ok(syntax)
 }
 
-fn with_more_words<'a>(syntax: Syntax<'a>, more: &More<'a>) -> Result<Syntax<'a>, AllocError>
+fn with_one_more<'a>(syntax: Syntax<'a>, more: &More<'a>) -> Result<Syntax<'a>, AllocError>
     ensures { IfOk result (λ new. new ≡ with_more syntax.entry more.now) }
 {
     match more {
-        More::Nothing => Ok(syntax),
         More::Flag { id, help } => syntax.with_flag(*id, *help),
         More::Value { id, help } => syntax.with_option(*id, *help),
     }
+}
+
+fn with_options<'a>(syntax: Syntax<'a>, options: &[More<'a>]) -> Result<Syntax<'a>, AllocError>
+    ensures { IfOk result (λ new. new ≡ fold with_more syntax.entry options.now) }
+{
+    let mut syntax = syntax;
+    for more in options {
+        syntax = with_one_more(syntax, more)?;
+    }
+    Ok(syntax)
 }
 
 fn form_command<'a>(alloc: Global, form: &Form<'a>) -> Result<Syntax<'a>, AllocError>
     ensures { IfOk result (λ syntax. syntax ≡ app_of_form form.now) }
 {
     let syntax = Syntax::named(alloc, form.name, form.about, form.example);
-    with_more_words(with_words(syntax, form.ids)?, &form.more)
+    with_options(with_words(syntax, form.ids)?, form.more)
 }
 
 /// A command that may name the file of its records, as each may that reads or changes them.
@@ -140,27 +151,27 @@ fn bare_command<'a>(alloc: Global) -> Syntax<'a>
 }
 
 /// The lines of scripts, and what the program does with its input.
-const FORMS: [Form<'static>; 23] = [
+const FORMS: [Form<'static>; 24] = [
     Form {
         name: "new-project",
         about: "Makes a project with one language and no version",
         example: "Example: docs_host new-project docs.test en main public wkey-1 --store docs.db",
         ids: &["host", "lang", "branch", "privacy", "wkey"],
-        more: More::Nothing,
+        more: &[],
     },
     Form {
         name: "add-lang",
         about: "Adds a language to a project",
         example: "Example: docs_host add-lang docs.test fr --store docs.db",
         ids: &["host", "lang"],
-        more: More::Nothing,
+        more: &[],
     },
     Form {
         name: "push",
         about: "Records a branch or tag: its version is made, or is known already",
         example: "Example: docs_host push docs.test wkey-1 k1 tag 1.0 --store docs.db",
         ids: &["host", "wkey", "key", "kind", "ref"],
-        more: More::Nothing,
+        more: &[],
     },
     Form {
         name: "upload",
@@ -169,160 +180,191 @@ const FORMS: [Form<'static>; 23] = [
         ids: &[
             "host", "wkey", "key", "slug", "lang", "path", "type", "text",
         ],
-        more: More::Flag {
+        more: &[More::Flag {
             id: "replace",
             help: "Deletes the version's pages in the language first",
-        },
+        }],
     },
     Form {
         name: "activate",
         about: "Activates a version: its pages can be uploaded and read",
         example: "Example: docs_host activate docs.test 1.0 --store docs.db",
         ids: &["host", "slug"],
-        more: More::Nothing,
+        more: &[],
     },
     Form {
         name: "deactivate",
         about: "Deactivates a version and deletes its pages",
         example: "Example: docs_host deactivate docs.test 1.0 --store docs.db",
         ids: &["host", "slug"],
-        more: More::Nothing,
+        more: &[],
     },
     Form {
         name: "hide",
         about: "Hides a version: it is served, and left out of lists",
         example: "Example: docs_host hide docs.test 1.0 --store docs.db",
         ids: &["host", "slug"],
-        more: More::Nothing,
+        more: &[],
     },
     Form {
         name: "unhide",
         about: "Shows a hidden version in lists again",
         example: "Example: docs_host unhide docs.test 1.0 --store docs.db",
         ids: &["host", "slug"],
-        more: More::Nothing,
+        more: &[],
     },
     Form {
         name: "publish",
         about: "Makes a version public",
         example: "Example: docs_host publish docs.test 1.0 --store docs.db",
         ids: &["host", "slug"],
-        more: More::Nothing,
+        more: &[],
     },
     Form {
         name: "make-private",
         about: "Makes a version private: read with a pass that it is granted to",
         example: "Example: docs_host make-private docs.test 1.0 --store docs.db",
         ids: &["host", "slug"],
-        more: More::Nothing,
+        more: &[],
     },
     Form {
         name: "gone",
         about: "Deletes a version with its pages and the grants on it",
         example: "Example: docs_host gone docs.test 1.0 --store docs.db",
         ids: &["host", "slug"],
-        more: More::Nothing,
+        more: &[],
     },
     Form {
         name: "set-default",
         about: "Makes a version, or an alias such as latest, the project's first default",
         example: "Example: docs_host set-default docs.test 1.0 --store docs.db",
         ids: &["host", "slug"],
-        more: More::Nothing,
+        more: &[],
     },
     Form {
         name: "add-pass",
         about: "Adds a pass with no grants to a project",
-        example: "Example: docs_host add-pass docs.test reader-7 --store docs.db",
+        example: "Example: docs_host add-pass docs.test reader-7 --until 1893456000 --store docs.db",
         ids: &["host", "pass"],
-        more: More::Nothing,
+        more: &[More::Value {
+            id: "until",
+            help: "When it ends, in seconds since 1970: from then on it opens nothing",
+        }],
     },
     Form {
         name: "drop-pass",
         about: "Deletes a pass and its grants",
         example: "Example: docs_host drop-pass docs.test reader-7 --store docs.db",
         ids: &["host", "pass"],
-        more: More::Nothing,
+        more: &[],
     },
     Form {
         name: "grant",
         about: "Grants a version to a pass",
         example: "Example: docs_host grant docs.test reader-7 1.0 --store docs.db",
         ids: &["host", "pass", "slug"],
-        more: More::Nothing,
+        more: &[],
     },
     Form {
         name: "revoke",
         about: "Takes the grant of a version from a pass",
         example: "Example: docs_host revoke docs.test reader-7 1.0 --store docs.db",
         ids: &["host", "pass", "slug"],
-        more: More::Nothing,
+        more: &[],
     },
     Form {
         name: "add-redirect",
         about: "Adds a redirect at a place of the project's list; those from there on move by one",
         example: "Example: docs_host add-redirect docs.test 1 exact 302 '/old/*' /en/latest/:splat --store docs.db",
         ids: &["host", "place", "redirect-kind", "status", "from", "to"],
-        more: More::Flag {
+        more: &[More::Flag {
             id: "force",
             help: "Leads away from pages that exist, too",
-        },
+        }],
     },
     Form {
         name: "drop-redirect",
         about: "Takes the redirect at a place out of the project's list",
         example: "Example: docs_host drop-redirect docs.test 1 --store docs.db",
         ids: &["host", "place"],
-        more: More::Nothing,
+        more: &[],
     },
     Form {
         name: "add-rule",
         about: "Adds a rule for new versions at a place of the list; those from there on move by one",
         example: "Example: docs_host add-rule docs.test 1 tag semver activate --store docs.db",
         ids: &["host", "place", "kind", "pattern", "action"],
-        more: More::Nothing,
+        more: &[],
     },
     Form {
         name: "drop-rule",
         about: "Takes the rule at a place out of the project's list",
         example: "Example: docs_host drop-rule docs.test 1 --store docs.db",
         ids: &["host", "place"],
-        more: More::Nothing,
+        more: &[],
     },
     Form {
         name: "get",
         about: "Reads an address, and prints the reply's status, its location or -, and its size",
         example: "Example: docs_host get docs.test /en/latest/ --pass reader-7 --store docs.db",
         ids: &["host", "target"],
-        more: More::Value {
-            id: "pass",
-            help: "The reader's pass",
-        },
+        more: &[
+            More::Value {
+                id: "pass",
+                help: "The reader's pass",
+            },
+            More::Value {
+                id: "now",
+                help: "The moment of the read, in seconds since 1970, in place of the clock's",
+            },
+        ],
+    },
+    Form {
+        name: "import",
+        about: "Adds the redirects of a list that are not there behind the project's others, all or none",
+        example: "Example: docs_host import docs.test redirects.csv --store docs.db",
+        ids: &["host", "list"],
+        more: &[],
     },
     Form {
         name: "script",
         about: "Runs the lines of standard input, over an empty store in memory without --store",
         example: "Example: docs_host script --store docs.db < lines.txt",
         ids: &[],
-        more: More::Nothing,
+        more: &[],
     },
     Form {
         name: "answer",
         about: "Answers one HTTP request from standard input, over a sample without --store",
         example: "Example: docs_host answer --store docs.db < request.http",
         ids: &[],
-        more: More::Nothing,
+        more: &[],
     },
 ];
 
 /// What makes a file of records: it takes no `--store`.
 const INIT: Form<'static> = Form {
     name: "init",
-    about: "Makes a file of records, with no project",
+    about: "Makes a file of records, with no project: none may be there by its name",
     example: "Example: docs_host init docs.db",
     ids: &["file"],
-    more: More::Nothing,
+    more: &[],
 };
+
+/// What brings a file of records of an earlier schema to this one: it takes no `--store`.
+const MIGRATE: Form<'static> = Form {
+    name: "migrate",
+    about: "Brings a file of records that an earlier docs_host made to the schema of this one",
+    example: "Example: docs_host migrate docs.db",
+    ids: &["file"],
+    more: &[],
+};
+
+fn migrate_command<'a>(alloc: Global) -> Result<Syntax<'a>, AllocError>
+    ensures { IfOk result (λ syntax. syntax ≡ migrate_app) }
+{
+    form_command(alloc, &MIGRATE)
+}
 
 fn init_command<'a>(alloc: Global) -> Result<Syntax<'a>, AllocError>
     ensures { IfOk result (λ syntax. syntax ≡ init_app) }
@@ -343,6 +385,7 @@ pub fn docs_command<'a>(alloc: Global) -> Result<Command<'a>, AllocError>
 {
     let lines = lines_command(alloc)?;
     let with_init = lines.with_command(init_command(alloc)?)?;
-    let with_all = with_init.with_command(serve_command(alloc)?)?;
+    let with_migrate = with_init.with_command(migrate_command(alloc)?)?;
+    let with_all = with_migrate.with_command(serve_command(alloc)?)?;
     Ok(with_all.into_command())
 }

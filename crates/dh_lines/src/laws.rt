@@ -22,8 +22,9 @@ ghost use Rattle.dh_words.specs.Words.{is_plain, ArePlain, has_command};
 ghost use Rattle.dh_lines.specs.App.{docs_app};
 ghost use Rattle.dh_lines.specs.Lines.{line_in, asking, Orders, OrdersOnVersion, OrdersOnPass};
 ghost use Rattle.dh_lines.specs.Lines.{OrdersOnGrant, OrdersRedirect, OrdersForced, OrdersRule};
-ghost use Rattle.dh_lines.specs.Lines.{place_of, as_line, ServesAt, ServesAtPort};
-ghost use Rattle.dh_lines.specs.declared.lines.Order.TheVariants.{Act, Get, Init, Script, Answer};
+ghost use Rattle.dh_lines.specs.Lines.{place_of, moment_of, as_line, ServesAt, ServesAtPort};
+ghost use Rattle.dh_lines.specs.declared.lines.Order.TheVariants.{Act, Get, Import, Init};
+ghost use Rattle.dh_lines.specs.declared.lines.Order.TheVariants.{Migrate, Script, Answer};
 
 /// The lines on projects and pushes.
 pub fn project_lines()
@@ -80,7 +81,11 @@ pub fn version_lines()
 
 /// The lines on passes and grants.
 pub fn pass_lines()
-    ensures add_pass { OrdersOnPass (codes "add-pass") AddPass }
+    ensures add_pass { OrdersOnPass (codes "add-pass") (λ pass. AddPass pass None) }
+    ensures add_until { (host pass until : Text) (moment : ℕ) → ArePlain (host ∷ pass ∷ until ∷ [])
+        → moment_of until ≡ Some moment
+        → Orders (codes "add-pass" ∷ host ∷ pass ∷ codes "--until" ∷ until ∷ [])
+        (Act (asking host (AddPass pass (Some moment)))) }
     ensures drop_pass { OrdersOnPass (codes "drop-pass") DropPass }
     ensures grant { OrdersOnGrant (codes "grant") Grant }
     ensures revoke { OrdersOnGrant (codes "revoke") Revoke }
@@ -115,16 +120,31 @@ pub fn rule_lines()
         (Act (asking host (DropRule place))) }
 {}
 
-/// The lines that read, without a pass, and with it behind or before the other words.
+/// The lines that read, without a pass, and with it behind or before the other words; with the moment of the
+/// read, and without it.
 pub fn get_lines()
     ensures get { (host target : Text) → ArePlain (host ∷ target ∷ [])
-        → Orders (codes "get" ∷ host ∷ target ∷ []) (Get host target None) }
+        → Orders (codes "get" ∷ host ∷ target ∷ []) (Get host target None None) }
     ensures pass { (host target pass : Text) → ArePlain (host ∷ target ∷ pass ∷ [])
         → Orders (codes "get" ∷ host ∷ target ∷ codes "--pass" ∷ pass ∷ [])
-        (Get host target (Some pass)) }
+        (Get host target (Some pass) None) }
     ensures pass_first { (pass host target : Text) → ArePlain (pass ∷ host ∷ target ∷ [])
         → Orders (codes "get" ∷ codes "--pass" ∷ pass ∷ host ∷ target ∷ [])
-        (Get host target (Some pass)) }
+        (Get host target (Some pass) None) }
+    ensures moment { (host target now : Text) (moment : ℕ) → ArePlain (host ∷ target ∷ now ∷ [])
+        → moment_of now ≡ Some moment
+        → Orders (codes "get" ∷ host ∷ target ∷ codes "--now" ∷ now ∷ [])
+        (Get host target None (Some moment)) }
+    ensures both { (host target pass now : Text) (moment : ℕ)
+        → ArePlain (host ∷ target ∷ pass ∷ now ∷ []) → moment_of now ≡ Some moment
+        → Orders (codes "get" ∷ host ∷ target ∷ codes "--pass" ∷ pass ∷ codes "--now" ∷ now ∷ [])
+        (Get host target (Some pass) (Some moment)) }
+{}
+
+/// The line that imports a list.
+pub fn import_lines()
+    ensures { (host list : Text) → ArePlain (host ∷ list ∷ [])
+        → Orders (codes "import" ∷ host ∷ list ∷ []) (Import host list) }
 {}
 
 /// What the program itself does with its input.
@@ -133,12 +153,16 @@ pub fn program_lines()
     ensures answer { Orders (codes "answer" ∷ []) Answer }
 {}
 
-/// The words that make a store, which name no other.
+/// The words that make a store, and those that migrate one, which name no other.
 pub fn init_lines()
     ensures init { (file : Text) → is_plain file ≡ true
         → line_in (codes "init" ∷ file ∷ []) ≡ Some (as_line None (Init file)) }
     ensures other { (file other : Text) → ArePlain (file ∷ other ∷ [])
         → line_in (codes "init" ∷ file ∷ codes "--store" ∷ other ∷ []) ≡ None }
+    ensures migrate { (file : Text) → is_plain file ≡ true
+        → line_in (codes "migrate" ∷ file ∷ []) ≡ Some (as_line None (Migrate file)) }
+    ensures migrate_other { (file other : Text) → ArePlain (file ∷ other ∷ [])
+        → line_in (codes "migrate" ∷ file ∷ codes "--store" ∷ other ∷ []) ≡ None }
 {}
 
 /// The words that serve a store: the port is 0 where it is left out. The store and the count have

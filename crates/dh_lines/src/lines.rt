@@ -4,8 +4,9 @@ use crate::app::docs_command;
 use clap::ArgMatches;
 use clap::error::ErrorKind;
 use dh_paths::{Bytes, Text};
-use dh_redirects::{Redirect, RedirectKind};
+use dh_redirects::{Redirect, RedirectKind, read_status};
 use dh_rules::{Action, Pattern, Rule};
+use dh_texts::{read_u16, read_u32, read_u64};
 use dh_versions::Kind;
 use dh_world::{Command, CommandChange, Pages, UploadedPage};
 use std::alloc::{AllocError, Global};
@@ -23,9 +24,21 @@ pub enum Order {
         /// As it came: `Target::read` may refuse it.
         target: Text,
         pass: Option<Text>,
+        /// The moment of the read, in seconds since 1970, where it is given.
+        moment: Option<u64>,
+    },
+    /// To add the redirects of a list to those of a project.
+    Import {
+        host: Text,
+        /// The file of the list.
+        list: Text,
     },
     /// To make a store in a file.
     Init {
+        file: Text,
+    },
+    /// To bring a store in a file to the schema of this program.
+    Migrate {
         file: Text,
     },
     /// To run the lines of standard input.
@@ -70,9 +83,7 @@ impl From<AllocError> for LineFault {
     }
 }
 
-ghost use Rattle.std.specs.Prelude.{◌≡◌, ◌^◌, ◌∷◌, [], IfOk, is_some, option_map, map, string_bytes};
-ghost use Rattle.std.specs.Char.{is_ascii_digit};
-ghost use Rattle.std.specs.List.{list_all};
+ghost use Rattle.std.specs.Prelude.{◌≡◌, ◌∷◌, [], IfOk, is_some, option_map, map, string_bytes};
 ghost use Rattle.clap.specs.Walk.{first_of, rows_of};
 ghost use Rattle.clap.specs.Matches.{found_of};
 ghost use Rattle.clap.specs.Simple.{subcommand_rows_of};
@@ -82,7 +93,7 @@ ghost use Rattle.dh_lines.specs.Lines.{one_page as pages_of};
 ghost use Rattle.dh_lines.specs.Lines.{is_set, privacy_of, kind_of, new_project_in, add_lang_in};
 ghost use Rattle.dh_lines.specs.Lines.{push_in, upload_in, change_on, version_in, add_pass_in};
 ghost use Rattle.dh_lines.specs.Lines.{drop_pass_in, grant_in, revoke_in, access_in, change_in};
-ghost use Rattle.dh_lines.specs.Lines.{redirect_kind_of, number_in, place_in};
+ghost use Rattle.dh_lines.specs.Lines.{place_in, moment_in, import_in, migrate_in};
 ghost use Rattle.dh_lines.specs.Lines.{reads as spec_reads};
 ghost use Rattle.dh_lines.specs.Lines.{text_meant as meant_by, redirect_in, add_redirect_in};
 ghost use Rattle.dh_lines.specs.Lines.{drop_redirect_in, redirect_change_in, pattern_of, action_of};
@@ -160,18 +171,6 @@ fn read_kind(text: &str) -> Option<Kind>
     }
 }
 
-fn read_redirect_kind(text: &str) -> Option<RedirectKind>
-    ensures { result ≡ redirect_kind_of text.now }
-{
-    match text {
-        "page" => Some(RedirectKind::Page),
-        "exact" => Some(RedirectKind::Exact),
-        "clean-to-html" => Some(RedirectKind::CleanToHtml),
-        "html-to-clean" => Some(RedirectKind::HtmlToClean),
-        _ => None,
-    }
-}
-
 fn read_pattern(alloc: Global, text: &str) -> Result<Pattern, LineFault>
     ensures { Says (pattern_of text.now) result }
 {
@@ -194,38 +193,6 @@ fn read_action(text: &str) -> Option<Action>
     }
 }
 
-fn all_digits(text: &str) -> bool
-    ensures { result ≡ list_all is_ascii_digit text.now }
-{
-    text.as_bytes().iter().all(|b| b.is_ascii_digit())
-}
-
-/// The number that digits alone write: `parse` takes a plus as well.
-fn read_u32(text: &str) -> Option<u32>
-    ensures { result ≡ number_in (2 ^ 32) text.now }
-{
-    if !all_digits(text) {
-        return None;
-    }
-    match text.parse::<u32>() {
-        Ok(number) => Some(number),
-        Err(_) => None,
-    }
-}
-
-/// The small number that digits alone write.
-fn read_u16(text: &str) -> Option<u16>
-    ensures { result ≡ number_in (2 ^ 16) text.now }
-{
-    if !all_digits(text) {
-        return None;
-    }
-    match text.parse::<u16>() {
-        Ok(small) => Some(small),
-        Err(_) => None,
-    }
-}
-
 fn is_pattern(alloc: Global, text: &str) -> Result<bool, AllocError>
     ensures { IfOk result (λ is. is ≡ is_some (pattern_of text.now)) }
 {
@@ -239,11 +206,13 @@ pub fn reads(alloc: Global, id: &str, value: &str) -> Result<bool, AllocError>
     Ok(match id {
         "privacy" => read_privacy(value).is_some(),
         "kind" => read_kind(value).is_some(),
-        "redirect-kind" => read_redirect_kind(value).is_some(),
+        "redirect-kind" => RedirectKind::read(value).is_some(),
         "pattern" => is_pattern(alloc, value)?,
         "action" => read_action(value).is_some(),
         "place" | "count" => read_u32(value).is_some(),
-        "status" | "port" => read_u16(value).is_some(),
+        "status" => read_status(value).is_some(),
+        "port" => read_u16(value).is_some(),
+        "until" | "now" => read_u64(value).is_some(),
         _ => true,
     })
 }
@@ -363,11 +332,25 @@ fn version(alloc: Global, name: &str, matches: &ArgMatches<'_>) -> Result<Comman
     }
 }
 
+/// The moment that an option gives, or none where it is left out.
+fn moment(matches: &ArgMatches<'_>, id: &str) -> Result<Option<u64>, LineFault>
+    ensures { Says (moment_in id.now (rows_of (found_of matches.now))) result }
+{
+    let Some(text) = value(matches, id) else {
+        return Ok(None);
+    };
+    match read_u64(text) {
+        Some(moment) => Ok(Some(moment)),
+        None => Err(LineFault::Usage),
+    }
+}
+
 fn add_pass(alloc: Global, matches: &ArgMatches<'_>) -> Result<CommandChange, LineFault>
     ensures { Says (add_pass_in (rows_of (found_of matches.now))) result }
 {
     let pass = word(alloc, matches, "pass")?;
-    Ok(CommandChange::AddPass { pass })
+    let until = moment(matches, "until")?;
+    Ok(CommandChange::AddPass { pass, until })
 }
 
 fn drop_pass(alloc: Global, matches: &ArgMatches<'_>) -> Result<CommandChange, LineFault>
@@ -410,10 +393,10 @@ fn redirect(alloc: Global, matches: &ArgMatches<'_>) -> Result<Redirect, LineFau
     let status_word = word(alloc, matches, "status")?;
     let source = meant(alloc, matches, "from")?;
     let target = meant(alloc, matches, "to")?;
-    let Some(kind) = read_redirect_kind(kind_word.as_str()) else {
+    let Some(kind) = RedirectKind::read(kind_word.as_str()) else {
         return Err(LineFault::Usage);
     };
-    let Some(status) = read_u16(status_word.as_str()) else {
+    let Some(status) = read_status(status_word.as_str()) else {
         return Err(LineFault::Usage);
     };
     Ok(Redirect {
@@ -481,7 +464,21 @@ fn get(alloc: Global, matches: &ArgMatches<'_>) -> Result<Order, LineFault>
     let host = word(alloc, matches, "host")?;
     let target = word(alloc, matches, "target")?;
     let pass = option_value(alloc, matches, "pass")?;
-    Ok(Order::Get { host, target, pass })
+    let moment = moment(matches, "now")?;
+    Ok(Order::Get {
+        host,
+        target,
+        pass,
+        moment,
+    })
+}
+
+fn import(alloc: Global, matches: &ArgMatches<'_>) -> Result<Order, LineFault>
+    ensures { Says (import_in (rows_of (found_of matches.now))) result }
+{
+    let host = word(alloc, matches, "host")?;
+    let list = word(alloc, matches, "list")?;
+    Ok(Order::Import { host, list })
 }
 
 fn init(alloc: Global, matches: &ArgMatches<'_>) -> Result<Order, LineFault>
@@ -489,6 +486,13 @@ fn init(alloc: Global, matches: &ArgMatches<'_>) -> Result<Order, LineFault>
 {
     let file = word(alloc, matches, "file")?;
     Ok(Order::Init { file })
+}
+
+fn migrate(alloc: Global, matches: &ArgMatches<'_>) -> Result<Order, LineFault>
+    ensures { Says (migrate_in (rows_of (found_of matches.now))) result }
+{
+    let file = word(alloc, matches, "file")?;
+    Ok(Order::Migrate { file })
 }
 
 fn count(matches: &ArgMatches<'_>) -> Option<u32>
@@ -598,9 +602,11 @@ fn read_order(alloc: Global, name: &str, matches: &ArgMatches<'_>) -> Result<Ord
 {
     match name {
         "get" => get(alloc, matches),
+        "import" => import(alloc, matches),
         "script" => Ok(Order::Script),
         "answer" => Ok(Order::Answer),
         "init" => init(alloc, matches),
+        "migrate" => migrate(alloc, matches),
         "serve" => serve(matches),
         _ => Ok(Order::Act(command(alloc, name, matches)?)),
     }

@@ -13,38 +13,38 @@ use Rattle.dh_script.specs.declared.fault.RunFault.{RunFault}
 use Rattle.dh_script.specs.Running.{Runs, RunsInto, RunsSome, StopsAt, Ran, RunsBut, RanBut, RunsScript, lines_in, seen, worded, words_in, is_filled}
 
 -- two runs, one after the other, are a run
-pub runs_on : (before : World) (xs : List (List Text)) (between : World) (text : Text) (ys : List (List Text)) (after : World) (rest : Text)
-    → Runs before xs between text → Runs between ys after rest → Runs before (xs ++ ys) after (text ++ rest)
-runs_on before [] between text ys after rest first second =
-    let at : Runs before ys after rest = subst (λ (w : World). Runs w ys after rest) first.0 second in
-    subst (Runs before ys after) (ap (λ t. t ++ rest) (sym first.1)) at
-runs_on before (x ∷ xs) between text ys after rest first second =
+pub runs_on : (moment : ℕ) (before : World) (xs : List (List Text)) (between : World) (text : Text) (ys : List (List Text)) (after : World) (rest : Text)
+    → Runs moment before xs between text → Runs moment between ys after rest → Runs moment before (xs ++ ys) after (text ++ rest)
+runs_on moment before [] between text ys after rest first second =
+    let at : Runs moment before ys after rest = subst (λ (w : World). Runs moment w ys after rest) first.0 second in
+    subst (Runs moment before ys after) (ap (λ t. t ++ rest) (sym first.1)) at
+runs_on moment before (x ∷ xs) between text ys after rest first second =
     let m = first.0 in
     let line = first.1 in
     let more = first.2 in
-    (m, line, more ++ rest, first.3, runs_on m xs between more ys after rest first.4 second, ap (λ t. t ++ rest) first.5 ∙ append_assoc line (10 ∷ more) rest)
+    (m, line, more ++ rest, first.3, runs_on moment m xs between more ys after rest first.4 second, ap (λ t. t ++ rest) first.5 ∙ append_assoc line (10 ∷ more) rest)
 
 -- no line
-pub into_none : (w : World) (held : Option Text) → RunsInto w [] w held held
-into_none w held = record { text = []; ran = (refl, refl); written = Appends-nil held }
+pub into_none : (moment : ℕ) (w : World) (held : Option Text) → RunsInto moment w [] w held held
+into_none moment w held = record { text = []; ran = (refl, refl); written = Appends-nil held }
 
-pub into_on : (a : World) (xs : List (List Text)) (b : World) (ys : List (List Text)) (c : World) (h i j : Option Text) → RunsInto a xs b h i → RunsInto b ys c i j → RunsInto a (xs ++ ys) c h j
-into_on a xs b ys c h i j first second = record {
+pub into_on : (moment : ℕ) (a : World) (xs : List (List Text)) (b : World) (ys : List (List Text)) (c : World) (h i j : Option Text) → RunsInto moment a xs b h i → RunsInto moment b ys c i j → RunsInto moment a (xs ++ ys) c h j
+into_on moment a xs b ys c h i j first second = record {
   text = first.text ++ second.text;
-  ran = runs_on a xs b first.text ys c second.text first.ran second.ran;
+  ran = runs_on moment a xs b first.text ys c second.text first.ran second.ran;
   written = Appends-trans h i j first.text second.text first.written second.written;
 }
 
-stops_none : (w : World) (lines : List (List Text)) → StopsAt w lines w []
-stops_none w [] = (refl, refl)
-stops_none w (x ∷ xs) = inl (refl, refl)
+stops_none : (moment : ℕ) (w : World) (lines : List (List Text)) → StopsAt moment w lines w []
+stops_none moment w [] = (refl, refl)
+stops_none moment w (x ∷ xs) = inl (refl, refl)
 
 longer : (line : Text) → 0 < length (line ++ 10 ∷ [])
 longer line = omega (arith, length-append line (10 ∷ []))
 
 -- of these lines none ran to its end
-some_first : (before : World) (lines : List (List Text)) (after : World) (front : Text) (held now : Option Text) → StopsAt before lines after front → Appends held now front → RunsSome before lines after held now
-some_first before lines after front held now stops wrote = record {
+some_first : (moment : ℕ) (before : World) (lines : List (List Text)) (after : World) (front : Text) (held now : Option Text) → StopsAt moment before lines after front → Appends held now front → RunsSome moment before lines after held now
+some_first moment before lines after front held now stops wrote = record {
   done = [];
   more = lines;
   between = before;
@@ -57,51 +57,51 @@ some_first before lines after front held now stops wrote = record {
 }
 
 -- nothing was done of these lines
-pub some_none : (w : World) (lines : List (List Text)) (held : Option Text) → RunsSome w lines w held held
-some_none w lines held = some_first w lines w [] held held (stops_none w lines) (Appends-nil held)
+pub some_none : (moment : ℕ) (w : World) (lines : List (List Text)) (held : Option Text) → RunsSome moment w lines w held held
+some_none moment w lines held = some_first moment w lines w [] held held (stops_none moment w lines) (Appends-nil held)
 
-stops_lost : (before : World) (words : List Text) (after : World) → MayDo before (line_in words) after → StopsAt before (words ∷ []) after []
-stops_lost before words after (inl same) = inl (same, refl)
-stops_lost before words after (inr did) = inr (did.0, 0, did.1, longer did.0, refl)
+stops_lost : (moment : ℕ) (before : World) (words : List Text) (after : World) → MayDo moment before (line_in words) after → StopsAt moment before (words ∷ []) after []
+stops_lost moment before words after (inl same) = inl (same, refl)
+stops_lost moment before words after (inr did) = inr (did.0, 0, did.1, longer did.0, refl)
 
 -- of one line nothing was written, done or not
-pub some_lost : (before : World) (words : List Text) (after : World) (held : Option Text) → MayDo before (line_in words) after → RunsSome before (words ∷ []) after held held
-some_lost before words after held may = some_first before (words ∷ []) after [] held held (stops_lost before words after may) (Appends-nil held)
+pub some_lost : (moment : ℕ) (before : World) (words : List Text) (after : World) (held : Option Text) → MayDo moment before (line_in words) after → RunsSome moment before (words ∷ []) after held held
+some_lost moment before words after held may = some_first moment before (words ∷ []) after [] held held (stops_lost moment before words after may) (Appends-nil held)
 
 -- one line was done: it was written, or a front of what it prints
-pub line_put : {T E : Type 0} (before : World) (words : List Text) (after : World) (line bytes : Text) (held now : Option Text) (wrote : Result T ℕ) (r : Result T E)
-    → Does before (line_in words) after line → bytes ≡ line ++ 10 ∷ [] → OnOk wrote (Appends held now bytes) → IfErr wrote (PutsFirst held now bytes)
-    → is_ok r ≡ is_ok wrote → Ran before (words ∷ []) after held now r
-line_put before words after line bytes held now (Ok value) (Ok same) does is ok err told =
+pub line_put : {T E : Type 0} (moment : ℕ) (before : World) (words : List Text) (after : World) (line bytes : Text) (held now : Option Text) (wrote : Result T ℕ) (r : Result T E)
+    → Does moment before (line_in words) after line → bytes ≡ line ++ 10 ∷ [] → OnOk wrote (Appends held now bytes) → IfErr wrote (PutsFirst held now bytes)
+    → is_ok r ≡ is_ok wrote → Ran moment before (words ∷ []) after held now r
+line_put moment before words after line bytes held now (Ok value) (Ok same) does is ok err told =
     record { text = bytes; ran = (after, line, [], does, (refl, refl), is); written = ok }
-line_put before words after line bytes held now (Err n) (Err fault) does is ok err told =
-    some_first before (words ∷ []) after (take n bytes) held now
+line_put moment before words after line bytes held now (Err n) (Err fault) does is ok err told =
+    some_first moment before (words ∷ []) after (take n bytes) held now
     (inr (line, n, does, subst (λ (bs : Text). n < length bs) is err.0, ap (take n) is)) err.1
-line_put before words after line bytes held now (Ok value) (Err fault) does is ok err told = let no : ⊥ = cc in absurd no
-line_put before words after line bytes held now (Err n) (Ok value) does is ok err told = let no : ⊥ = cc in absurd no
+line_put moment before words after line bytes held now (Ok value) (Err fault) does is ok err told = let no : ⊥ = cc in absurd no
+line_put moment before words after line bytes held now (Err n) (Ok value) does is ok err told = let no : ⊥ = cc in absurd no
 
 -- what ran before it
-pub some_on : (a : World) (xs : List (List Text)) (b : World) (ys : List (List Text)) (c : World) (h i j : Option Text) → RunsInto a xs b h i → RunsSome b ys c i j → RunsSome a (xs ++ ys) c h j
-some_on a xs b ys c h i j first second = record {
+pub some_on : (moment : ℕ) (a : World) (xs : List (List Text)) (b : World) (ys : List (List Text)) (c : World) (h i j : Option Text) → RunsInto moment a xs b h i → RunsSome moment b ys c i j → RunsSome moment a (xs ++ ys) c h j
+some_on moment a xs b ys c h i j first second = record {
   done = xs ++ second.done;
   more = second.more;
   between = second.between;
   text = first.text ++ second.text;
   front = second.front;
   parts = ap (λ zs. xs ++ zs) second.parts ∙ sym (append_assoc xs second.done second.more);
-  ran = runs_on a xs b first.text second.done second.between second.text first.ran second.ran;
+  ran = runs_on moment a xs b first.text second.done second.between second.text first.ran second.ran;
   stops = second.stops;
   written = subst (Appends h j) (sym (append_assoc first.text second.text second.front)) (Appends-trans h i j first.text (second.text ++ second.front) first.written second.written);
 }
 
-stops_more : (before : World) (lines more : List (List Text)) (after : World) (text : Text) → StopsAt before lines after text → StopsAt before (lines ++ more) after text
-stops_more before [] [] after text stops = stops
-stops_more before [] (y ∷ ys) after text stops = inl stops
-stops_more before (x ∷ xs) more after text stops = stops
+stops_more : (moment : ℕ) (before : World) (lines more : List (List Text)) (after : World) (text : Text) → StopsAt moment before lines after text → StopsAt moment before (lines ++ more) after text
+stops_more moment before [] [] after text stops = stops
+stops_more moment before [] (y ∷ ys) after text stops = inl stops
+stops_more moment before (x ∷ xs) more after text stops = stops
 
 -- and what was still to come
-pub some_more : (a : World) (xs ys : List (List Text)) (b : World) (h i : Option Text) → RunsSome a xs b h i → RunsSome a (xs ++ ys) b h i
-some_more a xs ys b h i some = record {
+pub some_more : (moment : ℕ) (a : World) (xs ys : List (List Text)) (b : World) (h i : Option Text) → RunsSome moment a xs b h i → RunsSome moment a (xs ++ ys) b h i
+some_more moment a xs ys b h i some = record {
   done = some.done;
   more = some.more ++ ys;
   between = some.between;
@@ -109,22 +109,22 @@ some_more a xs ys b h i some = record {
   front = some.front;
   parts = ap (λ zs. zs ++ ys) some.parts ∙ append_assoc some.done some.more ys;
   ran = some.ran;
-  stops = stops_more some.between some.more ys b some.front some.stops;
+  stops = stops_more moment some.between some.more ys b some.front some.stops;
   written = some.written;
 }
 
-pub ran_on : {T E : Type 0} (a : World) (xs : List (List Text)) (b : World) (ys : List (List Text)) (c : World) (h i j : Option Text) (r : Result T E) → RunsInto a xs b h i → Ran b ys c i j r → Ran a (xs ++ ys) c h j r
-ran_on a xs b ys c h i j (Ok value) first second = into_on a xs b ys c h i j first second
-ran_on a xs b ys c h i j (Err fault) first second = some_on a xs b ys c h i j first second
+pub ran_on : {T E : Type 0} (moment : ℕ) (a : World) (xs : List (List Text)) (b : World) (ys : List (List Text)) (c : World) (h i j : Option Text) (r : Result T E) → RunsInto moment a xs b h i → Ran moment b ys c i j r → Ran moment a (xs ++ ys) c h j r
+ran_on moment a xs b ys c h i j (Ok value) first second = into_on moment a xs b ys c h i j first second
+ran_on moment a xs b ys c h i j (Err fault) first second = some_on moment a xs b ys c h i j first second
 
 -- a fault that is handed on
-pub ran_err : {T E : Type 0} (a : World) (xs : List (List Text)) (b : World) (h i : Option Text) (r : Result T E) → is_err r ≡ true → RunsSome a xs b h i → Ran a xs b h i r
-ran_err a xs b h i (Ok value) is some = let no : ⊥ = cc in absurd no
-ran_err a xs b h i (Err fault) is some = some
+pub ran_err : {T E : Type 0} (moment : ℕ) (a : World) (xs : List (List Text)) (b : World) (h i : Option Text) (r : Result T E) → is_err r ≡ true → RunsSome moment a xs b h i → Ran moment a xs b h i r
+ran_err moment a xs b h i (Ok value) is some = let no : ⊥ = cc in absurd no
+ran_err moment a xs b h i (Err fault) is some = some
 
-pub but_err : {T : Type 0} (a : World) (xs : List (List Text)) (b : World) (h i : Option Text) (waiting : List (List Text)) (r : Result T RunFault) → is_err r ≡ true → RunsSome a xs b h i → RanBut a xs b h i waiting r
-but_err a xs b h i waiting (Ok value) is some = let no : ⊥ = cc in absurd no
-but_err a xs b h i waiting (Err fault) is some = some
+pub but_err : {T : Type 0} (moment : ℕ) (a : World) (xs : List (List Text)) (b : World) (h i : Option Text) (waiting : List (List Text)) (r : Result T RunFault) → is_err r ≡ true → RunsSome moment a xs b h i → RanBut moment a xs b h i waiting r
+but_err moment a xs b h i waiting (Ok value) is some = let no : ⊥ = cc in absurd no
+but_err moment a xs b h i waiting (Err fault) is some = some
 
 pub on_err : {T E P : Type 0} (r : Result T E) → P → OnErr r P
 on_err (Ok value) p = tt
@@ -140,25 +140,25 @@ seen_parts lines i =
     sym (map-append (λ (w : Vec _ _). map string_bytes w.items) (take i lines) (drop i lines)) ∙ ap seen (take-append-drop i lines)
 
 -- a batch's lines up to one, which ran
-pub batch_on : {Y Z : Type 0} (lines : List (Vec (String Y) Z)) (n : ℕ) (words : Vec (String Y) Z) (shown : List (String Y)) (a b c : World) (h i j : Option Text) → RunsInto a (seen (take n lines)) b h i → RunsInto b (map string_bytes shown ∷ []) c i j → shown ≡ words.items → words ≡ get_or lines n words → n < length lines → RunsInto a (seen (take (n + 1) lines)) c h j
-batch_on lines n words shown a b c h i j first second same here below =
+pub batch_on : {Y Z : Type 0} (moment : ℕ) (lines : List (Vec (String Y) Z)) (n : ℕ) (words : Vec (String Y) Z) (shown : List (String Y)) (a b c : World) (h i j : Option Text) → RunsInto moment a (seen (take n lines)) b h i → RunsInto moment b (map string_bytes shown ∷ []) c i j → shown ≡ words.items → words ≡ get_or lines n words → n < length lines → RunsInto moment a (seen (take (n + 1) lines)) c h j
+batch_on moment lines n words shown a b c h i j first second same here below =
     let one : map string_bytes shown ≡ map string_bytes (get_or lines n words).items = ap (map string_bytes) same ∙ ap (λ (w : Vec _ _). map string_bytes w.items) here in
-    let both : RunsInto a (seen (take n lines) ++ map string_bytes (get_or lines n words).items ∷ []) c h j =
-    subst (λ ws. RunsInto a (seen (take n lines) ++ ws ∷ []) c h j) one (into_on a (seen (take n lines)) b (map string_bytes shown ∷ []) c h i j first second) in
-    subst (λ (zs : List (List Text)). RunsInto a zs c h j) (sym (seen_more lines n words below)) both
+    let both : RunsInto moment a (seen (take n lines) ++ map string_bytes (get_or lines n words).items ∷ []) c h j =
+    subst (λ ws. RunsInto moment a (seen (take n lines) ++ ws ∷ []) c h j) one (into_on moment a (seen (take n lines)) b (map string_bytes shown ∷ []) c h i j first second) in
+    subst (λ (zs : List (List Text)). RunsInto moment a zs c h j) (sym (seen_more lines n words below)) both
 
 -- up to one, at which the run ended
-pub batch_some : {Y Z : Type 0} (lines : List (Vec (String Y) Z)) (n : ℕ) (words : Vec (String Y) Z) (shown : List (String Y)) (a b c : World) (h i j : Option Text) → RunsInto a (seen (take n lines)) b h i → RunsSome b (map string_bytes shown ∷ []) c i j → shown ≡ words.items → words ≡ get_or lines n words → n < length lines → RunsSome a (seen lines) c h j
-batch_some lines n words shown a b c h i j first second same here below =
+pub batch_some : {Y Z : Type 0} (moment : ℕ) (lines : List (Vec (String Y) Z)) (n : ℕ) (words : Vec (String Y) Z) (shown : List (String Y)) (a b c : World) (h i j : Option Text) → RunsInto moment a (seen (take n lines)) b h i → RunsSome moment b (map string_bytes shown ∷ []) c i j → shown ≡ words.items → words ≡ get_or lines n words → n < length lines → RunsSome moment a (seen lines) c h j
+batch_some moment lines n words shown a b c h i j first second same here below =
     let one : map string_bytes shown ≡ map string_bytes (get_or lines n words).items = ap (map string_bytes) same ∙ ap (λ (w : Vec _ _). map string_bytes w.items) here in
-    let both : RunsSome a (seen (take n lines) ++ map string_bytes (get_or lines n words).items ∷ []) c h j =
-    subst (λ ws. RunsSome a (seen (take n lines) ++ ws ∷ []) c h j) one (some_on a (seen (take n lines)) b (map string_bytes shown ∷ []) c h i j first second) in
-    let at : RunsSome a (seen (take (n + 1) lines)) c h j = subst (λ (zs : List (List Text)). RunsSome a zs c h j) (sym (seen_more lines n words below)) both in
-    subst (λ (zs : List (List Text)). RunsSome a zs c h j) (seen_parts lines (n + 1)) (some_more a (seen (take (n + 1) lines)) (seen (drop (n + 1) lines)) c h j at)
+    let both : RunsSome moment a (seen (take n lines) ++ map string_bytes (get_or lines n words).items ∷ []) c h j =
+    subst (λ ws. RunsSome moment a (seen (take n lines) ++ ws ∷ []) c h j) one (some_on moment a (seen (take n lines)) b (map string_bytes shown ∷ []) c h i j first second) in
+    let at : RunsSome moment a (seen (take (n + 1) lines)) c h j = subst (λ (zs : List (List Text)). RunsSome moment a zs c h j) (sym (seen_more lines n words below)) both in
+    subst (λ (zs : List (List Text)). RunsSome moment a zs c h j) (seen_parts lines (n + 1)) (some_more moment a (seen (take (n + 1) lines)) (seen (drop (n + 1) lines)) c h j at)
 
 -- all of them
-pub batch_ends : {Y Z : Type 0} (lines : List (Vec (String Y) Z)) (n : ℕ) (a b : World) (h i : Option Text) → RunsInto a (seen (take n lines)) b h i → length lines ≤ n → RunsInto a (seen lines) b h i
-batch_ends lines n a b h i first over = subst (λ (xs : List (Vec _ _)). RunsInto a (seen xs) b h i) (take_all n lines over) first
+pub batch_ends : {Y Z : Type 0} (moment : ℕ) (lines : List (Vec (String Y) Z)) (n : ℕ) (a b : World) (h i : Option Text) → RunsInto moment a (seen (take n lines)) b h i → length lines ≤ n → RunsInto moment a (seen lines) b h i
+batch_ends moment lines n a b h i first over = subst (λ (xs : List (Vec _ _)). RunsInto moment a (seen xs) b h i) (take_all n lines over) first
 
 -- the lines with words of two parts
 pub worded_on : (xs ys : List Text) → worded (xs ++ ys) ≡ worded xs ++ worded ys
@@ -200,25 +200,25 @@ stayed old words line same none =
     ∙ ap (λ zs. seen old ++ zs) (sym (worded_empty line (map string_bytes words.items) same (omega (arith, length-map words.items string_bytes))))
 
 -- nothing ran, and nothing waits
-pub but_none : {Y Z : Type 0} (w : World) (held : Option Text) (batch : List (Vec (String Y) Z)) → batch ≡ [] → RunsBut w (worded []) w held held (seen batch)
-but_none w held batch none = record { done = []; parts = worded_none ∙ ap seen (sym none); into = into_none w held }
+pub but_none : {Y Z : Type 0} (moment : ℕ) (w : World) (held : Option Text) (batch : List (Vec (String Y) Z)) → batch ≡ [] → RunsBut moment w (worded []) w held held (seen batch)
+but_none moment w held batch none = record { done = []; parts = worded_none ∙ ap seen (sym none); into = into_none moment w held }
 
 -- one line more
-pub but_on : {A : Type 0} (v : A → Text) (a : World) (ys : List A) (b : World) (x : A) (c : World) (h i j : Option Text) (batch more : List (List Text)) → RunsBut a (worded (map v ys)) b h i batch → RunsBut b (batch ++ worded (v x ∷ [])) c i j more → RunsBut a (worded (map v (ys ++ x ∷ []))) c h j more
-but_on v a ys b x c h i j batch more first second = record {
+pub but_on : {A : Type 0} (moment : ℕ) (v : A → Text) (a : World) (ys : List A) (b : World) (x : A) (c : World) (h i j : Option Text) (batch more : List (List Text)) → RunsBut moment a (worded (map v ys)) b h i batch → RunsBut moment b (batch ++ worded (v x ∷ [])) c i j more → RunsBut moment a (worded (map v (ys ++ x ∷ []))) c h j more
+but_on moment v a ys b x c h i j batch more first second = record {
   done = first.done ++ second.done;
   parts =
       ap worded (map-append v ys (x ∷ [])) ∙ worded_on (map v ys) (v x ∷ [])
       ∙ ap (λ zs. zs ++ worded (v x ∷ [])) first.parts ∙ append_assoc first.done batch (worded (v x ∷ []))
       ∙ ap (λ zs. first.done ++ zs) second.parts ∙ sym (append_assoc first.done second.done more);
-  into = into_on a first.done b second.done c h i j first.into second.into;
+  into = into_on moment a first.done b second.done c h i j first.into second.into;
 }
 
 -- the run ends within one line more, of all
-pub but_some : (a : World) (texts : List Text) (b : World) (line : Text) (c : World) (h i j : Option Text) (batch : List (List Text)) (all : List Text) (n : ℕ) → RunsBut a (worded texts) b h i batch → RunsSome b (batch ++ worded (line ∷ [])) c i j → texts ≡ take n all → n < length all → line ≡ get_or all n line → RunsSome a (worded all) c h j
-but_some a texts b line c h i j batch all n first second front below here =
-    let ended : RunsSome a (first.done ++ (batch ++ worded (line ∷ []))) c h j = some_on a first.done b (batch ++ worded (line ∷ [])) c h i j first.into second in
-    let more : RunsSome a ((first.done ++ (batch ++ worded (line ∷ []))) ++ worded (drop (n + 1) all)) c h j = some_more a (first.done ++ (batch ++ worded (line ∷ []))) (worded (drop (n + 1) all)) c h j ended in
+pub but_some : (moment : ℕ) (a : World) (texts : List Text) (b : World) (line : Text) (c : World) (h i j : Option Text) (batch : List (List Text)) (all : List Text) (n : ℕ) → RunsBut moment a (worded texts) b h i batch → RunsSome moment b (batch ++ worded (line ∷ [])) c i j → texts ≡ take n all → n < length all → line ≡ get_or all n line → RunsSome moment a (worded all) c h j
+but_some moment a texts b line c h i j batch all n first second front below here =
+    let ended : RunsSome moment a (first.done ++ (batch ++ worded (line ∷ []))) c h j = some_on moment a first.done b (batch ++ worded (line ∷ [])) c h i j first.into second in
+    let more : RunsSome moment a ((first.done ++ (batch ++ worded (line ∷ []))) ++ worded (drop (n + 1) all)) c h j = some_more moment a (first.done ++ (batch ++ worded (line ∷ []))) (worded (drop (n + 1) all)) c h j ended in
     let so_far : first.done ++ (batch ++ worded (line ∷ [])) ≡ worded (take (n + 1) all) =
     sym (append_assoc first.done batch (worded (line ∷ [])))
     ∙ ap (λ zs. zs ++ worded (line ∷ [])) (sym first.parts)
@@ -228,23 +228,23 @@ but_some a texts b line c h i j batch all n first second front below here =
     ∙ ap worded (sym (take_more all n line below)) in
     let whole : (first.done ++ (batch ++ worded (line ∷ []))) ++ worded (drop (n + 1) all) ≡ worded all =
     ap (λ zs. zs ++ worded (drop (n + 1) all)) so_far ∙ sym (worded_on (take (n + 1) all) (drop (n + 1) all)) ∙ ap worded (take-append-drop (n + 1) all) in
-    subst (λ (zs : List (List Text)). RunsSome a zs c h j) whole more
+    subst (λ (zs : List (List Text)). RunsSome moment a zs c h j) whole more
 
 -- what waits runs last
-pub but_ends : {T E : Type 0} (a : World) (texts : List Text) (b c : World) (h i j : Option Text) (batch : List (List Text)) (all : List Text) (r : Result T E) → RunsBut a (worded texts) b h i batch → Ran b batch c i j r → texts ≡ all → Ran a (worded all) c h j r
-but_ends a texts b c h i j batch all r first second same =
-    let ended : Ran a (first.done ++ batch) c h j r = ran_on a first.done b batch c h i j r first.into second in
-    subst (λ (zs : List (List Text)). Ran a zs c h j r) (sym first.parts ∙ ap worded same) ended
+pub but_ends : {T E : Type 0} (moment : ℕ) (a : World) (texts : List Text) (b c : World) (h i j : Option Text) (batch : List (List Text)) (all : List Text) (r : Result T E) → RunsBut moment a (worded texts) b h i batch → Ran moment b batch c i j r → texts ≡ all → Ran moment a (worded all) c h j r
+but_ends moment a texts b c h i j batch all r first second same =
+    let ended : Ran moment a (first.done ++ batch) c h j r = ran_on moment a first.done b batch c h i j r first.into second in
+    subst (λ (zs : List (List Text)). Ran moment a zs c h j r) (sym first.parts ∙ ap worded same) ended
 
 -- where any lines ran, the script's did
-pub script_any : {T E : Type 0} (left : Option Text) (before after : World) (held now : Option Text) (r : Result T E) → ((lines : List (List Text)) → Ran before lines after held now r) → RunsScript left before after held now r
-script_any None before after held now r all = record { script = []; read = tt; ran = all (lines_in []) }
-script_any (Some input) before after held now r all = record { script = input; read = refl; ran = all (lines_in input) }
+pub script_any : {T E : Type 0} (moment : ℕ) (left : Option Text) (before after : World) (held now : Option Text) (r : Result T E) → ((lines : List (List Text)) → Ran moment before lines after held now r) → RunsScript moment left before after held now r
+script_any moment None before after held now r all = record { script = []; read = tt; ran = all (lines_in []) }
+script_any moment (Some input) before after held now r all = record { script = input; read = refl; ran = all (lines_in input) }
 
 -- the bytes that were read are the script
-pub script_read : {T E : Type 0} (left : Option Text) (bytes shown text : Text) (before after : World) (held now : Option Text) (r : Result T E) → IfSome left (λ input. bytes ≡ input) → text ≡ shown → shown ≡ bytes → Ran before (lines_in text) after held now r → RunsScript left before after held now r
-script_read left bytes shown text before after held now r whole same_text same all = record {
+pub script_read : {T E : Type 0} (moment : ℕ) (left : Option Text) (bytes shown text : Text) (before after : World) (held now : Option Text) (r : Result T E) → IfSome left (λ input. bytes ≡ input) → text ≡ shown → shown ≡ bytes → Ran moment before (lines_in text) after held now r → RunsScript moment left before after held now r
+script_read moment left bytes shown text before after held now r whole same_text same all = record {
   script = bytes;
   read = whole;
-  ran = subst (λ (t : Text). Ran before (lines_in t) after held now r) (same_text ∙ same) all;
+  ran = subst (λ (t : Text). Ran moment before (lines_in t) after held now r) (same_text ∙ same) all;
 }

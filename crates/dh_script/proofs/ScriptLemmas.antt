@@ -1,5 +1,5 @@
 -- Lines of a script.
-use Rattle.std.proofs.Common.{◌≡◌, inl, inr, Option, Some, None, Result, IfOk}
+use Rattle.std.proofs.Common.{◌≡◌, ℕ, inl, inr, Option, Some, None, Result, IfOk}
 use Rattle.std.proofs.Common.{Bool, sym, subst}
 use Rattle.std.proofs.lemmas.Result.{IfOk-weaker}
 use Rattle.dh_paths.specs.declared.target.Target.{Target}
@@ -14,17 +14,17 @@ use Rattle.dh_lines.specs.declared.lines.Line.{Line}
 use Rattle.dh_script.specs.Script.{outcome_of_read, Tells, GetsAt, DoesOver, MayDo, MayDoOrder}
 
 -- what is told of a read's outcome, whose reply is the definition's
-pub got : {P E : Type 0} (text_in : P → Text) (refused_in : P → Bool) (w : World) (named host : Text) (shown pass : Option Text) (t : Target) (reply : Result Reply Fault) (outcome : Outcome) (result : Result P E)
-    → IfOk reply (λ r. r ≡ reply_to (seen w (host_named named) (caller_named shown)) t.path t.query)
+pub got : {P E : Type 0} (text_in : P → Text) (refused_in : P → Bool) (w : World) (named host : Text) (shown pass : Option Text) (moment : ℕ) (t : Target) (reply : Result Reply Fault) (outcome : Outcome) (result : Result P E)
+    → IfOk reply (λ r. r ≡ reply_to (seen w (host_named named) (caller_named shown moment)) t.path t.query)
     → named ≡ host → shown ≡ pass → outcome ≡ outcome_of_read reply → IfOk result (λ p. Tells outcome (text_in p) (refused_in p))
-    → IfOk result (λ p. GetsAt w host pass (Some t) (text_in p) (refused_in p))
-got text_in refused_in w named host shown pass t reply outcome result value same_host same_pass same told =
-    let by_host = subst (λ (h : Text). IfOk reply (λ r. r ≡ reply_to (seen w (host_named h) (caller_named shown)) t.path t.query)) same_host value in
-    let by_pass = subst (λ (p : Option Text). IfOk reply (λ r. r ≡ reply_to (seen w (host_named host) (caller_named p)) t.path t.query)) same_pass by_host in
+    → IfOk result (λ p. GetsAt w host pass moment (Some t) (text_in p) (refused_in p))
+got text_in refused_in w named host shown pass moment t reply outcome result value same_host same_pass same told =
+    let by_host = subst (λ (h : Text). IfOk reply (λ r. r ≡ reply_to (seen w (host_named h) (caller_named shown moment)) t.path t.query)) same_host value in
+    let by_pass = subst (λ (p : Option Text). IfOk reply (λ r. r ≡ reply_to (seen w (host_named host) (caller_named p moment)) t.path t.query)) same_pass by_host in
     IfOk-weaker result _ _ (λ p is. (reply, by_pass, subst (λ (o : Outcome). Tells o (text_in p) (refused_in p)) same is)) told
 
 -- a line that names no store may do what its order may
-pub may_line : (before after : World) (line : Line) → line.store ≡ None → MayDoOrder before line.order after → MayDo before (Some line) after
-may_line before after line none (inl same) = inl same
-may_line before after line none (inr did) =
-    inr (did.0, subst (λ s. DoesOver before s line.order after did.0) (sym none) did.1)
+pub may_line : (moment : ℕ) (before after : World) (line : Line) → line.store ≡ None → MayDoOrder moment before line.order after → MayDo moment before (Some line) after
+may_line moment before after line none (inl same) = inl same
+may_line moment before after line none (inr did) =
+    inr (did.0, subst (λ s. DoesOver moment before s line.order after did.0) (sym none) did.1)

@@ -6,7 +6,7 @@ use Rattle.dh_faults.specs.declared.fault.Fault.{Fault}
 use Rattle.dh_faults.specs.declared.fault.Fault.TheVariants.{Store, Memory}
 use Rattle.dh_world.specs.World.{Text}
 use Rattle.dh_world.specs.declared.answer.Answer.{Answer}
-use Rattle.dh_world.specs.declared.answer.Answer.TheVariants.{Done, Made, Known, Stored}
+use Rattle.dh_world.specs.declared.answer.Answer.TheVariants.{Done, Made, Known, Stored, Added}
 use Rattle.dh_world.specs.declared.refusal.Refusal.{Refusal}
 use Rattle.dh_world.specs.declared.outcome.Outcome.{Outcome}
 use Rattle.dh_world.specs.declared.outcome.Outcome.TheVariants.{Applied, Refused, Replied, Failed}
@@ -28,13 +28,14 @@ abbrev pub text_of_properties : Bool → Bool → Bool → Text
 text_of_properties active hidden private =
     active_text active ++ codes " " ++ hidden_text hidden ++ codes " " ++ private_text private
 
--- `ok`, `made SLUG active|inactive hidden|shown private|public`, `known SLUG`, `stored N`
+-- `ok`, `made SLUG active|inactive hidden|shown private|public`, `known SLUG`, `stored N`, `added N`
 abbrev pub text_of_answer : Answer → Text
 text_of_answer Done = codes "ok"
 text_of_answer (Made slug active hidden private) =
     codes "made " ++ slug ++ codes " " ++ text_of_properties active hidden private
 text_of_answer (Known slug) = codes "known " ++ slug
 text_of_answer (Stored pages) = codes "stored " ++ decimal pages
+text_of_answer (Added count) = codes "added " ++ decimal count
 
 -- `refused N NAME`
 abbrev pub text_of_refusal : Refusal → Text

@@ -1,4 +1,4 @@
--- How a script is cut into lines and words, and what its lines do one after another.
+-- How a script is cut into lines and words, and what its lines do one after another, at one moment.
 use Rattle.std.specs.Prelude.{◌≡◌, ◌⊎◌, ℕ, ◌<◌, ◌==◌, Bool, true, false, ◌||◌, if◌then◌else◌}
 use Rattle.std.specs.Prelude.{List, [], ◌∷◌, ◌++◌, map, length, take, slice_index, string_bytes}
 use Rattle.std.specs.Prelude.{Option, IfSome, Result, Ok, Err, String, Vec}
@@ -42,60 +42,60 @@ seen lines = map (λ words. map string_bytes words.items) lines
 
 -- these lines run one after another: what each does to the world, and what all print, each its
 -- text and LF
-abbrev pub Runs : World → List (List Text) → World → Text → Type 0
-Runs before [] after text = (after ≡ before) × (text ≡ [])
-Runs before (words ∷ more) after text =
+abbrev pub Runs : ℕ → World → List (List Text) → World → Text → Type 0
+Runs moment before [] after text = (after ≡ before) × (text ≡ [])
+Runs moment before (words ∷ more) after text =
     (between : World) × (line : Text) × (rest : Text)
-    × Does before (line_in words) between line
-    × Runs between more after rest
+    × Does moment before (line_in words) between line
+    × Runs moment between more after rest
     × (text ≡ line ++ 10 ∷ rest)
 
 -- these lines ran, and what they print was written
-pub record RunsInto (before : World) (lines : List (List Text)) (after : World) (held now : Option Text) : Type 0 where
+pub record RunsInto (moment : ℕ) (before : World) (lines : List (List Text)) (after : World) (held now : Option Text) : Type 0 where
   pub text : Text
-  pub ran : Runs before lines after text
+  pub ran : Runs moment before lines after text
   pub written : Appends held now text
 
 -- where a run ended early: of these lines nothing was done and written, or the first one was done,
 -- and a front of what it prints was written, but not all
-abbrev pub StopsAt : World → List (List Text) → World → Text → Type 0
-StopsAt before [] after text = (after ≡ before) × (text ≡ [])
-StopsAt before (words ∷ more) after text =
+abbrev pub StopsAt : ℕ → World → List (List Text) → World → Text → Type 0
+StopsAt moment before [] after text = (after ≡ before) × (text ≡ [])
+StopsAt moment before (words ∷ more) after text =
     ((after ≡ before) × (text ≡ []))
     ⊎ ((line : Text) × (n : ℕ)
-    × Does before (line_in words) after line
+    × Does moment before (line_in words) after line
     × (n < length (line ++ 10 ∷ []))
     × (text ≡ take n (line ++ 10 ∷ [])))
 
 -- some of these lines ran, from the first on, and what they print was written; there the run ended
-pub record RunsSome (before : World) (lines : List (List Text)) (after : World) (held now : Option Text) : Type 0 where
+pub record RunsSome (moment : ℕ) (before : World) (lines : List (List Text)) (after : World) (held now : Option Text) : Type 0 where
   pub done : List (List Text)
   pub more : List (List Text)
   pub between : World
   pub text : Text
   pub front : Text
   pub parts : lines ≡ done ++ more
-  pub ran : Runs before done between text
-  pub stops : StopsAt between more after front
+  pub ran : Runs moment before done between text
+  pub stops : StopsAt moment between more after front
   pub written : Appends held now (text ++ front)
 
 -- all of these lines ran where the answer is Ok, and else some
-abbrev pub Ran : {T E : Type 0} → World → List (List Text) → World → Option Text → Option Text → Result T E → Type 0
-Ran before lines after held now (Ok value) = RunsInto before lines after held now
-Ran before lines after held now (Err fault) = RunsSome before lines after held now
+abbrev pub Ran : {T E : Type 0} → ℕ → World → List (List Text) → World → Option Text → Option Text → Result T E → Type 0
+Ran moment before lines after held now (Ok value) = RunsInto moment before lines after held now
+Ran moment before lines after held now (Err fault) = RunsSome moment before lines after held now
 
 -- these lines ran but for those that wait; and where the answer is a fault, some of them
-pub record RunsBut (before : World) (lines : List (List Text)) (after : World) (held now : Option Text) (waiting : List (List Text)) : Type 0 where
+pub record RunsBut (moment : ℕ) (before : World) (lines : List (List Text)) (after : World) (held now : Option Text) (waiting : List (List Text)) : Type 0 where
   pub done : List (List Text)
   pub parts : lines ≡ done ++ waiting
-  pub into : RunsInto before done after held now
+  pub into : RunsInto moment before done after held now
 
-abbrev pub RanBut : {T : Type 0} → World → List (List Text) → World → Option Text → Option Text → List (List Text) → Result T RunFault → Type 0
-RanBut before lines after held now waiting (Ok value) = RunsBut before lines after held now waiting
-RanBut before lines after held now waiting (Err fault) = RunsSome before lines after held now
+abbrev pub RanBut : {T : Type 0} → ℕ → World → List (List Text) → World → Option Text → Option Text → List (List Text) → Result T RunFault → Type 0
+RanBut moment before lines after held now waiting (Ok value) = RunsBut before lines after held now waiting
+RanBut moment before lines after held now waiting (Err fault) = RunsSome moment before lines after held now
 
 -- a script ran, which is what the source had left, where it tells that
-pub record RunsScript {T E : Type 0} (left : Option Text) (before after : World) (held now : Option Text) (result : Result T E) : Type 0 where
+pub record RunsScript {T E : Type 0} (moment : ℕ) (left : Option Text) (before after : World) (held now : Option Text) (result : Result T E) : Type 0 where
   pub script : Text
   pub read : IfSome left (λ input. script ≡ input)
-  pub ran : Ran before (lines_in script) after held now result
+  pub ran : Ran moment before (lines_in script) after held now result

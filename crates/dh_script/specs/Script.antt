@@ -1,5 +1,5 @@
 -- What a line of a script does and prints, and what a script leaves.
-use Rattle.std.specs.Prelude.{◌≡◌, ◌⊎◌, Bool, true, false, codes, Option, Some, None}
+use Rattle.std.specs.Prelude.{◌≡◌, ◌⊎◌, ℕ, Bool, true, false, codes, Option, Some, None, unwrap_or}
 use Rattle.std.specs.Prelude.{Result, Ok, Err, IfOk}
 use Rattle.dh_paths.specs.Targets.{target_of}
 use Rattle.dh_paths.specs.declared.target.Target.{Target}
@@ -42,52 +42,63 @@ Acts before c after text refused =
 
 -- a read of a target that is none prints `bad target` and is refused; any other prints the outcome
 -- of the read under the host named, whatever host the target gives: its reply is the definition's
--- over what the caller sees
-abbrev pub GetsAt : World → Text → Option Text → Option Target → Text → Bool → Type 0
-GetsAt w host pass None text refused = (text ≡ codes "bad target") × (refused ≡ true)
-GetsAt w host pass (Some t) text refused =
+-- over what the caller sees at the moment
+abbrev pub GetsAt : World → Text → Option Text → ℕ → Option Target → Text → Bool → Type 0
+GetsAt w host pass moment None text refused = (text ≡ codes "bad target") × (refused ≡ true)
+GetsAt w host pass moment (Some t) text refused =
     (reply : Result Reply Fault)
-    × IfOk reply (λ r. r ≡ reply_to (seen w (host_named host) (caller_named pass)) t.path t.query)
+    × IfOk reply (λ r. r ≡ reply_to
+    (seen w (host_named host) (caller_named pass moment)) t.path t.query)
     × Tells (outcome_of_read reply) text refused
 
 -- an order that is none of a desk is refused
 abbrev pub IsUsage : Text → Bool → Type 0
 IsUsage text refused = (text ≡ codes "usage") × (refused ≡ true)
 
--- what an order does to the world, what it prints, and whether it is refused; an order that is none
--- of a desk prints `usage`, and neither that nor a read changes the world
-abbrev pub Performs : World → Order → World → Text → Bool → Type 0
-Performs before (order.Act c) after text refused = Acts before c after text refused
-Performs before (order.Get host target pass) after text refused =
-    (after ≡ before) × GetsAt before host pass (target_of target) text refused
-Performs before (order.Init file) after text refused = (after ≡ before) × IsUsage text refused
-Performs before order.Script after text refused = (after ≡ before) × IsUsage text refused
-Performs before order.Answer after text refused = (after ≡ before) × IsUsage text refused
-Performs before (order.Serve count port log) after text refused =
+-- what an order does to the world at a moment, what it prints, and whether it is refused; a read that
+-- gives its own moment is one of that. An order that is none of a desk prints `usage`, and neither that
+-- nor a read changes the world
+abbrev pub Performs : ℕ → World → Order → World → Text → Bool → Type 0
+Performs moment before (order.Act c) after text refused = Acts before c after text refused
+Performs moment before (order.Get host target pass own) after text refused =
+    (after ≡ before)
+    × GetsAt before host pass (unwrap_or own moment) (target_of target) text refused
+Performs moment before (order.Import host list) after text refused =
+    (after ≡ before) × IsUsage text refused
+Performs moment before (order.Init file) after text refused =
+    (after ≡ before) × IsUsage text refused
+Performs moment before (order.Migrate file) after text refused =
+    (after ≡ before) × IsUsage text refused
+Performs moment before order.Script after text refused = (after ≡ before) × IsUsage text refused
+Performs moment before order.Answer after text refused = (after ≡ before) × IsUsage text refused
+Performs moment before (order.Serve count port log) after text refused =
     (after ≡ before) × IsUsage text refused
 
 -- and so, whether it is refused or not
-abbrev pub DoesOrder : World → Order → World → Text → Type 0
-DoesOrder before order after text = (refused : Bool) × Performs before order after text refused
+abbrev pub DoesOrder : ℕ → World → Order → World → Text → Type 0
+DoesOrder moment before order after text =
+    (refused : Bool) × Performs moment before order after text refused
 
 -- a line that names a store of its own is none of a script
-abbrev pub DoesOver : World → Option Text → Order → World → Text → Type 0
-DoesOver before None order after text = DoesOrder before order after text
-DoesOver before (Some file) order after text = (after ≡ before) × (text ≡ codes "usage")
+abbrev pub DoesOver : ℕ → World → Option Text → Order → World → Text → Type 0
+DoesOver moment before None order after text = DoesOrder moment before order after text
+DoesOver moment before (Some file) order after text = (after ≡ before) × (text ≡ codes "usage")
 
--- what a line of a script does to the world, and prints; what is none prints `usage`, and changes
--- nothing
-abbrev pub Does : World → Option Line → World → Text → Type 0
-Does before None after text = (after ≡ before) × (text ≡ codes "usage")
-Does before (Some line) after text = DoesOver before line.store line.order after text
+-- what a line of a script does to the world at a moment, and prints; what is none prints `usage`, and
+-- changes nothing
+abbrev pub Does : ℕ → World → Option Line → World → Text → Type 0
+Does moment before None after text = (after ≡ before) × (text ≡ codes "usage")
+Does moment before (Some line) after text = DoesOver moment before line.store line.order after text
 
 -- a line of this order was done, whatever it prints, or nothing was
-abbrev pub MayDoOrder : World → Order → World → Type 0
-MayDoOrder before order after = (after ≡ before) ⊎ ((text : Text) × DoesOrder before order after text)
+abbrev pub MayDoOrder : ℕ → World → Order → World → Type 0
+MayDoOrder moment before order after =
+    (after ≡ before) ⊎ ((text : Text) × DoesOrder moment before order after text)
 
 -- this line was done, whatever it prints, or nothing was
-abbrev pub MayDo : World → Option Line → World → Type 0
-MayDo before line after = (after ≡ before) ⊎ ((text : Text) × Does before line after text)
+abbrev pub MayDo : ℕ → World → Option Line → World → Type 0
+MayDo moment before line after =
+    (after ≡ before) ⊎ ((text : Text) × Does moment before line after text)
 
 -- whether the answer is that the script was not read
 abbrev pub is_unread : {A : Type 0} → Result A ScriptFault → Bool

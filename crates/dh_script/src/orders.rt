@@ -77,11 +77,12 @@ fn do_read<S: Alter>(
     desk: &mut Desk<S>,
     host: &Text,
     pass: &Option<Text>,
+    moment: u64,
     target: Target,
 ) -> Result<Printed, AllocError>
     ensures gets { Moves S.Store desk.old desk.new
         (λ before after. (after ≡ before) × IfOk result
-        (λ p. GetsAt before host.now pass.now (Some target) (string_bytes p.text) p.refused)) }
+        (λ p. GetsAt before host.now pass.now moment (Some target) (string_bytes p.text) p.refused)) }
 {
     let Target {
         host: _,
@@ -89,7 +90,7 @@ fn do_read<S: Alter>(
         query,
     } = target;
     let asked = Read { path, query };
-    let outcome = read_out(desk.read(alloc, host.as_str(), pass_text(pass), &asked));
+    let outcome = read_out(desk.read(alloc, host.as_str(), pass_text(pass), &asked, moment));
     told(alloc, &outcome)
 }
 
@@ -99,14 +100,15 @@ fn do_get<S: Alter>(
     host: &Text,
     target: &Text,
     pass: &Option<Text>,
+    moment: u64,
 ) -> Result<Printed, AllocError>
     ensures gets { Moves S.Store desk.old desk.new
         (λ before after. (after ≡ before) × IfOk result
-        (λ p. GetsAt before host.now pass.now (target_of target.now)
+        (λ p. GetsAt before host.now pass.now moment (target_of target.now)
         (string_bytes p.text) p.refused)) }
 {
     match Target::read(alloc, target.as_str().as_bytes()) {
-        Ok(target) => do_read(alloc, desk, host, pass, target),
+        Ok(target) => do_read(alloc, desk, host, pass, moment, target),
         Err(TextFault::Memory) => Err(AllocError),
         Err(_) => refusal(alloc, "bad target"),
     }
@@ -125,21 +127,29 @@ pub fn is_bad_target(alloc: Global, target: &Text) -> Result<bool, AllocError>
 
 /// Does what one order says over a desk: a command or a read. It is refused where its outcome is a
 /// refusal or a failure, where the target of a read is none (`bad target`), and where the order is
-/// neither (`usage`).
+/// neither (`usage`). `now` is the moment of a read that gives none of its own, in seconds since 1970.
 pub fn perform<S: Alter>(
     alloc: Global,
     desk: &mut Desk<S>,
     order: &Order,
+    now: u64,
 ) -> Result<Printed, AllocError>
     ensures performs { Moves S.Store desk.old desk.new (λ before after. IfOk result
-        (λ p. Performs before order.now after (string_bytes p.text) p.refused)) }
+        (λ p. Performs now before order.now after (string_bytes p.text) p.refused)) }
     ensures may { Moves S.Store desk.old desk.new
-        (λ before after. OnErr result (MayDoOrder before order.now after)) }
+        (λ before after. OnErr result (MayDoOrder now before order.now after)) }
 {
     match order {
         Order::Act(command) => told(alloc, &commanded(desk.apply(alloc, command))),
-        Order::Get { host, target, pass } => do_get(alloc, desk, host, target, pass),
+        Order::Get {
+            host,
+            target,
+            pass,
+            moment,
+        } => do_get(alloc, desk, host, target, pass, moment.unwrap_or(now)),
+        Order::Import { .. } => refusal(alloc, "usage"),
         Order::Init { .. } => refusal(alloc, "usage"),
+        Order::Migrate { .. } => refusal(alloc, "usage"),
         Order::Script => refusal(alloc, "usage"),
         Order::Answer => refusal(alloc, "usage"),
         Order::Serve { .. } => refusal(alloc, "usage"),

@@ -96,6 +96,7 @@ fn answer_text(alloc: Global, answer: &Answer) -> Result<String, AllocError>
         } => made_text(alloc, slug, *active, *hidden, *private),
         Answer::Known { slug } => known_text(alloc, slug),
         Answer::Stored { pages } => format!(in alloc; "stored {pages}"),
+        Answer::Added { count } => format!(in alloc; "added {count}"),
     }
 }
 

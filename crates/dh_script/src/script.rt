@@ -24,15 +24,20 @@ use std::alloc::{AllocError, Global};
 const BATCH: usize = 1024;
 
 /// Does what a line orders that names no store of its own.
-fn own_text<S: Alter>(alloc: Global, desk: &mut Desk<S>, line: &Line) -> Result<String, AllocError>
+fn own_text<S: Alter>(
+    alloc: Global,
+    desk: &mut Desk<S>,
+    line: &Line,
+    now: u64,
+) -> Result<String, AllocError>
     ensures does { Moves S.Store desk.old desk.new (λ before after. IfOk result
-        (λ text. Does before (Some line.now) after (string_bytes text))) }
+        (λ text. Does now before (Some line.now) after (string_bytes text))) }
     ensures may { Moves S.Store desk.old desk.new
-        (λ before after. OnErr result (MayDo before (Some line.now) after)) }
+        (λ before after. OnErr result (MayDo now before (Some line.now) after)) }
 {
     match &line.store {
         Some(_) => String::from_str(alloc, "usage"),
-        None => Ok(perform(alloc, desk, &line.order)?.text),
+        None => Ok(perform(alloc, desk, &line.order, now)?.text),
     }
 }
 
@@ -42,16 +47,17 @@ fn line_text<'a, S: Alter>(
     desk: &mut Desk<S>,
     program: &mut clap::Command<'a>,
     words: &'a [String],
+    now: u64,
 ) -> Result<String, AllocError>
     requires { StandsFor docs_app program.old }
     ensures stands { StandsFor docs_app program.new }
     ensures does { Moves S.Store desk.old desk.new (λ before after. IfOk result
-        (λ text. Does before (line_in (map string_bytes words.now)) after (string_bytes text))) }
+        (λ text. Does now before (line_in (map string_bytes words.now)) after (string_bytes text))) }
     ensures may { Moves S.Store desk.old desk.new
-        (λ before after. OnErr result (MayDo before (line_in (map string_bytes words.now)) after)) }
+        (λ before after. OnErr result (MayDo now before (line_in (map string_bytes words.now)) after)) }
 {
     match line_by(alloc, program, words) {
-        Ok(line) => own_text(alloc, desk, &line),
+        Ok(line) => own_text(alloc, desk, &line, now),
         Err(LineFault::Usage) => String::from_str(alloc, "usage"),
         Err(LineFault::Memory) => Err(AllocError),
     }
@@ -64,16 +70,17 @@ fn run_words<'a, S: Alter, W: Sink>(
     program: &mut clap::Command<'a>,
     words: &'a [String],
     sink: &mut W,
+    now: u64,
 ) -> Result<(), RunFault>
     requires writes { W.broken sink.old ≡ false }
     requires stands { StandsFor docs_app program.old }
     ensures stays { StandsFor docs_app program.new }
     ensures broken { W.broken sink.new ≡ stopped_by_writer result }
     ensures ran { Moves S.Store desk.old desk.new
-        (λ before after. Ran before (map string_bytes words.now ∷ []) after
+        (λ before after. Ran now before (map string_bytes words.now ∷ []) after
         (W.held sink.old) (W.held sink.new) result) }
 {
-    let mut text = line_text(alloc, desk, program, words)?;
+    let mut text = line_text(alloc, desk, program, words, now)?;
     text.push('\n')?;
     put_all(sink, text.as_bytes()).map_err(|_| RunFault::Write)
 }
@@ -84,16 +91,17 @@ fn run_batch<'a, S: Alter, W: Sink>(
     desk: &mut Desk<S>,
     lines: &'a [Vec<String>],
     sink: &mut W,
+    now: u64,
 ) -> Result<(), RunFault>
     requires { W.broken sink.old ≡ false }
     ensures broken { W.broken sink.new ≡ stopped_by_writer result }
     ensures ran { Moves S.Store desk.old desk.new
-        (λ before after. Ran before (seen lines.now) after
+        (λ before after. Ran now before (seen lines.now) after
         (W.held sink.old) (W.held sink.new) result) }
 {
     let mut program = docs_command(alloc)?;
     for words in lines {
-        run_words(alloc, desk, &mut program, words.as_slice(), sink)?;
+        run_words(alloc, desk, &mut program, words.as_slice(), sink, now)?;
     }
     Ok(())
 }
@@ -133,18 +141,19 @@ fn take_line<S: Alter, W: Sink>(
     batch: &mut Vec<Vec<String>>,
     line: &str,
     sink: &mut W,
+    now: u64,
 ) -> Result<(), RunFault>
     requires { W.broken sink.old ≡ false }
     ensures broken { W.broken sink.new ≡ stopped_by_writer result }
     ensures ran { Moves S.Store desk.old desk.new
-        (λ before after. RanBut before (seen batch.old.items ++ worded (line.now ∷ [])) after
+        (λ before after. RanBut now before (seen batch.old.items ++ worded (line.now ∷ [])) after
         (W.held sink.old) (W.held sink.new) (seen batch.new.items) result) }
 {
     add_line(alloc, batch, line)?;
     if batch.len() < BATCH {
         return Ok(());
     }
-    run_batch(alloc, desk, batch.as_slice(), sink)?;
+    run_batch(alloc, desk, batch.as_slice(), sink, now)?;
     batch.clear();
     Ok(())
 }
@@ -155,30 +164,33 @@ fn run_lines<S: Alter, W: Sink>(
     desk: &mut Desk<S>,
     text: &str,
     sink: &mut W,
+    now: u64,
 ) -> Result<(), RunFault>
     requires { W.broken sink.old ≡ false }
     ensures broken { W.broken sink.new ≡ stopped_by_writer result }
     ensures ran { Moves S.Store desk.old desk.new
-        (λ before after. Ran before (lines_in text.now) after
+        (λ before after. Ran now before (lines_in text.now) after
         (W.held sink.old) (W.held sink.new) result) }
 {
     let mut batch = Vec::new(alloc);
     for line in text.lines() {
-        take_line(alloc, desk, &mut batch, line, sink)?;
+        take_line(alloc, desk, &mut batch, line, sink, now)?;
     }
-    run_batch(alloc, desk, batch.as_slice(), sink)
+    run_batch(alloc, desk, batch.as_slice(), sink, now)
 }
 
 /// Runs the lines of a script, which is read whole before its first line runs: at most 1,048,576
 /// bytes in at most 100,000 reads. A line ends with LF or CR LF, and the last may lack its end; its
 /// words stand between spaces and tabs. A line without words is passed over, and so is one that
 /// begins with `#`. Each other line writes one line: what came of its command or read, `bad target`
-/// for a read whose target is none, or `usage`, also where it names a store.
+/// for a read whose target is none, or `usage`, also where it names a store. `now` is the moment of each
+/// read that gives none of its own, in seconds since 1970.
 pub fn run_script<S: Alter, R: Source, W: Sink>(
     alloc: Global,
     desk: &mut Desk<S>,
     source: &mut R,
     sink: &mut W,
+    now: u64,
 ) -> Result<(), ScriptFault>
     requires reader { R.broken source.old ≡ false }
     requires writer { W.broken sink.old ≡ false }
@@ -189,7 +201,7 @@ pub fn run_script<S: Alter, R: Source, W: Sink>(
     ensures cause { IfErr result (λ fault. IfSome (R.left source.old) (IsCause fault)) }
     ensures script { OnOk result (IfSome (R.left source.old) IsScript) }
     ensures ran { Moves S.Store desk.old desk.new
-        (λ before after. RunsScript (R.left source.old) before after
+        (λ before after. RunsScript now (R.left source.old) before after
         (W.held sink.old) (W.held sink.new) result) }
     ensures taken { TookAtMost (R.left source.old) (R.left source.new) 1052672 }
     ensures reads { CountsUpTo (R.fills source.old) (R.fills source.new) 100000 }
@@ -198,7 +210,7 @@ pub fn run_script<S: Alter, R: Source, W: Sink>(
 {
     let bytes = read_script(alloc, source)?;
     match str::from_utf8(bytes.as_slice()) {
-        Ok(text) => Ok(run_lines(alloc, desk, text, sink)?),
+        Ok(text) => Ok(run_lines(alloc, desk, text, sink, now)?),
         Err(_) => Err(ScriptFault::NotText),
     }
 }

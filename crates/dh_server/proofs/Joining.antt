@@ -16,22 +16,22 @@ handed_on (Some xs) None now text appends keeps = absurd appends
 handed_on (Some xs) (Some ys) None text appends keeps = absurd keeps
 handed_on (Some xs) (Some ys) (Some zs) text appends keeps = keeps ∙ appends
 
-module _ (left held kept now : Option (List ℕ)) (before after : World) where
-  pub joined : (done : Done) → Writes (AnswersSource left before after) held kept (Ok done) → Keeps kept now → Answers left held now before after (Ok done)
+module _ (moment : ℕ) (left held kept now : Option (List ℕ)) (before after : World) where
+  pub joined : (done : Done) → Writes (AnswersSource moment left before after) held kept (Ok done) → Keeps kept now → Answers moment left held now before after (Ok done)
   joined done w keeps = (w.0, w.1, handed_on held kept now w.0 w.2 keeps)
 
   -- not all of it could be handed on
-  pub cut : (done : Done) (n : ℕ) → Writes (AnswersSource left before after) held kept (Ok done) → Answers left held now before after (Err (fault.Write n))
+  pub cut : (done : Done) (n : ℕ) → Writes (AnswersSource moment left before after) held kept (Ok done) → Answers moment left held now before after (Err (fault.Write n))
   cut done n w = (done.status, w.0, w.1)
 
   -- the engine's own fault
-  failed : (e : EngineFault) → Writes (AnswersSource left before after) held kept (Err e) → (is_unread (Err e) ≡ true → after ≡ before) → Answers left held now before after (Err e)
+  failed : (e : EngineFault) → Writes (AnswersSource moment left before after) held kept (Err e) → (is_unread (Err e) ≡ true → after ≡ before) → Answers moment left held now before after (Err e)
   failed fault.Read w same = same refl
   failed fault.TooManyTurns w same = same refl
   failed (fault.Write n) w same = (w.0, w.1, w.2)
 
   -- and it is handed on
-  pub told_on : (e : EngineFault) (r : Result Done EngineFault) → IsErrAnd r (λ x. x ≡ e) → Writes (AnswersSource left before after) held kept (Err e) → (is_unread (Err e) ≡ true → after ≡ before) → Answers left held now before after r
+  pub told_on : (e : EngineFault) (r : Result Done EngineFault) → IsErrAnd r (λ x. x ≡ e) → Writes (AnswersSource moment left before after) held kept (Err e) → (is_unread (Err e) ≡ true → after ≡ before) → Answers moment left held now before after r
   told_on e r is w same =
       let at = err_from_is_err_and r is in
-      subst (Answers left held now before after) (sym (at.1 ∙ ap Err at.2)) (failed e w same)
+      subst (Answers moment left held now before after) (sym (at.1 ∙ ap Err at.2)) (failed e w same)

@@ -1,5 +1,5 @@
 -- A line of the log.
-use Rattle.std.specs.Prelude.{ℕ, ◌+◌, ◌&&◌, Bool, List, [], ◌++◌, length, take, drop, map, position, Option, Some, None, Result, Ok, Err, codes, nat_eq, nat_le, if◌then◌else◌}
+use Rattle.std.specs.Prelude.{ℕ, ◌+◌, ◌&&◌, ◌||◌, Bool, List, [], ◌++◌, length, take, drop, map, position, Option, Some, None, Result, Ok, Err, codes, nat_eq, nat_le, if◌then◌else◌}
 use Rattle.std.specs.Fmt.{decimal}
 use Rattle.dh_http.specs.declared.fault.Done.{Done}
 use Rattle.dh_http.specs.declared.fault.EngineFault.{EngineFault}
@@ -16,10 +16,10 @@ shown_byte byte = if nat_le 33 byte && nat_le byte 126 then byte else 63
 abbrev pub shown_word : List ℕ → List ℕ
 shown_word word = if nat_eq (length word) 0 then codes "-" else map shown_byte word
 
--- what stands before the first space
-abbrev pub before_space : Option ℕ → List ℕ → List ℕ
-before_space None line = line
-before_space (Some at) line = take at line
+-- what stands before that place, or all where there is none
+abbrev pub up_to : Option ℕ → List ℕ → List ℕ
+up_to None bytes = bytes
+up_to (Some at) bytes = take at bytes
 
 -- what stands behind it
 abbrev pub behind_space : Option ℕ → List ℕ → List ℕ
@@ -27,10 +27,17 @@ behind_space None line = []
 behind_space (Some at) line = drop (at + 1) line
 
 abbrev pub first_word : List ℕ → List ℕ
-first_word line = before_space (position is_space line) line
+first_word line = up_to (position is_space line) line
 
 abbrev pub other_words : List ℕ → List ℕ
 other_words line = behind_space (position is_space line) line
+
+abbrev pub ends_line : ℕ → Bool
+ends_line byte = nat_eq byte 13 || nat_eq byte 10
+
+-- what came up to the first CR or LF, but no more than 2,048 bytes
+abbrev pub first_line : List ℕ → List ℕ
+first_line bytes = take 2048 (up_to (position ends_line bytes) bytes)
 
 -- what came of a connection, the method and the target of its first line, how many bytes it took, and in how many microseconds
 abbrev pub log_line : List ℕ → List ℕ → ℕ → ℕ → List ℕ

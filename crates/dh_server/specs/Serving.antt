@@ -9,37 +9,40 @@ use Rattle.dh_http.specs.declared.fault.Done.{Done}
 use Rattle.dh_http.specs.declared.fault.EngineFault.{EngineFault}
 use Rattle.dh_http.specs.declared.fault.EngineFault.TheVariants as fault
 
--- the request of a source was answered, and all of the answer stands behind what the sink held; or the answer was made and not
--- all of it went out; or no whole request was read, and nothing was done
+-- the request of a source was answered at a moment, and all of the answer stands behind what the sink held; or the answer was
+-- made and not all of it went out; or no whole request was read, and nothing was done
 abbrev pub Answers
-    : Option (List ℕ) → Option (List ℕ) → Option (List ℕ) → World → World
+    : ℕ → Option (List ℕ) → Option (List ℕ) → Option (List ℕ) → World → World
     → Result Done EngineFault → Type 0
-Answers left held now before after (Ok done) =
-    (text : List ℕ) × AnswersSource left before after done.status text × Appends held now text
-Answers left held now before after (Err (fault.Write n)) =
-    (status : ℕ) × (text : List ℕ) × AnswersSource left before after status text
-Answers left held now before after (Err fault.Read) = after ≡ before
-Answers left held now before after (Err fault.TooManyTurns) = after ≡ before
+Answers moment left held now before after (Ok done) =
+    (text : List ℕ)
+    × AnswersSource moment left before after done.status text
+    × Appends held now text
+Answers moment left held now before after (Err (fault.Write n)) =
+    (status : ℕ) × (text : List ℕ) × AnswersSource moment left before after status text
+Answers moment left held now before after (Err fault.Read) = after ≡ before
+Answers moment left held now before after (Err fault.TooManyTurns) = after ≡ before
 
--- some request was answered
-abbrev pub AnswersSome : World → World → Type 0
-AnswersSome before after =
-    (left : Option (List ℕ)) × (status : ℕ) × (text : List ℕ)
-    × AnswersSource left before after status text
+-- some request was answered, at such a moment
+abbrev pub AnswersSome : (ℕ → Type 0) → World → World → Type 0
+AnswersSome IsMoment before after =
+    (moment : ℕ) × IsMoment moment
+    × (left : Option (List ℕ)) × (status : ℕ) × (text : List ℕ)
+    × AnswersSource moment left before after status text
 
--- one connection: a whole answer was handed to it; or not, and then some request was answered or nothing was done
-abbrev pub Turn : World → World → Bool → Type 0
-Turn before after true = AnswersSome before after
-Turn before after false = (after ≡ before) ⊎ AnswersSome before after
+-- one connection: nothing was done, or some request was answered
+abbrev pub Turn : (ℕ → Type 0) → World → World → Type 0
+Turn IsMoment before after = (after ≡ before) ⊎ AnswersSome IsMoment before after
 
--- so many connections, one after another, and how many of them were handed a whole answer
-abbrev pub Serves : ℕ → World → World → ℕ → Type 0
-Serves zero before after done = (after ≡ before) × (done ≡ 0)
-Serves (suc count) before after done =
-    (between : World) × (earlier : ℕ) × (last : Bool)
-    × Serves count before between earlier
-    × Turn between after last
-    × (done ≡ earlier + (if last then 1 else 0))
+-- so many connections, one after another
+abbrev pub Serves : (ℕ → Type 0) → ℕ → World → World → Type 0
+Serves IsMoment zero before after = after ≡ before
+Serves IsMoment (suc count) before after =
+    (between : World) × Serves IsMoment count before between × Turn IsMoment between after
+
+-- a call of the clock may give this moment
+abbrev pub GivenBy : {C : Type 0} → (C → ℕ → Type 0) → ℕ → Type 0
+GivenBy {C} gives moment = (clock : C) × gives clock moment
 
 -- it was asked so many times, where that is counted
 abbrev pub Counts : Option ℕ → Option ℕ → ℕ → Type 0

@@ -1,8 +1,8 @@
 //! A server: one request a connection, one connection after another.
 #![tactic(auto)]
 
+mod beginning;
 mod counted;
-mod first_line;
 mod joined;
 mod line;
 mod listening;
@@ -12,9 +12,9 @@ mod stream;
 mod telling;
 mod timed;
 
+pub use beginning::{Beginning, Heard};
 pub use counted::Counted;
 pub use dh_http::{Done, EngineFault};
-pub use first_line::{FirstLine, Heard};
 pub use joined::Joined;
 pub use listening::{Listen, Listening};
 pub use log::Log;

@@ -11,7 +11,7 @@ pub trait Listen {
     // How often it was asked for one, where it counts. A count stays at 2^64 - 1.
     ghost asked: { Self → Option ℕ };
 
-    /// The next connection, which it waits for. None where it was lost before it could be answered.
+    /// The next connection, which it waits for. None where there was none to be had, or it was lost before it could be answered.
     fn accept(&mut self) -> Option<TcpStream>
         ensures { Counts (asked self.old) (asked self.new) 1 };
 }

@@ -4,7 +4,6 @@ ghost use Rattle.std.specs.Prelude.{◌≡◌, false, IfOk, string_bytes};
 ghost use Rattle.dh_server.specs.Lines.{told_as, log_line};
 ghost use Rattle.dh_server.specs.Telling.{TellsLine};
 
-use crate::first_line::FirstLine;
 use crate::line::log_line;
 use crate::telling::put_or_lose;
 use dh_http::{Done, EngineFault};
@@ -93,19 +92,19 @@ impl<T: Clock + Copy> Log<T> {
         alloc: Global,
         sink: &mut L,
         outcome: Option<Result<Done, EngineFault>>,
-        line: &FirstLine,
+        line: &[u8],
         bytes: u64,
         start: Option<Instant>,
     )
         ensures line { TellsLine L.broken L.held sink.old sink.new
-            outcome line.now.bytes.items bytes }
+            outcome line.now bytes }
         ensures off { self.now.is_on ≡ false → sink.new ≡ sink.old }
     {
         if !self.is_on || sink.failed() {
             return;
         }
         let micros = self.micros_since(start);
-        if let Ok(text) = line_text(alloc, outcome, line.as_slice(), bytes, micros) {
+        if let Ok(text) = line_text(alloc, outcome, line, bytes, micros) {
             put_or_lose(sink, text.as_slice());
         }
     }

@@ -1,14 +1,14 @@
 //! Connections, one after another.
 
-ghost use Rattle.std.specs.Prelude.{◌≡◌, ◌≤◌, true, false, drop, is_ok};
+ghost use Rattle.std.specs.Prelude.{◌≡◌, ◌≤◌, true, false, drop};
 ghost use Rattle.std.specs.Io.KnownBytes.{append_known};
 ghost use Rattle.dh_http.specs.Desk.{Moves};
 ghost use Rattle.dh_http.specs.Answers as spec;
-ghost use Rattle.dh_server.specs.Serving.{Answers, Turn, Serves, Steps, Counts};
+ghost use Rattle.dh_server.specs.Serving.{Answers, Turn, Serves, GivenBy, Steps, Counts};
 ghost use Rattle.dh_server.specs.Telling.{TellsSome};
 
+use crate::beginning::{Beginning, Heard};
 use crate::counted::Counted;
-use crate::first_line::{FirstLine, Heard};
 use crate::joined::Joined;
 use crate::listening::Listen;
 use crate::log::Log;
@@ -24,18 +24,19 @@ use std::time::Clock;
 /// How many seconds reading and writing may take.
 const MOST_SECONDS: u64 = 60;
 
-/// Answers one request, and hands on what the sink kept. The count of a `Write` is of bytes that the sink took, of which it may
-/// not have handed on all.
+/// Answers one request at a moment, in seconds since 1970, and hands on what the sink kept. The count of a `Write` is of bytes that
+/// the sink took, of which it may not have handed on all.
 pub fn answer_joined<S: Alter, R: Source, W: Sink>(
     alloc: Global,
     desk: &mut Desk<S>,
     source: &mut R,
     sink: &mut Joined<W>,
+    now: u64,
 ) -> Result<Done, EngineFault>
     requires reader { R.broken source.old ≡ false }
     requires writer { W.broken sink.old.inner ≡ false }
     ensures answers { Moves S.Store desk.old desk.new
-        (λ before after. Answers (R.left source.old)
+        (λ before after. Answers now (R.left source.old)
         (append_known (W.held sink.old.inner) (drop sink.old.gone sink.old.kept.items))
         (W.held sink.new.inner) before after result) }
     ensures unread { spec.is_unread result ≡ true
@@ -43,23 +44,28 @@ pub fn answer_joined<S: Alter, R: Source, W: Sink>(
     ensures reader_fault { R.broken source.new ≡ spec.reader_failed result }
     ensures writer_fault { W.broken sink.new.inner ≡ spec.writer_failed result }
 {
-    let done = answer(alloc, desk, source, sink)?;
+    let done = answer(alloc, desk, source, sink, now)?;
     match sink.hand_on() {
         Ok(()) => Ok(done),
         Err(count) => Err(EngineFault::Write(count)),
     }
 }
 
-/// Answers the request of a connection, and tells it.
+/// Whether input may be left unread behind a reply.
+fn leaves_input(answered: Result<Done, EngineFault>, came: &Beginning) -> bool {
+    answered.is_ok() && !came.is_whole()
+}
+
+/// Answers the request of a connection at a moment, and tells it.
 fn answer_stream<S: Alter, T: Clock + Copy, L: Sink>(
     alloc: Global,
     desk: &mut Desk<S>,
     stream: &TcpStream,
+    now: u64,
     log: &Log<T>,
     errors: &mut L,
-) -> Result<Done, EngineFault>
-    ensures turn { Moves S.Store desk.old desk.new
-        (λ before after. Turn before after (is_ok result)) }
+)
+    ensures turn { Moves S.Store desk.old desk.new (Turn (λ moment. moment ≡ now)) }
     ensures tells { TellsSome L.broken L.held errors.old errors.new }
     ensures off { log.now.is_on ≡ false → errors.new ≡ errors.old }
 {
@@ -70,73 +76,70 @@ fn answer_stream<S: Alter, T: Clock + Copy, L: Sink>(
     );
     let port = Timed::new(log.clock(), MOST_SECONDS, Port::new(stream));
     let mut sink = Joined::new(alloc, Counted::new(port));
-    let result = answer_joined(alloc, desk, &mut source, &mut sink);
+    let result = answer_joined(alloc, desk, &mut source, &mut sink, now);
     log.tell(
         alloc,
         errors,
         Some(result),
-        source.line(),
+        source.beginning().first_line(),
         sink.inner().count(),
         start,
     );
-    result
-}
-
-/// Whether input may be left unread behind a reply: where the request was refused by its head.
-fn leaves_input(answered: Result<Done, EngineFault>) -> bool {
-    match answered {
-        Ok(done) => matches!(done.status, 400 | 405 | 411 | 413 | 431),
-        Err(_) => false,
+    if leaves_input(result, source.beginning()) {
+        read_out(log.clock(), stream);
     }
 }
 
-/// Answers the next connection, and says whether a whole reply was handed to it.
-fn serve_next<S: Alter, N: Listen, T: Clock + Copy, L: Sink>(
+/// Answers the next connection, at the moment when it came.
+fn serve_next<S: Alter, N: Listen, C: FnMut() -> u64, T: Clock + Copy, L: Sink>(
     alloc: Global,
     desk: &mut Desk<S>,
     listener: &mut N,
+    clock: &mut C,
     log: &Log<T>,
     errors: &mut L,
-) -> bool
+)
+    requires { C.IsAlwaysCallable clock.old }
     ensures asks { Counts (N.asked listener.old) (N.asked listener.new) 1 }
-    ensures turn { Moves S.Store desk.old desk.new (λ before after. Turn before after result) }
+    ensures callable { C.IsAlwaysCallable clock.new }
+    ensures turn { Moves S.Store desk.old desk.new (Turn (GivenBy C.post)) }
     ensures tells { TellsSome L.broken L.held errors.old errors.new }
     ensures off { log.now.is_on ≡ false → errors.new ≡ errors.old }
 {
     let Some(stream) = listener.accept() else {
-        log.tell(alloc, errors, None, &FirstLine::new(alloc), 0, None);
-        return false;
+        log.tell(alloc, errors, None, &[], 0, None);
+        return;
     };
-    let result = answer_stream(alloc, desk, &stream, log, errors);
-    if leaves_input(result) {
-        read_out(&stream);
-    }
-    result.is_ok()
+    let now = clock();
+    answer_stream(alloc, desk, &stream, now, log, errors);
 }
 
-/// Accepts so many connections, one after another, and answers one request on each, which the log tells to `errors`. It answers
-/// how many of them were handed a whole reply.
-pub fn serve_on<S: Alter, N: Listen, T: Clock + Copy, L: Sink>(
+/// Accepts connections, one after another, and answers one request on each, which the log tells to `errors`; the clock gives the
+/// seconds since 1970. It asks for so many connections, and for no more once a fault of the store has closed the desk, which is
+/// when the reply that tells of it is out. It answers for how many it asked.
+pub fn serve_on<S: Alter, N: Listen, C: FnMut() -> u64, T: Clock + Copy, L: Sink>(
     alloc: Global,
     desk: &mut Desk<S>,
     listener: &mut N,
+    clock: &mut C,
     count: u32,
     log: &Log<T>,
     errors: &mut L,
 ) -> u32
-    ensures asks { Counts (N.asked listener.old) (N.asked listener.new) count }
+    requires { C.IsAlwaysCallable clock.old }
+    ensures asks { Counts (N.asked listener.old) (N.asked listener.new) result }
     ensures few { result ≤ count }
-    ensures serves { Moves S.Store desk.old desk.new
-        (λ before after. Serves count before after result) }
-    ensures steps { Moves S.Store desk.old desk.new (Steps count) }
+    ensures all { desk.new.closed ≡ false → result ≡ count }
+    ensures shut { desk.old.closed ≡ true → result ≡ 0 }
+    ensures serves { Moves S.Store desk.old desk.new (Serves (GivenBy C.post) result) }
+    ensures steps { Moves S.Store desk.old desk.new (Steps result) }
     ensures tells { TellsSome L.broken L.held errors.old errors.new }
     ensures off { log.now.is_on ≡ false → errors.new ≡ errors.old }
 {
-    let mut served = 0;
-    for _turn in 0..count {
-        if serve_next(alloc, desk, listener, log, errors) {
-            served += 1;
-        }
+    let mut asked = 0;
+    while asked < count && !desk.is_closed() {
+        serve_next(alloc, desk, listener, clock, log, errors);
+        asked += 1;
     }
-    served
+    asked
 }

@@ -1,8 +1,17 @@
-//! TCP streams: their limits and their end.
+//! TCP streams: how they are accepted, their limits and their end.
 
-use std::io::Read;
+use crate::timed::Timed;
+use dh_ports::{Port, Source};
+use libc::net::poll;
+use libc::types::pollfd;
 use std::net::{Shutdown, TcpListener, TcpStream};
-use std::time::Duration;
+use std::time::{Clock, Duration};
+
+/// How many milliseconds pass behind an accept that failed.
+const PAUSE: i32 = 50;
+
+/// How many accepts may fail, one behind the other, until none is told: a second of them.
+const MOST_TRIES: u32 = 20;
 
 /// How many seconds one read or one write may wait.
 const PATIENCE: u64 = 10;
@@ -10,14 +19,33 @@ const PATIENCE: u64 = 10;
 /// How many seconds one read waits whose bytes nobody wants.
 const SHORT_PATIENCE: u64 = 1;
 
-/// How many bytes one such read asks for, and how many are made.
+/// For how many seconds such reads begin; so the last of them ends within three.
+const READING_OUT: u64 = 2;
+
+/// How many bytes one such read asks for.
 const PIECE: usize = 16_384;
 
-const MOST_PIECES: u32 = 4;
+/// Waits: a poll of nothing does no more, and needs no handle.
+fn pause(milliseconds: i32) {
+    let mut nothing: [pollfd; 0] = [];
+    let _ = poll(&mut nothing, milliseconds);
+}
+
+/// The next connection. An accept that failed is tried again after a pause, for a second: the system may have been out of
+/// descriptors, and then each further one fails at once.
+fn accept(listener: &TcpListener) -> Option<TcpStream> {
+    for _ in 0..MOST_TRIES {
+        match listener.accept() {
+            Ok((stream, _)) => return Some(stream),
+            Err(_) => pause(PAUSE),
+        }
+    }
+    None
+}
 
 /// The next connection, whose reads and writes wait for ten seconds at most. One whose limits cannot be set is let go.
 pub fn next_stream(listener: &TcpListener) -> Option<TcpStream> {
-    let (stream, _) = listener.accept().ok()?;
+    let stream = accept(listener)?;
     let patience = Some(Duration::from_secs(PATIENCE));
     stream.set_read_timeout(patience).ok()?;
     stream.set_write_timeout(patience).ok()?;
@@ -25,15 +53,17 @@ pub fn next_stream(listener: &TcpListener) -> Option<TcpStream> {
     Some(stream)
 }
 
-/// Ends the writing, and reads on for a while, at most 64 KiB: a stream that is closed while input waits loses what was written.
-pub fn read_out(mut stream: &TcpStream) {
+/// Ends the writing, and reads on until the client is done, or sends nothing for a second, three seconds in all: a stream that is
+/// closed while input waits loses what was written.
+pub fn read_out<T: Clock + Copy>(clock: T, stream: &TcpStream) {
     let patience = Some(Duration::from_secs(SHORT_PATIENCE));
     if stream.shutdown(Shutdown::Write).is_err() || stream.set_read_timeout(patience).is_err() {
         return;
     }
+    let mut rest = Timed::new(clock, READING_OUT, Port::new(stream));
     let mut room = [0u8; PIECE];
-    for _ in 0..MOST_PIECES {
-        if !matches!(stream.read(&mut room), Ok(1..)) {
+    for _ in 0..u32::MAX {
+        if !matches!(rest.fill(&mut room), Ok(1..)) {
             return;
         }
     }

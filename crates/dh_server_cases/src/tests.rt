@@ -1,6 +1,7 @@
 //! Clients in the test's own thread: what they send waits until the server answers it. The helpers have no clause here, so that
 //! their calls stay out of a test's proof.
 
+mod beginnings;
 mod handed;
 mod logs;
 mod streams;
@@ -66,7 +67,7 @@ fn received(rt: &HostRuntime, stream: TcpStream) -> Result<String, Fail> {
     Ok(io::read_to_string(rt.alloc(), stream)?)
 }
 
-/// How many of so many connections were handed a whole reply, by a desk of its own.
+/// How many connections it asked for, of so many, by a desk of its own.
 fn serve(rt: &HostRuntime, listener: &TcpListener, count: u32) -> Result<u32, Fail> {
     let mut desk = sample_desk(rt.alloc())?;
     let mut listening = Listening::new(listener);
@@ -75,6 +76,7 @@ fn serve(rt: &HostRuntime, listener: &TcpListener, count: u32) -> Result<u32, Fa
         rt.alloc(),
         &mut desk,
         &mut listening,
+        &mut || 0,
         count,
         &Log::new(rt, false),
         &mut errors,

@@ -15,6 +15,7 @@ use Rattle.dh_faults.specs.declared.fault.Fault.{Fault}
 use Rattle.dh_faults.specs.declared.fault.Fault.TheVariants as lookup
 use Rattle.dh_server.specs.Serving.{Steps}
 use Rattle.dh_world.specs.World.{Text, World}
+use Rattle.dh_world.specs.declared.command.Command.{Command}
 use Rattle.dh_lines.proofs.LineLemmas.{steady}
 use Rattle.dh_lines.specs.App.{docs_app}
 use Rattle.dh_lines.specs.declared.lines.Order.{Order}
@@ -22,12 +23,12 @@ use Rattle.dh_lines.specs.declared.lines.Order.TheVariants as order
 use Rattle.dh_script.specs.Running.{RunsScript}
 use Rattle.dh_lines.specs.Lines.{line_in}
 use Rattle.docs_host.specs.Ends.{Ended, EndsError, EndsHelp, EndsScript, EndsChecked, EndsOver, EndsAsked, EndsWords}
-use Rattle.docs_host.specs.Ends.{is_fault, status_after, may_end_order, asks_help, line_asked, line_run}
-use Rattle.docs_host.specs.Failing.{may_fail, IsDoneOr, is_of_output, is_of_script, is_of_checked, is_of_file, is_of_memory}
+use Rattle.docs_host.specs.Ends.{is_fault, status_after, may_end_order, may_end_single, asks_help, line_asked, line_run}
+use Rattle.docs_host.specs.Failing.{may_fail, IsDoneOr, is_of_output, is_of_list, is_of_script, is_of_checked, is_of_file, is_of_memory}
 use Rattle.docs_host.specs.Failures.{failure_of}
 use Rattle.docs_host.specs.Orders.{RunsRequest, has_bad_target}
 use Rattle.docs_host.specs.declared.failure.Failure.{Failure}
-use Rattle.docs_host.specs.declared.failure.Failure.TheVariants.{File, Store, Memory, Bind, Write, Script, Request}
+use Rattle.docs_host.specs.declared.failure.Failure.TheVariants.{File, List as OfList, Store, Memory, Bind, Write, Script, Request}
 use Rattle.docs_host.specs.declared.failure.Status.{Status}
 use Rattle.docs_host.specs.declared.failure.Status.TheVariants.{Done, Refused, Usage, Faulty, Unanswered}
 
@@ -39,6 +40,7 @@ MayEnd is_of f = IsTrue (may_fail is_of f)
 -- each but a request's
 is_faulty : (is_of : Failure → Bool) → ((fault : EngineFault) → is_of (Request fault) ≡ false) → (f : Failure) → MayEnd is_of f → status_after f ≡ Faulty
 is_faulty is_of none (File fault) it = refl
+is_faulty is_of none (OfList fault) it = refl
 is_faulty is_of none Store it = refl
 is_faulty is_of none Memory it = refl
 is_faulty is_of none Bind it = refl
@@ -83,24 +85,25 @@ no_steps (suc count) w = (w, no_steps count w, inl refl)
 
 -- the engine's fault is that of the run
 pub request_failed
-    : (left held now : Option Text) (before after : World) (e : EngineFault) (r : Result Status Failure)
-    → IsErrAnd r (λ failure. failure ≡ Request e) → Writes (AnswersSource left before after) held now (Err e)
-    → RunsRequest before after left held now r
-request_failed left held now before after e r is w = handed_on (RunsRequest before after left held now) (Request e) r is w
+    : (moment : ℕ) (left held now : Option Text) (before after : World) (e : EngineFault) (r : Result Status Failure)
+    → IsErrAnd r (λ failure. failure ≡ Request e) → Writes (AnswersSource moment left before after) held now (Err e)
+    → RunsRequest moment before after left held now r
+request_failed moment left held now before after e r is w = handed_on (RunsRequest moment before after left held now) (Request e) r is w
 
 -- ---- without a file
 
-abbrev Ran : Option Text → World → World → Option Text → Option Text → Result Status Failure → Type 0
-Ran left before after held now r = RunsScript {T = Status} {E = Failure} left before after held now r
+abbrev Ran : ℕ → Option Text → World → World → Option Text → Option Text → Result Status Failure → Type 0
+Ran moment left before after held now r = RunsScript {T = Status} {E = Failure} moment left before after held now r
 
-ran_all : (left held now : Option Text) (after : World) (s : Status) → Ran left empty after held now (Ok s) → EndsScript left held now Done
-ran_all left held now after s it = (after, record { script = it.script; read = it.read; ran = it.ran })
+ran_all : (moment : ℕ) (left held now : Option Text) (after : World) (s : Status) → Ran moment left empty after held now (Ok s) → EndsScript moment left held now Done
+ran_all moment left held now after s it = (after, record { script = it.script; read = it.read; ran = it.ran })
 
-ran_some : (left held now : Option Text) (after : World) (f : Failure) → Ran left empty after held now (Err f) → EndsScript left held now Faulty
-ran_some left held now after f it = inr (after, record { script = it.script; read = it.read; ran = it.ran })
+ran_some : (moment : ℕ) (left held now : Option Text) (after : World) (f : Failure) → Ran moment left empty after held now (Err f) → EndsScript moment left held now Faulty
+ran_some moment left held now after f it = inr (after, record { script = it.script; read = it.read; ran = it.ran })
 
 script_in_memory : (f : Failure) → MayEnd is_of_script f → MayEnd (is_of_memory order.Script) f
 script_in_memory (File fault) it = it
+script_in_memory (OfList fault) it = it
 script_in_memory Store it = refl
 script_in_memory Memory it = refl
 script_in_memory Bind it = it
@@ -109,17 +112,17 @@ script_in_memory (Script fault) it = refl
 script_in_memory (Request fault) it = it
 
 pub script_ended
-    : (left held now : Option Text) (before after : World) (r : Result Status Failure)
-    → before ≡ empty → Ran left before after held now r → IsDoneOr is_of_script r
-    → Ended (EndsScript left held now) (is_of_memory order.Script) r
-script_ended left held now before after (Ok status) none ran is = (
-  subst (EndsScript left held now) (sym is)
-      (ran_all left held now after status (subst (λ w. Ran left w after held now (Ok status)) none ran)),
+    : (moment : ℕ) (left held now : Option Text) (before after : World) (r : Result Status Failure)
+    → before ≡ empty → Ran moment left before after held now r → IsDoneOr is_of_script r
+    → Ended (EndsScript moment left held now) (is_of_memory order.Script) r
+script_ended moment left held now before after (Ok status) none ran is = (
+  subst (EndsScript moment left held now) (sym is)
+      (ran_all moment left held now after status (subst (λ w. Ran moment left w after held now (Ok status)) none ran)),
   ap is_fault is,
 )
-script_ended left held now before after (Err failure) none ran is = (
-  subst (EndsScript left held now) (sym (is_faulty is_of_script (λ fault. refl) failure is))
-      (ran_some left held now after failure (subst (λ w. Ran left w after held now (Err failure)) none ran)),
+script_ended moment left held now before after (Err failure) none ran is = (
+  subst (EndsScript moment left held now) (sym (is_faulty is_of_script (λ fault. refl) failure is))
+      (ran_some moment left held now after failure (subst (λ w. Ran moment left w after held now (Err failure)) none ran)),
   script_in_memory failure is,
 )
 
@@ -127,8 +130,10 @@ script_ended left held now before after (Err failure) none ran is = (
 
 faulty_order : (o : Order) → IsTrue (may_end_order o Faulty)
 faulty_order (order.Act command) = refl
-faulty_order (order.Get host target pass) = refl
+faulty_order (order.Get host target pass own) = refl
+faulty_order (order.Import host list) = refl
 faulty_order (order.Init file) = refl
+faulty_order (order.Migrate file) = refl
 faulty_order order.Script = refl
 faulty_order order.Answer = refl
 faulty_order (order.Serve count port log) = refl
@@ -150,6 +155,57 @@ module _ (held now : Option Text) (o : Order) where
       → IsErrAnd r (λ failure. failure ≡ File f) → Ended (EndsOver o held now) (is_of_file o) r
   file_failed f r good is = handed_on (Ended (EndsOver o held now) (is_of_file o)) (File f) r is (over_file f good)
 
+-- ---- an import
+
+module _ (host list : Text) (held now : Option Text) where
+  abbrev EndsImport : Result Status Failure → Type 0
+  EndsImport r = Ended (EndsOver (order.Import host list) held now) (is_of_file (order.Import host list)) r
+
+  -- what its command may fail of it may fail of
+  import_may : (c : Command) (f : Failure) → MayEnd (is_of_file (order.Act c)) f → MayEnd (is_of_file (order.Import host list)) f
+  import_may c (File fault) it = refl
+  import_may c (OfList fault) it = refl
+  import_may c Store it = it
+  import_may c Memory it = refl
+  import_may c Bind it = it
+  import_may c Write it = refl
+  import_may c (Script fault) it = it
+  import_may c (Request fault) it = it
+
+  -- its command ended so
+  pub import_ended : (c : Command) (r : Result Status Failure) → Ended (EndsOver (order.Act c) held now) (is_of_file (order.Act c)) r → EndsImport r
+  import_ended c (Ok status) it = it
+  import_ended c (Err f) it = (it.0, import_may c f it.1)
+
+  list_may : (f : Failure) → MayEnd is_of_list f → EndsImport (Err f)
+  list_may (File fault) it = (refl, refl)
+  list_may (OfList fault) it = (refl, refl)
+  list_may Store it = (refl, it)
+  list_may Memory it = (refl, refl)
+  list_may Bind it = (refl, it)
+  list_may Write it = (refl, refl)
+  list_may (Script fault) it = (refl, it)
+  list_may (Request fault) it = absurd (cc)
+
+  -- the list was not read
+  pub list_failed : (f : Failure) (r : Result Status Failure) → IsErrAnd r (λ failure. failure ≡ f) → MayEnd is_of_list f → EndsImport r
+  list_failed f r is may = handed_on EndsImport f r is (list_may f may)
+
+  output_may : (f : Failure) → MayEnd is_of_output f → MayEnd (is_of_file (order.Import host list)) f
+  output_may (File fault) it = refl
+  output_may (OfList fault) it = refl
+  output_may Store it = it
+  output_may Memory it = refl
+  output_may Bind it = it
+  output_may Write it = refl
+  output_may (Script fault) it = it
+  output_may (Request fault) it = it
+
+  -- a record of it was refused
+  pub record_refused : (r : Result Status Failure) → Ended (λ s. IsTrue (may_end_single s)) is_of_output r → EndsImport r
+  record_refused (Ok status) it = it
+  record_refused (Err f) it = (it.0, output_may f it.1)
+
 -- ---- by the words
 
 module _ (words : List Text) where
@@ -159,12 +215,12 @@ module _ (words : List Text) where
   pub its_line : asks_help words ≡ false → line_run words ≡ line_in words
   its_line asks = ap (λ b. line_asked b words) asks
 
-  module _ (left held now : Option Text) (s : Status) where
+  module _ (moment : ℕ) (left held now : Option Text) (s : Status) where
     pub help_asked : (names : List Text) → asks_help words ≡ true → names ≡ drop 1 words
-        → EndsHelp (names ++ codes "--help" ∷ []) s → EndsWords words left held now s
+        → EndsHelp (names ++ codes "--help" ∷ []) s → EndsWords moment words left held now s
     help_asked names asks same it =
-        let P : Bool → Type 0 = λ b. EndsAsked b words left held now s in
+        let P : Bool → Type 0 = λ b. EndsAsked moment b words left held now s in
         subst P (sym asks) (subst (λ n. EndsHelp (n ++ codes "--help" ∷ []) s) same it)
 
-    pub line_asked_for : asks_help words ≡ false → EndsAsked false words left held now s → EndsWords words left held now s
-    line_asked_for asks it = let P : Bool → Type 0 = λ b. EndsAsked b words left held now s in subst P (sym asks) it
+    pub line_asked_for : asks_help words ≡ false → EndsAsked moment false words left held now s → EndsWords moment words left held now s
+    line_asked_for asks it = let P : Bool → Type 0 = λ b. EndsAsked moment b words left held now s in subst P (sym asks) it

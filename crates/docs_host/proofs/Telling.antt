@@ -33,7 +33,7 @@ module _ {S : Type 0} (broken : S → Bool) (held : S → Option Text) where
     -- behind what was told before
     pub told_last
         : (a b c : S) (failure : Failure) (s : Status) → IsTrue (may_fail (is_of_line line) failure) → s ≡ status_after failure
-        → TellsSome broken held a b → TellsFault broken held b c failure (option_and_then file_of line) → TellsEnd broken held line a c s
+        → TellsSome broken held a b → TellsFault broken held b c failure (option_and_then (file_of failure) line) → TellsEnd broken held line a c s
     told_last a b c failure s may is some told =
         end_is_last s (
           some.0,
@@ -41,13 +41,13 @@ module _ {S : Type 0} (broken : S → Bool) (held : S → Option Text) where
           told.0,
           is,
           may,
-          tells_both broken held a b c some.0 (fault_text failure (option_and_then file_of line) told.0) some.1 told.1,
+          tells_both broken held a b c some.0 (fault_text failure (option_and_then (file_of failure) line) told.0) some.1 told.1,
         )
 
     -- with nothing before it
     pub told_alone
         : (a b : S) (failure : Failure) (s : Status) → IsTrue (may_fail (is_of_line line) failure) → s ≡ status_after failure
-        → TellsFault broken held a b failure (option_and_then file_of line) → TellsEnd broken held line a b s
+        → TellsFault broken held a b failure (option_and_then (file_of failure) line) → TellsEnd broken held line a b s
     told_alone a b failure s may is told = end_is_last s ([], failure, told.0, is, may, told.1)
 
     -- no file is named where memory is out

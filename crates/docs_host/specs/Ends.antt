@@ -31,6 +31,7 @@ exit_code = elim [ Done ↦ 0 | Refused ↦ 1 | Usage ↦ 2 | Faulty ↦ 3 | Una
 
 abbrev pub status_after : Failure → Status
 status_after (failure.File fault) = Faulty
+status_after (failure.List fault) = Faulty
 status_after failure.Store = Faulty
 status_after failure.Memory = Faulty
 status_after failure.Bind = Faulty
@@ -54,20 +55,20 @@ Ended IsEnd is_of (Err failure) = IsEnd (status_after failure) × IsTrue (may_fa
 
 -- 0: all lines of the script ran, from no project on, and what they print was written; 3: the first
 -- so many did, and of what the next one prints a front was written, not all of it; or nothing was
-abbrev pub EndsScript : Option Text → Option Text → Option Text → Status → Type 0
-EndsScript left held now Done = (after : World) × RunsScript {T = Status} {E = Status} left empty after held now (Ok Done)
-EndsScript left held now Faulty =
-    (now ≡ held) ⊎ ((after : World) × RunsScript {T = Status} {E = Status} left empty after held now (Err Faulty))
-EndsScript left held now _ = ⊥
+abbrev pub EndsScript : ℕ → Option Text → Option Text → Option Text → Status → Type 0
+EndsScript moment left held now Done = (after : World) × RunsScript {T = Status} {E = Status} moment left empty after held now (Ok Done)
+EndsScript moment left held now Faulty =
+    (now ≡ held) ⊎ ((after : World) × RunsScript {T = Status} {E = Status} moment left empty after held now (Err Faulty))
+EndsScript moment left held now _ = ⊥
 
 -- 0: an answer over the sample, or a 503, was written; 4: not all of it; 3: nothing
-abbrev pub EndsRequest : Option Text → Option Text → Option Text → Status → Type 0
-EndsRequest left held now Done =
-    (done : Answered) × WritesTold (AnswersSample left) held now (engine_told (Ok done))
-EndsRequest left held now Unanswered =
-    (fault : SampleFault) × WritesTold (AnswersSample left) held now (engine_told (Err fault))
-EndsRequest left held now Faulty = now ≡ held
-EndsRequest left held now _ = ⊥
+abbrev pub EndsRequest : ℕ → Option Text → Option Text → Option Text → Status → Type 0
+EndsRequest moment left held now Done =
+    (done : Answered) × WritesTold (AnswersSample moment left) held now (engine_told (Ok done))
+EndsRequest moment left held now Unanswered =
+    (fault : SampleFault) × WritesTold (AnswersSample moment left) held now (engine_told (Err fault))
+EndsRequest moment left held now Faulty = now ≡ held
+EndsRequest moment left held now _ = ⊥
 
 -- ---- which statuses a run can end with
 
@@ -109,16 +110,18 @@ EndsOver order = EndsChecked (has_bad_target order) order
 
 -- ---- by the words
 
--- without a file a command, a read and a server are mistakes
-abbrev pub EndsWithoutFile : Order → Option Text → Option Text → Option Text → Status → Type 0
-EndsWithoutFile order.Script left held now status = EndsScript left held now status
-EndsWithoutFile order.Answer left held now status = EndsRequest left held now status
-EndsWithoutFile (order.Init file) left held now status = (now ≡ held) × IsTrue (may_end status)
-EndsWithoutFile _ left held now status = (now ≡ held) × (status ≡ Usage)
+-- without a file a command, a read, an import and a server are mistakes
+abbrev pub EndsWithoutFile : ℕ → Order → Option Text → Option Text → Option Text → Status → Type 0
+EndsWithoutFile moment order.Script left held now status = EndsScript moment left held now status
+EndsWithoutFile moment order.Answer left held now status = EndsRequest moment left held now status
+EndsWithoutFile moment (order.Init file) left held now status = (now ≡ held) × IsTrue (may_end status)
+EndsWithoutFile moment (order.Migrate file) left held now status =
+    (now ≡ held) × IsTrue (may_end status)
+EndsWithoutFile moment _ left held now status = (now ≡ held) × (status ≡ Usage)
 
-abbrev pub EndsBy : Option Text → Order → Option Text → Option Text → Option Text → Status → Type 0
-EndsBy None order left held now status = EndsWithoutFile order left held now status
-EndsBy (Some file) order left held now status = EndsOver order held now status
+abbrev pub EndsBy : ℕ → Option Text → Order → Option Text → Option Text → Option Text → Status → Type 0
+EndsBy moment None order left held now status = EndsWithoutFile moment order left held now status
+EndsBy moment (Some file) order left held now status = EndsOver order held now status
 
 -- 0 comes only where `clap` finds that the words ask for help; 2, or 3
 abbrev pub EndsHelp : List Text → Status → Type 0
@@ -135,9 +138,9 @@ EndsError kind (Ok status) = ⊥
 EndsError kind (Err failure) = IsTrue (may_fail is_of_output failure)
 
 -- the run of the words' line; of words that are none, help or a mistake
-abbrev pub EndsLine : Option Line → List Text → Option Text → Option Text → Option Text → Status → Type 0
-EndsLine None words left held now status = EndsHelp words status
-EndsLine (Some line) words left held now status = EndsBy line.store line.order left held now status
+abbrev pub EndsLine : ℕ → Option Line → List Text → Option Text → Option Text → Option Text → Status → Type 0
+EndsLine moment None words left held now status = EndsHelp words status
+EndsLine moment (Some line) words left held now status = EndsBy moment line.store line.order left held now status
 
 abbrev pub asks_help : List Text → Bool
 asks_help [] = false
@@ -153,17 +156,17 @@ line_run words = line_asked (asks_help words) words
 
 -- the first word is `help`, and those behind it with `--help` ask for it; or the words' line ended so,
 -- or 3, and nothing was written
-abbrev pub EndsAsked : Bool → List Text → Option Text → Option Text → Option Text → Status → Type 0
-EndsAsked true words left held now status = EndsHelp (drop 1 words ++ codes "--help" ∷ []) status
-EndsAsked false words left held now status =
-    EndsLine (line_in words) words left held now status ⊎ ((now ≡ held) × (status ≡ Faulty))
+abbrev pub EndsAsked : ℕ → Bool → List Text → Option Text → Option Text → Option Text → Status → Type 0
+EndsAsked moment true words left held now status = EndsHelp (drop 1 words ++ codes "--help" ∷ []) status
+EndsAsked moment false words left held now status =
+    EndsLine moment (line_in words) words left held now status ⊎ ((now ≡ held) × (status ≡ Faulty))
 
-abbrev pub EndsWords : List Text → Option Text → Option Text → Option Text → Status → Type 0
-EndsWords words = EndsAsked (asks_help words) words
+abbrev pub EndsWords : ℕ → List Text → Option Text → Option Text → Option Text → Status → Type 0
+EndsWords moment words = EndsAsked moment (asks_help words) words
 
 -- the exit status is that of an end that these words may have, and `IsTold` holds of that end
-pub record EndsProgram (words : List Text) (left held now : Option Text) (IsTold : Status → Type 0) (code : ℕ) : Type 0 where
+pub record EndsProgram (moment : ℕ) (words : List Text) (left held now : Option Text) (IsTold : Status → Type 0) (code : ℕ) : Type 0 where
   pub status : Status
   pub told : code ≡ exit_code status
-  pub ends : EndsWords words left held now status
+  pub ends : EndsWords moment words left held now status
   pub errors : IsTold status

@@ -6,7 +6,7 @@ use Rattle.dh_lines.specs.declared.lines.Order.TheVariants as order
 use Rattle.dh_world.specs.World.{Text}
 use Rattle.docs_host.specs.Orders.{has_bad_target}
 use Rattle.docs_host.specs.declared.failure.Failure.{Failure}
-use Rattle.docs_host.specs.declared.failure.Failure.TheVariants.{File, Store, Memory, Bind, Write, Script, Request}
+use Rattle.docs_host.specs.declared.failure.Failure.TheVariants.{File, List, Store, Memory, Bind, Write, Script, Request}
 use Rattle.docs_host.specs.declared.failure.Status.{Status}
 use Rattle.docs_host.specs.declared.failure.Status.TheVariants.{Done}
 
@@ -42,11 +42,17 @@ abbrev pub is_of_init : Failure → Bool
 is_of_init (File fault) = true
 is_of_init failure = false
 
+-- the file of a list alone
+abbrev pub is_of_list : Failure → Bool
+is_of_list (List fault) = true
+is_of_list failure = false
+
 -- over a desk
 abbrev pub is_of_order : Order → Failure → Bool
 is_of_order order.Script failure = is_of_script failure
 is_of_order order.Answer failure = is_of_request failure
 is_of_order (order.Serve count port log) failure = is_of_server failure
+is_of_order (order.Import host list) (List fault) = true
 is_of_order order failure = is_of_output failure
 
 -- over a file, which is not opened for a read of a bad target
@@ -65,6 +71,7 @@ is_of_memory order.Script failure = is_of_script failure
 is_of_memory order.Answer Store = true
 is_of_memory order.Answer failure = is_of_request failure
 is_of_memory (order.Init file) failure = is_of_init failure
+is_of_memory (order.Migrate file) failure = is_of_init failure
 is_of_memory order failure = false
 
 abbrev pub is_of_run : Option Text → Order → Failure → Bool

@@ -12,8 +12,10 @@ use Rattle.dh_script.specs.declared.fault.RunFault.TheVariants as run
 use Rattle.dh_script.specs.declared.fault.ScriptFault.{ScriptFault}
 use Rattle.dh_script.specs.declared.fault.ScriptFault.TheVariants as script
 use Rattle.dh_world.specs.World.{Text}
+use Rattle.docs_host.specs.declared.lists.ListFileFault.{ListFileFault}
+use Rattle.docs_host.specs.declared.lists.ListFileFault.TheVariants as list
 use Rattle.docs_host.specs.declared.failure.Failure.{Failure}
-use Rattle.docs_host.specs.declared.failure.Failure.TheVariants.{File, Store, Memory, Bind, Write, Script, Request}
+use Rattle.docs_host.specs.declared.failure.Failure.TheVariants.{File, List, Store, Memory, Bind, Write, Script, Request}
 
 abbrev pub failure_of : Fault → Failure
 failure_of lookup.Store = Store
@@ -24,6 +26,12 @@ failure_of_sample (sample.Engine fault) = Request fault
 failure_of_sample sample.Store = Store
 
 -- ---- names
+
+abbrev pub list_name : ListFileFault → Text
+list_name list.Missing = codes "Read"
+list_name list.Forbidden = codes "Read"
+list_name list.Unread = codes "Read"
+list_name list.TooLong = codes "TooLong"
 
 abbrev pub script_name : ScriptFault → Text
 script_name (script.Unread stop.Read) = codes "Read"
@@ -41,6 +49,7 @@ request_name engine.TooManyTurns = codes "TooManyTurns"
 
 abbrev pub name_of : Failure → Text
 name_of (File fault) = file.name_of fault
+name_of (List fault) = list_name fault
 name_of Store = codes "Store"
 name_of Memory = codes "Memory"
 name_of Bind = codes "Bind"

@@ -3,13 +3,16 @@ use Rattle.std.specs.Prelude.{◌≡◌, ℕ, Bool, true, false, is_none, List, 
 use Rattle.std.specs.Io.KnownBytes.{Appends}
 use Rattle.dh_http.specs.Answers.{AnswersSource, Writes}
 use Rattle.dh_http.specs.declared.fault.Done.{Done as Answered}
+use Rattle.dh_lines.specs.Lines.{asking}
 use Rattle.dh_lines.specs.declared.lines.Order.{Order}
 use Rattle.dh_lines.specs.declared.lines.Order.TheVariants as order
 use Rattle.dh_paths.specs.Targets.{target_of}
 use Rattle.dh_script.specs.Running.{RunsScript}
 use Rattle.dh_script.specs.Script.{Performs}
 use Rattle.dh_server.specs.Serving.{Steps}
+use Rattle.dh_redirects.specs.declared.redirect.Redirect.{Redirect}
 use Rattle.dh_world.specs.World.{Text, World}
+use Rattle.dh_world.specs.declared.command.CommandChange.TheVariants.{ImportRedirects}
 use Rattle.docs_host.specs.declared.failure.Failure.{Failure}
 use Rattle.docs_host.specs.declared.failure.Failure.TheVariants.{Request}
 use Rattle.docs_host.specs.declared.failure.Status.{Status}
@@ -21,39 +24,47 @@ AreUnbroken input output = (input ≡ false) × (output ≡ false)
 
 -- a read whose target is none
 abbrev pub has_bad_target : Order → Bool
-has_bad_target (order.Get host target pass) = is_none (target_of target)
+has_bad_target (order.Get host target pass own) = is_none (target_of target)
 has_bad_target order = false
 
 abbrev pub single_status : Bool → Status
 single_status true = Refused
 single_status false = Done
 
--- an order was performed, what it prints was written, with LF, and the status says whether it was
+-- the command that adds these redirects to those of a project
+abbrev pub import_order : Text → List Redirect → Order
+import_order host list = order.Act (asking host (ImportRedirects list))
+
+-- an order was performed at a moment, what it prints was written, with LF, and the status says whether it was
 -- refused
-pub record RunsSingle (before : World) (order : Order) (after : World) (held now : Option (List ℕ)) (status : Status) : Type 0 where
+pub record RunsSingle (moment : ℕ) (before : World) (order : Order) (after : World) (held now : Option (List ℕ)) (status : Status) : Type 0 where
   pub text : Text
   pub refused : Bool
-  pub performed : Performs before order after text refused
+  pub performed : Performs moment before order after text refused
   pub written : Appends held now (text ++ 10 ∷ [])
   pub told : status ≡ single_status refused
 
 -- the request was answered, and the answer was written, wholly or in part
-abbrev pub RunsRequest : World → World → Option Text → Option Text → Option Text → Result Status Failure → Type 0
-RunsRequest before after left held now (Ok status) =
-    (done : Answered) × Writes (AnswersSource left before after) held now (Ok done)
-RunsRequest before after left held now (Err (Request fault)) =
-    Writes (AnswersSource left before after) held now (Err fault)
-RunsRequest before after left held now (Err failure) = ⊥
+abbrev pub RunsRequest : ℕ → World → World → Option Text → Option Text → Option Text → Result Status Failure → Type 0
+RunsRequest moment before after left held now (Ok status) =
+    (done : Answered) × Writes (AnswersSource moment left before after) held now (Ok done)
+RunsRequest moment before after left held now (Err (Request fault)) =
+    Writes (AnswersSource moment left before after) held now (Err fault)
+RunsRequest moment before after left held now (Err failure) = ⊥
 
 -- an order was run: the lines of a script, whole or in part; a request, which was answered, wholly or
 -- in part; so many connections, each with one command at most; or a single command or read
-abbrev pub RunsOrder : World → Order → World → Option Text → Option Text → Option Text → Result Status Failure → Type 0
-RunsOrder before order.Script after left held now result = RunsScript left before after held now result
-RunsOrder before order.Answer after left held now result = RunsRequest before after left held now result
-RunsOrder before (order.Serve count port log) after left held now result = Steps count before after
-RunsOrder before (order.Act command) after left held now result =
-    IfOk result (RunsSingle before (order.Act command) after held now)
-RunsOrder before (order.Get host target pass) after left held now result =
-    IfOk result (RunsSingle before (order.Get host target pass) after held now)
-RunsOrder before (order.Init file) after left held now result =
-    IfOk result (RunsSingle before (order.Init file) after held now)
+abbrev pub RunsOrder : ℕ → World → Order → World → Option Text → Option Text → Option Text → Result Status Failure → Type 0
+RunsOrder moment before order.Script after left held now result = RunsScript moment left before after held now result
+RunsOrder moment before order.Answer after left held now result = RunsRequest moment before after left held now result
+RunsOrder moment before (order.Serve count port log) after left held now result = Steps count before after
+RunsOrder moment before (order.Act command) after left held now result =
+    IfOk result (RunsSingle moment before (order.Act command) after held now)
+RunsOrder moment before (order.Get host target pass own) after left held now result =
+    IfOk result (RunsSingle moment before (order.Get host target pass own) after held now)
+RunsOrder moment before (order.Import host list) after left held now result =
+    IfOk result (RunsSingle moment before (order.Import host list) after held now)
+RunsOrder moment before (order.Init file) after left held now result =
+    IfOk result (RunsSingle moment before (order.Init file) after held now)
+RunsOrder moment before (order.Migrate file) after left held now result =
+    IfOk result (RunsSingle moment before (order.Migrate file) after held now)

@@ -3,28 +3,36 @@ use Rattle.std.specs.Prelude.{◌≡◌, ⊤, Bool, IsTrue, [], ◌∷◌, ◌++
 use Rattle.dh_server.specs.Telling.{Tells}
 use Rattle.dh_lines.specs.declared.lines.Line.{Line}
 use Rattle.dh_lines.specs.declared.lines.Order.{Order}
-use Rattle.dh_lines.specs.declared.lines.Order.TheVariants.{Init}
+use Rattle.dh_lines.specs.declared.lines.Order.TheVariants.{Import, Init, Migrate}
 use Rattle.dh_world.specs.World.{Text}
 use Rattle.docs_host.specs.Ends.{status_after}
 use Rattle.docs_host.specs.Failing.{may_fail, is_of_line}
 use Rattle.docs_host.specs.Failures.{name_of}
 use Rattle.docs_host.specs.declared.failure.Failure.{Failure}
-use Rattle.docs_host.specs.declared.failure.Failure.TheVariants.{File}
+use Rattle.docs_host.specs.declared.failure.Failure.TheVariants.{File, List}
 use Rattle.docs_host.specs.declared.failure.Status.{Status}
 use Rattle.docs_host.specs.declared.failure.Status.TheVariants.{Faulty, Unanswered}
 
 -- ---- the file that is named beside a failure
 
+-- of the records
 abbrev pub file_in : Order → Option Text → Option Text
 file_in (Init file) store = Some file
+file_in (Migrate file) store = Some file
 file_in order store = store
 
-abbrev pub file_of : Line → Option Text
-file_of line = file_in line.order line.store
+-- of the list, where the failure is the list's
+abbrev pub file_by : Failure → Order → Option Text → Option Text
+file_by (List fault) (Import host list) store = Some list
+file_by failure order store = file_in order store
 
--- where the failure is the file's
+abbrev pub file_of : Failure → Line → Option Text
+file_of failure line = file_by failure line.order line.store
+
+-- where the failure is a file's
 abbrev pub file_named : Failure → Option Text → Option Text
 file_named (File fault) file = file
+file_named (List fault) file = file
 file_named failure file = None
 
 -- ---- texts
@@ -59,7 +67,7 @@ module _ {S : Type 0} (broken : S → Bool) (held : S → Option Text) where
   TellsLast line old new status =
       (front : Text) × (failure : Failure) × (cause : Text)
       × (status ≡ status_after failure) × IsTrue (may_fail (is_of_line line) failure)
-      × Tells broken held old new (front ++ fault_text failure (option_and_then file_of line) cause)
+      × Tells broken held old new (front ++ fault_text failure (option_and_then (file_of failure) line) cause)
 
   -- and of another end nothing is said here
   abbrev pub TellsEnd : Option Line → S → S → Status → Type 0

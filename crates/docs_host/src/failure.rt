@@ -8,6 +8,7 @@ ghost use Rattle.docs_host.specs.Failures.{failure_of, failure_of_sample};
 ghost use Rattle.docs_host.specs.Telling.{TellsCause, TellsFault, file_named, file_text, name_text};
 ghost use Rattle.docs_host.specs.declared.failure.Failure.TheVariants.{File, Memory, Script, Request};
 
+use crate::lists::ListFileFault;
 use dh_files::FileFault;
 use dh_http::EngineFault;
 use dh_ports::{Sink, Stop};
@@ -52,6 +53,8 @@ impl Status {
 pub enum Failure {
     /// The file of the records.
     File(FileFault),
+    /// The file of a list.
+    List(ListFileFault),
     /// The records in memory.
     Store,
     /// Out of memory.
@@ -80,6 +83,7 @@ impl Failure {
         match self {
             Failure::Request(_) => Status::Unanswered,
             Failure::File(_)
+            | Failure::List(_)
             | Failure::Store
             | Failure::Memory
             | Failure::Bind
@@ -94,6 +98,7 @@ impl Failure {
     {
         match self {
             Failure::File(fault) => fault.name(),
+            Failure::List(fault) => fault.name(),
             Failure::Store => "Store",
             Failure::Memory => "Memory",
             Failure::Bind => "Bind",
@@ -107,6 +112,7 @@ impl Failure {
     fn cause(self) -> &'static str {
         match self {
             Failure::File(fault) => fault.cause(),
+            Failure::List(fault) => fault.cause(),
             Failure::Store => "the records in memory cannot be made",
             Failure::Memory => "memory is out",
             Failure::Bind => "the port is taken, or may not be used by this user",
@@ -233,7 +239,7 @@ fn named_file(failure: Failure, file: Option<&str>) -> Option<&str>
         ≡ file_named failure (option_map (λ name. name.now) file.entry) }
 {
     match failure {
-        Failure::File(_) => file,
+        Failure::File(_) | Failure::List(_) => file,
         _ => None,
     }
 }

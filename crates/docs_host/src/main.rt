@@ -1,7 +1,9 @@
 //! A host of versioned documentation.
 #![tactic(auto)]
 
+mod clock;
 mod failure;
+mod lists;
 mod orders;
 mod program;
 mod serving;
@@ -47,6 +49,7 @@ fn main(rt: HostRuntime) -> ExitCode {
         sink: Port::new(rt.stdout()),
         errors: Port::new(rt.stderr()),
     };
-    let status = run_program(&rt, Unknown, words.as_slice(), &mut streams);
+    let now = clock::seconds(&rt);
+    let status = run_program(&rt, Unknown, words.as_slice(), &mut streams, now);
     ExitCode::from(status)
 }

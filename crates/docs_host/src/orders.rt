@@ -51,15 +51,16 @@ fn run_single<S: Alter, W: Sink>(
     desk: &mut Desk<S>,
     order: &Order,
     sink: &mut W,
+    now: u64,
 ) -> Result<Status, Failure>
     requires { W.broken sink.old ≡ false }
     ensures runs { Moves S.Store desk.old desk.new (λ before after. IfOk result
-        (RunsSingle before order.now after (W.held sink.old) (W.held sink.new))) }
+        (RunsSingle now before order.now after (W.held sink.old) (W.held sink.new))) }
     ensures may { Moves S.Store desk.old desk.new
-        (λ before after. OnErr result (MayDoOrder before order.now after)) }
+        (λ before after. OnErr result (MayDoOrder now before order.now after)) }
     ensures ends { Ended (λ status. IsTrue (may_end_single status)) is_of_output result }
 {
-    let printed = perform(alloc, desk, order)?;
+    let printed = perform(alloc, desk, order, now)?;
     say(sink, printed.text.as_str())?;
     Ok(status_told(printed.refused))
 }
@@ -70,14 +71,15 @@ pub fn run_lines<S: Alter, R: Source, W: Sink>(
     desk: &mut Desk<S>,
     source: &mut R,
     sink: &mut W,
+    now: u64,
 ) -> Result<Status, Failure>
     requires ready { AreUnbroken (R.broken source.old) (W.broken sink.old) }
     ensures ran { Moves S.Store desk.old desk.new
-        (λ before after. RunsScript (R.left source.old) before after
+        (λ before after. RunsScript now (R.left source.old) before after
         (W.held sink.old) (W.held sink.new) result) }
     ensures ends { IsDoneOr is_of_script result }
 {
-    run_script(alloc, desk, source, sink)?;
+    run_script(alloc, desk, source, sink, now)?;
     Ok(Status::Done)
 }
 
@@ -87,41 +89,58 @@ fn answer_request<S: Alter, R: Source, W: Sink>(
     desk: &mut Desk<S>,
     source: &mut R,
     sink: &mut W,
+    now: u64,
 ) -> Result<Status, Failure>
     requires ready { AreUnbroken (R.broken source.old) (W.broken sink.old) }
     ensures answers { Moves S.Store desk.old desk.new
-        (λ before after. RunsRequest before after (R.left source.old)
+        (λ before after. RunsRequest now before after (R.left source.old)
         (W.held sink.old) (W.held sink.new) result) }
     ensures ends { Ended (λ status. IsTrue (may_end_request status)) is_of_request result }
 {
-    answer(alloc, desk, source, sink)?;
+    answer(alloc, desk, source, sink, now)?;
     Ok(Status::Done)
 }
 
-/// Does what is ordered over a desk.
+/// Does what is ordered over a desk. `now` is the moment of a read that gives none of its own, in seconds
+/// since 1970; a server asks the clock for each of its connections.
 pub fn run_order<S: Alter, R: Source, W: Sink, E: Sink>(
     rt: &HostRuntime,
     desk: &mut Desk<S>,
     served: Served<'_>,
     order: &Order,
     streams: &mut Streams<R, W, E>,
+    now: u64,
 ) -> Result<Status, Failure>
     requires ready { AreUnbroken (R.broken streams.old.source) (W.broken streams.old.sink) }
     ensures runs { Moves S.Store desk.old desk.new
-        (λ before after. RunsOrder before order.now after
+        (λ before after. RunsOrder now before order.now after
         (R.left streams.old.source) (W.held streams.old.sink) (W.held streams.new.sink) result) }
     ensures ends { Ended (λ status. IsTrue (may_end_order order.now status))
         (is_of_order order.now) result }
     ensures tells { TellsSome E.broken E.held streams.old.errors streams.new.errors }
 {
     match order {
-        Order::Script => run_lines(rt.alloc(), desk, &mut streams.source, &mut streams.sink),
-        Order::Answer => answer_request(rt.alloc(), desk, &mut streams.source, &mut streams.sink),
+        Order::Script => run_lines(
+            rt.alloc(),
+            desk,
+            &mut streams.source,
+            &mut streams.sink,
+            now,
+        ),
+        Order::Answer => answer_request(
+            rt.alloc(),
+            desk,
+            &mut streams.source,
+            &mut streams.sink,
+            now,
+        ),
         Order::Serve { count, port, log } => {
             serve(rt, desk, served, *count, *port, *log, streams)
         }
-        Order::Act(_) | Order::Get { .. } | Order::Init { .. } => {
-            run_single(rt.alloc(), desk, order, &mut streams.sink)
-        }
+        Order::Act(_)
+        | Order::Get { .. }
+        | Order::Import { .. }
+        | Order::Init { .. }
+        | Order::Migrate { .. } => run_single(rt.alloc(), desk, order, &mut streams.sink, now),
     }
 }

@@ -12,15 +12,19 @@ ghost use Rattle.docs_host.specs.Telling.{TellsEnd};
 ghost use Rattle.docs_host.specs.Telling as telling;
 
 use crate::failure::{Failure, Status, tell, tell_usage};
+use crate::lists::{read_list_file, refuse_record};
 use crate::orders::{run_lines, run_order, say};
 use crate::serving::Served;
 use crate::streams::Streams;
 use crate::usage::{tell_help, tell_mistake};
-use dh_files::{close_desk, init_file, open_desk};
+use dh_files::{close_desk, init_file, migrate_file, open_desk};
 use dh_lines::{Line, LineFault, Order, line_of};
+use dh_lists::{ListFault, read_list};
+use dh_paths::Text;
 use dh_ports::{Sink, Source};
 use dh_sample::{answer_sample, empty_desk};
 use dh_script::is_bad_target;
+use dh_world::{Command, CommandChange, Redirects};
 use sqlite::Start;
 use std::alloc::{AllocError, Global};
 
@@ -41,6 +45,7 @@ fn run_over<S: Start, R: Source, W: Sink, E: Sink>(
     order: &Order,
     file: &str,
     streams: &mut Streams<R, W, E>,
+    now: u64,
 ) -> Result<Status, Failure>
     requires ready { AreUnbroken (R.broken streams.old.source) (W.broken streams.old.sink) }
     ensures ends { Ended (EndsOver order.now (W.held streams.old.sink) (W.held streams.new.sink))
@@ -53,7 +58,7 @@ fn run_over<S: Start, R: Source, W: Sink, E: Sink>(
     }
     let (mut desk, projects) = open_desk(rt, file, start)?;
     let served = Served { file, projects };
-    let ran = run_order(rt, &mut desk, served, order, streams);
+    let ran = run_order(rt, &mut desk, served, order, streams, now);
     let closed = close_desk(desk);
     let status = ran?;
     closed?;
@@ -65,13 +70,14 @@ fn run_in_memory<R: Source, W: Sink>(
     alloc: Global,
     source: &mut R,
     sink: &mut W,
+    now: u64,
 ) -> Result<Status, Failure>
     requires ready { AreUnbroken (R.broken source.old) (W.broken sink.old) }
-    ensures { Ended (EndsScript (R.left source.old) (W.held sink.old) (W.held sink.new))
+    ensures { Ended (EndsScript now (R.left source.old) (W.held sink.old) (W.held sink.new))
         (is_of_memory Order.Script) result }
 {
     let mut desk = empty_desk(alloc)?;
-    run_lines(alloc, &mut desk, source, sink)
+    run_lines(alloc, &mut desk, source, sink, now)
 }
 
 /// Answers the request of the input, over the sample.
@@ -79,12 +85,13 @@ fn answer_over_sample<R: Source, W: Sink>(
     alloc: Global,
     source: &mut R,
     sink: &mut W,
+    now: u64,
 ) -> Result<Status, Failure>
     requires ready { AreUnbroken (R.broken source.old) (W.broken sink.old) }
-    ensures { Ended (EndsRequest (R.left source.old) (W.held sink.old) (W.held sink.new))
+    ensures { Ended (EndsRequest now (R.left source.old) (W.held sink.old) (W.held sink.new))
         (is_of_memory Order.Answer) result }
 {
-    answer_sample(alloc, source, sink)?;
+    answer_sample(alloc, source, sink, now)?;
     Ok(Status::Done)
 }
 
@@ -96,32 +103,92 @@ fn init<S: Start>(rt: &HostRuntime, start: S, file: &str) -> Result<Status, Fail
     Ok(Status::Done)
 }
 
+/// Brings a file to the schema of this program.
+fn migrate<S: Start>(rt: &HostRuntime, start: S, file: &str) -> Result<Status, Failure>
+    ensures { IsDoneOr is_of_init result }
+{
+    migrate_file(rt, file, start)?;
+    Ok(Status::Done)
+}
+
+/// The command that adds these redirects to those of a project.
+fn import_order(alloc: Global, host: &Text, list: Redirects) -> Result<Order, AllocError>
+    ensures { IfOk result (λ order. order ≡ spec.import_order host.now list) }
+{
+    Ok(Order::Act(Command {
+        host: Text::copy_of(alloc, host.as_str())?,
+        change: CommandChange::ImportRedirects { list },
+    }))
+}
+
+/// Adds the redirects of a list's file to those of a project, over the records of a file, which is opened
+/// once the list is read.
+fn import<S: Start, R: Source, W: Sink, E: Sink>(
+    rt: &HostRuntime,
+    start: S,
+    host: &Text,
+    list: &Text,
+    file: &str,
+    streams: &mut Streams<R, W, E>,
+    now: u64,
+) -> Result<Status, Failure>
+    requires ready { AreUnbroken (R.broken streams.old.source) (W.broken streams.old.sink) }
+    ensures ends { Ended (EndsOver (Order.Import host.now list.now)
+        (W.held streams.old.sink) (W.held streams.new.sink))
+        (is_of_file (Order.Import host.now list.now)) result }
+    ensures tells { TellsSome E.broken E.held streams.old.errors streams.new.errors }
+{
+    let bytes = read_list_file(rt, list.as_str())?;
+    match read_list(rt.alloc(), bytes.as_slice()) {
+        Ok(redirects) => {
+            let order = import_order(rt.alloc(), host, redirects)?;
+            run_over(rt, start, &order, file, streams, now)
+        }
+        Err(ListFault::BadRecord(number, fault)) => {
+            refuse_record(rt.alloc(), list.as_str(), number, fault, streams)
+        }
+        Err(ListFault::Memory) => Err(Failure::Memory),
+    }
+}
+
 /// Does a line of the program.
 fn run_line<S: Start, R: Source, W: Sink, E: Sink>(
     rt: &HostRuntime,
     start: S,
     line: &Line,
     streams: &mut Streams<R, W, E>,
+    now: u64,
 ) -> Result<Status, Failure>
     requires ready { AreUnbroken (R.broken streams.old.source) (W.broken streams.old.sink) }
-    ensures ends { Ended (EndsBy line.now.store line.now.order
+    ensures ends { Ended (EndsBy now line.now.store line.now.order
         (R.left streams.old.source) (W.held streams.old.sink) (W.held streams.new.sink))
         (is_of_run line.now.store line.now.order) result }
     ensures tells { TellsSome E.broken E.held streams.old.errors streams.new.errors }
 {
     match (&line.order, &line.store) {
         (Order::Init { file }, None) => init(rt, start, file.as_str()),
-        (Order::Script, None) => run_in_memory(rt.alloc(), &mut streams.source, &mut streams.sink),
+        (Order::Migrate { file }, None) => migrate(rt, start, file.as_str()),
+        (Order::Script, None) => run_in_memory(
+            rt.alloc(),
+            &mut streams.source,
+            &mut streams.sink,
+            now,
+        ),
         (Order::Answer, None) => answer_over_sample(
             rt.alloc(),
             &mut streams.source,
             &mut streams.sink,
+            now,
         ),
-        (order, Some(file)) => run_over(rt, start, order, file.as_str(), streams),
-        (Order::Act(_) | Order::Get { .. } | Order::Serve { .. }, None) => Ok(tell_usage(
-            &mut streams.errors,
-            "which file has the records is missing: --store FILE",
-        )),
+        (Order::Import { host, list }, Some(file)) => {
+            import(rt, start, host, list, file.as_str(), streams, now)
+        }
+        (order, Some(file)) => run_over(rt, start, order, file.as_str(), streams, now),
+        (Order::Act(_) | Order::Get { .. } | Order::Import { .. } | Order::Serve { .. }, None) =>
+            Ok(tell_usage(
+                &mut streams.errors,
+                "which file has the records is missing: --store FILE",
+            )),
     }
 }
 
@@ -143,16 +210,17 @@ fn run_told<S: Start, R: Source, W: Sink, E: Sink>(
     start: S,
     line: &Line,
     streams: &mut Streams<R, W, E>,
+    now: u64,
 ) -> Status
     requires ready { AreUnbroken (R.broken streams.old.source) (W.broken streams.old.sink) }
-    ensures ends { EndsBy line.now.store line.now.order
+    ensures ends { EndsBy now line.now.store line.now.order
         (R.left streams.old.source) (W.held streams.old.sink) (W.held streams.new.sink) result }
     ensures told { TellsEnd E.broken E.held (Some line.now)
         streams.old.errors streams.new.errors result }
 {
-    match run_line(rt, start, line, streams) {
+    match run_line(rt, start, line, streams, now) {
         Ok(status) => status,
-        Err(failure) => tell(&mut streams.errors, failure, file_of(line)),
+        Err(failure) => tell(&mut streams.errors, failure, file_of(line, failure)),
     }
 }
 
@@ -162,9 +230,10 @@ fn run_words<S: Start, R: Source, W: Sink, E: Sink>(
     start: S,
     words: &[String],
     streams: &mut Streams<R, W, E>,
+    now: u64,
 ) -> Status
     requires ready { AreUnbroken (R.broken streams.old.source) (W.broken streams.old.sink) }
-    ensures ends { EndsAsked false (map string_bytes words.now)
+    ensures ends { EndsAsked now false (map string_bytes words.now)
         (R.left streams.old.source) (W.held streams.old.sink) (W.held streams.new.sink) result }
     ensures told { TellsEnd E.broken E.held (line_in (map string_bytes words.now))
         streams.old.errors streams.new.errors result }
@@ -179,17 +248,18 @@ fn run_words<S: Start, R: Source, W: Sink, E: Sink>(
         ),
         Err(LineFault::Memory) => return tell(&mut streams.errors, Failure::Memory, None),
     };
-    run_told(rt, start, &line, streams)
+    run_told(rt, start, &line, streams, now)
 }
 
-/// The file that a line names.
-fn file_of(line: &Line) -> Option<&str>
-    ensures { option_map (λ file. file.now) result ≡ telling.file_of line.now }
+/// The file that is named beside a failure: that of the list, or that of the records.
+fn file_of(line: &Line, failure: Failure) -> Option<&str>
+    ensures { option_map (λ file. file.now) result ≡ telling.file_of failure line.now }
 {
-    match (&line.order, &line.store) {
-        (Order::Init { file }, _) => Some(file.as_str()),
-        (_, Some(file)) => Some(file.as_str()),
-        (_, None) => None,
+    match (failure, &line.order, &line.store) {
+        (Failure::List(_), Order::Import { list, .. }, _) => Some(list.as_str()),
+        (_, Order::Init { file } | Order::Migrate { file }, _) => Some(file.as_str()),
+        (_, _, Some(file)) => Some(file.as_str()),
+        (_, _, None) => None,
     }
 }
 
@@ -199,16 +269,17 @@ fn run_asked<S: Start, R: Source, W: Sink, E: Sink>(
     start: S,
     words: &[String],
     streams: &mut Streams<R, W, E>,
+    now: u64,
 ) -> Status
     requires ready { AreUnbroken (R.broken streams.old.source) (W.broken streams.old.sink) }
-    ensures ends { EndsWords (map string_bytes words.now)
+    ensures ends { EndsWords now (map string_bytes words.now)
         (R.left streams.old.source) (W.held streams.old.sink) (W.held streams.new.sink) result }
     ensures told { TellsEnd E.broken E.held (line_run (map string_bytes words.now))
         streams.old.errors streams.new.errors result }
 {
     match helped(words) {
         Some(names) => tell_help(rt.alloc(), names, &mut streams.sink, &mut streams.errors),
-        None => run_words(rt, start, words, streams),
+        None => run_words(rt, start, words, streams, now),
     }
 }
 
@@ -217,18 +288,20 @@ fn run_asked<S: Start, R: Source, W: Sink, E: Sink>(
 /// 2 a mistake in the words, 3 a fault of a store, file, script, port or output, 4 a request without a whole
 /// reply.
 ///
-/// Faults are found in this order: the words, the target of a read, the file, the port, the run.
+/// Faults are found in this order: the words, the target of a read, the list, the file, the port, the run.
+/// `now` is the moment of each read that gives none of its own, in seconds since 1970; a server asks the clock.
 pub fn run_program<S: Start, R: Source, W: Sink, E: Sink>(
     rt: &HostRuntime,
     start: S,
     words: &[String],
     streams: &mut Streams<R, W, E>,
+    now: u64,
 ) -> u8
     requires ready { AreUnbroken (R.broken streams.old.source) (W.broken streams.old.sink) }
-    ensures { EndsProgram (map string_bytes words.now)
+    ensures { EndsProgram now (map string_bytes words.now)
         (R.left streams.old.source) (W.held streams.old.sink) (W.held streams.new.sink)
         (TellsEnd E.broken E.held (line_run (map string_bytes words.now))
         streams.old.errors streams.new.errors) result }
 {
-    run_asked(rt, start, words, streams).code()
+    run_asked(rt, start, words, streams, now).code()
 }

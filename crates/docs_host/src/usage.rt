@@ -14,7 +14,7 @@ use dh_ports::{Sink, put_all};
 use std::alloc::{AllocError, Global};
 
 /// The words of lines that may have some values alone, and which.
-const LIMITED: [(&str, &str); 9] = [
+const LIMITED: [(&str, &str); 11] = [
     ("privacy", "public or private"),
     ("kind", "branch or tag"),
     ("place", "a number from 1, below 4,294,967,296"),
@@ -27,6 +27,14 @@ const LIMITED: [(&str, &str); 9] = [
     ("action", "activate, hide, public, private or default"),
     ("count", "a number below 4,294,967,296"),
     ("port", "a number below 65,536"),
+    (
+        "until",
+        "seconds since 1970, below 18,446,744,073,709,551,616",
+    ),
+    (
+        "now",
+        "seconds since 1970, below 18,446,744,073,709,551,616",
+    ),
 ];
 
 /// Tells what a limited word may be, where it has another value.

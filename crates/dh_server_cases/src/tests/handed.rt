@@ -17,7 +17,7 @@ fn handed(alloc: Global, room: usize) -> Result<(Result<Done, EngineFault>, usiz
         stopped: false,
     };
     let mut sink = Joined::new(alloc, counter);
-    let done = answer_joined(alloc, &mut desk, &mut source, &mut sink);
+    let done = answer_joined(alloc, &mut desk, &mut source, &mut sink, 0);
     Ok((done, sink.inner().calls))
 }
 

@@ -33,7 +33,7 @@ fn told(rt: &HostRuntime, text: &str) -> Result<String, Fail> {
     let mut errors = Port::new(&mut out);
     let log = Log::new(Still, true);
     let mut listening = Listening::new(&listener);
-    let _ = serve_on(rt.alloc(), &mut desk, &mut listening, 1, &log, &mut errors);
+    let _ = serve_on(rt.alloc(), &mut desk, &mut listening, &mut || 0, 1, &log, &mut errors);
     drop(errors);
     let text = str::from_utf8(out.as_slice()).unwrap_or("no text");
     Ok(String::from_str(rt.alloc(), text)?)
@@ -75,8 +75,8 @@ fn full_log_does_not_stop_it(rt: &HostRuntime) -> Result<bool, Fail> {
     };
     let log = Log::new(Still, true);
     let mut listening = Listening::new(&listener);
-    let served = serve_on(rt.alloc(), &mut desk, &mut listening, 2, &log, &mut errors);
-    Ok(served == 2 && received(rt, one)?.as_str() == PAGE && received(rt, other)?.as_str() == PAGE)
+    let asked = serve_on(rt.alloc(), &mut desk, &mut listening, &mut || 0, 2, &log, &mut errors);
+    Ok(asked == 2 && received(rt, one)?.as_str() == PAGE && received(rt, other)?.as_str() == PAGE)
 }
 
 #[test]

@@ -1,7 +1,6 @@
-use Rattle.std.proofs.Common.{◌≡◌, ◌≤◌, ◌-◌, length, Err, inl, sym, ap, ap₂, subst, ◌∙◌, arith}
+use Rattle.std.proofs.Common.{◌≡◌, ◌≤◌, ◌-◌, length, sym, ap, ap₂, subst, ◌∙◌, arith}
 use Rattle.dh_world.specs.Changes.{with_new}
 use Rattle.dh_checks.specs.declared.checking.CheckedChange.TheVariants as change
-use Rattle.dh_commands.specs.Lists.{TakesIn}
 use Rattle.dh_plans.proofs.Planning.{decides_by}
 use Rattle.dh_plans.specs.Plans.{plan_imported}
 use Rattle.dh_commands.proofs.ImportPlans.{taken_in}

@@ -7,7 +7,8 @@ use Rattle.dh_redirects.specs.declared.redirect.RedirectKind.TheVariants.{HtmlTo
 use Rattle.dh_world.specs.declared.command.CommandChange.TheVariants.{DropRedirect}
 use Rattle.dh_words.specs.Words.{is_plain}
 use Rattle.dh_words.proofs.TokenLemmas.{written}
-use Rattle.dh_lines.specs.Lines.{OrdersRedirect, OrdersForced, redirect_kind_of}
+use Rattle.dh_redirects.specs.Redirects.{redirect_kind_of}
+use Rattle.dh_lines.specs.Lines.{OrdersRedirect, OrdersForced}
 use Rattle.dh_lines.specs.Lines.{change_in, access_in, redirect_change_in}
 use Rattle.dh_lines.proofs.FormLines.{redirect_line, place_line}
 use Rattle.dh_lines.proofs.laws.redirect_lines.Goals as goal

@@ -12,6 +12,6 @@ returns-in-Act-clause-may g c = record {
   moves = λ honest.
       let outcome = outcome_of c.apply.result in
       on_err c.told.result
-      (subst (λ (o : Order). MayDoOrder (world g.S.Store c.args.desk.now) o (world g.S.Store c.apply.new.self)) (sym c.in-Act.is)
+      (subst (λ (o : Order). MayDoOrder c.args.now (world g.S.Store c.args.desk.now) o (world g.S.Store c.apply.new.self)) (sym c.in-Act.is)
       (inr (text_of_outcome outcome, (is_refusal outcome, (c.apply.result, c.apply.ensures.step honest, (refl, refl))))));
 }

@@ -5,4 +5,4 @@ use Rattle.dh_script.proofs.script.own_text.Goals as goal
 
 pub returns-in_err-perform-in-None-clause-may : goal.returns-in_err-perform-in-None-clause-may
 returns-in_err-perform-in-None-clause-may g c =
-    Moves-weaker c.in_err-perform-in-None.ensures.may (λ u v may. on_err c.from_residual.result (may_line u v c.args.line.now c.in-None.is may))
+    Moves-weaker c.in_err-perform-in-None.ensures.may (λ u v may. on_err c.from_residual.result (may_line c.args.now u v c.args.line.now c.in-None.is may))

@@ -10,5 +10,5 @@ invariant-loop-words g l = record {
   fine : g.W.Sink.broken l.sink ≡ false;
   stands : StandsFor docs_app l.program;
   ran : Moves g.S.Store l.fn.desk l.desk
-      (λ before after. RunsInto before (seen (take l.words-index l.lines)) after (g.W.Sink.held l.fn.sink) (g.W.Sink.held l.sink));
+      (λ before after. RunsInto l.fn.now before (seen (take l.words-index l.lines)) after (g.W.Sink.held l.fn.sink) (g.W.Sink.held l.sink));
 }

@@ -7,5 +7,5 @@ abbrev pub invariant-loop-line : goal.invariant-loop-line
 invariant-loop-line g l = record {
   fine : g.W.Sink.broken l.sink ≡ false;
   ran : Moves g.S.Store l.fn.desk l.desk
-      (λ before after. RunsBut before (worded (map (λ x. x.now) l.yielded)) after (g.W.Sink.held l.fn.sink) (g.W.Sink.held l.sink) (seen l.batch.items));
+      (λ before after. RunsBut l.fn.now before (worded (map (λ x. x.now) l.yielded)) after (g.W.Sink.held l.fn.sink) (g.W.Sink.held l.sink) (seen l.batch.items));
 }

@@ -11,7 +11,7 @@ returns-in_err-done-clause-answers g c = record {
   moves = λ honest.
       let held = append_known (g.W.Sink.held c.args.sink.now.inner) (drop c.args.sink.now.gone c.args.sink.now.kept.items) in
       let kept = append_known (g.W.Sink.held c.answer.new.sink.inner) (drop c.answer.new.sink.gone c.answer.new.sink.kept.items) in
-      told_on (g.R.Source.left c.args.source.now) held kept (g.W.Sink.held c.answer.new.sink.inner) (world g.S.Store c.args.desk.now) (world g.S.Store c.answer.new.desk) c.in_err-done.field-0.0 c.from_residual.result c.from_residual.ensures.1 (c.in_err-done.ensures.answers.moves honest) (λ is. ap (world g.S.Store) (c.in_err-done.ensures.unread is).0);
+      told_on c.args.now (g.R.Source.left c.args.source.now) held kept (g.W.Sink.held c.answer.new.sink.inner) (world g.S.Store c.args.desk.now) (world g.S.Store c.answer.new.desk) c.in_err-done.field-0.0 c.from_residual.result c.from_residual.ensures.1 (c.in_err-done.ensures.answers.moves honest) (λ is. ap (world g.S.Store) (c.in_err-done.ensures.unread is).0);
 }
 
 pub returns-in-Ok-clause-answers : goal.returns-in-Ok-clause-answers
@@ -19,11 +19,11 @@ returns-in-Ok-clause-answers g c =
     let held = append_known (g.W.Sink.held c.args.sink.now.inner) (drop c.args.sink.now.gone c.args.sink.now.kept.items) in
     let kept = append_known (g.W.Sink.held c.answer.new.sink.inner) (drop c.answer.new.sink.gone c.answer.new.sink.kept.items) in
     Moves-weaker c.in_ok-done.ensures.answers
-    (λ u v answers. joined (g.R.Source.left c.args.source.now) held kept (g.W.Sink.held c.hand_on.new.self.inner) u v c.in_ok-done.done answers c.in-Ok.ensures.ok)
+    (λ u v answers. joined c.args.now (g.R.Source.left c.args.source.now) held kept (g.W.Sink.held c.hand_on.new.self.inner) u v c.in_ok-done.done answers c.in-Ok.ensures.ok)
 
 pub returns-in-Err-clause-answers : goal.returns-in-Err-clause-answers
 returns-in-Err-clause-answers g c =
     let held = append_known (g.W.Sink.held c.args.sink.now.inner) (drop c.args.sink.now.gone c.args.sink.now.kept.items) in
     let kept = append_known (g.W.Sink.held c.answer.new.sink.inner) (drop c.answer.new.sink.gone c.answer.new.sink.kept.items) in
     Moves-weaker c.in_ok-done.ensures.answers
-    (λ u v. cut (g.R.Source.left c.args.source.now) held kept (g.W.Sink.held c.hand_on.new.self.inner) u v c.in_ok-done.done c.in-Err.count)
+    (λ u v. cut c.args.now (g.R.Source.left c.args.source.now) held kept (g.W.Sink.held c.hand_on.new.self.inner) u v c.in_ok-done.done c.in-Err.count)

@@ -8,7 +8,7 @@ use Rattle.docs_host.proofs.program.run_asked.Goals as goal
 
 pub returns-in-Some-clause-ends : goal.returns-in-Some-clause-ends
 returns-in-Some-clause-ends g c =
-    help_asked (map string_bytes c.args.words.now) (g.R.Source.left c.args.streams.now.source) (g.W.Sink.held c.args.streams.now.sink)
+    help_asked (map string_bytes c.args.words.now) c.args.now (g.R.Source.left c.args.streams.now.source) (g.W.Sink.held c.args.streams.now.sink)
     (g.W.Sink.held c.tell_help.new.sink) c.tell_help.result (map string_bytes c.in-Some.names.now)
     c.in-Some.ensures.0 c.in-Some.ensures.1 c.tell_help.ensures.ends
 
@@ -20,7 +20,7 @@ returns-in-Some-clause-told g c =
 
 pub returns-in-None-clause-ends : goal.returns-in-None-clause-ends
 returns-in-None-clause-ends g c =
-    line_asked_for (map string_bytes c.args.words.now) (g.R.Source.left c.args.streams.now.source) (g.W.Sink.held c.args.streams.now.sink)
+    line_asked_for (map string_bytes c.args.words.now) c.args.now (g.R.Source.left c.args.streams.now.source) (g.W.Sink.held c.args.streams.now.sink)
     (g.W.Sink.held c.run_words.new.streams.sink) c.run_words.result c.in-None.ensures c.run_words.ensures.ends
 
 pub returns-in-None-clause-told : goal.returns-in-None-clause-told

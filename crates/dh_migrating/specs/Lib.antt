@@ -1,0 +1,2 @@
+pub mod OldPasses
+pub mod Converting

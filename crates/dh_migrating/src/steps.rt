@@ -1,0 +1,110 @@
+//! What makes schema 2 of schema 1, one statement after the other. A caller puts them into one transaction.
+
+ghost use Rattle.std.specs.Prelude.{◌≡◌, ◌↔◌, [], filter, not, IsTrue};
+ghost use Rattle.sqlite.specs.Effect.{Database};
+ghost use Rattle.sqlite.specs.Held.{state};
+ghost use Rattle.dh_rows.specs.Calls.{IsHonest};
+ghost use Rattle.dh_rows.specs.Keyed.{IsFreeKey, added};
+ghost use Rattle.dh_rows.specs.Places.{Keeps, records_of};
+ghost use Rattle.dh_rows.proofs.Effects.{Turns};
+ghost use Rattle.dh_records.specs.Codings.{passes};
+ghost use Rattle.dh_records.specs.Constraints.{InOrder};
+ghost use Rattle.dh_schema.specs.Tables.{meta, meta_table, pass_table};
+ghost use Rattle.dh_migrating.specs.Converting.{CanConvert, Carries, HasPasses, IsConverted, IsConvertible, IsGone, is_one};
+
+use dh_lookup::Fault;
+use dh_records::PassRow;
+use dh_rows::{change, keeps_counts};
+use sqlite::{Alter, Connection, params};
+use sqlite_schema::schema::Schema;
+
+/// Whether the table of passes can be dropped by its name alone, and tables can be made.
+pub fn can_convert(schema: &Schema) -> bool
+    ensures { IsTrue result ↔ CanConvert schema.now }
+{
+    schema.index_named(b"pass").is_none()
+        && schema.view_named(b"pass").is_none()
+        && keeps_counts(schema)
+}
+
+/// Drops the table of passes.
+fn drop_old<S: Alter>(conn: &mut Connection<S>) -> Result<(), Fault>
+    requires { IsHonest S.Store conn.old → IsConvertible (state S.Store conn.old).now }
+    ensures carries { Carries S.Store conn.old conn.new result
+        (IsGone (state S.Store conn.old).now) }
+{
+    change(conn, "DROP TABLE pass", &[])
+}
+
+/// Makes it anew, with an end for each pass.
+fn make_new<S: Alter>(conn: &mut Connection<S>) -> Result<(), Fault>
+    requires { IsHonest S.Store conn.old → (before : Database)
+        × IsGone before (state S.Store conn.old).now }
+    ensures carries { Carries S.Store conn.old conn.new result
+        (HasPasses [] (state S.Store conn.old).now) }
+{
+    change(
+        conn,
+        "CREATE TABLE pass (host TEXT NOT NULL, pass TEXT NOT NULL, until INTEGER NOT NULL, PRIMARY KEY (host, pass)) STRICT",
+        &[],
+    )
+}
+
+/// Writes a pass.
+fn write_one<S: Alter>(conn: &mut Connection<S>, row: &PassRow) -> Result<(), Fault>
+    requires keeps { IsHonest S.Store conn.old
+        → Keeps pass_table passes (state S.Store conn.old).now
+        × IsFreeKey passes.key row.now
+        (records_of passes pass_table.name (state S.Store conn.old).now) }
+    ensures carries { Carries S.Store conn.old conn.new result
+        (Turns pass_table passes (added passes.key row.now) (state S.Store conn.old).now) }
+{
+    change(conn, "INSERT INTO pass VALUES (?1, ?2, ?3)", &row.values())
+}
+
+/// Writes passes, one after the other, into a table that has none.
+fn write_each<S: Alter>(conn: &mut Connection<S>, rows: &[PassRow]) -> Result<(), Fault>
+    requires order { InOrder passes.key rows.now }
+    requires none { IsHonest S.Store conn.old → (before : Database)
+        × HasPasses [] before (state S.Store conn.old).now }
+    ensures carries { Carries S.Store conn.old conn.new result
+        (HasPasses rows.now (state S.Store conn.old).now) }
+{
+    for row in rows {
+        write_one(conn, row)?;
+    }
+    Ok(())
+}
+
+/// Takes the number of schema 1 away.
+fn unnumber<S: Alter>(conn: &mut Connection<S>) -> Result<(), Fault>
+    requires { IsHonest S.Store conn.old → Keeps meta_table meta (state S.Store conn.old).now }
+    ensures carries { Carries S.Store conn.old conn.new result
+        (Turns meta_table meta (filter (λ n. not (is_one n))) (state S.Store conn.old).now) }
+{
+    change(conn, "DELETE FROM meta WHERE schema = ?1", params![1i64])
+}
+
+/// Writes that of schema 2.
+fn number<S: Alter>(conn: &mut Connection<S>) -> Result<(), Fault>
+    requires { IsHonest S.Store conn.old → Keeps meta_table meta (state S.Store conn.old).now
+        × (records_of meta meta_table.name (state S.Store conn.old).now ≡ []) }
+    ensures carries { Carries S.Store conn.old conn.new result
+        (Turns meta_table meta (added meta.key 2) (state S.Store conn.old).now) }
+{
+    change(conn, "INSERT INTO meta VALUES (?1)", params![2i64])
+}
+
+/// Makes schema 2 of schema 1, with these passes, in the order of their keys.
+pub fn convert<S: Alter>(conn: &mut Connection<S>, rows: &[PassRow]) -> Result<(), Fault>
+    requires order { InOrder passes.key rows.now }
+    requires old { IsHonest S.Store conn.old → IsConvertible (state S.Store conn.old).now }
+    ensures carries { Carries S.Store conn.old conn.new result
+        (IsConverted rows.now (state S.Store conn.old).now) }
+{
+    drop_old(conn)?;
+    make_new(conn)?;
+    write_each(conn, rows)?;
+    unnumber(conn)?;
+    number(conn)
+}

@@ -1,0 +1,162 @@
+//! The beginning of what a source gives.
+
+ghost use Rattle.std.specs.Prelude.{◌≡◌, ◌≤◌, length, position, vec_len};
+ghost use Rattle.dh_server.specs.Lines as spec;
+
+use dh_ports::{Failed, Source};
+use std::alloc::Global;
+
+/// The most bytes that are kept: those of the longest head.
+const MOST: usize = 16_384;
+
+/// The most bytes of a line that is told.
+const MOST_TOLD: usize = 2048;
+
+/// The first bytes that came, at most 16,384, and how many came in all. Where memory is out, fewer are kept.
+#[derive(Drop)]
+pub struct Beginning {
+    bytes: Vec<u8>,
+    /// It stays at 2^64 - 1.
+    count: u64,
+    ghost few: { vec_len bytes ≤ 16384 },
+}
+
+/// Where the first line ends.
+fn line_end(bytes: &[u8]) -> Option<usize>
+    ensures { result ≡ position spec.ends_line bytes.now }
+{
+    bytes.iter().position(|b| matches!(*b, b'\r' | b'\n'))
+}
+
+/// What came up to there.
+fn line_of(bytes: &[u8]) -> &[u8]
+    ensures { result.now ≡ spec.up_to (position spec.ends_line bytes.now) bytes.now }
+{
+    match line_end(bytes) {
+        Some(at) => &bytes[..at],
+        None => bytes,
+    }
+}
+
+/// What stands behind the name, in any case, with which a line begins.
+fn behind_name<'b>(line: &'b [u8], name: &[u8]) -> Option<&'b [u8]> {
+    if line.len() < name.len() {
+        return None;
+    }
+    let (front, behind) = line.split_at(name.len());
+    if front.eq_ignore_ascii_case(name) {
+        Some(behind)
+    } else {
+        None
+    }
+}
+
+/// How many bytes of a body a line of a head announces; none where it does not say how many.
+fn announced(line: &[u8]) -> Option<u64> {
+    if behind_name(line, b"Transfer-Encoding").is_some() {
+        return None;
+    }
+    match behind_name(line, b"Content-Length") {
+        Some(value) => {
+            let number = value.strip_prefix(b":")?.trim_ascii();
+            str::from_utf8(number).ok()?.parse::<u64>().ok()
+        }
+        None => Some(0),
+    }
+}
+
+/// How many bytes a request has that begins so: its head, and the body that this announces. None where the head does not end
+/// there, or does not say it.
+fn request_size(bytes: &[u8]) -> Option<u64> {
+    let mut size: u64 = 0;
+    for line in bytes.split_inclusive(|b| *b == b'\n') {
+        let count = (line.len() as u64).saturating_add(announced(line)?);
+        size = size.saturating_add(count);
+        if matches!(line, b"\n" | b"\r\n") {
+            return Some(size);
+        }
+    }
+    None
+}
+
+impl Beginning {
+    /// Nothing yet.
+    pub fn new(alloc: Global) -> Beginning {
+        Beginning {
+            bytes: Vec::new(alloc),
+            count: 0,
+        }
+    }
+
+    /// Goes on with the bytes that came next.
+    fn keep(&mut self, came: &[u8]) {
+        if self.bytes.len() as u64 == self.count {
+            let room = MOST.saturating_sub(self.bytes.len());
+            let _ = self.bytes.extend_from_slice(&came[..came.len().min(room)]);
+        }
+        self.count = self.count.saturating_add(came.len() as u64);
+    }
+
+    /// The first line, without its end and as far as it came, and no more of it than 2,048 bytes.
+    pub fn first_line(&self) -> &[u8]
+        ensures line { result.now ≡ spec.first_line self.now.bytes.items }
+        ensures few { length result.now ≤ 2048 }
+    {
+        let line = line_of(self.bytes.as_slice());
+        &line[..MOST_TOLD.min(line.len())]
+    }
+
+    /// Whether just one request came: its head, the body that this announces, and nothing behind it. Where a head is not read as
+    /// this says, or is no head, it did not.
+    pub fn is_whole(&self) -> bool {
+        request_size(self.bytes.as_slice()) == Some(self.count)
+    }
+}
+
+/// A source, and the beginning of what came from it.
+#[derive(Drop)]
+pub struct Heard<R> {
+    inner: R,
+    beginning: Beginning,
+}
+
+impl<R> Heard<R> {
+    /// Nothing heard yet.
+    pub fn new(alloc: Global, inner: R) -> Heard<R>
+        ensures { result.inner ≡ inner }
+    {
+        Heard {
+            inner,
+            beginning: Beginning::new(alloc),
+        }
+    }
+
+    /// What came so far.
+    pub fn beginning(&self) -> &Beginning
+        ensures { result.now ≡ self.now.beginning }
+    {
+        &self.beginning
+    }
+}
+
+impl<R: Source> Source for Heard<R> {
+    ghost left = { λ heard. R.left heard.inner };
+
+    ghost broken = { λ heard. R.broken heard.inner };
+
+    ghost fills = { λ heard. R.fills heard.inner };
+
+    fn fill(&mut self, room: &mut [u8]) -> Result<usize, Failed> {
+        match self.inner.fill(room) {
+            Ok(count) => {
+                self.beginning.keep(&room[..count]);
+                Ok(count)
+            }
+            Err(fault) => Err(fault),
+        }
+    }
+
+    fn failed(&self) -> bool {
+        self.inner.failed()
+    }
+}

@@ -1,0 +1,122 @@
+//! Lists of redirects in files.
+
+ghost use Rattle.std.specs.Prelude.{◌≡◌, IfErr, IsTrue};
+ghost use Rattle.dh_server.specs.Telling.{TellsSome};
+ghost use Rattle.docs_host.specs.Ends.{Ended, may_end_single};
+ghost use Rattle.docs_host.specs.Failing.{may_fail, is_of_list, is_of_output};
+ghost use Rattle.docs_host.specs.Failures.{list_name};
+
+use crate::failure::{Failure, Status, put};
+use crate::orders::say;
+use crate::streams::Streams;
+use dh_lists::RecordFault;
+use dh_ports::{Intake, Port, Sink, Source, Stop};
+use std::alloc::Global;
+use std::fs::File;
+use std::io;
+
+/// The most bytes of a list.
+const MOST_BYTES: usize = 1_048_576;
+
+/// Why the file of a list was not read.
+#[derive(Clone, Copy, Debug, PartialEq, Eq)]
+pub enum ListFileFault {
+    /// There is none of this name.
+    Missing,
+    /// It may not be read.
+    Forbidden,
+    /// It cannot be opened, or a read failed.
+    Unread,
+    /// It has more than 1,048,576 bytes.
+    TooLong,
+}
+
+impl ListFileFault {
+    /// The name that programs read.
+    pub fn name(self) -> &'static str
+        ensures { result.now ≡ list_name self }
+    {
+        match self {
+            ListFileFault::Missing | ListFileFault::Forbidden | ListFileFault::Unread => "Read",
+            ListFileFault::TooLong => "TooLong",
+        }
+    }
+
+    /// What is wrong, as the end of a sentence that begins with the file's name.
+    pub fn cause(self) -> &'static str {
+        match self {
+            ListFileFault::Missing => "there is no such list",
+            ListFileFault::Forbidden => "this list may not be read by this user",
+            ListFileFault::Unread => "this list cannot be read",
+            ListFileFault::TooLong => "this list has more than 1,048,576 bytes",
+        }
+    }
+}
+
+fn open_failure(error: &io::Error) -> Failure
+    ensures { IsTrue (may_fail is_of_list result) }
+{
+    match error.kind() {
+        io::ErrorKind::NotFound => Failure::List(ListFileFault::Missing),
+        io::ErrorKind::PermissionDenied => Failure::List(ListFileFault::Forbidden),
+        io::ErrorKind::OutOfMemory => Failure::Memory,
+        _ => Failure::List(ListFileFault::Unread),
+    }
+}
+
+fn read_failure(stop: Stop) -> Failure
+    ensures { IsTrue (may_fail is_of_list result) }
+{
+    match stop {
+        Stop::Read | Stop::TooManyTurns => Failure::List(ListFileFault::Unread),
+        Stop::Memory => Failure::Memory,
+    }
+}
+
+/// All bytes of a source, of which at most 4,096 more are asked for than a list may have: the length that
+/// the system tells of a file is no promise.
+fn read_whole<R: Source>(alloc: Global, source: &mut R) -> Result<Vec<u8>, Failure>
+    requires { R.broken source.old ≡ false }
+    ensures { IfErr result (λ failure. IsTrue (may_fail is_of_list failure)) }
+{
+    let mut intake = Intake::new(alloc);
+    'pieces: loop {
+        match intake.more(source) {
+            Ok(true) => {}
+            Ok(false) => return Ok(intake.into_bytes()),
+            Err(stop) => return Err(read_failure(stop)),
+        }
+        if intake.bytes.len() > MOST_BYTES {
+            return Err(Failure::List(ListFileFault::TooLong));
+        }
+    }
+}
+
+/// The bytes of a list's file, at most 1,048,576.
+pub fn read_list_file(rt: &HostRuntime, path: &str) -> Result<Vec<u8>, Failure>
+    ensures { IfErr result (λ failure. IsTrue (may_fail is_of_list failure)) }
+{
+    match File::open(rt, path) {
+        Ok(file) => read_whole(rt.alloc(), &mut Port::new(file)),
+        Err(error) => Err(open_failure(&error)),
+    }
+}
+
+/// Says which record of a list writes no redirect, and tells why.
+pub fn refuse_record<R: Source, W: Sink, E: Sink>(
+    alloc: Global,
+    list: &str,
+    number: usize,
+    fault: RecordFault,
+    streams: &mut Streams<R, W, E>,
+) -> Result<Status, Failure>
+    requires { W.broken streams.old.sink ≡ false }
+    ensures ends { Ended (λ status. IsTrue (may_end_single status)) is_of_output result }
+    ensures tells { TellsSome E.broken E.held streams.old.errors streams.new.errors }
+{
+    let text = format!(in alloc; "bad record {number}")?;
+    say(&mut streams.sink, text.as_str())?;
+    let sentence = format!(in alloc; "docs_host: {list}: record {number}: {fault}\n")?;
+    put(&mut streams.errors, sentence.as_str());
+    Ok(Status::Refused)
+}
