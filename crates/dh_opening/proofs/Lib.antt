@@ -4,3 +4,4 @@ pub mod Looks
 pub mod Telling
 pub mod Spelling
 pub mod OpenLemmas
+pub mod MigrateLemmas

@@ -7,13 +7,16 @@ use Rattle.dh_rows.specs.Calls.{IsHonest, IsSame, Keep, Lasts, committed, seen, 
 use Rattle.dh_records.specs.Constraints.{AreInOrder, KeepsConstraints}
 use Rattle.dh_schema.specs.Tables.{Holds, lists_of}
 use Rattle.dh_opening.specs.declared.fault.TablesFault.{TablesFault}
-use Rattle.dh_opening.specs.declared.fault.TablesFault.TheVariants.{NotOurs}
-use Rattle.dh_opening.specs.Opening.{IsOurs, OnNotOurs}
+use Rattle.dh_opening.specs.declared.fault.TablesFault.TheVariants.{NotOurs, OldSchema}
+use Rattle.dh_opening.specs.Opening.{IsOurs, OnNotOurs, OnOldSchema}
 use Rattle.dh_store.proofs.OrderLemmas.{in_order}
 
 -- what is said of a refusal that is this one
 pub on_not_ours : (T P : Type 0) (fault : TablesFault) → OnNotOurs {T = T} (Err fault) P → fault ≡ NotOurs → P
 on_not_ours T P fault it is = subst (λ (e : TablesFault). OnNotOurs {T = T} (Err e) P) is it
+
+pub on_old_schema : (T P : Type 0) (fault : TablesFault) → OnOldSchema {T = T} (Err fault) P → fault ≡ OldSchema → P
+on_old_schema T P fault it is = subst (λ (e : TablesFault). OnOldSchema {T = T} (Err e) P) is it
 
 -- ---- a check that was passed, of a connection whose limit on steps was cleared before
 

@@ -1,6 +1,5 @@
 -- From what two queries of a table answer to what the table is.
-use Rattle.std.proofs.Common.{◌≡◌, ℕ, List, Option, None, Some, IsSome, sym, subst, true≢false}
-use Rattle.std.specs.List.{AllByRecursion}
+use Rattle.std.proofs.Common.{◌≡◌, ℕ, List, [], ◌∷◌, Option, None, Some, IsSome, sym, subst, true≢false}
 use Rattle.sqlite_value.specs.Order.{Row}
 use Rattle.sqlite_schema.specs.declared.schema.Table.{Table}
 use Rattle.sqlite.specs.State.{State}
@@ -8,8 +7,7 @@ use Rattle.dh_rows.specs.Keyed.{Coding}
 use Rattle.dh_rows.specs.Shapes.{StandsAlone}
 use Rattle.dh_rows.specs.Whole.{Spells}
 use Rattle.dh_rows.proofs.Whole.{AreTextsOf, IsCodingOf, Asks, asks_ids, asks_all, spelled, spells}
-use Rattle.dh_schema.specs.Making.{our_tables}
-use Rattle.dh_opening.specs.Opening.{Answers, AreTold, IsLaid, IsWhole, StandFor}
+use Rattle.dh_opening.specs.Opening.{Answers, AreLaid, AreTold, IsWhole, StandFor}
 
 -- a query that only a limit on steps refuses is refused by none
 as_whole : (s : State) (text : List ℕ) → s.step_limit ≡ None → Asks s text → IsWhole s text
@@ -19,9 +17,9 @@ as_whole s text unlimited it = record { look = it.look; fits = λ unfit. never s
     never None e it = true≢false (sym it)
     never (Some n) e it = absurd (cc)
 
-module _ {t : Table} {ids rows order : List ℕ} (reads : AreTextsOf t ids rows order) (ours : (P : Table → Type 0) → AllByRecursion P our_tables → P t) (s : State) (laid : IsLaid s) where
+module _ {t : Table} {ids rows order : List ℕ} (reads : AreTextsOf t ids rows order) (s : State) (laid : AreLaid (t ∷ []) s) where
   stands : StandsAlone s.now.schema t
-  stands = ours (StandsAlone s.now.schema) laid.alone
+  stands = laid.alone.0
 
   pub whole_ids : IsWhole s ids
   whole_ids = as_whole s ids laid.unlimited (asks_ids reads s stands.stands)

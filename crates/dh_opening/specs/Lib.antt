@@ -1,3 +1,4 @@
 pub mod Rows
 pub mod Readings
 pub mod Opening
+pub mod Migrating

@@ -1,5 +1,5 @@
 -- What an open of the tables finds.
-use Rattle.std.specs.Prelude.{◌≡◌, ℕ, None, List, [], ◌∷◌, codes, map, Result, Err, IfOk, ⊤}
+use Rattle.std.specs.Prelude.{◌≡◌, ℕ, ◌<◌, ◌^◌, Bool, true, false, None, List, [], ◌∷◌, codes, map, Result, Err, IfOk, ⊤}
 use Rattle.std.specs.List.{AllByRecursion}
 use Rattle.std.specs.declared.cmp.Ordering.TheVariants.{Less}
 use Rattle.sqlite_value.specs.Order.{Row}
@@ -17,12 +17,13 @@ use Rattle.dh_rows.specs.Whole.{Spells}
 use Rattle.dh_records.specs.Codings as coding
 use Rattle.dh_records.specs.Constraints.{KeepsConstraints}
 use Rattle.dh_records.specs.Lists.{Lists}
-use Rattle.dh_records.specs.Typed.{IsProject, IsLanguage, IsVersion, IsPage, IsUsed, IsPick, IsPass, IsHeld, IsRule, IsRedirect}
-use Rattle.dh_schema.specs.Tables.{Holds, lists_of, meta}
+use Rattle.dh_records.specs.Typed.{IsProject, IsLanguage, IsVersion, IsPage, IsUsed, IsPick, IsHeld, IsRule, IsRedirect}
+use Rattle.sqlite_schema.specs.declared.schema.Table.{Table}
+use Rattle.dh_schema.specs.Tables.{Holds, lists_of, meta, meta_table, rule_table, redirect_table, project_table, lang_table, version_table, page_table, used_table, pick_table, holds_table}
 use Rattle.dh_schema.specs.Making.{our_tables}
 use Rattle.dh_faults.specs.declared.fault.Fault.TheVariants as fault
 use Rattle.dh_opening.specs.declared.fault.TablesFault.{TablesFault}
-use Rattle.dh_opening.specs.declared.fault.TablesFault.TheVariants.{NotOurs, Failed}
+use Rattle.dh_opening.specs.declared.fault.TablesFault.TheVariants.{NotOurs, OldSchema, Failed}
 
 -- ---- records
 
@@ -51,12 +52,17 @@ module _ {X : Type 0} (c : Coding X) (IsTyped : X → Type 0) where
 
 -- ---- databases
 
--- the schema's number is 1
-pub record IsNumbered (db : Database) : Type 0 where
-  pub rows : IsTableOf meta (rows_of db (codes "meta"))
-  pub number : records_of meta (codes "meta") db ≡ 1 ∷ []
+-- the number of the schema is this one, in a table that stands alone
+pub record IsNumbered (db : Database) (number : ℕ) : Type 0 where
+  pub alone : StandsAlone db.schema meta_table
+  pub stands : StandFor meta (λ n. n < 2 ^ 32) (codes "meta") db (number ∷ [])
 
--- The rows of all tables stand for these records.
+-- our tables but those of the number and of passes, in the order in which they are made
+abbrev pub other_tables : List Table
+other_tables =
+    rule_table ∷ redirect_table ∷ project_table ∷ lang_table ∷ version_table ∷ page_table ∷ used_table ∷ pick_table ∷ holds_table ∷ []
+
+-- The rows of these stand for these records. Nothing is said of passes.
 pub record AreSpelled (db : Database) (l : Lists) : Type 0 where
   pub projects : StandFor coding.projects IsProject (codes "project") db l.projects
   pub langs : StandFor coding.langs IsLanguage (codes "lang") db l.langs
@@ -64,10 +70,14 @@ pub record AreSpelled (db : Database) (l : Lists) : Type 0 where
   pub pages : StandFor coding.pages IsPage (codes "page") db l.pages
   pub used : StandFor coding.used IsUsed (codes "used") db l.used
   pub picks : StandFor coding.picks IsPick (codes "pick") db l.picks
-  pub passes : StandFor coding.passes IsPass (codes "pass") db l.passes
   pub held : StandFor coding.held IsHeld (codes "holds") db l.held
   pub rules : StandFor coding.rules IsRule (codes "rule") db l.rules
   pub redirects : StandFor coding.redirects IsRedirect (codes "redirect") db l.redirects
+
+-- These are their records, and keep the constraints.
+pub record AreKeptIn (db : Database) (l : Lists) : Type 0 where
+  pub spelled : AreSpelled db l
+  pub keeps : KeepsConstraints l
 
 -- Our tables stand alone, their rows stand for records, and these keep the constraints.
 pub record IsOurs (db : Database) : Type 0 where
@@ -75,10 +85,15 @@ pub record IsOurs (db : Database) : Type 0 where
   pub holds : Holds db
   pub keeps : KeepsConstraints (lists_of db)
 
--- Our tables stand in a sound database, and no statement's steps are limited.
-pub record IsLaid (s : State) : Type 0 where
+-- What is known of a database whose number is that of this program, or else of schema 1.
+abbrev pub IsKnown : Bool → Database → Type 0
+IsKnown true db = IsOurs db
+IsKnown false db = IsNumbered db 1
+
+-- Tables stand alone in a sound database, and no statement's steps are limited.
+pub record AreLaid (tables : List Table) (s : State) : Type 0 where
   pub sound : IsDatabase s.now
-  pub alone : AllByRecursion (StandsAlone s.now.schema) our_tables
+  pub alone : AllByRecursion (StandsAlone s.now.schema) tables
   pub unlimited : s.step_limit ≡ None
 
 -- the rows are what the query answers
@@ -97,6 +112,11 @@ abbrev pub OnNotOurs : {T : Type 0} → Result T TablesFault → Type 0 → Type
 OnNotOurs (Err NotOurs) P = P
 OnNotOurs _ P = ⊤
 
+-- the fact, if the answer is that the tables are of schema 1
+abbrev pub OnOldSchema : {T : Type 0} → Result T TablesFault → Type 0 → Type 0
+OnOldSchema (Err OldSchema) P = P
+OnOldSchema _ P = ⊤
+
 -- the fact, if the answer is that the store failed
 abbrev pub OnFailed : {T : Type 0} → Result T TablesFault → Type 0 → Type 0
 OnFailed (Err (Failed fault.Store)) P = P
@@ -110,6 +130,8 @@ module _ {S : Type 0} (g : Ghosts S) (old new : Held S) {T : Type 0} (result : R
     pub same : Stays g whole old new result
     pub err : Refuses g whole old new result
     pub found : HasCleanDisk (state g new) → IfOk result (λ x. IsHonest g old × P (state g old).now x)
-    pub ours : HasCleanDisk (state g new) → OnNotOurs result (IsHonest g old × N (state g old).now)
+    pub ours : HasCleanDisk (state g new) → OnNotOurs result (N (state g old).now)
+    -- it does not say that the tables are of schema 1
+    pub current : OnOldSchema result ⊥
     -- `Store` is told for a fault of the store alone
     pub told : HasCleanDisk (state g new) → OnFailed result (IsBlamed g old new)

@@ -5,6 +5,7 @@ use Rattle.dh_rows.proofs.Whole.{AreTextsOf, IsCodingOf}
 use Rattle.dh_records.specs.Codings.{projects, langs, versions, pages, used, picks, passes, held, rules, redirects}
 use Rattle.dh_schema.specs.Tables.{meta, meta_table, project_table, lang_table, version_table, page_table, used_table, pick_table, pass_table, holds_table, rule_table, redirect_table}
 use Rattle.dh_schema.specs.ColumnLemmas as columns
+use Rattle.dh_migrating.specs.OldPasses.{old_pass_table, old_passes}
 
 -- ---- project
 
@@ -102,7 +103,7 @@ abbrev pub pass_ids : List ℕ
 pass_ids = codes "SELECT rowid FROM pass ORDER BY rowid"
 
 abbrev pub pass_rows : List ℕ
-pass_rows = codes "SELECT host, pass FROM pass ORDER BY host, pass"
+pass_rows = codes "SELECT host, pass, until FROM pass ORDER BY host, pass"
 
 pub pass_reads : AreTextsOf pass_table pass_ids pass_rows (0 ∷ 1 ∷ [])
 unfolding everything
@@ -110,6 +111,18 @@ pass_reads = record { simple = columns.pass_simple; plain = columns.pass_plain; 
 
 pub pass_suits : IsCodingOf pass_table passes (0 ∷ 1 ∷ [])
 pass_suits = record { back = columns.pass_back; wide = λ x. refl; full = λ x. refl; keys = λ x. refl; sorts = λ x y. refl }
+
+-- ---- pass, of schema 1
+
+abbrev pub old_pass_rows : List ℕ
+old_pass_rows = codes "SELECT host, pass FROM pass ORDER BY host, pass"
+
+pub old_pass_reads : AreTextsOf old_pass_table pass_ids old_pass_rows (0 ∷ 1 ∷ [])
+unfolding everything
+old_pass_reads = record { simple = refl; plain = ((refl, refl), ((refl, refl), tt)); ids_read = refl; all_read = refl }
+
+pub old_pass_suits : IsCodingOf old_pass_table old_passes (0 ∷ 1 ∷ [])
+old_pass_suits = record { back = λ x n. refl; wide = λ x. refl; full = λ x. refl; keys = λ x. refl; sorts = λ x y. refl }
 
 -- ---- holds
 

@@ -16,6 +16,9 @@ pub enum TablesFault {
     /// The tables cannot be made, or are not as they are made, or their rows break a constraint.
     #[error("the tables are not ours")]
     NotOurs,
+    /// The number says that the tables are of schema 1.
+    #[error("the tables are of schema 1")]
+    OldSchema,
 }
 
 impl From<AllocError> for TablesFault {
@@ -23,5 +26,13 @@ impl From<AllocError> for TablesFault {
 
     fn from(_error: AllocError) -> TablesFault {
         TablesFault::Failed(Fault::Memory)
+    }
+}
+
+impl From<Fault> for TablesFault {
+    ghost from_gives = { λ fault told. told ≡ Failed fault };
+
+    fn from(fault: Fault) -> TablesFault {
+        TablesFault::Failed(fault)
     }
 }

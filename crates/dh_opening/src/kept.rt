@@ -1,10 +1,8 @@
 //! Records as their rows keep them: read, and found to be no other's.
 
 ghost use Rattle.std.specs.Prelude.{◌≡◌, ◌↔◌, ◌<◌, ◌^◌, ℕ, List, [], ◌∷◌, None, IfOk, IfSome, IsTrue};
-ghost use Rattle.std.specs.List.{AllByRecursion};
 ghost use Rattle.sqlite_schema.specs.declared.schema.Table.{Table};
 ghost use Rattle.dh_rows.proofs.Whole.{AreTextsOf, IsCodingOf};
-ghost use Rattle.dh_schema.specs.Making.{our_tables};
 ghost use Rattle.dh_schema.specs.Tables as spec;
 ghost use Rattle.dh_opening.specs.Readings as readings;
 ghost use Rattle.dh_rows.specs.Keyed.{Coding};
@@ -44,12 +42,10 @@ pub trait Kept: Record {
     // How it is kept in its columns, once more.
     ghost kept: { Coding Self };
 
-    // The texts are such queries, records of this kind are rows of the table, and it is one of ours.
+    // The texts are such queries, and records of this kind are rows of the table.
     ghost reads: { AreTextsOf table ids rows order };
 
     ghost suits: { IsCodingOf table kept order };
-
-    ghost ours: { (P : Table → Type 0) → AllByRecursion P our_tables → P table };
 
     /// A query of the rowids, in their order.
     fn ids() -> &'static str
@@ -86,8 +82,6 @@ impl Kept for ProjectRow {
 
     ghost suits = { readings.project_suits };
 
-    ghost ours = { λ P all. all.1.1.1.0 };
-
     fn ids() -> &'static str {
         "SELECT rowid FROM project ORDER BY rowid"
     }
@@ -119,8 +113,6 @@ impl Kept for VersionRow {
     ghost reads = { readings.version_reads };
 
     ghost suits = { readings.version_suits };
-
-    ghost ours = { λ P all. all.1.1.1.1.1.0 };
 
     fn ids() -> &'static str {
         "SELECT rowid FROM version ORDER BY rowid"
@@ -154,8 +146,6 @@ impl Kept for PageRow {
 
     ghost suits = { readings.page_suits };
 
-    ghost ours = { λ P all. all.1.1.1.1.1.1.0 };
-
     fn ids() -> &'static str {
         "SELECT rowid FROM page ORDER BY rowid"
     }
@@ -188,14 +178,12 @@ impl Kept for PassRow {
 
     ghost suits = { readings.pass_suits };
 
-    ghost ours = { λ P all. all.1.1.1.1.1.1.1.1.1.0 };
-
     fn ids() -> &'static str {
         "SELECT rowid FROM pass ORDER BY rowid"
     }
 
     fn rows() -> &'static str {
-        "SELECT host, pass FROM pass ORDER BY host, pass"
+        "SELECT host, pass, until FROM pass ORDER BY host, pass"
     }
 
     fn key() -> &'static [usize] {
@@ -221,8 +209,6 @@ impl Kept for HeldRow {
     ghost reads = { readings.holds_reads };
 
     ghost suits = { readings.holds_suits };
-
-    ghost ours = { λ P all. all.1.1.1.1.1.1.1.1.1.1.0 };
 
     fn ids() -> &'static str {
         "SELECT rowid FROM holds ORDER BY rowid"
@@ -256,8 +242,6 @@ impl Kept for LangRow {
 
     ghost suits = { readings.lang_suits };
 
-    ghost ours = { λ P all. all.1.1.1.1.0 };
-
     fn ids() -> &'static str {
         "SELECT rowid FROM lang ORDER BY rowid"
     }
@@ -289,8 +273,6 @@ impl Kept for RedirectRow {
     ghost reads = { readings.redirect_reads };
 
     ghost suits = { readings.redirect_suits };
-
-    ghost ours = { λ P all. all.1.1.0 };
 
     fn ids() -> &'static str {
         "SELECT rowid FROM redirect ORDER BY rowid"
@@ -337,8 +319,6 @@ impl Kept for UsedRow {
 
     ghost suits = { readings.used_suits };
 
-    ghost ours = { λ P all. all.1.1.1.1.1.1.1.0 };
-
     fn ids() -> &'static str {
         "SELECT rowid FROM used ORDER BY rowid"
     }
@@ -384,8 +364,6 @@ impl Kept for PickRow {
 
     ghost suits = { readings.pick_suits };
 
-    ghost ours = { λ P all. all.1.1.1.1.1.1.1.1.0 };
-
     fn ids() -> &'static str {
         "SELECT rowid FROM pick ORDER BY rowid"
     }
@@ -428,8 +406,6 @@ impl Kept for RuleRow {
     ghost reads = { readings.rule_reads };
 
     ghost suits = { readings.rule_suits };
-
-    ghost ours = { λ P all. all.1.0 };
 
     fn ids() -> &'static str {
         "SELECT rowid FROM rule ORDER BY rowid"

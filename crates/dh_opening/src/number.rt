@@ -55,8 +55,6 @@ impl Kept for Number {
 
     ghost suits = { readings.meta_suits };
 
-    ghost ours = { λ P all. all.0 };
-
     fn ids() -> &'static str {
         "SELECT rowid FROM meta ORDER BY rowid"
     }

@@ -1,55 +1,82 @@
 //! Our tables in a database: made where there is none of them, and opened where they stand.
 
-ghost use Rattle.std.specs.Prelude.{◌≡◌, ◌≢◌, false, None, IfErr, IfOk, IsTrue, OnOk};
+ghost use Rattle.std.specs.Prelude.{◌≡◌, ◌≢◌, false, None, IfErr, IfOk, IsTrue};
 ghost use Rattle.sqlite.specs.Held.{state};
 ghost use Rattle.sqlite.specs.State.{HasCleanDisk};
-ghost use Rattle.dh_rows.specs.Calls.{IsBlamed, IsHonest, LeavesCommitted, LeavesNoMore, OnlyLooks, committed, seen};
-ghost use Rattle.dh_records.specs.Constraints.{AreInOrder, KeepsConstraints};
+ghost use Rattle.dh_rows.specs.Calls.{AreOurs, IsBlamed, IsHonest, LeavesCommitted, LeavesNoMore, committed, seen};
+ghost use Rattle.dh_records.specs.Codings as coding;
+ghost use Rattle.dh_records.specs.Constraints.{AreInOrder, InOrder, KeepsConstraints};
+ghost use Rattle.dh_records.specs.Lists.{Lists};
 ghost use Rattle.dh_schema.specs.Making.{CanMake, CommitsNothing, no_lists};
-ghost use Rattle.dh_schema.specs.Tables.{lists_of};
-ghost use Rattle.dh_opening.specs.Opening.{IsLaid, IsOurs, OnFailed, OnNotOurs, Opens};
+ghost use Rattle.dh_schema.specs.Tables.{Holds, lists_of};
+ghost use Rattle.dh_constraints.specs.Lists.{lists_in};
+ghost use Rattle.dh_opening.specs.Opening.{AreKeptIn, AreLaid, IsKnown, IsNumbered, IsOurs, Opens, other_tables};
 
 use crate::fault::TablesFault;
 use crate::shapes::are_ours;
-use crate::tables::{all_records, check_number};
-use dh_constraints::keep_constraints;
+use crate::tables::{all_records, number_of, read_table};
+use dh_constraints::{Records, keep_constraints};
 use dh_lookup::Fault;
+use dh_records::PassRow;
 use dh_schema::{can_make, make_at_once};
 use dh_store::Tables;
 use sqlite::{Alter, Connection};
 use std::alloc::Global;
 
-/// Whether the records of all tables keep the constraints.
-fn check_records<S: Alter>(conn: &mut Connection<S>, alloc: Global) -> Result<(), TablesFault>
-    requires laid { IsHonest S.Store conn.old → IsLaid (state S.Store conn.old) }
+/// The records of all tables, of which the passes were read before, where they keep the constraints.
+pub(crate) fn kept_records<S: Alter>(
+    conn: &mut Connection<S>,
+    alloc: Global,
+    passes: Vec<PassRow>,
+) -> Result<Records, TablesFault>
+    requires laid { IsHonest S.Store conn.old → AreLaid other_tables (state S.Store conn.old) }
+    requires order { InOrder coding.passes.key passes.items }
     ensures opens { Opens S.Store conn.old conn.new result
-        (λ db _. IsOurs db) (λ db. ¬ IsOurs db) }
+        (λ db records. AreKeptIn db (lists_in records))
+        (λ db. (l : Lists) → l.passes ≡ passes.items → ¬ AreKeptIn db l) }
+    ensures passes { IfOk result (λ records. (lists_in records).passes ≡ passes.items) }
 {
-    check_number(conn, alloc)?;
-    let records = all_records(conn, alloc)?;
+    let records = all_records(conn, alloc, passes)?;
     if keep_constraints(alloc, &records)? {
-        Ok(())
+        Ok(records)
     } else {
         Err(TablesFault::NotOurs)
     }
 }
 
-/// Whether a database is ours: the tables as they are made and nothing of others on them, the number of the schema, and rows
-/// that spell records which keep the constraints. It changes nothing.
-fn check<S: Alter>(conn: &mut Connection<S>, alloc: Global) -> Result<(), TablesFault>
+/// Whether tables of schema 2 are ours.
+fn check_tables<S: Alter>(conn: &mut Connection<S>, alloc: Global) -> Result<(), TablesFault>
     requires unlimited { conn.old.step_limit ≡ None }
-    ensures looks { OnlyLooks S.Store conn.old conn.new result }
-    ensures ok { HasCleanDisk (state S.Store conn.new)
-        → OnOk result (IsOurs (state S.Store conn.old).now) }
-    ensures ours { HasCleanDisk (state S.Store conn.new)
-        → OnNotOurs result (¬ IsOurs (state S.Store conn.old).now) }
-    ensures told { HasCleanDisk (state S.Store conn.new)
-        → OnFailed result (IsBlamed S.Store conn.old conn.new) }
+    ensures opens { Opens S.Store conn.old conn.new result
+        (λ db _. IsNumbered db 2 → IsOurs db) (λ db. ¬ IsOurs db) }
 {
     if !are_ours(conn.schema()) {
         return Err(TablesFault::NotOurs);
     }
-    check_records(conn, alloc)
+    let passes = read_table(conn, alloc)?;
+    kept_records(conn, alloc, passes)?;
+    Ok(())
+}
+
+/// Whether a database is ours: the number of the schema, the tables as they are made and nothing of others on them, and rows
+/// that spell records which keep the constraints. Where the number is 1 it is not, and nothing else is looked at. It changes
+/// nothing.
+pub(crate) fn is_current<S: Alter>(
+    conn: &mut Connection<S>,
+    alloc: Global,
+) -> Result<bool, TablesFault>
+    requires unlimited { conn.old.step_limit ≡ None }
+    ensures opens { Opens S.Store conn.old conn.new result
+        (λ db is_current. IsKnown is_current db) (λ db. ¬ IsOurs db × ¬ IsNumbered db 1) }
+{
+    match number_of(conn, alloc)? {
+        1 => Ok(false),
+        2 => {
+            check_tables(conn, alloc)?;
+            Ok(true)
+        }
+        _ => Err(TablesFault::NotOurs),
+    }
 }
 
 /// Makes the tables, in a transaction of their own. A connection that is handed back may still be in it. The limit on
@@ -82,7 +109,7 @@ pub fn create<S: Alter>(conn: Connection<S>) -> Result<Tables<S>, (TablesFault, 
 }
 
 /// That outside a transaction what is seen was committed. It does nothing.
-fn show_settled<S: Alter>(conn: &Connection<S>)
+pub(crate) fn show_settled<S: Alter>(conn: &Connection<S>)
     requires { conn.now.in_transaction ≡ false }
     ensures { IsTrue (state S.Store conn.now).is_open
         → (state S.Store conn.now).now ≡ (state S.Store conn.now).committed }
@@ -90,9 +117,17 @@ fn show_settled<S: Alter>(conn: &Connection<S>)
     let _ = conn.is_autocommit();
 }
 
+/// Tables that were found ours, or brought up: `open` and `migrate` end in it.
+pub(crate) fn finish<S: Alter>(conn: Connection<S>) -> Tables<S>
+    requires ours { AreOurs Holds (state S.Store conn) }
+    ensures { result ≡ conn }
+{
+    Tables::over(conn)
+}
+
 /// Opens the tables that stand in a database, of a connection that is in no transaction: as they are made and nothing of
 /// others on them, with rows that spell records which keep the constraints. They spell what they spelt. It reads each
-/// table whole. The limit on a statement's steps is cleared, also of a connection that is handed back.
+/// table whole. Where the number says schema 1 it looks at nothing else. The limit on a statement's steps is cleared, also of a connection that is handed back.
 pub fn open<S: Alter>(
     alloc: Global,
     conn: Connection<S>,
@@ -110,7 +145,10 @@ pub fn open<S: Alter>(
     ensures left { IfOk result (λ t. IsHonest S.Store t → LeavesCommitted S.Store lists_of t) }
     ensures quiet { IfOk result (λ t. IsHonest S.Store conn → LeavesNoMore S.Store conn t) }
     ensures ours { IfErr result (λ e. HasCleanDisk (state S.Store e.1)
-        → e.0 ≡ TablesFault.NotOurs → ¬ IsOurs (state S.Store conn).now) }
+        → e.0 ≡ TablesFault.NotOurs
+        → ¬ IsOurs (state S.Store conn).now × ¬ IsNumbered (state S.Store conn).now 1) }
+    ensures old { IfErr result (λ e. HasCleanDisk (state S.Store e.1)
+        → e.0 ≡ TablesFault.OldSchema → IsNumbered (state S.Store conn).now 1) }
     ensures told { IfErr result (λ e. HasCleanDisk (state S.Store e.1)
         → e.0 ≡ TablesFault.Failed Fault.Store → IsBlamed S.Store conn e.1) }
     ensures back { IfErr result (λ e. IsHonest S.Store e.1 → CommitsNothing S.Store conn e.1) }
@@ -119,8 +157,9 @@ pub fn open<S: Alter>(
     let mut conn = conn;
     conn.set_step_limit(None);
     show_settled(&conn);
-    match check(&mut conn, alloc) {
-        Ok(()) => Ok(Tables::over(conn)),
+    match is_current(&mut conn, alloc) {
+        Ok(true) => Ok(finish(conn)),
+        Ok(false) => Err((TablesFault::OldSchema, conn)),
         Err(fault) => Err((fault, conn)),
     }
 }

@@ -1,20 +1,44 @@
 //! Our tables as they are made, and whether a schema has them so.
 
-ghost use Rattle.std.specs.Prelude.{◌↔◌, IsTrue};
+ghost use Rattle.std.specs.Prelude.{◌↔◌, ◌∷◌, IsTrue};
 ghost use Rattle.std.specs.List.{AllByRecursion};
 ghost use Rattle.dh_rows.specs.Shapes.{StandsAlone, table_of};
-ghost use Rattle.dh_schema.specs.Making.{our_tables};
+ghost use Rattle.dh_schema.specs.Tables.{meta_table, pass_table};
+ghost use Rattle.dh_migrating.specs.OldPasses.{old_pass_table};
+ghost use Rattle.dh_opening.specs.Migrating.{AreOldIn};
+ghost use Rattle.dh_opening.specs.Opening.{other_tables};
 
+use dh_migrating::can_convert;
 use dh_rows::{Shape, is_table};
 use sqlite_schema::schema::{Kind, Schema};
 
-/// Our tables, in the order in which they are made.
-const TABLES: [Shape<'static>; 11] = [
-    Shape {
-        name: b"meta",
-        primary: &[],
-        columns: &[(b"schema", Kind::Integer)],
-    },
+/// The table of the number.
+const META: Shape<'static> = Shape {
+    name: b"meta",
+    primary: &[],
+    columns: &[(b"schema", Kind::Integer)],
+};
+
+/// The table of passes.
+const PASS: Shape<'static> = Shape {
+    name: b"pass",
+    primary: &[1, 2],
+    columns: &[
+        (b"host", Kind::Text),
+        (b"pass", Kind::Text),
+        (b"until", Kind::Integer),
+    ],
+};
+
+/// The table of passes as schema 1 made it.
+const OLD_PASS: Shape<'static> = Shape {
+    name: b"pass",
+    primary: &[1, 2],
+    columns: &[(b"host", Kind::Text), (b"pass", Kind::Text)],
+};
+
+/// Our other tables, in the order in which they are made.
+const OTHERS: [Shape<'static>; 9] = [
     Shape {
         name: b"rule",
         primary: &[1, 2],
@@ -105,11 +129,6 @@ const TABLES: [Shape<'static>; 11] = [
         ],
     },
     Shape {
-        name: b"pass",
-        primary: &[1, 2],
-        columns: &[(b"host", Kind::Text), (b"pass", Kind::Text)],
-    },
-    Shape {
         name: b"holds",
         primary: &[1, 2, 3],
         columns: &[
@@ -131,9 +150,37 @@ fn all_stand(schema: &Schema, shapes: &[Shape<'_>]) -> bool
     is_table(schema, first) && all_stand(schema, others)
 }
 
-/// Whether our tables stand in the schema as they are made, with nothing of others on them.
-pub fn are_ours(schema: &Schema) -> bool
-    ensures { IsTrue result ↔ AllByRecursion (StandsAlone schema.now) our_tables }
+/// Whether the table of the number stands in the schema as it is made, alone.
+pub fn has_number(schema: &Schema) -> bool
+    ensures { IsTrue result ↔ StandsAlone schema.now meta_table }
 {
-    all_stand(schema, &TABLES)
+    is_table(schema, &META)
+}
+
+/// Whether our other tables do.
+fn others_stand(schema: &Schema) -> bool
+    ensures { IsTrue result ↔ AllByRecursion (StandsAlone schema.now) other_tables }
+{
+    all_stand(schema, &OTHERS)
+}
+
+/// Whether the table of passes and the others do.
+pub fn are_ours(schema: &Schema) -> bool
+    ensures { IsTrue result ↔ AllByRecursion (StandsAlone schema.now) (pass_table ∷ other_tables) }
+{
+    is_table(schema, &PASS) && others_stand(schema)
+}
+
+/// Whether the table of passes of schema 1 and the others do.
+fn old_stand(schema: &Schema) -> bool
+    ensures { IsTrue result ↔ AllByRecursion (StandsAlone schema.now) (old_pass_table ∷ other_tables) }
+{
+    is_table(schema, &OLD_PASS) && others_stand(schema)
+}
+
+/// Whether they do, and the table of passes can be dropped.
+pub fn are_old(schema: &Schema) -> bool
+    ensures { IsTrue result ↔ AreOldIn schema.now }
+{
+    old_stand(schema) && can_convert(schema)
 }

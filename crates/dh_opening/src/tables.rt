@@ -1,17 +1,20 @@
 //! Whole tables read.
 
-ghost use Rattle.std.specs.Prelude.{◌≡◌, List, None, IfOk, IfSome};
+ghost use Rattle.std.specs.Prelude.{◌≡◌, ℕ, List, [], ◌∷◌, None, IfOk, IfSome};
 ghost use Rattle.sqlite.specs.Held.{state};
 ghost use Rattle.dh_rows.specs.Calls.{IsHonest};
+ghost use Rattle.dh_records.specs.Codings as coding;
 ghost use Rattle.dh_records.specs.Constraints.{InOrder};
 ghost use Rattle.dh_records.specs.Lists.{Lists};
 ghost use Rattle.dh_constraints.specs.Lists.{lists_in};
-ghost use Rattle.dh_opening.specs.Opening.{Answers, AreSpelled, AreTold, IsLaid, IsNumbered, IsWhole, Opens, StandFor};
+ghost use Rattle.dh_opening.specs.Opening.{Answers, AreLaid, AreSpelled, AreTold, IsNumbered, IsWhole, Opens, StandFor, other_tables};
 
 use crate::fault::TablesFault;
 use crate::kept::{Kept, records_in};
 use crate::number::Number;
+use crate::shapes::has_number;
 use dh_constraints::Records;
+use dh_records::PassRow;
 use dh_rows::are_rowids;
 use sqlite::{Alter, Connection, Row};
 use std::alloc::{AllocError, Global};
@@ -47,11 +50,12 @@ fn records_of<R: Kept>(
 }
 
 /// The records of a whole table.
-fn read_table<S: Alter, R: Kept>(
+pub fn read_table<S: Alter, R: Kept>(
     conn: &mut Connection<S>,
     alloc: Global,
 ) -> Result<Vec<R>, TablesFault>
-    requires laid { IsHonest S.Store conn.old → IsLaid (state S.Store conn.old) }
+    requires laid { IsHonest S.Store conn.old
+        → AreLaid (R.Kept.table ∷ []) (state S.Store conn.old) }
     ensures opens { Opens S.Store conn.old conn.new result
         (λ db v. StandFor R.Record.coding R.Record.typed R.Kept.table.name db v.items)
         (λ db. (xs : List R)
@@ -71,7 +75,8 @@ fn read_two<S: Alter, A: Kept, B: Kept>(
     conn: &mut Connection<S>,
     alloc: Global,
 ) -> Result<(Vec<A>, Vec<B>), TablesFault>
-    requires laid { IsHonest S.Store conn.old → IsLaid (state S.Store conn.old) }
+    requires laid { IsHonest S.Store conn.old
+        → AreLaid (A.Kept.table ∷ B.Kept.table ∷ []) (state S.Store conn.old) }
     ensures opens { Opens S.Store conn.old conn.new result
         (λ db v. StandFor A.Record.coding A.Record.typed A.Kept.table.name db v.0.items
         × StandFor B.Record.coding B.Record.typed B.Kept.table.name db v.1.items)
@@ -86,33 +91,39 @@ fn read_two<S: Alter, A: Kept, B: Kept>(
     Ok((first, second))
 }
 
-/// Whether the number of the schema is 1.
-pub fn check_number<S: Alter>(conn: &mut Connection<S>, alloc: Global) -> Result<(), TablesFault>
-    requires laid { IsHonest S.Store conn.old → IsLaid (state S.Store conn.old) }
+/// The number of the schema.
+pub fn number_of<S: Alter>(conn: &mut Connection<S>, alloc: Global) -> Result<u32, TablesFault>
+    requires unlimited { conn.old.step_limit ≡ None }
     ensures opens { Opens S.Store conn.old conn.new result
-        (λ db _. IsNumbered db) (λ db. ¬ IsNumbered db) }
+        IsNumbered (λ db. (number : ℕ) → ¬ IsNumbered db number) }
 {
+    if !has_number(conn.schema()) {
+        return Err(TablesFault::NotOurs);
+    }
     let numbers: Vec<Number> = read_table(conn, alloc)?;
     match numbers.as_slice() {
-        [only] if only.number == 1 => Ok(()),
+        [only] => Ok(only.number),
         _ => Err(TablesFault::NotOurs),
     }
 }
 
-/// The records of all our tables.
+/// The records of all our tables, of which the passes were read before.
 pub fn all_records<S: Alter>(
     conn: &mut Connection<S>,
     alloc: Global,
+    passes: Vec<PassRow>,
 ) -> Result<Records, TablesFault>
-    requires laid { IsHonest S.Store conn.old → IsLaid (state S.Store conn.old) }
+    requires laid { IsHonest S.Store conn.old → AreLaid other_tables (state S.Store conn.old) }
+    requires order { InOrder coding.passes.key passes.items }
     ensures opens { Opens S.Store conn.old conn.new result
         (λ db records. AreSpelled db (lists_in records)) (λ db. (l : Lists) → ¬ AreSpelled db l) }
+    ensures passes { IfOk result (λ records. (lists_in records).passes ≡ passes.items) }
 {
     let (projects, langs) = read_two(conn, alloc)?;
     let (versions, pages) = read_two(conn, alloc)?;
     let (used, picks) = read_two(conn, alloc)?;
-    let (passes, held) = read_two(conn, alloc)?;
     let (rules, redirects) = read_two(conn, alloc)?;
+    let held = read_table(conn, alloc)?;
     Ok(Records {
         projects,
         langs,

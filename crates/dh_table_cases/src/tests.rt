@@ -1,4 +1,5 @@
 //! A file for each subject.
 
 mod calls;
+mod migrating;
 mod opening;

@@ -34,7 +34,11 @@ fn within_a_transaction_a_view_answers_nothing(rt: HostRuntime) -> Result<(), Fa
     let mut tables = Tables::in_memory(alloc)?;
     tables.begin()?;
     let host = HostName::parse(alloc, "docs.test")?;
-    let mut view = View::new(&mut tables, Some(host), Caller { pass: None });
+    let caller = Caller {
+        pass: None,
+        moment: 0,
+    };
+    let mut view = View::new(&mut tables, Some(host), caller);
     assert!(rt; matches!(view.known(), Err(Fault::Store)));
     let tables = view.close();
     tables.back()?;

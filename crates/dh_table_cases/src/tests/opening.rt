@@ -26,6 +26,10 @@ const ANSWER: &str =
 const UNSEEN: &str =
     "INSERT INTO page VALUES ('docs.test', '2.0', 'en', 'a.html', 'text/html', x'61')";
 
+const ENDLESS: &str = "INSERT INTO pass VALUES ('docs.test', 'reader', -1)";
+
+const ENDING: &str = "INSERT INTO pass VALUES ('docs.test', 'guest', 9223372036854775807)";
+
 /// A connection with our tables, on which these statements have run.
 fn changed(alloc: Global, statements: &[&str]) -> Result<Connection<MemStore>, Fail> {
     let mut conn = Tables::in_memory(alloc)?.into_conn();
@@ -43,6 +47,7 @@ fn opened(alloc: Global, conn: Connection<MemStore>) -> &'static str {
     match open(alloc, conn) {
         Ok(_tables) => "ours",
         Err((TablesFault::NotOurs, _)) => "not ours",
+        Err((TablesFault::OldSchema, _)) => "old schema",
         Err((TablesFault::Failed(Fault::Store), _)) => "store",
         Err((TablesFault::Failed(Fault::Memory), _)) => "memory",
     }
@@ -57,7 +62,9 @@ fn what_we_made_is_ours(rt: HostRuntime) -> Result<(), Fail> {
     let alloc = rt.alloc();
     assert_eq!(rt; said(alloc, &[])?, "ours");
     assert_eq!(rt; said(alloc, &[PROJECT, ENGLISH])?, "ours");
-    let whole = [PROJECT, ENGLISH, ACTIVE, INACTIVE, PAGE, ANSWER];
+    let whole = [
+        PROJECT, ENGLISH, ACTIVE, INACTIVE, PAGE, ANSWER, ENDLESS, ENDING,
+    ];
     assert_eq!(rt; said(alloc, &whole)?, "ours");
     Ok(())
 }
@@ -85,8 +92,9 @@ fn rows_that_break_a_constraint_are_not_ours(rt: HostRuntime) -> Result<(), Fail
         "INSERT INTO version VALUES ('docs.test', '3.0', '3.0', 1, 2, 0, 0)",
         "INSERT INTO version VALUES ('docs.test', 'no slug', 'x', 1, 0, 0, 0)",
         "INSERT INTO rule VALUES ('docs.test', 1, 1, 9, 'all')",
-        "INSERT INTO meta VALUES (1)",
-        "UPDATE meta SET schema = 2",
+        "INSERT INTO meta VALUES (2)",
+        "INSERT INTO pass VALUES ('docs.test', 'reader', -5)",
+        "UPDATE meta SET schema = 3",
     ] {
         let all = [PROJECT, ENGLISH, ACTIVE, INACTIVE, PAGE, row];
         assert_eq!(rt; said(alloc, &all)?, "not ours", "{row}");

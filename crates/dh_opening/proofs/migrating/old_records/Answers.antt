@@ -1,0 +1,57 @@
+use Rattle.std.proofs.Common.{◌∙◌, codes, map, sym, ap, subst, rules}
+use Rattle.sqlite.specs.Held.{state}
+use Rattle.dh_constraints.specs.Lists.{lists_in}
+use Rattle.dh_records.specs.Codings as coding
+use Rattle.dh_records.specs.Constraints.{InOrder}
+use Rattle.dh_rows.specs.Places.{records_of}
+use Rattle.dh_migrating.specs.OldPasses.{old_passes, old_lists_of, without_end}
+use Rattle.dh_opening.specs.Opening.{other_tables}
+use Rattle.dh_opening.specs.Migrating.{AreOldIn}
+use Rattle.dh_opening.proofs.Looks.{handed, laid_on, opens_both, opens_with, out_of_memory, refused_at_once}
+use Rattle.dh_opening.proofs.MigrateLemmas.{found_old, order_kept}
+use Rattle.dh_opening.proofs.Spelling.{not_alone}
+use Rattle.dh_opening.proofs.migrating.old_records.Goals as goal
+
+pub returns-then-not-are_old : goal.returns-then-not-are_old
+returns-then-not-are_old g c = record {
+  opens = refused_at_once (λ it. not_alone AreOldIn c.are_old.result c.schema.result.now (state g.S.Store c.args.conn.now).now.schema c.are_old.ensures.1 c.schema.ensures.value (search rules) it.tables);
+}
+
+pub read_table-requires : goal.read_table-requires
+read_table-requires g c = record {
+  laid = λ honest. record {
+    sound = (c.schema.ensures.live honest.1).0;
+    alone = ((subst AreOldIn c.schema.ensures.value (c.are_old.ensures.0 (search rules))).alone.0, tt);
+    unlimited = c.requires.unlimited;
+  };
+}
+
+pub returns-in_err-rows : goal.returns-in_err-rows
+returns-in_err-rows g c = record {
+  opens = handed c.from_residual.result c.in_err-rows.field-0.0 c.from_residual.ensures.1 (λ none it. none (records_of old_passes (codes "pass") (state g.S.Store c.args.conn.now).now) it.passes) c.in_err-rows.ensures.opens;
+}
+
+pub returns-in_err-passes : goal.returns-in_err-passes
+returns-in_err-passes g c = record { opens = out_of_memory c.from_residual-in_err-passes.result c.from_residual-in_err-passes.ensures.1 c.in_ok-rows.rows c.in_ok-rows.ensures.opens }
+
+pub kept_records-requires : goal.kept_records-requires
+kept_records-requires g c = record {
+  laid = laid_on {tables = other_tables} c.in_ok-rows.rows c.in_ok-rows.ensures.opens
+      (λ honest. record {
+        sound = (c.schema.ensures.live honest.1).0;
+        alone = (subst AreOldIn c.schema.ensures.value (c.are_old.ensures.0 (search rules))).alone.1;
+        unlimited = c.requires.unlimited;
+      });
+  order = subst (InOrder coding.passes.key) (sym c.in_ok-passes.ensures) (order_kept c.in_ok-rows.rows.items c.in_ok-rows.ensures.order);
+}
+
+pub returns : goal.returns
+returns g c = record {
+  opens = opens_with c.kept_records.result c.kept_records.ensures.passes
+      (λ records passes honest it. (
+        (c.schema.ensures.live honest.1).0,
+        found_old (state g.S.Store c.args.conn.now).now c.in_ok-rows.rows.items (lists_in records) it.0 it.1 (passes ∙ c.in_ok-passes.ensures) (subst AreOldIn c.schema.ensures.value (c.are_old.ensures.0 (search rules))),
+      ))
+      (λ both it. both.1 (old_lists_of (state g.S.Store c.args.conn.now).now) (ap (map without_end) both.0.records ∙ sym c.in_ok-passes.ensures) it.kept)
+      (opens_both c.in_ok-rows.rows c.kept_records.result c.in_ok-rows.ensures.opens c.kept_records.ensures.opens);
+}

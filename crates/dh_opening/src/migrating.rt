@@ -1,0 +1,134 @@
+//! Tables of schema 1 made tables of schema 2.
+
+ghost use Rattle.std.specs.Prelude.{◌≡◌, ◌≢◌, false, None, IfErr, IfOk, IsTrue, OnErr, OnOk};
+ghost use Rattle.sqlite.specs.Effect.{IsDatabase};
+ghost use Rattle.sqlite.specs.Held.{state};
+ghost use Rattle.sqlite.specs.State.{HasCleanDisk};
+ghost use Rattle.dh_rows.specs.Calls.{GoesWithin, IsHonest, Lasts, LeavesCommitted, committed, seen};
+ghost use Rattle.dh_records.specs.Constraints.{AreInOrder, KeepsConstraints};
+ghost use Rattle.dh_schema.specs.Making.{CommitsNothing};
+ghost use Rattle.dh_schema.specs.Tables.{lists_of};
+ghost use Rattle.dh_constraints.specs.Lists.{lists_in};
+ghost use Rattle.dh_migrating.specs.OldPasses.{old_lists_of};
+ghost use Rattle.dh_opening.specs.Opening.{IsNumbered, IsOurs, OnNotOurs, OnOldSchema, Opens};
+ghost use Rattle.dh_opening.specs.Migrating.{IsAtRest, IsMigrated, IsOld, IsShown, LeavesMigrated, Migrates};
+
+use crate::fault::TablesFault;
+use crate::opening::{finish, is_current, kept_records, show_settled};
+use crate::shapes::are_old;
+use crate::tables::read_table;
+use dh_constraints::Records;
+use dh_migrating::{OldPassRow, convert, without_ends};
+use dh_rows::{begin, commit};
+use dh_store::Tables;
+use sqlite::{Alter, Connection};
+use std::alloc::Global;
+
+/// The records of tables of schema 1, each pass without an end, where they are ours.
+fn old_records<S: Alter>(conn: &mut Connection<S>, alloc: Global) -> Result<Records, TablesFault>
+    requires unlimited { conn.old.step_limit ≡ None }
+    ensures opens { Opens S.Store conn.old conn.new result
+        (λ db records. IsDatabase db × (IsNumbered db 1
+        → IsOld db × (lists_in records ≡ old_lists_of db)))
+        (λ db. ¬ IsOld db) }
+{
+    if !are_old(conn.schema()) {
+        return Err(TablesFault::NotOurs);
+    }
+    let rows: Vec<OldPassRow> = read_table(conn, alloc)?;
+    let passes = without_ends(alloc, rows)?;
+    kept_records(conn, alloc, passes)
+}
+
+/// Makes them tables of schema 2, within a transaction.
+fn convert_tables<S: Alter>(conn: &mut Connection<S>, alloc: Global) -> Result<(), TablesFault>
+    requires unlimited { conn.old.step_limit ≡ None }
+    requires number { IsHonest S.Store conn.old → IsNumbered (state S.Store conn.old).now 1 }
+    ensures goes { GoesWithin S.Store conn.old conn.new }
+    ensures made { IsHonest S.Store conn.old → HasCleanDisk (state S.Store conn.new)
+        → OnOk result (IsHonest S.Store conn.new
+        × (conn.new.in_transaction ≡ conn.old.in_transaction)
+        × IsMigrated (state S.Store conn.old).now (state S.Store conn.new).now) }
+    ensures ours { HasCleanDisk (state S.Store conn.new)
+        → OnNotOurs result (¬ IsOld (state S.Store conn.old).now) }
+    ensures current { OnOldSchema result ⊥ }
+{
+    let records = old_records(conn, alloc)?;
+    match convert(conn, records.passes.as_slice()) {
+        Ok(()) => Ok(()),
+        Err(fault) => Err(TablesFault::Failed(fault)),
+    }
+}
+
+/// The same in a transaction of its own. A connection that is refused may still be in it.
+fn migrate_tables<S: Alter>(conn: &mut Connection<S>, alloc: Global) -> Result<(), TablesFault>
+    requires unlimited { conn.old.step_limit ≡ None }
+    requires number { IsHonest S.Store conn.old → IsNumbered (state S.Store conn.old).now 1 }
+    ensures lasts { Lasts S.Store conn.old conn.new }
+    ensures done { IsHonest S.Store conn.old → HasCleanDisk (state S.Store conn.new)
+        → OnOk result (IsAtRest S.Store conn.new
+        × IsMigrated (state S.Store conn.old).now (state S.Store conn.new).now) }
+    ensures was { HasCleanDisk (state S.Store conn.new) → OnOk result (IsHonest S.Store conn.old) }
+    ensures err { IsHonest S.Store conn.new
+        → OnErr result ((state S.Store conn.new).committed ≡ (state S.Store conn.old).committed) }
+    ensures ours { HasCleanDisk (state S.Store conn.new)
+        → OnNotOurs result (¬ IsOurs (state S.Store conn.old).now
+        × ¬ IsOld (state S.Store conn.old).now) }
+    ensures current { OnOldSchema result ⊥ }
+    ensures crash { LeavesMigrated S.Store conn.old conn.new }
+{
+    begin(conn)?;
+    convert_tables(conn, alloc)?;
+    commit(conn)?;
+    Ok(())
+}
+
+/// Finds tables of schema 2 ours, and makes those of schema 1 tables of schema 2.
+fn update<S: Alter>(conn: &mut Connection<S>, alloc: Global) -> Result<(), TablesFault>
+    requires outside { conn.old.in_transaction ≡ false }
+    requires unlimited { conn.old.step_limit ≡ None }
+    requires settled { IsTrue (state S.Store conn.old).is_open
+        → (state S.Store conn.old).now ≡ (state S.Store conn.old).committed }
+    ensures migrates { Migrates S.Store conn.old conn.new result }
+{
+    if is_current(conn, alloc)? {
+        Ok(())
+    } else {
+        migrate_tables(conn, alloc)
+    }
+}
+
+/// Opens the tables that stand in a database, as `open` does. Where they are of schema 1 it makes them tables of schema 2
+/// before, in one transaction: the same records, each pass without an end. Where they are not ours it changes nothing. A
+/// connection that is handed back may still be in the transaction.
+pub fn migrate<S: Alter>(
+    alloc: Global,
+    conn: Connection<S>,
+) -> Result<Tables<S>, (TablesFault, Connection<S>)>
+    requires { conn.in_transaction ≡ false }
+    ensures opened { IfOk result (λ t. HasCleanDisk (state S.Store t)
+        → IsHonest S.Store conn × IsHonest S.Store t × (t.in_transaction ≡ false)) }
+    ensures shown { IfOk result (λ t. HasCleanDisk (state S.Store t)
+        → IsShown (state S.Store conn).now (seen S.Store lists_of t)) }
+    ensures last { IfOk result (λ t. HasCleanDisk (state S.Store t)
+        → committed S.Store lists_of t ≡ seen S.Store lists_of t) }
+    ensures sound { IfOk result (λ t. HasCleanDisk (state S.Store t)
+        → AreInOrder (committed S.Store lists_of t)
+        × KeepsConstraints (committed S.Store lists_of t)) }
+    ensures left { IfOk result (λ t. IsHonest S.Store t → LeavesCommitted S.Store lists_of t) }
+    ensures crash { IfOk result (λ t. LeavesMigrated S.Store conn t) }
+    ensures ours { IfErr result (λ e. HasCleanDisk (state S.Store e.1)
+        → e.0 ≡ TablesFault.NotOurs
+        → ¬ IsOurs (state S.Store conn).now × ¬ IsOld (state S.Store conn).now) }
+    ensures current { IfErr result (λ e. e.0 ≢ TablesFault.OldSchema) }
+    ensures back { IfErr result (λ e. IsHonest S.Store e.1 → CommitsNothing S.Store conn e.1) }
+    ensures stop { IfErr result (λ e. LeavesMigrated S.Store conn e.1) }
+{
+    let mut conn = conn;
+    conn.set_step_limit(None);
+    show_settled(&conn);
+    match update(&mut conn, alloc) {
+        Ok(()) => Ok(finish(conn)),
+        Err(fault) => Err((fault, conn)),
+    }
+}
