@@ -1,8 +1,9 @@
-use Rattle.std.proofs.Common.{◌≡◌, ◌+◌, [], ◌∷◌, ◌++◌, take, length, refl, sym, ap, ◌∙◌, subst₂, arith, length-append}
+use Rattle.std.proofs.Common.{◌≡◌, ◌+◌, List, [], ◌∷◌, ◌++◌, take, length, refl, sym, ap, ◌∙◌, subst₂, arith, length-append}
 use Rattle.std.proofs.lemmas.List.{take_more}
 use Rattle.dh_histories.specs.declared.call.Call.{Call}
 use Rattle.dh_histories.specs.CallsDone.{AreCallsDone}
 use Rattle.dh_histories.proofs.CallLemmas.{calls_and_one}
+use Rattle.dh_world.specs.declared.outcome.Outcome.{Outcome}
 use Rattle.dh_desk.specs.DeskRuns.{DoesWhileOpen}
 use Rattle.dh_desk.proofs.Calling.{none_done, open_none, open_and_one}
 use Rattle.dh_desk.proofs.Moving.{Moves-refl, Moves-trans}
@@ -30,8 +31,8 @@ loop-call-preserved g c =
       count = ap length told ∙ omega (arith, length-append c.loop-call.outcomes.items (outcome ∷ []), c.loop-call.invariant.count);
       room = omega (arith, c.loop-call.invariant.room, c.push_reserved.ensures.capacity);
       ran = Moves-trans c.loop-call.invariant.ran c.call-outcome.ensures.done
-          (λ u v w did last. subst₂ (λ cs os. AreCallsDone u cs w os) (sym one_more) (sym told) (calls_and_one u v w (take i calls) c.loop-call.outcomes.items call outcome did last));
-      until = subst₂ (λ cs os. DoesWhileOpen g.S.Store c.args.self.now c.call-outcome.new.self cs os) (sym one_more) (sym told)
+          (λ u v w did last. subst₂ (λ cs os. AreCallsDone u cs w os) (sym {A = List Call} one_more) (sym {A = List Outcome} told) (calls_and_one u v w (take i calls) c.loop-call.outcomes.items call outcome did last));
+      until = subst₂ (λ cs os. DoesWhileOpen g.S.Store c.args.self.now c.call-outcome.new.self cs os) (sym {A = List Call} one_more) (sym {A = List Outcome} told)
           (open_and_one g.S.Store _ _ _ (take i calls) c.loop-call.outcomes.items call outcome c.loop-call.invariant.until
           c.call-outcome.ensures.done c.call-outcome.ensures.live c.call-outcome.ensures.closed c.call-outcome.ensures.closes c.call-outcome.ensures.opens);
     }
