@@ -1,0 +1,120 @@
+"""The cases of tests/scripts and tests/requests, answered by the model in place of the program."""
+
+import importlib.machinery
+import importlib.util
+import shlex
+from pathlib import Path
+
+import lines
+import requests
+from versions import Unsaid
+
+ROOT = Path(__file__).resolve().parent.parent.parent
+FOLDERS = [ROOT / "tests" / "scripts", ROOT / "tests" / "requests"]
+
+
+def read_tool():
+    """tools/behaviour, which reads cases, as a module."""
+    loader = importlib.machinery.SourceFileLoader("behaviour", str(ROOT / "tools" / "behaviour"))
+    tool = importlib.util.module_from_spec(importlib.util.spec_from_loader("behaviour", loader))
+    loader.exec_module(tool)
+    return tool
+
+
+TOOL = read_tool()
+
+
+class Left(Exception):
+    """A case that the model leaves out, and why."""
+
+
+def judge_script(path):
+    """What is wrong with the model's answer to a script, as lines."""
+    written, fault, status = lines.run_script({}, path.read_bytes())
+    wanted_told = (TOOL.beside(path, ".err") or b"").split(b"\n")[0]
+    wanted_status = int(TOOL.beside(path, ".status") or b"0")
+    told = b"fault " + fault if fault else b""
+    return TOOL.compared(TOOL.beside(path, ".out"), wanted_told, wanted_status, written, told, status)
+
+
+def judge_request(path):
+    written = requests.answer(requests.sample(), path.read_bytes())
+    return TOOL.compared(TOOL.beside(path, ".out"), b"", 0, written, b"", 0)
+
+
+def judge_row(world_of, row):
+    """What is wrong with the model's reply to the requests of a row of a table, each over a world of its own."""
+    for request in row.inputs:
+        faults = TOOL.compared_reply(row, requests.answer(world_of(), request))
+        if faults:
+            return [f"{len(request)} bytes", *faults]
+    return []
+
+
+def judge_table(path):
+    return [fault for row in TOOL.read_table(path) for fault in judge_row(requests.sample, row)]
+
+
+def read_commands(path):
+    """The runs of a case of commands: the number of its line, its mark, its words, its input, what it prints."""
+    runs = []
+    for number, line in enumerate(path.read_text().splitlines(), 1):
+        mark, rest = line[:2], line[2:]
+        if mark in ("$ ", "? "):
+            runs.append((number, mark, rest, [], []))
+        elif mark == "< ":
+            runs[-1][3].append(rest)
+        elif mark in ("! ", "@ "):
+            raise Left("files and faults")
+        elif line and mark not in ("# ", "= "):
+            runs[-1][4].append(rest if mark == "> " else line)
+    return runs
+
+
+def judge_commands(path):
+    """What is wrong with the model's answers to commands and requests over files, one after another."""
+    files, faults = {}, []
+    for number, mark, rest, input_lines, wanted in read_commands(path):
+        if mark == "$ ":
+            written = run_command(files, shlex.split(rest), "".join(f"{line}\n" for line in input_lines))
+            found = TOOL.difference("output", "\n".join(wanted).encode(), written.rstrip(b"\n"))
+        else:
+            name, _, request = rest.partition(" ")
+            found = judge_row(lambda: files[name], TOOL.read_row(path, number, request, {}))
+        faults += [f"{path.name}:{number}: {fault}" for fault in found]
+    return faults
+
+
+def run_command(files, words, script):
+    """What a command over a file prints."""
+    if words[0] == "init":
+        files[words[1]] = {}
+        return b""
+    if words[-2:-1] != ["--store"]:
+        raise Left("words of the program")
+    if words[0] == "script":
+        return lines.run_script(files[words[-1]], script.encode())[0]
+    return lines.line_text(files[words[-1]], [word.encode() for word in words[:-2]], 0, True) + b"\n"
+
+
+JUDGES = {".script": judge_script, ".http": judge_request, ".requests": judge_table, ".commands": judge_commands}
+
+
+def judge_all():
+    """Prints what differs; how many cases passed and failed. A case counts once, a table by its file."""
+    passed, failed, left = 0, 0, 0
+    for path in (it for folder in FOLDERS for it in sorted(folder.rglob("*")) if it.suffix in JUDGES):
+        try:
+            if TOOL.beside(path, ".ports"):
+                raise Left("readers and writers that fail")
+            faults = JUDGES[path.suffix](path)
+        except (Left, Unsaid) as why:
+            print(f"{TOOL.name_of(path)}: left out: {why if isinstance(why, Left) else f'the expression {why}'}")
+            left += 1
+            continue
+        failed += bool(faults)
+        passed += not faults
+        if faults:
+            print(f"{TOOL.name_of(path)}: FAILED", *faults, sep="\n    ")
+    print(f"{left} left out")
+    return passed, failed
