@@ -3,7 +3,8 @@
 ghost use Rattle.dh_checks.specs.Commands.{ChecksChange, ChecksCommand, setting};
 
 use crate::checked::{
-    CheckedImport, CheckedPush, CheckedRedirect, CheckedRule, CheckedUpload, NewProject, ProjectSettings,
+    CheckedImport, CheckedPush, CheckedRedirect, CheckedRule, CheckedUpload, NewProject,
+    ProjectSettings,
 };
 use crate::pages::check_pages;
 use crate::texts::{

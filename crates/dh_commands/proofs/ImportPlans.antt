@@ -73,8 +73,8 @@ module _ (f : Facts) (p : Project) (x : CheckedImport) (k : Knows (change.Import
       → Plans p (import_redirects list p) (Ok (plan_imported all count))
   taken_in all count is few counted = (
     by_found ∙ ap (λ rs. imported rs p) is
-    ∙ ap (λ b. cond b (Ok (with_redirects p all, Added (length all - length p.redirects))) (Err TooMany)) (le-leb (length all) 100 few)
-    ∙ ap (λ n. Ok (with_redirects p all, Added n)) (ap (λ (rs : List Redirect). length all - length rs) k.answers.redirects ∙ sym counted),
+        ∙ ap (λ b. cond b (Ok (with_redirects p all, Added (length all - length p.redirects))) (Err TooMany)) (le-leb (length all) 100 few)
+        ∙ ap (λ n. Ok (with_redirects p all, Added n)) (ap (λ (rs : List Redirect). length all - length rs) k.answers.redirects ∙ sym counted),
     ((few, subst (AllByRecursion IsGoodRedirect) is (all_good list f.redirects.items x.good k.answers.good_redirects)), tt),
   )
 

@@ -86,7 +86,11 @@ fn set_imported<'c>(
 ) -> Result<Plan<'c>, Refusal>
     ensures { Makes (plan_imported redirects count) result }
 {
-    Ok(Plan::one(alloc, Edit::SetRedirects(redirects), Answer::Added { count })?)
+    Ok(Plan::one(
+        alloc,
+        Edit::SetRedirects(redirects),
+        Answer::Added { count },
+    )?)
 }
 
 /// Adds the redirects of a list that are not there, where there is room for all of them.

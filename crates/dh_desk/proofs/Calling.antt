@@ -169,18 +169,16 @@ module _ {S : Type 0} (g : Ghosts S) where
   is_desk_run old new calls outcomes runs = record {
     honest = λ honest.
         let none = none_left runs.rest in
-        let ran = (does_moves old runs.between runs.done runs.told runs.does).moves (runs.lasts.was honest) in
-        (
+        let ran = (does_moves old runs.between runs.done runs.told runs.does).moves (runs.lasts.was honest) in (
           world g runs.between,
           subst₂ (λ cs os. IsRunTo g old (world g runs.between) cs os) (sym runs.calls_are) (sym runs.outcomes_are)
-          (run_before _ _ runs.done runs.rest runs.told (map unanswered runs.rest) ran none.0 none.1),
+              (run_before _ _ runs.done runs.rest runs.told (map unanswered runs.rest) ran none.0 none.1),
           elim runs.ends [ inl is ↦ inl (ap (world g) (sym is.1)) | inr shut ↦ inr shut ],
         );
     accepted = λ clean n answer is.
-        let it = up_to old runs.between runs.done runs.rest runs.told runs.does (runs.lasts.clean clean) n answer (sym (ap (λ os. slice_get os n) runs.outcomes_are) ∙ is) in
-        (
+        let it = up_to old runs.between runs.done runs.rest runs.told runs.does (runs.lasts.clean clean) n answer (sym (ap (λ os. slice_get os n) runs.outcomes_are) ∙ is) in (
           world g it.at,
           subst₂ (λ cs os. IsRunTo g old (world g it.at) (take (suc n) cs) (take (suc n) os)) (sym runs.calls_are) (sym runs.outcomes_are)
-          (done_is_run _ _ _ _ it.done),
+              (done_is_run _ _ _ _ it.done),
         );
   }

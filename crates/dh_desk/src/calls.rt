@@ -56,9 +56,12 @@ impl<S: Alter> Desk<S> {
     {
         match call {
             Call::Act(command) => commanded(self.apply(alloc, command)),
-            Call::Ask { host, pass, moment, asked } => {
-                read_out(self.read(alloc, host.as_str(), pass_text(pass), asked, *moment))
-            }
+            Call::Ask {
+                host,
+                pass,
+                moment,
+                asked,
+            } => { read_out(self.read(alloc, host.as_str(), pass_text(pass), asked, *moment)) }
         }
     }
 

@@ -33,7 +33,15 @@ fn told(rt: &HostRuntime, text: &str) -> Result<String, Fail> {
     let mut errors = Port::new(&mut out);
     let log = Log::new(Still, true);
     let mut listening = Listening::new(&listener);
-    let _ = serve_on(rt.alloc(), &mut desk, &mut listening, &mut || 0, 1, &log, &mut errors);
+    let _ = serve_on(
+        rt.alloc(),
+        &mut desk,
+        &mut listening,
+        &mut || 0,
+        1,
+        &log,
+        &mut errors,
+    );
     drop(errors);
     let text = str::from_utf8(out.as_slice()).unwrap_or("no text");
     Ok(String::from_str(rt.alloc(), text)?)
@@ -75,7 +83,15 @@ fn full_log_does_not_stop_it(rt: &HostRuntime) -> Result<bool, Fail> {
     };
     let log = Log::new(Still, true);
     let mut listening = Listening::new(&listener);
-    let asked = serve_on(rt.alloc(), &mut desk, &mut listening, &mut || 0, 2, &log, &mut errors);
+    let asked = serve_on(
+        rt.alloc(),
+        &mut desk,
+        &mut listening,
+        &mut || 0,
+        2,
+        &log,
+        &mut errors,
+    );
     Ok(asked == 2 && received(rt, one)?.as_str() == PAGE && received(rt, other)?.as_str() == PAGE)
 }
 

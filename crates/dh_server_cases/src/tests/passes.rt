@@ -22,7 +22,10 @@ fn text(alloc: Global, text: &str) -> Result<Text, Fail> {
 
 fn is_done(alloc: Global, desk: &mut Desk, change: CommandChange) -> Result<bool, Fail> {
     let host = text(alloc, "docs.test")?;
-    Ok(matches!(desk.apply(alloc, &Command { host, change }), Ok(Answer::Done)))
+    Ok(matches!(
+        desk.apply(alloc, &Command { host, change }),
+        Ok(Answer::Done)
+    ))
 }
 
 /// Makes the sample's version private, and lets in a pass that ends at second 1000.
@@ -38,7 +41,11 @@ fn close_to_all_but_a_pass(alloc: Global, desk: &mut Desk) -> Result<bool, Fail>
         pass: text(alloc, "reader-7")?,
         slug: text(alloc, "main")?,
     };
-    Ok(is_done(alloc, desk, private)? && is_done(alloc, desk, pass)? && is_done(alloc, desk, grant)?)
+    Ok(
+        is_done(alloc, desk, private)?
+            && is_done(alloc, desk, pass)?
+            && is_done(alloc, desk, grant)?,
+    )
 }
 
 /// Serves three connections at 999, 1000 and 999.
@@ -53,7 +60,15 @@ fn serve_three(rt: &HostRuntime, listener: &TcpListener) -> Result<bool, Fail> {
         if is_early { 999 } else { 1000 }
     };
     let log = Log::new(rt, false);
-    let asked = serve_on(rt.alloc(), &mut desk, &mut listening, &mut clock, 3, &log, &mut errors);
+    let asked = serve_on(
+        rt.alloc(),
+        &mut desk,
+        &mut listening,
+        &mut clock,
+        3,
+        &log,
+        &mut errors,
+    );
     Ok(closed && asked == 3)
 }
 

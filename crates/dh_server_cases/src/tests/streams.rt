@@ -50,7 +50,8 @@ fn refusal_comes_whole(rt: &HostRuntime) -> Result<bool, Fail> {
 
 /// So does that of a page.
 fn page_comes_whole(rt: &HostRuntime) -> Result<bool, Fail> {
-    let head = "GET /en/latest/install.html HTTP/1.1\r\nHost: docs.test\r\nContent-Length: 100000\r\n\r\n";
+    let head =
+        "GET /en/latest/install.html HTTP/1.1\r\nHost: docs.test\r\nContent-Length: 100000\r\n\r\n";
     Ok(reply_beside_body(rt, head)?.as_str() == PAGE)
 }
 
