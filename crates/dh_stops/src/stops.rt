@@ -1,0 +1,168 @@
+//! A line stopped at each call of each file, and what stands there afterwards.
+
+use crate::files::{ALL, Calls, Contents, Left, abandon, close, connect};
+use crate::lines::{Told, is_fault, no_beginning, tell};
+use crate::rows::rows_of;
+use std::alloc::Global;
+use std::io;
+
+/// The most calls of a file at which a line is stopped.
+const MOST: u64 = 100_000;
+
+/// What a line tells where nothing stops, and the rows before it and after it.
+#[derive(Drop)]
+struct Whole<'a> {
+    line: &'a str,
+    said: String,
+    before: String,
+    after: String,
+}
+
+/// Which rows the stops of a line left.
+#[derive(Clone, Copy)]
+struct Seen {
+    before: bool,
+    after: bool,
+    wrong: bool,
+}
+
+/// Opens files with these contents, runs a line, and closes them.
+fn run(alloc: Global, contents: &Contents, calls: Calls, line: &str) -> io::Result<(Told, Left)> {
+    match connect(alloc, contents, calls)? {
+        Ok(conn) => {
+            let (told, conn) = tell(alloc, conn, line)?;
+            Ok((told, close(alloc, conn)?))
+        }
+        Err(left) => Ok((no_beginning(alloc, "fault Failed")?, left)),
+    }
+}
+
+/// Opens files with these contents and runs a line, and gives what they hold then, not closed.
+fn go(alloc: Global, contents: &Contents, line: &str) -> io::Result<(String, Contents)> {
+    let Ok(conn) = connect(alloc, contents, ALL)? else {
+        return Err(io::ErrorKind::Other.into());
+    };
+    let (told, conn) = tell(alloc, conn, line)?;
+    Ok((told.said, abandon(alloc, conn)?))
+}
+
+/// The rows of files with these contents.
+fn world(alloc: Global, contents: &Contents) -> io::Result<String> {
+    match connect(alloc, contents, ALL)? {
+        Ok(conn) => Ok(rows_of(alloc, conn)?),
+        Err(_left) => Ok(String::from_str(alloc, "no database")?),
+    }
+}
+
+/// Whether the line, run anew over what a stop left, tells what it tells and leaves the rows after it.
+fn goes_on(alloc: Global, left: &Contents, whole: &Whole<'_>) -> io::Result<bool> {
+    let (told, left) = run(alloc, left, ALL, whole.line)?;
+    let now = world(alloc, &left.killed)?;
+    Ok(told.said == whole.said && now == whole.after)
+}
+
+/// Whether rows may stand after a run: after an answer those after the line, where it did not begin those
+/// before it, else either.
+fn may_stand(now: &str, whole: &Whole<'_>, told: &Told) -> bool {
+    if told.said == whole.said {
+        now == whole.after.as_str()
+    } else if is_fault(told.said.as_str()) {
+        now == whole.before.as_str() || told.began && now == whole.after.as_str()
+    } else {
+        false
+    }
+}
+
+/// Judges what a run left.
+fn judge(
+    alloc: Global,
+    left: &Contents,
+    whole: &Whole<'_>,
+    told: &Told,
+    seen: &mut Seen,
+) -> io::Result<bool> {
+    let now = world(alloc, left)?;
+    if now == whole.after {
+        seen.after = true;
+    }
+    if now == whole.before {
+        seen.before = true;
+        if !goes_on(alloc, left, whole)? {
+            return Ok(false);
+        }
+    }
+    Ok(may_stand(now.as_str(), whole, told))
+}
+
+/// Stops a line at each call of a file, and gives how many there are.
+fn sweep(
+    rt: &HostRuntime,
+    before: &Contents,
+    whole: &Whole<'_>,
+    is_log: bool,
+    seen: &mut Seen,
+) -> io::Result<u64> {
+    for at in 0..MOST {
+        let calls = if is_log {
+            Calls { log: at, ..ALL }
+        } else {
+            Calls { db: at, ..ALL }
+        };
+        let (told, left) = run(rt.alloc(), before, calls, whole.line)?;
+        let killed = judge(rt.alloc(), &left.killed, whole, &told, seen)?;
+        let lost = judge(rt.alloc(), &left.lost, whole, &told, seen)?;
+        if !killed || !lost {
+            seen.wrong = true;
+            println!(rt;
+                "wrong after {at} calls, killed {killed}, lost {lost}: {}",
+                told.said
+            )?;
+        }
+        if !left.stopped {
+            return Ok(at);
+        }
+    }
+    Err(io::ErrorKind::Other.into())
+}
+
+fn seen_text(seen: Seen, whole: &Whole<'_>) -> &'static str {
+    if seen.wrong {
+        "wrong"
+    } else if whole.before == whole.after {
+        "the same"
+    } else if seen.before && seen.after {
+        "before and after"
+    } else {
+        "not both"
+    }
+}
+
+/// Runs a line, prints what it tells, and gives what it leaves.
+pub fn run_line(rt: &HostRuntime, before: Contents, line: &str) -> io::Result<Contents> {
+    let (said, after) = go(rt.alloc(), &before, line)?;
+    println!(rt; "{said}")?;
+    Ok(after)
+}
+
+/// Stops a line at each call of the log and then of the file, prints what it tells where nothing stops and
+/// which rows the stops left, and gives what it leaves where nothing stops.
+pub fn stop_line(rt: &HostRuntime, before: Contents, line: &str) -> io::Result<Contents> {
+    let alloc = rt.alloc();
+    let (said, after) = go(alloc, &before, line)?;
+    let whole = Whole {
+        line,
+        said,
+        before: world(alloc, &before)?,
+        after: world(alloc, &after)?,
+    };
+    let mut seen = Seen {
+        before: false,
+        after: false,
+        wrong: false,
+    };
+    let log = sweep(rt, &before, &whole, true, &mut seen)?;
+    let db = sweep(rt, &before, &whole, false, &mut seen)?;
+    eprintln!(rt; "{line}: {log} calls of the log, {db} of the file")?;
+    println!(rt; "{}: {}", whole.said, seen_text(seen, &whole))?;
+    Ok(after)
+}
