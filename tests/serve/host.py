@@ -30,6 +30,12 @@ def ask(port, data, time_limit=TIME_LIMIT):
     return b"".join(pieces)
 
 
+def free_port():
+    with socket.socket() as one:
+        one.bind(("127.0.0.1", 0))
+        return one.getsockname()[1]
+
+
 def get_bytes(target, host):
     return f"GET {target} HTTP/1.1\r\nHost: {host}\r\n\r\n".encode()
 

@@ -14,7 +14,7 @@ import time
 from pathlib import Path
 
 import host as hosts
-from host import ROOT, Server, make, run
+from host import ROOT, Server, free_port, make, run
 
 HOST, KEY = "docs.example.org", "wkey-1"
 
@@ -349,12 +349,6 @@ def unit(part, folder):
         part.skip("this systemd-analyze judges no file that is not loaded")
     else:
         part.check("systemd-analyze security", ended.stdout.split()[-2:-1] in (["OK"], ["SAFE"], ["PERFECT"]), ended.stdout[-200:])
-
-
-def free_port():
-    with socket.socket() as one:
-        one.bind(("127.0.0.1", 0))
-        return one.getsockname()[1]
 
 
 def through(port, method, target, body=None):

@@ -9,7 +9,7 @@ use Rattle.dh_world.specs.Answers.{data_of}
 use Rattle.dh_world.specs.Refusals.{number_of}
 use Rattle.dh_world.specs.declared.answer.Answer.{Answer}
 use Rattle.dh_world.specs.declared.refusal.Refusal.{Refusal}
-use Rattle.dh_world.specs.declared.refusal.Refusal.TheVariants.{BadHost, BadLang, BadRef, BadPath, BadPage, BadPattern, BadRedirect, BadToken, BadKey, NoProject, WrongKey, ProjectTaken, LangTaken, NoLang, NoVersion, SlugTaken, Inactive, BadPlace, TooMany, PassTaken, NoPass, PatternRefused, Store, OutOfMemory}
+use Rattle.dh_world.specs.declared.refusal.Refusal.TheVariants.{BadHost, BadLang, BadRef, BadPath, BadPage, BadPattern, BadRedirect, BadToken, BadKey, NoProject, WrongKey, ProjectTaken, LangTaken, NoLang, NoVersion, SlugTaken, Inactive, BadPlace, TooMany, PassTaken, NoPass, PatternRefused, Store, OutOfMemory, BadUntil}
 
 -- the constant 503, where a reply cannot be made
 abbrev pub unavailable : Reply
@@ -29,6 +29,7 @@ status_of = elim [
   | BadPattern ↦ 400
   | BadRedirect fault ↦ 400
   | BadKey ↦ 400
+  | BadUntil ↦ 400
   | ProjectTaken ↦ 409
   | LangTaken ↦ 409
   | NoLang ↦ 409

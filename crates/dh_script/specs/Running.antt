@@ -91,7 +91,7 @@ pub record RunsBut (moment : ℕ) (before : World) (lines : List (List Text)) (a
   pub into : RunsInto moment before done after held now
 
 abbrev pub RanBut : {T : Type 0} → ℕ → World → List (List Text) → World → Option Text → Option Text → List (List Text) → Result T RunFault → Type 0
-RanBut moment before lines after held now waiting (Ok value) = RunsBut before lines after held now waiting
+RanBut moment before lines after held now waiting (Ok value) = RunsBut moment before lines after held now waiting
 RanBut moment before lines after held now waiting (Err fault) = RunsSome moment before lines after held now
 
 -- a script ran, which is what the source had left, where it tells that

@@ -1,5 +1,5 @@
 -- How runs end, by what is ordered and by what came of it.
-use Rattle.std.proofs.Common.{◌≡◌, ◌⊎◌, ◌∙◌, ℕ, zero, suc, Bool, true, false, true≢false, List, [], ◌∷◌, ◌++◌, Option, Result, Ok, Err, refl, sym, ap, subst, inl, inr}
+use Rattle.std.proofs.Common.{◌≡◌, ◌⊎◌, ◌∙◌, ℕ, ◌+◌, ◌-◌, ◌≤◌, arith, zero, suc, Bool, true, false, true≢false, List, [], ◌∷◌, ◌++◌, Option, Result, Ok, Err, refl, sym, ap, subst, inl, inr}
 use Rattle.std.proofs.lemmas.Result.{err_from_is_err_and}
 use Rattle.std.specs.Prelude.{IsTrue, IsErrAnd, None, drop, codes}
 use Rattle.std.specs.FinMap.{empty}
@@ -78,10 +78,14 @@ error_ended words app k (Ok Faulty) same kinds it = absurd it
 error_ended words app k (Ok Unanswered) same kinds it = absurd it
 error_ended words app k (Err failure) same kinds it = (subst (EndsHelp words) (sym (is_faulty is_of_output (λ fault. refl) failure it)) tt, it)
 
--- no connection came
-pub no_steps : (count : ℕ) (w : World) → Steps count w w
-no_steps zero w = refl
-no_steps (suc count) w = (w, no_steps count w, inl refl)
+-- further connections did nothing
+more_steps : (k n : ℕ) (w v : World) → Steps n w v → Steps (k + n) w v
+more_steps zero n w v it = it
+more_steps (suc k) n w v it = (v, more_steps k n w v it, inl refl)
+
+-- fewer connections came
+pub steps_within : (n count : ℕ) (w v : World) → n ≤ count → Steps n w v → Steps count w v
+steps_within n count w v few it = subst (λ m. Steps m w v) (omega (arith, few)) (more_steps (count - n) n w v it)
 
 -- the engine's fault is that of the run
 pub request_failed

@@ -6,9 +6,11 @@ ghost use Rattle.dh_server.specs.Serving.{Steps};
 ghost use Rattle.dh_server.specs.Telling.{TellsSome};
 ghost use Rattle.docs_host.specs.Failing.{IsDoneOr, is_of_server, may_fail};
 
+use crate::clock::seconds;
 use crate::failure::{Failure, Status, put};
 use crate::orders::say;
 use crate::streams::Streams;
+use dh_files::FileFault;
 use dh_http::Desk;
 use dh_ports::{Sink, Source};
 use dh_server::{Listening, Log, serve_on};
@@ -51,7 +53,8 @@ fn bind<W: Sink>(rt: &HostRuntime, port: u16, sink: &mut W) -> Result<TcpListene
     Ok(listener)
 }
 
-/// Answers so many connections at a port, one request each, which the log tells to standard error.
+/// Answers so many connections at a port, one request each, which the log tells to standard error. A fault of
+/// the store ends it.
 pub fn serve<S: Alter, R: Source, W: Sink, E: Sink>(
     rt: &HostRuntime,
     desk: &mut Desk<S>,
@@ -69,8 +72,20 @@ pub fn serve<S: Alter, R: Source, W: Sink, E: Sink>(
     let listener = bind(rt, port, &mut streams.sink)?;
     tell_served(rt.alloc(), served, &mut streams.errors);
     let mut listening = Listening::new(&listener);
+    let mut clock = || seconds(rt);
     let log = Log::new(rt, log);
     let errors = &mut streams.errors;
-    let _answered = serve_on(rt.alloc(), desk, &mut listening, count, &log, errors);
+    let asked = serve_on(
+        rt.alloc(),
+        desk,
+        &mut listening,
+        &mut clock,
+        count,
+        &log,
+        errors,
+    );
+    if asked < count {
+        return Err(Failure::File(FileFault::Failed));
+    }
     Ok(Status::Done)
 }

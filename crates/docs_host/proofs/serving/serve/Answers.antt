@@ -1,12 +1,17 @@
-use Rattle.dh_http.proofs.Moving.{Moves-refl}
+use Rattle.std.proofs.Common.{refl, arith}
+use Rattle.dh_http.proofs.Moving.{Moves-refl, Moves-weaker}
 use Rattle.dh_server.proofs.Told.{some_more}
-use Rattle.docs_host.proofs.Ending.{no_steps}
+use Rattle.docs_host.proofs.Ending.{steps_within}
 use Rattle.docs_host.proofs.serving.serve.Goals as goal
 
 pub returns-in_err-listener-clause-steps : goal.returns-in_err-listener-clause-steps
-returns-in_err-listener-clause-steps g c = Moves-refl (no_steps c.args.count)
+returns-in_err-listener-clause-steps g c = Moves-refl (λ w. steps_within 0 c.args.count w w (omega arith) refl)
+
+pub returns-clause-steps : goal.returns-clause-steps
+returns-clause-steps g c =
+    Moves-weaker c.serve_on-asked.ensures.steps (λ u v. steps_within c.serve_on-asked.result c.args.count u v c.serve_on-asked.ensures.few)
 
 pub returns-clause-tells : goal.returns-clause-tells
 returns-clause-tells g c =
-    some_more g.E.Sink.broken g.E.Sink.held c.args.streams.now.errors c.tell_served.new.errors c.serve_on-answered.new.errors
-    c.tell_served.ensures c.serve_on-answered.ensures.tells
+    some_more g.E.Sink.broken g.E.Sink.held c.args.streams.now.errors c.tell_served.new.errors c.serve_on-asked.new.errors
+    c.tell_served.ensures c.serve_on-asked.ensures.tells
