@@ -25,9 +25,12 @@ pub fn no_beginning(alloc: Global, why: &str) -> Result<Told, AllocError> {
     })
 }
 
+/// What is told of files that could not be opened.
+pub const UNOPENED: &str = "fault Failed(Store)";
+
 /// Whether a line told that the store failed.
 pub fn is_fault(said: &str) -> bool {
-    said.starts_with("fault Failed") || said == "refused 23 Store" || said == "failed store"
+    said == UNOPENED || said == "refused 23 Store" || said == "failed store"
 }
 
 /// What a line of a script prints.

@@ -1,7 +1,9 @@
 //! A line stopped at each call of each file, and what stands there afterwards.
 
+ghost use Rattle.std.specs.Prelude.{◌≡◌, ◌⊎◌, true, false, string_bytes};
+
 use crate::files::{ALL, Calls, Contents, Left, abandon, close, connect};
-use crate::lines::{Told, is_fault, no_beginning, tell};
+use crate::lines::{Told, UNOPENED, is_fault, no_beginning, tell};
 use crate::rows::rows_of;
 use std::alloc::Global;
 use std::io;
@@ -33,7 +35,7 @@ fn run(alloc: Global, contents: &Contents, calls: Calls, line: &str) -> io::Resu
             let (told, conn) = tell(alloc, conn, line)?;
             Ok((told, close(alloc, conn)?))
         }
-        Err(left) => Ok((no_beginning(alloc, "fault Failed")?, left)),
+        Err(left) => Ok((no_beginning(alloc, UNOPENED)?, left)),
     }
 }
 
@@ -63,14 +65,20 @@ fn goes_on(alloc: Global, left: &Contents, whole: &Whole<'_>) -> io::Result<bool
 
 /// Whether rows may stand after a run: after an answer those after the line, where it did not begin those
 /// before it, else either.
-fn may_stand(now: &str, whole: &Whole<'_>, told: &Told) -> bool {
+fn may_stand(now: &str, whole: &Whole<'_>, told: &Told) -> bool
+    ensures answered { result ≡ true → string_bytes told.now.said ≡ string_bytes whole.now.said
+        → now.now ≡ string_bytes whole.now.after }
+    ensures unbegun { result ≡ true → told.now.began ≡ false
+        → (now.now ≡ string_bytes whole.now.before)
+        ⊎ (string_bytes told.now.said ≡ string_bytes whole.now.said) }
+    ensures known { result ≡ true → (now.now ≡ string_bytes whole.now.before)
+        ⊎ (now.now ≡ string_bytes whole.now.after) }
+{
+    let is_after = now == whole.after.as_str();
     if told.said == whole.said {
-        now == whole.after.as_str()
-    } else if is_fault(told.said.as_str()) {
-        now == whole.before.as_str() || told.began && now == whole.after.as_str()
-    } else {
-        false
+        return is_after;
     }
+    is_fault(told.said.as_str()) && (now == whole.before.as_str() || told.began && is_after)
 }
 
 /// Judges what a run left.
