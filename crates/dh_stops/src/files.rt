@@ -40,6 +40,8 @@ pub struct Left {
     pub killed: Contents,
     /// Where the machine stopped, and what was not synced is lost.
     pub lost: Contents,
+    /// Whether the two are the same.
+    pub synced: bool,
     /// Whether one more call of either fails.
     pub stopped: bool,
 }
@@ -83,9 +85,12 @@ fn left_in(alloc: Global, files: Files<Fused>) -> Result<Left, AllocError> {
     let stopped = has_stopped(&mut files.log) || has_stopped(&mut files.db);
     files.log.crash();
     files.db.crash();
+    let lost = held(alloc, &files)?;
+    let synced = killed.log == lost.log && killed.db == lost.db;
     Ok(Left {
         killed,
-        lost: held(alloc, &files)?,
+        lost,
+        synced,
         stopped,
     })
 }
@@ -109,15 +114,14 @@ pub fn connect(
     }
 }
 
-/// Closes the files: what the log holds is copied into the other.
-pub fn close(alloc: Global, conn: Connection<Store>) -> Result<Left, AllocError> {
+/// What the files hold that a connection gives back. Where it is closed before, what the log holds is copied
+/// into the file.
+pub fn end(alloc: Global, conn: Connection<Store>, closes: bool) -> Result<Left, AllocError> {
+    if !closes {
+        return left_in(alloc, conn.into_store().close());
+    }
     match conn.close_files() {
         Ok(files) => left_in(alloc, files),
         Err((_error, store)) => left_in(alloc, store.close()),
     }
-}
-
-/// What the files hold that nobody closes.
-pub fn abandon(alloc: Global, conn: Connection<Store>) -> Result<Contents, AllocError> {
-    Ok(left_in(alloc, conn.into_store().close())?.killed)
 }

@@ -2,6 +2,7 @@
 
 ghost use Rattle.std.specs.Prelude.{◌≡◌, false};
 
+use crate::rows::rows_of;
 use dh_desk::{Desk, Tables};
 use dh_opening::{TablesFault, create, migrate, open};
 use dh_ports::Port;
@@ -87,7 +88,7 @@ fn stated<S: Alter + Drop>(
     Ok((Told { began: true, said }, conn))
 }
 
-/// Runs a line: `init`, `migrate`, a statement behind `= `, or else a line of a script.
+/// Runs a line: `rows`, `init`, `migrate`, a statement behind `= `, or else a line of a script.
 pub fn tell<S: Alter + Drop>(
     alloc: Global,
     conn: Connection<S>,
@@ -97,6 +98,10 @@ pub fn tell<S: Alter + Drop>(
 {
     if let Some(sql) = line.strip_prefix("= ") {
         return stated(alloc, conn, sql);
+    }
+    if line == "rows" {
+        let (said, conn) = rows_of(alloc, conn)?;
+        return Ok((Told { began: true, said }, conn));
     }
     if line == "init" {
         return made(alloc, create(conn));

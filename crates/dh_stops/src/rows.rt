@@ -33,7 +33,10 @@ fn add_rows<S: Alter>(
 }
 
 /// What an open says of the tables of a connection, and all their rows, as text.
-pub fn rows_of<S: Alter + Drop>(alloc: Global, conn: Connection<S>) -> Result<String, AllocError>
+pub fn rows_of<S: Alter + Drop>(
+    alloc: Global,
+    conn: Connection<S>,
+) -> Result<(String, Connection<S>), AllocError>
     requires { conn.in_transaction ≡ false }
 {
     let (said, mut conn) = match open(alloc, conn) {
@@ -44,5 +47,5 @@ pub fn rows_of<S: Alter + Drop>(alloc: Global, conn: Connection<S>) -> Result<St
     for sql in TABLES {
         add_rows(alloc, &mut out, &mut conn, sql)?;
     }
-    Ok(out)
+    Ok((out, conn))
 }

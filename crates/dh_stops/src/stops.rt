@@ -2,9 +2,8 @@
 
 ghost use Rattle.std.specs.Prelude.{◌≡◌, ◌⊎◌, true, false, string_bytes};
 
-use crate::files::{ALL, Calls, Contents, Left, abandon, close, connect};
+use crate::files::{ALL, Calls, Contents, Left, connect, end};
 use crate::lines::{Told, UNOPENED, is_fault, no_beginning, tell};
-use crate::rows::rows_of;
 use std::alloc::Global;
 use std::io;
 
@@ -28,37 +27,32 @@ struct Seen {
     wrong: bool,
 }
 
-/// Opens files with these contents, runs a line, and closes them.
-fn run(alloc: Global, contents: &Contents, calls: Calls, line: &str) -> io::Result<(Told, Left)> {
+/// Opens files with these contents, runs a line, and closes them or leaves them as they are.
+fn run(
+    alloc: Global,
+    contents: &Contents,
+    calls: Calls,
+    line: &str,
+    closes: bool,
+) -> io::Result<(Told, Left)> {
     match connect(alloc, contents, calls)? {
         Ok(conn) => {
             let (told, conn) = tell(alloc, conn, line)?;
-            Ok((told, close(alloc, conn)?))
+            Ok((told, end(alloc, conn, closes)?))
         }
         Err(left) => Ok((no_beginning(alloc, UNOPENED)?, left)),
     }
 }
 
-/// Opens files with these contents and runs a line, and gives what they hold then, not closed.
-fn go(alloc: Global, contents: &Contents, line: &str) -> io::Result<(String, Contents)> {
-    let Ok(conn) = connect(alloc, contents, ALL)? else {
-        return Err(io::ErrorKind::Other.into());
-    };
-    let (told, conn) = tell(alloc, conn, line)?;
-    Ok((told.said, abandon(alloc, conn)?))
-}
-
 /// The rows of files with these contents.
 fn world(alloc: Global, contents: &Contents) -> io::Result<String> {
-    match connect(alloc, contents, ALL)? {
-        Ok(conn) => Ok(rows_of(alloc, conn)?),
-        Err(_left) => Ok(String::from_str(alloc, "no database")?),
-    }
+    let (told, _left) = run(alloc, contents, ALL, "rows", true)?;
+    Ok(told.said)
 }
 
 /// Whether the line, run anew over what a stop left, tells what it tells and leaves the rows after it.
 fn goes_on(alloc: Global, left: &Contents, whole: &Whole<'_>) -> io::Result<bool> {
-    let (told, left) = run(alloc, left, ALL, whole.line)?;
+    let (told, left) = run(alloc, left, ALL, whole.line, true)?;
     let now = world(alloc, &left.killed)?;
     Ok(told.said == whole.said && now == whole.after)
 }
@@ -116,9 +110,13 @@ fn sweep(
         } else {
             Calls { db: at, ..ALL }
         };
-        let (told, left) = run(rt.alloc(), before, calls, whole.line)?;
+        let (told, left) = run(rt.alloc(), before, calls, whole.line, true)?;
         let killed = judge(rt.alloc(), &left.killed, whole, &told, seen)?;
-        let lost = judge(rt.alloc(), &left.lost, whole, &told, seen)?;
+        let lost = if left.synced {
+            killed
+        } else {
+            judge(rt.alloc(), &left.lost, whole, &told, seen)?
+        };
         if !killed || !lost {
             seen.wrong = true;
             println!(rt;
@@ -145,23 +143,23 @@ fn seen_text(seen: Seen, whole: &Whole<'_>) -> &'static str {
     }
 }
 
-/// Runs a line, prints what it tells, and gives what it leaves.
+/// Runs a line, prints what it tells, and gives what it leaves, closed.
 pub fn run_line(rt: &HostRuntime, before: Contents, line: &str) -> io::Result<Contents> {
-    let (said, after) = go(rt.alloc(), &before, line)?;
-    println!(rt; "{said}")?;
-    Ok(after)
+    let (told, left) = run(rt.alloc(), &before, ALL, line, true)?;
+    println!(rt; "{}", told.said)?;
+    Ok(left.killed)
 }
 
 /// Stops a line at each call of the log and then of the file, prints what it tells where nothing stops and
-/// which rows the stops left, and gives what it leaves where nothing stops.
+/// which rows the stops left, and gives what it leaves where nothing stops, not closed.
 pub fn stop_line(rt: &HostRuntime, before: Contents, line: &str) -> io::Result<Contents> {
     let alloc = rt.alloc();
-    let (said, after) = go(alloc, &before, line)?;
+    let (told, left) = run(alloc, &before, ALL, line, false)?;
     let whole = Whole {
         line,
-        said,
+        said: told.said,
         before: world(alloc, &before)?,
-        after: world(alloc, &after)?,
+        after: world(alloc, &left.killed)?,
     };
     let mut seen = Seen {
         before: false,
@@ -172,5 +170,5 @@ pub fn stop_line(rt: &HostRuntime, before: Contents, line: &str) -> io::Result<C
     let db = sweep(rt, &before, &whole, false, &mut seen)?;
     eprintln!(rt; "{line}: {log} calls of the log, {db} of the file")?;
     println!(rt; "{}: {}", whole.said, seen_text(seen, &whole))?;
-    Ok(after)
+    Ok(left.killed)
 }
