@@ -1,6 +1,6 @@
 //! Lists of redirects in files.
 
-ghost use Rattle.std.specs.Prelude.{◌≡◌, IfErr, IsTrue};
+ghost use Rattle.std.specs.Prelude.{◌≡◌, false, IfErr, IsTrue};
 ghost use Rattle.dh_server.specs.Telling.{TellsSome};
 ghost use Rattle.docs_host.specs.Ends.{Ended, may_end_single};
 ghost use Rattle.docs_host.specs.Failing.{may_fail, is_of_list, is_of_output};
