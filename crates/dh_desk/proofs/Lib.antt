@@ -1,3 +1,5 @@
 pub mod Moving
 pub mod Reading
 pub mod Veiling
+pub mod Calling
+pub mod Filing

@@ -5,16 +5,14 @@ use Rattle.sqlite_trees.specs.declared.store.Store.{Ghosts}
 use Rattle.sqlite.specs.Held.{Held, held_code}
 use Rattle.dh_records.specs.Lists.{world_of}
 use Rattle.dh_records.specs.Constraints.{AreSound}
-use Rattle.dh_reply.specs.Replies.{reply_to}
-use Rattle.dh_wire.specs.declared.reply.Read.{Read}
-use Rattle.dh_wire.specs.declared.reply.Reply.{Reply}
 use Rattle.dh_world.specs.World.{Text, World}
 use Rattle.dh_world.specs.Reads.{host_named, caller_named}
-use Rattle.dh_world.specs.Seen.{seen, veil}
+use Rattle.dh_world.specs.Seen.{veil}
 use Rattle.dh_world.specs.declared.answer.Answer.{Answer}
 use Rattle.dh_world.specs.declared.refusal.Refusal.{Refusal}
 use Rattle.dh_world.specs.declared.refusal.Refusal.TheVariants.{Store, OutOfMemory}
 -- words of the layers below that the clauses of a desk are made of
+pub use Rattle.dh_histories.specs.Runs.{reply_in}
 pub use Rattle.sqlite.specs.Held.{state}
 pub use Rattle.sqlite.specs.State.{HasCleanDisk}
 pub use Rattle.dh_rows.specs.Calls.{IsHonest, IsRefused, Lasts}
@@ -36,12 +34,6 @@ standing_code code =
 abbrev pub is_fault : Result Answer Refusal → Bool
 is_fault (Err Store) = true
 is_fault _ = false
-
--- the reply to a read under a host, for a caller who shows this pass or none at this moment: that of what
--- the caller sees of the world
-abbrev pub reply_in : World → Text → Option Text → ℕ → Read → Reply
-reply_in w host pass moment asked =
-    reply_to (seen w (host_named host) (caller_named pass moment)) asked.path asked.query
 
 -- the world that holds nothing but what that caller sees under the host
 abbrev pub veil_of : World → Text → Option Text → ℕ → World

@@ -1,5 +1,5 @@
 //! Laws of the desk.
-ghost use Rattle.std.specs.Prelude.{◌≡◌, true, Option, Result};
+ghost use Rattle.std.specs.Prelude.{◌≡◌, true, List, Option, Result};
 ghost use Rattle.sqlite.specs.Steps.{over_memory};
 ghost use Rattle.sqlite_trees.specs.declared.memory.MemStore.{MemStore};
 ghost use Rattle.dh_faults.specs.Faults.{OnStore};
@@ -10,7 +10,14 @@ ghost use Rattle.dh_schema.specs.Calling.{Blames};
 ghost use Rattle.dh_world.specs.declared.caller.Caller.{Caller};
 ghost use Rattle.dh_world.specs.World.{Text, World};
 ghost use Rattle.dh_world.specs.Seen.{seen, veil};
+ghost use Rattle.dh_world.specs.declared.outcome.Outcome.{Outcome};
+ghost use Rattle.dh_histories.specs.Purge.{IsFiled};
+ghost use Rattle.dh_histories.specs.declared.call.Call.{Call};
+ghost use Rattle.dh_records.specs.Lists.{Lists, world_of};
 ghost use Rattle.dh_desk.specs.Desk.{Standing};
+ghost use Rattle.dh_desk.specs.DeskRuns.{DoesWhileOpen, IsDeskRun};
+
+use sqlite::Alter;
 
 /// Each reply to a caller, at every path, is the reply in the world that holds nothing but what he sees.
 pub fn veiled_reply()
@@ -24,4 +31,17 @@ pub fn memory_answers()
     ensures { (old new : Standing MemStore) (read : Result Reply Fault)
         → Blames over_memory old.tables new.tables read (old.closed ≡ true)
         → OnStore read (old.closed ≡ true) }
+{}
+
+/// In the world of a desk each version stands under its own slug, as `purge_law` wants it.
+pub fn worlds_are_filed()
+    ensures { (lists : Lists) → IsFiled (world_of lists) }
+{}
+
+/// Calls over a desk are a run, once those that were set aside are taken out: where the store is honest
+/// afterwards all of them, and else up to each command that was accepted, while the disk returns what was written.
+pub fn calls_are_a_run<S: Alter>()
+    ensures { (old new : Standing S) (calls : List Call) (outcomes : List Outcome)
+        → DoesWhileOpen S.Store old new calls outcomes
+        → IsDeskRun S.Store old new calls outcomes }
 {}

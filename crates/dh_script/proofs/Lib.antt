@@ -2,3 +2,4 @@ pub mod ReadingLemmas
 pub mod RunLemmas
 pub mod ScriptLemmas
 pub mod WordLemmas
+pub mod LineCallLemmas

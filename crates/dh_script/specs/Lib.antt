@@ -2,3 +2,4 @@ pub mod Outcomes
 pub mod Reading
 pub mod Running
 pub mod Script
+pub mod LineCalls

@@ -13,7 +13,6 @@ use Rattle.dh_world.specs.Step.{IsStep}
 use Rattle.dh_world.specs.Reads.{host_named, caller_named}
 use Rattle.dh_world.specs.declared.command.Command.{Command}
 use Rattle.dh_world.specs.declared.outcome.Outcome.{Outcome}
-use Rattle.dh_world.specs.declared.outcome.Outcome.TheVariants.{Applied, Refused, Replied, Failed}
 use Rattle.dh_world.specs.declared.refusal.Refusal.{Refusal}
 use Rattle.dh_script.specs.Outcomes.{text_of_outcome, is_refusal}
 use Rattle.dh_lines.specs.declared.lines.Line.{Line}
@@ -21,14 +20,8 @@ use Rattle.dh_lines.specs.declared.lines.Order.{Order}
 use Rattle.dh_lines.specs.declared.lines.Order.TheVariants as order
 use Rattle.dh_script.specs.declared.fault.ScriptFault.{ScriptFault}
 use Rattle.dh_script.specs.declared.fault.ScriptFault.TheVariants.{Run}
-
-abbrev pub outcome_of : Result Answer Refusal → Outcome
-outcome_of (Ok answer) = Applied answer
-outcome_of (Err refusal) = Refused refusal
-
-abbrev pub outcome_of_read : Result Reply Fault → Outcome
-outcome_of_read (Ok reply) = Replied reply
-outcome_of_read (Err fault) = Failed fault
+-- what comes of a command and of a read, by how it is answered
+pub use Rattle.dh_histories.specs.CallsDone.{outcome_of, outcome_of_read}
 
 -- an outcome's text is printed, and whether it is a refusal is told
 abbrev pub Tells : Outcome → Text → Bool → Type 0

@@ -2,12 +2,14 @@
 #![tactic(auto)]
 
 mod fault;
+mod laws;
 mod orders;
 mod outcomes;
 mod reading;
 mod script;
 
 pub use fault::{RunFault, ScriptFault};
+pub use laws::lines_are_calls;
 pub use orders::{Printed, is_bad_target, perform};
 pub use outcomes::outcome_text;
 pub use script::run_script;

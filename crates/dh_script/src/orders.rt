@@ -1,18 +1,18 @@
 //! What one order does over a desk.
 
-ghost use Rattle.std.specs.Prelude.{◌≡◌, true, Some, string_bytes, option_map, IfOk, OnErr};
+ghost use Rattle.std.specs.Prelude.{◌≡◌, true, Some, string_bytes, IfOk, OnErr};
 ghost use Rattle.std.specs.Option.{is_none};
 ghost use Rattle.dh_paths.specs.Targets.{target_of};
 ghost use Rattle.dh_desk.specs.Desk.{Moves};
-ghost use Rattle.dh_script.specs.Script.{outcome_of, outcome_of_read, Tells, GetsAt};
+ghost use Rattle.dh_script.specs.Script.{Tells, GetsAt};
 ghost use Rattle.dh_script.specs.Script.{Performs, MayDoOrder};
 
 use crate::outcomes::{is_refusal, outcome_text};
-use dh_desk::Desk;
+use dh_desk::{Desk, commanded, pass_text, read_out};
 use dh_lines::Order;
 use dh_paths::{Target, Text, TextFault};
-use dh_reply::{Fault, Read, Reply};
-use dh_world::{Answer, Outcome, Refusal};
+use dh_reply::Read;
+use dh_world::Outcome;
 use sqlite::Alter;
 use std::alloc::{AllocError, Global};
 
@@ -23,24 +23,6 @@ pub struct Printed {
     pub text: String,
     /// Whether what was asked for was refused, or failed.
     pub refused: bool,
-}
-
-fn commanded(answer: Result<Answer, Refusal>) -> Outcome
-    ensures { result ≡ outcome_of answer }
-{
-    match answer {
-        Ok(answer) => Outcome::Applied(answer),
-        Err(refusal) => Outcome::Refused(refusal),
-    }
-}
-
-fn read_out(reply: Result<Reply, Fault>) -> Outcome
-    ensures { result ≡ outcome_of_read reply }
-{
-    match reply {
-        Ok(reply) => Outcome::Replied(reply),
-        Err(fault) => Outcome::Failed(fault),
-    }
 }
 
 /// What is told of an outcome.
@@ -61,15 +43,6 @@ fn refusal(alloc: Global, text: &str) -> Result<Printed, AllocError>
         text,
         refused: true,
     })
-}
-
-fn pass_text(pass: &Option<Text>) -> Option<&str>
-    ensures { option_map (λ text. text.now) result ≡ pass.now }
-{
-    match pass {
-        Some(pass) => Some(pass.as_str()),
-        None => None,
-    }
 }
 
 fn do_read<S: Alter>(

@@ -4,6 +4,7 @@
 mod beginnings;
 mod handed;
 mod logs;
+mod passes;
 mod streams;
 
 use dh_ports::{Failed, Port, Sink};

@@ -1,4 +1,4 @@
-use Rattle.std.proofs.Common.{◌≡◌, ◌∙◌, sym, true≢false, arith}
+use Rattle.std.proofs.Common.{◌∙◌, sym, true≢false, arith}
 use Rattle.dh_http.proofs.Moving.{Moves-trans}
 use Rattle.dh_server.specs.Serving.{GivenBy}
 use Rattle.dh_server.proofs.Stepping.{counts_next, serves_next, steps_next}

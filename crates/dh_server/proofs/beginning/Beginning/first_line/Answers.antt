@@ -1,4 +1,4 @@
-use Rattle.std.proofs.Common.{◌≡◌, ◌∙◌, ap, take}
+use Rattle.std.proofs.Common.{◌∙◌, ap, take}
 use Rattle.std.proofs.lemmas.List.{take_min}
 use Rattle.dh_server.specs.Lines.{first_line}
 use Rattle.dh_server.proofs.beginning.Beginning.first_line.Goals as goal

@@ -1,0 +1,76 @@
+-- What a list of calls does over a desk, which a fault of the store may close on the way.
+use Rattle.std.specs.Prelude.{◌≡◌, ◌⊎◌, ℕ, suc, Bool, true, false, List, [], ◌∷◌, ◌++◌, map, take, slice_get, Some}
+use Rattle.sqlite_trees.specs.declared.store.Store.{Ghosts}
+use Rattle.dh_faults.specs.declared.fault.Fault.TheVariants as fault
+use Rattle.dh_world.specs.World.{World}
+use Rattle.dh_world.specs.declared.answer.Answer.{Answer}
+use Rattle.dh_world.specs.declared.outcome.Outcome.{Outcome}
+use Rattle.dh_world.specs.declared.outcome.Outcome.TheVariants.{Applied, Refused, Failed}
+use Rattle.dh_world.specs.declared.refusal.Refusal.TheVariants as refusal
+use Rattle.dh_histories.specs.declared.call.Call.{Call}
+use Rattle.dh_histories.specs.declared.call.Call.TheVariants.{Act, Ask}
+use Rattle.dh_histories.specs.CallsDone.{IsCallDone, calls_left, outcomes_left}
+use Rattle.dh_histories.specs.Runs.{run}
+use Rattle.dh_desk.specs.Desk.{HasCleanDisk, IsHonest, Lasts, Moves, Standing, state, world}
+
+-- what comes of a call of a closed desk
+abbrev pub unanswered : Call → Outcome
+unanswered (Act c) = Refused refusal.Store
+unanswered (Ask host pass moment asked) = Failed fault.Store
+
+-- the call met a fault of the store
+abbrev pub is_faulted : Outcome → Bool
+is_faulted (Refused refusal.Store) = true
+is_faulted (Failed fault.Store) = true
+is_faulted _ = false
+
+-- a command was accepted
+abbrev pub is_applied : Outcome → Bool
+is_applied (Applied answer) = true
+is_applied _ = false
+
+module _ {S : Type 0} (g : Ghosts S) where
+  -- What one call does that leaves the desk open, and what comes of it. While the disk returns what was
+  -- written, an honest store alone accepts a command.
+  pub record DoesCall (old new : Standing S) (call : Call) (outcome : Outcome) : Type 0 where
+    pub moves : Moves g old new (λ before after. IsCallDone before call after outcome)
+    pub live : HasCleanDisk (state g new.tables) → is_applied outcome ≡ true → IsHonest g new.tables
+    pub unfaulted : is_faulted outcome ≡ false
+
+  -- what such calls do, one after the other
+  abbrev pub DoesCalls : Standing S → List Call → Standing S → List Outcome → Type 0
+  DoesCalls old [] new outcomes = (new ≡ old) × (outcomes ≡ [])
+  DoesCalls old (call ∷ calls) new outcomes =
+      (between : Standing S) × (outcome : Outcome) × (more : List Outcome)
+      × DoesCall old between call outcome
+      × DoesCalls between calls new more
+      × (outcomes ≡ outcome ∷ more)
+
+  -- These calls were done while the desk was open; where a fault of the store has closed it, the one that met
+  -- the fault, and each behind it, is answered that.
+  pub record DoesWhileOpen (old new : Standing S) (calls : List Call) (outcomes : List Outcome) : Type 0 where
+    pub done : List Call
+    pub rest : List Call
+    pub told : List Outcome
+    -- the desk behind the last call that was done
+    pub between : Standing S
+    pub calls_are : calls ≡ done ++ rest
+    pub outcomes_are : outcomes ≡ told ++ map unanswered rest
+    pub does : DoesCalls old done between told
+    pub lasts : Lasts g between.tables new.tables
+    pub ends : ((rest ≡ []) × (new ≡ between)) ⊎ (new.closed ≡ true)
+
+  -- without what is set aside these calls are a run from the world of this desk on, which ends in this world
+  abbrev pub IsRunTo : Standing S → World → List Call → List Outcome → Type 0
+  IsRunTo old last calls outcomes =
+      run (world g old) (calls_left calls outcomes) ≡ (last, outcomes_left calls outcomes)
+
+  -- What calls over a desk come to. Where the store is honest afterwards they are a run, and the last world is
+  -- its last one unless the desk is closed. While the disk returns what was written, they are one up to each
+  -- command that was accepted, whatever came later.
+  pub record IsDeskRun (old new : Standing S) (calls : List Call) (outcomes : List Outcome) : Type 0 where
+    pub honest : IsHonest g new.tables → (last : World) × IsRunTo old last calls outcomes
+        × ((last ≡ world g new) ⊎ (new.closed ≡ true))
+    pub accepted : HasCleanDisk (state g new.tables) → (n : ℕ) (answer : Answer)
+        → slice_get outcomes n ≡ Some (Applied answer)
+        → (last : World) × IsRunTo old last (take (suc n) calls) (take (suc n) outcomes)

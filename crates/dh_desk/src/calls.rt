@@ -1,0 +1,83 @@
+//! Lists of calls.
+ghost use Rattle.std.specs.Prelude.{◌≡◌, true, false, length, option_map, IfOk, OnErr};
+ghost use Rattle.dh_histories.specs.CallsDone.{AreCallsDone, IsCallDone, outcome_of, outcome_of_read};
+ghost use Rattle.dh_desk.specs.Desk.{HasCleanDisk, IsHonest, Moves, state};
+ghost use Rattle.dh_desk.specs.DeskRuns.{DoesWhileOpen, is_applied, is_faulted, unanswered};
+
+use crate::desk::Desk;
+use dh_histories::Call;
+use dh_paths::Text;
+use dh_reply::{Fault, Reply};
+use dh_world::{Answer, Outcome, Refusal};
+use sqlite::Alter;
+use std::alloc::{AllocError, Global};
+
+/// What comes of a command.
+pub fn commanded(answer: Result<Answer, Refusal>) -> Outcome
+    ensures { result ≡ outcome_of answer }
+{
+    match answer {
+        Ok(answer) => Outcome::Applied(answer),
+        Err(refusal) => Outcome::Refused(refusal),
+    }
+}
+
+/// What comes of a read.
+pub fn read_out(answer: Result<Reply, Fault>) -> Outcome
+    ensures { result ≡ outcome_of_read answer }
+{
+    match answer {
+        Ok(reply) => Outcome::Replied(reply),
+        Err(fault) => Outcome::Failed(fault),
+    }
+}
+
+/// The pass that is shown, as a text.
+pub fn pass_text(pass: &Option<Text>) -> Option<&str>
+    ensures { option_map (λ text. text.now) result ≡ pass.now }
+{
+    match pass {
+        Some(pass) => Some(pass.as_str()),
+        None => None,
+    }
+}
+
+impl<S: Alter> Desk<S> {
+    /// Does one call, and tells what came of it.
+    fn call(&mut self, alloc: Global, call: &Call) -> Outcome
+        ensures done { Moves S.Store self.old self.new
+            (λ before after. IsCallDone before call.now after result) }
+        ensures live { HasCleanDisk (state S.Store self.new.tables)
+            → is_applied result ≡ true → IsHonest S.Store self.new.tables }
+        ensures closed { self.old.closed ≡ true
+            → (result ≡ unanswered call.now) × (self.new ≡ self.old) }
+        ensures closes { self.new.closed ≡ true → result ≡ unanswered call.now }
+        ensures opens { self.new.closed ≡ false → is_faulted result ≡ false }
+    {
+        match call {
+            Call::Act(command) => commanded(self.apply(alloc, command)),
+            Call::Ask { host, pass, moment, asked } => {
+                read_out(self.read(alloc, host.as_str(), pass_text(pass), asked, *moment))
+            }
+        }
+    }
+
+    /// Does calls one after the other, and tells what came of each. The room for that is taken first: out of
+    /// memory is told there alone, and then nothing was done. Where a call is answered by a fault of the store
+    /// each later one is too.
+    pub fn run(&mut self, alloc: Global, calls: &[Call]) -> Result<Vec<Outcome>, AllocError>
+        ensures ran { Moves S.Store self.old self.new (λ before after. IfOk result
+            (λ outcomes. AreCallsDone before calls.now after outcomes.items)) }
+        ensures until { IfOk result
+            (λ outcomes. DoesWhileOpen S.Store self.old self.new calls.now outcomes.items) }
+        ensures count { IfOk result (λ outcomes. length outcomes.items ≡ length calls.now) }
+        ensures untouched { OnErr result (self.new ≡ self.old) }
+    {
+        let mut outcomes = Vec::with_capacity(alloc, calls.len())?;
+        for call in calls {
+            let outcome = self.call(alloc, call);
+            outcomes.push_reserved(outcome);
+        }
+        Ok(outcomes)
+    }
+}

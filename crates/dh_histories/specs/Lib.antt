@@ -1,0 +1,4 @@
+pub mod Runs
+pub mod Purge
+pub mod CallsDone
+pub mod Repeats

@@ -1,0 +1,21 @@
+//! What a desk is asked.
+use dh_paths::Text;
+use dh_wire::Read;
+use dh_world::Command;
+
+/// One call of a desk.
+#[derive(Drop)]
+pub enum Call {
+    /// A command.
+    Act(Command),
+    /// A read. Its texts are as they came: a name that is no host's names no project, and a text that is no
+    /// pass counts as none.
+    Ask {
+        host: Text,
+        /// The pass that is shown, if one is.
+        pass: Option<Text>,
+        /// When it is read, in seconds since 1970.
+        moment: u64,
+        asked: Read,
+    },
+}
