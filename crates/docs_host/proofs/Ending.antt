@@ -80,8 +80,11 @@ error_ended words app k (Err failure) same kinds it = (subst (EndsHelp words) (s
 
 -- further connections did nothing
 more_steps : (k n : ℕ) (w v : World) → Steps n w v → Steps (k + n) w v
-more_steps zero n w v it = it
-more_steps (suc k) n w v it = (v, more_steps k n w v it, inl refl)
+more_steps zero n w v it = let none : n ≡ 0 + n = omega arith in subst (λ m. Steps m w v) none it
+more_steps (suc k) n w v it =
+    let one : Steps (suc (k + n)) w v = (v, more_steps k n w v it, inl refl) in
+    let next : suc (k + n) ≡ suc k + n = omega arith in
+    subst (λ m. Steps m w v) next one
 
 -- fewer connections came
 pub steps_within : (n count : ℕ) (w v : World) → n ≤ count → Steps n w v → Steps count w v

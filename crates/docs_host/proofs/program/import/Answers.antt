@@ -1,5 +1,7 @@
 use Rattle.std.proofs.Common.{subst}
+use Rattle.dh_lines.specs.Lines.{asking}
 use Rattle.dh_lines.specs.declared.lines.Order.{Order}
+use Rattle.dh_world.specs.declared.command.CommandChange.TheVariants.{ImportRedirects}
 use Rattle.docs_host.specs.Ends.{Ended, EndsOver}
 use Rattle.docs_host.specs.Failing.{is_of_file}
 use Rattle.docs_host.proofs.Ending.{import_ended, list_failed, record_refused}
@@ -14,7 +16,7 @@ pub returns-in-Ok-clause-ends : goal.returns-in-Ok-clause-ends
 returns-in-Ok-clause-ends g c =
     let ended = subst (λ (o : Order). Ended (EndsOver o (g.W.Sink.held c.args.streams.now.sink) (g.W.Sink.held c.run_over.new.streams.sink)) (is_of_file o) c.run_over.result)
     c.in_ok-order-in-Ok.ensures c.run_over.ensures.ends in
-    import_ended c.args.host.now c.args.list.now (g.W.Sink.held c.args.streams.now.sink) (g.W.Sink.held c.run_over.new.streams.sink) _ c.run_over.result ended
+    import_ended c.args.host.now c.args.list.now (g.W.Sink.held c.args.streams.now.sink) (g.W.Sink.held c.run_over.new.streams.sink) (asking c.args.host.now (ImportRedirects c.in-Ok.redirects)) c.run_over.result ended
 
 pub returns-in-Err-BadRecord-clause-ends : goal.returns-in-Err-BadRecord-clause-ends
 returns-in-Err-BadRecord-clause-ends g c =
