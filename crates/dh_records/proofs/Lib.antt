@@ -17,3 +17,4 @@ pub mod SlugOrder
 pub mod PlaceLemmas
 pub mod RuleLemmas
 pub mod RedirectLemmas
+pub mod BaseLemmas

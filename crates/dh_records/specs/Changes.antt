@@ -6,7 +6,7 @@ use Rattle.dh_redirects.specs.declared.redirect.Redirect.{Redirect}
 use Rattle.dh_world.specs.World.{Text}
 use Rattle.dh_records.specs.Codings as coding
 use Rattle.dh_records.specs.Lists as lists
-use Rattle.dh_records.specs.Lists.{Lists, granted, is_version, is_page_under, is_pick_of, is_pass, is_held, is_held_by, is_held_on, is_rule_behind, is_redirect_behind}
+use Rattle.dh_records.specs.Lists.{Lists, granted, is_version, is_page_under, is_pick_of, is_pass, is_held, is_held_by, is_held_on, is_rule_behind, is_redirect_behind, is_alias_of, is_alias_at, is_route_of}
 use Rattle.dh_records.specs.declared.records.ProjectRow.{ProjectRow}
 use Rattle.dh_records.specs.declared.records.LangRow.{LangRow}
 use Rattle.dh_records.specs.declared.records.VersionRow.{VersionRow}
@@ -17,6 +17,10 @@ use Rattle.dh_records.specs.declared.records.PassRow.{PassRow}
 use Rattle.dh_records.specs.declared.records.HeldRow.{HeldRow}
 use Rattle.dh_records.specs.declared.records.RuleRow.{RuleRow}
 use Rattle.dh_records.specs.declared.records.RedirectRow.{RedirectRow}
+use Rattle.dh_records.specs.declared.records.AliasName.{AliasName}
+use Rattle.dh_records.specs.declared.records.AliasRow.{AliasRow}
+use Rattle.dh_records.specs.declared.records.Route.{Route}
+use Rattle.dh_records.specs.declared.records.RouteRow.{RouteRow}
 
 -- ---- a record more, whose key is free
 
@@ -52,6 +56,12 @@ put_rule row l = record l { rules = put coding.rules.key row l.rules }
 abbrev pub put_redirect : RedirectRow → Lists → Lists
 put_redirect row l = record l { redirects = put coding.redirects.key row l.redirects }
 
+abbrev pub put_alias : AliasRow → Lists → Lists
+put_alias row l = record l { aliases = put coding.aliases.key row l.aliases }
+
+abbrev pub put_route : RouteRow → Lists → Lists
+put_route row l = record l { routes = put coding.routes.key row l.routes }
+
 -- a grant, unless it is there
 abbrev pub grant : HeldRow → Lists → Lists
 grant row l = record l { held = granted row l.held }
@@ -72,6 +82,16 @@ abbrev pub set_redirects : Text → List Redirect → Lists → Lists
 set_redirects host redirects l = record l {
   redirects = lists.set_redirects host redirects l.redirects;
 }
+
+-- routes at their places, in place of those that stand there
+abbrev pub put_routes : Text → List Route → Lists → Lists
+put_routes host routes l = record l {
+  routes = lists.put_all coding.routes.key (lists.placed (lists.route_row host) 1 routes) l.routes;
+}
+
+-- the routes of a host, in place of those that it had
+abbrev pub set_routes : Text → List Route → Lists → Lists
+set_routes host routes l = record l { routes = lists.set_routes host routes l.routes }
 
 -- ---- fewer records
 
@@ -121,3 +141,14 @@ abbrev pub drop_redirects_behind : Text → ℕ → Lists → Lists
 drop_redirects_behind host count l = record l {
   redirects = filter (λ x. not (is_redirect_behind host count x)) l.redirects;
 }
+
+abbrev pub drop_alias : Text → Text → AliasName → Lists → Lists
+drop_alias host class name l = record l {
+  aliases = filter (λ x. not (is_alias_at host class name x)) l.aliases;
+}
+
+abbrev pub drop_aliases : Text → Lists → Lists
+drop_aliases host l = record l { aliases = filter (λ x. not (is_alias_of host x)) l.aliases }
+
+abbrev pub drop_routes : Text → Lists → Lists
+drop_routes host l = record l { routes = filter (λ x. not (is_route_of host x)) l.routes }

@@ -27,6 +27,10 @@ use Rattle.dh_records.specs.declared.records.PassRow.{PassRow}
 use Rattle.dh_records.specs.declared.records.HeldRow.{HeldRow}
 use Rattle.dh_records.specs.declared.records.RuleRow.{RuleRow}
 use Rattle.dh_records.specs.declared.records.RedirectRow.{RedirectRow}
+use Rattle.dh_records.specs.declared.records.AliasRow.{AliasRow}
+use Rattle.dh_records.specs.declared.records.RouteRow.{RouteRow}
+use Rattle.dh_records.specs.declared.records.AliasName.{AliasName}
+use Rattle.dh_records.specs.declared.records.AliasName.TheVariants as alias
 use Rattle.dh_world.specs.World.{is_upload}
 use Rattle.dh_world.specs.declared.operation.Operation.TheVariants.{Push, Upload}
 
@@ -47,6 +51,13 @@ action_number = elim [ Activate ↦ 0 | Hide ↦ 1 | Public ↦ 2 | Private ↦ 
 -- any other number reads as the last
 abbrev pub stored_action : ℕ → Action
 stored_action n = if n == 0 then Activate else if n == 1 then Hide else if n == 2 then Public else if n == 3 then Private else Default
+
+abbrev pub alias_number : AliasName → ℕ
+alias_number = elim [ alias.Latest ↦ 0 | alias.Stable ↦ 1 | alias.Default ↦ 2 ]
+
+-- any other number reads as the last
+abbrev pub stored_alias : ℕ → AliasName
+stored_alias n = if n == 0 then alias.Latest else if n == 1 then alias.Stable else alias.Default
 
 -- any other text reads as that of a custom pattern, which begins with `re:`
 abbrev pub stored_pattern : List ℕ → Pattern
@@ -177,6 +188,21 @@ redirects = record {
     };
   };
   key = λ x. Text x.host ∷ Int (pos x.place) ∷ [];
+}
+
+abbrev pub aliases : Coding AliasRow
+aliases = record {
+  encode = λ x. Text x.host ∷ Text x.class ∷ Int (pos (alias_number x.name)) ∷ Text x.slug ∷ [];
+  decode = λ r. record { host = text_in r 1; class = text_in r 2; name = stored_alias (number_in (column r 3)); slug = text_in r 4 };
+  key = λ x. Text x.host ∷ Text x.class ∷ Int (pos (alias_number x.name)) ∷ [];
+}
+
+-- a route's segment stands before its place in the key, so that those of a segment stand together, in the order of places
+abbrev pub routes : Coding RouteRow
+routes = record {
+  encode = λ x. Text x.host ∷ Text x.route.seg ∷ Int (pos x.place) ∷ flag x.route.force ∷ [];
+  decode = λ r. record { host = text_in r 1; place = number_in (column r 3); route = record { seg = text_in r 2; force = flag_in r 4 } };
+  key = λ x. Text x.host ∷ Text x.route.seg ∷ Int (pos x.place) ∷ [];
 }
 
 -- these values are those of the row, and are bound to parameters as such

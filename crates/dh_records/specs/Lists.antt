@@ -22,6 +22,11 @@ use Rattle.dh_records.specs.declared.records.PassRow.{PassRow}
 use Rattle.dh_records.specs.declared.records.HeldRow.{HeldRow}
 use Rattle.dh_records.specs.declared.records.RuleRow.{RuleRow}
 use Rattle.dh_records.specs.declared.records.RedirectRow.{RedirectRow}
+use Rattle.dh_records.specs.declared.records.AliasRow.{AliasRow}
+use Rattle.dh_records.specs.declared.records.Route.{Route}
+use Rattle.dh_records.specs.declared.records.RouteRow.{RouteRow}
+use Rattle.dh_records.specs.declared.records.AliasName.{AliasName}
+use Rattle.dh_records.specs.declared.records.AliasName.TheVariants as alias
 use Rattle.dh_world.specs.declared.operation.Operation.{Operation}
 use Rattle.dh_world.specs.declared.operation.Operation.TheVariants.{Push, Upload}
 
@@ -37,6 +42,12 @@ pub record Lists : Type 0 where
   pub held : List HeldRow
   pub rules : List RuleRow
   pub redirects : List RedirectRow
+  pub aliases : List AliasRow
+  pub routes : List RouteRow
+
+-- the lists of which the world is made, and of which the others are derived
+abbrev pub base_of : Lists → Lists
+base_of l = record l { aliases = []; routes = [] }
 
 -- the records of one host
 abbrev pub of_host : {X : Type 0} → (X → Text) → Text → List X → List X
@@ -110,6 +121,33 @@ is_redirect_of host r = bytes_eq r.host host
 abbrev pub redirect_row : Text → ℕ → Redirect → RedirectRow
 redirect_row host place redirect = record { host = host; place = place; redirect = redirect }
 
+-- callers by the pass that they show, where it is one of the project's
+abbrev pub class_text : Option Text → Text
+class_text None = []
+class_text (Some pass) = pass
+
+abbrev pub same_alias : AliasName → AliasName → Bool
+same_alias alias.Latest alias.Latest = true
+same_alias alias.Stable alias.Stable = true
+same_alias alias.Default alias.Default = true
+same_alias _ _ = false
+
+abbrev pub is_alias_of : Text → AliasRow → Bool
+is_alias_of host r = bytes_eq r.host host
+
+abbrev pub is_alias_at : Text → Text → AliasName → AliasRow → Bool
+is_alias_at host class name r = bytes_eq r.host host && bytes_eq r.class class && same_alias r.name name
+
+abbrev pub is_route_of : Text → RouteRow → Bool
+is_route_of host r = bytes_eq r.host host
+
+-- of this segment
+abbrev pub is_route_in : Text → Text → RouteRow → Bool
+is_route_in host seg r = bytes_eq r.host host && bytes_eq r.route.seg seg
+
+abbrev pub route_row : Text → ℕ → Route → RouteRow
+route_row host place route = record { host = host; place = place; route = route }
+
 -- behind the first so many
 abbrev pub is_rule_behind : Text → ℕ → RuleRow → Bool
 is_rule_behind host count r = bytes_eq r.host host && nat_lt count r.place
@@ -158,6 +196,12 @@ abbrev pub set_redirects : Text → List Redirect → List RedirectRow → List 
 set_redirects host redirects rows =
     put_all coding.redirects.key (placed (redirect_row host) 1 redirects)
     (filter (λ r. not (is_redirect_behind host (length redirects) r)) rows)
+
+-- the routes of a host: each at its place, and no others
+abbrev pub set_routes : Text → List Route → List RouteRow → List RouteRow
+set_routes host routes rows =
+    put_all coding.routes.key (placed (route_row host) 1 routes)
+    (filter (λ r. not (is_route_of host r)) rows)
 
 -- a grant is added, unless it is there
 abbrev pub granted : HeldRow → List HeldRow → List HeldRow

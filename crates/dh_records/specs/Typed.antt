@@ -23,6 +23,8 @@ use Rattle.dh_records.specs.declared.records.PassRow.{PassRow}
 use Rattle.dh_records.specs.declared.records.HeldRow.{HeldRow}
 use Rattle.dh_records.specs.declared.records.RuleRow.{RuleRow}
 use Rattle.dh_records.specs.declared.records.RedirectRow.{RedirectRow}
+use Rattle.dh_records.specs.declared.records.AliasRow.{AliasRow}
+use Rattle.dh_records.specs.declared.records.RouteRow.{RouteRow}
 
 -- ---- columns
 
@@ -130,6 +132,16 @@ pub record IsRedirect (x : RedirectRow) : Type 0 where
   pub source : IsUtf8 x.redirect.source
   pub target : IsUtf8 x.redirect.target
 
+pub record IsAlias (x : AliasRow) : Type 0 where
+  pub host : Passes is_host_name x.host
+  pub class : IsUtf8 x.class
+  pub slug : Passes is_slug x.slug
+
+pub record IsRoute (x : RouteRow) : Type 0 where
+  pub host : Passes is_host_name x.host
+  pub seg : IsUtf8 x.route.seg
+  pub place : x.place < 2 ^ 32
+
 -- each record of the lists can be read again
 pub record AreTyped (l : Lists) : Type 0 where
   pub projects : AllByRecursion IsProject l.projects
@@ -142,3 +154,5 @@ pub record AreTyped (l : Lists) : Type 0 where
   pub held : AllByRecursion IsHeld l.held
   pub rules : AllByRecursion IsRule l.rules
   pub redirects : AllByRecursion IsRedirect l.redirects
+  pub aliases : AllByRecursion IsAlias l.aliases
+  pub routes : AllByRecursion IsRoute l.routes

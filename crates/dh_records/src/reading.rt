@@ -12,8 +12,8 @@ ghost use Rattle.dh_records.specs.Codings as spec;
 ghost use Rattle.dh_records.specs.Typed as typed;
 
 use crate::records::{
-    HeldRow, LangRow, PageRow, PassRow, PickRow, ProjectRow, RedirectRow, RuleRow, UsedRow,
-    VersionRow,
+    AliasName, AliasRow, HeldRow, LangRow, PageRow, PassRow, PickRow, ProjectRow, RedirectRow,
+    Route, RouteRow, RuleRow, UsedRow, VersionRow,
 };
 use dh_lookup::{Fault, Found, Page};
 use dh_paths::{Bytes, Text, TextFault};
@@ -107,6 +107,17 @@ fn stored_action(number: u32) -> Action
         2 => Action::Public,
         3 => Action::Private,
         _ => Action::Default,
+    }
+}
+
+/// The name of a stored alias whose number this is.
+fn stored_alias(number: u32) -> AliasName
+    ensures { result ≡ spec.stored_alias number }
+{
+    match number {
+        0 => AliasName::Latest,
+        1 => AliasName::Stable,
+        _ => AliasName::Default,
     }
 }
 
@@ -367,6 +378,38 @@ impl Record for RedirectRow {
             host: checked_at(alloc, row, 0)?,
             place: number_at(row, 1)?,
             redirect: redirect_in(row)?,
+        })
+    }
+}
+
+impl Record for AliasRow {
+    ghost coding = { spec.aliases };
+
+    ghost typed = { typed.IsAlias };
+
+    fn read(alloc: Global, row: &Row) -> Result<AliasRow, Fault> {
+        Ok(AliasRow {
+            host: checked_at(alloc, row, 0)?,
+            class: Text::wrap(text_at(row, 1)?),
+            name: stored_alias(number_at(row, 2)?),
+            slug: checked_at(alloc, row, 3)?,
+        })
+    }
+}
+
+impl Record for RouteRow {
+    ghost coding = { spec.routes };
+
+    ghost typed = { typed.IsRoute };
+
+    fn read(alloc: Global, row: &Row) -> Result<RouteRow, Fault> {
+        Ok(RouteRow {
+            host: checked_at(alloc, row, 0)?,
+            route: Route {
+                seg: Text::wrap(text_at(row, 1)?),
+                force: flag_at(row, 3)?,
+            },
+            place: number_at(row, 2)?,
         })
     }
 }

@@ -1,7 +1,8 @@
 //! The records, one type for each table.
 
-ghost use Rattle.std.specs.Prelude.{◌≡◌};
+ghost use Rattle.std.specs.Prelude.{◌≡◌, option_map};
 ghost use Rattle.dh_records.specs.Codings as coding;
+ghost use Rattle.dh_records.specs.Lists as spec;
 
 use dh_lookup::Page;
 use dh_paths::{HostName, Lang, PagePath, RefName, Slug, Text, Token};
@@ -136,4 +137,63 @@ pub fn kind_number(kind: RedirectKind) -> u32
         RedirectKind::CleanToHtml => 2,
         RedirectKind::HtmlToClean => 3,
     }
+}
+
+/// A name whose version is stored for each class of callers.
+#[derive(Clone, Copy, Debug, PartialEq, Eq)]
+pub enum AliasName {
+    Latest,
+    Stable,
+    /// The first name of the project's defaults that stands for a version.
+    Default,
+}
+
+/// The name of a stored alias, as its column says it.
+pub fn alias_number(name: AliasName) -> u32
+    ensures { result ≡ coding.alias_number name }
+{
+    match name {
+        AliasName::Latest => 0,
+        AliasName::Stable => 1,
+        AliasName::Default => 2,
+    }
+}
+
+/// The class of the callers with this pass, or of those with none, as its column says it.
+pub fn class_text(pass: Option<&Token>) -> &str
+    ensures { result.now ≡ spec.class_text (option_map (λ t. t.now) pass.entry) }
+{
+    match pass {
+        Some(pass) => pass.as_str(),
+        None => "",
+    }
+}
+
+/// What a name stands for, to a class of callers. It is derived from the other records.
+#[derive(Drop)]
+pub struct AliasRow {
+    pub host: HostName,
+    /// The pass of its callers, or '' for those with none.
+    pub class: Text,
+    pub name: AliasName,
+    /// Of the version that the name stands for.
+    pub slug: Slug,
+}
+
+/// Where a redirect may lead away. It is derived from the redirect.
+#[derive(Drop)]
+pub struct Route {
+    /// The first segment of all paths that the redirect's source fits, or '' where they may differ in it.
+    pub seg: Text,
+    /// Whether the redirect leads away from pages that exist.
+    pub force: bool,
+}
+
+/// The route of a redirect under its host.
+#[derive(Drop)]
+pub struct RouteRow {
+    pub host: HostName,
+    /// The place of the redirect, from 1.
+    pub place: u32,
+    pub route: Route,
 }

@@ -3,9 +3,12 @@
 ghost use Rattle.std.specs.Prelude.{◌≡◌, ◌<◌, ◌^◌};
 ghost use Rattle.dh_records.specs.Codings as coding;
 ghost use Rattle.dh_records.specs.Codings.{AreValuesOf};
-ghost use Rattle.dh_records.specs.Typed.{IsHeld, IsLanguage, IsPage, IsPass, IsProject, IsVersion};
+ghost use Rattle.dh_records.specs.Typed.{IsAlias, IsHeld, IsLanguage, IsPage, IsPass, IsProject, IsRoute, IsVersion};
 
-use crate::records::{HeldRow, LangRow, PageRow, PassRow, ProjectRow, VersionRow, is_tag};
+use crate::records::{
+    AliasRow, HeldRow, LangRow, PageRow, PassRow, ProjectRow, RouteRow, VersionRow, alias_number,
+    is_tag,
+};
 use dh_world::PassEnd;
 use sqlite::types::{ToSql, ValueRef};
 
@@ -116,6 +119,37 @@ impl HeldRow {
             self.host.as_str().to_sql(),
             self.pass.as_str().to_sql(),
             self.slug.as_str().to_sql(),
+        ]
+    }
+}
+
+impl AliasRow {
+    /// Its columns, in the order of the table.
+    pub fn values(&self) -> [ValueRef<'_>; 4]
+        ensures encoded { AreValuesOf result (coding.aliases.encode self.now) }
+        ensures typed { IsAlias self.now }
+    {
+        [
+            self.host.as_str().to_sql(),
+            self.class.as_str().to_sql(),
+            alias_number(self.name).to_sql(),
+            self.slug.as_str().to_sql(),
+        ]
+    }
+}
+
+impl RouteRow {
+    /// Its columns, in the order of the table.
+    pub fn values(&self) -> [ValueRef<'_>; 4]
+        ensures encoded { AreValuesOf result (coding.routes.encode self.now) }
+        ensures typed { IsRoute self.now }
+    {
+        show_number(self.place);
+        [
+            self.host.as_str().to_sql(),
+            self.route.seg.as_str().to_sql(),
+            self.place.to_sql(),
+            self.route.force.to_sql(),
         ]
     }
 }

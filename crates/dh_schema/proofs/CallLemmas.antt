@@ -216,6 +216,14 @@ module _ {S : Type 0} (g : Ghosts S) (old new : Held S) where
           (record { honest = now; mode = s.mode now; settled = λ out. sym (s.done now out); waits = λ within. edit.goes.kept within now }, effect honest (state g new).now it)
       go honest clean (Err e) s it = tt
 
+-- what is true then, by what was
+pub builds_as : {S : Type 0} {g : Ghosts S} {old new : Held S} {r : Result (Unit {0}) Fault} {P Q : Database → Type 0} → (IsHonest g old → (db : Database) → P db → Q db) → Builds g old new r P → Builds g old new r Q
+builds_as {g = g} {old = old} {new = new} {r = r} {P = P} {Q = Q} more it = record { goes = it.goes; made = λ honest clean. go (more honest (state g new).now) r (it.made honest clean) }
+  where
+    go : (P (state g new).now → Q (state g new).now) → (r : Result (Unit {0}) Fault) → OnOk r (GoesOn g old new × P (state g new).now) → OnOk r (GoesOn g old new × Q (state g new).now)
+    go so (Ok u) h = (h.0, so h.1)
+    go so (Err e) h = tt
+
 -- what an answered step made
 pub built : {S : Type 0} {g : Ghosts S} {old new : Held S} {P : Database → Type 0} → Builds g old new (Ok tt) P → IsHonest g new → P (state g new).now
 built it honest = (it.made (it.goes.lasts.was honest) honest.0).1

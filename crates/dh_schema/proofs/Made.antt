@@ -26,12 +26,12 @@ use Rattle.dh_rows.proofs.Create.{IsCreate, makes, Makes, Creates, creates, free
 use Rattle.dh_rows.proofs.Effects.{IsSimple, Turns, other_keeps}
 use Rattle.dh_rows.proofs.Read.{insert_of}
 use Rattle.dh_rows.proofs.Texts.{ArePlain}
-use Rattle.dh_records.specs.Codings.{projects, langs, versions, pages, used, picks, passes, held, rules, redirects}
+use Rattle.dh_records.specs.Codings.{projects, langs, versions, pages, used, picks, passes, held, rules, redirects, aliases, routes}
 use Rattle.dh_records.specs.Typed.{AreTyped}
-use Rattle.dh_schema.specs.Tables.{lists_of, meta, meta_table, rule_table, redirect_table, project_table, lang_table, version_table, page_table, used_table, pick_table, pass_table, holds_table}
+use Rattle.dh_schema.specs.Tables.{lists_of, meta, meta_table, alias_table, route_table, rule_table, redirect_table, project_table, lang_table, version_table, page_table, used_table, pick_table, pass_table, holds_table}
 use Rattle.dh_faults.specs.declared.fault.Fault.{Fault}
 use Rattle.dh_schema.proofs.CallLemmas.{Since, built_one, builds_since, ready_since}
-use Rattle.dh_schema.specs.Making.{Builds, IsReady, IsMade, no_lists, made_tables, our_tables, table_texts}
+use Rattle.dh_schema.specs.Making.{Builds, IsAdded, IsReady, IsMade, added_tables, aliases_text, derived_tables, routes_text, no_lists, made_tables, our_tables, table_texts}
 
 -- the name, and those of the indexes that come with the table
 abbrev Spares : Table → Table → Type 0
@@ -73,28 +73,34 @@ Steps _ _ = ⊥
 pub all_steps : Steps table_texts our_tables
 unfolding everything Steps
 all_steps = (
-  record { read = makes refl refl refl refl refl refl refl refl; plain = refl; uncounted = refl; orders = tt; spares = ((refl, λ tree. tt), ((refl, λ tree. tt), ((refl, λ tree. tt), ((refl, λ tree. tt), ((refl, λ tree. tt), ((refl, λ tree. tt), ((refl, λ tree. tt), ((refl, λ tree. tt), ((refl, λ tree. tt), ((refl, λ tree. tt), tt)))))))))) },
+  record { read = makes refl refl refl refl refl refl refl refl; plain = refl; uncounted = refl; orders = tt; spares = ((refl, λ tree. tt), ((refl, λ tree. tt), ((refl, λ tree. tt), ((refl, λ tree. tt), ((refl, λ tree. tt), ((refl, λ tree. tt), ((refl, λ tree. tt), ((refl, λ tree. tt), ((refl, λ tree. tt), ((refl, λ tree. tt), ((refl, λ tree. tt), ((refl, λ tree. tt), tt)))))))))))) },
   (
-    record { read = makes refl refl refl refl refl refl refl refl; plain = refl; uncounted = refl; orders = (refl, tt); spares = ((refl, λ tree. (refl, tt)), ((refl, λ tree. (refl, tt)), ((refl, λ tree. (refl, tt)), ((refl, λ tree. (refl, tt)), ((refl, λ tree. (refl, tt)), ((refl, λ tree. (refl, tt)), ((refl, λ tree. (refl, tt)), ((refl, λ tree. (refl, tt)), ((refl, λ tree. (refl, tt)), tt))))))))) },
+    record { read = makes refl refl refl refl refl refl refl refl; plain = refl; uncounted = refl; orders = (refl, tt); spares = ((refl, λ tree. (refl, tt)), ((refl, λ tree. (refl, tt)), ((refl, λ tree. (refl, tt)), ((refl, λ tree. (refl, tt)), ((refl, λ tree. (refl, tt)), ((refl, λ tree. (refl, tt)), ((refl, λ tree. (refl, tt)), ((refl, λ tree. (refl, tt)), ((refl, λ tree. (refl, tt)), ((refl, λ tree. (refl, tt)), ((refl, λ tree. (refl, tt)), tt))))))))))) },
     (
-      record { read = makes refl refl refl refl refl refl refl refl; plain = refl; uncounted = refl; orders = (refl, tt); spares = ((refl, λ tree. (refl, tt)), ((refl, λ tree. (refl, tt)), ((refl, λ tree. (refl, tt)), ((refl, λ tree. (refl, tt)), ((refl, λ tree. (refl, tt)), ((refl, λ tree. (refl, tt)), ((refl, λ tree. (refl, tt)), ((refl, λ tree. (refl, tt)), tt)))))))) },
+      record { read = makes refl refl refl refl refl refl refl refl; plain = refl; uncounted = refl; orders = (refl, tt); spares = ((refl, λ tree. (refl, tt)), ((refl, λ tree. (refl, tt)), ((refl, λ tree. (refl, tt)), ((refl, λ tree. (refl, tt)), ((refl, λ tree. (refl, tt)), ((refl, λ tree. (refl, tt)), ((refl, λ tree. (refl, tt)), ((refl, λ tree. (refl, tt)), ((refl, λ tree. (refl, tt)), ((refl, λ tree. (refl, tt)), tt)))))))))) },
       (
-        record { read = makes refl refl refl refl refl refl refl refl; plain = refl; uncounted = refl; orders = (refl, tt); spares = ((refl, λ tree. (refl, tt)), ((refl, λ tree. (refl, tt)), ((refl, λ tree. (refl, tt)), ((refl, λ tree. (refl, tt)), ((refl, λ tree. (refl, tt)), ((refl, λ tree. (refl, tt)), ((refl, λ tree. (refl, tt)), tt))))))) },
+        record { read = makes refl refl refl refl refl refl refl refl; plain = refl; uncounted = refl; orders = (refl, tt); spares = ((refl, λ tree. (refl, tt)), ((refl, λ tree. (refl, tt)), ((refl, λ tree. (refl, tt)), ((refl, λ tree. (refl, tt)), ((refl, λ tree. (refl, tt)), ((refl, λ tree. (refl, tt)), ((refl, λ tree. (refl, tt)), ((refl, λ tree. (refl, tt)), ((refl, λ tree. (refl, tt)), tt))))))))) },
         (
-          record { read = makes refl refl refl refl refl refl refl refl; plain = refl; uncounted = refl; orders = (refl, tt); spares = ((refl, λ tree. (refl, tt)), ((refl, λ tree. (refl, tt)), ((refl, λ tree. (refl, tt)), ((refl, λ tree. (refl, tt)), ((refl, λ tree. (refl, tt)), ((refl, λ tree. (refl, tt)), tt)))))) },
+          record { read = makes refl refl refl refl refl refl refl refl; plain = refl; uncounted = refl; orders = (refl, tt); spares = ((refl, λ tree. (refl, tt)), ((refl, λ tree. (refl, tt)), ((refl, λ tree. (refl, tt)), ((refl, λ tree. (refl, tt)), ((refl, λ tree. (refl, tt)), ((refl, λ tree. (refl, tt)), ((refl, λ tree. (refl, tt)), ((refl, λ tree. (refl, tt)), tt)))))))) },
           (
-            record { read = makes refl refl refl refl refl refl refl refl; plain = refl; uncounted = refl; orders = (refl, tt); spares = ((refl, λ tree. (refl, tt)), ((refl, λ tree. (refl, tt)), ((refl, λ tree. (refl, tt)), ((refl, λ tree. (refl, tt)), ((refl, λ tree. (refl, tt)), tt))))) },
+            record { read = makes refl refl refl refl refl refl refl refl; plain = refl; uncounted = refl; orders = (refl, tt); spares = ((refl, λ tree. (refl, tt)), ((refl, λ tree. (refl, tt)), ((refl, λ tree. (refl, tt)), ((refl, λ tree. (refl, tt)), ((refl, λ tree. (refl, tt)), ((refl, λ tree. (refl, tt)), ((refl, λ tree. (refl, tt)), tt))))))) },
             (
-              record { read = makes refl refl refl refl refl refl refl refl; plain = refl; uncounted = refl; orders = (refl, tt); spares = ((refl, λ tree. (refl, tt)), ((refl, λ tree. (refl, tt)), ((refl, λ tree. (refl, tt)), ((refl, λ tree. (refl, tt)), tt)))) },
+              record { read = makes refl refl refl refl refl refl refl refl; plain = refl; uncounted = refl; orders = (refl, tt); spares = ((refl, λ tree. (refl, tt)), ((refl, λ tree. (refl, tt)), ((refl, λ tree. (refl, tt)), ((refl, λ tree. (refl, tt)), ((refl, λ tree. (refl, tt)), ((refl, λ tree. (refl, tt)), tt)))))) },
               (
-                record { read = makes refl refl refl refl refl refl refl refl; plain = refl; uncounted = refl; orders = (refl, tt); spares = ((refl, λ tree. (refl, tt)), ((refl, λ tree. (refl, tt)), ((refl, λ tree. (refl, tt)), tt))) },
+                record { read = makes refl refl refl refl refl refl refl refl; plain = refl; uncounted = refl; orders = (refl, tt); spares = ((refl, λ tree. (refl, tt)), ((refl, λ tree. (refl, tt)), ((refl, λ tree. (refl, tt)), ((refl, λ tree. (refl, tt)), ((refl, λ tree. (refl, tt)), tt))))) },
                 (
-                  record { read = makes refl refl refl refl refl refl refl refl; plain = refl; uncounted = refl; orders = (refl, tt); spares = ((refl, λ tree. (refl, tt)), ((refl, λ tree. (refl, tt)), tt)) },
+                  record { read = makes refl refl refl refl refl refl refl refl; plain = refl; uncounted = refl; orders = (refl, tt); spares = ((refl, λ tree. (refl, tt)), ((refl, λ tree. (refl, tt)), ((refl, λ tree. (refl, tt)), ((refl, λ tree. (refl, tt)), tt)))) },
                   (
-                    record { read = makes refl refl refl refl refl refl refl refl; plain = refl; uncounted = refl; orders = (refl, tt); spares = ((refl, λ tree. (refl, tt)), tt) },
+                    record { read = makes refl refl refl refl refl refl refl refl; plain = refl; uncounted = refl; orders = (refl, tt); spares = ((refl, λ tree. (refl, tt)), ((refl, λ tree. (refl, tt)), ((refl, λ tree. (refl, tt)), tt))) },
                     (
-                      record { read = makes refl refl refl refl refl refl refl refl; plain = refl; uncounted = refl; orders = (refl, tt); spares = tt },
-                      tt,
+                      record { read = makes refl refl refl refl refl refl refl refl; plain = refl; uncounted = refl; orders = (refl, tt); spares = ((refl, λ tree. (refl, tt)), ((refl, λ tree. (refl, tt)), tt)) },
+                      (
+                        record { read = makes refl refl refl refl refl refl refl refl; plain = refl; uncounted = refl; orders = (refl, tt); spares = ((refl, λ tree. (refl, tt)), tt) },
+                        (
+                          record { read = makes refl refl refl refl refl refl refl refl; plain = refl; uncounted = refl; orders = (refl, tt); spares = tt },
+                          tt,
+                        ),
+                      ),
                     ),
                   ),
                 ),
@@ -182,9 +188,36 @@ no_text f (t ∷ ts) zero high = absurd (omega (arith, high))
 no_text f (t ∷ ts) (suc i) high = no_text f ts i (omega (arith, high))
 
 -- no other table has the name of that of the number
-are_apart : AllByRecursion (λ t. same_name t.name meta_table.name ≡ false) (rule_table ∷ redirect_table ∷ project_table ∷ lang_table ∷ version_table ∷ page_table ∷ used_table ∷ pick_table ∷ pass_table ∷ holds_table ∷ [])
+are_apart : AllByRecursion (λ t. same_name t.name meta_table.name ≡ false) (rule_table ∷ redirect_table ∷ project_table ∷ lang_table ∷ version_table ∷ page_table ∷ used_table ∷ pick_table ∷ pass_table ∷ holds_table ∷ alias_table ∷ route_table ∷ [])
 unfolding everything
-are_apart = (refl, (refl, (refl, (refl, (refl, (refl, (refl, (refl, (refl, (refl, tt))))))))))
+are_apart = (refl, (refl, (refl, (refl, (refl, (refl, (refl, (refl, (refl, (refl, (refl, (refl, tt))))))))))))
+
+-- ---- the tables of derived records, among those that stand
+
+alias_step : IsStep aliases_text alias_table (route_table ∷ [])
+unfolding Steps
+alias_step = let it = all_steps.1.0 in record { read = it.read; plain = it.plain; uncounted = it.uncounted; orders = it.orders; spares = (it.spares.0, tt) }
+
+route_step : IsStep routes_text route_table []
+unfolding Steps
+route_step = let it = all_steps.1.1.0 in record { read = it.read; plain = it.plain; uncounted = it.uncounted; orders = it.orders; spares = tt }
+
+module _ (s : State) where
+  pub aliases_ask : IsReady [] derived_tables s.now → Creates s aliases_text alias_table
+  aliases_ask r = step_asks s [] alias_step r
+
+  pub aliases_made : (r : IsReady [] derived_tables s.now) (after : Database) → Edits s aliases_text [] after → IsAdded (alias_table ∷ []) (route_table ∷ []) s.now after
+  aliases_made r after it = record { ready = step_makes s [] alias_step r after it; others = ((aliases_ask r).made after it).others }
+
+  pub routes_ask : IsReady (alias_table ∷ []) (route_table ∷ []) s.now → Creates s routes_text route_table
+  routes_ask r = step_asks s (alias_table ∷ []) route_step r
+
+  pub routes_made : (r : IsReady (alias_table ∷ []) (route_table ∷ []) s.now) (after : Database) → Edits s routes_text [] after → IsAdded added_tables [] s.now after
+  routes_made r after it = record { ready = step_makes s (alias_table ∷ []) route_step r after it; others = ((routes_ask r).made after it).others }
+
+-- one after the other
+pub all_added : {made left : List Table} {before between after : Database} → IsAdded (alias_table ∷ []) (route_table ∷ []) before between → IsAdded made left between after → IsAdded made left before after
+all_added first next = record { ready = next.ready; others = λ u was. let o = first.others u was in let n = next.others u o.0 in (n.0, n.1 ∙ o.1) }
 
 -- ---- the number of the schema
 
@@ -209,7 +242,7 @@ number_read schema tree = refl
 
 pub number_writes : (s : State) → IsReady made_tables [] s.now → Writes s number_text (meta.encode 2) meta_table meta (added meta.key 2)
 number_writes s r =
-    let m = r.standing.1.1.1.1.1.1.1.1.1.1.0 in
+    let m = r.standing.1.1.1.1.1.1.1.1.1.1.1.1.0 in
     insert meta_table meta_simple meta_plain meta s (bare meta meta_table s.now m.0 m.1) number_text _ _ (number_read _ _) 2 (λ n. refl) (tt, tt) refl
     (subst (λ rows. AllByRecursion (λ y. Rattle.dh_rows.specs.Keyed.same_key meta.key 2 y ≡ false) (records meta rows)) (sym m.1) tt)
 
@@ -218,12 +251,12 @@ stays_bare : {X : Type 0} {change : List ℕ → List ℕ} {db after : Database}
 stays_bare {db = db} it c t r apart = let o = other_keeps it t c (bare c t db r.0 r.1) apart in (o.0, o.1 ∙ ap (records c) r.1)
 
 none_typed : AreTyped no_lists
-none_typed = record { projects = tt; langs = tt; versions = tt; pages = tt; used = tt; picks = tt; passes = tt; held = tt; rules = tt; redirects = tt }
+none_typed = record { projects = tt; langs = tt; versions = tt; pages = tt; used = tt; picks = tt; passes = tt; held = tt; rules = tt; redirects = tt; aliases = tt; routes = tt }
 
 pub number_makes : (s : State) → IsReady made_tables [] s.now → (after : Database) → Edits s number_text (meta.encode 2) after → IsMade after
 number_makes s r after edits =
     let it = (number_writes s r).turns after edits in
-    let m = r.standing.1.1.1.1.1.1.1.1.1.1.0 in
+    let m = r.standing.1.1.1.1.1.1.1.1.1.1.1.1.0 in
     let rule_kept = stays_bare it rules rule_table r.standing.1.1.1.1.1.1.1.1.1.0 are_apart.0 in
     let redirect_kept = stays_bare it redirects redirect_table r.standing.1.1.1.1.1.1.1.1.0 are_apart.1.0 in
     let project_kept = stays_bare it projects project_table r.standing.1.1.1.1.1.1.1.0 are_apart.1.1.0 in
@@ -234,9 +267,11 @@ number_makes s r after edits =
     let pick_kept = stays_bare it picks pick_table r.standing.1.1.0 are_apart.1.1.1.1.1.1.1.0 in
     let pass_kept = stays_bare it passes pass_table r.standing.1.0 are_apart.1.1.1.1.1.1.1.1.0 in
     let holds_kept = stays_bare it held holds_table r.standing.0 are_apart.1.1.1.1.1.1.1.1.1.0 in
-    let none : lists_of after ≡ no_lists = λ i. record { projects = project_kept.1 i; langs = lang_kept.1 i; versions = version_kept.1 i; pages = page_kept.1 i; used = used_kept.1 i; picks = pick_kept.1 i; passes = pass_kept.1 i; held = holds_kept.1 i; rules = rule_kept.1 i; redirects = redirect_kept.1 i } in
+    let alias_kept = stays_bare it aliases alias_table r.standing.1.1.1.1.1.1.1.1.1.1.1.0 are_apart.1.1.1.1.1.1.1.1.1.1.0 in
+    let route_kept = stays_bare it routes route_table r.standing.1.1.1.1.1.1.1.1.1.1.0 are_apart.1.1.1.1.1.1.1.1.1.1.1.0 in
+    let none : lists_of after ≡ no_lists = λ i. record { projects = project_kept.1 i; langs = lang_kept.1 i; versions = version_kept.1 i; pages = page_kept.1 i; used = used_kept.1 i; picks = pick_kept.1 i; passes = pass_kept.1 i; held = holds_kept.1 i; rules = rule_kept.1 i; redirects = redirect_kept.1 i; aliases = alias_kept.1 i; routes = route_kept.1 i } in
     record {
-      holds = record { meta = it.keeps; number = it.records ∙ ap (λ rows. added meta.key 2 (records meta rows)) m.1; projects = project_kept.0; langs = lang_kept.0; versions = version_kept.0; pages = page_kept.0; used = used_kept.0; picks = pick_kept.0; passes = pass_kept.0; held = holds_kept.0; rules = rule_kept.0; redirects = redirect_kept.0; typed = subst AreTyped (sym none) none_typed };
+      holds = record { meta = it.keeps; number = it.records ∙ ap (λ rows. added meta.key 2 (records meta rows)) m.1; projects = project_kept.0; langs = lang_kept.0; versions = version_kept.0; pages = page_kept.0; used = used_kept.0; picks = pick_kept.0; passes = pass_kept.0; held = holds_kept.0; rules = rule_kept.0; redirects = redirect_kept.0; aliases = alias_kept.0; routes = route_kept.0; typed = subst AreTyped (sym none) none_typed };
       empty = none;
     }
 

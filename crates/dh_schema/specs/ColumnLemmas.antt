@@ -26,9 +26,13 @@ use Rattle.dh_records.specs.declared.records.PassRow.{PassRow}
 use Rattle.dh_records.specs.declared.records.HeldRow.{HeldRow}
 use Rattle.dh_records.specs.declared.records.RuleRow.{RuleRow}
 use Rattle.dh_records.specs.declared.records.RedirectRow.{RedirectRow}
-use Rattle.dh_records.specs.Codings.{is_tag, end_number, end_in, action_number, stored_action, stored_pattern, kind_number, stored_kind}
-use Rattle.dh_records.specs.Codings.{projects, langs, versions, pages, used, picks, passes, held, rules, redirects}
-use Rattle.dh_schema.specs.Tables.{project_table, lang_table, version_table, page_table, used_table, pick_table, pass_table, holds_table, rule_table, redirect_table}
+use Rattle.dh_records.specs.declared.records.AliasRow.{AliasRow}
+use Rattle.dh_records.specs.declared.records.RouteRow.{RouteRow}
+use Rattle.dh_records.specs.declared.records.AliasName.{AliasName}
+use Rattle.dh_records.specs.declared.records.AliasName.TheVariants as alias
+use Rattle.dh_records.specs.Codings.{is_tag, end_number, end_in, action_number, stored_action, stored_pattern, kind_number, stored_kind, alias_number, stored_alias}
+use Rattle.dh_records.specs.Codings.{projects, langs, versions, pages, used, picks, passes, held, rules, redirects, aliases, routes}
+use Rattle.dh_schema.specs.Tables.{project_table, lang_table, version_table, page_table, used_table, pick_table, pass_table, holds_table, rule_table, redirect_table, alias_table, route_table}
 
 -- ---- what is read is what was kept
 
@@ -61,6 +65,11 @@ redirect_kind_back Page = refl
 redirect_kind_back Exact = refl
 redirect_kind_back CleanToHtml = refl
 redirect_kind_back HtmlToClean = refl
+
+pub name_back : (a : AliasName) → stored_alias (alias_number a) ≡ a
+name_back alias.Latest = refl
+name_back alias.Stable = refl
+name_back alias.Default = refl
 
 pub end_back : (until : Option ℕ) → end_in (Int (end_number until)) ≡ until
 end_back None = refl
@@ -175,3 +184,25 @@ redirect_plain = ((refl, refl), ((refl, refl), ((refl, refl), ((refl, refl), ((r
 
 pub redirect_back : (x : RedirectRow) (n : ℤ) → redirects.decode (Int n ∷ redirects.encode x) ≡ x
 redirect_back x n = rw (redirect_kind_back x.redirect.kind, flag_back x.redirect.force) refl
+
+-- ---- alias
+
+pub alias_simple : IsSimple alias_table
+alias_simple = refl
+
+pub alias_plain : ArePlain alias_table.columns
+alias_plain = ((refl, refl), ((refl, refl), ((refl, refl), ((refl, refl), tt))))
+
+pub alias_back : (x : AliasRow) (n : ℤ) → aliases.decode (Int n ∷ aliases.encode x) ≡ x
+alias_back x n = rw (name_back x.name) refl
+
+-- ---- route
+
+pub route_simple : IsSimple route_table
+route_simple = refl
+
+pub route_plain : ArePlain route_table.columns
+route_plain = ((refl, refl), ((refl, refl), ((refl, refl), ((refl, refl), tt))))
+
+pub route_back : (x : RouteRow) (n : ℤ) → routes.decode (Int n ∷ routes.encode x) ≡ x
+route_back x n = rw (flag_back x.route.force) refl

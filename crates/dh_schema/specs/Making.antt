@@ -12,7 +12,7 @@ use Rattle.dh_rows.specs.Calls.{IsHonest, GoesWithin, Refuses, whole, committed}
 use Rattle.dh_rows.specs.Places.{IsFree, IsUnmentioned, ArePlaced, Stands, rows_of}
 use Rattle.dh_records.specs.Lists.{Lists}
 use Rattle.sqlite_schema.specs.declared.schema.Schema.{Schema}
-use Rattle.dh_schema.specs.Tables.{Holds, lists_of, meta_table, rule_table, redirect_table, project_table, lang_table, version_table, page_table, used_table, pick_table, pass_table, holds_table}
+use Rattle.dh_schema.specs.Tables.{Holds, lists_of, meta_table, alias_table, route_table, rule_table, redirect_table, project_table, lang_table, version_table, page_table, used_table, pick_table, pass_table, holds_table}
 
 -- Some tables stand with no row, the others can be made: their names are free, and no foreign key names them.
 pub record IsReady (made left : List Table) (db : Database) : Type 0 where
@@ -23,7 +23,7 @@ pub record IsReady (made left : List Table) (db : Database) : Type 0 where
   pub placed : ArePlaced db.schema
 
 abbrev pub no_lists : Lists
-no_lists = record { projects = []; langs = []; versions = []; pages = []; used = []; picks = []; passes = []; held = []; rules = []; redirects = [] }
+no_lists = record { projects = []; langs = []; versions = []; pages = []; used = []; picks = []; passes = []; held = []; rules = []; redirects = []; aliases = []; routes = [] }
 
 -- all tables stand, and spell nothing
 pub record IsMade (db : Database) : Type 0 where
@@ -34,6 +34,8 @@ pub record IsMade (db : Database) : Type 0 where
 abbrev pub our_tables : List Table
 our_tables =
     meta_table ∷
+    alias_table ∷
+    route_table ∷
     rule_table ∷
     redirect_table ∷
     project_table ∷
@@ -58,12 +60,23 @@ made_tables =
     project_table ∷
     redirect_table ∷
     rule_table ∷
+    route_table ∷
+    alias_table ∷
     meta_table ∷ []
 
--- what makes them
+-- what makes those of derived records
+abbrev pub aliases_text : List ℕ
+aliases_text = codes "CREATE TABLE alias (host TEXT NOT NULL, class TEXT NOT NULL, name INTEGER NOT NULL, slug TEXT NOT NULL, PRIMARY KEY (host, class, name)) STRICT"
+
+abbrev pub routes_text : List ℕ
+routes_text = codes "CREATE TABLE route (host TEXT NOT NULL, seg TEXT NOT NULL, place INTEGER NOT NULL, force INTEGER NOT NULL, PRIMARY KEY (host, seg, place)) STRICT"
+
+-- what makes them all
 abbrev pub table_texts : List (List ℕ)
 table_texts =
     codes "CREATE TABLE meta (schema INTEGER NOT NULL) STRICT" ∷
+    aliases_text ∷
+    routes_text ∷
     codes "CREATE TABLE rule (host TEXT NOT NULL, place INTEGER NOT NULL, kind INTEGER NOT NULL, action INTEGER NOT NULL, pattern TEXT NOT NULL, PRIMARY KEY (host, place)) STRICT" ∷
     codes "CREATE TABLE redirect (host TEXT NOT NULL, place INTEGER NOT NULL, kind INTEGER NOT NULL, status INTEGER NOT NULL, force INTEGER NOT NULL, source TEXT NOT NULL, target TEXT NOT NULL, PRIMARY KEY (host, place)) STRICT" ∷
     codes "CREATE TABLE project (host TEXT NOT NULL, main TEXT NOT NULL, branch TEXT NOT NULL, wkey TEXT NOT NULL, private INTEGER NOT NULL, PRIMARY KEY (host)) STRICT" ∷
@@ -80,6 +93,28 @@ table_texts =
 -- the table `sqlite_sequence` is there
 abbrev pub CanMake : Schema → Type 0
 CanMake schema = AllByRecursion (λ t. IsFree schema t.name × IsUnmentioned schema t.name) our_tables × (lacks_sequence schema ≡ false)
+
+-- ---- the tables of records that are derived, added to the others
+
+abbrev pub derived_tables : List Table
+derived_tables = alias_table ∷ route_table ∷ []
+
+-- the same, the last made first
+abbrev pub added_tables : List Table
+added_tables = route_table ∷ alias_table ∷ []
+
+-- neither name is taken or mentioned, and tables can be made
+abbrev pub CanAdd : Schema → Type 0
+CanAdd schema = AllByRecursion (λ t. IsFree schema t.name × IsUnmentioned schema t.name) derived_tables × (lacks_sequence schema ≡ false)
+
+-- each table that stood stands with its rows
+abbrev pub SparesAll : Database → Database → Type 0
+SparesAll before after = (u : Table) → Stands before.schema u → Stands after.schema u × (rows_of after u.name ≡ rows_of before u.name)
+
+-- Beside those that stood some tables are made, and others are left to make.
+pub record IsAdded (made left : List Table) (before after : Database) : Type 0 where
+  pub ready : IsReady made left after
+  pub others : SparesAll before after
 
 module _ {S : Type 0} (g : Ghosts S) (old new : Held S) where
   -- The store is honest, and a transaction stays as it was: outside one all is committed, within one nothing more.

@@ -57,6 +57,12 @@ pass_table = keyed_table (codes "pass") (1 ∷ 2 ∷ []) (text (codes "host") �
 abbrev pub holds_table : Table
 holds_table = keyed_table (codes "holds") (1 ∷ 2 ∷ 3 ∷ []) (text (codes "host") ∷ text (codes "pass") ∷ text (codes "slug") ∷ [])
 
+abbrev pub alias_table : Table
+alias_table = keyed_table (codes "alias") (1 ∷ 2 ∷ 3 ∷ []) (text (codes "host") ∷ text (codes "class") ∷ integer (codes "name") ∷ text (codes "slug") ∷ [])
+
+abbrev pub route_table : Table
+route_table = keyed_table (codes "route") (1 ∷ 2 ∷ 3 ∷ []) (text (codes "host") ∷ text (codes "seg") ∷ integer (codes "place") ∷ integer (codes "force") ∷ [])
+
 -- the number of the schema
 abbrev pub meta : Coding ℕ
 meta = record { encode = λ n. Int (pos n) ∷ []; decode = λ r. number_in (column r 1); key = λ n. [] }
@@ -74,6 +80,8 @@ lists_of db = record {
   held = records_of coding.held (codes "holds") db;
   rules = records_of coding.rules (codes "rule") db;
   redirects = records_of coding.redirects (codes "redirect") db;
+  aliases = records_of coding.aliases (codes "alias") db;
+  routes = records_of coding.routes (codes "route") db;
 }
 
 -- The database has our tables, among those of others, and each of their rows stands for a record
@@ -91,4 +99,6 @@ pub record Holds (db : Database) : Type 0 where
   pub held : Keeps holds_table coding.held db
   pub rules : Keeps rule_table coding.rules db
   pub redirects : Keeps redirect_table coding.redirects db
+  pub aliases : Keeps alias_table coding.aliases db
+  pub routes : Keeps route_table coding.routes db
   pub typed : AreTyped (lists_of db)

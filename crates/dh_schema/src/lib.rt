@@ -4,5 +4,5 @@
 mod making;
 mod query;
 
-pub use making::{can_make, make_at_once, make_tables};
+pub use making::{can_add, can_make, make_at_once, make_derived, make_tables};
 pub use query::{all_records, first_record};

@@ -1,21 +1,32 @@
 //! Making the tables, one after the other.
 
-ghost use Rattle.std.specs.Prelude.{◌≡◌, ◌↔◌, [], map, IsTrue, OnOk, OnErr};
+ghost use Rattle.std.specs.Prelude.{◌≡◌, ◌↔◌, [], ◌∷◌, map, IsTrue, OnOk, OnErr};
 ghost use Rattle.std.specs.List.{AllByRecursion};
 ghost use Rattle.sqlite.specs.Held.{state};
 ghost use Rattle.sqlite.specs.State.{HasCleanDisk};
 ghost use Rattle.dh_rows.specs.Calls.{IsHonest, Lasts};
 ghost use Rattle.dh_rows.specs.Places.{IsFree, IsUnmentioned, ArePlaced};
-ghost use Rattle.dh_schema.specs.Making.{CanMake, IsReady, IsMade, Builds, BuildsOne, AreCommitted, CommitsNothing, made_tables, our_tables, table_texts};
+ghost use Rattle.dh_schema.specs.Making.{CanMake, IsReady, IsMade, Builds, BuildsOne, AreCommitted, CommitsNothing, CanAdd, IsAdded, added_tables, derived_tables, made_tables, our_tables, table_texts};
+ghost use Rattle.dh_schema.specs.Tables.{alias_table, route_table};
 
 use dh_lookup::Fault;
 use dh_rows::{begin, change, commit, is_free, is_unmentioned, keeps_counts};
 use sqlite::{Alter, Connection, params};
 use sqlite_schema::schema::Schema;
 
+/// What makes the table of aliases.
+const ALIASES: &str =
+    "CREATE TABLE alias (host TEXT NOT NULL, class TEXT NOT NULL, name INTEGER NOT NULL, slug TEXT NOT NULL, PRIMARY KEY (host, class, name)) STRICT";
+
+/// What makes the table of routes.
+const ROUTES: &str =
+    "CREATE TABLE route (host TEXT NOT NULL, seg TEXT NOT NULL, place INTEGER NOT NULL, force INTEGER NOT NULL, PRIMARY KEY (host, seg, place)) STRICT";
+
 /// What makes our tables, in this order.
-const TABLES: [&str; 11] = [
+const TABLES: [&str; 13] = [
     "CREATE TABLE meta (schema INTEGER NOT NULL) STRICT",
+    ALIASES,
+    ROUTES,
     "CREATE TABLE rule (host TEXT NOT NULL, place INTEGER NOT NULL, kind INTEGER NOT NULL, action INTEGER NOT NULL, pattern TEXT NOT NULL, PRIMARY KEY (host, place)) STRICT",
     "CREATE TABLE redirect (host TEXT NOT NULL, place INTEGER NOT NULL, kind INTEGER NOT NULL, status INTEGER NOT NULL, force INTEGER NOT NULL, source TEXT NOT NULL, target TEXT NOT NULL, PRIMARY KEY (host, place)) STRICT",
     "CREATE TABLE project (host TEXT NOT NULL, main TEXT NOT NULL, branch TEXT NOT NULL, wkey TEXT NOT NULL, private INTEGER NOT NULL, PRIMARY KEY (host)) STRICT",
@@ -29,8 +40,10 @@ const TABLES: [&str; 11] = [
 ];
 
 /// Their names, in the same order.
-const NAMES: [&[u8]; 11] = [
+const NAMES: [&[u8]; 13] = [
     b"meta",
+    b"alias",
+    b"route",
     b"rule",
     b"redirect",
     b"project",
@@ -42,6 +55,9 @@ const NAMES: [&[u8]; 11] = [
     b"pass",
     b"holds",
 ];
+
+/// The names of those whose records are derived.
+const DERIVED: [&[u8]; 2] = [b"alias", b"route"];
 
 /// Makes the tables, one after the other.
 fn make_each<S: Alter>(conn: &mut Connection<S>, texts: &[&str]) -> Result<(), Fault>
@@ -98,6 +114,44 @@ pub fn can_make(schema: &Schema) -> bool
     ensures { IsTrue result ↔ CanMake schema.now }
 {
     can_have_all(schema, &NAMES) && keeps_counts(schema)
+}
+
+/// Whether the tables of derived records can be made among those that are there.
+pub fn can_add(schema: &Schema) -> bool
+    ensures { IsTrue result ↔ CanAdd schema.now }
+{
+    can_have_all(schema, &DERIVED) && keeps_counts(schema)
+}
+
+/// Makes the table of aliases.
+fn make_aliases<S: Alter>(conn: &mut Connection<S>) -> Result<(), Fault>
+    requires { IsHonest S.Store conn.old
+        → IsReady [] derived_tables (state S.Store conn.old).now }
+    ensures builds { Builds S.Store conn.old conn.new result
+        (IsAdded (alias_table ∷ []) (route_table ∷ []) (state S.Store conn.old).now) }
+{
+    change(conn, ALIASES, &[])
+}
+
+/// Makes the table of routes.
+fn make_routes<S: Alter>(conn: &mut Connection<S>) -> Result<(), Fault>
+    requires { IsHonest S.Store conn.old
+        → IsReady (alias_table ∷ []) (route_table ∷ []) (state S.Store conn.old).now }
+    ensures builds { Builds S.Store conn.old conn.new result
+        (IsAdded added_tables [] (state S.Store conn.old).now) }
+{
+    change(conn, ROUTES, &[])
+}
+
+/// Makes the tables of derived records among those that are there, with no record in them.
+pub fn make_derived<S: Alter>(conn: &mut Connection<S>) -> Result<(), Fault>
+    requires { IsHonest S.Store conn.old
+        → IsReady [] derived_tables (state S.Store conn.old).now }
+    ensures builds { Builds S.Store conn.old conn.new result
+        (IsAdded added_tables [] (state S.Store conn.old).now) }
+{
+    make_aliases(conn)?;
+    make_routes(conn)
 }
 
 /// Makes the tables in a transaction of their own.

@@ -11,4 +11,5 @@ pub mod PickLemmas
 pub mod ListLemmas
 pub mod TurnLemmas
 pub mod SettingLemmas
+pub mod RouteLemmas
 pub mod OrderLemmas

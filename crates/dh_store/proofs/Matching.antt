@@ -12,7 +12,10 @@ use Rattle.sqlite_sql.specs.declared.ops.CompareOp.TheVariants.{Eq, Gt}
 use Rattle.sqlite_sql.specs.Ops.{binary, is_true, from_truth}
 use Rattle.dh_rows.specs.Keyed.{flag}
 use Rattle.dh_world.specs.World.{is_upload}
-use Rattle.dh_records.specs.Lists.{same_op}
+use Rattle.dh_records.specs.Codings.{alias_number}
+use Rattle.dh_records.specs.Lists.{same_alias, same_op}
+use Rattle.dh_records.specs.declared.records.AliasName.{AliasName}
+use Rattle.dh_records.specs.declared.records.AliasName.TheVariants.{Latest, Stable, Default}
 use Rattle.dh_world.specs.declared.operation.Operation.{Operation}
 use Rattle.dh_world.specs.declared.operation.Operation.TheVariants.{Push, Upload}
 
@@ -37,3 +40,15 @@ equal_op Push Push = refl
 equal_op Push Upload = refl
 equal_op Upload Push = refl
 equal_op Upload Upload = refl
+
+pub equal_alias : (a b : AliasName) → is_true (binary (Compare Eq Binary) (Int (pos (alias_number a))) (Int (pos (alias_number b)))) ≡ same_alias a b
+unfolding binary value_cmp lib.Ieee.is_nan lib.Ieee.lt
+equal_alias Latest Latest = refl
+equal_alias Latest Stable = refl
+equal_alias Latest Default = refl
+equal_alias Stable Latest = refl
+equal_alias Stable Stable = refl
+equal_alias Stable Default = refl
+equal_alias Default Latest = refl
+equal_alias Default Stable = refl
+equal_alias Default Default = refl

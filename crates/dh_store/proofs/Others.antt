@@ -9,8 +9,8 @@ use Rattle.dh_rows.specs.Places.{Keeps, records_of}
 use Rattle.dh_rows.proofs.Effects.{Turns, other_keeps}
 use Rattle.dh_records.specs.Codings as coding
 use Rattle.dh_records.specs.Lists.{Lists}
-use Rattle.dh_records.specs.Typed.{AreTyped, IsProject, IsLanguage, IsVersion, IsPage, IsUsed, IsPick, IsPass, IsHeld, IsRule, IsRedirect}
-use Rattle.dh_schema.specs.Tables.{Holds, lists_of, meta, meta_table, project_table, lang_table, version_table, page_table, used_table, pick_table, pass_table, holds_table, rule_table, redirect_table}
+use Rattle.dh_records.specs.Typed.{AreTyped, IsProject, IsLanguage, IsVersion, IsPage, IsUsed, IsPick, IsPass, IsHeld, IsRule, IsRedirect, IsAlias, IsRoute}
+use Rattle.dh_schema.specs.Tables.{Holds, lists_of, meta, meta_table, project_table, lang_table, version_table, page_table, used_table, pick_table, pass_table, holds_table, rule_table, redirect_table, alias_table, route_table}
 use Rattle.dh_schema.proofs.CallLemmas.{Changed}
 
 abbrev pub if_so : Bool → Type 0 → Type 0 → Type 0
@@ -39,6 +39,8 @@ module _ (t : Table) (db after : Database) where
     pub held : Part holds_table coding.held IsHeld next.held
     pub rules : Part rule_table coding.rules IsRule next.rules
     pub redirects : Part redirect_table coding.redirects IsRedirect next.redirects
+    pub aliases : Part alias_table coding.aliases IsAlias next.aliases
+    pub routes : Part route_table coding.routes IsRoute next.routes
 
   module _ {X : Type 0} {c : Coding X} {change : List X → List X} (it : Turns t c change db after) where
     part : {Y : Type 0} (u : Table) (d : Coding Y) (P : Y → Type 0) (rows : List Y) → Keeps u d db → AllByRecursion P (records_of d u.name db) → Part u d P rows → Has u d P rows
@@ -61,10 +63,12 @@ module _ (t : Table) (db after : Database) where
         let holds = part holds_table coding.held IsHeld _ had.held had.typed.held p.held in
         let rule = part rule_table coding.rules IsRule _ had.rules had.typed.rules p.rules in
         let redirect = part redirect_table coding.redirects IsRedirect _ had.redirects had.typed.redirects p.redirects in
-        let lists : lists_of after ≡ f (lists_of db) = λ i. record { projects = project.records i; langs = lang.records i; versions = version.records i; pages = page.records i; used = used.records i; picks = pick.records i; passes = pass.records i; held = holds.records i; rules = rule.records i; redirects = redirect.records i } in
-        let typed : AreTyped (f (lists_of db)) = record { projects = project.typed; langs = lang.typed; versions = version.typed; pages = page.typed; used = used.typed; picks = pick.typed; passes = pass.typed; held = holds.typed; rules = rule.typed; redirects = redirect.typed } in
+        let alias = part alias_table coding.aliases IsAlias _ had.aliases had.typed.aliases p.aliases in
+        let route = part route_table coding.routes IsRoute _ had.routes had.typed.routes p.routes in
+        let lists : lists_of after ≡ f (lists_of db) = λ i. record { projects = project.records i; langs = lang.records i; versions = version.records i; pages = page.records i; used = used.records i; picks = pick.records i; passes = pass.records i; held = holds.records i; rules = rule.records i; redirects = redirect.records i; aliases = alias.records i; routes = route.records i } in
+        let typed : AreTyped (f (lists_of db)) = record { projects = project.typed; langs = lang.typed; versions = version.typed; pages = page.typed; used = used.typed; picks = pick.typed; passes = pass.typed; held = holds.typed; rules = rule.typed; redirects = redirect.typed; aliases = alias.typed; routes = route.typed } in
         record {
-          holds = record { meta = m.0; number = m.1 ∙ had.number; projects = project.keeps; langs = lang.keeps; versions = version.keeps; pages = page.keeps; used = used.keeps; picks = pick.keeps; passes = pass.keeps; held = holds.keeps; rules = rule.keeps; redirects = redirect.keeps; typed = subst AreTyped (sym lists) typed };
+          holds = record { meta = m.0; number = m.1 ∙ had.number; projects = project.keeps; langs = lang.keeps; versions = version.keeps; pages = page.keeps; used = used.keeps; picks = pick.keeps; passes = pass.keeps; held = holds.keeps; rules = rule.keeps; redirects = redirect.keeps; aliases = alias.keeps; routes = route.keeps; typed = subst AreTyped (sym lists) typed };
           schema = it.schema;
           lists = lists;
         }

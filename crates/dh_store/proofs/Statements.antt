@@ -22,18 +22,21 @@ use Rattle.dh_records.specs.declared.records.PassRow.{PassRow}
 use Rattle.dh_records.specs.declared.records.HeldRow.{HeldRow}
 use Rattle.dh_records.specs.declared.records.RuleRow.{RuleRow}
 use Rattle.dh_records.specs.declared.records.RedirectRow.{RedirectRow}
+use Rattle.dh_records.specs.declared.records.AliasName.{AliasName}
+use Rattle.dh_records.specs.declared.records.AliasRow.{AliasRow}
+use Rattle.dh_records.specs.declared.records.RouteRow.{RouteRow}
 use Rattle.dh_world.specs.declared.operation.Operation.{Operation}
 use Rattle.dh_world.specs.World.{is_upload}
-use Rattle.dh_records.specs.Typed.{IsProject, IsLanguage, IsVersion, IsPage, IsUsed, IsPick, IsPass, IsHeld, IsRule, IsRedirect}
-use Rattle.dh_records.specs.Codings.{projects, langs, versions, pages, used, picks, passes, held, rules, redirects}
+use Rattle.dh_records.specs.Typed.{IsProject, IsLanguage, IsVersion, IsPage, IsUsed, IsPick, IsPass, IsHeld, IsRule, IsRedirect, IsAlias, IsRoute}
+use Rattle.dh_records.specs.Codings.{projects, langs, versions, pages, used, picks, passes, held, rules, redirects, aliases, routes, alias_number}
 use Rattle.dh_records.specs.Changes as change
-use Rattle.dh_schema.specs.Tables.{Holds, lists_of, project_table, lang_table, version_table, page_table, used_table, pick_table, pass_table, holds_table, rule_table, redirect_table}
-use Rattle.dh_records.specs.Lists.{is_project, is_lang_of, is_version_of, is_version, is_page_of, is_page_in, is_page, is_used, same_op, is_pick_of, is_pass_of, is_pass, is_held, is_held_by, is_held_on, is_rule_of, is_rule_behind, is_redirect_of, is_redirect_behind}
-use Rattle.dh_store.proofs.Matching.{equal_text, above_place, equal_op}
+use Rattle.dh_schema.specs.Tables.{Holds, lists_of, project_table, lang_table, version_table, page_table, used_table, pick_table, pass_table, holds_table, rule_table, redirect_table, alias_table, route_table}
+use Rattle.dh_records.specs.Lists.{is_project, is_lang_of, is_version_of, is_version, is_page_of, is_page_in, is_page, is_used, same_op, is_pick_of, is_pass_of, is_pass, is_held, is_held_by, is_held_on, is_rule_of, is_rule_behind, is_redirect_of, is_redirect_behind, is_alias_of, is_alias_at, same_alias, is_route_of, is_route_in}
+use Rattle.dh_store.proofs.Matching.{equal_text, above_place, equal_alias, equal_op}
 use Rattle.dh_records.proofs.Keys.{one, two, three, four}
 use Rattle.dh_store.specs.Meanings.{Alters, AsksFor}
 use Rattle.dh_store.proofs.OneTable.{asks, deletes, deletes_above, inserts, upserts}
-use Rattle.dh_store.proofs.OurTables.{of_projects, of_langs, of_versions, of_pages, of_used, of_picks, of_passes, of_held, of_rules, of_redirects}
+use Rattle.dh_store.proofs.OurTables.{of_projects, of_langs, of_versions, of_pages, of_used, of_picks, of_passes, of_held, of_rules, of_redirects, of_aliases, of_routes}
 
 abbrev pub project_text : List ℕ
 project_text = codes "SELECT host, main, branch, wkey, private FROM project WHERE host = ?1 ORDER BY host"
@@ -452,3 +455,135 @@ drop_redirects_behind_read = refl
 
 pub drop_redirects_behind_alters : (s : State) → Holds s.now → (host : List ℕ) (count : ℕ) → Alters s drop_redirects_behind_text (Text host ∷ Int (pos count) ∷ []) (change.drop_redirects_behind host count)
 drop_redirects_behind_alters s had host count = deletes_above of_redirects s had drop_redirects_behind_text _ _ drop_redirects_behind_read _ (is_redirect_behind host count) (λ n x. rw (equal_text x.host host, above_place x.place count) (two (bytes_eq x.host host) (nat_lt count x.place)))
+
+-- ---- aliases
+
+abbrev pub alias_text : List ℕ
+alias_text = codes "SELECT host, class, name, slug FROM alias WHERE host = ?1 AND class = ?2 AND name = ?3 ORDER BY host, class, name"
+
+alias_is : (select_of alias_table alias_text ≡ Some (0 ∷ 1 ∷ 2 ∷ 3 ∷ [], (0, 0) ∷ (1, 1) ∷ (2, 2) ∷ [], 0 ∷ 1 ∷ 2 ∷ [])) × (parameters_in alias_text ≡ Some 3)
+unfolding everything
+alias_is = (refl, refl)
+
+pub alias_asked : (s : State) (host class : List ℕ) (name : AliasName) → AsksFor aliases.encode IsAlias (λ l. l.aliases) (is_alias_at host class name) s alias_text (Text host ∷ Text class ∷ Int (pos (alias_number name)) ∷ [])
+alias_asked s host class name = asks of_aliases s alias_text _ _ _ _ alias_is refl (is_alias_at host class name) (λ n x. rw (equal_text x.host host, equal_text x.class class, equal_alias x.name name) (three (bytes_eq x.host host) (bytes_eq x.class class) (same_alias x.name name))) (λ tree n x. refl) (λ x y. refl)
+
+abbrev pub aliases_text : List ℕ
+aliases_text = codes "SELECT host, class, name, slug FROM alias WHERE host = ?1 ORDER BY host, class, name"
+
+aliases_is : (select_of alias_table aliases_text ≡ Some (0 ∷ 1 ∷ 2 ∷ 3 ∷ [], (0, 0) ∷ [], 0 ∷ 1 ∷ 2 ∷ [])) × (parameters_in aliases_text ≡ Some 1)
+unfolding everything
+aliases_is = (refl, refl)
+
+pub aliases_asked : (s : State) (host : List ℕ) → AsksFor aliases.encode IsAlias (λ l. l.aliases) (is_alias_of host) s aliases_text (Text host ∷ [])
+aliases_asked s host = asks of_aliases s aliases_text _ _ _ _ aliases_is refl (is_alias_of host) (λ n x. rw (equal_text x.host host) (one (bytes_eq x.host host))) (λ tree n x. refl) (λ x y. refl)
+
+alias_key : IsKeyOf alias_table (1 ∷ 2 ∷ 3 ∷ [])
+alias_key = record { primary = refl; uniques = refl; apart = refl; own = refl; among = refl }
+
+abbrev pub put_alias_text : List ℕ
+put_alias_text = codes "INSERT INTO alias VALUES (?1, ?2, ?3, ?4) ON CONFLICT (host, class, name) DO UPDATE SET slug = ?4"
+
+abbrev put_alias_new : List Term
+put_alias_new = col 1 0 ∷ col 1 0 ∷ col 1 1 ∷ col 1 2 ∷ col 1 3 ∷ col 0 3 ∷ []
+
+put_alias_read : (schema : Schema) (tree : ℕ) → IsUpsert schema alias_table tree put_alias_text (lit Null ∷ col 0 0 ∷ col 0 1 ∷ col 0 2 ∷ col 0 3 ∷ []) 5 4 put_alias_new
+unfolding everything
+put_alias_read schema tree = puts refl refl refl refl refl refl refl refl (λ cx. refl)
+
+put_alias_fits : (x : AliasRow) → Fits alias_table aliases x (1 ∷ 2 ∷ 3 ∷ []) 4 put_alias_new
+unfolding first_key
+put_alias_fits x = record {
+  kinds = (tt, (tt, (tt, (tt, tt))));
+  agrees = λ n m y. rw (same_text y.host x.host, same_text y.class x.class, same_int (pos (alias_number y.name)) (pos (alias_number x.name))) (tied_is (aliases.key x) (aliases.key y));
+  placed = λ id more. refl;
+  shows = λ n more y same.
+      let host = and_parts _ _ (tied_is (aliases.key x) (aliases.key y) ∙ same) in
+      let class = and_parts _ _ host.1 in
+      let name = and_parts _ _ class.1 in
+      rw (alike_text y.host x.host host.0, alike_text y.class x.class class.0, alike_int (pos (alias_number y.name)) (pos (alias_number x.name)) name.0) refl;
+}
+
+pub put_alias_alters : (s : State) → Holds s.now → (x : AliasRow) → IsAlias x → Alters s put_alias_text (aliases.encode x) (change.put_alias x)
+put_alias_alters s had x typed = upserts of_aliases s had x typed (1 ∷ 2 ∷ 3 ∷ []) alias_key put_alias_text _ 5 4 put_alias_new put_alias_read refl (put_alias_fits x) refl
+
+abbrev pub drop_alias_text : List ℕ
+drop_alias_text = codes "DELETE FROM alias WHERE host = ?1 AND class = ?2 AND name = ?3"
+
+drop_alias_read : delete_of alias_table drop_alias_text ≡ Some ((0, 0) ∷ (1, 1) ∷ (2, 2) ∷ [])
+unfolding everything
+drop_alias_read = refl
+
+pub drop_alias_alters : (s : State) → Holds s.now → (host class : List ℕ) (name : AliasName) → Alters s drop_alias_text (Text host ∷ Text class ∷ Int (pos (alias_number name)) ∷ []) (change.drop_alias host class name)
+drop_alias_alters s had host class name = deletes of_aliases s had drop_alias_text _ drop_alias_read _ (is_alias_at host class name) (λ n x. rw (equal_text x.host host, equal_text x.class class, equal_alias x.name name) (three (bytes_eq x.host host) (bytes_eq x.class class) (same_alias x.name name)))
+
+abbrev pub drop_aliases_text : List ℕ
+drop_aliases_text = codes "DELETE FROM alias WHERE host = ?1"
+
+drop_aliases_read : delete_of alias_table drop_aliases_text ≡ Some ((0, 0) ∷ [])
+unfolding everything
+drop_aliases_read = refl
+
+pub drop_aliases_alters : (s : State) → Holds s.now → (host : List ℕ) → Alters s drop_aliases_text (Text host ∷ []) (change.drop_aliases host)
+drop_aliases_alters s had host = deletes of_aliases s had drop_aliases_text _ drop_aliases_read _ (is_alias_of host) (λ n x. rw (equal_text x.host host) (one (bytes_eq x.host host)))
+
+-- ---- routes
+
+abbrev pub routes_text : List ℕ
+routes_text = codes "SELECT host, seg, place, force FROM route WHERE host = ?1 ORDER BY host, seg, place"
+
+routes_is : (select_of route_table routes_text ≡ Some (0 ∷ 1 ∷ 2 ∷ 3 ∷ [], (0, 0) ∷ [], 0 ∷ 1 ∷ 2 ∷ [])) × (parameters_in routes_text ≡ Some 1)
+unfolding everything
+routes_is = (refl, refl)
+
+pub routes_asked : (s : State) (host : List ℕ) → AsksFor routes.encode IsRoute (λ l. l.routes) (is_route_of host) s routes_text (Text host ∷ [])
+routes_asked s host = asks of_routes s routes_text _ _ _ _ routes_is refl (is_route_of host) (λ n x. rw (equal_text x.host host) (one (bytes_eq x.host host))) (λ tree n x. refl) (λ x y. refl)
+
+abbrev pub routes_in_text : List ℕ
+routes_in_text = codes "SELECT host, seg, place, force FROM route WHERE host = ?1 AND seg = ?2 ORDER BY host, seg, place"
+
+routes_in_is : (select_of route_table routes_in_text ≡ Some (0 ∷ 1 ∷ 2 ∷ 3 ∷ [], (0, 0) ∷ (1, 1) ∷ [], 0 ∷ 1 ∷ 2 ∷ [])) × (parameters_in routes_in_text ≡ Some 2)
+unfolding everything
+routes_in_is = (refl, refl)
+
+pub routes_in_asked : (s : State) (host seg : List ℕ) → AsksFor routes.encode IsRoute (λ l. l.routes) (is_route_in host seg) s routes_in_text (Text host ∷ Text seg ∷ [])
+routes_in_asked s host seg = asks of_routes s routes_in_text _ _ _ _ routes_in_is refl (is_route_in host seg) (λ n x. rw (equal_text x.host host, equal_text x.route.seg seg) (two (bytes_eq x.host host) (bytes_eq x.route.seg seg))) (λ tree n x. refl) (λ x y. refl)
+
+route_key : IsKeyOf route_table (1 ∷ 2 ∷ 3 ∷ [])
+route_key = record { primary = refl; uniques = refl; apart = refl; own = refl; among = refl }
+
+abbrev pub put_route_text : List ℕ
+put_route_text = codes "INSERT INTO route VALUES (?1, ?2, ?3, ?4) ON CONFLICT (host, seg, place) DO UPDATE SET force = ?4"
+
+abbrev put_route_new : List Term
+put_route_new = col 1 0 ∷ col 1 0 ∷ col 1 1 ∷ col 1 2 ∷ col 1 3 ∷ col 0 3 ∷ []
+
+put_route_read : (schema : Schema) (tree : ℕ) → IsUpsert schema route_table tree put_route_text (lit Null ∷ col 0 0 ∷ col 0 1 ∷ col 0 2 ∷ col 0 3 ∷ []) 5 4 put_route_new
+unfolding everything
+put_route_read schema tree = puts refl refl refl refl refl refl refl refl (λ cx. refl)
+
+put_route_fits : (x : RouteRow) → Fits route_table routes x (1 ∷ 2 ∷ 3 ∷ []) 4 put_route_new
+unfolding first_key
+put_route_fits x = record {
+  kinds = (tt, (tt, (tt, (tt, tt))));
+  agrees = λ n m y. rw (same_text y.host x.host, same_text y.route.seg x.route.seg, same_int (pos y.place) (pos x.place)) (tied_is (routes.key x) (routes.key y));
+  placed = λ id more. refl;
+  shows = λ n more y same.
+      let host = and_parts _ _ (tied_is (routes.key x) (routes.key y) ∙ same) in
+      let seg = and_parts _ _ host.1 in
+      let place = and_parts _ _ seg.1 in
+      rw (alike_text y.host x.host host.0, alike_text y.route.seg x.route.seg seg.0, alike_int (pos y.place) (pos x.place) place.0) refl;
+}
+
+pub put_route_alters : (s : State) → Holds s.now → (x : RouteRow) → IsRoute x → Alters s put_route_text (routes.encode x) (change.put_route x)
+put_route_alters s had x typed = upserts of_routes s had x typed (1 ∷ 2 ∷ 3 ∷ []) route_key put_route_text _ 5 4 put_route_new put_route_read refl (put_route_fits x) refl
+
+abbrev pub drop_routes_text : List ℕ
+drop_routes_text = codes "DELETE FROM route WHERE host = ?1"
+
+drop_routes_read : delete_of route_table drop_routes_text ≡ Some ((0, 0) ∷ [])
+unfolding everything
+drop_routes_read = refl
+
+pub drop_routes_alters : (s : State) → Holds s.now → (host : List ℕ) → Alters s drop_routes_text (Text host ∷ []) (change.drop_routes host)
+drop_routes_alters s had host = deletes of_routes s had drop_routes_text _ drop_routes_read _ (is_route_of host) (λ n x. rw (equal_text x.host host) (one (bytes_eq x.host host)))

@@ -11,6 +11,7 @@ ghost use Rattle.dh_schema.specs.Tables.{Holds, lists_of};
 ghost use Rattle.dh_records.specs.Lists as spec;
 
 mod defaults;
+mod derived;
 mod grants;
 mod listing;
 mod lists;
