@@ -164,6 +164,17 @@ module _ (schema : Schema) (t : Table) (was : Stands schema t) (lone : IsLone sc
     views = unshared.views;
   }
 
+  -- another free name stays free
+  spared_left : (name : List ℕ) → IsFree schema name → IsUnmentioned schema name → IsFree left name × IsUnmentioned left name
+  spared_left name free unmentioned = (
+    record {
+      tables = none_at (λ (u : Table). same_name u.name name) 0 left.tables (all-filter _ stays schema.tables (all_fail (λ (u : Table). same_name u.name name) schema.tables 0 free.tables));
+      indexes = none_at (λ (i : Index). same_name i.name name) 0 left.indexes (all-filter _ (λ i. not (i.table == tree)) schema.indexes (all_fail (λ (i : Index). same_name i.name name) schema.indexes 0 free.indexes));
+      views = free.views;
+    },
+    all-filter _ stays schema.tables unmentioned,
+  )
+
   -- another table of ours stays
   module _ (u : Table) (stood : Stands schema u) (apart : same_name u.name t.name ≡ false) where
     abbrev its : ℕ
@@ -245,10 +256,11 @@ module _ (schema : Schema) (t : Table) (was : Stands schema t) (lone : IsLone sc
 unacted : (schema : Schema) (keys : Keys) (table : Table) → IsUnmentioned schema table.name → is_acted_on schema keys table ≡ false
 unacted schema keys table alone = any_from_none _ schema.tables (all_weaker _ _ (λ u apart. any_from_none _ u.references (all_weaker _ _ (λ ref differs. rw differs refl) u.references apart)) schema.tables alone)
 
--- The table is gone, and each other table of ours stands as it did.
+-- The table is gone, each other table of ours stands as it did, and free names stay free.
 pub record Drops (t : Table) (db after : Database) : Type 0 where
   pub free : IsFree after.schema t.name
   pub unmentioned : IsUnmentioned after.schema t.name
+  pub spared : (name : List ℕ) → IsFree db.schema name → IsUnmentioned db.schema name → IsFree after.schema name × IsUnmentioned after.schema name
   pub others : (u : Table) → Stands db.schema u → same_name u.name t.name ≡ false → Stands after.schema u × (rows_of after u.name ≡ rows_of db u.name)
   pub counted : lacks_sequence after.schema ≡ false
   pub placed : ArePlaced after.schema
@@ -296,6 +308,7 @@ drops_table t text (drops {p = p} read is formats reserved) uncounted apart s so
         record {
           free = subst (λ d. IsFree d t.name) (sym done.0) (free_left schema t was lone alone sound.lists.listed.named unshared);
           unmentioned = subst (λ d. IsUnmentioned d t.name) (sym done.0) (unmentioned_left schema t was lone alone);
+          spared = λ name free unmentioned. subst (λ d. IsFree d name × IsUnmentioned d name) (sym done.0) (spared_left schema t was lone alone name free unmentioned);
           others = λ u stood differs.
               let place = place_left schema t was lone alone u stood differs in
               let tree = tree_left schema t was lone alone u stood differs in (

@@ -34,7 +34,7 @@ use Rattle.dh_schema.proofs.CallLemmas.{Since, built_one, builds_since, ready_si
 use Rattle.dh_schema.specs.Making.{Builds, IsAdded, IsReady, IsMade, added_tables, aliases_text, derived_tables, routes_text, no_lists, made_tables, our_tables, table_texts}
 
 -- the name, and those of the indexes that come with the table
-abbrev Spares : Table → Table → Type 0
+abbrev pub Spares : Table → Table → Type 0
 Spares t u = (same_name t.name u.name ≡ false) × ((tree : ℕ) → AllByRecursion (λ (i : Index). same_name i.name u.name ≡ false) (automatics (record t { tree = tree }) 0 (tree + 1) t.uniques))
 
 module _ (t : Table) (plain : t.references ≡ []) (db after : Database) (m : Makes t db after) where
@@ -42,7 +42,7 @@ module _ (t : Table) (plain : t.references ≡ []) (db after : Database) (m : Ma
   stay [] h = tt
   stay (u ∷ us) h = let o = m.others u h.0.0 in ((o.0, o.1 ∙ h.0.1), stay us h.1)
 
-  wait : IsUnmentioned db.schema t.name → (ts : List Table) → AllByRecursion (Spares t) ts → AllByRecursion (λ u. IsFree db.schema u.name × IsUnmentioned db.schema u.name) ts → AllByRecursion (λ u. IsFree after.schema u.name × IsUnmentioned after.schema u.name) ts
+  pub wait : IsUnmentioned db.schema t.name → (ts : List Table) → AllByRecursion (Spares t) ts → AllByRecursion (λ u. IsFree db.schema u.name × IsUnmentioned db.schema u.name) ts → AllByRecursion (λ u. IsFree after.schema u.name × IsUnmentioned after.schema u.name) ts
   wait alone [] s h = tt
   wait alone (u ∷ us) s h = (
     (
