@@ -17,7 +17,7 @@ use Rattle.dh_store.proofs.OrderLemmas.{in_order}
 use Rattle.dh_opening.specs.declared.fault.TablesFault.{TablesFault}
 use Rattle.dh_opening.specs.declared.fault.TablesFault.TheVariants.{NotOurs, OldSchema, Failed}
 use Rattle.dh_opening.specs.Opening.{IsKnown, IsNumbered, IsOurs, OnFailed, OnNotOurs, OnOldSchema, Opens}
-use Rattle.dh_opening.specs.Filling.{AddsNothing, Brings, IsAtRest, IsBrought, IsFilled, IsOpened, LeavesBrought, OpensTables}
+use Rattle.dh_opening.specs.Filling.{Brings, IsAtRest, IsBrought, IsFilled, IsNothingAdded, IsOpened, LeavesBrought, OpensTables}
 use Rattle.dh_opening.proofs.FillLemmas.{ours_brought}
 
 -- ---- in a transaction of its own
@@ -266,7 +266,7 @@ module _ {S : Type 0} {g : Ghosts S} where
           let is = (none (live back) (subst (λ (d : Database). ¬ CanAdd d.schema) (sym (first.same back).now_is) cannot)).0 in
           first.goes.quiet honest back db (subst (λ (h : Held S). g.recovers h.store db) is may)
 
-      quiet : (r : Result (Unit {0}) TablesFault) → OnNotOurs r ⊥ → OnOldSchema r ⊥ → AddsNothing r (state g a).now → IsHonest g a → LeavesNoMore g a c
+      quiet : (r : Result (Unit {0}) TablesFault) → OnNotOurs r ⊥ → OnOldSchema r ⊥ → IsNothingAdded r (state g a).now → IsHonest g a → LeavesNoMore g a c
       quiet (Ok u) ours current cannot = still cannot
       quiet (Err NotOurs) ours current nothing = absurd ours
       quiet (Err OldSchema) ours current nothing = absurd current

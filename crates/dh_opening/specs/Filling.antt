@@ -1,5 +1,5 @@
 -- What a database becomes whose tables of derived records are added where they are missing.
-use Rattle.std.specs.Prelude.{◌≡◌, ◌⊎◌, false, [], Result, Err, OnOk, OnErr, ⊤}
+use Rattle.std.specs.Prelude.{◌≡◌, ◌⊎◌, false, [], Result, Ok, Err, OnOk, OnErr, ⊤}
 use Rattle.sqlite_trees.specs.declared.store.Store.{Ghosts}
 use Rattle.sqlite.specs.Effect.{Database}
 use Rattle.sqlite.specs.Held.{Held, state}
@@ -10,7 +10,7 @@ use Rattle.dh_records.specs.Lists.{Lists, base_of}
 use Rattle.dh_schema.specs.Making.{CanAdd, IsAdded, added_tables}
 use Rattle.dh_schema.specs.Tables.{Holds, lists_of}
 use Rattle.dh_opening.specs.declared.fault.TablesFault.{TablesFault}
-use Rattle.dh_opening.specs.declared.fault.TablesFault.TheVariants.{NotOurs, OldSchema}
+use Rattle.dh_opening.specs.declared.fault.TablesFault.TheVariants.{NotOurs, OldSchema, Failed}
 use Rattle.dh_opening.specs.Opening.{HasDerived, IsNumbered, IsOurs, OnFailed, OnNotOurs, OnOldSchema}
 
 -- where they can be added they are, and else all is as it was
@@ -36,10 +36,15 @@ abbrev pub IsOpened : Database → Database → Type 0
 IsOpened before after = IsOurs before × IsBrought (base_of (lists_of before)) before after
 
 -- Nothing is added where the tables are found not to be ours, or of schema 1, or where none can be added.
-abbrev pub AddsNothing : {T : Type 0} → Result T TablesFault → Database → Type 0
-AddsNothing (Err NotOurs) db = ⊤
-AddsNothing (Err OldSchema) db = ⊤
-AddsNothing _ db = ¬ CanAdd db.schema
+abbrev pub AddsNothing : TablesFault → Database → Type 0
+AddsNothing NotOurs db = ⊤
+AddsNothing OldSchema db = ⊤
+AddsNothing (Failed fault) db = ¬ CanAdd db.schema
+
+-- the same of an answer
+abbrev pub IsNothingAdded : {T : Type 0} → Result T TablesFault → Database → Type 0
+IsNothingAdded (Ok x) db = ¬ CanAdd db.schema
+IsNothingAdded (Err e) db = AddsNothing e db
 
 module _ {S : Type 0} (g : Ghosts S) where
   -- The store is honest, no transaction is open, and what is seen was committed.
@@ -79,4 +84,4 @@ module _ {S : Type 0} (g : Ghosts S) where
       pub told
           : ¬ CanAdd (state g old).now.schema → HasCleanDisk (state g new) → OnFailed result (IsBlamed g old new)
       -- where nothing is added a crash leaves nothing more
-      pub quiet : AddsNothing result (state g old).now → IsHonest g old → LeavesNoMore g old new
+      pub quiet : IsNothingAdded result (state g old).now → IsHonest g old → LeavesNoMore g old new

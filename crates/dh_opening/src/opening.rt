@@ -1,6 +1,6 @@
 //! Our tables in a database: made where there is none of them, and opened where they stand.
 
-ghost use Rattle.std.specs.Prelude.{◌≡◌, ◌≢◌, false, None, Err, IfErr, IfOk, IsTrue};
+ghost use Rattle.std.specs.Prelude.{◌≡◌, ◌≢◌, false, None, IfErr, IfOk, IsTrue};
 ghost use Rattle.sqlite.specs.Held.{state};
 ghost use Rattle.sqlite.specs.State.{HasCleanDisk};
 ghost use Rattle.dh_rows.specs.Calls.{AreOurs, IsBlamed, IsHonest, LeavesCommitted, LeavesNoMore, committed, seen};
@@ -197,7 +197,7 @@ pub fn open<S: Alter>(
         → HasCleanDisk (state S.Store e.1)
         → e.0 ≡ TablesFault.Failed Fault.Store → IsBlamed S.Store conn e.1) }
     ensures back { IfErr result (λ e. IsHonest S.Store e.1 → CommitsNothing S.Store conn e.1) }
-    ensures kept { IfErr result (λ e. AddsNothing {T = Unit {0}} (Err e.0) (state S.Store conn).now
+    ensures kept { IfErr result (λ e. AddsNothing e.0 (state S.Store conn).now
         → IsHonest S.Store conn → LeavesNoMore S.Store conn e.1) }
     ensures stop { IfErr result (λ e. LeavesOpened S.Store conn e.1) }
 {

@@ -55,7 +55,7 @@ returns-in-Err-clause-told g c cannot clean is =
     (subst (λ h. ¬ CanAdd (state g.S.Store h).now.schema → HasCleanDisk (state g.S.Store c.open_tables.new.conn) → OnFailed {T = Unit {0}} (Err c.in-Err.fault) (IsBlamed g.S.Store h c.open_tables.new.conn)) c.set_step_limit.ensures c.in-Err.ensures.opens.told cannot clean) is
 
 pub returns-in-Err-clause-kept : goal.returns-in-Err-clause-kept
-returns-in-Err-clause-kept g c = subst (λ h. AddsNothing {T = Unit {0}} (Err c.in-Err.fault) (state g.S.Store h).now → IsHonest g.S.Store h → LeavesNoMore g.S.Store h c.open_tables.new.conn) c.set_step_limit.ensures c.in-Err.ensures.opens.quiet
+returns-in-Err-clause-kept g c = subst (λ h. AddsNothing c.in-Err.fault (state g.S.Store h).now → IsHonest g.S.Store h → LeavesNoMore g.S.Store h c.open_tables.new.conn) c.set_step_limit.ensures c.in-Err.ensures.opens.quiet
 
 pub returns-in-Err-clause-stop : goal.returns-in-Err-clause-stop
 returns-in-Err-clause-stop g c = subst (λ h. LeavesOpened g.S.Store h c.open_tables.new.conn) c.set_step_limit.ensures c.in-Err.ensures.opens.brings.crash
