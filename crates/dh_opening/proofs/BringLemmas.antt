@@ -1,14 +1,13 @@
 -- What brings a database to another, in a transaction of its own, and after a look.
-use Rattle.std.proofs.Common.{◌≡◌, inl, inr, Bool, true, false, IsTrue, IsErrAnd, None, Result, Ok, Err, OnOk, OnErr, refl, sym, ap, subst, ◌∙◌}
+use Rattle.std.proofs.Common.{◌≡◌, inl, inr, Bool, true, false, IsTrue, IsErrAnd, None, Result, Ok, Err, OnOk, OnErr, sym, ap, subst, ◌∙◌}
 use Rattle.sqlite_trees.specs.declared.store.Store.{Ghosts}
 use Rattle.sqlite.specs.Effect.{Database}
 use Rattle.sqlite.specs.Held.{Held, state}
 use Rattle.sqlite.specs.State.{HasCleanDisk}
 use Rattle.dh_faults.specs.declared.fault.Fault.{Fault}
 use Rattle.dh_faults.specs.declared.fault.Fault.TheVariants as fault
-use Rattle.dh_rows.specs.Calls.{GoesWithin, IsBlamed, IsHonest, IsRefused, Keep, Lasts, LeavesNoMore, LeavesSeen, OnlyBegins, OnlyCommits, Shows, whole}
+use Rattle.dh_rows.specs.Calls.{GoesWithin, IsHonest, IsRefused, Keep, Lasts, LeavesNoMore, LeavesSeen, OnlyBegins, OnlyCommits, Shows, whole}
 use Rattle.dh_records.specs.Constraints.{AreInOrder, KeepsConstraints}
-use Rattle.dh_records.specs.Lists.{Lists, base_of}
 use Rattle.dh_schema.specs.InTurn.{lasts_none, lasts_on}
 use Rattle.dh_schema.specs.Making.{CanAdd}
 use Rattle.dh_schema.specs.Tables.{Holds, lists_of}
@@ -17,7 +16,7 @@ use Rattle.dh_store.proofs.OrderLemmas.{in_order}
 use Rattle.dh_opening.specs.declared.fault.TablesFault.{TablesFault}
 use Rattle.dh_opening.specs.declared.fault.TablesFault.TheVariants.{NotOurs, OldSchema, Failed}
 use Rattle.dh_opening.specs.Opening.{IsKnown, IsNumbered, IsOurs, OnFailed, OnNotOurs, OnOldSchema, Opens}
-use Rattle.dh_opening.specs.Filling.{Brings, IsAtRest, IsBrought, IsFilled, IsNothingAdded, IsOpened, LeavesBrought, OpensTables}
+use Rattle.dh_opening.specs.Filling.{Brings, IsAtRest, IsFilled, IsNothingAdded, IsOpened, LeavesBrought, OpensTables}
 use Rattle.dh_opening.proofs.FillLemmas.{ours_brought}
 
 -- ---- in a transaction of its own

@@ -1,5 +1,5 @@
 -- The tables of derived records are added, and the others keep their records.
-use Rattle.std.proofs.Common.{◌≡◌, ◌⊎◌, inl, inr, false, ℕ, ◌<◌, ◌^◌, List, [], ◌∷◌, codes, map, Result, Ok, Err, OnOk, refl, sym, ap, subst, ◌∙◌, lit≤}
+use Rattle.std.proofs.Common.{◌≡◌, ◌⊎◌, inl, inr, false, ◌<◌, ◌^◌, List, [], ◌∷◌, codes, Result, Ok, Err, OnOk, refl, sym, ap, subst, ◌∙◌, lit≤}
 use Rattle.std.specs.List.{AllByRecursion}
 use Rattle.sqlite_schema.specs.declared.schema.Table.{Table}
 use Rattle.sqlite_schema.specs.Names.{same_name}

@@ -1,10 +1,9 @@
 -- What becomes of tables of schema 1 as a whole.
-use Rattle.std.proofs.Common.{◌≡◌, ◌⊎◌, inl, inr, ℕ, List, [], codes, map, Result, Ok, Err, OnOk, refl, sym, ap, subst, ◌∙◌}
+use Rattle.std.proofs.Common.{◌≡◌, inl, inr, ℕ, List, [], codes, map, Result, Ok, sym, ap, subst, ◌∙◌}
 use Rattle.sqlite_keyed.proofs.ListLemmas.{ascending-map}
 use Rattle.sqlite_trees.specs.declared.store.Store.{Ghosts}
 use Rattle.sqlite.specs.Effect.{Database, IsDatabase}
 use Rattle.sqlite.specs.Held.{Held, state}
-use Rattle.sqlite.specs.State.{HasCleanDisk}
 use Rattle.dh_faults.specs.declared.fault.Fault.{Fault}
 use Rattle.dh_rows.specs.Calls.{IsHonest}
 use Rattle.dh_schema.specs.InTurn.{goes_anywhere}
@@ -13,13 +12,12 @@ use Rattle.dh_records.specs.Constraints.{InOrder, KeepsConstraints}
 use Rattle.dh_records.specs.Lists.{Lists, base_of}
 use Rattle.dh_records.specs.declared.records.PassRow.{PassRow}
 use Rattle.dh_schema.specs.Tables.{Holds, lists_of}
-use Rattle.dh_migrating.proofs.StepLemmas.{carried_as, carried_on, true_then}
+use Rattle.dh_migrating.proofs.StepLemmas.{carried_as, carried_on}
 use Rattle.dh_migrating.specs.Converting.{Carries, IsConvertible, IsConverted}
 use Rattle.dh_migrating.specs.OldPasses.{IsOldPass, old_lists_of, old_passes, without_end}
 use Rattle.dh_migrating.specs.declared.old_pass.OldPassRow.{OldPassRow}
-use Rattle.dh_opening.specs.declared.fault.TablesFault.{TablesFault}
 use Rattle.dh_opening.specs.Opening.{AreKeptIn, IsNumbered, IsOurs, MayDerive, StandFor, Opens}
-use Rattle.dh_opening.specs.Filling.{IsBrought, IsFilled}
+use Rattle.dh_opening.specs.Filling.{IsFilled}
 use Rattle.dh_opening.specs.Migrating.{AreOldIn, IsMigrated, IsOld, IsShown}
 use Rattle.dh_opening.proofs.FillLemmas.{old_brought}
 use Rattle.dh_opening.proofs.Spelling.{other_number}

@@ -1,8 +1,7 @@
 -- From the records of each table to those of all.
-use Rattle.std.proofs.Common.{◌≡◌, ◌≢◌, inl, inr, ℕ, ◌<◌, ◌^◌, Bool, false, IsTrue, List, [], ◌∷◌, codes, refl, sym, subst, ◌∙◌, lit≤, true≢false}
+use Rattle.std.proofs.Common.{◌≡◌, ◌≢◌, inl, inr, ℕ, ◌<◌, ◌^◌, Bool, false, IsTrue, List, [], ◌∷◌, codes, sym, subst, ◌∙◌, true≢false}
 use Rattle.std.specs.List.{AllByRecursion}
 use Rattle.sqlite_schema.specs.declared.schema.Schema.{Schema}
-use Rattle.sqlite_schema.specs.declared.schema.Table.{Table}
 use Rattle.sqlite.specs.Effect.{Database}
 use Rattle.dh_rows.specs.Keyed.{Coding}
 use Rattle.dh_rows.specs.Places.{records_of}

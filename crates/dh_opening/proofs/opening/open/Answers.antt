@@ -1,10 +1,9 @@
-use Rattle.std.proofs.Common.{◌∙◌, Ok, Err, ap, subst}
+use Rattle.std.proofs.Common.{◌∙◌, Err, ap, subst}
 use Rattle.sqlite.specs.Held.{state}
 use Rattle.sqlite.specs.State.{HasCleanDisk}
 use Rattle.dh_rows.specs.Calls.{IsBlamed, IsHonest, LeavesNoMore}
 use Rattle.dh_schema.specs.Making.{CanAdd}
 use Rattle.dh_schema.specs.Tables.{lists_of}
-use Rattle.dh_opening.specs.declared.fault.TablesFault.{TablesFault}
 use Rattle.dh_opening.specs.Opening.{IsNumbered, IsOurs, OnFailed}
 use Rattle.dh_opening.specs.Filling.{AddsNothing, LeavesOpened}
 use Rattle.dh_opening.proofs.BringLemmas.{is_open, is_brought, is_last, are_sound, keeps}
