@@ -1,4 +1,5 @@
-use Rattle.std.proofs.Common.{subst}
+use Rattle.std.proofs.Common.{rules, subst}
+use Rattle.dh_schema.specs.InTurn.{goes_on}
 use Rattle.dh_looks.proofs.LookLemmas.{facts_here}
 use Rattle.dh_looks.proofs.looks.look.Goals as goal
 use Rattle.dh_looks.specs.Finding.{FindsSettings}
@@ -15,3 +16,12 @@ returns-clause-value g c honest sound =
     (c.in_ok-settings.ensures.asks.looks.now_is h0) (c.in_ok-version.ensures.asks.looks.now_is h1) sound
     (subst (FindsSettings c.args.host.now lists) c.in-Some.is (c.in_ok-settings.ensures.value h0)) c.questions_of-questions.ensures
     (c.in_ok-version.ensures.value h1) (c.in_ok-languages.ensures.value honest)
+
+pub returns-in_err-languages-clause-asks : goal.returns-in_err-languages-clause-asks
+returns-in_err-languages-clause-asks g c = record {
+  goes =
+      goes_on c.settings_of.ensures.asks.goes c.in_ok-settings.ensures.asks.looks.live
+      (goes_on c.look_at.ensures.asks.goes c.in_ok-version.ensures.asks.looks.live c.look_lists.ensures.asks.goes);
+  looks = search rules;
+  err = search rules;
+}
