@@ -1,4 +1,5 @@
--- The lists that the records are.
+-- The lists that the records are, of which none is derived.
+use Rattle.std.specs.Prelude.{[]}
 use Rattle.dh_records.specs.Lists.{Lists}
 use Rattle.dh_constraints.specs.declared.records.Records.{Records}
 
@@ -14,4 +15,6 @@ lists_in r = record {
   held = r.held.items;
   rules = r.rules.items;
   redirects = r.redirects.items;
+  aliases = [];
+  routes = [];
 }

@@ -1,5 +1,6 @@
-//! All records of a database.
+//! The records of a database, but for those that are derived.
 
+ghost use Rattle.std.specs.Prelude.{[]};
 ghost use Rattle.dh_records.specs.Constraints.{AreInOrder};
 ghost use Rattle.dh_constraints.specs.Order.{AreInOrder-prop};
 
@@ -8,7 +9,7 @@ use dh_records::{
     VersionRow,
 };
 
-/// All records of a database, each list in the order of its keys.
+/// The records of a database from which others are derived, each list in the order of its keys.
 #[derive(Drop)]
 pub struct Records {
     pub projects: Vec<ProjectRow>,
@@ -32,5 +33,7 @@ pub struct Records {
       held = held.items;
       rules = rules.items;
       redirects = redirects.items;
+      aliases = [];
+      routes = [];
     }) } by { AreInOrder-prop _ },
 }

@@ -92,7 +92,7 @@ fn connect_to_database<S: Start>(
 
 /// Opens a file that `init_file` made, and tells how many projects it has. The whole file is read. No
 /// other program can open it until it is closed. It makes no file, and leaves one that it refuses as it
-/// is.
+/// is. To a file that an earlier program made it adds the tables of derived records.
 pub fn open_desk<S: Start>(
     rt: &HostRuntime,
     path: &str,
@@ -115,7 +115,7 @@ fn migrate_tables<S: Alter + Drop>(
 }
 
 /// Brings a file to the schema of this program, in one transaction: each pass of a file of schema 1 has no
-/// end. A file of this schema stays as it is. It leaves a file that it refuses as it is.
+/// end. A file of this schema is opened, and closed. It leaves a file that it refuses as it is.
 pub fn migrate_file<S: Start>(rt: &HostRuntime, path: &str, start: S) -> Result<(), FileFault> {
     close(migrate_tables(rt.alloc(), connect_to_database(rt, path, start)?)?)
 }

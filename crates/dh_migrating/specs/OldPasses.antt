@@ -7,7 +7,7 @@ use Rattle.dh_texts.specs.Texts.{is_host_name, is_token}
 use Rattle.dh_rows.specs.Keyed.{Coding}
 use Rattle.dh_rows.specs.Places.{records_of, keyed_table}
 use Rattle.dh_records.specs.Codings.{text_in}
-use Rattle.dh_records.specs.Lists.{Lists}
+use Rattle.dh_records.specs.Lists.{Lists, base_of}
 use Rattle.dh_records.specs.Typed.{Passes}
 use Rattle.dh_records.specs.declared.records.PassRow.{PassRow}
 use Rattle.dh_schema.specs.Tables.{text, lists_of}
@@ -33,6 +33,6 @@ pub record IsOldPass (x : OldPassRow) : Type 0 where
 abbrev pub without_end : OldPassRow → PassRow
 without_end x = record { host = x.host; pass = x.pass; until = None }
 
--- the records of the tables of schema 1, each pass without an end
+-- the records of the tables of schema 1, each pass without an end, and none that are derived
 abbrev pub old_lists_of : Database → Lists
-old_lists_of db = record (lists_of db) { passes = map without_end (records_of old_passes (codes "pass") db) }
+old_lists_of db = record (base_of (lists_of db)) { passes = map without_end (records_of old_passes (codes "pass") db) }

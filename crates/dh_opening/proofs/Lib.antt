@@ -4,4 +4,6 @@ pub mod Looks
 pub mod Telling
 pub mod Spelling
 pub mod OpenLemmas
+pub mod FillLemmas
+pub mod BringLemmas
 pub mod MigrateLemmas

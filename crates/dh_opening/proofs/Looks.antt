@@ -70,6 +70,18 @@ module _ {S : Type 0} {g : Ghosts S} where
     told = λ clean. tt;
   }
 
+  -- a database that is found so, without a look
+  pub found_at_once : {h : Held S} {T : Type 0} {P : Database → T → Type 0} {N : Database → Type 0} (x : T) → (HasCleanDisk (state g h) → IsHonest g h) → P (state g h).now x → Opens g h h (Ok x) P N
+  found_at_once {h} x live found = record {
+    goes = goes_none h;
+    same = λ clean. same_none h (live clean);
+    err = λ honest. tt;
+    found = λ clean. (live clean, found);
+    ours = λ clean. tt;
+    current = tt;
+    told = λ clean. tt;
+  }
+
   -- a refusal that is handed on
   pub handed_on
       : {a b : Held S} {T U : Type 0} {P : Database → T → Type 0} {Q : Database → U → Type 0} {N : Database → Type 0} (e : TablesFault)

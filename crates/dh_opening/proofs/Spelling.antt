@@ -1,17 +1,19 @@
 -- From the records of each table to those of all.
-use Rattle.std.proofs.Common.{◌≡◌, ◌≢◌, ℕ, ◌<◌, ◌^◌, Bool, false, IsTrue, List, [], ◌∷◌, codes, refl, sym, subst, ◌∙◌, lit≤, true≢false}
+use Rattle.std.proofs.Common.{◌≡◌, ◌≢◌, inl, inr, ℕ, ◌<◌, ◌^◌, Bool, false, IsTrue, List, [], ◌∷◌, codes, sym, subst, ◌∙◌, true≢false}
 use Rattle.std.specs.List.{AllByRecursion}
 use Rattle.sqlite_schema.specs.declared.schema.Schema.{Schema}
-use Rattle.sqlite_schema.specs.declared.schema.Table.{Table}
 use Rattle.sqlite.specs.Effect.{Database}
+use Rattle.dh_rows.specs.Keyed.{Coding}
+use Rattle.dh_rows.specs.Places.{records_of}
 use Rattle.dh_rows.specs.Shapes.{StandsAlone}
 use Rattle.dh_records.specs.Constraints.{KeepsConstraints}
-use Rattle.dh_records.specs.Lists.{Lists}
+use Rattle.dh_records.specs.Lists.{Lists, base_of}
+use Rattle.dh_records.proofs.BaseLemmas.{base_constraints, constraints_of_base}
 use Rattle.dh_records.specs.Codings.{passes}
-use Rattle.dh_records.specs.Typed.{AreTyped, IsPass}
-use Rattle.dh_schema.specs.Making.{our_tables}
+use Rattle.dh_records.specs.Typed.{IsPass}
+use Rattle.dh_schema.specs.Making.{CanAdd, derived_tables}
 use Rattle.dh_schema.specs.Tables.{lists_of, meta, meta_table, pass_table}
-use Rattle.dh_opening.specs.Opening.{AreKeptIn, AreSpelled, IsNumbered, IsOurs, StandFor, other_tables}
+use Rattle.dh_opening.specs.Opening.{AreKeptIn, AreSpelled, IsNumbered, IsOurs, MayDerive, StandFor, other_tables}
 
 -- the one row of the table with the number
 abbrev pub Numbers : Database → List ℕ → Type 0
@@ -36,32 +38,8 @@ two_not_one db two one = let same : ◌≡◌ {A = ℕ} 2 1 = other_number db 2 
 
 -- ---- all tables
 
-pub ours_numbered : (db : Database) → IsOurs db → IsNumbered db 2
-ours_numbered db it = record { alone = it.alone.0; stands = record { rows = it.holds.meta.rows; records = it.holds.number; typed = (lit≤ tt, tt) } }
-
-pub ours_passes : (db : Database) → IsOurs db → StandFor passes IsPass (codes "pass") db (lists_of db).passes
-ours_passes db it = record { rows = it.holds.passes.rows; records = refl; typed = it.holds.typed.passes }
-
-pub ours_kept : (db : Database) → IsOurs db → AreKeptIn db (lists_of db)
-ours_kept db it =
-    let h = it.holds in
-    record {
-      spelled = record {
-        projects = record { rows = h.projects.rows; records = refl; typed = h.typed.projects };
-        langs = record { rows = h.langs.rows; records = refl; typed = h.typed.langs };
-        versions = record { rows = h.versions.rows; records = refl; typed = h.typed.versions };
-        pages = record { rows = h.pages.rows; records = refl; typed = h.typed.pages };
-        used = record { rows = h.used.rows; records = refl; typed = h.typed.used };
-        picks = record { rows = h.picks.rows; records = refl; typed = h.typed.picks };
-        held = record { rows = h.held.rows; records = refl; typed = h.typed.held };
-        rules = record { rows = h.rules.rows; records = refl; typed = h.typed.rules };
-        redirects = record { rows = h.redirects.rows; records = refl; typed = h.typed.redirects };
-      };
-      keeps = it.keeps;
-    }
-
 -- with the same passes they spell one world
-pub same_lists : (db : Database) (l m : Lists) → AreSpelled db l → AreSpelled db m → l.passes ≡ m.passes → l ≡ m
+pub same_lists : (db : Database) (l m : Lists) → AreSpelled db l → AreSpelled db m → l.passes ≡ m.passes → base_of l ≡ base_of m
 same_lists db l m it too passes i = record {
   projects = (sym it.projects.records ∙ too.projects.records) i;
   langs = (sym it.langs.records ∙ too.langs.records) i;
@@ -73,71 +51,57 @@ same_lists db l m it too passes i = record {
   held = (sym it.held.records ∙ too.held.records) i;
   rules = (sym it.rules.records ∙ too.rules.records) i;
   redirects = (sym it.redirects.records ∙ too.redirects.records) i;
+  aliases = [];
+  routes = [];
 }
 
 -- lists that break a constraint are kept with no other name
 pub not_kept : (db : Database) (l : Lists) → AreSpelled db l → (b : Bool) → (KeepsConstraints l → IsTrue b) → b ≡ false → (m : Lists) → m.passes ≡ l.passes → ¬ AreKeptIn db m
-not_kept db l it b keeps none m passes kept = true≢false (sym (keeps (subst KeepsConstraints (same_lists db m l kept.spelled it passes) kept.keeps)) ∙ none)
+not_kept db l it b keeps none m passes kept =
+    let same : KeepsConstraints (base_of l) = subst KeepsConstraints (same_lists db m l kept.spelled it passes) (base_constraints m kept.keeps) in
+    true≢false (sym (keeps (constraints_of_base l same)) ∙ none)
 
--- our tables are that of the number, that of passes, and the others
-pub without_number : (P : Table → Type 0) → AllByRecursion P our_tables → AllByRecursion P (pass_table ∷ other_tables)
-without_number P all = (all.1.1.1.1.1.1.1.1.1.0, (all.1.0, (all.1.1.0, (all.1.1.1.0, (all.1.1.1.1.0, (all.1.1.1.1.1.0, (all.1.1.1.1.1.1.0, (all.1.1.1.1.1.1.1.0, (all.1.1.1.1.1.1.1.1.0, (all.1.1.1.1.1.1.1.1.1.1.0, tt))))))))))
-
-pub with_number : (P : Table → Type 0) → P meta_table → AllByRecursion P (pass_table ∷ other_tables) → AllByRecursion P our_tables
-with_number P first all = (first, (all.1.0, (all.1.1.0, (all.1.1.1.0, (all.1.1.1.1.0, (all.1.1.1.1.1.0, (all.1.1.1.1.1.1.0, (all.1.1.1.1.1.1.1.0, (all.1.1.1.1.1.1.1.1.0, (all.0, (all.1.1.1.1.1.1.1.1.1.0, tt)))))))))))
-
-module _ (db : Database) (l : Lists) (kept : AreKeptIn db l) (pass : StandFor passes IsPass (codes "pass") db l.passes) where
-  -- these are the lists of the tables
-  lists_are : lists_of db ≡ l
-  lists_are i = record {
-    projects = kept.spelled.projects.records i;
-    langs = kept.spelled.langs.records i;
-    versions = kept.spelled.versions.records i;
-    pages = kept.spelled.pages.records i;
-    used = kept.spelled.used.records i;
-    picks = kept.spelled.picks.records i;
-    passes = pass.records i;
-    held = kept.spelled.held.records i;
-    rules = kept.spelled.rules.records i;
-    redirects = kept.spelled.redirects.records i;
-  }
-
-  pub made_ours : AllByRecursion (StandsAlone db.schema) (pass_table ∷ other_tables) → IsNumbered db 2 → IsOurs db
-  made_ours alone number =
-      let it = kept.spelled in
-      record {
-        alone = with_number (StandsAlone db.schema) number.alone alone;
-        holds = record {
-          meta = record { stands = number.alone.stands; rows = number.stands.rows };
-          number = number.stands.records;
-          projects = record { stands = alone.1.1.1.0.stands; rows = it.projects.rows };
-          langs = record { stands = alone.1.1.1.1.0.stands; rows = it.langs.rows };
-          versions = record { stands = alone.1.1.1.1.1.0.stands; rows = it.versions.rows };
-          pages = record { stands = alone.1.1.1.1.1.1.0.stands; rows = it.pages.rows };
-          used = record { stands = alone.1.1.1.1.1.1.1.0.stands; rows = it.used.rows };
-          picks = record { stands = alone.1.1.1.1.1.1.1.1.0.stands; rows = it.picks.rows };
-          passes = record { stands = alone.0.stands; rows = pass.rows };
-          held = record { stands = alone.1.1.1.1.1.1.1.1.1.0.stands; rows = it.held.rows };
-          rules = record { stands = alone.1.0.stands; rows = it.rules.rows };
-          redirects = record { stands = alone.1.1.0.stands; rows = it.redirects.rows };
-          typed = subst AreTyped (sym lists_are) (record {
-            projects = it.projects.typed;
-            langs = it.langs.typed;
-            versions = it.versions.typed;
-            pages = it.pages.typed;
-            used = it.used.typed;
-            picks = it.picks.typed;
-            passes = pass.typed;
-            held = it.held.typed;
-            rules = it.rules.typed;
-            redirects = it.redirects.typed;
-          });
-        };
-        keeps = subst KeepsConstraints (sym lists_are) kept.keeps;
+module _ (db : Database) (l : Lists) (plain : base_of l ≡ l) (kept : AreKeptIn db l) (pass : StandFor passes IsPass (codes "pass") db l.passes) where
+  -- these are the lists of the tables, but for the derived ones
+  lists_are : l ≡ base_of (lists_of db)
+  lists_are = sym plain ∙ same
+    where
+      same : base_of l ≡ base_of (lists_of db)
+      same i = record {
+        projects = sym kept.spelled.projects.records i;
+        langs = sym kept.spelled.langs.records i;
+        versions = sym kept.spelled.versions.records i;
+        pages = sym kept.spelled.pages.records i;
+        used = sym kept.spelled.used.records i;
+        picks = sym kept.spelled.picks.records i;
+        passes = sym pass.records i;
+        held = sym kept.spelled.held.records i;
+        rules = sym kept.spelled.rules.records i;
+        redirects = sym kept.spelled.redirects.records i;
+        aliases = [];
+        routes = [];
       }
+
+  pub made_ours : AllByRecursion (StandsAlone db.schema) (pass_table ∷ other_tables) → MayDerive db → IsNumbered db 2 → IsOurs db
+  made_ours alone derived number = record {
+    number = number;
+    alone = alone;
+    passes = subst (λ (m : Lists). StandFor passes IsPass (codes "pass") db m.passes) lists_are pass;
+    kept = subst (AreKeptIn db) lists_are kept;
+    derived = derived;
+  }
 
 -- ---- what the schema says
 
 -- tables of which a test did not say that they stand alone do not
 pub not_alone : (P : Schema → Type 0) (b : Bool) (schema seen : Schema) → (P schema → IsTrue b) → schema ≡ seen → b ≡ false → ¬ P seen
 not_alone P b schema seen all same none alone = true≢false (sym (all (subst P (sym same) alone)) ∙ none)
+
+-- records of a table are those that its rows spell
+pub own_records : {X : Type 0} {c : Coding X} {P : X → Type 0} {name : List ℕ} {db : Database} {xs : List X} → StandFor c P name db xs → StandFor c P name db (records_of c name db)
+own_records {c = c} {P = P} {name = name} {db = db} it = subst (StandFor c P name db) (sym it.records) it
+
+-- tables of derived records that are not as they are made, and cannot be added
+pub none_derived : (db : Database) (seen : Schema) → seen ≡ db.schema → (stand add : Bool) → (AllByRecursion (StandsAlone seen) derived_tables → IsTrue stand) → (CanAdd seen → IsTrue add) → stand ≡ false → add ≡ false → ¬ MayDerive db
+none_derived db seen same stand add stands adds unmade full (inl has) = not_alone (λ s. AllByRecursion (StandsAlone s) derived_tables) stand seen db.schema stands same unmade has.alone
+none_derived db seen same stand add stands adds unmade full (inr can) = not_alone CanAdd add seen db.schema adds same full can

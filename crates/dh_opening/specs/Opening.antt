@@ -1,5 +1,5 @@
 -- What an open of the tables finds.
-use Rattle.std.specs.Prelude.{◌≡◌, ℕ, ◌<◌, ◌^◌, Bool, true, false, None, List, [], ◌∷◌, codes, map, Result, Err, IfOk, ⊤}
+use Rattle.std.specs.Prelude.{◌≡◌, ◌⊎◌, ℕ, ◌<◌, ◌^◌, Bool, true, false, None, List, [], ◌∷◌, codes, map, Result, Err, IfOk, ⊤}
 use Rattle.std.specs.List.{AllByRecursion}
 use Rattle.std.specs.declared.cmp.Ordering.TheVariants.{Less}
 use Rattle.sqlite_value.specs.Order.{Row}
@@ -16,11 +16,11 @@ use Rattle.dh_rows.specs.Shapes.{StandsAlone}
 use Rattle.dh_rows.specs.Whole.{Spells}
 use Rattle.dh_records.specs.Codings as coding
 use Rattle.dh_records.specs.Constraints.{KeepsConstraints}
-use Rattle.dh_records.specs.Lists.{Lists}
-use Rattle.dh_records.specs.Typed.{IsProject, IsLanguage, IsVersion, IsPage, IsUsed, IsPick, IsHeld, IsRule, IsRedirect}
+use Rattle.dh_records.specs.Lists.{Lists, base_of}
+use Rattle.dh_records.specs.Typed.{IsProject, IsLanguage, IsVersion, IsPage, IsUsed, IsPick, IsPass, IsHeld, IsRule, IsRedirect, IsAlias, IsRoute}
 use Rattle.sqlite_schema.specs.declared.schema.Table.{Table}
-use Rattle.dh_schema.specs.Tables.{Holds, lists_of, meta, meta_table, rule_table, redirect_table, project_table, lang_table, version_table, page_table, used_table, pick_table, holds_table}
-use Rattle.dh_schema.specs.Making.{our_tables}
+use Rattle.dh_schema.specs.Tables.{lists_of, meta, meta_table, rule_table, redirect_table, project_table, lang_table, version_table, page_table, used_table, pick_table, pass_table, holds_table}
+use Rattle.dh_schema.specs.Making.{CanAdd, derived_tables}
 use Rattle.dh_faults.specs.declared.fault.Fault.TheVariants as fault
 use Rattle.dh_opening.specs.declared.fault.TablesFault.{TablesFault}
 use Rattle.dh_opening.specs.declared.fault.TablesFault.TheVariants.{NotOurs, OldSchema, Failed}
@@ -57,7 +57,7 @@ pub record IsNumbered (db : Database) (number : ℕ) : Type 0 where
   pub alone : StandsAlone db.schema meta_table
   pub stands : StandFor meta (λ n. n < 2 ^ 32) (codes "meta") db (number ∷ [])
 
--- our tables but those of the number and of passes, in the order in which they are made
+-- our tables but those of the number, of passes and of derived records, in the order in which they are made
 abbrev pub other_tables : List Table
 other_tables =
     rule_table ∷ redirect_table ∷ project_table ∷ lang_table ∷ version_table ∷ page_table ∷ used_table ∷ pick_table ∷ holds_table ∷ []
@@ -79,11 +79,24 @@ pub record AreKeptIn (db : Database) (l : Lists) : Type 0 where
   pub spelled : AreSpelled db l
   pub keeps : KeepsConstraints l
 
--- Our tables stand alone, their rows stand for records, and these keep the constraints.
+-- The tables of derived records stand alone, and their rows stand for records.
+pub record HasDerived (db : Database) : Type 0 where
+  pub alone : AllByRecursion (StandsAlone db.schema) derived_tables
+  pub aliases : StandFor coding.aliases IsAlias (codes "alias") db (lists_of db).aliases
+  pub routes : StandFor coding.routes IsRoute (codes "route") db (lists_of db).routes
+
+-- They do, or can be added.
+abbrev pub MayDerive : Database → Type 0
+MayDerive db = HasDerived db ⊎ CanAdd db.schema
+
+-- Our tables stand alone, their rows stand for records, and these keep the constraints; those of derived records do, or
+-- can be added.
 pub record IsOurs (db : Database) : Type 0 where
-  pub alone : AllByRecursion (StandsAlone db.schema) our_tables
-  pub holds : Holds db
-  pub keeps : KeepsConstraints (lists_of db)
+  pub number : IsNumbered db 2
+  pub alone : AllByRecursion (StandsAlone db.schema) (pass_table ∷ other_tables)
+  pub passes : StandFor coding.passes IsPass (codes "pass") db (lists_of db).passes
+  pub kept : AreKeptIn db (base_of (lists_of db))
+  pub derived : MayDerive db
 
 -- What is known of a database whose number is that of this program, or else of schema 1.
 abbrev pub IsKnown : Bool → Database → Type 0

@@ -2,8 +2,8 @@
 use Rattle.std.proofs.Common.{ℕ, List, [], ◌∷◌, codes, refl}
 use Rattle.sqlite_tied.specs.Compute.{everything}
 use Rattle.dh_rows.proofs.Whole.{AreTextsOf, IsCodingOf}
-use Rattle.dh_records.specs.Codings.{projects, langs, versions, pages, used, picks, passes, held, rules, redirects}
-use Rattle.dh_schema.specs.Tables.{meta, meta_table, project_table, lang_table, version_table, page_table, used_table, pick_table, pass_table, holds_table, rule_table, redirect_table}
+use Rattle.dh_records.specs.Codings.{projects, langs, versions, pages, used, picks, passes, held, rules, redirects, aliases, routes}
+use Rattle.dh_schema.specs.Tables.{meta, meta_table, project_table, lang_table, version_table, page_table, used_table, pick_table, pass_table, holds_table, rule_table, redirect_table, alias_table, route_table}
 use Rattle.dh_schema.specs.ColumnLemmas as columns
 use Rattle.dh_migrating.specs.OldPasses.{old_pass_table, old_passes}
 
@@ -168,6 +168,36 @@ redirect_reads = record { simple = columns.redirect_simple; plain = columns.redi
 
 pub redirect_suits : IsCodingOf redirect_table redirects (0 ∷ 1 ∷ [])
 redirect_suits = record { back = columns.redirect_back; wide = λ x. refl; full = λ x. refl; keys = λ x. refl; sorts = λ x y. refl }
+
+-- ---- alias
+
+abbrev pub alias_ids : List ℕ
+alias_ids = codes "SELECT rowid FROM alias ORDER BY rowid"
+
+abbrev pub alias_rows : List ℕ
+alias_rows = codes "SELECT host, class, name, slug FROM alias ORDER BY host, class, name"
+
+pub alias_reads : AreTextsOf alias_table alias_ids alias_rows (0 ∷ 1 ∷ 2 ∷ [])
+unfolding everything
+alias_reads = record { simple = columns.alias_simple; plain = columns.alias_plain; ids_read = refl; all_read = refl }
+
+pub alias_suits : IsCodingOf alias_table aliases (0 ∷ 1 ∷ 2 ∷ [])
+alias_suits = record { back = columns.alias_back; wide = λ x. refl; full = λ x. refl; keys = λ x. refl; sorts = λ x y. refl }
+
+-- ---- route
+
+abbrev pub route_ids : List ℕ
+route_ids = codes "SELECT rowid FROM route ORDER BY rowid"
+
+abbrev pub route_rows : List ℕ
+route_rows = codes "SELECT host, seg, place, force FROM route ORDER BY host, seg, place"
+
+pub route_reads : AreTextsOf route_table route_ids route_rows (0 ∷ 1 ∷ 2 ∷ [])
+unfolding everything
+route_reads = record { simple = columns.route_simple; plain = columns.route_plain; ids_read = refl; all_read = refl }
+
+pub route_suits : IsCodingOf route_table routes (0 ∷ 1 ∷ 2 ∷ [])
+route_suits = record { back = columns.route_back; wide = λ x. refl; full = λ x. refl; keys = λ x. refl; sorts = λ x y. refl }
 
 -- ---- meta
 

@@ -13,8 +13,8 @@ ghost use Rattle.dh_opening.specs.Opening.{IsKeptAs, AreKept};
 use crate::rows::{has_values, is_number, rise, value_at};
 use dh_lookup::Fault;
 use dh_records::{
-    HeldRow, LangRow, PageRow, PassRow, PickRow, ProjectRow, Record, RedirectRow, RuleRow, UsedRow,
-    VersionRow, action_number, is_tag, kind_number, show_number,
+    AliasRow, HeldRow, LangRow, PageRow, PassRow, PickRow, ProjectRow, Record, RedirectRow,
+    RouteRow, RuleRow, UsedRow, VersionRow, action_number, is_tag, kind_number, show_number,
 };
 use dh_world::{Answer, Operation};
 use sqlite::types::ToSql;
@@ -432,6 +432,70 @@ impl Kept for RuleRow {
                 pattern.as_str()
             ],
         ))
+    }
+}
+
+impl Kept for AliasRow {
+    ghost table = { spec.alias_table };
+
+    ghost ids = { readings.alias_ids };
+
+    ghost rows = { readings.alias_rows };
+
+    ghost order = { 0 ∷ 1 ∷ 2 ∷ [] };
+
+    ghost kept = { coding.aliases };
+
+    ghost reads = { readings.alias_reads };
+
+    ghost suits = { readings.alias_suits };
+
+    fn ids() -> &'static str {
+        "SELECT rowid FROM alias ORDER BY rowid"
+    }
+
+    fn rows() -> &'static str {
+        "SELECT host, class, name, slug FROM alias ORDER BY host, class, name"
+    }
+
+    fn key() -> &'static [usize] {
+        &[0, 1, 2]
+    }
+
+    fn is_kept_as(&self, _alloc: Global, row: &Row) -> Result<bool, AllocError> {
+        Ok(has_values(row, &self.values()))
+    }
+}
+
+impl Kept for RouteRow {
+    ghost table = { spec.route_table };
+
+    ghost ids = { readings.route_ids };
+
+    ghost rows = { readings.route_rows };
+
+    ghost order = { 0 ∷ 1 ∷ 2 ∷ [] };
+
+    ghost kept = { coding.routes };
+
+    ghost reads = { readings.route_reads };
+
+    ghost suits = { readings.route_suits };
+
+    fn ids() -> &'static str {
+        "SELECT rowid FROM route ORDER BY rowid"
+    }
+
+    fn rows() -> &'static str {
+        "SELECT host, seg, place, force FROM route ORDER BY host, seg, place"
+    }
+
+    fn key() -> &'static [usize] {
+        &[0, 1, 2]
+    }
+
+    fn is_kept_as(&self, _alloc: Global, row: &Row) -> Result<bool, AllocError> {
+        Ok(has_values(row, &self.values()))
     }
 }
 

@@ -3,6 +3,7 @@
 #![tactic(auto)]
 
 mod fault;
+mod filling;
 mod kept;
 mod migrating;
 mod number;

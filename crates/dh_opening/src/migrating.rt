@@ -1,24 +1,30 @@
 //! Tables of schema 1 made tables of schema 2.
 
 ghost use Rattle.std.specs.Prelude.{◌≡◌, ◌≢◌, false, None, IfErr, IfOk, IsTrue, OnErr, OnOk};
-ghost use Rattle.sqlite.specs.Effect.{IsDatabase};
+ghost use Rattle.sqlite.specs.Effect.{Database, IsDatabase};
 ghost use Rattle.sqlite.specs.Held.{state};
 ghost use Rattle.sqlite.specs.State.{HasCleanDisk};
 ghost use Rattle.dh_rows.specs.Calls.{GoesWithin, IsHonest, Lasts, LeavesCommitted, committed, seen};
-ghost use Rattle.dh_records.specs.Constraints.{AreInOrder, KeepsConstraints};
+ghost use Rattle.dh_records.specs.Codings.{passes};
+ghost use Rattle.dh_records.specs.Constraints.{AreInOrder, InOrder, KeepsConstraints};
 ghost use Rattle.dh_schema.specs.Making.{CommitsNothing};
 ghost use Rattle.dh_schema.specs.Tables.{lists_of};
 ghost use Rattle.dh_constraints.specs.Lists.{lists_in};
+ghost use Rattle.dh_migrating.specs.Converting.{Carries, IsConverted, IsConvertible};
 ghost use Rattle.dh_migrating.specs.OldPasses.{old_lists_of};
 ghost use Rattle.dh_opening.specs.Opening.{IsNumbered, IsOurs, OnNotOurs, OnOldSchema, Opens};
-ghost use Rattle.dh_opening.specs.Migrating.{IsAtRest, IsMigrated, IsOld, IsShown, LeavesMigrated, Migrates};
+ghost use Rattle.dh_opening.specs.Filling.{IsAtRest, IsFilled};
+ghost use Rattle.dh_opening.specs.Migrating.{IsMigrated, IsOld, IsShown, LeavesMigrated, Migrates};
 
 use crate::fault::TablesFault;
-use crate::opening::{finish, is_current, kept_records, show_settled};
+use crate::filling::{complete, fill};
+use crate::opening::{check_derived, finish, is_current, kept_records, show_settled};
 use crate::shapes::are_old;
 use crate::tables::read_table;
 use dh_constraints::Records;
+use dh_lookup::Fault;
 use dh_migrating::{OldPassRow, convert, without_ends};
+use dh_records::PassRow;
 use dh_rows::{begin, commit};
 use dh_store::Tables;
 use sqlite::{Alter, Connection};
@@ -37,7 +43,20 @@ fn old_records<S: Alter>(conn: &mut Connection<S>, alloc: Global) -> Result<Reco
     }
     let rows: Vec<OldPassRow> = read_table(conn, alloc)?;
     let passes = without_ends(alloc, rows)?;
-    kept_records(conn, alloc, passes)
+    let records = kept_records(conn, alloc, passes)?;
+    check_derived(conn, alloc)?;
+    Ok(records)
+}
+
+/// Makes schema 2 of schema 1, with these passes, and adds the tables of derived records where they are missing.
+fn convert_and_fill<S: Alter>(conn: &mut Connection<S>, rows: &[PassRow]) -> Result<(), Fault>
+    requires order { InOrder passes.key rows.now }
+    requires old { IsHonest S.Store conn.old → IsConvertible (state S.Store conn.old).now }
+    ensures carries { Carries S.Store conn.old conn.new result (λ after. (between : Database)
+        × IsConverted rows.now (state S.Store conn.old).now between × IsFilled between after) }
+{
+    convert(conn, rows)?;
+    fill(conn)
 }
 
 /// Makes them tables of schema 2, within a transaction.
@@ -54,7 +73,7 @@ fn convert_tables<S: Alter>(conn: &mut Connection<S>, alloc: Global) -> Result<(
     ensures current { OnOldSchema result ⊥ }
 {
     let records = old_records(conn, alloc)?;
-    match convert(conn, records.passes.as_slice()) {
+    match convert_and_fill(conn, records.passes.as_slice()) {
         Ok(()) => Ok(()),
         Err(fault) => Err(TablesFault::Failed(fault)),
     }
@@ -83,7 +102,8 @@ fn migrate_tables<S: Alter>(conn: &mut Connection<S>, alloc: Global) -> Result<(
     Ok(())
 }
 
-/// Finds tables of schema 2 ours, and makes those of schema 1 tables of schema 2.
+/// Finds tables of schema 2 ours, and makes those of schema 1 tables of schema 2. Those of derived records are added where
+/// they are missing.
 fn update<S: Alter>(conn: &mut Connection<S>, alloc: Global) -> Result<(), TablesFault>
     requires outside { conn.old.in_transaction ≡ false }
     requires unlimited { conn.old.step_limit ≡ None }
@@ -92,15 +112,16 @@ fn update<S: Alter>(conn: &mut Connection<S>, alloc: Global) -> Result<(), Table
     ensures migrates { Migrates S.Store conn.old conn.new result }
 {
     if is_current(conn, alloc)? {
-        Ok(())
+        complete(conn)
     } else {
         migrate_tables(conn, alloc)
     }
 }
 
 /// Opens the tables that stand in a database, as `open` does. Where they are of schema 1 it makes them tables of schema 2
-/// before, in one transaction: the same records, each pass without an end. Where they are not ours it changes nothing. A
-/// connection that is handed back may still be in the transaction.
+/// before, in one transaction: the same records, each pass without an end. The tables of derived records are added where
+/// they are missing. Where they are not ours it changes nothing. A connection that is handed back may still be in the
+/// transaction.
 pub fn migrate<S: Alter>(
     alloc: Global,
     conn: Connection<S>,

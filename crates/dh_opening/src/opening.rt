@@ -6,19 +6,21 @@ ghost use Rattle.sqlite.specs.State.{HasCleanDisk};
 ghost use Rattle.dh_rows.specs.Calls.{AreOurs, IsBlamed, IsHonest, LeavesCommitted, LeavesNoMore, committed, seen};
 ghost use Rattle.dh_records.specs.Codings as coding;
 ghost use Rattle.dh_records.specs.Constraints.{AreInOrder, InOrder, KeepsConstraints};
-ghost use Rattle.dh_records.specs.Lists.{Lists};
-ghost use Rattle.dh_schema.specs.Making.{CanMake, CommitsNothing, no_lists};
+ghost use Rattle.dh_records.specs.Lists.{Lists, base_of};
+ghost use Rattle.dh_schema.specs.Making.{CanAdd, CanMake, CommitsNothing, no_lists};
 ghost use Rattle.dh_schema.specs.Tables.{Holds, lists_of};
 ghost use Rattle.dh_constraints.specs.Lists.{lists_in};
-ghost use Rattle.dh_opening.specs.Opening.{AreKeptIn, AreLaid, IsKnown, IsNumbered, IsOurs, Opens, other_tables};
+ghost use Rattle.dh_opening.specs.Opening.{AreKeptIn, AreLaid, IsKnown, IsNumbered, IsOurs, MayDerive, Opens, other_tables};
+ghost use Rattle.dh_opening.specs.Filling.{AddsNothing, KeepsDerived, LeavesOpened, OpensTables};
 
 use crate::fault::TablesFault;
-use crate::shapes::are_ours;
-use crate::tables::{all_records, number_of, read_table};
+use crate::filling::complete;
+use crate::shapes::{are_ours, derived_stand};
+use crate::tables::{all_records, number_of, read_table, read_two};
 use dh_constraints::{Records, keep_constraints};
 use dh_lookup::Fault;
-use dh_records::PassRow;
-use dh_schema::{can_make, make_at_once};
+use dh_records::{AliasRow, PassRow, RouteRow};
+use dh_schema::{can_add, can_make, make_at_once};
 use dh_store::Tables;
 use sqlite::{Alter, Connection};
 use std::alloc::Global;
@@ -44,6 +46,27 @@ pub(crate) fn kept_records<S: Alter>(
     }
 }
 
+/// Whether the tables of derived records are as they are made and their rows spell records, or can be added.
+pub(crate) fn check_derived<S: Alter>(
+    conn: &mut Connection<S>,
+    alloc: Global,
+) -> Result<(), TablesFault>
+    requires unlimited { conn.old.step_limit ≡ None }
+    requires live { HasCleanDisk (state S.Store conn.old) → IsHonest S.Store conn.old }
+    ensures opens { Opens S.Store conn.old conn.new result
+        (λ db _. MayDerive db) (λ db. ¬ MayDerive db) }
+{
+    let schema = conn.schema();
+    if can_add(schema) {
+        return Ok(());
+    }
+    if !derived_stand(schema) {
+        return Err(TablesFault::NotOurs);
+    }
+    read_two::<S, AliasRow, RouteRow>(conn, alloc)?;
+    Ok(())
+}
+
 /// Whether tables of schema 2 are ours.
 fn check_tables<S: Alter>(conn: &mut Connection<S>, alloc: Global) -> Result<(), TablesFault>
     requires unlimited { conn.old.step_limit ≡ None }
@@ -55,12 +78,12 @@ fn check_tables<S: Alter>(conn: &mut Connection<S>, alloc: Global) -> Result<(),
     }
     let passes = read_table(conn, alloc)?;
     kept_records(conn, alloc, passes)?;
-    Ok(())
+    check_derived(conn, alloc)
 }
 
 /// Whether a database is ours: the number of the schema, the tables as they are made and nothing of others on them, and rows
-/// that spell records which keep the constraints. Where the number is 1 it is not, and nothing else is looked at. It changes
-/// nothing.
+/// that spell records which keep the constraints; the tables of derived records may be missing. Where the number is 1 it is
+/// not, and nothing else is looked at. It changes nothing.
 pub(crate) fn is_current<S: Alter>(
     conn: &mut Connection<S>,
     alloc: Global,
@@ -125,9 +148,26 @@ pub(crate) fn finish<S: Alter>(conn: Connection<S>) -> Tables<S>
     Tables::over(conn)
 }
 
+/// Finds tables of schema 2 ours, and adds those of derived records where they are missing.
+fn open_tables<S: Alter>(conn: &mut Connection<S>, alloc: Global) -> Result<(), TablesFault>
+    requires outside { conn.old.in_transaction ≡ false }
+    requires unlimited { conn.old.step_limit ≡ None }
+    requires settled { IsTrue (state S.Store conn.old).is_open
+        → (state S.Store conn.old).now ≡ (state S.Store conn.old).committed }
+    ensures opens { OpensTables S.Store conn.old conn.new result }
+{
+    if is_current(conn, alloc)? {
+        complete(conn)
+    } else {
+        Err(TablesFault::OldSchema)
+    }
+}
+
 /// Opens the tables that stand in a database, of a connection that is in no transaction: as they are made and nothing of
 /// others on them, with rows that spell records which keep the constraints. They spell what they spelt. It reads each
-/// table whole. Where the number says schema 1 it looks at nothing else. The limit on a statement's steps is cleared, also of a connection that is handed back.
+/// table whole. Where the number says schema 1 it looks at nothing else. Where the tables of derived records are missing,
+/// it adds them, in one transaction; else it changes nothing. A connection that is handed back may still be in the
+/// transaction. The limit on a statement's steps is cleared, also of a connection that is handed back.
 pub fn open<S: Alter>(
     alloc: Global,
     conn: Connection<S>,
@@ -136,30 +176,36 @@ pub fn open<S: Alter>(
     ensures opened { IfOk result (λ t. HasCleanDisk (state S.Store t)
         → IsHonest S.Store conn × IsHonest S.Store t × (t.in_transaction ≡ false)) }
     ensures seen { IfOk result (λ t. HasCleanDisk (state S.Store t)
-        → seen S.Store lists_of t ≡ seen S.Store lists_of conn) }
+        → base_of (seen S.Store lists_of t) ≡ base_of (seen S.Store lists_of conn)) }
+    ensures derived { IfOk result (λ t. HasCleanDisk (state S.Store t)
+        → KeepsDerived (state S.Store conn).now (seen S.Store lists_of t)) }
     ensures last { IfOk result (λ t. HasCleanDisk (state S.Store t)
-        → committed S.Store lists_of t ≡ seen S.Store lists_of conn) }
+        → committed S.Store lists_of t ≡ seen S.Store lists_of t) }
     ensures sound { IfOk result (λ t. HasCleanDisk (state S.Store t)
         → AreInOrder (committed S.Store lists_of t)
         × KeepsConstraints (committed S.Store lists_of t)) }
     ensures left { IfOk result (λ t. IsHonest S.Store t → LeavesCommitted S.Store lists_of t) }
-    ensures quiet { IfOk result (λ t. IsHonest S.Store conn → LeavesNoMore S.Store conn t) }
+    ensures quiet { IfOk result (λ t. ¬ CanAdd (state S.Store conn).now.schema
+        → IsHonest S.Store conn → LeavesNoMore S.Store conn t) }
+    ensures crash { IfOk result (λ t. LeavesOpened S.Store conn t) }
     ensures ours { IfErr result (λ e. HasCleanDisk (state S.Store e.1)
         → e.0 ≡ TablesFault.NotOurs
         → ¬ IsOurs (state S.Store conn).now × ¬ IsNumbered (state S.Store conn).now 1) }
     ensures old { IfErr result (λ e. HasCleanDisk (state S.Store e.1)
         → e.0 ≡ TablesFault.OldSchema → IsNumbered (state S.Store conn).now 1) }
-    ensures told { IfErr result (λ e. HasCleanDisk (state S.Store e.1)
+    ensures told { IfErr result (λ e. ¬ CanAdd (state S.Store conn).now.schema
+        → HasCleanDisk (state S.Store e.1)
         → e.0 ≡ TablesFault.Failed Fault.Store → IsBlamed S.Store conn e.1) }
     ensures back { IfErr result (λ e. IsHonest S.Store e.1 → CommitsNothing S.Store conn e.1) }
-    ensures kept { IfErr result (λ e. IsHonest S.Store conn → LeavesNoMore S.Store conn e.1) }
+    ensures kept { IfErr result (λ e. AddsNothing e.0 (state S.Store conn).now
+        → IsHonest S.Store conn → LeavesNoMore S.Store conn e.1) }
+    ensures stop { IfErr result (λ e. LeavesOpened S.Store conn e.1) }
 {
     let mut conn = conn;
     conn.set_step_limit(None);
     show_settled(&conn);
-    match is_current(&mut conn, alloc) {
-        Ok(true) => Ok(finish(conn)),
-        Ok(false) => Err((TablesFault::OldSchema, conn)),
+    match open_tables(&mut conn, alloc) {
+        Ok(()) => Ok(finish(conn)),
         Err(fault) => Err((fault, conn)),
     }
 }

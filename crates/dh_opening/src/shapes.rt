@@ -3,6 +3,7 @@
 ghost use Rattle.std.specs.Prelude.{◌↔◌, ◌∷◌, IsTrue};
 ghost use Rattle.std.specs.List.{AllByRecursion};
 ghost use Rattle.dh_rows.specs.Shapes.{StandsAlone, table_of};
+ghost use Rattle.dh_schema.specs.Making.{derived_tables};
 ghost use Rattle.dh_schema.specs.Tables.{meta_table, pass_table};
 ghost use Rattle.dh_migrating.specs.OldPasses.{old_pass_table};
 ghost use Rattle.dh_opening.specs.Migrating.{AreOldIn};
@@ -36,6 +37,30 @@ const OLD_PASS: Shape<'static> = Shape {
     primary: &[1, 2],
     columns: &[(b"host", Kind::Text), (b"pass", Kind::Text)],
 };
+
+/// The tables of derived records.
+const DERIVED: [Shape<'static>; 2] = [
+    Shape {
+        name: b"alias",
+        primary: &[1, 2, 3],
+        columns: &[
+            (b"host", Kind::Text),
+            (b"class", Kind::Text),
+            (b"name", Kind::Integer),
+            (b"slug", Kind::Text),
+        ],
+    },
+    Shape {
+        name: b"route",
+        primary: &[1, 2, 3],
+        columns: &[
+            (b"host", Kind::Text),
+            (b"seg", Kind::Text),
+            (b"place", Kind::Integer),
+            (b"force", Kind::Integer),
+        ],
+    },
+];
 
 /// Our other tables, in the order in which they are made.
 const OTHERS: [Shape<'static>; 9] = [
@@ -162,6 +187,13 @@ fn others_stand(schema: &Schema) -> bool
     ensures { IsTrue result ↔ AllByRecursion (StandsAlone schema.now) other_tables }
 {
     all_stand(schema, &OTHERS)
+}
+
+/// Whether the tables of derived records do.
+pub fn derived_stand(schema: &Schema) -> bool
+    ensures { IsTrue result ↔ AllByRecursion (StandsAlone schema.now) derived_tables }
+{
+    all_stand(schema, &DERIVED)
 }
 
 /// Whether the table of passes and the others do.

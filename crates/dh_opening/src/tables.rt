@@ -71,7 +71,7 @@ pub fn read_table<S: Alter, R: Kept>(
 }
 
 /// The records of two whole tables.
-fn read_two<S: Alter, A: Kept, B: Kept>(
+pub fn read_two<S: Alter, A: Kept, B: Kept>(
     conn: &mut Connection<S>,
     alloc: Global,
 ) -> Result<(Vec<A>, Vec<B>), TablesFault>

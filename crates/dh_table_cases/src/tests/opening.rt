@@ -114,8 +114,43 @@ fn tables_that_others_changed_are_not_ours(rt: HostRuntime) -> Result<(), Fail> 
             "not ours",
         ),
         ("DROP TABLE rule", "not ours"),
+        ("DROP TABLE alias", "not ours"),
+        ("CREATE INDEX by_slug ON alias (slug)", "not ours"),
+        (
+            "INSERT INTO alias VALUES ('docs.test', '', 9, '1.0')",
+            "not ours",
+        ),
+        (
+            "INSERT INTO alias VALUES ('docs.test', '', 1, '1.0')",
+            "ours",
+        ),
+        (
+            "INSERT INTO route VALUES ('docs.test', 'old', 1, 2)",
+            "not ours",
+        ),
     ] {
         assert_eq!(rt; said(alloc, &[sql])?, wanted, "{sql}");
+    }
+    Ok(())
+}
+
+#[test]
+fn tables_of_derived_records_may_be_missing(rt: HostRuntime) -> Result<(), Fail> {
+    let alloc = rt.alloc();
+    for (more, wanted) in [
+        ("CREATE TABLE other (id INTEGER PRIMARY KEY) STRICT", "ours"),
+        (
+            "CREATE TABLE alias (id INTEGER PRIMARY KEY) STRICT",
+            "not ours",
+        ),
+        ("CREATE VIEW route AS SELECT host FROM project", "not ours"),
+        (
+            "CREATE TABLE seen (host TEXT REFERENCES alias (host)) STRICT",
+            "not ours",
+        ),
+    ] {
+        let statements = ["DROP TABLE alias", "DROP TABLE route", more];
+        assert_eq!(rt; said(alloc, &statements)?, wanted, "{more}");
     }
     Ok(())
 }

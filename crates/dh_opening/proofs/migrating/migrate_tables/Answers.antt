@@ -1,7 +1,8 @@
-use Rattle.dh_opening.proofs.MigrateLemmas.{any_err, handed_ours, old_not_ours, transaction_done, transaction_lasts, transaction_leaves, transaction_refused}
+use Rattle.dh_opening.proofs.BringLemmas.{any_err, handed_ours, transaction_done, transaction_lasts, transaction_leaves, transaction_refused}
+use Rattle.dh_opening.proofs.MigrateLemmas.{old_not_ours}
 use Rattle.std.proofs.Common.{subst}
 use Rattle.sqlite.specs.Held.{state}
-use Rattle.dh_opening.specs.Migrating.{IsOld}
+use Rattle.dh_opening.specs.Migrating.{IsMigrated, IsOld}
 use Rattle.dh_opening.proofs.migrating.migrate_tables.Goals as goal
 
 pub returns-in_err-convert_tables-clause-ours : goal.returns-in_err-convert_tables-clause-ours
@@ -11,18 +12,18 @@ returns-in_err-convert_tables-clause-ours g c clean =
     (λ none. (old_not_ours (state g.S.Store c.args.conn.now).now (c.requires.number begun.was_honest), subst (λ db. ¬ IsOld db) begun.now_is none)) (c.in_err-convert_tables.ensures.ours clean)
 
 pub returns-in_err-commit-clause-lasts : goal.returns-in_err-commit-clause-lasts
-returns-in_err-commit-clause-lasts g c = transaction_lasts c.in_ok-begin.ensures c.in_ok-convert_tables.ensures.goes c.in_ok-convert_tables.ensures.made c.commit.ensures.commits
+returns-in_err-commit-clause-lasts g c = transaction_lasts IsMigrated c.in_ok-begin.ensures c.in_ok-convert_tables.ensures.goes c.in_ok-convert_tables.ensures.made c.commit.ensures.commits
 
 pub returns-in_err-commit-clause-err : goal.returns-in_err-commit-clause-err
 returns-in_err-commit-clause-err g c honest =
     any_err c.from_residual-in_err-commit.result
-    (transaction_refused c.in_ok-begin.ensures c.in_ok-convert_tables.ensures.goes c.in_ok-convert_tables.ensures.made c.commit.ensures.commits honest (c.in_err-commit.ensures.commits.committed.err honest))
+    (transaction_refused IsMigrated c.in_ok-begin.ensures c.in_ok-convert_tables.ensures.goes c.in_ok-convert_tables.ensures.made c.commit.ensures.commits honest (c.in_err-commit.ensures.commits.committed.err honest))
 
 pub returns-in_err-commit-clause-crash : goal.returns-in_err-commit-clause-crash
-returns-in_err-commit-clause-crash g c = transaction_leaves c.in_ok-begin.ensures c.in_ok-convert_tables.ensures.goes c.in_ok-convert_tables.ensures.made c.commit.ensures.commits c.commit.ensures.crash
+returns-in_err-commit-clause-crash g c = transaction_leaves IsMigrated c.in_ok-begin.ensures c.in_ok-convert_tables.ensures.goes c.in_ok-convert_tables.ensures.made c.commit.ensures.commits c.commit.ensures.crash
 
 pub returns-clause-done : goal.returns-clause-done
-returns-clause-done g c honest clean = transaction_done c.in_ok-begin.ensures c.in_ok-convert_tables.ensures.goes c.in_ok-convert_tables.ensures.made c.commit.ensures.commits clean (c.in_ok-commit.ensures.commits.committed.done clean)
+returns-clause-done g c honest clean = transaction_done IsMigrated c.in_ok-begin.ensures c.in_ok-convert_tables.ensures.goes c.in_ok-convert_tables.ensures.made c.commit.ensures.commits clean (c.in_ok-commit.ensures.commits.committed.done clean)
 
 pub returns-clause-crash : goal.returns-clause-crash
-returns-clause-crash g c = transaction_leaves c.in_ok-begin.ensures c.in_ok-convert_tables.ensures.goes c.in_ok-convert_tables.ensures.made c.commit.ensures.commits c.commit.ensures.crash
+returns-clause-crash g c = transaction_leaves IsMigrated c.in_ok-begin.ensures c.in_ok-convert_tables.ensures.goes c.in_ok-convert_tables.ensures.made c.commit.ensures.commits c.commit.ensures.crash

@@ -1,4 +1,4 @@
-use Rattle.std.proofs.Common.{◌∙◌, codes, map, sym, ap, subst, rules}
+use Rattle.std.proofs.Common.{◌∙◌, codes, map, Ok, Err, refl, sym, ap, subst, rules}
 use Rattle.sqlite.specs.Held.{state}
 use Rattle.dh_constraints.specs.Lists.{lists_in}
 use Rattle.dh_records.specs.Codings as coding
@@ -7,7 +7,7 @@ use Rattle.dh_rows.specs.Places.{records_of}
 use Rattle.dh_migrating.specs.OldPasses.{old_passes, old_lists_of, without_end}
 use Rattle.dh_opening.specs.Opening.{other_tables}
 use Rattle.dh_opening.specs.Migrating.{AreOldIn}
-use Rattle.dh_opening.proofs.Looks.{handed, laid_on, opens_both, opens_with, out_of_memory, refused_at_once}
+use Rattle.dh_opening.proofs.Looks.{handed, laid_on, opens_both, out_of_memory, refused_at_once, then_ok}
 use Rattle.dh_opening.proofs.MigrateLemmas.{found_old, order_kept}
 use Rattle.dh_opening.proofs.Spelling.{not_alone}
 use Rattle.dh_opening.proofs.migrating.old_records.Goals as goal
@@ -45,13 +45,32 @@ kept_records-requires g c = record {
   order = subst (InOrder coding.passes.key) (sym c.in_ok-passes.ensures) (order_kept c.in_ok-rows.rows.items c.in_ok-rows.ensures.order);
 }
 
+pub check_derived-requires : goal.check_derived-requires
+check_derived-requires g c = record {
+  unlimited = c.in_ok-records.ensures.opens.goes.lasts.limit ∙ c.in_ok-rows.ensures.opens.goes.lasts.limit ∙ c.requires.unlimited;
+  live = λ clean. (clean, (c.in_ok-records.ensures.opens.same clean).is_open);
+}
+
+pub returns-in_err-records : goal.returns-in_err-records
+returns-in_err-records g c = record {
+  opens = handed c.from_residual-in_err-records.result c.in_err-records.field-0.0 c.from_residual-in_err-records.ensures.1
+      (λ both it. both.1 (old_lists_of (state g.S.Store c.args.conn.now).now) (ap (map without_end) both.0.records ∙ sym c.in_ok-passes.ensures) it.kept)
+      (opens_both c.in_ok-rows.rows (Err c.in_err-records.field-0.0) c.in_ok-rows.ensures.opens c.in_err-records.ensures.opens);
+}
+
+pub returns-in_err-check_derived : goal.returns-in_err-check_derived
+returns-in_err-check_derived g c = record {
+  opens = handed c.from_residual-in_err-check_derived.result c.in_err-check_derived.field-0.0 c.from_residual-in_err-check_derived.ensures.1
+      (λ both it. both.1 it.derived)
+      (opens_both c.in_ok-records.records (Err c.in_err-check_derived.field-0.0) (opens_both c.in_ok-rows.rows (Ok c.in_ok-records.records) c.in_ok-rows.ensures.opens c.in_ok-records.ensures.opens) c.in_err-check_derived.ensures.opens);
+}
+
 pub returns : goal.returns
 returns g c = record {
-  opens = opens_with c.kept_records.result c.kept_records.ensures.passes
-      (λ records passes honest it. (
+  opens = then_ok c.in_ok-check_derived.field-0
+      (opens_both c.in_ok-records.records (Ok c.in_ok-check_derived.field-0) (opens_both c.in_ok-rows.rows (Ok c.in_ok-records.records) c.in_ok-rows.ensures.opens c.in_ok-records.ensures.opens) c.in_ok-check_derived.ensures.opens) c.in_ok-records.records
+      (λ honest it. (
         (c.schema.ensures.live honest.1).0,
-        found_old (state g.S.Store c.args.conn.now).now c.in_ok-rows.rows.items (lists_in records) it.0 it.1 (passes ∙ c.in_ok-passes.ensures) (subst AreOldIn c.schema.ensures.value (c.are_old.ensures.0 (search rules))),
-      ))
-      (λ both it. both.1 (old_lists_of (state g.S.Store c.args.conn.now).now) (ap (map without_end) both.0.records ∙ sym c.in_ok-passes.ensures) it.kept)
-      (opens_both c.in_ok-rows.rows c.kept_records.result c.in_ok-rows.ensures.opens c.kept_records.ensures.opens);
+        found_old (state g.S.Store c.args.conn.now).now c.in_ok-rows.rows.items (lists_in c.in_ok-records.records) it.0.0 it.0.1 (c.in_ok-records.ensures.passes ∙ c.in_ok-passes.ensures) refl (subst AreOldIn c.schema.ensures.value (c.are_old.ensures.0 (search rules))) it.1,
+      ));
 }

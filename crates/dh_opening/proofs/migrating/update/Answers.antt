@@ -1,27 +1,43 @@
-use Rattle.std.proofs.Common.{subst}
-use Rattle.sqlite.specs.Held.{state}
-use Rattle.dh_opening.specs.Opening.{IsKnown}
-use Rattle.dh_opening.proofs.MigrateLemmas.{found_migrates, handed_migrates, then_migrates}
+use Rattle.std.proofs.Common.{Bool, inl}
+use Rattle.dh_opening.specs.Migrating.{IsOld}
+use Rattle.dh_opening.specs.Opening.{IsOurs}
+use Rattle.dh_opening.proofs.BringLemmas.{brings_as, handed_brings, never_old, ours_then, rests_then, then_brings}
 use Rattle.dh_opening.proofs.migrating.update.Goals as goal
 
 pub returns-in_err-is_current : goal.returns-in_err-is_current
-returns-in_err-is_current g c = record { migrates = handed_migrates c.from_residual.result c.in_err-is_current.field-0.0 c.from_residual.ensures.1 (λ none. (none.0, λ old. none.1 old.number)) c.in_err-is_current.ensures.opens }
+returns-in_err-is_current g c = record {
+  migrates = record {
+    brings = handed_brings (λ db. ¬ IsOurs db × ¬ IsOld db) c.from_residual.result c.in_err-is_current.field-0.0 c.from_residual.ensures.1 (λ none. (none.0, λ old. none.1 old.number)) c.in_err-is_current.ensures.opens;
+    current = never_old Bool c.from_residual.result c.in_err-is_current.field-0.0 c.from_residual.ensures.1 c.in_err-is_current.ensures.opens.current;
+  };
+}
+
+pub complete-requires : goal.complete-requires
+complete-requires g c = record {
+  rests = rests_then c.in_ok-is_current.field-0 c.in_ok-is_current.ensures.opens c.requires.outside c.requires.settled;
+  ours = ours_then c.in_ok-is_current.field-0 c.in_ok-is_current.ensures.opens c.if-branch.true;
+}
 
 pub returns-then-branch : goal.returns-then-branch
 returns-then-branch g c = record {
-  migrates = found_migrates c.in_ok-is_current.field-0 c.in_ok-is_current.ensures.opens (λ it. subst (λ known. IsKnown known (state g.S.Store c.args.conn.now).now) c.if-branch.true it) c.requires.outside c.requires.settled;
+  migrates = record {
+    brings = then_brings (λ db. ¬ IsOurs db × ¬ IsOld db) c.in_ok-is_current.field-0 c.complete.result c.in_ok-is_current.ensures.opens (brings_as c.complete.result (λ before after it. inl it) (λ never. absurd never) c.complete.ensures.brings);
+    current = c.complete.ensures.current;
+  };
 }
 
 pub returns-else-branch : goal.returns-else-branch
 returns-else-branch g c = record {
-  migrates = then_migrates c.in_ok-is_current.field-0 c.migrate_tables.result c.in_ok-is_current.ensures.opens
-      (record {
-        lasts = c.migrate_tables.ensures.lasts;
-        done = c.migrate_tables.ensures.done;
-        was = c.migrate_tables.ensures.was;
-        err = c.migrate_tables.ensures.err;
-        ours = c.migrate_tables.ensures.ours;
-        current = c.migrate_tables.ensures.current;
-        crash = c.migrate_tables.ensures.crash;
-      });
+  migrates = record {
+    brings = then_brings (λ db. ¬ IsOurs db × ¬ IsOld db) c.in_ok-is_current.field-0 c.migrate_tables.result c.in_ok-is_current.ensures.opens
+        (record {
+          lasts = c.migrate_tables.ensures.lasts;
+          done = c.migrate_tables.ensures.done;
+          was = c.migrate_tables.ensures.was;
+          err = c.migrate_tables.ensures.err;
+          ours = c.migrate_tables.ensures.ours;
+          crash = c.migrate_tables.ensures.crash;
+        });
+    current = c.migrate_tables.ensures.current;
+  };
 }

@@ -1,20 +1,21 @@
-use Rattle.std.proofs.Common.{◌∷◌, codes, Ok, Err, subst, sym, rules}
+use Rattle.std.proofs.Common.{◌∷◌, ◌∙◌, codes, Ok, Err, refl, subst, sym, rules}
 use Rattle.std.specs.List.{AllByRecursion}
 use Rattle.sqlite_schema.specs.declared.schema.Schema.{Schema}
 use Rattle.sqlite.specs.Held.{state}
 use Rattle.dh_constraints.specs.Lists.{lists_in}
 use Rattle.dh_records.specs.Codings.{passes}
+use Rattle.dh_records.specs.Lists.{base_of}
 use Rattle.dh_records.specs.Typed.{IsPass}
 use Rattle.dh_rows.specs.Shapes.{StandsAlone}
 use Rattle.dh_schema.specs.Tables.{lists_of, pass_table}
 use Rattle.dh_opening.specs.Opening.{StandFor, other_tables}
-use Rattle.dh_opening.proofs.Looks.{handed, laid_on, opens_both, refused_at_once, then_ok}
-use Rattle.dh_opening.proofs.Spelling.{made_ours, not_alone, ours_kept, ours_passes, without_number}
+use Rattle.dh_opening.proofs.Looks.{handed, laid_on, opens_as, opens_both, refused_at_once}
+use Rattle.dh_opening.proofs.Spelling.{made_ours, not_alone}
 use Rattle.dh_opening.proofs.opening.check_tables.Goals as goal
 
 pub returns-then-not-are_ours : goal.returns-then-not-are_ours
 returns-then-not-are_ours g c = record {
-  opens = refused_at_once (λ it. not_alone (λ (s : Schema). AllByRecursion (StandsAlone s) (pass_table ∷ other_tables)) c.are_ours.result c.schema.result.now (state g.S.Store c.args.conn.now).now.schema c.are_ours.ensures.1 c.schema.ensures.value (search rules) (without_number (StandsAlone (state g.S.Store c.args.conn.now).now.schema) it.alone));
+  opens = refused_at_once (λ it. not_alone (λ (s : Schema). AllByRecursion (StandsAlone s) (pass_table ∷ other_tables)) c.are_ours.result c.schema.result.now (state g.S.Store c.args.conn.now).now.schema c.are_ours.ensures.1 c.schema.ensures.value (search rules) it.alone);
 }
 
 pub read_table-requires : goal.read_table-requires
@@ -40,21 +41,29 @@ kept_records-requires g c = record {
 pub returns-in_err-passes : goal.returns-in_err-passes
 returns-in_err-passes g c = record {
   opens = handed c.from_residual.result c.in_err-passes.field-0.0 c.from_residual.ensures.1
-      (λ none it. none (lists_of (state g.S.Store c.args.conn.now).now).passes (ours_passes (state g.S.Store c.args.conn.now).now it)) c.in_err-passes.ensures.opens;
+      (λ none it. none (lists_of (state g.S.Store c.args.conn.now).now).passes it.passes) c.in_err-passes.ensures.opens;
 }
 
 pub returns-in_err-kept_records : goal.returns-in_err-kept_records
 returns-in_err-kept_records g c = record {
   opens = handed c.from_residual-in_err-kept_records.result c.in_err-kept_records.field-0.0 c.from_residual-in_err-kept_records.ensures.1
-      (λ both it. both.1 (lists_of (state g.S.Store c.args.conn.now).now) both.0.records (ours_kept (state g.S.Store c.args.conn.now).now it))
+      (λ both it. both.1 (base_of (lists_of (state g.S.Store c.args.conn.now).now)) both.0.records it.kept)
       (opens_both c.in_ok-passes.passes (Err c.in_err-kept_records.field-0.0) c.in_ok-passes.ensures.opens c.in_err-kept_records.ensures.opens);
+}
+
+pub check_derived-requires : goal.check_derived-requires
+check_derived-requires g c = record {
+  unlimited = c.in_ok-kept_records.ensures.opens.goes.lasts.limit ∙ c.in_ok-passes.ensures.opens.goes.lasts.limit ∙ c.requires.unlimited;
+  live = λ clean. (clean, (c.in_ok-kept_records.ensures.opens.same clean).is_open);
 }
 
 pub returns : goal.returns
 returns g c = record {
-  opens = then_ok c.in_ok-kept_records.field-0 (opens_both c.in_ok-passes.passes (Ok c.in_ok-kept_records.field-0) c.in_ok-passes.ensures.opens c.in_ok-kept_records.ensures.opens) tt
-      (λ honest it number.
-      made_ours (state g.S.Store c.args.conn.now).now (lists_in c.in_ok-kept_records.field-0) it.1
-      (subst (StandFor passes IsPass (codes "pass") (state g.S.Store c.args.conn.now).now) (sym c.in_ok-kept_records.ensures.passes) it.0)
-      (subst (λ (s : Schema). AllByRecursion (StandsAlone s) (pass_table ∷ other_tables)) c.schema.ensures.value (c.are_ours.ensures.0 (search rules))) number);
+  opens = opens_as c.check_derived.result
+      (λ honest u it number.
+      made_ours (state g.S.Store c.args.conn.now).now (lists_in c.in_ok-kept_records.field-0) refl it.0.1
+      (subst (StandFor passes IsPass (codes "pass") (state g.S.Store c.args.conn.now).now) (sym c.in_ok-kept_records.ensures.passes) it.0.0)
+      (subst (λ (s : Schema). AllByRecursion (StandsAlone s) (pass_table ∷ other_tables)) c.schema.ensures.value (c.are_ours.ensures.0 (search rules))) it.1 number)
+      (λ none it. none.1 it.derived)
+      (opens_both c.in_ok-kept_records.field-0 c.check_derived.result (opens_both c.in_ok-passes.passes (Ok c.in_ok-kept_records.field-0) c.in_ok-passes.ensures.opens c.in_ok-kept_records.ensures.opens) c.check_derived.ensures.opens);
 }

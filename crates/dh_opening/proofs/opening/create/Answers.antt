@@ -1,12 +1,19 @@
-use Rattle.std.proofs.Common.{◌∙◌, ap, subst}
+use Rattle.std.proofs.Common.{◌∙◌, ap, rules, subst}
 use Rattle.sqlite.specs.Effect.{Database}
 use Rattle.sqlite.specs.Held.{state}
 use Rattle.dh_schema.specs.Tables.{Holds, lists_of}
 use Rattle.dh_rows.proofs.Indexes.{placed}
+use Rattle.dh_schema.specs.Making.{CanMake}
 use Rattle.dh_opening.proofs.opening.create.Goals as goal
 
 pub make_at_once-requires-clause-placed : goal.make_at_once-requires-clause-placed
 make_at_once-requires-clause-placed g c honest = placed _ (c.schema.ensures.live honest.1).0
+
+pub make_at_once-requires-clause-can : goal.make_at_once-requires-clause-can
+make_at_once-requires-clause-can g c = subst CanMake c.schema.ensures.value (c.can_make.ensures.0 (search rules))
+
+pub returns-in-Ok-clause-free : goal.returns-in-Ok-clause-free
+returns-in-Ok-clause-free g c = subst (λ h. CanMake (state g.S.Store h).now.schema) c.set_step_limit.ensures (subst CanMake c.schema.ensures.value (c.can_make.ensures.0 (search rules)))
 
 pub over-requires : goal.over-requires
 over-requires g c = record {

@@ -2,13 +2,13 @@ use Rattle.std.proofs.Common.{Ok, Err, true, subst}
 use Rattle.sqlite.specs.Held.{state}
 use Rattle.dh_opening.specs.Opening.{IsNumbered}
 use Rattle.dh_opening.proofs.Looks.{handed, opens_both, then_ok}
-use Rattle.dh_opening.proofs.Spelling.{ours_numbered, two_not_one}
+use Rattle.dh_opening.proofs.Spelling.{two_not_one}
 use Rattle.dh_opening.proofs.opening.is_current.Goals as goal
 
 pub returns-in_err-number_of : goal.returns-in_err-number_of
 returns-in_err-number_of g c = record {
   opens = handed c.from_residual.result c.in_err-number_of.field-0.0 c.from_residual.ensures.1
-      (λ none. ((λ it. none 2 (ours_numbered (state g.S.Store c.args.conn.now).now it)), none 1)) c.in_err-number_of.ensures.opens;
+      (λ none. ((λ it. none 2 it.number), none 1)) c.in_err-number_of.ensures.opens;
 }
 
 pub returns-in_err-check_tables-in-2 : goal.returns-in_err-check_tables-in-2

@@ -1,37 +1,60 @@
-use Rattle.std.proofs.Common.{◌∙◌, Bool, ap, subst}
+use Rattle.std.proofs.Common.{◌∙◌, Err, ap, subst}
 use Rattle.sqlite.specs.Held.{state}
+use Rattle.sqlite.specs.State.{HasCleanDisk}
+use Rattle.dh_rows.specs.Calls.{IsBlamed, IsHonest, LeavesNoMore}
+use Rattle.dh_schema.specs.Making.{CanAdd}
 use Rattle.dh_schema.specs.Tables.{lists_of}
-use Rattle.dh_opening.specs.Opening.{IsKnown, IsNumbered, IsOurs}
-use Rattle.dh_opening.proofs.OpenLemmas.{on_not_ours, on_old_schema, was_honest, is_seen, is_last, are_sound, keeps}
+use Rattle.dh_opening.specs.Opening.{IsNumbered, IsOurs, OnFailed}
+use Rattle.dh_opening.specs.Filling.{AddsNothing, LeavesOpened}
+use Rattle.dh_opening.proofs.BringLemmas.{is_open, is_brought, is_last, are_sound, keeps}
+use Rattle.dh_opening.proofs.OpenLemmas.{on_not_ours, on_old_schema, on_store_failed}
 use Rattle.dh_opening.proofs.opening.open.Goals as goal
 
 pub finish-requires : goal.finish-requires
-finish-requires g c = record { ours = λ clean live. keeps g.S.Store c.args.conn c.set_step_limit.new.self c.is_current.new.conn c.set_step_limit.ensures (c.in-Ok-true.ensures.opens.same clean) c.show_settled.ensures ((subst (λ known. IsKnown known (state g.S.Store c.set_step_limit.new.self).now) c.in-Ok-true.field-0-test (c.in-Ok-true.ensures.opens.found clean).1)) c.in-Ok-true.ensures.opens.goes.lasts }
+finish-requires g c = record {
+  ours = λ clean live. keeps c.in-Ok.ensures.opens.brings clean c.args.conn c.set_step_limit.ensures (is_brought c.in-Ok.ensures.opens.brings clean c.args.conn c.set_step_limit.ensures).1.holds;
+}
 
-pub returns-in-Ok-true-clause-opened : goal.returns-in-Ok-true-clause-opened
-returns-in-Ok-true-clause-opened g c = rw c.finish.ensures (λ clean.
-    let same = c.in-Ok-true.ensures.opens.same clean in
-    (was_honest g.S.Store c.args.conn c.set_step_limit.new.self c.is_current.new.conn c.set_step_limit.ensures same c.show_settled.ensures, (clean, same.is_open), same.mode ∙ ap (λ h. h.in_transaction) c.set_step_limit.ensures ∙ c.requires))
+pub returns-in-Ok-clause-opened : goal.returns-in-Ok-clause-opened
+returns-in-Ok-clause-opened g c = rw c.finish.ensures (λ clean. is_open c.in-Ok.ensures.opens.brings clean c.args.conn c.set_step_limit.ensures)
 
-pub returns-in-Ok-true-clause-seen : goal.returns-in-Ok-true-clause-seen
-returns-in-Ok-true-clause-seen g c = rw c.finish.ensures (λ clean. is_seen g.S.Store c.args.conn c.set_step_limit.new.self c.is_current.new.conn c.set_step_limit.ensures (c.in-Ok-true.ensures.opens.same clean) c.show_settled.ensures)
+pub returns-in-Ok-clause-seen : goal.returns-in-Ok-clause-seen
+returns-in-Ok-clause-seen g c = rw c.finish.ensures (λ clean. (is_brought c.in-Ok.ensures.opens.brings clean c.args.conn c.set_step_limit.ensures).1.base)
 
-pub returns-in-Ok-true-clause-last : goal.returns-in-Ok-true-clause-last
-returns-in-Ok-true-clause-last g c = rw c.finish.ensures (λ clean. is_last g.S.Store c.args.conn c.set_step_limit.new.self c.is_current.new.conn c.set_step_limit.ensures (c.in-Ok-true.ensures.opens.same clean) c.show_settled.ensures)
+pub returns-in-Ok-clause-derived : goal.returns-in-Ok-clause-derived
+returns-in-Ok-clause-derived g c = rw c.finish.ensures (λ clean. (is_brought c.in-Ok.ensures.opens.brings clean c.args.conn c.set_step_limit.ensures).1.derived)
 
-pub returns-in-Ok-true-clause-sound : goal.returns-in-Ok-true-clause-sound
-returns-in-Ok-true-clause-sound g c = rw c.finish.ensures (λ clean. are_sound g.S.Store c.args.conn c.set_step_limit.new.self c.is_current.new.conn c.set_step_limit.ensures (c.in-Ok-true.ensures.opens.same clean) c.show_settled.ensures ((subst (λ known. IsKnown known (state g.S.Store c.set_step_limit.new.self).now) c.in-Ok-true.field-0-test (c.in-Ok-true.ensures.opens.found clean).1)))
+pub returns-in-Ok-clause-last : goal.returns-in-Ok-clause-last
+returns-in-Ok-clause-last g c = rw c.finish.ensures (λ clean. is_last c.in-Ok.ensures.opens.brings clean)
 
-pub returns-in-Ok-true-clause-left : goal.returns-in-Ok-true-clause-left
-returns-in-Ok-true-clause-left g c = rw c.finish.ensures (λ honest w left.
-    left.2 ∙ ap (λ trees. lists_of (record { schema = (state g.S.Store c.is_current.new.conn).committed.schema; trees = trees })) (g.met.S.Store.settled c.is_current.new.conn.store left.0 honest.1 left.1))
+pub returns-in-Ok-clause-sound : goal.returns-in-Ok-clause-sound
+returns-in-Ok-clause-sound g c = rw c.finish.ensures (λ clean.
+    let it = (is_brought c.in-Ok.ensures.opens.brings clean c.args.conn c.set_step_limit.ensures).1 in
+    are_sound c.in-Ok.ensures.opens.brings clean c.args.conn c.set_step_limit.ensures it.holds it.keeps)
+
+pub returns-in-Ok-clause-left : goal.returns-in-Ok-clause-left
+returns-in-Ok-clause-left g c = rw c.finish.ensures (λ honest w left.
+    left.2 ∙ ap (λ trees. lists_of (record { schema = (state g.S.Store c.open_tables.new.conn).committed.schema; trees = trees })) (g.met.S.Store.settled c.open_tables.new.conn.store left.0 honest.1 left.1))
+
+pub returns-in-Ok-clause-quiet : goal.returns-in-Ok-clause-quiet
+returns-in-Ok-clause-quiet g c = rw c.finish.ensures (subst (λ h. ¬ CanAdd (state g.S.Store h).now.schema → IsHonest g.S.Store h → LeavesNoMore g.S.Store h c.open_tables.new.conn) c.set_step_limit.ensures c.in-Ok.ensures.opens.quiet)
+
+pub returns-in-Ok-clause-crash : goal.returns-in-Ok-clause-crash
+returns-in-Ok-clause-crash g c = rw c.finish.ensures (subst (λ h. LeavesOpened g.S.Store h c.open_tables.new.conn) c.set_step_limit.ensures c.in-Ok.ensures.opens.brings.crash)
 
 pub returns-in-Err-clause-ours : goal.returns-in-Err-clause-ours
-returns-in-Err-clause-ours g c clean is =
-    subst (λ h. ¬ IsOurs (state g.S.Store h).now × ¬ IsNumbered (state g.S.Store h).now 1) c.set_step_limit.ensures (on_not_ours Bool _ c.in-Err.fault (c.in-Err.ensures.opens.ours clean) is)
+returns-in-Err-clause-ours g c clean is = subst (λ h. ¬ IsOurs (state g.S.Store h).now × ¬ IsNumbered (state g.S.Store h).now 1) c.set_step_limit.ensures (on_not_ours (Unit {0}) _ c.in-Err.fault (c.in-Err.ensures.opens.brings.ours clean) is)
 
 pub returns-in-Err-clause-old : goal.returns-in-Err-clause-old
-returns-in-Err-clause-old g c clean is = absurd (on_old_schema Bool _ c.in-Err.fault c.in-Err.ensures.opens.current is)
+returns-in-Err-clause-old g c clean is = subst (λ h. IsNumbered (state g.S.Store h).now 1) c.set_step_limit.ensures (on_old_schema (Unit {0}) _ c.in-Err.fault (c.in-Err.ensures.opens.numbered clean) is)
 
-pub returns-in-Ok-false-clause-old : goal.returns-in-Ok-false-clause-old
-returns-in-Ok-false-clause-old g c clean is = subst (λ h. IsNumbered (state g.S.Store h).now 1) c.set_step_limit.ensures (subst (λ known. IsKnown known (state g.S.Store c.set_step_limit.new.self).now) c.in-Ok-false.field-0-test (c.in-Ok-false.ensures.opens.found clean).1)
+pub returns-in-Err-clause-told : goal.returns-in-Err-clause-told
+returns-in-Err-clause-told g c cannot clean is =
+    on_store_failed (Unit {0}) _ c.in-Err.fault
+    (subst (λ h. ¬ CanAdd (state g.S.Store h).now.schema → HasCleanDisk (state g.S.Store c.open_tables.new.conn) → OnFailed {T = Unit {0}} (Err c.in-Err.fault) (IsBlamed g.S.Store h c.open_tables.new.conn)) c.set_step_limit.ensures c.in-Err.ensures.opens.told cannot clean) is
+
+pub returns-in-Err-clause-kept : goal.returns-in-Err-clause-kept
+returns-in-Err-clause-kept g c = subst (λ h. AddsNothing c.in-Err.fault (state g.S.Store h).now → IsHonest g.S.Store h → LeavesNoMore g.S.Store h c.open_tables.new.conn) c.set_step_limit.ensures c.in-Err.ensures.opens.quiet
+
+pub returns-in-Err-clause-stop : goal.returns-in-Err-clause-stop
+returns-in-Err-clause-stop g c = subst (λ h. LeavesOpened g.S.Store h c.open_tables.new.conn) c.set_step_limit.ensures c.in-Err.ensures.opens.brings.crash

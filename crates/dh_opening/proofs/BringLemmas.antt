@@ -1,0 +1,301 @@
+-- What brings a database to another, in a transaction of its own, and after a look.
+use Rattle.std.proofs.Common.{◌≡◌, inl, inr, Bool, true, false, IsTrue, IsErrAnd, None, Result, Ok, Err, OnOk, OnErr, sym, ap, subst, ◌∙◌}
+use Rattle.sqlite_trees.specs.declared.store.Store.{Ghosts}
+use Rattle.sqlite.specs.Effect.{Database}
+use Rattle.sqlite.specs.Held.{Held, state}
+use Rattle.sqlite.specs.State.{HasCleanDisk}
+use Rattle.dh_faults.specs.declared.fault.Fault.{Fault}
+use Rattle.dh_faults.specs.declared.fault.Fault.TheVariants as fault
+use Rattle.dh_rows.specs.Calls.{GoesWithin, IsHonest, IsRefused, Keep, Lasts, LeavesNoMore, LeavesSeen, OnlyBegins, OnlyCommits, Shows, whole}
+use Rattle.dh_records.specs.Constraints.{AreInOrder, KeepsConstraints}
+use Rattle.dh_schema.specs.InTurn.{lasts_none, lasts_on}
+use Rattle.dh_schema.specs.Making.{CanAdd}
+use Rattle.dh_schema.specs.Tables.{Holds, lists_of}
+use Rattle.dh_migrating.specs.Converting.{Carries}
+use Rattle.dh_store.proofs.OrderLemmas.{in_order}
+use Rattle.dh_opening.specs.declared.fault.TablesFault.{TablesFault}
+use Rattle.dh_opening.specs.declared.fault.TablesFault.TheVariants.{NotOurs, OldSchema, Failed}
+use Rattle.dh_opening.specs.Opening.{IsKnown, IsNumbered, IsOurs, OnFailed, OnNotOurs, OnOldSchema, Opens}
+use Rattle.dh_opening.specs.Filling.{Brings, IsAtRest, IsFilled, IsNothingAdded, IsOpened, LeavesBrought, OpensTables}
+use Rattle.dh_opening.proofs.FillLemmas.{ours_brought}
+
+-- ---- in a transaction of its own
+
+module _ {S : Type 0} {g : Ghosts S} (R : Database → Database → Type 0) {a b c d : Held S} (begins : OnlyBegins g whole a b (Ok tt)) (goes : GoesWithin g b c)
+    (made : IsHonest g b → HasCleanDisk (state g c) → IsHonest g c × (c.in_transaction ≡ b.in_transaction) × R (state g b).now (state g c).now) {r : Result (Unit {0}) Fault} (commits : OnlyCommits g whole c d r) where
+  begun : HasCleanDisk (state g d) → Shows g whole a b (state g a).now (state g a).committed true
+  begun clean = begins.begun.done (goes.lasts.clean (commits.lasts.clean clean))
+
+  made_then : HasCleanDisk (state g d) → IsHonest g c × (c.in_transaction ≡ b.in_transaction) × R (state g b).now (state g c).now
+  made_then clean = let middle = commits.lasts.clean clean in made (goes.lasts.clean middle, (begun clean).is_open) middle
+
+  pub transaction_lasts : Lasts g a d
+  transaction_lasts = lasts_on (lasts_on begins.goes.lasts goes.lasts) commits.lasts
+
+  pub transaction_leaves : LeavesSeen g c d → LeavesBrought g a d R
+  transaction_leaves seen honest clean db may =
+      let middle = commits.lasts.clean clean in
+      let first = goes.lasts.clean middle in
+      let it = begun clean in
+      let then = made_then clean in
+      elim (seen then.0 clean db may) [
+        | inl before ↦ inl (begins.quiet first db (goes.quiet it.mode (first, it.is_open) middle db before))
+        | inr is ↦ inr ((state g c).now, is, subst (λ (was : Database). R was (state g c).now) it.now_is then.2)
+      ]
+
+  pub transaction_refused : IsHonest g d → IsRefused g whole c d → (state g d).committed ≡ (state g a).committed
+  transaction_refused honest refused =
+      let second = commits.lasts.was honest in
+      let it = begun honest.0 in
+      last refused ∙ goes.kept it.mode second ∙ it.last_is
+    where
+      last : IsRefused g whole c d → (state g d).committed ≡ (state g c).committed
+      last (inl same) = same.last_is
+      last (inr undone) = undone.last_is
+
+  pub transaction_done : HasCleanDisk (state g d) → Shows g whole c d (state g c).now (state g c).now false → IsAtRest g d × R (state g a).now (state g d).now
+  transaction_done clean ended = (
+    record { honest = (clean, ended.is_open); outside = ended.mode; settled = ended.now_is ∙ sym ended.last_is },
+    subst (λ (was : Database). R was (state g d).now) (begun clean).now_is (subst (λ (db : Database). R (state g b).now db) (sym ended.now_is) (made_then clean).2),
+  )
+
+-- tables that were found ours before the begin, to which those of derived records are added
+pub opens_filled
+    : {S : Type 0} {g : Ghosts S} {a b c : Held S} → OnlyBegins g whole a b (Ok tt) → (IsHonest g a → IsOurs (state g a).now) → Carries g b c (Ok tt) (IsFilled (state g b).now)
+    → IsHonest g b → HasCleanDisk (state g c) → IsHonest g c × (c.in_transaction ≡ b.in_transaction) × IsOpened (state g b).now (state g c).now
+opens_filled {g = g} {b = b} {c = c} begins ours it honest clean =
+    let begun = begins.begun.done honest.0 in
+    let mine = subst IsOurs (sym begun.now_is) (ours begun.was_honest) in
+    let filled = it.made honest clean in
+    (filled.0, filled.1, (mine, ours_brought (state g b).now (state g c).now mine filled.2))
+
+-- what is said of any refusal
+pub any_err : {P : Type 0} (r : Result (Unit {0}) TablesFault) → P → OnErr r P
+any_err (Ok u) it = tt
+any_err (Err e) it = it
+
+-- ---- a refusal that `?` hands on
+
+module _ {N M : Type 0} where
+  pub less_ours : (r : Result (Unit {0}) TablesFault) → (N → M) → OnNotOurs r N → OnNotOurs r M
+  less_ours (Ok u) less it = tt
+  less_ours (Err NotOurs) less it = less it
+  less_ours (Err OldSchema) less it = tt
+  less_ours (Err (Failed fault)) less it = tt
+
+  pub handed_ours : (r : Result (Unit {0}) TablesFault) (e : TablesFault) → IsErrAnd r (λ f. f ≡ e) → (N → M) → OnNotOurs {T = Unit {0}} (Err e) N → OnNotOurs r M
+  handed_ours (Ok u) e is less it = absurd is
+  handed_ours (Err f) e is less it = less_ours (Err f) less (subst (λ (x : TablesFault). OnNotOurs {T = Unit {0}} (Err x) N) (sym is) it)
+
+-- a refusal that is not of schema 1
+pub never_old : (T : Type 0) (r : Result (Unit {0}) TablesFault) (e : TablesFault) → IsErrAnd r (λ f. f ≡ e) → OnOldSchema {T = T} (Err e) ⊥ → OnOldSchema r ⊥
+never_old T (Ok u) e is it = absurd is
+never_old T (Err f) e is it = go f (subst (λ (x : TablesFault). OnOldSchema {T = T} (Err x) ⊥) (sym is) it)
+  where
+    go : (f : TablesFault) → OnOldSchema {T = T} (Err f) ⊥ → OnOldSchema {T = Unit {0}} (Err f) ⊥
+    go NotOurs it = tt
+    go OldSchema it = it
+    go (Failed fault) it = tt
+
+-- ---- in other words, and after a look
+
+module _ {S : Type 0} {g : Ghosts S} where
+  pub brings_as
+      : {a b : Held S} {R Q : Database → Database → Type 0} {N M : Type 0} (r : Result (Unit {0}) TablesFault) → ((before after : Database) → R before after → Q before after) → (N → M)
+      → Brings g a b r R N → Brings g a b r Q M
+  brings_as {a} {b} {R} {Q} r more less it = record {
+    lasts = it.lasts;
+    done = λ honest clean. done r (it.done honest clean);
+    was = it.was;
+    err = it.err;
+    ours = λ clean. less_ours r less (it.ours clean);
+    crash = λ honest clean db may. elim (it.crash honest clean db may) [
+      | inl before ↦ inl before
+      | inr after ↦ inr (after.0, after.1, more _ _ after.2)
+    ];
+  }
+    where
+      done : (r : Result (Unit {0}) TablesFault) → OnOk r (IsAtRest g b × R (state g a).now (state g b).now) → OnOk r (IsAtRest g b × Q (state g a).now (state g b).now)
+      done (Ok u) it = (it.0, more _ _ it.1)
+      done (Err e) it = tt
+
+  -- nothing is done, of tables that need nothing
+  pub brings_nothing
+      : {h : Held S} {R : Database → Database → Type 0} {N : Type 0} → (IsHonest g h → R (state g h).now (state g h).now) → (HasCleanDisk (state g h) → IsAtRest g h) → Brings g h h (Ok tt) R N
+  brings_nothing {h} same rests = record {
+    lasts = lasts_none h;
+    done = λ honest clean. (rests clean, same honest);
+    was = λ clean. (rests clean).honest;
+    err = λ honest. tt;
+    ours = λ clean. tt;
+    crash = λ honest clean db may. inl may;
+  }
+
+  -- a refusal of a look
+  refused_brings
+      : {a b : Held S} {T : Type 0} {P : Database → T → Type 0} {N : Database → Type 0} (M : Database → Type 0) {R : Database → Database → Type 0} (e : TablesFault) → (N (state g a).now → M (state g a).now)
+      → Opens g a b {T = T} (Err e) P N → Brings g a b (Err e) R (M (state g a).now)
+  refused_brings {a} {b} {T} {P} {N} M e less it = record {
+    lasts = it.goes.lasts;
+    done = λ honest clean. tt;
+    was = λ clean. tt;
+    err = λ honest. it.goes.kept honest;
+    ours = λ clean. not_ours e (it.ours clean);
+    crash = λ honest clean db may. inl (it.goes.quiet honest clean db may);
+  }
+    where
+      not_ours : (e : TablesFault) → OnNotOurs {T = T} (Err e) (N (state g a).now) → OnNotOurs {T = Unit {0}} (Err e) (M (state g a).now)
+      not_ours NotOurs none = less none
+      not_ours OldSchema none = tt
+      not_ours (Failed fault) none = tt
+
+  pub handed_brings
+      : {a b : Held S} {T : Type 0} {P : Database → T → Type 0} {N : Database → Type 0} (M : Database → Type 0) {R : Database → Database → Type 0} (r : Result (Unit {0}) TablesFault) (e : TablesFault) → IsErrAnd r (λ f. f ≡ e)
+      → (N (state g a).now → M (state g a).now) → Opens g a b {T = T} (Err e) P N → Brings g a b r R (M (state g a).now)
+  handed_brings M (Ok u) e is less it = absurd is
+  handed_brings {a} {b} M {R = R} (Err f) e is less it = subst (λ (x : TablesFault). Brings g a b (Err x) R (M (state g a).now)) (sym is) (refused_brings M e less it)
+
+  -- what comes after a look that was answered
+  pub then_brings
+      : {a b c : Held S} {T : Type 0} {P : Database → T → Type 0} {N : Database → Type 0} (M : Database → Type 0) {R : Database → Database → Type 0} (x : T) (r : Result (Unit {0}) TablesFault) → Opens g a b (Ok x) P N
+      → Brings g b c r R (M (state g b).now) → Brings g a c r R (M (state g a).now)
+  then_brings {a} {b} {c} M {R = R} x r first next = record {
+    lasts = lasts_on first.goes.lasts next.lasts;
+    done = λ honest clean.
+        let same = first.same (next.lasts.clean clean) in
+        subst (λ (db : Database). OnOk r (IsAtRest g c × R db (state g c).now)) same.now_is (next.done (next.lasts.clean clean, same.is_open) clean);
+    was = λ clean. answered r (first.goes.lasts.was) (next.was clean);
+    err = λ honest. kept_before r (first.goes.kept (next.lasts.was honest)) (next.err honest);
+    ours = λ clean. subst (λ (db : Database). OnNotOurs r (M db)) (first.same (next.lasts.clean clean)).now_is (next.ours clean);
+    crash = λ honest clean db may.
+        let back = next.lasts.clean clean in
+        let same = first.same back in
+        elim (next.crash (back, same.is_open) clean db may) [
+          | inl before ↦ inl (first.goes.quiet honest back db before)
+          | inr after ↦ inr (after.0, after.1, subst (λ (was : Database). R was after.0) same.now_is after.2)
+        ];
+  }
+    where
+      answered : (r : Result (Unit {0}) TablesFault) → (IsHonest g b → IsHonest g a) → OnOk r (IsHonest g b) → OnOk r (IsHonest g a)
+      answered (Ok u) was it = was it
+      answered (Err e) was it = tt
+
+      kept_before : (r : Result (Unit {0}) TablesFault) → (state g b).committed ≡ (state g a).committed → OnErr r ((state g c).committed ≡ (state g b).committed) → OnErr r ((state g c).committed ≡ (state g a).committed)
+      kept_before (Ok u) before it = tt
+      kept_before (Err e) before it = it ∙ before
+
+  -- ---- tables that are opened
+
+  -- what a look finds of tables that were ours, for what comes after it
+  module _ {a b : Held S} {N : Database → Type 0} (known : Bool) (first : Opens g a b (Ok known) (λ db is. IsKnown is db) N) where
+    pub ours_then : known ≡ true → IsHonest g b → IsOurs (state g b).now
+    ours_then is honest = subst IsOurs (sym (first.same honest.0).now_is) (subst (λ k. IsKnown k (state g a).now) is (first.found honest.0).1)
+
+    pub rests_then : a.in_transaction ≡ false → (IsTrue (state g a).is_open → (state g a).now ≡ (state g a).committed) → HasCleanDisk (state g b) → IsAtRest g b
+    rests_then outside settled clean =
+        let same = first.same clean in
+        record { honest = (clean, same.is_open); outside = same.mode ∙ outside; settled = same.now_is ∙ settled same.was_honest.1 ∙ sym same.last_is }
+
+  pub refused_opens
+      : {a b : Held S} {T : Type 0} {P : Database → T → Type 0} (r : Result (Unit {0}) TablesFault) (e : TablesFault) → IsErrAnd r (λ f. f ≡ e)
+      → Opens g a b {T = T} (Err e) P (λ db. ¬ IsOurs db × ¬ IsNumbered db 1) → OpensTables g a b r
+  refused_opens (Ok u) e is it = absurd is
+  refused_opens {a} {b} {T} (Err f) e is it = subst (λ (x : TablesFault). OpensTables g a b (Err x)) (sym is) (record {
+    brings = refused_brings (λ db. ¬ IsOurs db × ¬ IsNumbered db 1) e (λ none. none) it;
+    numbered = λ clean. old _ e it.current;
+    told = λ cannot clean. failed _ e (it.told clean);
+    quiet = λ _ honest. it.goes.quiet honest;
+  })
+    where
+      old : (Q : Type 0) (e : TablesFault) → OnOldSchema {T = T} (Err e) ⊥ → OnOldSchema {T = Unit {0}} (Err e) Q
+      old Q NotOurs it = tt
+      old Q OldSchema it = absurd it
+      old Q (Failed fault) it = tt
+
+      failed : (Q : Type 0) (e : TablesFault) → OnFailed {T = T} (Err e) Q → OnFailed {T = Unit {0}} (Err e) Q
+      failed Q NotOurs it = tt
+      failed Q OldSchema it = tt
+      failed Q (Failed fault.Store) it = it
+      failed Q (Failed fault.Memory) it = tt
+
+  -- tables of schema 1
+  pub old_opens
+      : {a b : Held S} {N : Database → Type 0} (known : Bool) → known ≡ false → Opens g a b (Ok known) (λ db is. IsKnown is db) N → OpensTables g a b (Err OldSchema)
+  old_opens {a} {b} known is it = record {
+    brings = record {
+      lasts = it.goes.lasts;
+      done = λ honest clean. tt;
+      was = λ clean. tt;
+      err = λ honest. it.goes.kept honest;
+      ours = λ clean. tt;
+      crash = λ honest clean db may. inl (it.goes.quiet honest clean db may);
+    };
+    numbered = λ clean. subst (λ k. IsKnown k (state g a).now) is (it.found clean).1;
+    told = λ cannot clean. tt;
+    quiet = λ _ honest. it.goes.quiet honest;
+  }
+
+  -- tables that were found ours, to which those of derived records are added
+  pub then_opens
+      : {a b c : Held S} {N : Database → Type 0} (known : Bool) (r : Result (Unit {0}) TablesFault) → Opens g a b (Ok known) (λ db is. IsKnown is db) N → Brings g b c r IsOpened ⊥ → OnOldSchema r ⊥
+      → (IsHonest g b → ¬ CanAdd (state g b).now.schema → (c ≡ b) × OnErr r ⊥) → OpensTables g a c r
+  then_opens {a} {b} {c} known r first next current none = record {
+    brings = then_brings (λ db. ¬ IsOurs db × ¬ IsNumbered db 1) known r first (brings_as r (λ before after it. it) (λ never. absurd never) next);
+    numbered = λ clean. old _ r current;
+    told = λ cannot clean. let back = next.lasts.clean clean in no_err _ r ((none (live back) (subst (λ (db : Database). ¬ CanAdd db.schema) (sym (first.same back).now_is) cannot)).1);
+    quiet = λ nothing honest clean db may. quiet r (next.ours clean) current nothing honest clean db may;
+  }
+    where
+      live : HasCleanDisk (state g b) → IsHonest g b
+      live clean = (clean, (first.same clean).is_open)
+
+      old : (Q : Type 0) (r : Result (Unit {0}) TablesFault) → OnOldSchema r ⊥ → OnOldSchema r Q
+      old Q (Ok u) it = tt
+      old Q (Err NotOurs) it = tt
+      old Q (Err OldSchema) it = absurd it
+      old Q (Err (Failed fault)) it = tt
+
+      no_err : (Q : Type 0) (r : Result (Unit {0}) TablesFault) → OnErr r ⊥ → OnFailed r Q
+      no_err Q (Ok u) it = tt
+      no_err Q (Err e) it = absurd it
+
+      still : ¬ CanAdd (state g a).now.schema → IsHonest g a → LeavesNoMore g a c
+      still cannot honest clean db may =
+          let back = next.lasts.clean clean in
+          let is = (none (live back) (subst (λ (d : Database). ¬ CanAdd d.schema) (sym (first.same back).now_is) cannot)).0 in
+          first.goes.quiet honest back db (subst (λ (h : Held S). g.recovers h.store db) is may)
+
+      quiet : (r : Result (Unit {0}) TablesFault) → OnNotOurs r ⊥ → OnOldSchema r ⊥ → IsNothingAdded r (state g a).now → IsHonest g a → LeavesNoMore g a c
+      quiet (Ok u) ours current cannot = still cannot
+      quiet (Err NotOurs) ours current nothing = absurd ours
+      quiet (Err OldSchema) ours current nothing = absurd current
+      quiet (Err (Failed fault)) ours current cannot = still cannot
+
+-- ---- a connection whose limit on steps was cleared before
+
+module _ {S : Type 0} {g : Ghosts S} {old new : Held S} {R : Database → Database → Type 0} {N : Type 0} (it : Brings g old new (Ok tt) R N) (clean : HasCleanDisk (state g new)) where
+  rests : IsAtRest g new × R (state g old).now (state g new).now
+  rests = it.done (it.was clean) clean
+
+  pub is_last : lists_of (state g new).committed ≡ lists_of (state g new).now
+  is_last = ap lists_of (sym rests.0.settled)
+
+  module _ (conn : Held S) (cleared : old ≡ record conn { step_limit = None }) where
+    pub is_open : IsHonest g conn × IsHonest g new × (new.in_transaction ≡ false)
+    is_open = (subst (IsHonest g) cleared (it.was clean), rests.0.honest, rests.0.outside)
+
+    pub is_brought : R (state g conn).now (state g new).now
+    is_brought = subst (λ (h : Held S). R (state g h).now (state g new).now) cleared rests.1
+
+    module _ (holds : Holds (state g new).now) where
+      pub are_sound : KeepsConstraints (lists_of (state g new).now) → AreInOrder (lists_of (state g new).committed) × KeepsConstraints (lists_of (state g new).committed)
+      are_sound keep = subst (λ (db : Database). AreInOrder (lists_of db) × KeepsConstraints (lists_of db)) rests.0.settled (in_order (state g new).now holds, keep)
+
+      pub keeps : Keep Holds (state g new)
+      keeps = record {
+        now = holds;
+        last = subst Holds rests.0.settled holds;
+        steady = ap (λ (db : Database). db.schema) rests.0.settled;
+        settled = λ _. rests.0.settled;
+        unlimited = it.lasts.limit ∙ ap (λ (h : Held S). h.step_limit) cleared;
+      }
