@@ -39,7 +39,7 @@ lower_than x [] low e (k, at) = absurd cc
 lower_than x (f ∷ es) low e (zero, at) = let same : f ≡ e = cc in ap (λ (y : Entry). eq_by_cmp text_cmp y.0 x) (sym same) ∙ higher_is_other x f.0 (left _ _ low)
 lower_than x (f ∷ es) low e (suc k, at) = lower_than x es (right _ _ low) e (k, at)
 
-found_at_key : (es : List Entry) → T (is_sorted text_cmp es) → (e : Entry) → IsIn es e → finite.find text_cmp e.0 es ≡ Some e.1
+pub found_at_key : (es : List Entry) → T (is_sorted text_cmp es) → (e : Entry) → IsIn es e → finite.find text_cmp e.0 es ≡ Some e.1
 found_at_key [] sorted e (k, at) = absurd cc
 found_at_key (f ∷ es) sorted e (zero, at) =
     let same : f ≡ e = cc in
@@ -49,7 +49,7 @@ found_at_key (f ∷ es) sorted e (zero, at) =
 found_at_key (f ∷ es) sorted e (suc k, at) =
     ap (λ b. cond b (Some f.1) (finite.find text_cmp e.0 es)) (lower_than f.0 es (left _ _ sorted) e (k, at)) ∙ found_at_key es (right _ _ sorted) e (k, at)
 
-key_found : (q : Text) (es : List Entry) (v : Version) → finite.find text_cmp q es ≡ Some v → IsIn (map (λ e. e.1) es) v
+pub key_found : (q : Text) (es : List Entry) (v : Version) → finite.find text_cmp q es ≡ Some v → IsIn (map (λ e. e.1) es) v
 key_found q [] v e = absurd cc
 key_found q (f ∷ es) v e = go (eq_by_cmp text_cmp q f.0) e (key_found q es v)
   where
