@@ -5,35 +5,32 @@ use Rattle.std.specs.List.{find, list_any, position_or_len}
 use Rattle.std.proofs.lemmas.Bool.Decides.{nat_tests}
 use Rattle.std.proofs.lemmas.List.Folds.{find_at}
 use Rattle.std.proofs.lemmas.Option.{slice_get_past}
+use Rattle.dh_aliases.specs.Tops.{IsMember}
 
 either : (a b : Bool) → (a || b) ≡ false → (a ≡ false) × (b ≡ false)
 either true b e = absurd (true≢false e)
 either false b e = (refl, e)
 
 module _ {X : Type 0} where
-  -- x is a member of the list
-  abbrev pub IsIn : List X → X → Type 0
-  IsIn xs x = (k : ℕ) × (slice_get xs k ≡ Some x)
-
-  pub first_in : (x : X) (xs : List X) → IsIn (x ∷ xs) x
+  pub first_in : (x : X) (xs : List X) → IsMember (x ∷ xs) x
   first_in x xs = (0, refl)
 
-  pub later_in : (y x : X) (xs : List X) → IsIn xs x → IsIn (y ∷ xs) x
+  pub later_in : (y x : X) (xs : List X) → IsMember xs x → IsMember (y ∷ xs) x
   later_in y x xs at = (suc at.0, at.1)
 
-  pub first_or_later : (y x : X) (xs : List X) → IsIn (y ∷ xs) x → (x ≡ y) ⊎ IsIn xs x
+  pub first_or_later : (y x : X) (xs : List X) → IsMember (y ∷ xs) x → (x ≡ y) ⊎ IsMember xs x
   first_or_later y x xs (zero, e) = inl cc
   first_or_later y x xs (suc k, e) = inr (k, e)
 
-  pub in_none : (x : X) → IsIn [] x → ⊥
+  pub in_none : (x : X) → IsMember [] x → ⊥
   in_none x (k, e) = cc
 
-  pub each_fails : (p : X → Bool) (xs : List X) → list_any p xs ≡ false → (x : X) → IsIn xs x → p x ≡ false
+  pub each_fails : (p : X → Bool) (xs : List X) → list_any p xs ≡ false → (x : X) → IsMember xs x → p x ≡ false
   each_fails p [] e x (k, at) = absurd cc
   each_fails p (y ∷ xs) e x (zero, at) = let same : y ≡ x = cc in ap p (sym same) ∙ (either (p y) (list_any p xs) e).0
   each_fails p (y ∷ xs) e x (suc k, at) = each_fails p xs (either (p y) (list_any p xs) e).1 x (k, at)
 
-  pub all_fail : (p : X → Bool) (xs : List X) → ((x : X) → IsIn xs x → p x ≡ false) → list_any p xs ≡ false
+  pub all_fail : (p : X → Bool) (xs : List X) → ((x : X) → IsMember xs x → p x ≡ false) → list_any p xs ≡ false
   all_fail p [] none = refl
   all_fail p (y ∷ xs) none = ap (λ b. b || list_any p xs) (none y (0, refl)) ∙ all_fail p xs (λ x at. none x (suc at.0, at.1))
 
@@ -47,19 +44,19 @@ module _ {X : Type 0} where
   pub at_position : (p : X → Bool) (xs : List X) → option_and_then (slice_get xs) (position p xs) ≡ find p xs
   at_position p xs = found_or_past p xs (nat_lt (position_or_len p xs) (length xs)) refl
 
-  pub found_passes : (p : X → Bool) (xs : List X) (x : X) → find p xs ≡ Some x → (p x ≡ true) × IsIn xs x
+  pub found_passes : (p : X → Bool) (xs : List X) (x : X) → find p xs ≡ Some x → (p x ≡ true) × IsMember xs x
   found_passes p [] x e = absurd cc
   found_passes p (y ∷ xs) x e = go (p y) refl e (found_passes p xs x)
     where
-      go : (b : Bool) → p y ≡ b → cond b (Some y) (find p xs) ≡ Some x → (find p xs ≡ Some x → (p x ≡ true) × IsIn xs x) → (p x ≡ true) × IsIn (y ∷ xs) x
+      go : (b : Bool) → p y ≡ b → cond b (Some y) (find p xs) ≡ Some x → (find p xs ≡ Some x → (p x ≡ true) × IsMember xs x) → (p x ≡ true) × IsMember (y ∷ xs) x
       go true passes e more = let same : y ≡ x = cc in (ap p (sym same) ∙ passes, (0, e))
       go false fails e more = let found = more e in (found.0, later_in y x xs found.1)
 
-  pub none_found : (p : X → Bool) (xs : List X) → find p xs ≡ None → (x : X) → IsIn xs x → p x ≡ false
+  pub none_found : (p : X → Bool) (xs : List X) → find p xs ≡ None → (x : X) → IsMember xs x → p x ≡ false
   none_found p [] e x at = absurd (in_none x at)
   none_found p (y ∷ xs) e x at = go (p y) refl e at (none_found p xs)
     where
-      go : (b : Bool) → p y ≡ b → cond b (Some y) (find p xs) ≡ None → IsIn (y ∷ xs) x → (find p xs ≡ None → (x : X) → IsIn xs x → p x ≡ false) → p x ≡ false
+      go : (b : Bool) → p y ≡ b → cond b (Some y) (find p xs) ≡ None → IsMember (y ∷ xs) x → (find p xs ≡ None → (x : X) → IsMember xs x → p x ≡ false) → p x ≡ false
       go true passes e at more = absurd cc
       go false fails e (zero, at) more = let same : y ≡ x = cc in ap p (sym same) ∙ fails
       go false fails e (suc k, at) more = more e x (k, at)

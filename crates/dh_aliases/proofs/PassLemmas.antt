@@ -58,7 +58,7 @@ module _ (p : Project) (pass : Text) where
   abbrev whole : Versions
   whole = versions_for p (Some pass)
 
-  wider : (s : Text) (w : Version) → get bare s ≡ Some w → get whole s ≡ Some w
+  pub wider : (s : Text) (w : Version) → get bare s ≡ Some w → get whole s ≡ Some w
   wider s w e = seen_at p (Some pass) s ∙ go (sees p None s) refl (sym (seen_at p None s) ∙ e)
     where
       go : (b : Bool) → sees p None s ≡ b → cond b (get p.versions s) None ≡ Some w → cond (sees p (Some pass) s) (get p.versions s) None ≡ Some w
@@ -66,7 +66,7 @@ module _ (p : Project) (pass : Text) where
       go false unseen e = absurd cc
 
   -- what a pass sees is seen without one, or private
-  bare_or_private : (s : Text) (w : Version) → get whole s ≡ Some w → (get bare s ≡ Some w) ⊎ (w.private ≡ true)
+  pub bare_or_private : (s : Text) (w : Version) → get whole s ≡ Some w → (get bare s ≡ Some w) ⊎ (w.private ≡ true)
   bare_or_private s w e = go w.private refl
     where
       there : get p.versions s ≡ Some w

@@ -11,7 +11,7 @@ use Rattle.dh_versions.specs.declared.version.Version.{Version}
 use Rattle.dh_world.specs.World.{Text, text_cmp}
 use Rattle.dh_world.proofs.MapLemmas.{tied_text, text_total}
 use Rattle.dh_aliases.specs.Tops.{Versions, AreNamed, IsMember}
-use Rattle.dh_aliases.proofs.MemberLemmas.{IsIn, later_in}
+use Rattle.dh_aliases.proofs.MemberLemmas.{later_in}
 
 -- ---- an entry is found at its key
 
@@ -34,12 +34,12 @@ higher_is_other x y low = go (text_cmp x y) refl low
 abbrev Entry : Type 0
 Entry = Text × Version
 
-lower_than : (x : Text) (es : List Entry) → T (below_all text_cmp x es) → (e : Entry) → IsIn es e → eq_by_cmp text_cmp e.0 x ≡ false
+lower_than : (x : Text) (es : List Entry) → T (below_all text_cmp x es) → (e : Entry) → IsMember es e → eq_by_cmp text_cmp e.0 x ≡ false
 lower_than x [] low e (k, at) = absurd cc
 lower_than x (f ∷ es) low e (zero, at) = let same : f ≡ e = cc in ap (λ (y : Entry). eq_by_cmp text_cmp y.0 x) (sym same) ∙ higher_is_other x f.0 (left _ _ low)
 lower_than x (f ∷ es) low e (suc k, at) = lower_than x es (right _ _ low) e (k, at)
 
-found_at_key : (es : List Entry) → T (is_sorted text_cmp es) → (e : Entry) → IsIn es e → finite.find text_cmp e.0 es ≡ Some e.1
+pub found_at_key : (es : List Entry) → T (is_sorted text_cmp es) → (e : Entry) → IsMember es e → finite.find text_cmp e.0 es ≡ Some e.1
 found_at_key [] sorted e (k, at) = absurd cc
 found_at_key (f ∷ es) sorted e (zero, at) =
     let same : f ≡ e = cc in
@@ -49,15 +49,15 @@ found_at_key (f ∷ es) sorted e (zero, at) =
 found_at_key (f ∷ es) sorted e (suc k, at) =
     ap (λ b. cond b (Some f.1) (finite.find text_cmp e.0 es)) (lower_than f.0 es (left _ _ sorted) e (k, at)) ∙ found_at_key es (right _ _ sorted) e (k, at)
 
-key_found : (q : Text) (es : List Entry) (v : Version) → finite.find text_cmp q es ≡ Some v → IsIn (map (λ e. e.1) es) v
+pub key_found : (q : Text) (es : List Entry) (v : Version) → finite.find text_cmp q es ≡ Some v → IsMember (map (λ e. e.1) es) v
 key_found q [] v e = absurd cc
 key_found q (f ∷ es) v e = go (eq_by_cmp text_cmp q f.0) e (key_found q es v)
   where
-    go : (b : Bool) → cond b (Some f.1) (finite.find text_cmp q es) ≡ Some v → (finite.find text_cmp q es ≡ Some v → IsIn (map (λ e. e.1) es) v) → IsIn (f.1 ∷ map (λ e. e.1) es) v
+    go : (b : Bool) → cond b (Some f.1) (finite.find text_cmp q es) ≡ Some v → (finite.find text_cmp q es ≡ Some v → IsMember (map (λ e. e.1) es) v) → IsMember (f.1 ∷ map (λ e. e.1) es) v
     go true e more = (0, e)
     go false e more = later_in f.1 v (map (λ e. e.1) es) (more e)
 
-value_of : (es : List Entry) (v : Version) → IsIn (map (λ e. e.1) es) v → (e : Entry) × IsIn es e × (e.1 ≡ v)
+value_of : (es : List Entry) (v : Version) → IsMember (map (λ e. e.1) es) v → (e : Entry) × IsMember es e × (e.1 ≡ v)
 value_of [] v (k, at) = absurd cc
 value_of (f ∷ es) v (zero, at) = (f, (0, refl), cc)
 value_of (f ∷ es) v (suc k, at) = let more = value_of es v (k, at) in (more.0, later_in f more.0 es more.1, more.2)
@@ -65,7 +65,7 @@ value_of (f ∷ es) v (suc k, at) = let more = value_of es v (k, at) in (more.0,
 -- ---- each entry's key is its version's slug
 
 abbrev AreUnderSlugs : List Entry → Type 0
-AreUnderSlugs es = (e : Entry) → IsIn es e → e.1.slug ≡ e.0
+AreUnderSlugs es = (e : Entry) → IsMember es e → e.1.slug ≡ e.0
 
 abbrev slugs : List Version → List Text
 slugs vs = map (λ (v : Version). v.slug) vs
@@ -87,7 +87,7 @@ pub stands_member : (m : Versions) (slug : Text) (v : Version) → get m slug �
 stands_member m slug v e = key_found slug (entries m) v (sym (get-entries m slug) ∙ e)
 
 module _ (m : Versions) (named : AreNamed m) where
-  entry_stands : (e : Entry) → IsIn (entries m) e → get m e.0 ≡ Some e.1
+  entry_stands : (e : Entry) → IsMember (entries m) e → get m e.0 ≡ Some e.1
   entry_stands e at = get-entries m e.0 ∙ found_at_key (entries m) (entries_sorted m) e at
 
   under_slugs : AreUnderSlugs (entries m)

@@ -8,7 +8,7 @@ use Rattle.dh_versions.specs.Aliases.{is_branch}
 use Rattle.dh_world.specs.World.{Text, Project}
 use Rattle.dh_world.specs.Seen.{default_of}
 use Rattle.dh_classes.specs.Classes.{seen_by}
-use Rattle.dh_aliases.specs.declared.names.Names.{Names}
+pub use Rattle.dh_aliases.specs.declared.names.Names.{Names}
 use Rattle.dh_aliases.specs.Tops.{Versions, stable_in}
 
 -- the names of what a class sees

@@ -40,8 +40,9 @@ stable_version m = option_and_then (get m) (stable_in m)
 
 -- ---- by a list of some of them
 
-abbrev pub IsMember : List Version → Version → Type 0
-IsMember vs v = (k : ℕ) × (slice_get vs k ≡ Some v)
+-- this is one of the list
+abbrev pub IsMember : {X : Type 0} → List X → X → Type 0
+IsMember xs x = (k : ℕ) × (slice_get xs k ≡ Some x)
 
 -- the slug that `stable` stands for in a list
 abbrev pub stable_among : List Version → Option Text

@@ -14,7 +14,8 @@ pub fn stable_is_top()
 
 /// There is one such answer.
 pub fn stable_is_one()
-    ensures { (m : Versions) (a b : Option Text) → AreNamed m → IsStable m a → IsStable m b → a ≡ b }
+    ensures { (m : Versions) (a b : Option Text)
+        → AreNamed m → IsStable m a → IsStable m b → a ≡ b }
 {}
 
 /// A list of some versions decides which of all is stable, where it has beside each release one that this is

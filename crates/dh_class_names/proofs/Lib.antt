@@ -1,0 +1,5 @@
+pub mod LookupLemmas
+pub mod HighestLemmas
+pub mod RowLemmas
+pub mod NamingLemmas
+pub mod HostLemmas

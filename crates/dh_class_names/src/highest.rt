@@ -1,0 +1,110 @@
+//! The version that `stable` stands for, of those that a class sees.
+ghost use Rattle.std.specs.Prelude.{◌≡◌, IfOk};
+ghost use Rattle.std.specs.Option.{option_copied};
+ghost use Rattle.dh_versions.specs.Aliases as aliases;
+ghost use Rattle.dh_records.specs.Constraints.{RiseBySlug};
+ghost use Rattle.dh_class_names.specs.Rows.{version_under};
+ghost use Rattle.dh_class_names.specs.Highest as spec;
+ghost use Rattle.dh_class_names.specs.Highest.{IsHighest, IsPublic, IsSeenWith};
+
+use crate::lookups::row_under;
+use dh_records::{HeldRow, VersionRow};
+use dh_versions::{Version, higher, release};
+use std::alloc::{AllocError, Global};
+
+fn is_release(alloc: Global, version: &Version) -> Result<bool, AllocError>
+    ensures { IfOk result (λ yes. yes ≡ aliases.is_release version.now) }
+{
+    Ok(release(alloc, &version.name, version.kind)?.is_some())
+}
+
+fn is_higher(alloc: Global, best: Option<&Version>, version: &Version) -> Result<bool, AllocError>
+    ensures { IfOk result (λ yes. yes ≡ spec.is_higher (option_copied best.entry) version.now) }
+{
+    match best {
+        Some(top) => higher(alloc, version, top),
+        None => is_release(alloc, version),
+    }
+}
+
+/// The higher of both: the version, where it is a release and above the best, or there was none.
+fn higher_of<'a>(
+    alloc: Global,
+    best: Option<&'a Version>,
+    version: &'a Version,
+) -> Result<Option<&'a Version>, AllocError>
+    ensures { IfOk result (λ o. option_copied o
+        ≡ spec.higher_of (option_copied best.entry) version.now) }
+{
+    if is_higher(alloc, best, version)? {
+        Ok(Some(version))
+    } else {
+        Ok(best)
+    }
+}
+
+/// The same, where all callers see the version; else the best stays.
+fn with_row<'a>(
+    alloc: Global,
+    best: Option<&'a Version>,
+    row: &'a VersionRow,
+) -> Result<Option<&'a Version>, AllocError>
+    ensures { IfOk result (λ o. option_copied o
+        ≡ spec.with_public (option_copied best.entry) row.now.version) }
+{
+    if row.version.active && !row.version.private {
+        higher_of(alloc, best, &row.version)
+    } else {
+        Ok(best)
+    }
+}
+
+/// The highest release of those that all callers see.
+pub fn public_top(alloc: Global, rows: &[VersionRow]) -> Result<Option<&Version>, AllocError>
+    ensures { IfOk result (λ o. IsHighest (IsPublic rows.now) (option_copied o)) }
+{
+    let mut best: Option<&Version> = None;
+    for row in rows {
+        best = with_row(alloc, best, row)?;
+    }
+    Ok(best)
+}
+
+/// The higher of the best and the version that a grant opens; where it opens none, the best stays.
+fn with_grant<'a>(
+    alloc: Global,
+    rows: &'a [VersionRow],
+    best: Option<&'a Version>,
+    grant: &HeldRow,
+) -> Result<Option<&'a Version>, AllocError>
+    ensures { RiseBySlug rows.now → IfOk result (λ o. option_copied o
+        ≡ spec.with_opened (option_copied best.entry) (version_under rows.now grant.now.slug)) }
+{
+    match row_under(rows, grant.slug.as_str()) {
+        Some(row) => {
+            if row.version.active {
+                higher_of(alloc, best, &row.version)
+            } else {
+                Ok(best)
+            }
+        }
+        None => Ok(best),
+    }
+}
+
+/// The highest release of those that all callers see, which is known, and of those that the grants open.
+pub fn granted_top<'a>(
+    alloc: Global,
+    rows: &'a [VersionRow],
+    grants: &[HeldRow],
+    public: Option<&'a Version>,
+) -> Result<Option<&'a Version>, AllocError>
+    ensures { RiseBySlug rows.now → IsHighest (IsPublic rows.now) (option_copied public.entry)
+        → IfOk result (λ o. IsHighest (IsSeenWith rows.now grants.now) (option_copied o)) }
+{
+    let mut best = public;
+    for grant in grants {
+        best = with_grant(alloc, rows, best, grant)?;
+    }
+    Ok(best)
+}

@@ -1,0 +1,12 @@
+//! What `latest`, `stable` and the default are for each class of callers, made of the records of one host.
+#![tactic(auto)]
+
+pub mod class_names;
+mod highest;
+mod laws;
+mod lookups;
+mod naming;
+
+pub use class_names::ClassNames;
+pub use laws::rows_of_host;
+pub use naming::names_by_class;

@@ -1,0 +1,75 @@
+//! The records of one host by key: versions are found by halves.
+ghost use Rattle.std.specs.Prelude.{◌≡◌, find, option_map};
+ghost use Rattle.std.specs.List.Sorted.{IsSortedByKey};
+ghost use Rattle.std.specs.Str.{bytes_eq};
+ghost use Rattle.dh_world.specs.World.{text_cmp};
+ghost use Rattle.dh_world.specs.Visibility.{may_see};
+ghost use Rattle.dh_records.specs.Constraints.{RiseBySlug};
+ghost use Rattle.dh_class_names.specs.Rows as spec;
+ghost use Rattle.dh_class_names.specs.ClassNames as spec_of;
+
+use dh_paths::Token;
+use dh_records::{HeldRow, VersionRow};
+use dh_versions::Version;
+
+fn has_slug(row: &VersionRow, slug: &str) -> bool
+    ensures { result ≡ bytes_eq row.now.version.slug slug.now }
+{
+    row.version.slug.as_str() == slug
+}
+
+/// The record of the version under a slug.
+pub fn row_under<'a>(rows: &'a [VersionRow], slug: &str) -> Option<&'a VersionRow>
+    ensures { RiseBySlug rows.now → option_map (λ r. r.now) result
+        ≡ find (λ r. bytes_eq r.version.slug slug.now) rows.now }
+{
+    let at = rows.partition_point(|r| r.version.slug.as_str() < slug);
+    match rows.get(at) {
+        Some(row) => { if has_slug(row, slug) { Some(row) } else { None } }
+        None => None,
+    }
+}
+
+/// The grants of a pass, which stand side by side.
+pub fn grants_of<'a>(held: &'a [HeldRow], pass: &Token) -> &'a [HeldRow]
+    ensures { IsSortedByKey (λ x. x.pass) text_cmp held.now
+        → result.now ≡ spec_of.grants_of pass.now held.now }
+{
+    let start = held.partition_point(|x| x.pass.as_str() < pass.as_str());
+    let rest = &held[start..];
+    let count = rest.partition_point(|x| x.pass.as_str() == pass.as_str());
+    &rest[..count]
+}
+
+fn is_granted(grants: &[HeldRow], slug: &str) -> bool
+    ensures { result ≡ spec.is_granted grants.now slug.now }
+{
+    grants.iter().any(|x| x.slug.as_str() == slug)
+}
+
+fn is_seen(version: &Version, grants: &[HeldRow], slug: &str) -> bool
+    ensures { result ≡ may_see version.now (spec.is_granted grants.now slug.now) }
+{
+    version.active && (!version.private || is_granted(grants, slug))
+}
+
+/// The record of the version under a slug, where who has these grants sees it.
+pub fn seen_under<'a>(
+    rows: &'a [VersionRow],
+    grants: &[HeldRow],
+    slug: &str,
+) -> Option<&'a VersionRow>
+    ensures { RiseBySlug rows.now → option_map (λ r. r.now.version) result
+        ≡ spec.seen_under rows.now grants.now slug.now }
+{
+    match row_under(rows, slug) {
+        Some(row) => {
+            if is_seen(&row.version, grants, slug) {
+                Some(row)
+            } else {
+                None
+            }
+        }
+        None => None,
+    }
+}
