@@ -1,0 +1,4 @@
+pub mod DueLemmas
+pub mod PutLemmas
+pub mod SoundLemmas
+pub mod RightLemmas

@@ -1,1 +1,2 @@
 pub mod Rightness
+pub mod Renewals

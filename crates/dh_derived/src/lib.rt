@@ -1,2 +1,8 @@
 //! What stands in the tables of aliases and of routes where it is right, and which edits of a project leave which of it right.
 #![tactic(auto)]
+
+mod laws;
+mod renewals;
+
+pub use laws::{put_is_bare, right_but_covered, sound_projects};
+pub use renewals::{Renewal, renewal_of, renewal_of_added, renewal_of_replaced};
