@@ -1,0 +1,71 @@
+-- Which version is the stable one of those that stand under their slugs: by what is above it, not by its place.
+use Rattle.std.specs.Prelude.{◌≡◌, ℕ, true, false, List, ◌∷◌, Option, Some, None, slice_get, option_map, option_and_then}
+use Rattle.std.specs.FinMap.{FinMap, get, keys, values}
+use Rattle.dh_texts.specs.SlugOfName.{slug_from}
+use Rattle.dh_versions.specs.declared.version.Version.{Version}
+use Rattle.dh_versions.specs.Aliases.{is_release, is_above, stable_of}
+use Rattle.dh_world.specs.World.{Text, text_cmp}
+
+-- versions under slugs
+abbrev pub Versions : Type 0
+Versions = FinMap text_cmp Version
+
+-- the slug is the version's own, which comes from its name
+abbrev pub IsNamed : Text → Version → Type 0
+IsNamed slug v = (v.slug ≡ slug) × (slug_from v.name ≡ Some slug)
+
+-- each version stands under its own slug
+abbrev pub AreNamed : Versions → Type 0
+AreNamed m = (slug : Text) (v : Version) → get m slug ≡ Some v → IsNamed slug v
+
+-- a release of these that none of them is above
+pub record IsTop (m : Versions) (slug : Text) : Type 0 where
+  pub version : Version
+  pub stands : get m slug ≡ Some version
+  pub release : is_release version ≡ true
+  pub unbeaten : (s : Text) (w : Version) → get m s ≡ Some w → is_above w version ≡ false
+
+-- this is the top, or none of these is a release
+abbrev pub IsStable : Versions → Option Text → Type 0
+IsStable m (Some slug) = IsTop m slug
+IsStable m None = (s : Text) (w : Version) → get m s ≡ Some w → is_release w ≡ false
+
+-- the slug that `stable` stands for among these
+abbrev pub stable_in : Versions → Option Text
+stable_in m = option_and_then (slice_get (keys m)) (stable_of (values m))
+
+-- the version that it stands for
+abbrev pub stable_version : Versions → Option Version
+stable_version m = option_and_then (get m) (stable_in m)
+
+-- ---- by a list of some of them
+
+abbrev pub IsMember : List Version → Version → Type 0
+IsMember vs v = (k : ℕ) × (slice_get vs k ≡ Some v)
+
+-- the slug that `stable` stands for in a list
+abbrev pub stable_among : List Version → Option Text
+stable_among vs = option_map (λ (v : Version). v.slug) (option_and_then (slice_get vs) (stable_of vs))
+
+-- a release of the list that this version is not above
+pub record IsBeside (vs : List Version) (w : Version) : Type 0 where
+  pub other : Version
+  pub member : IsMember vs other
+  pub release : is_release other ≡ true
+  pub not_below : is_above w other ≡ false
+
+-- A list that decides which is stable: its members are of these, and it has beside each release of these one that
+-- this is not above.
+pub record Decides (m : Versions) (vs : List Version) : Type 0 where
+  pub members : (v : Version) → IsMember vs v → get m v.slug ≡ Some v
+  pub covers : (s : Text) (w : Version) → get m s ≡ Some w → is_release w ≡ true → IsBeside vs w
+
+-- these are the private ones
+pub record AreThePrivate (m : Versions) (vs : List Version) : Type 0 where
+  pub members : (v : Version) → IsMember vs v → get m v.slug ≡ Some v
+  pub all : (s : Text) (w : Version) → get m s ≡ Some w → w.private ≡ true → IsMember vs w
+
+-- a version, where there is one, and these
+abbrev pub with_top : Option Version → List Version → List Version
+with_top None vs = vs
+with_top (Some v) vs = v ∷ vs
