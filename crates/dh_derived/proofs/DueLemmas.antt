@@ -1,15 +1,13 @@
 -- What edits leave right: what a class's names ask for stays, or the class is covered.
 use Rattle.std.proofs.Common.{◌≡◌, ℕ, Bool, true, false, not, ◌&&◌, ◌||◌, cond, Option, Some, None, is_some, refl, sym, ap, ap₂, ◌∙◌}
-use Rattle.std.specs.Option.{option_map_or}
 use Rattle.std.specs.Str.{bytes_eq}
 use Rattle.std.specs.FinMap.{FinMap, get, insert, remove, retain_keys, contains_key, get-insert, get-remove, get-retain_keys}
 use Rattle.std.specs.FinSet.{FinSet}
-use Rattle.dh_versions.specs.declared.version.Version.{Version}
 use Rattle.dh_world.specs.World.{Text, text_cmp, held_cmp, Project}
-use Rattle.dh_world.specs.Visibility.{may_see}
 use Rattle.dh_world.proofs.MapLemmas.{text_total, tied_text, held_total, held_exact, tied_held}
-use Rattle.dh_classes.specs.Classes.{versions_for}
-use Rattle.dh_aliases.specs.Names.{Names, names_of}
+use Rattle.dh_classes.specs.Classes.{class_holds}
+use Rattle.dh_aliases.specs.declared.names.Names.{Names}
+use Rattle.dh_aliases.specs.Names.{names_of}
 use Rattle.dh_aliases.proofs.NameLemmas.{same_names}
 use Rattle.dh_plans.specs.Edits.{edited, MayEdit}
 use Rattle.dh_plans.specs.declared.edits.Edit.{Edit}
@@ -27,14 +25,22 @@ module _ (p q : Project) (class : Option Text) (has : has_class q class ≡ has_
   pub due_by : names_of q class ≡ names_of p class → (name : AliasName) → due_in q class name ≡ due_in p class name
   due_by names name = ap₂ (λ b (n : Names). cond b (named name n) None) has names
 
-  pub same_due : versions_for q class ≡ versions_for p class → q.branch ≡ p.branch → q.defaults ≡ p.defaults → (name : AliasName) → due_in q class name ≡ due_in p class name
-  same_due versions branch defaults = due_by (same_names p q class versions branch defaults)
+  pub same_due
+      : q.versions ≡ p.versions → q.branch ≡ p.branch → q.defaults ≡ p.defaults → ((slug : Text) → class_holds q class slug ≡ class_holds p class slug)
+      → (name : AliasName) → due_in q class name ≡ due_in p class name
+  same_due versions branch defaults held = due_by (same_names p q class versions branch defaults held)
 
 -- nothing is due to a class that is not the project's
 pub none_due : (p : Project) (class : Option Text) (name : AliasName) → has_class p class ≡ false → due_in p class name ≡ None
 none_due p class name e = ap (λ b. cond b (named name (names_of p class)) None) e
 
 -- ---- what is covered
+
+pub covered_as : (r : Renewal) (p q : Project) (class : Option Text) (name : AliasName) → has_class q class ≡ has_class p class → is_covered r q class name ≡ is_covered r p class name
+covered_as Nothing p q class name has = refl
+covered_as Routes p q class name has = refl
+covered_as (Class pass) p q class name has = refl
+covered_as Aliases p q class name has = has
 
 -- the aliases of all classes, where the classes stay
 pub aliases_cover : (p q : Project) → ((class : Option Text) → has_class q class ≡ has_class p class) → q.redirects ≡ p.redirects → Covers Aliases p q
@@ -55,11 +61,8 @@ class_covers p passes held pass same_passes same_held = record { names = names; 
     q = record p { passes = passes; held = held }
 
     names : (class : Option Text) (name : AliasName) → is_covered (Class pass) q class name ≡ false → due_in q class name ≡ due_in p class name
-    names None name out = same_due p q None refl refl refl refl name
-    names (Some c) name out =
-        same_due p q (Some c) (same_passes c out)
-        (λ i. retain_keys p.versions (λ slug. option_map_or (λ (v : Version). may_see v (same_held c slug out i)) (get p.versions slug) false))
-        refl refl name
+    names None name out = same_due p q None refl refl refl refl (λ slug. refl) name
+    names (Some c) name out = same_due p q (Some c) (same_passes c out) refl refl refl (λ slug. same_held c slug out) name
 
 -- ---- edits
 
@@ -86,27 +89,28 @@ module _ (p : Project) (pass : Text) where
       ∙ ap (λ b. cond b None (get p.held (c, s))) (tied_held c s (pass, slug) ∙ ap (λ b. b && bytes_eq slug s) apart))
 
 -- what names ask for stays
-unasked : (p q : Project) → ((class : Option Text) → has_class q class ≡ has_class p class) → ((class : Option Text) → versions_for q class ≡ versions_for p class) → q.branch ≡ p.branch → q.defaults ≡ p.defaults → q.redirects ≡ p.redirects → Covers Nothing p q
-unasked p q has versions branch defaults redirects = record {
-  names = λ class name _. same_due p q class (has class) (versions class) branch defaults name;
+unasked : (p q : Project) → ((class : Option Text) → has_class q class ≡ has_class p class) → q.versions ≡ p.versions → q.branch ≡ p.branch → q.defaults ≡ p.defaults
+    → ((class : Option Text) (slug : Text) → class_holds q class slug ≡ class_holds p class slug) → q.redirects ≡ p.redirects → Covers Nothing p q
+unasked p q has versions branch defaults held redirects = record {
+  names = λ class name _. same_due p q class (has class) versions branch defaults (held class) name;
   redirects = λ _. redirects;
 }
 
 pub edit_fits : (e : Edit) → FitsEdit e (by_edit e)
-edit_fits (AddLang lang place) p is may = unasked p (edited (AddLang lang place) p) (λ _. refl) (λ _. refl) refl refl refl
+edit_fits (AddLang lang place) p is may = unasked p (edited (AddLang lang place) p) (λ _. refl) refl refl refl (λ _ _. refl) refl
 edit_fits (PutVersion v) p is may = aliases_cover p (edited (PutVersion v) p) (λ _. refl) refl
 edit_fits (PutWithoutPages v) p is may = aliases_cover p (edited (PutWithoutPages v) p) (λ _. refl) refl
 edit_fits (RemoveVersion slug defaults) p is may = aliases_cover p (edited (RemoveVersion slug defaults) p) (λ _. refl) refl
-edit_fits (PutPage slug lang x) p is may = unasked p (edited (PutPage slug lang x) p) (λ _. refl) (λ _. refl) refl refl refl
-edit_fits (RemovePages slug lang) p is may = unasked p (edited (RemovePages slug lang) p) (λ _. refl) (λ _. refl) refl refl refl
+edit_fits (PutPage slug lang x) p is may = unasked p (edited (PutPage slug lang x) p) (λ _. refl) refl refl refl (λ _ _. refl) refl
+edit_fits (RemovePages slug lang) p is may = unasked p (edited (RemovePages slug lang) p) (λ _. refl) refl refl refl (λ _ _. refl) refl
 edit_fits (SetDefaults names) p is may = aliases_cover p (edited (SetDefaults names) p) (λ _. refl) refl
-edit_fits (SetRules rules) p is may = unasked p (edited (SetRules rules) p) (λ _. refl) (λ _. refl) refl refl refl
+edit_fits (SetRules rules) p is may = unasked p (edited (SetRules rules) p) (λ _. refl) refl refl refl (λ _ _. refl) refl
 edit_fits (SetRedirects redirects) p is may = record {
-  names = λ class name _. same_due p (edited (SetRedirects redirects) p) class refl refl refl refl name;
+  names = λ class name _. same_due p (edited (SetRedirects redirects) p) class refl refl refl refl (λ _. refl) name;
   redirects = λ out. absurd cc;
 }
 edit_fits (AddPass pass until) p is may = class_covers p (insert p.passes pass until) p.held pass (pass_added p pass until) (λ c slug _. refl)
 edit_fits (RemovePass pass) p is may = class_covers p (remove p.passes pass) (retain_keys p.held (λ key. not (bytes_eq key.0 pass))) pass (pass_removed p pass) (grants_removed p pass)
 edit_fits (Grant pass slug) p is may = class_covers p p.passes (insert p.held (pass, slug) tt) pass (λ c _. refl) (granted p pass slug)
 edit_fits (Revoke pass slug) p is may = class_covers p p.passes (remove p.held (pass, slug)) pass (λ c _. refl) (revoked p pass slug)
-edit_fits (PutAnswer a) p is may = unasked p (edited (PutAnswer a) p) (λ _. refl) (λ _. refl) refl refl refl
+edit_fits (PutAnswer a) p is may = unasked p (edited (PutAnswer a) p) (λ _. refl) refl refl refl (λ _ _. refl) refl

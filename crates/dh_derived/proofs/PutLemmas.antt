@@ -25,11 +25,15 @@ use Rattle.dh_derived.specs.Rightness.{has_class}
 use Rattle.dh_derived.specs.Renewals.{Covers, IsCoherent, is_low}
 use Rattle.dh_derived.specs.declared.renewals.Renewal.{Renewal}
 use Rattle.dh_derived.specs.declared.renewals.Renewal.TheVariants.{Nothing, Aliases}
-use Rattle.dh_derived.proofs.DueLemmas.{due_by, same_due, aliases_cover}
+use Rattle.dh_derived.proofs.DueLemmas.{due_by, same_due, covered_as, aliases_cover}
 
-flagged : (b : Bool) → not b ≡ true → b ≡ false
+pub flagged : (b : Bool) → not b ≡ true → b ≡ false
 flagged false e = refl
 flagged true e = absurd (true≢false (sym e))
+
+pub raised : (b : Bool) → not b ≡ false → b ≡ true
+raised true e = refl
+raised false e = absurd (true≢false e)
 
 -- ---- what is not seen
 
@@ -63,7 +67,9 @@ module _ (p : Project) (v : Version) where
 
   pub put_is_bare : (r : Renewal) → Covers r p put → Covers r p (without_pages v.slug put)
   put_is_bare r it = record {
-    names = λ class name out. same_due put (without_pages v.slug put) class refl refl refl refl name ∙ it.names class name out;
+    names = λ class name out.
+        same_due put (without_pages v.slug put) class refl refl refl refl (λ _. refl) name
+        ∙ it.names class name (sym (covered_as r put (without_pages v.slug put) class name refl) ∙ out);
     redirects = it.redirects;
   }
 
@@ -82,7 +88,7 @@ module _ (p : Project) (v : Version) where
     pub hiding : (was : Version) → get p.versions v.slug ≡ Some was → v ≡ record was { slug = v.slug; hidden = v.hidden } → Covers Nothing p put
     hiding was found alike = same_names_cover (λ class.
         ap (λ u. names_of (with_version p v.slug u) class) (alike ∙ ap (λ s. record was { slug = s; hidden = v.hidden }) (sym (is.named v.slug was found).0))
-        ∙ hidden_put p class v.slug was v.hidden is.named found)
+        ∙ hidden_put p class v.slug was v.hidden found is.named)
 
     -- it stands under a free slug
 

@@ -24,11 +24,11 @@ use Rattle.dh_derived.specs.Renewals.{IsCoherent}
 -- what holds of all holds of one that is found
 pub found_holds : {A : Type 0} (P : A → Type 0) (t : A → Bool) (rows : List A) (x : A) → AllByRecursion P rows → find t rows ≡ Some x → P x
 found_holds P t [] x all e = absurd cc
-found_holds P t (y ∷ rows) x all e = go (t y) e
+found_holds P t (y ∷ rows) x all e = go (t y) e (found_holds P t rows x all.1)
   where
-    go : (b : Bool) → cond b (Some y) (find t rows) ≡ Some x → P x
-    go true f = let same : y ≡ x = cc in subst P same all.0
-    go false f = found_holds P t rows x all.1 f
+    go : (b : Bool) → cond b (Some y) (find t rows) ≡ Some x → (find t rows ≡ Some x → P x) → P x
+    go true f later = let same : y ≡ x = cc in subst P same all.0
+    go false f later = later f
 
 module _ (l : Lists) (host : Text) (p : Project) (sound : AreSound l) (was : get (world_of l) host ≡ Some p) where
   named : AreNamed p.versions
@@ -42,10 +42,13 @@ module _ (l : Lists) (host : Text) (p : Project) (sound : AreSound l) (was : get
           let own = found_holds (λ (x : VersionRow). slug_from x.version.name ≡ Some x.version.slug) (is_version host slug) l.versions r sound.constraints.texts.slugs found in
           subst (IsNamed slug) same (its, own ∙ ap Some its)
 
+  marked : HeldRow → Unit {0}
+  marked x = tt
+
   granted : (pass slug : Text) → contains_key p.held (pass, slug) ≡ true → contains_key p.versions slug ≡ true
   granted pass slug e = has_version_in l host p was slug ∙ go (find (is_held host pass slug) l.held) refl (sym (ap is_some (held_in l host p was pass slug)) ∙ e)
     where
-      go : (o : Option HeldRow) → find (is_held host pass slug) l.held ≡ o → is_some (option_map (λ (x : HeldRow). tt) o) ≡ true → has_version l host slug ≡ true
+      go : (o : Option HeldRow) → find (is_held host pass slug) l.held ≡ o → is_some (option_map marked o) ≡ true → has_version l host slug ≡ true
       go None found f = absurd (true≢false (sym f))
       go (Some x) found f =
           let both = and_parts (bytes_eq x.host host && bytes_eq x.pass pass) (bytes_eq x.slug slug) (found_passes (is_held host pass slug) l.held x found) in

@@ -4,5 +4,7 @@
 mod laws;
 mod renewals;
 
-pub use laws::{put_is_bare, right_but_covered, sound_projects};
+pub use laws::{
+    host_renewed, put_is_bare, renewed_base, renewed_right, right_but_covered, sound_projects,
+};
 pub use renewals::{Renewal, renewal_of, renewal_of_added, renewal_of_replaced};

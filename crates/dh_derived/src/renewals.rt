@@ -1,6 +1,6 @@
 //! Which stored rows of its host an edit of a project leaves to be made right.
 
-ghost use Rattle.std.specs.Prelude.{◌≡◌, IfOk, IsTrue, option_map};
+ghost use Rattle.std.specs.Prelude.{◌≡◌, false, IfOk, IsTrue, option_map};
 ghost use Rattle.dh_aliases.specs.Names as names;
 ghost use Rattle.dh_derived.specs.Renewals as spec;
 ghost use Rattle.dh_derived.specs.Renewals.{FitsEdit, FitsAdded, FitsReplaced, is_low};
@@ -51,6 +51,12 @@ pub fn renewal_of(alloc: Global, edit: &Edit<'_>) -> Result<Renewal, AllocError>
     by_edit(alloc, edit)
 }
 
+fn is_never_active(was: &Version, version: &Version) -> bool
+    ensures { IsTrue result → (was.now.active ≡ false) × (version.now.active ≡ false) }
+{
+    !was.active && !version.active
+}
+
 /// Whether the two are alike but for their slugs and for whether they are hidden.
 fn differ_in_hiding(was: &Version, version: &Version) -> bool
     ensures { IsTrue result → version.now
@@ -66,12 +72,13 @@ fn differ_in_hiding(was: &Version, version: &Version) -> bool
 pub fn renewal_of_replaced(was: &Version, version: &Version) -> Renewal
     ensures { FitsReplaced was.now version.now result }
 {
-    let is_never_seen = !was.active && !version.active;
-    if is_never_seen || differ_in_hiding(was, version) {
-        Renewal::Nothing
-    } else {
-        Renewal::Aliases
+    if is_never_active(was, version) {
+        return Renewal::Nothing;
     }
+    if differ_in_hiding(was, version) {
+        return Renewal::Nothing;
+    }
+    Renewal::Aliases
 }
 
 fn is_of_branch(branch: &RefName, version: &Version) -> bool
@@ -105,15 +112,20 @@ pub fn renewal_of_added(
 ) -> Result<Renewal, AllocError>
     ensures { IfOk result (FitsAdded version.now branch.now (option_map (λ v. v.now) stable.entry)) }
 {
-    if !version.active || version.private {
+    if !version.active {
         return Ok(Renewal::Nothing);
     }
-    if is_of_branch(branch, version) || is_alias(&version.slug) {
+    if version.private {
+        return Ok(Renewal::Nothing);
+    }
+    if is_of_branch(branch, version) {
+        return Ok(Renewal::Aliases);
+    }
+    if is_alias(&version.slug) {
         return Ok(Renewal::Aliases);
     }
     if is_not_above(alloc, version, stable)? {
-        Ok(Renewal::Nothing)
-    } else {
-        Ok(Renewal::Aliases)
+        return Ok(Renewal::Nothing);
     }
+    Ok(Renewal::Aliases)
 }
