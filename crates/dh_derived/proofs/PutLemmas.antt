@@ -27,13 +27,9 @@ use Rattle.dh_derived.specs.declared.renewals.Renewal.{Renewal}
 use Rattle.dh_derived.specs.declared.renewals.Renewal.TheVariants.{Nothing, Aliases}
 use Rattle.dh_derived.proofs.DueLemmas.{due_by, same_due, covered_as, aliases_cover}
 
-pub flagged : (b : Bool) → not b ≡ true → b ≡ false
+flagged : (b : Bool) → not b ≡ true → b ≡ false
 flagged false e = refl
 flagged true e = absurd (true≢false (sym e))
-
-pub raised : (b : Bool) → not b ≡ false → b ≡ true
-raised true e = refl
-raised false e = absurd (true≢false e)
 
 -- ---- what is not seen
 

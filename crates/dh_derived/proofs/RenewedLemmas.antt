@@ -111,6 +111,60 @@ names_elsewhere : (host class : Text) (names : Names) (l : Lists) (other : Text)
 names_elsewhere host class names l other apart c n =
     kept_names host class names l other c n ∙ ap (λ b. cond (b && bytes_eq class c) (named n names) (kept_at l other c n)) apart
 
+-- the rows of one pass
+module _ (pass host : Text) (p : Project) (l : Lists) (found : get (world_of l) host ≡ Some p) (it : AreRightBut (Class pass) l host p) where
+  abbrev of_pass : Names
+  of_pass = names_due p (class_in pass)
+
+  abbrev with_pass : Lists
+  with_pass = set_names host pass of_pass l
+
+  pass_base : base_of with_pass ≡ base_of l
+  pass_base = base_names host pass of_pass l
+
+  uncovered : (class : Text) (name : AliasName) → bytes_eq pass class ≡ false → kept_at l host class name ≡ due_in p (class_in class) name
+  uncovered [] name e = it.aliases [] name refl
+  uncovered (b ∷ bs) name e = it.aliases (b ∷ bs) name e
+
+  by_pass : (class : Text) (name : AliasName) (b : Bool) → bytes_eq pass class ≡ b → cond b (named name of_pass) (kept_at l host class name) ≡ due_in p (class_in class) name
+  by_pass class name true e = ap (λ t. named name (names_due p (class_in t))) ((bytes_eq-Decides pass class).0 e) ∙ due_named p (class_in class) name
+  by_pass class name false e = uncovered class name e
+
+  pass_right : AreRight with_pass
+  pass_right =
+      of_each_host (AreRightAt with_pass) host
+      (right_at host p l found with_pass pass_base
+      (λ class name.
+      kept_names host pass of_pass l host class name
+      ∙ ap (λ b. cond (b && bytes_eq pass class) (named name of_pass) (kept_at l host class name)) ((bytes_eq-Decides host host).1 refl)
+      ∙ by_pass class name (bytes_eq pass class) refl)
+      (λ seg. ap (filter (is_route_in host seg)) (routes_names host pass of_pass l) ∙ it.routes refl seg))
+      (λ other apart.
+      stays_at with_pass l other pass_base (names_elsewhere host pass of_pass l other apart)
+      (λ seg. ap (filter (is_route_in other seg)) (routes_names host pass of_pass l)) (it.others other apart))
+
+-- those of all classes
+module _ (host : Text) (p : Project) (l : Lists) (found : get (world_of l) host ≡ Some p) (it : AreRightBut Aliases l host p) where
+  abbrev with_classes : Lists
+  with_classes = set_classes host p (classes_at host l) l
+
+  classes_base : base_of with_classes ≡ base_of l
+  classes_base = base_classes host p (classes_at host l) l
+
+  listed_or_right : (class : Text) (name : AliasName) (b : Bool) → has_class p (class_in class) ≡ b → (list_any (λ x. bytes_eq x class) (classes_at host l) ≡ true) ⊎ (kept_at l host class name ≡ named name (names_due p (class_in class)))
+  listed_or_right class name true e = inl (listed host p l found class e)
+  listed_or_right class name false e = inr (it.aliases class name e ∙ sym (due_named p (class_in class) name))
+
+  classes_right : AreRight with_classes
+  classes_right =
+      of_each_host (AreRightAt with_classes) host
+      (right_at host p l found with_classes classes_base
+      (λ class name. right_classes host p (classes_at host l) l class name (listed_or_right class name (has_class p (class_in class)) refl) ∙ due_named p (class_in class) name)
+      (λ seg. ap (filter (is_route_in host seg)) (routes_classes host p (classes_at host l) l) ∙ it.routes refl seg))
+      (λ other apart.
+      stays_at with_classes l other classes_base (elsewhere_classes host p (classes_at host l) l other apart)
+      (λ seg. ap (filter (is_route_in other seg)) (routes_classes host p (classes_at host l) l)) (it.others other apart))
+
 pub renewed_right : (r : Renewal) (host : Text) (p : Project) (l : Lists) → get (world_of l) host ≡ Some p → InOrder coding.routes.key l.routes → AreRightBut r l host p → AreRight (renewed r host p l)
 renewed_right Nothing host p l found up it =
     of_each_host (AreRightAt l) host
@@ -123,47 +177,8 @@ renewed_right Routes host p l found up it =
     stays_at (renew_routes host l) l other refl (λ class name. refl)
     (λ seg. routes_elsewhere host other seg apart (map route_of (map (λ r. r.redirect) (filter (is_redirect_of host) l.redirects))) l.routes)
     (it.others other apart))
-renewed_right (Class pass) host p l found up it =
-    of_each_host (AreRightAt next) host
-    (right_at host p l found next base (λ class name. kept_names host pass names l host class name ∙ ap (λ b. cond (b && bytes_eq pass class) (named name names) (kept_at l host class name)) ((bytes_eq-Decides host host).1 refl) ∙ go class name (bytes_eq pass class) refl)
-    (λ seg. ap (filter (is_route_in host seg)) (routes_names host pass names l) ∙ it.routes refl seg))
-    (λ other apart.
-    stays_at next l other base (names_elsewhere host pass names l other apart)
-    (λ seg. ap (filter (is_route_in other seg)) (routes_names host pass names l)) (it.others other apart))
-  where
-    abbrev names : Names
-    names = names_due p (class_in pass)
-
-    abbrev next : Lists
-    next = set_names host pass names l
-
-    base : base_of next ≡ base_of l
-    base = base_names host pass names l
-
-    uncovered : (class : Text) (name : AliasName) → bytes_eq pass class ≡ false → kept_at l host class name ≡ due_in p (class_in class) name
-    uncovered [] name e = it.aliases [] name refl
-    uncovered (b ∷ bs) name e = it.aliases (b ∷ bs) name e
-
-    go : (class : Text) (name : AliasName) (b : Bool) → bytes_eq pass class ≡ b → cond b (named name names) (kept_at l host class name) ≡ due_in p (class_in class) name
-    go class name true e = ap (λ t. named name (names_due p (class_in t))) ((bytes_eq-Decides pass class).0 e) ∙ due_named p (class_in class) name
-    go class name false e = uncovered class name e
-renewed_right Aliases host p l found up it =
-    of_each_host (AreRightAt next) host
-    (right_at host p l found next base (λ class name. right_classes host p (classes_at host l) l class name (go class name (has_class p (class_in class)) refl) ∙ due_named p (class_in class) name)
-    (λ seg. ap (filter (is_route_in host seg)) (routes_classes host p (classes_at host l) l) ∙ it.routes refl seg))
-    (λ other apart.
-    stays_at next l other base (elsewhere_classes host p (classes_at host l) l other apart)
-    (λ seg. ap (filter (is_route_in other seg)) (routes_classes host p (classes_at host l) l)) (it.others other apart))
-  where
-    abbrev next : Lists
-    next = set_classes host p (classes_at host l) l
-
-    base : base_of next ≡ base_of l
-    base = base_classes host p (classes_at host l) l
-
-    go : (class : Text) (name : AliasName) (b : Bool) → has_class p (class_in class) ≡ b → (list_any (λ x. bytes_eq x class) (classes_at host l) ≡ true) ⊎ (kept_at l host class name ≡ named name (names_due p (class_in class)))
-    go class name true e = inl (listed host p l found class e)
-    go class name false e = inr (it.aliases class name e ∙ sym (due_named p (class_in class) name))
+renewed_right (Class pass) host p l found up it = pass_right pass host p l found it
+renewed_right Aliases host p l found up it = classes_right host p l found it
 
 -- ---- all rows of a host
 
