@@ -1,1 +1,3 @@
 pub mod Rightness
+pub mod Renewals
+pub mod Renewed

@@ -4,7 +4,8 @@ use Rattle.std.specs.FinMap.{get, contains_key}
 use Rattle.dh_redirects.specs.declared.redirect.Redirect.{Redirect}
 use Rattle.dh_world.specs.World.{Text, Project}
 use Rattle.dh_segments.specs.Segments.{segment_of}
-use Rattle.dh_aliases.specs.Names.{Names, names_of}
+use Rattle.dh_aliases.specs.declared.names.Names.{Names}
+use Rattle.dh_aliases.specs.Names.{names_of}
 use Rattle.dh_records.specs.Lists.{Lists, world_of, is_alias_at, is_route_in, placed, route_row}
 use Rattle.dh_records.specs.declared.records.AliasName.{AliasName}
 use Rattle.dh_records.specs.declared.records.AliasName.TheVariants.{Latest, Stable, Default}

@@ -1,2 +1,10 @@
 //! What stands in the tables of aliases and of routes where it is right, and which edits of a project leave which of it right.
 #![tactic(auto)]
+
+mod laws;
+mod renewals;
+
+pub use laws::{
+    host_renewed, put_is_bare, renewed_base, renewed_right, right_but_covered, sound_projects,
+};
+pub use renewals::{Renewal, renewal_of, renewal_of_added, renewal_of_replaced};

@@ -1,0 +1,114 @@
+-- Which rows of a host a change of its project leaves right.
+use Rattle.std.specs.Prelude.{◌≡◌, Bool, true, false, not, ◌||◌, IsTrue, List, Option, Some, None, filter}
+use Rattle.std.specs.List.{AllByRecursion}
+use Rattle.std.specs.Str.{bytes_eq}
+use Rattle.std.specs.FinMap.{get, insert, contains_key}
+use Rattle.dh_texts.specs.SlugOfName.{slug_from}
+use Rattle.dh_versions.specs.declared.version.Version.{Version}
+use Rattle.dh_versions.specs.Aliases.{is_release, is_above}
+use Rattle.dh_world.specs.Changes.{with_version, without_pages}
+use Rattle.dh_world.specs.Seen.{is_alias, is_own}
+use Rattle.dh_world.specs.World.{Text, Project}
+use Rattle.dh_classes.specs.Classes.{versions_for}
+use Rattle.dh_aliases.specs.Tops.{AreNamed, stable_version}
+use Rattle.dh_plans.specs.Edits.{edited, MayEdit}
+use Rattle.dh_plans.specs.declared.edits.Edit.{Edit}
+use Rattle.dh_plans.specs.declared.edits.Edit.TheVariants.{PutVersion, PutWithoutPages, RemoveVersion, SetDefaults, SetRedirects, AddPass, RemovePass, Grant, Revoke}
+use Rattle.dh_records.specs.Constraints.{AreSound}
+use Rattle.dh_records.specs.Lists.{Lists, world_of, is_route_in}
+use Rattle.dh_records.specs.declared.records.AliasName.{AliasName}
+use Rattle.dh_derived.specs.Rightness.{class_in, has_class, due_in, due_at, kept_at, routes_due, AreRight, AreRightAt}
+use Rattle.dh_derived.specs.declared.renewals.Renewal.{Renewal}
+use Rattle.dh_derived.specs.declared.renewals.Renewal.TheVariants.{Nothing, Routes, Class, Aliases}
+
+-- ---- what is covered
+
+-- the row of a class and a name is to be made right, in a project that is so afterwards
+abbrev pub is_covered : Renewal → Project → Option Text → AliasName → Bool
+is_covered Nothing p class name = false
+is_covered Routes p class name = false
+is_covered (Class pass) p class name = is_own class pass
+is_covered Aliases p class name = has_class p class
+
+-- the routes are
+abbrev pub are_routes_covered : Renewal → Bool
+are_routes_covered Routes = true
+are_routes_covered _ = false
+
+-- What a renewal does not cover is due after a change of the project as it was before.
+pub record Covers (r : Renewal) (was is : Project) : Type 0 where
+  pub names : (class : Option Text) (name : AliasName) → is_covered r is class name ≡ false → due_in is class name ≡ due_in was class name
+  pub redirects : are_routes_covered r ≡ false → is.redirects ≡ was.redirects
+
+-- ---- edits
+
+-- What the constraints say of a project that its names rest on: each version stands under its own slug, a grant is on
+-- a version that is there, and a default is an alias or a version that is there.
+pub record IsCoherent (p : Project) : Type 0 where
+  pub named : AreNamed p.versions
+  pub granted : (pass slug : Text) → contains_key p.held (pass, slug) ≡ true → contains_key p.versions slug ≡ true
+  pub default_names : AllByRecursion (λ name. IsTrue (is_alias name || contains_key p.versions name)) p.defaults
+
+-- what an edit leaves, by itself
+abbrev pub by_edit : Edit → Renewal
+by_edit (SetRedirects redirects) = Routes
+by_edit (AddPass pass until) = Class pass
+by_edit (RemovePass pass) = Class pass
+by_edit (Grant pass slug) = Class pass
+by_edit (Revoke pass slug) = Class pass
+by_edit (PutVersion v) = Aliases
+by_edit (PutWithoutPages v) = Aliases
+by_edit (RemoveVersion slug defaults) = Aliases
+by_edit (SetDefaults names) = Aliases
+by_edit _ = Nothing
+
+-- after the edit of any project that may be edited so, this is to be made right
+abbrev pub FitsEdit : Edit → Renewal → Type 0
+FitsEdit e r = (p : Project) → IsCoherent p → MayEdit e p → Covers r p (edited e p)
+
+-- after a version is put in place of another
+abbrev pub FitsReplaced : Version → Version → Renewal → Type 0
+FitsReplaced was v r =
+    (p : Project) → IsCoherent p → get p.versions v.slug ≡ Some was
+    → Covers r p (with_version p v.slug v)
+
+-- the version is no release, or not above this one
+abbrev pub is_low : Version → Option Version → Bool
+is_low v None = not (is_release v)
+is_low v (Some other) = not (is_above v other)
+
+-- after a version is put under a free slug, in a project with this default branch, and whose stable version is this for
+-- callers with no pass
+abbrev pub FitsAdded : Version → Text → Option Version → Renewal → Type 0
+FitsAdded v branch stable r =
+    (p : Project) → IsCoherent p → slug_from v.name ≡ Some v.slug → get p.versions v.slug ≡ None
+    → p.branch ≡ branch → stable_version (versions_for p None) ≡ stable
+    → Covers r p (with_version p v.slug v)
+
+-- ---- laws
+
+-- sound records spell such projects
+abbrev pub SoundProjects : Type 0
+SoundProjects =
+    (l : Lists) (host : Text) (p : Project) → AreSound l → get (world_of l) host ≡ Some p → IsCoherent p
+
+-- The rows of all hosts are right, but for those of this host that a renewal covers.
+pub record AreRightBut (r : Renewal) (l : Lists) (host : Text) (p : Project) : Type 0 where
+  pub aliases : (class : Text) (name : AliasName) → is_covered r p (class_in class) name ≡ false → kept_at l host class name ≡ due_in p (class_in class) name
+  pub routes : are_routes_covered r ≡ false → (seg : Text) → filter (is_route_in host seg) l.routes ≡ filter (is_route_in host seg) (routes_due host (Some p))
+  pub others : (other : Text) → bytes_eq host other ≡ false → AreRightAt l other
+
+-- where all rows are right, they are so after a change of one project that leaves the rows as they are, but for those
+-- that the change's renewal covers
+abbrev pub RightButCovered : Type 0
+RightButCovered =
+    (r : Renewal) (l next : Lists) (host : Text) (was is : Project)
+    → AreRight l → get (world_of l) host ≡ Some was → world_of next ≡ insert (world_of l) host is
+    → next.aliases ≡ l.aliases → next.routes ≡ l.routes → Covers r was is
+    → AreRightBut r next host is
+
+-- what holds after a version is put holds where its pages go with it
+abbrev pub PutIsBare : Type 0
+PutIsBare =
+    (r : Renewal) (p : Project) (v : Version)
+    → Covers r p (with_version p v.slug v) → Covers r p (without_pages v.slug (with_version p v.slug v))

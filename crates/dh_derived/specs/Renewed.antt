@@ -1,0 +1,89 @@
+-- The records once stored rows of a host are made right: which are put and which are removed.
+use Rattle.std.specs.Prelude.{◌≡◌, false, if◌then◌else◌, List, [], ◌∷◌, ◌++◌, map, filter, Option, Some, None}
+use Rattle.std.specs.FinMap.{get}
+use Rattle.std.specs.Str.{bytes_eq}
+use Rattle.dh_aliases.specs.declared.names.Names.{Names}
+use Rattle.dh_aliases.specs.Names.{names_of}
+use Rattle.dh_world.specs.World.{Text, Project}
+use Rattle.dh_records.specs.Codings as coding
+use Rattle.dh_records.specs.Constraints.{InOrder}
+use Rattle.dh_records.specs.Changes.{put_alias, drop_alias, drop_aliases, set_routes}
+use Rattle.dh_records.specs.Lists.{Lists, base_of, world_of, is_pass_of, is_redirect_of}
+use Rattle.dh_records.specs.declared.records.AliasName.{AliasName}
+use Rattle.dh_records.specs.declared.records.AliasName.TheVariants.{Latest, Stable, Default}
+use Rattle.dh_derived.specs.Rightness.{class_in, has_class, route_of, AreRight, AreRightAt}
+use Rattle.dh_derived.specs.Renewals.{AreRightBut}
+use Rattle.dh_derived.specs.declared.renewals.Renewal.{Renewal}
+use Rattle.dh_derived.specs.declared.renewals.Renewal.TheVariants.{Nothing, Routes, Class, Aliases}
+
+-- ---- aliases
+
+-- a name of a class stands for this version, or for none
+abbrev pub set_alias : Text → Text → AliasName → Option Text → Lists → Lists
+set_alias host class name None l = drop_alias host class name l
+set_alias host class name (Some slug) l = put_alias (record { host = host; class = class; name = name; slug = slug }) l
+
+-- all names of a class are these
+abbrev pub set_names : Text → Text → Names → Lists → Lists
+set_names host class names l =
+    set_alias host class Default names.«default» (set_alias host class Stable names.stable (set_alias host class Latest names.latest l))
+
+abbrev pub no_names : Names
+no_names = record { latest = None; stable = None; «default» = None }
+
+-- the names of a class of a project; none, where it has no such class
+abbrev pub names_due : Project → Option Text → Names
+names_due p class = if has_class p class then names_of p class else no_names
+
+-- those of several classes, one after the other
+abbrev pub set_classes : Text → Project → List Text → Lists → Lists
+set_classes host p [] l = l
+set_classes host p (class ∷ classes) l = set_classes host p classes (set_names host class (names_due p (class_in class)) l)
+
+-- the classes of a host: of each pass, and of the callers with none
+abbrev pub classes_at : Text → Lists → List Text
+classes_at host l = map (λ x. x.pass) (filter (is_pass_of host) l.passes) ++ [] ∷ []
+
+-- ---- routes
+
+abbrev pub renew_routes : Text → Lists → Lists
+renew_routes host l =
+    set_routes host (map route_of (map (λ r. r.redirect) (filter (is_redirect_of host) l.redirects))) l
+
+-- ---- a renewal
+
+-- the rows of the host of a project that it covers are made right
+abbrev pub renewed : Renewal → Text → Project → Lists → Lists
+renewed Nothing host p l = l
+renewed Routes host p l = renew_routes host l
+renewed (Class pass) host p l = set_names host pass (names_due p (class_in pass)) l
+renewed Aliases host p l = set_classes host p (classes_at host l) l
+
+-- all rows of the host are, whatever stood there
+abbrev pub host_renewed : Text → Project → Lists → Lists
+host_renewed host p l = renew_routes host (set_classes host p (classes_at host l) (drop_aliases host l))
+
+-- ---- laws
+
+-- the records that the others are derived from stay
+abbrev pub RenewedBase : Type 0
+RenewedBase =
+    (r : Renewal) (host : Text) (p : Project) (l : Lists) → base_of (renewed r host p l) ≡ base_of l
+
+-- rows that are right but for those that a renewal covers are right after it
+abbrev pub RenewedRight : Type 0
+RenewedRight =
+    (r : Renewal) (host : Text) (p : Project) (l : Lists)
+    → get (world_of l) host ≡ Some p → InOrder coding.routes.key l.routes
+    → AreRightBut r l host p → AreRight (renewed r host p l)
+
+-- and after all of a host are renewed, those of the host are right, and those of each other that were
+pub record HostRenewed (host : Text) (p : Project) (l : Lists) : Type 0 where
+  pub base : base_of (host_renewed host p l) ≡ base_of l
+  pub here : AreRightAt (host_renewed host p l) host
+  pub others : (other : Text) → bytes_eq host other ≡ false → AreRightAt l other → AreRightAt (host_renewed host p l) other
+
+abbrev pub RenewsHosts : Type 0
+RenewsHosts =
+    (host : Text) (p : Project) (l : Lists)
+    → get (world_of l) host ≡ Some p → InOrder coding.routes.key l.routes → HostRenewed host p l

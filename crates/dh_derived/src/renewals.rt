@@ -1,0 +1,131 @@
+//! Which stored rows of its host an edit of a project leaves to be made right.
+
+ghost use Rattle.std.specs.Prelude.{◌≡◌, false, IfOk, IsTrue, option_map};
+ghost use Rattle.dh_aliases.specs.Names as names;
+ghost use Rattle.dh_derived.specs.Renewals as spec;
+ghost use Rattle.dh_derived.specs.Renewals.{FitsEdit, FitsAdded, FitsReplaced, is_low};
+
+use dh_paths::{RefName, Token};
+use dh_plans::{Edit, is_alias};
+use dh_versions::{Kind, Version, higher, release};
+use std::alloc::{AllocError, Global};
+
+/// Which rows of a host are to be made right.
+#[derive(Drop)]
+pub enum Renewal {
+    Nothing,
+    /// All routes.
+    Routes,
+    /// The aliases of the callers with this pass.
+    Class(Token),
+    /// The aliases of all callers.
+    Aliases,
+}
+
+fn by_edit(alloc: Global, edit: &Edit<'_>) -> Result<Renewal, AllocError>
+    ensures { IfOk result (λ r. r ≡ spec.by_edit edit.now) }
+{
+    Ok(match edit {
+        Edit::AddLang { .. }
+        | Edit::PutPage { .. }
+        | Edit::RemovePages { .. }
+        | Edit::SetRules(_)
+        | Edit::PutAnswer(_) => Renewal::Nothing,
+        Edit::SetRedirects(_) => Renewal::Routes,
+        Edit::AddPass { pass, .. }
+        | Edit::RemovePass(pass)
+        | Edit::Grant { pass, .. }
+        | Edit::Revoke { pass, .. } => Renewal::Class(pass.try_copy(alloc)?),
+        Edit::PutVersion(_)
+        | Edit::PutWithoutPages(_)
+        | Edit::RemoveVersion { .. }
+        | Edit::SetDefaults(_) => Renewal::Aliases,
+    })
+}
+
+/// What an edit leaves to be made right, by the edit alone: after a version is put it may be less
+/// (`renewal_of_added`, `renewal_of_replaced`).
+pub fn renewal_of(alloc: Global, edit: &Edit<'_>) -> Result<Renewal, AllocError>
+    ensures { IfOk result (FitsEdit edit.now) }
+{
+    by_edit(alloc, edit)
+}
+
+fn is_never_active(was: &Version, version: &Version) -> bool
+    ensures { IsTrue result → (was.now.active ≡ false) × (version.now.active ≡ false) }
+{
+    !was.active && !version.active
+}
+
+/// Whether the two are alike but for their slugs and for whether they are hidden.
+fn differ_in_hiding(was: &Version, version: &Version) -> bool
+    ensures { IsTrue result → version.now
+        ≡ record was.now { slug = version.now.slug; hidden = version.now.hidden } }
+{
+    was.kind == version.kind
+        && was.name.as_str() == version.name.as_str()
+        && was.active == version.active
+        && was.private == version.private
+}
+
+/// What is left to be made right once this version stands in place of the one that was under its slug.
+pub fn renewal_of_replaced(was: &Version, version: &Version) -> Renewal
+    ensures { FitsReplaced was.now version.now result }
+{
+    if is_never_active(was, version) {
+        return Renewal::Nothing;
+    }
+    if differ_in_hiding(was, version) {
+        return Renewal::Nothing;
+    }
+    Renewal::Aliases
+}
+
+fn is_of_branch(branch: &RefName, version: &Version) -> bool
+    ensures { result ≡ names.is_of_branch branch.now version.now }
+{
+    version.kind == Kind::Branch && version.name.as_str() == branch.as_str()
+}
+
+/// Whether a version is no release, or not above the stable one.
+fn is_not_above(
+    alloc: Global,
+    version: &Version,
+    stable: Option<&Version>,
+) -> Result<bool, AllocError>
+    ensures { IfOk result (λ yes. yes ≡ is_low version.now (option_map (λ v. v.now) stable.entry)) }
+{
+    match stable {
+        Some(stable) => Ok(!higher(alloc, version, stable)?),
+        None => Ok(release(alloc, &version.name, version.kind)?.is_none()),
+    }
+}
+
+/// What is left to be made right once this version stands under a slug that was free.
+pub fn renewal_of_added(
+    alloc: Global,
+    version: &Version,
+    // The name of the default branch.
+    branch: &RefName,
+    // The version that `stable` stands for, to callers with no pass.
+    stable: Option<&Version>,
+) -> Result<Renewal, AllocError>
+    ensures { IfOk result (FitsAdded version.now branch.now (option_map (λ v. v.now) stable.entry)) }
+{
+    if !version.active {
+        return Ok(Renewal::Nothing);
+    }
+    if version.private {
+        return Ok(Renewal::Nothing);
+    }
+    if is_of_branch(branch, version) {
+        return Ok(Renewal::Aliases);
+    }
+    if is_alias(&version.slug) {
+        return Ok(Renewal::Aliases);
+    }
+    if is_not_above(alloc, version, stable)? {
+        return Ok(Renewal::Nothing);
+    }
+    Ok(Renewal::Aliases)
+}
