@@ -26,7 +26,7 @@ use Rattle.dh_world.specs.Visibility.{live_pass, holds, is_visible, may_see}
 use Rattle.dh_records.specs.Lists.{Lists, project_of, world_of, is_project, is_version, is_version_of, is_page, is_lang_of, is_pick_of, is_redirect_of}
 use Rattle.dh_world.specs.Seen.{seen_project, without_default, default_of, visible_versions}
 use Rattle.dh_records.specs.Constraints.{RiseBySlug}
-use Rattle.dh_view.specs.View.{has_project, host_in, opens, project_in, row_of, sees, shown_under, slug_in}
+use Rattle.dh_view.specs.View.{has_project, host_in, languages_in, opens, project_in, row_of, sees, shown_under, slug_in}
 use Rattle.dh_world.proofs.MapLemmas.{tied_text}
 use Rattle.dh_records.proofs.SeenLemmas.{get_project, get_version, get_page}
 use Rattle.dh_world.proofs.SeenLemmas.{seen_page}
@@ -220,6 +220,14 @@ module _ (lists : Lists) (row : ProjectRow) (c : Caller) where
   pub no_slug : (name : Text) (o : Option Version) → o ≡ get visible name → o ≡ None → alias_of whole name ≡ resolved whole name
   no_slug name o e is = sym (resolved_is lists row c name ∙ ap (λ o. option_or (option_map own_name o) (alias_of whole name)) (sym e ∙ is))
 
+  pub slug_is : (name : Text) (o : Option Version) (v : Version) → o ≡ get visible name → o ≡ Some v → Some v.slug ≡ option_map (λ x. name) (get visible name)
+  slug_is name o v e is = ap Some (slug_of (held name) row.host name lists.versions v (sym (visible_is lists row c name) ∙ sym e ∙ is)) ∙ ap (option_map (λ x. name)) (sym is ∙ e)
+
+  -- the same by the host alone
+  pub visible_under : (host : Text) (by : Caller) → host ≡ row.host → by ≡ c → visible_versions (project_of lists (row_of host)) by ≡ visible
+  unfolding project_of
+  visible_under host by h b = ap (λ h. visible_versions (project_of lists (row_of h)) by) h ∙ ap (visible_versions (project_of lists row)) b
+
   -- the name stands for a version that the caller sees
   abbrev pub resolves : Text → Bool
   resolves name = is_some (resolved whole name)
@@ -392,12 +400,25 @@ not_under lists o e = go (project_in lists o) refl e
     go None is e = is
     go (Some p) is e = ap (project_in lists) (sym e)
 
+pub languages_found : (lists : Lists) (o : Option Text) (host : Text) → Some host ≡ host_in lists o → (project_of lists (row_of host)).languages ≡ languages_in lists o
+unfolding project_of
+languages_found lists o host e =
+    let found = under_host lists o host e in
+    ap (λ h. (project_of lists (row_of h)).languages) (sym found.1) ∙ ap (λ p. option_map_or (λ p. p.languages) p []) (sym found.2)
+
+pub languages_none : (lists : Lists) (o : Option Text) → None ≡ host_in lists o → [] ≡ languages_in lists o
+languages_none lists o e = ap (λ p. option_map_or (λ p. p.languages) p []) (sym (not_under lists o e))
+
+-- every caller sees all languages
+pub languages_shown : (lists : Lists) (o : Option Text) (c : Caller) → languages_in lists o ≡ option_map_or (λ p. p.langs) (shown_under lists o c) []
+languages_shown lists o c = go (project_in lists o)
+  where
+    go : (p : Option Project) → option_map_or (λ p. p.languages) p [] ≡ option_map_or (λ p. p.langs) (option_map (λ q. seen_project q c) p) []
+    go None = refl
+    go (Some p) = langs_shown p c
+
 -- what is read by the host alone is that of the project
 module _ (lists : Lists) (row : ProjectRow) (c : Caller) (host : Text) (own : row.host ≡ host) where
-  pub languages_under : (project_of lists (row_of host)).languages ≡ (seen_project (project_of lists row) c).langs
-  unfolding seen_project without_default project_of
-  languages_under = ap (λ h. (project_of lists (row_of h)).languages) (sym own)
-
   pub redirects_under : (project_of lists (row_of host)).redirects ≡ (seen_project (project_of lists row) c).redirects
   unfolding seen_project without_default project_of
   redirects_under = ap (λ h. (project_of lists (row_of h)).redirects) (sym own)

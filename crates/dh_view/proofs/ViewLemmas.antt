@@ -2,6 +2,7 @@
 use Rattle.std.proofs.Common.{◌≡◌, ◌≤◌, ℕ, Bool, true, false, ◌&&◌, Option, None, Some, Result, Ok, Err, IsTrue, IfOk, OnOk, OnErr, inl, inr, refl, ◌⊎◌, subst, sym, ap, ◌∙◌, arith, zero, suc, true≢false}
 use Rattle.std.specs.Prelude.{List, [], Vec, IsErrAnd, option_map, option_and_then}
 use Rattle.std.specs.Option.{option_map_or}
+use Rattle.std.specs.FinMap.{get}
 use Rattle.sqlite_trees.specs.View.{doubt}
 use Rattle.sqlite_trees.specs.declared.store.Store.{Ghosts}
 use Rattle.sqlite.specs.State.{HasCleanDisk}
@@ -22,9 +23,9 @@ use Rattle.dh_schema.proofs.CallLemmas.{on_store}
 use Rattle.dh_schema.specs.Calling as call
 use Rattle.dh_schema.specs.Calling.{IsSettled}
 use Rattle.dh_schema.specs.InTurn.{blamed_before, goes_none, goes_on, refused_on, same_none, same_on}
-use Rattle.dh_view.specs.View.{doubt_of, host_in, meaning_of, project_in, shown, shown_in, shown_under, fails_on, looks_on, Asks, Fails, Looks, Obtains}
+use Rattle.dh_view.specs.View.{doubt_of, host_in, languages_in, meaning_of, project_in, row_of, sees, shown, shown_in, shown_under, slug_in, visible_in, fails_on, looks_on, Asks, Fails, Looks, Obtains}
 use Rattle.dh_view.specs.declared.view.View.{View}
-use Rattle.dh_view.proofs.Shown.{not_under, under_host}
+use Rattle.dh_view.proofs.Shown.{languages_found, not_under, slug_found, under_host}
 
 -- ---- doubt
 
@@ -192,6 +193,25 @@ module _ {S : Type 0} {g : Ghosts S} where
     cause = λ clean. elim (p.told clean) [ inl blamed ↦ inl blamed | inr never ↦ absurd never ];
   }
 
+module _ {S : Type 0} {g : Ghosts S} where
+  -- looks that were answered leave no transaction open
+  pub settled_on : {T : Type 0} {a b : Held S} (r : Result T Fault) → (IsHonest g a → IsSettled g a) → Asks g a b r → OnOk r (IsHonest g b → IsSettled g b)
+  settled_on (Ok x) settled p =
+      λ it.
+      let before = settled (p.goes.lasts.was it) in
+      let same = p.same (p.goes.lasts.was it) it.0 in
+      record { outside = same.mode ∙ before.outside; same = same.now_is ∙ before.same ∙ sym same.last_is }
+  settled_on (Err fault) settled p = tt
+
+module _ {S : Type 0} {g : Ghosts S} where
+  -- outside a transaction looks leave what holds of the records
+  pub still_told
+      : {T : Type 0} {a b : Held S} {r : Result T Fault} (P : Lists → Type 0) → (IsHonest g a → IsSettled g a) → Asks g a b r
+      → (IsHonest g a → P (seen g lists_of a)) → IsHonest g b → P (seen g lists_of b)
+  still_told P settled p fact it =
+      let same = ((looks_from settled p).unmoved it).same in
+      subst P (sym same.now_is) (fact same.was_honest)
+
 -- an answer that is said in another way
 pub same_answer : {T U E : Type 0} (f : T → U) (r : Result T E) (v w : U) → v ≡ w → IfOk r (λ x. f x ≡ v) → IfOk r (λ x. f x ≡ w)
 same_answer f (Ok x) v w e h = h ∙ e
@@ -265,6 +285,17 @@ module _ {S : Type 0} (g : Ghosts S) where
     pub maybe_none : {U : Type 0} (f : SeenProject → Option U) → o ≡ None → doubt_of g b.tables.now ≡ 0 → None ≡ option_and_then f (shown g a.tables.now a.host a.caller)
     maybe_none f is d = ap (option_and_then f) (none_shown is (honest g b.tables.now d))
 
+  -- what was found before a call is found after it
+  module _ {T : Type 0} {a b : View S g} {x : T} (p : lookup.Asks (meaning_of g) a b (Ok x)) (it : IsHonest g b.tables.now) where
+    pub still_sees : (slug : Text) → sees (seen g lists_of a.tables.now) a.host a.caller slug ≡ true → sees (seen g lists_of b.tables.now) b.host b.caller slug ≡ true
+    still_sees slug fact =
+        ap (λ l. sees l b.host b.caller slug) (p.leads.3.unmoved it).same.now_is ∙ ap (λ h. sees (seen g lists_of a.tables.now) h b.caller slug) p.leads.1
+        ∙ ap (λ c. sees (seen g lists_of a.tables.now) a.host c slug) p.leads.2 ∙ fact
+
+    pub still_languages : (langs : List Text) → langs ≡ languages_in (seen g lists_of a.tables.now) a.host → langs ≡ languages_in (seen g lists_of b.tables.now) b.host
+    still_languages langs fact =
+        fact ∙ sym (ap (λ l. languages_in l b.host) (p.leads.3.unmoved it).same.now_is ∙ ap (languages_in (seen g lists_of a.tables.now)) p.leads.1)
+
   -- what a call tells after another that was answered
   pub tells_on
       : {T U : Type 0} {a b c : View S g} {x : T} {r : Result (Option U) Fault} (f k : SeenProject → Option U)
@@ -292,6 +323,24 @@ module _ {S : Type 0} (g : Ghosts S) where
               ∙ ap (λ c. Some (shown_in lists found.0 c)) p.leads.2
               ∙ ap (option_map (λ q. sight.seen_project q a.caller)) (sym found.2),
         )
+
+    -- the slug that was looked up by the host alone
+    pub slug_under_host
+        : (host name : Text) → o ≡ Some host → IsHonest g b.tables.now
+        → option_map (λ v. name) (get (visible_in (seen g lists_of b.tables.now) host b.caller) name) ≡ slug_in (seen g lists_of a.tables.now) a.host a.caller name
+    slug_under_host host name is it =
+        let lists = seen g lists_of a.tables.now in
+        ap (λ l. option_map (λ v. name) (get (visible_in l host b.caller) name)) (p.leads.3.unmoved it).same.now_is
+        ∙ ap (λ c. option_map (λ v. name) (get (visible_in lists host c) name)) p.leads.2
+        ∙ slug_found lists a.host a.caller host name (sym is ∙ value it)
+
+    -- and the languages
+    pub languages_under_host
+        : (host : Text) → o ≡ Some host → IsHonest g b.tables.now
+        → (project_of (seen g lists_of b.tables.now) (row_of host)).languages ≡ languages_in (seen g lists_of a.tables.now) a.host
+    languages_under_host host is it =
+        ap (λ l. (project_of l (row_of host)).languages) (p.leads.3.unmoved it).same.now_is
+        ∙ languages_found (seen g lists_of a.tables.now) a.host host (sym is ∙ value it)
 
     none_under_host : o ≡ None → IsHonest g b.tables.now → None ≡ shown g a.tables.now a.host a.caller
     none_under_host is it = ap (option_map (λ q. sight.seen_project q a.caller)) (sym (not_under (seen g lists_of a.tables.now) a.host (sym is ∙ value it)))

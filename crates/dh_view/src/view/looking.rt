@@ -9,13 +9,14 @@ ghost use Rattle.dh_lookup.specs.Lookup.{Asks, TellsMaybe};
 ghost use Rattle.dh_lookup.specs.SeenProject.{alias_of};
 ghost use Rattle.dh_redirects.specs.FirstResult.{first_result};
 ghost use Rattle.dh_records.specs.Lists.{project_of};
-ghost use Rattle.dh_schema.specs.Calling.{IsSettled};
-ghost use Rattle.dh_view.specs.Remembered.{AreLanguages, IsSeen};
+ghost use Rattle.dh_schema.specs.Calling.{HasRecords, IsSettled};
+ghost use Rattle.dh_world.specs.Seen as sight;
+ghost use Rattle.dh_view.specs.Remembered.{IsSeen};
 ghost use Rattle.dh_view.specs.View as view;
 ghost use Rattle.dh_view.specs.View.{LooksUp, doubt_of, fails_on, host_in, looks_none, looks_on, meaning_of, unmoved_none, unmoved_on};
 
 use super::{HostView, ProjectView, View};
-use dh_lookup::{Fault, Found, Lookup, Named, Page};
+use dh_lookup::{Fault, Found, Items, Lookup, Named, Page};
 use dh_paths::{HostName, Lang, Slug, Text};
 use dh_records::ProjectRow;
 use dh_redirects::{Asked, Location};
@@ -80,7 +81,13 @@ impl<'a, S: Alter> View<'a, S> {
     }
 }
 
-// ---- the version with a slug
+// ---- the version that a name stands for
+
+fn is_alias(name: &str) -> bool
+    ensures { result ≡ sight.is_alias name.now }
+{
+    name == "latest" || name == "stable"
+}
 
 impl<'a, S: Alter> View<'a, S> {
     /// The slug of the version that was found last, if it is this one.
@@ -152,12 +159,79 @@ impl<'a, S: Alter> View<'a, S> {
         ensures value { TellsMaybe (meaning_of S.Store) self.old self.new result
             (λ p. alias_of p name.now) }
     {
+        if !is_alias(name) {
+            return Ok(None);
+        }
         match self.project(alloc)? {
             Some(project) => {
                 ProjectView::new(alloc, &project, &self.caller).alias_named(self.tables, name)
             }
             None => Ok(None),
         }
+    }
+}
+
+// ---- the languages
+
+fn copy_langs(alloc: Global, langs: &[Lang]) -> Result<Vec<Lang>, AllocError>
+    ensures { IfOk result (λ copy. copy.items ≡ langs.now) }
+{
+    let mut copy = Vec::new(alloc);
+    for lang in langs {
+        copy.push(lang.try_copy(alloc)?)?;
+    }
+    Ok(copy)
+}
+
+impl<'a, S: Alter> View<'a, S> {
+    /// The languages that were read before.
+    fn noted_langs(&self, alloc: Global) -> Result<Option<Vec<Lang>>, AllocError>
+        ensures read { IfOk result (λ o. IfSome o (λ langs. HasRecords S.Store self.now.tables.now
+            (λ l. langs.items ≡ view.languages_in l self.now.host))) }
+        ensures settled { IfOk result (λ o. IsTrue (is_some o)
+            → IsHonest S.Store self.now.tables.now → IsSettled S.Store self.now.tables.now) }
+    {
+        match &self.langs {
+            Some(langs) if self.tables.is_settled() => {
+                Ok(Some(copy_langs(alloc, langs.as_slice())?))
+            }
+            _ => Ok(None),
+        }
+    }
+
+    /// Keeps languages that were read, where there is memory for them.
+    fn note_langs(&mut self, alloc: Global, langs: &[Lang])
+        requires read { HasRecords S.Store self.old.tables.now
+            (λ l. langs.now ≡ view.languages_in l self.old.host) }
+        ensures same { self.new.tables.ghost_name ≡ self.old.tables.ghost_name }
+        ensures now { self.new.tables.now ≡ self.old.tables.now }
+        ensures host { self.new.host ≡ self.old.host }
+        ensures caller { self.new.caller ≡ self.old.caller }
+    {
+        if let Ok(copy) = copy_langs(alloc, langs) {
+            self.langs = Some(Items::wrap(copy));
+        }
+    }
+
+    /// The languages, asked of the tables.
+    fn ask_langs(&mut self, alloc: Global) -> Result<Vec<Lang>, Fault>
+        ensures { LooksUp S.Store self.old self.new result
+            (λ l langs. langs.items ≡ view.languages_in l self.old.host) }
+    {
+        match self.opened(alloc)? {
+            Some(host) => HostView::new(alloc, &host, &self.caller).all_langs(self.tables),
+            None => Ok(Vec::new(alloc)),
+        }
+    }
+
+    /// The same, which are kept.
+    fn find_langs(&mut self, alloc: Global) -> Result<Vec<Lang>, Fault>
+        ensures { LooksUp S.Store self.old self.new result
+            (λ l langs. langs.items ≡ view.languages_in l self.old.host) }
+    {
+        let langs = self.ask_langs(alloc)?;
+        self.note_langs(alloc, langs.as_slice());
+        Ok(langs)
     }
 }
 
@@ -222,9 +296,9 @@ impl<'a, S: Alter> Lookup for View<'a, S> {
     }
 
     fn langs(&mut self, alloc: Global) -> Result<Vec<Lang>, Fault> {
-        match self.opened(alloc)? {
-            Some(host) => HostView::new(alloc, &host, &self.caller).all_langs(self.tables),
-            None => Ok(Vec::new(alloc)),
+        match self.noted_langs(alloc)? {
+            Some(langs) => Ok(langs),
+            None => self.find_langs(alloc),
         }
     }
 

@@ -143,8 +143,10 @@ impl HostView<'_> {
         ensures { Reads S.Store tables.old tables.new result (λ l. option_map (λ _. name.now)
             (get (visible_in l self.now.host.now self.now.caller.now) name.now)) }
     {
-        let found = self.visible_version(tables, name)?;
-        Ok(found.map(|version| version.slug))
+        match self.visible_version(tables, name)? {
+            Some(version) => Ok(Some(version.slug)),
+            None => Ok(None),
+        }
     }
 
     /// What the caller's pass holds, if it is live.
