@@ -4,7 +4,7 @@ use Rattle.std.proofs.Common.{inl, inr, ◌∙◌, sym}
 use Rattle.std.proofs.lemmas.Bool.{cases_Bool}
 use Rattle.std.specs.List.{list_any, AllByRecursion}
 use Rattle.std.specs.Str.{bytes_eq}
-use Rattle.std.specs.FinMap.{FinMap, get}
+use Rattle.std.specs.FinMap.{FinMap}
 use Rattle.sqlite_trees.specs.View.{doubt}
 use Rattle.sqlite_trees.specs.declared.store.Store.{Ghosts}
 use Rattle.sqlite.specs.State.{HasCleanDisk}
@@ -20,7 +20,7 @@ use Rattle.dh_records.specs.declared.records.VersionRow.{VersionRow}
 use Rattle.dh_records.specs.declared.records.HeldRow.{HeldRow}
 use Rattle.dh_records.specs.declared.records.ProjectRow.{ProjectRow}
 use Rattle.dh_world.specs.declared.caller.Caller.{Caller}
-use Rattle.dh_world.specs.World.{Text, text_cmp, Project}
+use Rattle.dh_world.specs.World.{Text, text_cmp}
 use Rattle.dh_world.specs.Visibility.{live_pass, holds, may_see}
 use Rattle.dh_world.specs.Seen as sight
 use Rattle.dh_schema.specs.Calling.{Blames, IsSettled, Learns}
