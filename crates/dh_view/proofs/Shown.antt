@@ -357,18 +357,9 @@ pub langs_shown : (p : Project) (c : Caller) → p.languages ≡ (seen_project p
 unfolding seen_project without_default
 langs_shown p c = refl
 
-pub versions_shown : (p : Project) (c : Caller) → values (visible_versions p c) ≡ (seen_project p c).versions
-unfolding seen_project without_default
-versions_shown p c = refl
-
 pub redirects_are : (lists : Lists) (row : ProjectRow) → map (λ r. r.redirect) (filter (is_redirect_of row.host) lists.redirects) ≡ (project_of lists row).redirects
 unfolding project_of
 redirects_are lists row = refl
-
--- every caller sees all redirects
-pub redirects_shown : (p : Project) (c : Caller) → p.redirects ≡ (seen_project p c).redirects
-unfolding seen_project without_default
-redirects_shown p c = refl
 
 -- ---- what stands under a host
 
@@ -447,9 +438,6 @@ module _ (lists : Lists) (o : Option Text) (c : Caller) where
   pub slug_found : (host name : Text) → Some host ≡ host_in lists o → option_map (λ v. name) (get (visible_versions (project_of lists (row_of host)) c) name) ≡ slug_in lists o c name
   slug_found host name e = let found = under_host lists o host e in slug_under lists found.0 c host found.1 name ∙ ap (told_of name) (sym found.2)
 
-  pub slug_none : (name : Text) → None ≡ host_in lists o → None ≡ slug_in lists o c name
-  slug_none name e = ap (told_of name) (sym (not_under lists o e))
-
   not_some : (x : Text) → Some x ≡ None → ⊥
   not_some x e = cc
 
@@ -460,10 +448,6 @@ module _ (lists : Lists) (o : Option Text) (c : Caller) where
       go : (b : Bool) → sees lists o c name ≡ b → Some slug ≡ cond b (Some name) None → sees lists o c slug ≡ true
       go true told e = let same : slug ≡ name = cc in ap (sees lists o c) same ∙ told
       go false told e = absurd (not_some slug e)
-
-  -- what is seen was found
-  pub found_seen : (name slug : Text) → slug ≡ name → sees lists o c slug ≡ true → Some slug ≡ slug_in lists o c name
-  found_seen name slug same told = ap Some same ∙ ap (λ b. cond b (Some name) None) (sym (ap (sees lists o c) (sym same) ∙ told))
 
 -- ---- what a slug stands for
 
@@ -546,7 +530,3 @@ module _ (lists : Lists) (o : Option Text) (c : Caller) (name : Text) where
               sym (page_is lists found.0 c lang name path ∙ ap (λ b. cond b (option_map (λ x. x.page) (find (is_page found.0.host name lang path) lists.pages)) None) (sym (seen_when lists found.0 c name) ∙ found.2))
               ∙ ap (of_seen (λ p. page_at p lang name path)) (sym found.1)
         ]
-
--- no host shows nothing
-pub none_under : {U : Type 0} (lists : Lists) (o : Option Text) (c : Caller) (f : SeenProject → Option U) → o ≡ None → None ≡ option_and_then f (shown_under lists o c)
-none_under lists o c f is = ap (λ o. option_and_then f (shown_under lists o c)) (sym is)
