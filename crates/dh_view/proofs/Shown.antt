@@ -1,5 +1,5 @@
 -- What a view shows, by what was found in the lists.
-use Rattle.std.proofs.Common.{◌≡◌, ℕ, ◌<◌, ◌≤◌, ◌+◌, Bool, true, false, ◌&&◌, cond, List, [], ◌∷◌, map, filter, Option, Some, None, refl, sym, ap, subst, ◌∙◌, slice_get, slice_index_or, drop, length, true≢false, Equal}
+use Rattle.std.proofs.Common.{◌≡◌, ◌⊎◌, inl, inr, ℕ, ◌<◌, ◌≤◌, ◌+◌, Bool, true, false, ◌&&◌, cond, List, [], ◌∷◌, map, filter, Option, Some, None, refl, sym, ap, subst, ◌∙◌, slice_get, slice_index_or, drop, length, true≢false, Equal}
 use Rattle.std.specs.Prelude.{option_map, option_and_then, is_some, codes}
 use Rattle.std.specs.Option.{option_map_or, option_or}
 use Rattle.std.specs.Bool.{then_some}
@@ -26,7 +26,7 @@ use Rattle.dh_world.specs.Visibility.{live_pass, holds, is_visible, may_see}
 use Rattle.dh_records.specs.Lists.{Lists, project_of, world_of, is_project, is_version, is_version_of, is_page, is_lang_of, is_pick_of, is_redirect_of}
 use Rattle.dh_world.specs.Seen.{seen_project, without_default, default_of, visible_versions}
 use Rattle.dh_records.specs.Constraints.{RiseBySlug}
-use Rattle.dh_view.specs.View.{opens}
+use Rattle.dh_view.specs.View.{has_project, host_in, languages_in, opens, project_in, row_of, sees, shown_under, slug_in}
 use Rattle.dh_world.proofs.MapLemmas.{tied_text}
 use Rattle.dh_records.proofs.SeenLemmas.{get_project, get_version, get_page}
 use Rattle.dh_world.proofs.SeenLemmas.{seen_page}
@@ -220,6 +220,14 @@ module _ (lists : Lists) (row : ProjectRow) (c : Caller) where
   pub no_slug : (name : Text) (o : Option Version) → o ≡ get visible name → o ≡ None → alias_of whole name ≡ resolved whole name
   no_slug name o e is = sym (resolved_is lists row c name ∙ ap (λ o. option_or (option_map own_name o) (alias_of whole name)) (sym e ∙ is))
 
+  pub slug_is : (name : Text) (o : Option Version) (v : Version) → o ≡ get visible name → o ≡ Some v → Some v.slug ≡ option_map (λ x. name) (get visible name)
+  slug_is name o v e is = ap Some (slug_of (held name) row.host name lists.versions v (sym (visible_is lists row c name) ∙ sym e ∙ is)) ∙ ap (option_map (λ x. name)) (sym is ∙ e)
+
+  -- the same by the host alone
+  pub visible_under : (host : Text) (by : Caller) → host ≡ row.host → by ≡ c → visible_versions (project_of lists (row_of host)) by ≡ visible
+  unfolding project_of
+  visible_under host by h b = ap (λ h. visible_versions (project_of lists (row_of h)) by) h ∙ ap (visible_versions (project_of lists row)) b
+
   -- the name stands for a version that the caller sees
   abbrev pub resolves : Text → Bool
   resolves name = is_some (resolved whole name)
@@ -308,15 +316,24 @@ module _ (lists : Lists) (row : ProjectRow) (c : Caller) where
           more true = refl
           more false = refl
 
+  -- a version that is seen is what its slug stands for
+  pub seen_resolves : (name : Text) → is_visible (project_of lists row) c name ≡ true → Some (record { slug = name; alias = false }) ≡ resolved whole name
+  seen_resolves name sight = go (get visible name) refl (sym (seen_when name) ∙ sight)
+    where
+      go : (o : Option Version) → get visible name ≡ o → is_some o ≡ true → Some (record { slug = name; alias = false }) ≡ resolved whole name
+      go None is some = absurd (true≢false (sym some))
+      go (Some v) is some = ap (λ t. Some (record { slug = t; alias = false })) (sym (slug_of (held name) row.host name lists.versions v (sym (visible_is lists row c name) ∙ is))) ∙ own_slug name (Some v) v (sym is) refl
+
+  -- and any other slug stands for an alias or nothing
+  pub unseen_resolves : (name : Text) → is_visible (project_of lists row) c name ≡ false → alias_of whole name ≡ resolved whole name
+  unseen_resolves name sight = go (get visible name) refl (sym (seen_when name) ∙ sight)
+    where
+      go : (o : Option Version) → get visible name ≡ o → is_some o ≡ false → alias_of whole name ≡ resolved whole name
+      go None is none = no_slug name None (sym is) refl
+      go (Some v) is none = absurd (true≢false none)
+
   pub page_is : (lang slug path : Text) → page_at whole lang slug path ≡ cond (is_some (get visible slug)) (option_map (λ x. x.page) (find (is_page row.host slug lang path) lists.pages)) None
   page_is lang slug path = seen_page (project_of lists row) c lang slug path ∙ rw (seen_when slug, get_page lists row slug lang path) refl
-
-module _ (lists : Lists) (row : ProjectRow) (c : Caller) (lang slug path : Text) (o : Option Version) (e : o ≡ get (visible_versions (project_of lists row) c) slug) where
-  pub page_when : (v : Version) → o ≡ Some v → option_map (λ x. x.page) (find (is_page row.host slug lang path) lists.pages) ≡ page_at (seen_project (project_of lists row) c) lang slug path
-  page_when v is = sym (page_is lists row c lang slug path ∙ ap (λ o. cond (is_some o) (option_map (λ x. x.page) (find (is_page row.host slug lang path) lists.pages)) None) (sym e ∙ is))
-
-  pub no_page : o ≡ None → None ≡ page_at (seen_project (project_of lists row) c) lang slug path
-  no_page is = sym (page_is lists row c lang slug path ∙ ap (λ o. cond (is_some o) (option_map (λ x. x.page) (find (is_page row.host slug lang path) lists.pages)) None) (sym e ∙ is))
 
 pub known_is : (lists : Lists) (o : Option Text) (host : Text) → o ≡ Some host → is_some (find (is_project host) lists.projects) ≡ is_some (option_and_then (get (world_of lists)) o)
 known_is lists o host e = rw e (sym (ap is_some (get_project lists host) ∙ mapped (find (is_project host) lists.projects)))
@@ -340,15 +357,176 @@ pub langs_shown : (p : Project) (c : Caller) → p.languages ≡ (seen_project p
 unfolding seen_project without_default
 langs_shown p c = refl
 
-pub versions_shown : (p : Project) (c : Caller) → values (visible_versions p c) ≡ (seen_project p c).versions
-unfolding seen_project without_default
-versions_shown p c = refl
-
 pub redirects_are : (lists : Lists) (row : ProjectRow) → map (λ r. r.redirect) (filter (is_redirect_of row.host) lists.redirects) ≡ (project_of lists row).redirects
 unfolding project_of
 redirects_are lists row = refl
 
--- every caller sees all redirects
-pub redirects_shown : (p : Project) (c : Caller) → p.redirects ≡ (seen_project p c).redirects
-unfolding seen_project without_default
-redirects_shown p c = refl
+-- ---- what stands under a host
+
+-- the record of a project that stands
+project_row : (lists : Lists) (o : Option Text) (host : Text) → o ≡ Some host → has_project lists o ≡ true
+    → (row : ProjectRow) × (row.host ≡ host) × (project_in lists o ≡ Some (project_of lists row))
+project_row lists o host is some = go (find (is_project host) lists.projects) refl (sym (found_is lists o host is))
+  where
+    go : (r : Option ProjectRow) → find (is_project host) lists.projects ≡ r → project_in lists o ≡ option_map (project_of lists) r
+        → (row : ProjectRow) × (row.host ≡ host) × (project_in lists o ≡ Some (project_of lists row))
+    go None found e = absurd (true≢false (sym some ∙ ap is_some e))
+    go (Some row) found e = (row, (bytes_eq-Decides row.host host).0 (found_passes (is_project host) lists.projects row found), e)
+
+pub under_host : (lists : Lists) (o : Option Text) (host : Text) → Some host ≡ host_in lists o
+    → (row : ProjectRow) × (row.host ≡ host) × (project_in lists o ≡ Some (project_of lists row))
+under_host lists o host e = go (has_project lists o) refl e
+  where
+    go : (b : Bool) → has_project lists o ≡ b → Some host ≡ cond b o None → (row : ProjectRow) × (row.host ≡ host) × (project_in lists o ≡ Some (project_of lists row))
+    go true some e = project_row lists o host (sym e) some
+    go false some e = absurd (no e)
+      where
+        no : Some host ≡ None → ⊥
+        no e = cc
+
+pub not_under : (lists : Lists) (o : Option Text) → None ≡ host_in lists o → project_in lists o ≡ None
+not_under lists o e = go (project_in lists o) refl e
+  where
+    go : (p : Option Project) → project_in lists o ≡ p → None ≡ cond (is_some p) o None → project_in lists o ≡ None
+    go None is e = is
+    go (Some p) is e = ap (project_in lists) (sym e)
+
+pub languages_found : (lists : Lists) (o : Option Text) (host : Text) → Some host ≡ host_in lists o → (project_of lists (row_of host)).languages ≡ languages_in lists o
+unfolding project_of
+languages_found lists o host e =
+    let found = under_host lists o host e in
+    ap (λ h. (project_of lists (row_of h)).languages) (sym found.1) ∙ ap (λ p. option_map_or (λ p. p.languages) p []) (sym found.2)
+
+pub languages_none : (lists : Lists) (o : Option Text) → None ≡ host_in lists o → [] ≡ languages_in lists o
+languages_none lists o e = ap (λ p. option_map_or (λ p. p.languages) p []) (sym (not_under lists o e))
+
+-- every caller sees all languages
+pub languages_shown : (lists : Lists) (o : Option Text) (c : Caller) → languages_in lists o ≡ option_map_or (λ p. p.langs) (shown_under lists o c) []
+languages_shown lists o c = go (project_in lists o)
+  where
+    go : (p : Option Project) → option_map_or (λ p. p.languages) p [] ≡ option_map_or (λ p. p.langs) (option_map (λ q. seen_project q c) p) []
+    go None = refl
+    go (Some p) = langs_shown p c
+
+-- what is read by the host alone is that of the project
+module _ (lists : Lists) (row : ProjectRow) (c : Caller) (host : Text) (own : row.host ≡ host) where
+  pub redirects_under : (project_of lists (row_of host)).redirects ≡ (seen_project (project_of lists row) c).redirects
+  unfolding seen_project without_default project_of
+  redirects_under = ap (λ h. (project_of lists (row_of h)).redirects) (sym own)
+
+  pub versions_under : values (visible_versions (project_of lists (row_of host)) c) ≡ (seen_project (project_of lists row) c).versions
+  unfolding seen_project without_default project_of
+  versions_under = ap (λ h. values (visible_versions (project_of lists (row_of h)) c)) (sym own)
+
+  pub slug_under : (name : Text) → option_map (λ v. name) (get (visible_versions (project_of lists (row_of host)) c) name) ≡ cond (is_visible (project_of lists row) c name) (Some name) None
+  unfolding project_of
+  slug_under name =
+      ap (λ h. option_map (λ v. name) (get (visible_versions (project_of lists (row_of h)) c) name)) (sym own)
+      ∙ by_sight (get (visible_versions (project_of lists row) c) name) ∙ ap (λ b. cond b (Some name) None) (sym (seen_when lists row c name))
+    where
+      by_sight : (o : Option Version) → option_map (λ v. name) o ≡ cond (is_some o) (Some name) None
+      by_sight None = refl
+      by_sight (Some v) = refl
+
+-- ---- the slug of a version that is seen
+
+module _ (lists : Lists) (o : Option Text) (c : Caller) where
+  -- whether a project sees it
+  abbrev told_of : Text → Option Project → Option Text
+  told_of name p = cond (option_map_or (λ p. is_visible p c name) p false) (Some name) None
+
+  pub slug_found : (host name : Text) → Some host ≡ host_in lists o → option_map (λ v. name) (get (visible_versions (project_of lists (row_of host)) c) name) ≡ slug_in lists o c name
+  slug_found host name e = let found = under_host lists o host e in slug_under lists found.0 c host found.1 name ∙ ap (told_of name) (sym found.2)
+
+  not_some : (x : Text) → Some x ≡ None → ⊥
+  not_some x e = cc
+
+  -- what was found is seen
+  pub sees_found : (name : Text) (found : Option Text) → found ≡ slug_in lists o c name → (slug : Text) → found ≡ Some slug → sees lists o c slug ≡ true
+  sees_found name found e slug is = go (sees lists o c name) refl (sym is ∙ e)
+    where
+      go : (b : Bool) → sees lists o c name ≡ b → Some slug ≡ cond b (Some name) None → sees lists o c slug ≡ true
+      go true told e = let same : slug ≡ name = cc in ap (sees lists o c) same ∙ told
+      go false told e = absurd (not_some slug e)
+
+-- ---- what a slug stands for
+
+module _ (lists : Lists) (o : Option Text) (c : Caller) (name : Text) where
+  -- the project that stands, with its record
+  standing : (project_in lists o ≡ None) ⊎ ((row : ProjectRow) × (project_in lists o ≡ Some (project_of lists row)) × (o ≡ Some row.host))
+  standing = by o refl
+    where
+      by : (x : Option Text) → o ≡ x → (project_in lists o ≡ None) ⊎ ((row : ProjectRow) × (project_in lists o ≡ Some (project_of lists row)) × (o ≡ Some row.host))
+      by None is = inl (ap (project_in lists) is)
+      by (Some host) is = go (find (is_project host) lists.projects) refl (sym (found_is lists o host is))
+        where
+          go : (r : Option ProjectRow) → find (is_project host) lists.projects ≡ r → project_in lists o ≡ option_map (project_of lists) r
+              → (project_in lists o ≡ None) ⊎ ((row : ProjectRow) × (project_in lists o ≡ Some (project_of lists row)) × (o ≡ Some row.host))
+          go None found e = inl e
+          go (Some row) found e = inr (row, e, is ∙ ap Some (sym ((bytes_eq-Decides row.host host).0 (found_passes (is_project host) lists.projects row found))))
+
+  seen_in : (own : Text) → Some own ≡ slug_in lists o c name
+      → (own ≡ name) × ((row : ProjectRow) × (project_in lists o ≡ Some (project_of lists row)) × (o ≡ Some row.host) × (is_visible (project_of lists row) c name ≡ true))
+  seen_in own e =
+      elim standing [
+        | inl none ↦ absurd (not_some lists o c own (e ∙ ap (told_of lists o c name) none))
+        | inr found ↦ go found.0 found.1 found.2 (is_visible (project_of lists found.0) c name) refl (e ∙ ap (told_of lists o c name) found.1)
+      ]
+    where
+      go : (row : ProjectRow) → project_in lists o ≡ Some (project_of lists row) → o ≡ Some row.host → (b : Bool) → is_visible (project_of lists row) c name ≡ b → Some own ≡ cond b (Some name) None
+          → (own ≡ name) × ((row : ProjectRow) × (project_in lists o ≡ Some (project_of lists row)) × (o ≡ Some row.host) × (is_visible (project_of lists row) c name ≡ true))
+      go row is host true told e = let same : own ≡ name = cc in (same, (row, is, host, told))
+      go row is host false told e = absurd (not_some lists o c own e)
+
+  unseen_in : None ≡ slug_in lists o c name
+      → (project_in lists o ≡ None) ⊎ ((row : ProjectRow) × (project_in lists o ≡ Some (project_of lists row)) × (is_visible (project_of lists row) c name ≡ false))
+  unseen_in e =
+      elim standing [
+        | inl none ↦ inl none
+        | inr found ↦ go found.0 found.1 (is_visible (project_of lists found.0) c name) refl (e ∙ ap (told_of lists o c name) found.1)
+      ]
+    where
+      go : (row : ProjectRow) → project_in lists o ≡ Some (project_of lists row) → (b : Bool) → is_visible (project_of lists row) c name ≡ b → None ≡ cond b (Some name) None
+          → (project_in lists o ≡ None) ⊎ ((row : ProjectRow) × (project_in lists o ≡ Some (project_of lists row)) × (is_visible (project_of lists row) c name ≡ false))
+      go row is true told e = absurd (not_some lists o c name (sym e))
+      go row is false told e = inr (row, is, told)
+
+  -- what a part of the project is to the caller
+  abbrev of_seen : {U : Type 0} → (SeenProject → Option U) → Option Project → Option U
+  of_seen f p = option_and_then f (option_map (λ q. seen_project q c) p)
+
+  pub name_seen : (own : Text) → Some own ≡ slug_in lists o c name → Some (record { slug = own; alias = false }) ≡ option_and_then (λ p. resolved p name) (shown_under lists o c)
+  name_seen own e =
+      let found = seen_in own e in
+      ap (λ s. Some (record { slug = s; alias = false })) found.0 ∙ seen_resolves lists found.1.0 c name found.1.3 ∙ ap (of_seen (λ p. resolved p name)) (sym found.1.1)
+
+  pub name_unseen : None ≡ slug_in lists o c name → option_and_then (λ p. alias_of p name) (shown_under lists o c) ≡ option_and_then (λ p. resolved p name) (shown_under lists o c)
+  name_unseen e =
+      elim (unseen_in e) [
+        | inl none ↦ ap (of_seen (λ p. alias_of p name)) none ∙ ap (of_seen (λ p. resolved p name)) (sym none)
+        | inr found ↦ ap (of_seen (λ p. alias_of p name)) found.1 ∙ unseen_resolves lists found.0 c name found.2 ∙ ap (of_seen (λ p. resolved p name)) (sym found.1)
+      ]
+
+  module _ (lang path : Text) where
+    pub page_seen : (host own : Text) → o ≡ Some host → Some own ≡ slug_in lists o c name
+        → option_map (λ x. x.page) (find (is_page host own lang path) lists.pages) ≡ option_and_then (λ p. page_at p lang name path) (shown_under lists o c)
+    page_seen host own is e =
+        let found = seen_in own e in
+        let row = found.1.0 in
+        let same : host ≡ row.host = some_same (sym is ∙ found.1.2) in
+        ap (λ h. option_map (λ x. x.page) (find (is_page h own lang path) lists.pages)) same
+        ∙ ap (λ s. option_map (λ x. x.page) (find (is_page row.host s lang path) lists.pages)) found.0
+        ∙ sym (page_is lists row c lang name path ∙ ap (λ b. cond b (option_map (λ x. x.page) (find (is_page row.host name lang path) lists.pages)) None) (sym (seen_when lists row c name) ∙ found.1.3))
+        ∙ ap (of_seen (λ p. page_at p lang name path)) (sym found.1.1)
+      where
+        some_same : {x y : Text} → Some x ≡ Some y → x ≡ y
+        some_same e = cc
+
+    pub page_unseen : None ≡ slug_in lists o c name → None ≡ option_and_then (λ p. page_at p lang name path) (shown_under lists o c)
+    page_unseen e =
+        elim (unseen_in e) [
+          | inl none ↦ ap (of_seen (λ p. page_at p lang name path)) (sym none)
+          | inr found ↦
+              sym (page_is lists found.0 c lang name path ∙ ap (λ b. cond b (option_map (λ x. x.page) (find (is_page found.0.host name lang path) lists.pages)) None) (sym (seen_when lists found.0 c name) ∙ found.2))
+              ∙ ap (of_seen (λ p. page_at p lang name path)) (sym found.1)
+        ]

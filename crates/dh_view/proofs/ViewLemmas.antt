@@ -2,6 +2,7 @@
 use Rattle.std.proofs.Common.{◌≡◌, ◌≤◌, ℕ, Bool, true, false, ◌&&◌, Option, None, Some, Result, Ok, Err, IsTrue, IfOk, OnOk, OnErr, inl, inr, refl, ◌⊎◌, subst, sym, ap, ◌∙◌, arith, zero, suc, true≢false}
 use Rattle.std.specs.Prelude.{List, [], Vec, IsErrAnd, option_map, option_and_then}
 use Rattle.std.specs.Option.{option_map_or}
+use Rattle.std.specs.FinMap.{get}
 use Rattle.sqlite_trees.specs.View.{doubt}
 use Rattle.sqlite_trees.specs.declared.store.Store.{Ghosts}
 use Rattle.sqlite.specs.State.{HasCleanDisk}
@@ -22,8 +23,9 @@ use Rattle.dh_schema.proofs.CallLemmas.{on_store}
 use Rattle.dh_schema.specs.Calling as call
 use Rattle.dh_schema.specs.Calling.{IsSettled}
 use Rattle.dh_schema.specs.InTurn.{blamed_before, goes_none, goes_on, refused_on, same_none, same_on}
-use Rattle.dh_view.specs.View.{doubt_of, meaning_of, project_in, shown, shown_in, shown_under, fails_on, looks_on, Asks, Fails, Looks, Obtains}
+use Rattle.dh_view.specs.View.{doubt_of, host_in, languages_in, meaning_of, project_in, row_of, sees, shown, shown_in, shown_under, slug_in, visible_in, fails_on, looks_on, Asks, Fails, Looks, Obtains}
 use Rattle.dh_view.specs.declared.view.View.{View}
+use Rattle.dh_view.proofs.Shown.{languages_found, not_under, slug_found, under_host}
 
 -- ---- doubt
 
@@ -79,7 +81,7 @@ module _ {S : Type 0} (g : Ghosts S) where
 
   -- what looks at the tables of a view leave of the view
   view_looks
-      : {T : Type 0} (old new : View S) (r : Result T Fault)
+      : {T : Type 0} (old new : View S g) (r : Result T Fault)
       → (new.tables.ghost_name ≡ old.tables.ghost_name) × (new.host ≡ old.host) × (new.caller ≡ old.caller)
       → Looks g old.tables.now new.tables.now → OnStore r (Fails g old.tables.now new.tables.now)
       → lookup.Asks (meaning_of g) old new r
@@ -191,6 +193,25 @@ module _ {S : Type 0} {g : Ghosts S} where
     cause = λ clean. elim (p.told clean) [ inl blamed ↦ inl blamed | inr never ↦ absurd never ];
   }
 
+module _ {S : Type 0} {g : Ghosts S} where
+  -- looks that were answered leave no transaction open
+  pub settled_on : {T : Type 0} {a b : Held S} (r : Result T Fault) → (IsHonest g a → IsSettled g a) → Asks g a b r → OnOk r (IsHonest g b → IsSettled g b)
+  settled_on (Ok x) settled p =
+      λ it.
+      let before = settled (p.goes.lasts.was it) in
+      let same = p.same (p.goes.lasts.was it) it.0 in
+      record { outside = same.mode ∙ before.outside; same = same.now_is ∙ before.same ∙ sym same.last_is }
+  settled_on (Err fault) settled p = tt
+
+module _ {S : Type 0} {g : Ghosts S} where
+  -- outside a transaction looks leave what holds of the records
+  pub still_told
+      : {T : Type 0} {a b : Held S} {r : Result T Fault} (P : Lists → Type 0) → (IsHonest g a → IsSettled g a) → Asks g a b r
+      → (IsHonest g a → P (seen g lists_of a)) → IsHonest g b → P (seen g lists_of b)
+  still_told P settled p fact it =
+      let same = ((looks_from settled p).unmoved it).same in
+      subst P (sym same.now_is) (fact same.was_honest)
+
 -- an answer that is said in another way
 pub same_answer : {T U E : Type 0} (f : T → U) (r : Result T E) (v w : U) → v ≡ w → IfOk r (λ x. f x ≡ v) → IfOk r (λ x. f x ≡ w)
 same_answer f (Ok x) v w e h = h ∙ e
@@ -215,7 +236,7 @@ module _ {S : Type 0} {g : Ghosts S} {T U : Type 0} where
 module _ {S : Type 0} (g : Ghosts S) where
   -- looks at the tables of a view outside a transaction
   pub view_asks
-      : {T : Type 0} {a b : View S} {r : Result T Fault}
+      : {T : Type 0} {a b : View S g} {r : Result T Fault}
       → (b.tables.ghost_name ≡ a.tables.ghost_name) × (b.host ≡ a.host) × (b.caller ≡ a.caller)
       → (IsHonest g a.tables.now → IsSettled g a.tables.now) → Asks g a.tables.now b.tables.now r
       → lookup.Asks (meaning_of g) a b r
@@ -223,7 +244,7 @@ module _ {S : Type 0} (g : Ghosts S) where
 
   -- the same after a call on the view
   pub view_on
-      : {T U : Type 0} {a b c : View S} {x : T} {r : Result U Fault}
+      : {T U : Type 0} {a b c : View S g} {x : T} {r : Result U Fault}
       → lookup.Asks (meaning_of g) a b (Ok x)
       → (c.tables.ghost_name ≡ b.tables.ghost_name) × (c.host ≡ b.host) × (c.caller ≡ b.caller)
       → (IsHonest g b.tables.now → IsSettled g b.tables.now) → Asks g b.tables.now c.tables.now r
@@ -234,7 +255,7 @@ module _ {S : Type 0} (g : Ghosts S) where
       (looks_on led (looks_from settled q)) (on_store r (fails_on led) (fails_from r q))
 
   -- the project whose record was found, as the caller sees it
-  module _ {a b : View S} {o : Option ProjectRow} (p : lookup.Asks (meaning_of g) a b (Ok o))
+  module _ {a b : View S g} {o : Option ProjectRow} (p : lookup.Asks (meaning_of g) a b (Ok o))
       (value : IsHonest g b.tables.now → option_map (project_of (seen g lists_of a.tables.now)) o ≡ project_in (seen g lists_of a.tables.now) a.host) where
     shown_found
         : (row : ProjectRow) → o ≡ Some row → IsHonest g b.tables.now
@@ -264,17 +285,91 @@ module _ {S : Type 0} (g : Ghosts S) where
     pub maybe_none : {U : Type 0} (f : SeenProject → Option U) → o ≡ None → doubt_of g b.tables.now ≡ 0 → None ≡ option_and_then f (shown g a.tables.now a.host a.caller)
     maybe_none f is d = ap (option_and_then f) (none_shown is (honest g b.tables.now d))
 
-    -- the same of a list
-    pub all_shown
-        : {U Z : Type 0} {h : Held S} {r : Result (Vec U Z) Fault} {v : List U} (f : SeenProject → List U) (row : ProjectRow) → o ≡ Some row
-        → v ≡ f (shown_in (seen g lists_of b.tables.now) row b.caller) → Asks g b.tables.now h r → (IsHonest g h → IfOk r (λ list. list.items ≡ v))
-        → doubt_of g h ≡ 0 → IfOk r (λ list. list.items ≡ option_map_or f (shown g a.tables.now a.host a.caller) [])
-    all_shown {h = h} {r = r} f row is e asks reads d =
-        let it = honest g h d in
-        same_answer (λ list. list.items) r _ _ (e ∙ ap (λ o. option_map_or f o []) (shown_found row is (asks.goes.lasts.was it))) (reads it)
+  -- what was found before a call is found after it
+  module _ {T : Type 0} {a b : View S g} {x : T} (p : lookup.Asks (meaning_of g) a b (Ok x)) (it : IsHonest g b.tables.now) where
+    pub still_sees : (slug : Text) → sees (seen g lists_of a.tables.now) a.host a.caller slug ≡ true → sees (seen g lists_of b.tables.now) b.host b.caller slug ≡ true
+    still_sees slug fact =
+        ap (λ l. sees l b.host b.caller slug) (p.leads.3.unmoved it).same.now_is ∙ ap (λ h. sees (seen g lists_of a.tables.now) h b.caller slug) p.leads.1
+        ∙ ap (λ c. sees (seen g lists_of a.tables.now) a.host c slug) p.leads.2 ∙ fact
 
-    pub all_none : {U : Type 0} {list : List U} (f : SeenProject → List U) → list ≡ [] → o ≡ None → doubt_of g b.tables.now ≡ 0 → list ≡ option_map_or f (shown g a.tables.now a.host a.caller) []
-    all_none f e is d = e ∙ ap (λ o. option_map_or f o []) (none_shown is (honest g b.tables.now d))
+    pub still_languages : (langs : List Text) → langs ≡ languages_in (seen g lists_of a.tables.now) a.host → langs ≡ languages_in (seen g lists_of b.tables.now) b.host
+    still_languages langs fact =
+        fact ∙ sym (ap (λ l. languages_in l b.host) (p.leads.3.unmoved it).same.now_is ∙ ap (languages_in (seen g lists_of a.tables.now)) p.leads.1)
+
+  -- what a call tells after another that was answered
+  pub tells_on
+      : {T U : Type 0} {a b c : View S g} {x : T} {r : Result (Option U) Fault} (f k : SeenProject → Option U)
+      → lookup.Asks (meaning_of g) a b (Ok x) → lookup.Asks (meaning_of g) b c r → lookup.TellsMaybe (meaning_of g) b c r f
+      → (IsHonest g b.tables.now → option_and_then f (shown g a.tables.now a.host a.caller) ≡ option_and_then k (shown g a.tables.now a.host a.caller))
+      → lookup.TellsMaybe (meaning_of g) a c r k
+  tells_on {b = b} {c = c} {r = r} f k p q told same d =
+      let low : doubt_of g b.tables.now ≤ doubt_of g c.tables.now = q.doubt in
+      let was : doubt_of g b.tables.now ≡ 0 = omega (arith, d) in
+      same_answer (λ x. x) r _ _ (ap (option_and_then f) (p.kept was) ∙ same (honest g b.tables.now was)) (told d)
+
+  -- what stands under the host of a view, where a project does
+  module _ {a b : View S g} {o : Option Text} (p : lookup.Asks (meaning_of g) a b (Ok o))
+      (value : IsHonest g b.tables.now → o ≡ host_in (seen g lists_of a.tables.now) a.host) where
+    -- the record of the project
+    shown_under_host
+        : (host : Text) → o ≡ Some host → IsHonest g b.tables.now
+        → (row : ProjectRow) × (row.host ≡ host) × (Some (shown_in (seen g lists_of b.tables.now) row b.caller) ≡ shown g a.tables.now a.host a.caller)
+    shown_under_host host is it =
+        let lists = seen g lists_of a.tables.now in
+        let found = under_host lists a.host host (sym is ∙ value it) in (
+          found.0,
+          found.1,
+          ap (λ l. Some (shown_in l found.0 b.caller)) (p.leads.3.unmoved it).same.now_is
+              ∙ ap (λ c. Some (shown_in lists found.0 c)) p.leads.2
+              ∙ ap (option_map (λ q. sight.seen_project q a.caller)) (sym found.2),
+        )
+
+    -- the slug that was looked up by the host alone
+    pub slug_under_host
+        : (host name : Text) → o ≡ Some host → IsHonest g b.tables.now
+        → option_map (λ v. name) (get (visible_in (seen g lists_of b.tables.now) host b.caller) name) ≡ slug_in (seen g lists_of a.tables.now) a.host a.caller name
+    slug_under_host host name is it =
+        let lists = seen g lists_of a.tables.now in
+        ap (λ l. option_map (λ v. name) (get (visible_in l host b.caller) name)) (p.leads.3.unmoved it).same.now_is
+        ∙ ap (λ c. option_map (λ v. name) (get (visible_in lists host c) name)) p.leads.2
+        ∙ slug_found lists a.host a.caller host name (sym is ∙ value it)
+
+    -- and the languages
+    pub languages_under_host
+        : (host : Text) → o ≡ Some host → IsHonest g b.tables.now
+        → (project_of (seen g lists_of b.tables.now) (row_of host)).languages ≡ languages_in (seen g lists_of a.tables.now) a.host
+    languages_under_host host is it =
+        ap (λ l. (project_of l (row_of host)).languages) (p.leads.3.unmoved it).same.now_is
+        ∙ languages_found (seen g lists_of a.tables.now) a.host host (sym is ∙ value it)
+
+    none_under_host : o ≡ None → IsHonest g b.tables.now → None ≡ shown g a.tables.now a.host a.caller
+    none_under_host is it = ap (option_map (λ q. sight.seen_project q a.caller)) (sym (not_under (seen g lists_of a.tables.now) a.host (sym is ∙ value it)))
+
+    -- what a look at the tables by the host alone tells of it
+    pub maybe_under
+        : {U : Type 0} {h : Held S} {r : Result (Option U) Fault} {v : Option U} (f : SeenProject → Option U) (host : Text) → o ≡ Some host
+        → ((row : ProjectRow) → row.host ≡ host → v ≡ f (shown_in (seen g lists_of b.tables.now) row b.caller)) → Asks g b.tables.now h r → (IsHonest g h → IfOk r (λ x. x ≡ v))
+        → doubt_of g h ≡ 0 → IfOk r (λ x. x ≡ option_and_then f (shown g a.tables.now a.host a.caller))
+    maybe_under {h = h} {r = r} f host is e asks reads d =
+        let it = honest g h d in
+        let found = shown_under_host host is (asks.goes.lasts.was it) in
+        same_answer (λ x. x) r _ _ (e found.0 found.1 ∙ ap (option_and_then f) found.2) (reads it)
+
+    pub maybe_none_under : {U : Type 0} (f : SeenProject → Option U) → o ≡ None → doubt_of g b.tables.now ≡ 0 → None ≡ option_and_then f (shown g a.tables.now a.host a.caller)
+    maybe_none_under f is d = ap (option_and_then f) (none_under_host is (honest g b.tables.now d))
+
+    -- the same of a list
+    pub all_under
+        : {U Z : Type 0} {h : Held S} {r : Result (Vec U Z) Fault} {v : List U} (f : SeenProject → List U) (host : Text) → o ≡ Some host
+        → ((row : ProjectRow) → row.host ≡ host → v ≡ f (shown_in (seen g lists_of b.tables.now) row b.caller)) → Asks g b.tables.now h r → (IsHonest g h → IfOk r (λ list. list.items ≡ v))
+        → doubt_of g h ≡ 0 → IfOk r (λ list. list.items ≡ option_map_or f (shown g a.tables.now a.host a.caller) [])
+    all_under {h = h} {r = r} f host is e asks reads d =
+        let it = honest g h d in
+        let found = shown_under_host host is (asks.goes.lasts.was it) in
+        same_answer (λ list. list.items) r _ _ (e found.0 found.1 ∙ ap (λ o. option_map_or f o []) found.2) (reads it)
+
+    pub all_none_under : {U : Type 0} {list : List U} (f : SeenProject → List U) → list ≡ [] → o ≡ None → doubt_of g b.tables.now ≡ 0 → list ≡ option_map_or f (shown g a.tables.now a.host a.caller) []
+    all_none_under f e is d = e ∙ ap (λ o. option_map_or f o []) (none_under_host is (honest g b.tables.now d))
 
 -- ---- answers
 

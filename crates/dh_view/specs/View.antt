@@ -1,16 +1,17 @@
 -- What a view of the tables shows, and what looks at them leave.
-use Rattle.std.specs.Prelude.{◌≡◌, ◌⊎◌, ℕ, Bool, ◌&&◌, List, Option, Result, is_some, option_and_then, true}
+use Rattle.std.specs.Prelude.{◌≡◌, ◌⊎◌, ℕ, Bool, ◌&&◌, if◌then◌else◌, List, [], Option, None, Result, OnOk, is_some, true, false}
 use Rattle.std.proofs.Common.{inl, inr, ◌∙◌, sym}
 use Rattle.std.proofs.lemmas.Bool.{cases_Bool}
 use Rattle.std.specs.List.{list_any, AllByRecursion}
 use Rattle.std.specs.Str.{bytes_eq}
-use Rattle.std.specs.FinMap.{FinMap, get}
+use Rattle.std.specs.FinMap.{FinMap}
 use Rattle.sqlite_trees.specs.View.{doubt}
 use Rattle.sqlite_trees.specs.declared.store.Store.{Ghosts}
 use Rattle.sqlite.specs.State.{HasCleanDisk}
 use Rattle.sqlite.specs.Held.{Held, state}
 use Rattle.dh_rows.specs.Calls.{Goes, IsBlamed, IsHonest, IsSame, Lasts, Leaves, Refuses, Stays, seen}
 use Rattle.dh_versions.specs.declared.version.Version.{Version}
+use Rattle.dh_lookup.specs.Lookup as lookup
 use Rattle.dh_lookup.specs.Lookup.{Meaning}
 use Rattle.dh_lookup.specs.SeenProject.{resolved}
 use Rattle.dh_faults.specs.declared.fault.Fault.{Fault}
@@ -19,13 +20,14 @@ use Rattle.dh_records.specs.declared.records.VersionRow.{VersionRow}
 use Rattle.dh_records.specs.declared.records.HeldRow.{HeldRow}
 use Rattle.dh_records.specs.declared.records.ProjectRow.{ProjectRow}
 use Rattle.dh_world.specs.declared.caller.Caller.{Caller}
-use Rattle.dh_world.specs.World.{Text, text_cmp, Project}
+use Rattle.dh_world.specs.World.{Text, text_cmp}
 use Rattle.dh_world.specs.Visibility.{live_pass, holds, may_see}
 use Rattle.dh_world.specs.Seen as sight
-use Rattle.dh_schema.specs.Calling.{Blames, Learns}
+use Rattle.dh_schema.specs.Calling.{Blames, IsSettled, Learns}
 use Rattle.dh_schema.specs.InTurn.{blamed_before, lasts_none, lasts_on, same_none, same_on, shut_before}
 use Rattle.dh_records.specs.Lists.{Lists, project_of, world_of}
 use Rattle.dh_schema.specs.Tables.{lists_of}
+pub use Rattle.dh_view.specs.Remembered.{has_project, languages_in, project_in, sees, slug_in}
 use Rattle.dh_view.specs.declared.view.View.{View}
 
 -- ---- what a caller sees of the records
@@ -47,22 +49,28 @@ abbrev pub ShowsAs : List VersionRow → List HeldRow → (Text → Bool) → Ty
 ShowsAs rows grants held =
     AllByRecursion (λ r. is_shown grants r ≡ may_see r.version (held r.version.slug)) rows
 
--- the project under a host
-abbrev pub project_in : Lists → Option Text → Option Project
-project_in l host = option_and_then (get (world_of l)) host
+-- the host, where a project stands under it
+abbrev pub host_in : Lists → Option Text → Option Text
+host_in l host = if has_project l host then host else None
 
 -- the same as the caller sees it
 abbrev pub shown_under : Lists → Option Text → Caller → Option SeenProject
 shown_under l host caller = sight.seen (world_of l) host caller
 
-module _ (l : Lists) (row : ProjectRow) (caller : Caller) where
+-- a record of a host that says no more: its lists are what stands under the host
+abbrev pub row_of : Text → ProjectRow
+row_of host = record { host = host; main = []; branch = []; wkey = []; new_private = false }
+
+module _ (l : Lists) (host : Text) (caller : Caller) where
   -- the caller's live pass holds the version
   abbrev pub held_in : Text → Bool
-  held_in slug = holds (project_of l row) (live_pass (project_of l row) caller) slug
+  held_in slug =
+      holds (project_of l (row_of host)) (live_pass (project_of l (row_of host)) caller) slug
 
   abbrev pub visible_in : FinMap text_cmp Version
-  visible_in = sight.visible_versions (project_of l row) caller
+  visible_in = sight.visible_versions (project_of l (row_of host)) caller
 
+module _ (l : Lists) (row : ProjectRow) (caller : Caller) where
   -- the project as the caller sees it
   abbrev pub shown_in : SeenProject
   shown_in = sight.seen_project (project_of l row) caller
@@ -120,7 +128,7 @@ module _ {S : Type 0} (g : Ghosts S) where
     Reads value = Obtains (λ l read. read ≡ value l)
 
   -- How a view is read: by what its tables show under its host to its caller, who both stay.
-  abbrev pub meaning_of : Meaning (View S)
+  abbrev pub meaning_of : Meaning (View S g)
   meaning_of = record {
     content = λ v. shown v.tables.now v.host v.caller;
     doubt = λ v. doubt_of v.tables.now;
@@ -129,6 +137,15 @@ module _ {S : Type 0} (g : Ghosts S) where
     keeps = λ a b. IsHonest g b.tables.now → IsUnmoved a.tables.now b.tables.now;
     fails = λ a b. Fails a.tables.now b.tables.now;
   }
+
+  -- What looks at a view's tables outside a transaction leave, whose answer and the records before
+  -- stand so to each other.
+  pub record LooksUp
+      {T : Type 0} (old new : View S g) (result : Result T Fault) (fact : Lists → T → Type 0)
+      : Type 0 where
+    pub asks : lookup.Asks meaning_of old new result
+    pub settled : OnOk result (IsHonest g new.tables.now → IsSettled g new.tables.now)
+    pub value : Learns g old.tables.now new.tables.now result fact
 
   pub unmoved_none : (h : Held S) → IsHonest g h → IsUnmoved h h
   unmoved_none h it = record {

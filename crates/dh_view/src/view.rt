@@ -1,39 +1,41 @@
 //! What a caller sees of the tables, as a `Lookup`.
 
-ghost use Rattle.std.specs.Prelude.{◌≡◌, ◌↔◌, OnOk};
-ghost use Rattle.std.specs.Option.{option_map};
-ghost use Rattle.std.proofs.Common.{◌∙◌, refl};
-ghost use Rattle.sqlite.specs.Held.{Held};
-ghost use Rattle.dh_rows.specs.Calls.{IsHonest};
-ghost use Rattle.dh_lookup.specs.Lookup.{Asks, TellsMaybe};
-ghost use Rattle.dh_redirects.specs.FirstResult.{first_result};
-ghost use Rattle.dh_records.specs.Lists.{project_of};
-ghost use Rattle.dh_schema.specs.Calling.{IsSettled, Learns};
-ghost use Rattle.dh_view.specs.View.{doubt_of, fails_on, looks_none, looks_on, meaning_of, project_in, unmoved_none, unmoved_on};
+ghost use Rattle.std.specs.Prelude.{◌≡◌};
+ghost use Rattle.dh_view.specs.Remembered.{AreLanguages, IsKnown, IsSeen};
 
 mod aliases;
 mod defaults;
-mod pages;
+mod languages;
+mod looking;
 mod redirects;
 mod versions;
 
-use dh_lookup::{Fault, Found, Lookup, Named, Page};
-use dh_paths::{HostName, Lang, Slug, Text};
+use dh_lookup::Items;
+use dh_paths::{HostName, Lang, Slug};
 use dh_records::ProjectRow;
-use dh_redirects::{Asked, Location};
 use dh_store::Tables;
-use dh_versions::Version;
 use dh_world::Caller;
+pub use looking::doubt_is_of_the_store;
 use sqlite::Alter;
 use std::alloc::Global;
 
 /// The project under a host, as a caller sees it. Within a transaction each look answers `Store`.
 /// Outside one a look does so only where the store counted a fault in it or was shut before it.
+/// What a look was told once the tables are not asked again, where there was memory to keep it.
 #[derive(Drop)]
 pub struct View<'a, S: Alter> {
     tables: &'a mut Tables<S>,
     host: Option<HostName>,
     caller: Caller,
+    /// Whether a project was found under the host.
+    known: bool,
+    /// The slug of the version that was found last, which the caller sees.
+    slug: Option<Slug>,
+    /// The languages, once they were read.
+    langs: Option<Items<Lang>>,
+    ghost is_known: { IsKnown S.Store tables.now host known },
+    ghost is_seen: { IsSeen S.Store tables.now host caller slug },
+    ghost are_languages: { AreLanguages S.Store tables.now host langs },
 }
 
 impl<'a, S: Alter> View<'a, S> {
@@ -48,6 +50,9 @@ impl<'a, S: Alter> View<'a, S> {
             tables,
             host,
             caller,
+            known: false,
+            slug: None,
+            langs: None,
         }
     }
 
@@ -60,40 +65,31 @@ impl<'a, S: Alter> View<'a, S> {
             tables,
             host: _host,
             caller: _caller,
+            known: _known,
+            slug: _slug,
+            langs: _langs,
         } = self;
         tables
     }
+}
 
-    /// The record of the project, where there is one under the host.
-    fn project(&mut self, alloc: Global) -> Found<ProjectRow>
-        ensures asks { Asks (meaning_of S.Store) self.old self.new result }
-        ensures settled { OnOk result
-            (IsHonest S.Store self.new.tables.now → IsSettled S.Store self.new.tables.now) }
-        ensures value { Learns S.Store self.old.tables.now self.new.tables.now result
-            (λ l o. option_map (project_of l) o ≡ project_in l self.old.host) }
-    {
-        if !self.tables.is_settled() {
-            return Err(Fault::Store);
-        }
-        match &self.host {
-            Some(host) => self.tables.project(alloc, host),
-            None => Ok(None),
-        }
-    }
+/// What stands under a host, with a caller; looks at it take memory from the allocator.
+#[derive(Clone, Copy)]
+struct HostView<'a> {
+    alloc: Global,
+    host: &'a HostName,
+    caller: &'a Caller,
+}
 
-    /// Where the first redirect leads that has a result: of all, or of those with force alone.
-    fn redirect(&mut self, alloc: Global, forced: bool, asked: &Asked) -> Found<Location>
-        ensures asks { Asks (meaning_of S.Store) self.old self.new result }
-        ensures value { TellsMaybe (meaning_of S.Store) self.old self.new result
-            (λ p. first_result forced p.redirects asked.now) }
+impl<'a> HostView<'a> {
+    fn new(alloc: Global, host: &'a HostName, caller: &'a Caller) -> HostView<'a>
+        ensures host { result.host.now ≡ host.now }
+        ensures caller { result.caller.now ≡ caller.now }
     {
-        match self.project(alloc)? {
-            Some(project) => ProjectView::new(alloc, &project, &self.caller).redirected(
-                self.tables,
-                forced,
-                asked,
-            ),
-            None => Ok(None),
+        HostView {
+            alloc,
+            host,
+            caller,
         }
     }
 }
@@ -117,92 +113,12 @@ impl<'a> ProjectView<'a> {
             caller,
         }
     }
-}
 
-/// The doubt of a view is 0 exactly while its store is honest: its disk has returned what was
-/// written, and no fault has shut it.
-pub fn doubt_is_of_the_store<S: Alter>()
-    ensures { (h : Held S) → doubt_of S.Store h ≡ 0 ↔ IsHonest S.Store h }
-{}
-
-impl<'a, S: Alter> Lookup for View<'a, S> {
-    ghost meaning = { meaning_of S.Store };
-
-    ghost leads_at = { λ a. (refl, refl, refl, looks_none _ a.tables.now) };
-
-    ghost keeps_at = { λ a it. unmoved_none _ a.tables.now it };
-
-    ghost leads_on = { λ a b c p q.
-        (q.0 ∙ p.0, q.1 ∙ p.1, q.2 ∙ p.2, looks_on p.3 q.3) };
-
-    ghost keeps_on = { λ a b c p q it. unmoved_on (p (q it).same.was_honest) (q it) };
-
-    ghost fails_on = { λ a b c p it. fails_on p.3 it };
-
-    fn known(&mut self) -> Result<bool, Fault> {
-        if !self.tables.is_settled() {
-            return Err(Fault::Store);
-        }
-        match &self.host {
-            Some(host) => self.tables.has_project(host),
-            None => Ok(false),
-        }
-    }
-
-    fn name(&mut self, alloc: Global, name: &str) -> Found<Named> {
-        match self.project(alloc)? {
-            Some(project) => ProjectView::new(alloc, &project, &self.caller).version_for(
-                self.tables,
-                name,
-            ),
-            None => Ok(None),
-        }
-    }
-
-    fn default(&mut self, alloc: Global) -> Found<Text> {
-        match self.project(alloc)? {
-            Some(project) => ProjectView::new(alloc, &project, &self.caller).default_name(
-                self.tables,
-            ),
-            None => Ok(None),
-        }
-    }
-
-    fn langs(&mut self, alloc: Global) -> Result<Vec<Lang>, Fault> {
-        match self.project(alloc)? {
-            Some(project) => ProjectView::new(alloc, &project, &self.caller).all_langs(self.tables),
-            None => Ok(Vec::new(alloc)),
-        }
-    }
-
-    fn page(&mut self, alloc: Global, lang: &Lang, slug: &Slug, path: &str) -> Found<Page> {
-        match self.project(alloc)? {
-            Some(project) => {
-                ProjectView::new(alloc, &project, &self.caller).visible_page(
-                    self.tables,
-                    lang,
-                    slug,
-                    path,
-                )
-            }
-            None => Ok(None),
-        }
-    }
-
-    fn forced_redirect(&mut self, alloc: Global, asked: &Asked) -> Found<Location> {
-        self.redirect(alloc, true, asked)
-    }
-
-    fn not_found_redirect(&mut self, alloc: Global, asked: &Asked) -> Found<Location> {
-        self.redirect(alloc, false, asked)
-    }
-
-    fn listing(&mut self, alloc: Global) -> Result<Vec<Version>, Fault> {
-        match self.project(alloc)? {
-            Some(project) => ProjectView::new(alloc, &project, &self.caller).all_visible(
-                self.tables,
-            ),
-            None => Ok(Vec::new(alloc)),
-        }
+    /// The same by the host alone.
+    fn under(&self) -> HostView<'_>
+        ensures host { result.host.now ≡ self.now.project.now.host }
+        ensures caller { result.caller.now ≡ self.now.caller.now }
+    {
+        HostView::new(self.alloc, &self.project.host, self.caller)
     }
 }

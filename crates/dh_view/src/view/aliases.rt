@@ -30,7 +30,7 @@ impl ProjectView<'_> {
         ensures { Reads S.Store tables.old tables.new result
             (λ l. alias_to (shown_in l self.now.project.now self.now.caller.now).latest) }
     {
-        let versions = self.all_visible(tables)?;
+        let versions = self.under().all_visible(tables)?;
         let place = latest(versions.as_slice(), &self.project.branch);
         Ok(alias_at(versions, place))
     }
@@ -39,12 +39,12 @@ impl ProjectView<'_> {
         ensures { Reads S.Store tables.old tables.new result
             (λ l. alias_to (shown_in l self.now.project.now self.now.caller.now).stable) }
     {
-        let versions = self.all_visible(tables)?;
+        let versions = self.under().all_visible(tables)?;
         let place = stable(self.alloc, versions.as_slice())?;
         Ok(alias_at(versions, place))
     }
 
-    fn alias_named<S: Alter>(&self, tables: &mut Tables<S>, name: &str) -> Found<Named>
+    pub fn alias_named<S: Alter>(&self, tables: &mut Tables<S>, name: &str) -> Found<Named>
         ensures { Reads S.Store tables.old tables.new result
             (λ l. alias_of (shown_in l self.now.project.now self.now.caller.now) name.now) }
     {
@@ -60,7 +60,7 @@ impl ProjectView<'_> {
         ensures { Reads S.Store tables.old tables.new result
             (λ l. resolved (shown_in l self.now.project.now self.now.caller.now) name.now) }
     {
-        match self.visible_version(tables, name)? {
+        match self.under().visible_version(tables, name)? {
             Some(version) => Ok(Some(Named {
                 slug: version.slug,
                 alias: false,

@@ -2,14 +2,14 @@
 
 ghost use Rattle.std.specs.Prelude.{◌≡◌, false, map, filter, [], IfOk};
 ghost use Rattle.std.specs.List.{list_any};
-ghost use Rattle.std.specs.Option.{option_map_or};
+ghost use Rattle.std.specs.Option.{option_map, option_map_or};
 ghost use Rattle.std.specs.FinMap.{get, keys, values};
 ghost use Rattle.dh_records.specs.Lists.{project_of};
 ghost use Rattle.dh_view.specs.View as view;
-ghost use Rattle.dh_view.specs.View.{Obtains, Reads, OpensAs, ShowsAs, held_in, is_shown, visible_in};
+ghost use Rattle.dh_view.specs.View.{Obtains, Reads, OpensAs, ShowsAs, held_in, is_shown, row_of, visible_in};
 ghost use Rattle.dh_world.specs.Visibility as visibility;
 
-use crate::view::ProjectView;
+use crate::view::HostView;
 use dh_lookup::{Fault, Found};
 use dh_paths::{Slug, Token};
 use dh_records::{HeldRow, PassRow, VersionRow};
@@ -85,27 +85,27 @@ fn versions_of(alloc: Global, rows: Vec<VersionRow>) -> Result<Vec<Version>, All
     rows.into_iter().map(|row| row.version).collect(alloc)
 }
 
-impl ProjectView<'_> {
-    /// Whether a pass is one of the project's that has not ended when the caller reads.
+impl HostView<'_> {
+    /// Whether a pass is one of the host's that has not ended when the caller reads.
     fn is_live<S: Alter>(&self, tables: &mut Tables<S>, pass: &Token) -> Result<bool, Fault>
         ensures { Reads S.Store tables.old tables.new result
-            (λ l. visibility.is_live (project_of l self.now.project.now)
+            (λ l. visibility.is_live (project_of l (row_of self.now.host.now))
             self.now.caller.now.moment pass.now) }
     {
-        let found = tables.pass(self.alloc, &self.project.host, pass)?;
+        let found = tables.pass(self.alloc, self.host, pass)?;
         Ok(is_live_at(self.caller.moment, &found))
     }
 
     /// Whether the caller's pass is live, and holds the version.
     fn is_held<S: Alter>(&self, tables: &mut Tables<S>, slug: &Slug) -> Result<bool, Fault>
         ensures { Reads S.Store tables.old tables.new result
-            (λ l. held_in l self.now.project.now self.now.caller.now slug.now) }
+            (λ l. held_in l self.now.host.now self.now.caller.now slug.now) }
     {
         match &self.caller.pass {
             Some(pass) => {
                 let live = self.is_live(tables, pass)?;
                 if live {
-                    tables.held(&self.project.host, pass, slug)
+                    tables.held(self.host, pass, slug)
                 } else {
                     Ok(false)
                 }
@@ -118,7 +118,7 @@ impl ProjectView<'_> {
     fn is_seen<S: Alter>(&self, tables: &mut Tables<S>, version: &Version) -> Result<bool, Fault>
         ensures { Reads S.Store tables.old tables.new result
             (λ l. visibility.may_see version.now
-            (held_in l self.now.project.now self.now.caller.now version.now.slug)) }
+            (held_in l self.now.host.now self.now.caller.now version.now.slug)) }
     {
         if !version.private {
             return Ok(version.active);
@@ -130,10 +130,21 @@ impl ProjectView<'_> {
     /// The visible version with this slug.
     pub fn visible_version<S: Alter>(&self, tables: &mut Tables<S>, name: &str) -> Found<Version>
         ensures { Reads S.Store tables.old tables.new result
-            (λ l. get (visible_in l self.now.project.now self.now.caller.now) name.now) }
+            (λ l. get (visible_in l self.now.host.now self.now.caller.now) name.now) }
     {
-        match tables.version(self.alloc, &self.project.host, name)? {
+        match tables.version(self.alloc, self.host, name)? {
             Some(row) => Ok(self.is_seen(tables, &row.version)?.then_some(row.version)),
+            None => Ok(None),
+        }
+    }
+
+    /// The slug, where there is a visible version with it.
+    pub fn visible_slug<S: Alter>(&self, tables: &mut Tables<S>, name: &str) -> Found<Slug>
+        ensures { Reads S.Store tables.old tables.new result (λ l. option_map (λ _. name.now)
+            (get (visible_in l self.now.host.now self.now.caller.now) name.now)) }
+    {
+        match self.visible_version(tables, name)? {
+            Some(version) => Ok(Some(version.slug)),
             None => Ok(None),
         }
     }
@@ -141,13 +152,13 @@ impl ProjectView<'_> {
     /// What the caller's pass holds, if it is live.
     fn grants_of<S: Alter>(&self, tables: &mut Tables<S>) -> Result<Vec<HeldRow>, Fault>
         ensures { Obtains S.Store tables.old tables.new result
-            (λ l grants. OpensAs grants.items (held_in l self.now.project.now self.now.caller.now)) }
+            (λ l grants. OpensAs grants.items (held_in l self.now.host.now self.now.caller.now)) }
     {
         match &self.caller.pass {
             Some(pass) => {
                 let live = self.is_live(tables, pass)?;
                 if live {
-                    tables.held_by(self.alloc, &self.project.host, pass)
+                    tables.held_by(self.alloc, self.host, pass)
                 } else {
                     Ok(no_grants(self.alloc))
                 }
@@ -165,7 +176,7 @@ impl ProjectView<'_> {
     ) -> Result<Vec<HeldRow>, Fault>
         ensures { Obtains S.Store tables.old tables.new result
             (λ l grants. ShowsAs rows.now grants.items
-            (held_in l self.now.project.now self.now.caller.now)) }
+            (held_in l self.now.host.now self.now.caller.now)) }
     {
         if any_private(rows) {
             self.grants_of(tables)
@@ -177,11 +188,11 @@ impl ProjectView<'_> {
     /// The visible versions in the order of their slugs.
     pub fn all_visible<S: Alter>(&self, tables: &mut Tables<S>) -> Result<Vec<Version>, Fault>
         ensures { Obtains S.Store tables.old tables.new result
-            (λ l v. (v.items ≡ values (visible_in l self.now.project.now self.now.caller.now))
+            (λ l v. (v.items ≡ values (visible_in l self.now.host.now self.now.caller.now))
             × (map (λ x. x.slug) v.items
-            ≡ keys (visible_in l self.now.project.now self.now.caller.now))) }
+            ≡ keys (visible_in l self.now.host.now self.now.caller.now))) }
     {
-        let rows = tables.versions(self.alloc, &self.project.host)?;
+        let rows = tables.versions(self.alloc, self.host)?;
         let grants = self.grants_for(tables, rows.as_slice())?;
         Ok(versions_of(self.alloc, only_visible(rows, grants.as_slice()))?)
     }

@@ -1,4 +1,4 @@
-use Rattle.std.proofs.Common.{rules, ◌∙◌, None, Ok, refl, sym, arith}
+use Rattle.std.proofs.Common.{◌∙◌, None, Ok, refl, sym, arith}
 use Rattle.dh_rows.specs.Calls.{seen}
 use Rattle.dh_schema.specs.Tables.{lists_of}
 use Rattle.dh_view.specs.View.{resolves}

@@ -1,9 +1,10 @@
 use Rattle.std.proofs.Common.{rules, ◌∙◌, ap, map, slice_get}
 use Rattle.std.specs.Option.{option_map, option_and_then}
 use Rattle.dh_versions.specs.Aliases.{stable_of}
+use Rattle.std.specs.FinMap.{keys, values}
 use Rattle.dh_rows.specs.Calls.{seen}
 use Rattle.dh_schema.specs.Tables.{lists_of}
-use Rattle.dh_view.proofs.Shown.{stable_is, alias_name}
+use Rattle.dh_view.proofs.Shown.{stable_is, alias_name, visible_under}
 use Rattle.dh_view.proofs.view.ProjectView.stable_named.Goals as goal
 
 pub returns : goal.returns
@@ -11,5 +12,5 @@ returns g c = record {
   asks = search rules;
   value = λ honest.
       c.alias_at.ensures ∙ ap (λ place. option_map alias_name (option_and_then (slice_get (map (λ v. v.slug) c.in_ok-versions.versions.items)) place)) (c.in_ok-place.ensures.value ∙ ap (λ vs. stable_of vs) c.as_slice.ensures.value)
-      ∙ stable_is (seen g.S.Store lists_of c.args.tables.now) c.args.self.now.project.now c.args.self.now.caller.now c.in_ok-versions.versions.items (c.in_ok-versions.ensures.value honest).0 (c.in_ok-versions.ensures.value honest).1;
+      ∙ stable_is (seen g.S.Store lists_of c.args.tables.now) c.args.self.now.project.now c.args.self.now.caller.now c.in_ok-versions.versions.items ((c.in_ok-versions.ensures.value honest).0 ∙ ap values (visible_under (seen g.S.Store lists_of c.args.tables.now) c.args.self.now.project.now c.args.self.now.caller.now c.under.result.host.now c.under.result.caller.now c.under.ensures.host c.under.ensures.caller)) ((c.in_ok-versions.ensures.value honest).1 ∙ ap keys (visible_under (seen g.S.Store lists_of c.args.tables.now) c.args.self.now.project.now c.args.self.now.caller.now c.under.result.host.now c.under.result.caller.now c.under.ensures.host c.under.ensures.caller));
 }

@@ -7,9 +7,11 @@ use Rattle.dh_view.proofs.Shown.{found_is}
 use Rattle.dh_view.proofs.ViewLemmas.{asked, through, view_asks}
 use Rattle.dh_view.proofs.view.View.project.Goals as goal
 
-pub returns-in-Some-clause-asks : goal.returns-in-Some-clause-asks
-returns-in-Some-clause-asks g c = view_asks g.S.Store (refl, refl, refl) (search rules) (asked c.project.ensures.asks)
-
-pub returns-in-Some-clause-value : goal.returns-in-Some-clause-value
-returns-in-Some-clause-value g c it =
-    through (λ o. o) (option_map (project_of (seen g.S.Store lists_of c.args.self.now.tables.now))) c.project.result _ _ (found_is (seen g.S.Store lists_of c.args.self.now.tables.now) c.args.self.now.host c.in-Some.host c.in-Some.is) (c.project.ensures.value it)
+pub returns-in-Some : goal.returns-in-Some
+returns-in-Some g c = record {
+  asks = view_asks g.S.Store (refl, refl, refl) (search rules) (asked c.project.ensures.asks);
+  settled = search rules;
+  value = λ it.
+      through (λ o. o) (option_map (project_of (seen g.S.Store lists_of c.args.self.now.tables.now))) c.project.result _ _
+      (found_is (seen g.S.Store lists_of c.args.self.now.tables.now) c.args.self.now.host c.in-Some.host c.in-Some.is) (c.project.ensures.value it);
+}

@@ -1,0 +1,13 @@
+use Rattle.std.proofs.Common.{refl}
+use Rattle.dh_view.proofs.ViewLemmas.{same_answer, settled_on, slug_under_host, view_on}
+use Rattle.dh_view.proofs.view.View.ask_slug.Goals as goal
+
+pub returns-in-Some : goal.returns-in-Some
+returns-in-Some g c = record {
+  asks = view_on g.S.Store c.in_ok-host.ensures.asks (refl, refl, refl) c.in_ok-host.ensures.settled c.visible_slug.ensures.asks;
+  settled = settled_on c.visible_slug.result c.in_ok-host.ensures.settled c.visible_slug.ensures.asks;
+  value = λ it.
+      same_answer (λ o. o) c.visible_slug.result _ _
+      (slug_under_host g.S.Store c.in_ok-host.ensures.asks c.in_ok-host.ensures.value c.in-Some.host c.args.name.now c.in-Some.is (c.visible_slug.ensures.asks.goes.lasts.was it))
+      ((rw (c.new.ensures.host, c.new.ensures.caller) at c.visible_slug.ensures.value) it);
+}

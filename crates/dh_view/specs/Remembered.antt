@@ -1,0 +1,46 @@
+-- What a view remembers of what the tables told it. It names no type of this crate, whose ghost fields cite it.
+use Rattle.std.specs.Prelude.{◌≡◌, Bool, true, false, if◌then◌else◌, List, [], Option, Some, None, is_some, option_and_then}
+use Rattle.std.specs.Option.{option_map_or}
+use Rattle.std.specs.FinMap.{get}
+use Rattle.sqlite_trees.specs.declared.store.Store.{Ghosts}
+use Rattle.sqlite.specs.Held.{Held}
+use Rattle.dh_records.specs.Lists.{Lists, world_of}
+use Rattle.dh_schema.specs.Calling.{HasRecords}
+use Rattle.dh_world.specs.declared.caller.Caller.{Caller}
+use Rattle.dh_world.specs.World.{Text, Project}
+use Rattle.dh_world.specs.Visibility.{is_visible}
+
+-- the project under a host
+abbrev pub project_in : Lists → Option Text → Option Project
+project_in l host = option_and_then (get (world_of l)) host
+
+-- whether there is one
+abbrev pub has_project : Lists → Option Text → Bool
+has_project l host = is_some (project_in l host)
+
+-- the caller sees a version of it with this slug
+abbrev pub sees : Lists → Option Text → Caller → Text → Bool
+sees l host caller slug = option_map_or (λ p. is_visible p caller slug) (project_in l host) false
+
+-- the slug, where he does
+abbrev pub slug_in : Lists → Option Text → Caller → Text → Option Text
+slug_in l host caller slug = if sees l host caller slug then Some slug else None
+
+-- its languages
+abbrev pub languages_in : Lists → Option Text → List Text
+languages_in l host = option_map_or (λ p. p.languages) (project_in l host) []
+
+module _ {S : Type 0} (g : Ghosts S) (h : Held S) (host : Option Text) where
+  -- a project that was found stands
+  abbrev pub IsKnown : Bool → Type 0
+  IsKnown known = known ≡ true → HasRecords g h (λ l. has_project l host ≡ true)
+
+  -- a version that was found is one that the caller sees
+  abbrev pub IsSeen : Caller → Option Text → Type 0
+  IsSeen caller found =
+      (slug : Text) → found ≡ Some slug → HasRecords g h (λ l. sees l host caller slug ≡ true)
+
+  -- languages that were read are those of the project
+  abbrev pub AreLanguages : Option (List Text) → Type 0
+  AreLanguages read =
+      (langs : List Text) → read ≡ Some langs → HasRecords g h (λ l. langs ≡ languages_in l host)

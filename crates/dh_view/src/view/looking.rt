@@ -1,0 +1,329 @@
+//! The looks of a view. Each fact that a view remembers is asked of the tables where it is not remembered yet.
+
+ghost use Rattle.std.specs.Prelude.{◌≡◌, ◌↔◌, IfOk, IfSome, IsTrue, OnOk, is_some};
+ghost use Rattle.std.specs.Option.{option_map};
+ghost use Rattle.std.proofs.Common.{◌∙◌, refl};
+ghost use Rattle.sqlite.specs.Held.{Held};
+ghost use Rattle.dh_rows.specs.Calls.{IsHonest};
+ghost use Rattle.dh_lookup.specs.Lookup.{Asks, TellsMaybe};
+ghost use Rattle.dh_lookup.specs.SeenProject.{alias_of};
+ghost use Rattle.dh_redirects.specs.FirstResult.{first_result};
+ghost use Rattle.dh_records.specs.Lists.{project_of};
+ghost use Rattle.dh_schema.specs.Calling.{HasRecords, IsSettled};
+ghost use Rattle.dh_world.specs.Seen as sight;
+ghost use Rattle.dh_view.specs.Remembered.{IsSeen};
+ghost use Rattle.dh_view.specs.View as view;
+ghost use Rattle.dh_view.specs.View.{LooksUp, doubt_of, fails_on, host_in, looks_none, looks_on, meaning_of, unmoved_none, unmoved_on};
+
+use super::{HostView, ProjectView, View};
+use dh_lookup::{Fault, Found, Items, Lookup, Named, Page};
+use dh_paths::{HostName, Lang, Slug, Text};
+use dh_records::ProjectRow;
+use dh_redirects::{Asked, Location};
+use dh_versions::Version;
+use sqlite::Alter;
+use std::alloc::{AllocError, Global};
+
+// ---- the project
+
+impl<'a, S: Alter> View<'a, S> {
+    /// Whether there is a project under the host, asked of the tables.
+    fn ask_known(&mut self) -> Result<bool, Fault>
+        ensures { LooksUp S.Store self.old self.new result
+            (λ l o. o ≡ view.has_project l self.old.host) }
+    {
+        if !self.tables.is_settled() {
+            return Err(Fault::Store);
+        }
+        match &self.host {
+            Some(host) => self.tables.has_project(host),
+            None => Ok(false),
+        }
+    }
+
+    /// Whether there is one; the tables are asked until there is.
+    fn has_project(&mut self) -> Result<bool, Fault>
+        ensures { LooksUp S.Store self.old self.new result
+            (λ l o. o ≡ view.has_project l self.old.host) }
+    {
+        if self.known && self.tables.is_settled() {
+            return Ok(true);
+        }
+        self.known = self.ask_known()?;
+        Ok(self.known)
+    }
+
+    /// The host, where a project stands under it.
+    fn opened(&mut self, alloc: Global) -> Found<HostName>
+        ensures { LooksUp S.Store self.old self.new result (λ l o. o ≡ host_in l self.old.host) }
+    {
+        if !self.has_project()? {
+            return Ok(None);
+        }
+        match &self.host {
+            Some(host) => Ok(Some(host.try_copy(alloc)?)),
+            None => Ok(None),
+        }
+    }
+
+    /// The record of the project, where there is one under the host.
+    fn project(&mut self, alloc: Global) -> Found<ProjectRow>
+        ensures { LooksUp S.Store self.old self.new result
+            (λ l o. option_map (project_of l) o ≡ view.project_in l self.old.host) }
+    {
+        if !self.tables.is_settled() {
+            return Err(Fault::Store);
+        }
+        match &self.host {
+            Some(host) => self.tables.project(alloc, host),
+            None => Ok(None),
+        }
+    }
+}
+
+// ---- the version that a name stands for
+
+fn is_alias(name: &str) -> bool
+    ensures { result ≡ sight.is_alias name.now }
+{
+    name == "latest" || name == "stable"
+}
+
+impl<'a, S: Alter> View<'a, S> {
+    /// The slug of the version that was found last, if it is this one.
+    fn noted_slug(&self, alloc: Global, name: &str) -> Result<Option<Slug>, AllocError>
+        ensures same { IfOk result (λ o. IfSome o (λ slug. slug ≡ name.now)) }
+        ensures seen { IfOk result
+            (IsSeen S.Store self.now.tables.now self.now.host self.now.caller) }
+        ensures settled { IfOk result (λ o. IsTrue (is_some o)
+            → IsHonest S.Store self.now.tables.now → IsSettled S.Store self.now.tables.now) }
+    {
+        match &self.slug {
+            Some(slug) if slug.as_str() == name && self.tables.is_settled() => {
+                Ok(Some(slug.try_copy(alloc)?))
+            }
+            _ => Ok(None),
+        }
+    }
+
+    /// Keeps the slug of a version that was found, where there is one and memory for it.
+    fn note_slug(&mut self, alloc: Global, found: &Option<Slug>)
+        requires seen { IsSeen S.Store self.old.tables.now self.old.host self.old.caller found.now }
+        ensures same { self.new.tables.ghost_name ≡ self.old.tables.ghost_name }
+        ensures now { self.new.tables.now ≡ self.old.tables.now }
+        ensures host { self.new.host ≡ self.old.host }
+        ensures caller { self.new.caller ≡ self.old.caller }
+    {
+        if let Some(slug) = found {
+            self.slug = slug.try_copy(alloc).ok();
+        }
+    }
+
+    /// The slug, where the caller sees a version with it, asked of the tables.
+    fn ask_slug(&mut self, alloc: Global, name: &str) -> Found<Slug>
+        ensures { LooksUp S.Store self.old self.new result
+            (λ l o. o ≡ view.slug_in l self.old.host self.old.caller name.now) }
+    {
+        match self.opened(alloc)? {
+            Some(host) => {
+                HostView::new(alloc, &host, &self.caller).visible_slug(self.tables, name)
+            }
+            None => Ok(None),
+        }
+    }
+
+    /// The same, which is kept.
+    fn find_slug(&mut self, alloc: Global, name: &str) -> Found<Slug>
+        ensures { LooksUp S.Store self.old self.new result
+            (λ l o. o ≡ view.slug_in l self.old.host self.old.caller name.now) }
+    {
+        let found = self.ask_slug(alloc, name)?;
+        self.note_slug(alloc, &found);
+        Ok(found)
+    }
+
+    /// The slug, where the caller sees a version with it.
+    fn seen_slug(&mut self, alloc: Global, name: &str) -> Found<Slug>
+        ensures { LooksUp S.Store self.old self.new result
+            (λ l o. o ≡ view.slug_in l self.old.host self.old.caller name.now) }
+    {
+        match self.noted_slug(alloc, name)? {
+            Some(slug) => Ok(Some(slug)),
+            None => self.find_slug(alloc, name),
+        }
+    }
+
+    /// The alias of that name.
+    fn alias(&mut self, alloc: Global, name: &str) -> Found<Named>
+        ensures asks { Asks (meaning_of S.Store) self.old self.new result }
+        ensures value { TellsMaybe (meaning_of S.Store) self.old self.new result
+            (λ p. alias_of p name.now) }
+    {
+        if !is_alias(name) {
+            return Ok(None);
+        }
+        match self.project(alloc)? {
+            Some(project) => {
+                ProjectView::new(alloc, &project, &self.caller).alias_named(self.tables, name)
+            }
+            None => Ok(None),
+        }
+    }
+}
+
+// ---- the languages
+
+fn copy_langs(alloc: Global, langs: &[Lang]) -> Result<Vec<Lang>, AllocError>
+    ensures { IfOk result (λ copy. copy.items ≡ langs.now) }
+{
+    let mut copy = Vec::new(alloc);
+    for lang in langs {
+        copy.push(lang.try_copy(alloc)?)?;
+    }
+    Ok(copy)
+}
+
+impl<'a, S: Alter> View<'a, S> {
+    /// The languages that were read before.
+    fn noted_langs(&self, alloc: Global) -> Result<Option<Vec<Lang>>, AllocError>
+        ensures read { IfOk result (λ o. IfSome o (λ langs. HasRecords S.Store self.now.tables.now
+            (λ l. langs.items ≡ view.languages_in l self.now.host))) }
+        ensures settled { IfOk result (λ o. IsTrue (is_some o)
+            → IsHonest S.Store self.now.tables.now → IsSettled S.Store self.now.tables.now) }
+    {
+        match &self.langs {
+            Some(langs) if self.tables.is_settled() => {
+                Ok(Some(copy_langs(alloc, langs.as_slice())?))
+            }
+            _ => Ok(None),
+        }
+    }
+
+    /// Keeps languages that were read, where there is memory for them.
+    fn note_langs(&mut self, alloc: Global, langs: &[Lang])
+        requires read { HasRecords S.Store self.old.tables.now
+            (λ l. langs.now ≡ view.languages_in l self.old.host) }
+        ensures same { self.new.tables.ghost_name ≡ self.old.tables.ghost_name }
+        ensures now { self.new.tables.now ≡ self.old.tables.now }
+        ensures host { self.new.host ≡ self.old.host }
+        ensures caller { self.new.caller ≡ self.old.caller }
+    {
+        if let Ok(copy) = copy_langs(alloc, langs) {
+            self.langs = Some(Items::wrap(copy));
+        }
+    }
+
+    /// The languages, asked of the tables.
+    fn ask_langs(&mut self, alloc: Global) -> Result<Vec<Lang>, Fault>
+        ensures { LooksUp S.Store self.old self.new result
+            (λ l langs. langs.items ≡ view.languages_in l self.old.host) }
+    {
+        match self.opened(alloc)? {
+            Some(host) => HostView::new(alloc, &host, &self.caller).all_langs(self.tables),
+            None => Ok(Vec::new(alloc)),
+        }
+    }
+
+    /// The same, which are kept.
+    fn find_langs(&mut self, alloc: Global) -> Result<Vec<Lang>, Fault>
+        ensures { LooksUp S.Store self.old self.new result
+            (λ l langs. langs.items ≡ view.languages_in l self.old.host) }
+    {
+        let langs = self.ask_langs(alloc)?;
+        self.note_langs(alloc, langs.as_slice());
+        Ok(langs)
+    }
+}
+
+// ---- redirects
+
+impl<'a, S: Alter> View<'a, S> {
+    /// Where the first redirect leads that has a result: of all, or of those with force alone.
+    fn redirect(&mut self, alloc: Global, forced: bool, asked: &Asked) -> Found<Location>
+        ensures asks { Asks (meaning_of S.Store) self.old self.new result }
+        ensures value { TellsMaybe (meaning_of S.Store) self.old self.new result
+            (λ p. first_result forced p.redirects asked.now) }
+    {
+        match self.opened(alloc)? {
+            Some(host) => HostView::new(alloc, &host, &self.caller).redirected(
+                self.tables,
+                forced,
+                asked,
+            ),
+            None => Ok(None),
+        }
+    }
+}
+
+/// The doubt of a view is 0 exactly while its store is honest: its disk has returned what was
+/// written, and no fault has shut it.
+pub fn doubt_is_of_the_store<S: Alter>()
+    ensures { (h : Held S) → doubt_of S.Store h ≡ 0 ↔ IsHonest S.Store h }
+{}
+
+impl<'a, S: Alter> Lookup for View<'a, S> {
+    ghost meaning = { meaning_of S.Store };
+
+    ghost leads_at = { λ a. (refl, refl, refl, looks_none _ a.tables.now) };
+
+    ghost keeps_at = { λ a it. unmoved_none _ a.tables.now it };
+
+    ghost leads_on = { λ a b c p q.
+        (q.0 ∙ p.0, q.1 ∙ p.1, q.2 ∙ p.2, looks_on p.3 q.3) };
+
+    ghost keeps_on = { λ a b c p q it. unmoved_on (p (q it).same.was_honest) (q it) };
+
+    ghost fails_on = { λ a b c p it. fails_on p.3 it };
+
+    fn known(&mut self) -> Result<bool, Fault> {
+        self.has_project()
+    }
+
+    fn name(&mut self, alloc: Global, name: &str) -> Found<Named> {
+        match self.seen_slug(alloc, name)? {
+            Some(slug) => Ok(Some(Named { slug, alias: false })),
+            None => self.alias(alloc, name),
+        }
+    }
+
+    fn default(&mut self, alloc: Global) -> Found<Text> {
+        match self.project(alloc)? {
+            Some(project) => ProjectView::new(alloc, &project, &self.caller).default_name(
+                self.tables,
+            ),
+            None => Ok(None),
+        }
+    }
+
+    fn langs(&mut self, alloc: Global) -> Result<Vec<Lang>, Fault> {
+        match self.noted_langs(alloc)? {
+            Some(langs) => Ok(langs),
+            None => self.find_langs(alloc),
+        }
+    }
+
+    fn page(&mut self, alloc: Global, lang: &Lang, slug: &Slug, path: &str) -> Found<Page> {
+        match self.seen_slug(alloc, slug.as_str())? {
+            Some(own) => match &self.host {
+                Some(host) => self.tables.page(alloc, host, &own, lang, path),
+                None => Ok(None),
+            },
+            None => Ok(None),
+        }
+    }
+
+    fn forced_redirect(&mut self, alloc: Global, asked: &Asked) -> Found<Location> {
+        self.redirect(alloc, true, asked)
+    }
+
+    fn not_found_redirect(&mut self, alloc: Global, asked: &Asked) -> Found<Location> {
+        self.redirect(alloc, false, asked)
+    }
+
+    fn listing(&mut self, alloc: Global) -> Result<Vec<Version>, Fault> {
+        match self.opened(alloc)? {
+            Some(host) => HostView::new(alloc, &host, &self.caller).all_visible(self.tables),
+            None => Ok(Vec::new(alloc)),
+        }
+    }
+}
