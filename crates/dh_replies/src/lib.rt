@@ -2,9 +2,9 @@
 #![tactic(auto)]
 
 mod copies;
-mod key;
-mod replies;
+pub mod key;
+pub mod replies;
 
 pub use copies::copied;
 pub use key::Key;
-pub use replies::Replies;
+pub use replies::{MOST_BODY, MOST_REPLIES, Replies};

@@ -13,10 +13,10 @@ use std::alloc::{AllocError, Global};
 use std::num::NonZeroUsize;
 
 /// So many replies are kept at most.
-const MOST_REPLIES: usize = 256;
+pub const MOST_REPLIES: usize = 256;
 
 /// A reply whose body has more bytes is not kept.
-const MOST_BODY: usize = 65_536;
+pub const MOST_BODY: usize = 65_536;
 
 /// The replies to the questions that were asked last. Where there are too many, the one goes that was asked for
 /// longest ago.
