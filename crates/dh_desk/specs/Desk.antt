@@ -1,10 +1,13 @@
 -- A desk, and the world of its tables.
 use Rattle.std.specs.Prelude.{◌≡◌, ℕ, Bool, true, false, Option, Result, Err, IfErr, refl}
-use Rattle.std.specs.Coded.{Coded, code_by, coded×, coded_bool}
+use Rattle.std.specs.Coded.{Coded, code_by, coded×, coded_bool, coded_ℕ}
 use Rattle.sqlite_trees.specs.declared.store.Store.{Ghosts}
 use Rattle.sqlite.specs.Held.{Held, held_code}
 use Rattle.dh_records.specs.Lists.{world_of}
 use Rattle.dh_records.specs.Constraints.{AreSound}
+use Rattle.dh_replies.specs.Kept.{AreRight}
+use Rattle.dh_replies.specs.declared.replies.Replies.{Replies}
+use Rattle.dh_tables.specs.Going.{records}
 use Rattle.dh_world.specs.World.{Text, World}
 use Rattle.dh_world.specs.Reads.{host_named, caller_named}
 use Rattle.dh_world.specs.Seen.{veil}
@@ -20,15 +23,17 @@ pub use Rattle.dh_schema.specs.Calling.{Blames}
 pub use Rattle.dh_schema.specs.Tables.{lists_of}
 pub use Rattle.dh_tables.specs.Going.{last_records}
 
--- a desk: its tables, and whether a fault of the store has closed it
+-- a desk: its tables, whether a fault of the store has closed it, and how many replies it keeps
 pub record Standing (S : Type 0) : Type 0 where
   pub tables : Held S
   pub closed : Bool
+  pub cached : ℕ
 
 abbrev pub standing_code : {S : Type 0} → Coded S → Coded (Standing S)
 standing_code code =
-    code_by (Held _ × Bool) (coded× (held_code code) coded_bool)
-    (λ d. (d.tables, d.closed)) (λ p. record { tables = p.0; closed = p.1 }) (λ _. refl)
+    code_by (Held _ × (Bool × ℕ)) (coded× (held_code code) (coded× coded_bool coded_ℕ))
+    (λ d. (d.tables, (d.closed, d.cached)))
+    (λ p. record { tables = p.0; closed = p.1.0; cached = p.1.1 }) (λ _. refl)
 
 -- whether the answer is a fault of the store
 abbrev pub is_fault : Result Answer Refusal → Bool
@@ -44,6 +49,10 @@ module _ {S : Type 0} (g : Ghosts S) where
   abbrev pub world : Standing S → World
   world d = world_of (last_records g d.tables)
 
+  -- the world that they spell now, in a transaction too
+  abbrev pub world_seen : Held S → World
+  world_seen h = world_of (records g h)
+
   -- What every call leaves. Where the store is honest, the worlds before and after stand so to each
   -- other.
   pub record Moves (old new : Standing S) (Relates : World → World → Type 0) : Type 0 where
@@ -53,6 +62,10 @@ module _ {S : Type 0} (g : Ghosts S) where
   -- while the store is honest, what is committed is sound
   abbrev pub IsKept : Held S → Type 0
   IsKept h = IsHonest g h → AreSound (last_records g h)
+
+  -- while the store is honest, each reply that is kept is that of the world
+  abbrev pub AreCurrent : Held S → Replies → Type 0
+  AreCurrent h kept = IsHonest g h → AreRight (world_of (last_records g h)) kept.entries
 
   -- out of memory is told of an open store alone
   abbrev pub TellsMemory : Held S → Result Answer Refusal → Type 0

@@ -1,5 +1,5 @@
 //! The desk and its two calls.
-ghost use Rattle.std.specs.Prelude.{◌≡◌, ◌⊎◌, true, false, Err, IfOk, IfErr, OnOk};
+ghost use Rattle.std.specs.Prelude.{◌≡◌, ◌≤◌, ◌⊎◌, true, false, Err, IfOk, IfErr, OnOk, OnErr};
 ghost use Rattle.std.specs.Option.{option_map};
 ghost use Rattle.dh_rows.specs.Calls.{KeepsCommitted, Lasts, LeavesNoMore, LeavesCommitted};
 ghost use Rattle.dh_transactions.specs.Crashes.{LeavesEither};
@@ -9,9 +9,12 @@ ghost use Rattle.dh_world.specs.CheckResults.{IsFault};
 ghost use Rattle.dh_world.specs.Reads as spec;
 ghost use Rattle.dh_world.specs.Step.{IsStep};
 ghost use Rattle.dh_desk.specs.Desk.{Blames, HasCleanDisk, IsHonest, IsRefused, last_records, lists_of};
+ghost use Rattle.dh_faults.specs.declared.fault.Fault.TheVariants as fault;
+ghost use Rattle.dh_replies.specs.declared.replies.TheConstants.{MOST_REPLIES};
 ghost use Rattle.dh_desk.specs.Desk.{IsKept, TellsMemory, is_fault, reply_in, state, veil_of, world};
 
 use crate::reads::read;
+use dh_replies::Replies;
 use dh_reply::{Fault, Read, Reply};
 use dh_tables::Tables;
 use dh_transactions::run;
@@ -20,11 +23,13 @@ use sqlite::{Alter, Connection};
 use std::alloc::Global;
 use std::marker::Model;
 
-/// The tables of a documentation host, changed by commands alone.
+/// The tables of a documentation host, changed by commands alone, and replies that were given since the last command
+/// that was accepted.
 pub struct Desk<S: Alter> {
     tables: Tables<S>,
     /// A fault of the store has closed the desk.
     closed: bool,
+    replies: Replies,
 }
 
 impl<S: Alter + Drop> Drop for Desk<S> {
@@ -32,20 +37,24 @@ impl<S: Alter + Drop> Drop for Desk<S> {
         let Desk {
             tables: _,
             closed: _,
+            replies: _,
         } = self;
     }
 }
 
 impl<S: Alter> Model for Desk<S> {
-    ghost use Rattle.dh_desk.specs.Desk.{Standing, standing_code, IsKept};
+    ghost use Rattle.std.specs.Prelude.{length};
+    ghost use Rattle.dh_desk.specs.Desk.{Standing, standing_code, AreCurrent, IsKept};
 
     ghost Value = { Standing S };
 
     ghost coded = { standing_code S.code };
 
-    ghost view = { λ d. record { tables = d.tables; closed = d.closed } };
+    ghost view = { λ d.
+        record { tables = d.tables; closed = d.closed; cached = length d.replies.entries.entries } };
 
-    ghost invariant = { λ d. IsKept S.Store d.tables };
+    ghost invariant = { λ d.
+        IsKept S.Store d.tables × AreCurrent S.Store d.tables d.replies };
 }
 
 /// Asks the store, after memory was out: what stands open is undone, and a transaction begins, which is left
@@ -109,15 +118,22 @@ fn is_unanswered(answer: &Result<Reply, Fault>) -> bool
 }
 
 impl<S: Alter> Desk<S> {
-    /// The desk over these tables. A transaction that is open will be undone.
-    pub fn over(tables: Tables<S>) -> Desk<S>
+    /// The desk over these tables, with no reply kept. A transaction that is open will be undone. Where memory is
+    /// out the tables are handed back.
+    pub fn over(alloc: Global, tables: Tables<S>) -> Result<Desk<S>, (Fault, Tables<S>)>
         requires { IsKept S.Store tables }
-        ensures tables { result.tables ≡ tables }
-        ensures closed { result.closed ≡ false }
+        ensures tables { IfOk result (λ desk. desk.tables ≡ tables) }
+        ensures closed { IfOk result (λ desk. desk.closed ≡ false) }
+        ensures none { IfOk result (λ desk. desk.cached ≡ 0) }
+        ensures refused { IfErr result (λ e. (e.0 ≡ fault.Memory) × (e.1 ≡ tables)) }
     {
-        Desk {
-            tables,
-            closed: false,
+        match Replies::new(alloc) {
+            Ok(replies) => Ok(Desk {
+                tables,
+                closed: false,
+                replies,
+            }),
+            Err(_) => Err((Fault::Memory, tables)),
         }
     }
 
@@ -125,7 +141,11 @@ impl<S: Alter> Desk<S> {
     pub fn into_conn(self) -> Connection<S>
         ensures { result ≡ self.tables }
     {
-        let Desk { tables, closed: _ } = self;
+        let Desk {
+            tables,
+            closed: _,
+            replies: _replies,
+        } = self;
         tables.into_conn()
     }
 
@@ -134,6 +154,14 @@ impl<S: Alter> Desk<S> {
         ensures { result ≡ self.now.closed }
     {
         self.closed
+    }
+
+    /// How many replies are kept.
+    pub fn cached(&self) -> usize
+        ensures count { result ≡ self.now.cached }
+        ensures most { result ≤ MOST_REPLIES }
+    {
+        self.replies.count()
     }
 
     /// Does a command, as one transaction. An accepted one has changed the world; a refused one has
@@ -158,18 +186,24 @@ impl<S: Alter> Desk<S> {
             → (result ≡ Err Refusal.Store) × (self.new ≡ self.old) }
         ensures closes { self.new.closed ≡ is_fault result }
         ensures lasts { Lasts S.Store self.old.tables self.new.tables }
+        ensures empties { OnOk result (self.new.cached ≡ 0) }
+        ensures keeps { OnErr result (self.new.cached ≡ self.old.cached) }
     {
         if self.closed {
             return Err(Refusal::Store);
         }
         let answer = apply(&mut self.tables, alloc, command);
         self.closed = has_failed(&answer);
+        if answer.is_ok() {
+            self.replies.clear();
+        }
         answer
     }
 
     /// The reply to a read under a host, for a caller who shows this pass or none. A name that is no
     /// host's names no project, and a text that is no pass counts as none. `now` is the moment of the
-    /// read, in seconds since 1970. After a fault of the store the desk answers it to each call.
+    /// read, in seconds since 1970. A reply may be one that is kept. After a fault of the store the desk
+    /// answers it to each call.
     pub fn read(
         &mut self,
         alloc: Global,
@@ -204,7 +238,15 @@ impl<S: Alter> Desk<S> {
         if self.closed {
             return Err(Fault::Store);
         }
-        let answer = read(&mut self.tables, alloc, host, pass, asked, now);
+        let answer = read(
+            &mut self.tables,
+            &mut self.replies,
+            alloc,
+            host,
+            pass,
+            asked,
+            now,
+        );
         self.closed = is_unanswered(&answer);
         answer
     }

@@ -3,6 +3,7 @@
 #![tactic(auto)]
 
 mod calls;
+mod classes;
 pub mod desk;
 mod laws;
 mod reads;

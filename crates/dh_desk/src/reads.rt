@@ -3,14 +3,20 @@ ghost use Rattle.std.specs.Prelude.{◌≡◌, ◌⊎◌, Some, None, false, IfO
 ghost use Rattle.std.specs.Option.{option_map};
 ghost use Rattle.dh_faults.specs.Faults.{OnStore};
 ghost use Rattle.dh_reply.specs.Replies.{reply_to};
+ghost use Rattle.dh_classes.specs.Replies.{IsOfClass, reply_for};
+ghost use Rattle.dh_replies.specs.Kept.{AreRight, question_for};
 ghost use Rattle.dh_records.specs.Lists.{world_of};
-ghost use Rattle.dh_desk.specs.Desk.{Blames, IsHonest, IsRefused, Lasts, last_records, lists_of, reply_in, veil_of};
+ghost use Rattle.dh_schema.specs.Calling.{IsSettled};
+ghost use Rattle.dh_desk.specs.Desk.{AreCurrent, Blames, IsHonest, IsRefused, Lasts, last_records, lists_of};
+ghost use Rattle.dh_desk.specs.Desk.{reply_in, veil_of, world_seen};
 ghost use Rattle.dh_view.specs.View.{Fails, Looks, shown};
 ghost use Rattle.dh_world.specs.Reads.{host_named, caller_named};
 ghost use Rattle.dh_world.specs.Seen.{seen};
 
+use crate::classes::class_in;
 use dh_faults::{Fault, Found};
 use dh_paths::{HostName, TextFault};
+use dh_replies::{Key, Replies};
 use dh_reply::{Read, Reply, reply};
 use dh_tables::Tables;
 use dh_texts::{Checked, Kind};
@@ -66,15 +72,78 @@ fn look<S: Alter>(
     answer
 }
 
+/// The reply under a host to a caller who shows his class as his pass, of tables outside a transaction: one that is
+/// kept, or else the tables' own, which is kept then.
+fn reply_to_class<S: Alter>(
+    tables: &mut Tables<S>,
+    replies: &mut Replies,
+    alloc: Global,
+    host: HostName,
+    caller: Caller,
+    asked: &Read,
+) -> Result<Reply, Fault>
+    ensures looks { Looks S.Store tables.old tables.new }
+    ensures told { OnStore result (Fails S.Store tables.old tables.new) }
+    ensures right { let w = world_seen S.Store tables.old in
+        IsHonest S.Store tables.new → IsOfClass w host caller caller.pass
+        → AreRight w replies.old.entries → AreRight w replies.new.entries
+        × IfOk result (λ r. r ≡ reply_for w (question_for host caller.pass asked.now)) }
+{
+    let Ok(key) = Key::new(alloc, &host, &caller.pass, asked) else {
+        return look(tables, alloc, Some(host), caller, asked);
+    };
+    if let Some(found) = replies.find(alloc, &key) {
+        return Ok(found);
+    }
+    let reply = look(tables, alloc, Some(host), caller, asked)?;
+    replies.keep(alloc, key, &reply);
+    Ok(reply)
+}
+
+/// The reply to a read, of tables outside a transaction, by the caller's class. Under no host's name there is no
+/// project, and no reply is kept.
+fn reply_by_class<S: Alter>(
+    tables: &mut Tables<S>,
+    replies: &mut Replies,
+    alloc: Global,
+    host: Option<HostName>,
+    caller: Caller,
+    asked: &Read,
+) -> Result<Reply, Fault>
+    requires { IsHonest S.Store tables.old → IsSettled S.Store tables.old }
+    ensures looks { Looks S.Store tables.old tables.new }
+    ensures told { OnStore result (Fails S.Store tables.old tables.new) }
+    ensures right { let w = world_seen S.Store tables.old in
+        IsHonest S.Store tables.new
+        → AreRight w replies.old.entries → AreRight w replies.new.entries
+        × IfOk result (λ r. r ≡ reply_to (seen w host caller) asked.now.path asked.now.query) }
+{
+    match host {
+        Some(host) => {
+            let moment = caller.moment;
+            let class = class_in(tables, alloc, &host, caller)?;
+            let caller = Caller {
+                pass: class,
+                moment,
+            };
+            reply_to_class(tables, replies, alloc, host, caller, asked)
+        }
+        None => look(tables, alloc, None, caller, asked),
+    }
+}
+
 /// The reply to a read. A transaction that is open is undone first.
 pub fn read<S: Alter>(
     tables: &mut Tables<S>,
+    replies: &mut Replies,
     alloc: Global,
     host: &str,
     pass: Option<&str>,
     asked: &Read,
     moment: u64,
 ) -> Result<Reply, Fault>
+    requires { AreCurrent S.Store tables.old replies.old }
+    ensures current { AreCurrent S.Store tables.new replies.new }
     ensures value { IsHonest S.Store tables.new
         → IfOk result (λ r. r ≡ reply_to (seen (world_of (last_records S.Store tables.old))
         (host_named host.now) (caller_named (option_map (λ text. text.now) pass.entry) moment))
@@ -94,5 +163,5 @@ pub fn read<S: Alter>(
     let host = text_in(alloc, host)?;
     let caller = caller_in(alloc, pass, moment)?;
     tables.back()?;
-    look(tables, alloc, host, caller, asked)
+    reply_by_class(tables, replies, alloc, host, caller, asked)
 }

@@ -5,6 +5,7 @@ ghost use Rattle.std.specs.Prelude.{◌≡◌, false, IfOk};
 use crate::fault::FileFault;
 use crate::looking::{Found, look};
 use dh_desk::Desk;
+use dh_opening::TablesFault;
 use sqlite::{Alter, Connection, FileFrom, FileStore, Start};
 use std::alloc::Global;
 
@@ -69,7 +70,10 @@ fn open_tables<S: Alter + Drop>(
     let mut conn = conn;
     let projects = count_projects(&mut conn);
     match dh_opening::open(alloc, conn) {
-        Ok(tables) => Ok((Desk::over(tables), projects)),
+        Ok(tables) => match Desk::over(alloc, tables) {
+            Ok(desk) => Ok((desk, projects)),
+            Err((fault, _tables)) => Err(FileFault::from(TablesFault::Failed(fault))),
+        },
         Err((fault, _conn)) => Err(FileFault::from(fault)),
     }
 }

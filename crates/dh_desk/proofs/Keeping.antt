@@ -1,0 +1,30 @@
+-- What stands after a command that was refused.
+use Rattle.std.proofs.Common.{◌≡◌, false, is_ok, Result, Ok, Err, sym, subst, true≢false}
+use Rattle.sqlite_trees.specs.declared.store.Store.{Ghosts}
+use Rattle.sqlite.specs.Held.{Held}
+use Rattle.dh_records.specs.Constraints.{AreSound}
+use Rattle.dh_records.specs.Lists.{Lists, world_of}
+use Rattle.dh_replies.specs.Kept.{AreRight}
+use Rattle.dh_replies.specs.declared.replies.Replies.{Replies}
+use Rattle.dh_tables.specs.Going.{last_records}
+use Rattle.dh_transactions.specs.Steps.{Steps, Transacts}
+use Rattle.dh_world.specs.declared.answer.Answer.{Answer}
+use Rattle.dh_world.specs.declared.command.Command.{Command}
+use Rattle.dh_world.specs.declared.refusal.Refusal.{Refusal}
+use Rattle.dh_desk.specs.Desk.{AreCurrent, IsHonest, IsKept}
+
+-- a refusal leaves the records
+stays : (before after : Lists) (command : Command) (r : Result Answer Refusal) → is_ok r ≡ false → Steps before after command r → after ≡ before
+stays before after command (Ok answer) refused steps = absurd (true≢false refused)
+stays before after command (Err e) refused steps = steps.0
+
+module _ {S : Type 0} (g : Ghosts S) (old new : Held S) (command : Command) (r : Result Answer Refusal) (did : Transacts g old new command r) (refused : is_ok r ≡ false) where
+  same_records : IsHonest g new → last_records g new ≡ last_records g old
+  same_records honest = stays (last_records g old) (last_records g new) command r refused (did.steps honest)
+
+  -- so what was right of it is right of what it left
+  pub refused_keeps : (kept : Replies) → IsKept g old × AreCurrent g old kept → IsKept g new × AreCurrent g new kept
+  refused_keeps kept was = (
+    λ honest. subst AreSound (sym (same_records honest)) (was.0 (did.lasts.was honest)),
+    λ honest. subst (λ l. AreRight (world_of l) kept.entries) (sym (same_records honest)) (was.1 (did.lasts.was honest)),
+  )

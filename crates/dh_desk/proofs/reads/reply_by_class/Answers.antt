@@ -1,0 +1,51 @@
+use Rattle.std.proofs.Common.{rules, ◌≡◌, IfOk, Ok, sym, ap, subst}
+use Rattle.dh_classes.specs.Replies.{IsOfClass, reply_for}
+use Rattle.dh_replies.specs.Kept.{AreRight, question_for}
+use Rattle.dh_reply.specs.Replies.{reply_to}
+use Rattle.dh_records.specs.Lists.{world_of}
+use Rattle.dh_schema.proofs.CallLemmas.{on_store}
+use Rattle.dh_view.specs.View.{fails_on, looks_on}
+use Rattle.dh_view.proofs.ViewLemmas.{asks_handed, still}
+use Rattle.dh_world.specs.Seen as sight
+use Rattle.dh_desk.specs.Desk.{world_seen}
+use Rattle.dh_desk.proofs.Classing.{own_class, reply_to_caller}
+use Rattle.dh_desk.proofs.Reading.{fails_from, looks_from}
+use Rattle.dh_desk.proofs.reads.reply_by_class.Goals as goal
+
+pub returns-in-None-clause-right : goal.returns-in-None-clause-right
+returns-in-None-clause-right g c honest right = (
+  right,
+  subst (λ host. IfOk c.look.result (λ r. r ≡ reply_to (sight.seen (world_seen g.S.Store c.args.tables.now) host c.args.caller) c.args.asked.now.path c.args.asked.now.query)) (sym c.in-None.is) (c.look.ensures.value honest),
+)
+
+pub returns-in_err-class-in-Some : goal.returns-in_err-class-in-Some
+returns-in_err-class-in-Some g c =
+    let asks = asks_handed c.from_residual.result c.in_err-class-in-Some.field-0.0 c.in_err-class-in-Some.was c.from_residual.ensures.1 c.class_in.ensures.asks in
+    record {
+      looks = looks_from c.class_in.result c.class_in.ensures.asks c.requires;
+      told = fails_from c.from_residual.result asks;
+      right = λ honest right. (right, search rules);
+    }
+
+pub returns-in_ok-class-in-Some : goal.returns-in_ok-class-in-Some
+returns-in_ok-class-in-Some g c =
+    let first = looks_from (Ok c.in_ok-class-in-Some.class) c.in_ok-class-in-Some.ensures.asks c.requires in
+    record {
+      looks = looks_on first c.reply_to_class.ensures.looks;
+      told = on_store c.reply_to_class.result (fails_on first) c.reply_to_class.ensures.told;
+      right = λ honest right.
+          let w = world_seen g.S.Store c.args.tables.now in
+          let mid = (c.reply_to_class.ensures.looks.unmoved honest).same.was_honest in
+          let class = c.in_ok-class-in-Some.class in
+          let host = c.in-Some.host in
+          let of_class = c.in_ok-class-in-Some.ensures.value mid in
+          let told =
+          subst (λ v. IsOfClass v host (record { pass = class; moment = c.args.caller.moment }) class
+          → AreRight v c.args.replies.now.entries
+          → AreRight v c.reply_to_class.new.replies.entries × IfOk c.reply_to_class.result (λ r. r ≡ reply_for v (question_for host class c.args.asked.now)))
+          (ap world_of (still c.in_ok-class-in-Some.ensures.asks mid)) (c.reply_to_class.ensures.right honest) (own_class w host c.args.caller class of_class) right in (
+            told.0,
+            subst (λ h. IfOk c.reply_to_class.result (λ r. r ≡ reply_to (sight.seen w h c.args.caller) c.args.asked.now.path c.args.asked.now.query)) (sym c.in-Some.is)
+                (reply_to_caller w host c.args.caller class c.args.asked.now c.reply_to_class.result of_class told.1),
+          );
+    }

@@ -1,0 +1,28 @@
+//! A reply once more.
+ghost use Rattle.std.specs.Prelude.{◌≡◌, IfOk};
+
+use dh_paths::{Bytes, Text};
+use dh_wire::Reply;
+use std::alloc::{AllocError, Global};
+
+fn text_copied(alloc: Global, text: &Option<Text>) -> Result<Option<Text>, AllocError>
+    ensures { IfOk result (λ copy. copy ≡ text.now) }
+{
+    match text {
+        Some(text) => Ok(Some(Text::copy_of(alloc, text.as_str())?)),
+        None => Ok(None),
+    }
+}
+
+/// A copy of a reply, its body included.
+pub fn copied(alloc: Global, reply: &Reply) -> Result<Reply, AllocError>
+    ensures { IfOk result (λ copy. copy ≡ reply.now) }
+{
+    Ok(Reply {
+        status: reply.status,
+        location: text_copied(alloc, &reply.location)?,
+        allow: reply.allow,
+        media: text_copied(alloc, &reply.media)?,
+        body: Bytes::copy_of(alloc, reply.body.as_slice())?,
+    })
+}

@@ -1,0 +1,86 @@
+//! Replies that are kept.
+ghost use Rattle.std.specs.Prelude.{◌≡◌, ◌<◌, ◌≤◌, [], length, IfOk, IfSome};
+ghost use Rattle.dh_world.specs.World.{World};
+ghost use Rattle.dh_classes.specs.Replies.{reply_for};
+ghost use Rattle.dh_replies.specs.Kept.{AreRight, question_of};
+ghost use Rattle.dh_replies.specs.declared.replies.TheConstants.{MOST_BODY, MOST_REPLIES};
+
+use crate::copies::copied;
+use crate::key::Key;
+use dh_wire::Reply;
+use lru::LruCache;
+use std::alloc::{AllocError, Global};
+use std::num::NonZeroUsize;
+
+/// So many replies are kept at most.
+pub const MOST_REPLIES: usize = 256;
+
+/// A reply whose body has more bytes is not kept.
+pub const MOST_BODY: usize = 65_536;
+
+/// The replies to the questions that were asked last. Where there are too many, the one goes that was asked for
+/// longest ago.
+#[derive(Drop)]
+pub struct Replies {
+    entries: LruCache<Key, Reply>,
+    ghost few: { entries.cap ≡ MOST_REPLIES },
+}
+
+impl Replies {
+    /// None. Room is taken as replies come.
+    pub fn new(alloc: Global) -> Result<Replies, AllocError>
+        ensures { IfOk result (λ r. r.entries.entries ≡ []) }
+    {
+        let most = match NonZeroUsize::new(MOST_REPLIES) {
+            Some(most) => most,
+            None => unreachable!(),
+        };
+        Ok(Replies {
+            entries: LruCache::sparse(alloc, most)?,
+        })
+    }
+
+    /// How many are kept.
+    pub fn count(&self) -> usize
+        ensures value { result ≡ length self.now.entries.entries }
+        ensures most { result ≤ MOST_REPLIES }
+    {
+        self.entries.len()
+    }
+
+    /// Forgets all.
+    pub fn clear(&mut self)
+        ensures { self.new.entries.entries ≡ [] }
+    {
+        self.entries.clear();
+    }
+
+    /// A copy of the reply that is kept under a key. There is none either where memory is out for the copy.
+    pub fn find(&mut self, alloc: Global, key: &Key) -> Option<Reply>
+        ensures { (w : World) → AreRight w self.old.entries → AreRight w self.new.entries
+            × IfSome result (λ r. r ≡ reply_for w (question_of key.now)) }
+    {
+        let Some(found) = self.entries.peek(key) else {
+            return None;
+        };
+        let Ok(copy) = copied(alloc, found) else {
+            return None;
+        };
+        self.entries.promote(key);
+        Some(copy)
+    }
+
+    /// Keeps a copy of a reply under a key, unless the body is too large or memory is out.
+    pub fn keep(&mut self, alloc: Global, key: Key, reply: &Reply)
+        ensures right { (w : World) → AreRight w self.old.entries
+            → reply.now ≡ reply_for w (question_of key) → AreRight w self.new.entries }
+        ensures large { MOST_BODY < length reply.now.body → self.new ≡ self.old }
+    {
+        if reply.body.as_slice().len() > MOST_BODY {
+            return;
+        }
+        if let Ok(copy) = copied(alloc, reply) {
+            let _ = self.entries.put(key, copy);
+        }
+    }
+}
