@@ -3,6 +3,7 @@
 import importlib.machinery
 import importlib.util
 import shlex
+import time
 from pathlib import Path
 
 import lines
@@ -30,7 +31,7 @@ class Left(Exception):
 
 def judge_script(path):
     """What is wrong with the model's answer to a script, as lines."""
-    written, fault, status = lines.run_script({}, path.read_bytes())
+    written, fault, status = lines.run_script({}, path.read_bytes(), int(time.time()))
     wanted_told = (TOOL.beside(path, ".err") or b"").split(b"\n")[0]
     wanted_status = int(TOOL.beside(path, ".status") or b"0")
     told = b"fault " + fault if fault else b""

@@ -4,6 +4,7 @@ import random
 
 import pools
 import texts
+import world
 
 # How often a line is of each form; 'get' apart.
 WEIGHTS = {
@@ -20,10 +21,10 @@ WEIGHTS = {
     "add-pass": 5,
     "unhide": 2,
     "deactivate": 2,
-    "gone": 3,
+    "gone": 4,
     "add-lang": 3,
     "revoke": 2,
-    "drop-pass": 1,
+    "drop-pass": 3,
     "drop-redirect": 2,
     "drop-rule": 1,
     "new-project": 1,
@@ -55,12 +56,17 @@ class Maker:
         self.tags = self.random.sample(pools.TAGS, 7)
         self.branches = self.random.sample(pools.BRANCHES, 3)
         self.count = 0
+        # Lines that come next.
+        self.waiting = []
 
     def often(self, share):
         return self.random.random() < share
 
     def one(self, choices):
         return self.random.choice(list(choices))
+
+    def some(self, choices, most):
+        return self.random.sample(list(choices), min(most, len(choices)))
 
     # ---- words
 
@@ -120,7 +126,9 @@ class Maker:
         return b"t" * self.random.randint(1, 40)
 
     def word_new_pass(self, form):
-        return self.one(pools.PASSES)
+        project = self.project()
+        missing = [word for word in pools.PASSES if project and word not in project.passes]
+        return self.one(missing if missing and self.often(0.6) else pools.PASSES)
 
     def word_pass(self, form):
         project = self.project()
@@ -146,6 +154,8 @@ class Maker:
 
     def line(self):
         """A line as bytes, without its end."""
+        if self.waiting:
+            return self.waiting.pop(0)
         self.host = self.one(pools.HOSTS)
         if not self.project() and self.often(0.9):
             words = self.command_words("new-project")
@@ -177,6 +187,10 @@ class Maker:
                 body = b"x" * self.random.randint(1, 60)
                 made.append(b"upload %b %b %b %b en %b t %b" % (host, key, file[:3], slug, file, body))
             made += [b"grant %b %b %b" % (host, self.one(pools.PASSES[:2]), slug)] * self.often(0.5)
+        if self.often(0.5):
+            made.append(b"add-lang %b fr" % host)
+            slugs = [texts.slug_text(name) for _, name in names[:3]]
+            made += [b"upload %b %b fr %b fr %b t french" % (host, key, slug, self.one(pools.FILES)) for slug in slugs]
         return made
 
     def command_words(self, form):
@@ -187,7 +201,19 @@ class Maker:
             words.insert(self.random.randint(0, len(words)), b"--replace")
         if form == "add-pass" and self.with_ends and self.often(0.5):
             words += [b"--until", self.word("until")]
+        if self.project() and self.often(0.7):
+            self.waiting = self.again(form, words)
         return [form.encode(), *words]
+
+    def again(self, form, words):
+        """The lines that make what a line removes once more."""
+        host, version = self.host, self.project().versions.get(words[-1])
+        if form == "drop-pass":
+            return [b"add-pass %b %b" % (host, words[-1])]
+        if form != "gone" or not version:
+            return []
+        key, name = self.project().wkey, version.kind + b" " + version.name
+        return [b"push %b %b again %b" % (host, key, name), b"activate %b %b" % (host, words[-1])]
 
     def word_until(self, form):
         return b"%d" % self.random.choice([0, 1, 999, 1000, 1001, 4_000_000_000])
@@ -307,8 +333,11 @@ class Maker:
         project = self.project()
         if not project:
             return [b"get %b %b" % (self.host, target) for target in targets]
-        targets += [b"/en/%b/%b" % (self.name(), texts.escaped(self.file())) for _ in range(8)]
-        targets += [texts.escaped(self.path_of(redirect)) for redirect in project.redirects[:6]]
+        for _ in range(10):
+            targets.append(b"/%b/%b/%b" % (self.one(project.languages), self.name(), texts.escaped(self.file())))
+        targets += [b"/%b/%b/%b" % (lang, name, texts.escaped(file)) for name, lang, file in self.some(project.pages, 6)]
+        targets += [b"/en/%b/%b" % (name, file) for name in world.ALIASES for file in self.some(pools.FILES, 2)]
+        targets += [texts.escaped(self.path_of(redirect)) for redirect in self.some(project.redirects, 6)]
         callers = [b"", *(b" --pass " + word for word in list(project.passes)[:3]), b" --pass other"]
         now = self.one([b" --now 999", b" --now 1000", b""]) if self.with_ends else b""
         return [b"get %b %b%b%b" % (self.host, target, caller, now) for target in targets for caller in callers]
