@@ -1,6 +1,6 @@
 //! The server.
 
-ghost use Rattle.std.specs.Prelude.{◌≡◌, false, IfErr, IsTrue};
+ghost use Rattle.std.specs.Prelude.{◌≡◌, false, IfErr, OnOk, IsTrue};
 ghost use Rattle.dh_http.specs.Desk.{Moves};
 ghost use Rattle.dh_server.specs.Serving.{Steps};
 ghost use Rattle.dh_server.specs.Telling.{TellsSome};
@@ -67,6 +67,7 @@ pub fn serve<S: Alter, R: Source, W: Sink, E: Sink>(
     requires { W.broken streams.old.sink ≡ false }
     ensures steps { Moves S.Store desk.old desk.new (Steps count) }
     ensures ends { IsDoneOr is_of_server result }
+    ensures shut { OnOk result (desk.new.closed ≡ false) }
     ensures tells { TellsSome E.broken E.held streams.old.errors streams.new.errors }
 {
     let listener = bind(rt, port, &mut streams.sink)?;
@@ -75,7 +76,7 @@ pub fn serve<S: Alter, R: Source, W: Sink, E: Sink>(
     let mut clock = || seconds(rt);
     let log = Log::new(rt, log);
     let errors = &mut streams.errors;
-    let asked = serve_on(
+    serve_on(
         rt.alloc(),
         desk,
         &mut listening,
@@ -84,7 +85,7 @@ pub fn serve<S: Alter, R: Source, W: Sink, E: Sink>(
         &log,
         errors,
     );
-    if asked < count {
+    if desk.is_closed() {
         return Err(Failure::File(FileFault::Failed));
     }
     Ok(Status::Done)

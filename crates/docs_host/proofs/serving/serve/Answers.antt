@@ -9,18 +9,18 @@ returns-in_err-listener-clause-steps g c = Moves-refl (λ w. steps_within 0 c.ar
 
 pub returns-clause-steps : goal.returns-clause-steps
 returns-clause-steps g c =
-    Moves-weaker c.serve_on-asked.ensures.steps (λ u v. steps_within c.serve_on-asked.result c.args.count u v c.serve_on-asked.ensures.few)
+    Moves-weaker c.serve_on.ensures.steps (λ u v. steps_within c.serve_on.result c.args.count u v c.serve_on.ensures.few)
 
 pub returns-clause-tells : goal.returns-clause-tells
 returns-clause-tells g c =
-    some_more g.E.Sink.broken g.E.Sink.held c.args.streams.now.errors c.tell_served.new.errors c.serve_on-asked.new.errors
-    c.tell_served.ensures c.serve_on-asked.ensures.tells
+    some_more g.E.Sink.broken g.E.Sink.held c.args.streams.now.errors c.tell_served.new.errors c.serve_on.new.errors
+    c.tell_served.ensures c.serve_on.ensures.tells
 
-pub returns-then-asked-count-clause-steps : goal.returns-then-asked-count-clause-steps
-returns-then-asked-count-clause-steps g c =
-    Moves-weaker c.serve_on-asked.ensures.steps (λ u v. steps_within c.serve_on-asked.result c.args.count u v c.serve_on-asked.ensures.few)
+pub returns-then-is_closed-clause-steps : goal.returns-then-is_closed-clause-steps
+returns-then-is_closed-clause-steps g c =
+    Moves-weaker c.serve_on.ensures.steps (λ u v. steps_within c.serve_on.result c.args.count u v c.serve_on.ensures.few)
 
-pub returns-then-asked-count-clause-tells : goal.returns-then-asked-count-clause-tells
-returns-then-asked-count-clause-tells g c =
-    some_more g.E.Sink.broken g.E.Sink.held c.args.streams.now.errors c.tell_served.new.errors c.serve_on-asked.new.errors
-    c.tell_served.ensures c.serve_on-asked.ensures.tells
+pub returns-then-is_closed-clause-tells : goal.returns-then-is_closed-clause-tells
+returns-then-is_closed-clause-tells g c =
+    some_more g.E.Sink.broken g.E.Sink.held c.args.streams.now.errors c.tell_served.new.errors c.serve_on.new.errors
+    c.tell_served.ensures c.serve_on.ensures.tells
