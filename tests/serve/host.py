@@ -57,17 +57,18 @@ def read_reply(data):
 
 
 class Server:
-    """`docs_host serve`, from when it listens; the lines of its standard error go to a file."""
+    """`docs_host serve`, from when it listens, run by the words `under`; the lines of its standard error go to a file."""
 
-    def __init__(self, program, store, count, errors, words=(), before=None):
+    def __init__(self, program, store, count, errors, words=(), before=None, under=(), more=None):
         self.errors = Path(errors)
         start = time.monotonic()
         with open(errors, "wb") as told:
             self.process = subprocess.Popen(
-                [program, "serve", "--store", store, "--count", str(count), *words],
+                [*under, program, "serve", "--store", store, "--count", str(count), *words],
                 stdin=subprocess.DEVNULL,
                 stdout=subprocess.PIPE,
                 stderr=told,
+                env={**os.environ, **(more or {})},
                 preexec_fn=before,
                 restore_signals=before is None,
             )

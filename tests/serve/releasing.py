@@ -263,6 +263,8 @@ def refusals(part, checkout):
     (checkout.root / "crates.txt").open("a").write("# more\n")
     checkout.git("commit", "--all", "--message", "test")
     refused("a program of another text", "not of the present text")
+    ended = checkout("tools/release", "--anyway", "--program", part.path("none"))
+    part.check("no archive, anyway: no program", ended.returncode == 1 and "there is no program" in ended.stderr, ended)
     ended = checkout("tools/release", "--anyway")
     good = ended.returncode == 0 and "proofs     not known" in ended.stderr
     part.check("an archive of that, anyway, says so", good, ended)
