@@ -8,6 +8,7 @@ use Rattle.dh_rows.specs.Calls.{IsHonest, Shows, LeavesNoMore, KeepsCommitted, s
 use Rattle.dh_world.specs.declared.answer.Answer.{Answer}
 use Rattle.dh_records.specs.Lists.{Lists, world_of}
 use Rattle.dh_schema.specs.Tables.{lists_of}
+use Rattle.dh_tables.specs.Going.{Stays}
 use Rattle.dh_world.specs.declared.command.Command.{Command}
 use Rattle.dh_world.specs.declared.refusal.Refusal.{Refusal}
 use Rattle.dh_world.specs.WrongTexts.{bad_text}
@@ -67,6 +68,14 @@ module _ {S : Type 0} (g : Ghosts S) where
           let at : Turns (committed g lists_of old) (seen g lists_of worked) c (Ok it.0) = subst (Turns (committed g lists_of old) (seen g lists_of worked) c) it.1 (turned h0 h1 h2) in
           let same = ap (λ (d : Database). lists_of (record { schema = d.schema; trees = db })) (kept2 h2 ∙ kept1 h1) in
           (it.0, right_texts (committed g lists_of old) c right ∙ at.0 ∙ ap (λ (l : Lists). Ok (world_of l, it.0)) (sym (sym same ∙ it.2)))
+
+  -- an answered call after one that kept an honest store honest
+  pub stays_on
+      : {T : Type 0} (old middle new : Held S) (r : Result T Refusal)
+      → Stays g old middle → (HasCleanDisk (state g new) → HasCleanDisk (state g middle))
+      → OnOk r (Stays g middle new) → OnOk r (Stays g old new)
+  stays_on old middle new (Ok x) live back it = λ honest clean. it (live honest (back clean)) clean
+  stays_on old middle new (Err e) live back it = tt
 
   -- a refusal after calls that leave nothing more
   pub refused_after : (old middle new : Held S) (r : Result Answer Refusal) → LeavesNoMore g old middle → (HasCleanDisk (state g new) → HasCleanDisk (state g middle))

@@ -2,6 +2,7 @@ use Rattle.std.proofs.Common.{◌∙◌, Ok, sym, ap, subst}
 use Rattle.dh_checks.specs.Commands.{command_of}
 use Rattle.dh_plans.specs.Knowing.{Decides}
 use Rattle.dh_records.specs.Lists.{Lists}
+use Rattle.dh_transactions.proofs.Crashing.{stays_on}
 use Rattle.dh_transactions.proofs.Working.{turn_refused, edits_may, turn_done}
 use Rattle.dh_transactions.proofs.transaction.work.Goals as goal
 use Rattle.dh_looks.specs.Finding.{FindsFacts}
@@ -34,3 +35,8 @@ returns-clause-turns g c honest =
     let now = c.in_ok-make_edits.ensures.makes.sees.now_is honest ∙ ap (all_rows_edited c.args.host.now c.edits.inside.edits.items) (c.in_ok-facts.ensures.asks.looks.now_is h0) in
     subst (λ l. Turns (records g.S.Store c.args.tables.now) l (command_of c.args.host.now c.args.change) (Ok c.edits.inside.answer)) (sym now)
     (turn_done c.args.host.now c.args.change _ c.in-Some.facts found sound _ decided)
+
+pub returns-in_default-clause-live : goal.returns-in_default-clause-live
+returns-in_default-clause-live g c =
+    stays_on g.S.Store c.args.tables.now c.look.new.tables c.open_project.new.tables c.open_project.result
+    c.in_ok-facts.ensures.asks.looks.live c.open_project.ensures.goes.lasts.clean c.open_project.ensures.live
