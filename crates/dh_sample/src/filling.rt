@@ -144,7 +144,10 @@ pub fn fill_sample<S: Alter>(alloc: Global, desk: &mut Desk<S>) -> Result<(), Re
 pub fn empty_desk(alloc: Global) -> Result<Desk<MemStore>, Fault>
     ensures { IfOk result (λ desk. world over_memory desk ≡ empty) }
 {
-    Ok(Desk::over(Tables::in_memory(alloc)?))
+    match Desk::over(alloc, Tables::in_memory(alloc)?) {
+        Ok(desk) => Ok(desk),
+        Err((fault, _tables)) => Err(fault),
+    }
 }
 
 /// A desk in memory, with the sample project alone.
