@@ -1,14 +1,15 @@
 -- What brings a database to another, in a transaction of its own, and after a look.
-use Rattle.std.proofs.Common.{◌≡◌, inl, inr, Bool, true, false, IsTrue, IsErrAnd, None, Result, Ok, Err, OnOk, OnErr, sym, ap, subst, ◌∙◌}
+use Rattle.std.proofs.Common.{◌≡◌, ◌⊎◌, inl, inr, Bool, true, false, IsTrue, IsErrAnd, None, Result, Ok, Err, OnOk, OnErr, refl, sym, ap, subst, ◌∙◌}
 use Rattle.sqlite_trees.specs.declared.store.Store.{Ghosts}
 use Rattle.sqlite.specs.Effect.{Database}
 use Rattle.sqlite.specs.Held.{Held, state}
 use Rattle.sqlite.specs.State.{HasCleanDisk}
 use Rattle.dh_faults.specs.declared.fault.Fault.{Fault}
 use Rattle.dh_faults.specs.declared.fault.Fault.TheVariants as fault
-use Rattle.dh_rows.specs.Calls.{GoesWithin, IsHonest, IsRefused, Keep, Lasts, LeavesNoMore, LeavesSeen, OnlyBegins, OnlyCommits, Shows, whole}
+use Rattle.dh_faults.specs.Faults.{OnStore}
+use Rattle.dh_rows.specs.Calls.{GoesWithin, IsBlamed, IsHonest, IsRefused, Keep, Lasts, LeavesNoMore, LeavesSeen, OnlyBegins, OnlyCommits, Shows, whole}
 use Rattle.dh_records.specs.Constraints.{AreInOrder, KeepsConstraints}
-use Rattle.dh_schema.specs.InTurn.{lasts_none, lasts_on}
+use Rattle.dh_schema.specs.InTurn.{blamed_before, lasts_none, lasts_on}
 use Rattle.dh_schema.specs.Making.{CanAdd}
 use Rattle.dh_schema.specs.Tables.{Holds, lists_of}
 use Rattle.dh_migrating.specs.Converting.{Carries}
@@ -16,8 +17,9 @@ use Rattle.dh_store.proofs.OrderLemmas.{in_order}
 use Rattle.dh_opening.specs.declared.fault.TablesFault.{TablesFault}
 use Rattle.dh_opening.specs.declared.fault.TablesFault.TheVariants.{NotOurs, OldSchema, Failed}
 use Rattle.dh_opening.specs.Opening.{IsKnown, IsNumbered, IsOurs, OnFailed, OnNotOurs, OnOldSchema, Opens}
-use Rattle.dh_opening.specs.Filling.{Brings, IsAtRest, IsFilled, IsNothingAdded, IsOpened, LeavesBrought, OpensTables}
+use Rattle.dh_opening.specs.Filling.{Brings, IsAtRest, IsFilled, IsNothingAdded, IsOpened, LacksDerived, LeavesBrought, OpensTables}
 use Rattle.dh_opening.proofs.FillLemmas.{ours_brought}
+use Rattle.dh_opening.proofs.Looks.{on_failed}
 
 -- ---- in a transaction of its own
 
@@ -28,6 +30,9 @@ module _ {S : Type 0} {g : Ghosts S} (R : Database → Database → Type 0) {a b
 
   made_then : HasCleanDisk (state g d) → IsHonest g c × (c.in_transaction ≡ b.in_transaction) × R (state g b).now (state g c).now
   made_then clean = let middle = commits.lasts.clean clean in made (goes.lasts.clean middle, (begun clean).is_open) middle
+
+  pub transaction_within : HasCleanDisk (state g d) → c.in_transaction ≡ true
+  transaction_within clean = (made_then clean).1 ∙ (begun clean).mode
 
   pub transaction_lasts : Lasts g a d
   transaction_lasts = lasts_on (lasts_on begins.goes.lasts goes.lasts) commits.lasts
@@ -74,6 +79,13 @@ pub any_err : {P : Type 0} (r : Result (Unit {0}) TablesFault) → P → OnErr r
 any_err (Ok u) it = tt
 any_err (Err e) it = it
 
+pub any_failed : {P : Type 0} (r : Result (Unit {0}) TablesFault) → P → OnFailed r P
+any_failed (Ok u) it = tt
+any_failed (Err NotOurs) it = tt
+any_failed (Err OldSchema) it = tt
+any_failed (Err (Failed fault.Store)) it = it
+any_failed (Err (Failed fault.Memory)) it = tt
+
 -- ---- a refusal that `?` hands on
 
 module _ {N M : Type 0} where
@@ -86,6 +98,21 @@ module _ {N M : Type 0} where
   pub handed_ours : (r : Result (Unit {0}) TablesFault) (e : TablesFault) → IsErrAnd r (λ f. f ≡ e) → (N → M) → OnNotOurs {T = Unit {0}} (Err e) N → OnNotOurs r M
   handed_ours (Ok u) e is less it = absurd is
   handed_ours (Err f) e is less it = less_ours (Err f) less (subst (λ (x : TablesFault). OnNotOurs {T = Unit {0}} (Err x) N) (sym is) it)
+
+  pub handed_failed : (T : Type 0) (r : Result (Unit {0}) TablesFault) (e : TablesFault) → IsErrAnd r (λ f. f ≡ e) → (N → M) → OnFailed {T = T} (Err e) N → OnFailed r M
+  handed_failed T (Ok u) e is more it = absurd is
+  handed_failed T (Err f) e is more it = as_failed f more (subst (λ (x : TablesFault). OnFailed {T = T} (Err x) N) (sym is) it)
+    where
+      as_failed : (f : TablesFault) → (N → M) → OnFailed {T = T} (Err f) N → OnFailed {T = Unit {0}} (Err f) M
+      as_failed NotOurs more it = tt
+      as_failed OldSchema more it = tt
+      as_failed (Failed fault.Store) more it = more it
+      as_failed (Failed fault.Memory) more it = tt
+
+  -- the same of a statement's refusal
+  pub store_failed : (T : Type 0) (r : Result (Unit {0}) TablesFault) (e : Fault) → IsErrAnd r (λ f. f ≡ Failed e) → (N → M) → OnStore {T = T} (Err e) N → OnFailed r M
+  store_failed T r fault.Store is more it = handed_failed (Unit {0}) r (Failed fault.Store) is more it
+  store_failed T r fault.Memory is more it = handed_failed (Unit {0}) r (Failed fault.Memory) is more tt
 
 -- a refusal that is not of schema 1
 pub never_old : (T : Type 0) (r : Result (Unit {0}) TablesFault) (e : TablesFault) → IsErrAnd r (λ f. f ≡ e) → OnOldSchema {T = T} (Err e) ⊥ → OnOldSchema r ⊥
@@ -101,14 +128,15 @@ never_old T (Err f) e is it = go f (subst (λ (x : TablesFault). OnOldSchema {T 
 
 module _ {S : Type 0} {g : Ghosts S} where
   pub brings_as
-      : {a b : Held S} {R Q : Database → Database → Type 0} {N M : Type 0} (r : Result (Unit {0}) TablesFault) → ((before after : Database) → R before after → Q before after) → (N → M)
-      → Brings g a b r R N → Brings g a b r Q M
-  brings_as {a} {b} {R} {Q} r more less it = record {
+      : {a b : Held S} {R Q : Database → Database → Type 0} {N M F G : Type 0} (r : Result (Unit {0}) TablesFault) → ((before after : Database) → R before after → Q before after) → (N → M) → (F → G)
+      → Brings g a b r R N F → Brings g a b r Q M G
+  brings_as {a} {b} {R} {Q} r more less excuse it = record {
     lasts = it.lasts;
     done = λ honest clean. done r (it.done honest clean);
     was = it.was;
     err = it.err;
     ours = λ clean. less_ours r less (it.ours clean);
+    told = λ clean. on_failed r (λ told. elim told [ inl own ↦ inl own | inr f ↦ inr (excuse f) ]) (it.told clean);
     crash = λ honest clean db may. elim (it.crash honest clean db may) [
       | inl before ↦ inl before
       | inr after ↦ inr (after.0, after.1, more _ _ after.2)
@@ -121,26 +149,28 @@ module _ {S : Type 0} {g : Ghosts S} where
 
   -- nothing is done, of tables that need nothing
   pub brings_nothing
-      : {h : Held S} {R : Database → Database → Type 0} {N : Type 0} → (IsHonest g h → R (state g h).now (state g h).now) → (HasCleanDisk (state g h) → IsAtRest g h) → Brings g h h (Ok tt) R N
+      : {h : Held S} {R : Database → Database → Type 0} {N F : Type 0} → (IsHonest g h → R (state g h).now (state g h).now) → (HasCleanDisk (state g h) → IsAtRest g h) → Brings g h h (Ok tt) R N F
   brings_nothing {h} same rests = record {
     lasts = lasts_none h;
     done = λ honest clean. (rests clean, same honest);
     was = λ clean. (rests clean).honest;
     err = λ honest. tt;
     ours = λ clean. tt;
+    told = λ clean. tt;
     crash = λ honest clean db may. inl may;
   }
 
   -- a refusal of a look
   refused_brings
-      : {a b : Held S} {T : Type 0} {P : Database → T → Type 0} {N : Database → Type 0} (M : Database → Type 0) {R : Database → Database → Type 0} (e : TablesFault) → (N (state g a).now → M (state g a).now)
-      → Opens g a b {T = T} (Err e) P N → Brings g a b (Err e) R (M (state g a).now)
-  refused_brings {a} {b} {T} {P} {N} M e less it = record {
+      : {a b : Held S} {T : Type 0} {P : Database → T → Type 0} {N : Database → Type 0} (M : Database → Type 0) {R : Database → Database → Type 0} {F : Type 0} (e : TablesFault) → (N (state g a).now → M (state g a).now)
+      → Opens g a b {T = T} (Err e) P N → Brings g a b (Err e) R (M (state g a).now) F
+  refused_brings {a} {b} {T} {P} {N} M {F = F} e less it = record {
     lasts = it.goes.lasts;
     done = λ honest clean. tt;
     was = λ clean. tt;
     err = λ honest. it.goes.kept honest;
     ours = λ clean. not_ours e (it.ours clean);
+    told = λ clean. handed_failed {M = IsBlamed g a b ⊎ F} T (Err e) e refl inl (it.told clean);
     crash = λ honest clean db may. inl (it.goes.quiet honest clean db may);
   }
     where
@@ -150,16 +180,16 @@ module _ {S : Type 0} {g : Ghosts S} where
       not_ours (Failed fault) none = tt
 
   pub handed_brings
-      : {a b : Held S} {T : Type 0} {P : Database → T → Type 0} {N : Database → Type 0} (M : Database → Type 0) {R : Database → Database → Type 0} (r : Result (Unit {0}) TablesFault) (e : TablesFault) → IsErrAnd r (λ f. f ≡ e)
-      → (N (state g a).now → M (state g a).now) → Opens g a b {T = T} (Err e) P N → Brings g a b r R (M (state g a).now)
+      : {a b : Held S} {T : Type 0} {P : Database → T → Type 0} {N : Database → Type 0} (M : Database → Type 0) {R : Database → Database → Type 0} {F : Type 0} (r : Result (Unit {0}) TablesFault) (e : TablesFault) → IsErrAnd r (λ f. f ≡ e)
+      → (N (state g a).now → M (state g a).now) → Opens g a b {T = T} (Err e) P N → Brings g a b r R (M (state g a).now) F
   handed_brings M (Ok u) e is less it = absurd is
-  handed_brings {a} {b} M {R = R} (Err f) e is less it = subst (λ (x : TablesFault). Brings g a b (Err x) R (M (state g a).now)) (sym is) (refused_brings M e less it)
+  handed_brings {a} {b} M {R = R} {F = F} (Err f) e is less it = subst (λ (x : TablesFault). Brings g a b (Err x) R (M (state g a).now) F) (sym is) (refused_brings M e less it)
 
   -- what comes after a look that was answered
   pub then_brings
-      : {a b c : Held S} {T : Type 0} {P : Database → T → Type 0} {N : Database → Type 0} (M : Database → Type 0) {R : Database → Database → Type 0} (x : T) (r : Result (Unit {0}) TablesFault) → Opens g a b (Ok x) P N
-      → Brings g b c r R (M (state g b).now) → Brings g a c r R (M (state g a).now)
-  then_brings {a} {b} {c} M {R = R} x r first next = record {
+      : {a b c : Held S} {T : Type 0} {P : Database → T → Type 0} {N : Database → Type 0} (M F : Database → Type 0) {R : Database → Database → Type 0} (x : T) (r : Result (Unit {0}) TablesFault) → Opens g a b (Ok x) P N
+      → Brings g b c r R (M (state g b).now) (F (state g b).now) → Brings g a c r R (M (state g a).now) (F (state g a).now)
+  then_brings {a} {b} {c} M F {R = R} x r first next = record {
     lasts = lasts_on first.goes.lasts next.lasts;
     done = λ honest clean.
         let same = first.same (next.lasts.clean clean) in
@@ -167,6 +197,13 @@ module _ {S : Type 0} {g : Ghosts S} where
     was = λ clean. answered r (first.goes.lasts.was) (next.was clean);
     err = λ honest. kept_before r (first.goes.kept (next.lasts.was honest)) (next.err honest);
     ours = λ clean. subst (λ (db : Database). OnNotOurs r (M db)) (first.same (next.lasts.clean clean)).now_is (next.ours clean);
+    told = λ clean.
+        on_failed r
+        (λ told. elim told [
+          | inl own ↦ inl (blamed_before first.goes.lasts next.lasts clean own)
+          | inr f ↦ inr (subst F (first.same (next.lasts.clean clean)).now_is f)
+        ])
+        (next.told clean);
     crash = λ honest clean db may.
         let back = next.lasts.clean clean in
         let same = first.same back in
@@ -203,7 +240,6 @@ module _ {S : Type 0} {g : Ghosts S} where
   refused_opens {a} {b} {T} (Err f) e is it = subst (λ (x : TablesFault). OpensTables g a b (Err x)) (sym is) (record {
     brings = refused_brings (λ db. ¬ IsOurs db × ¬ IsNumbered db 1) e (λ none. none) it;
     numbered = λ clean. old _ e it.current;
-    told = λ cannot clean. failed _ e (it.told clean);
     quiet = λ _ honest. it.goes.quiet honest;
   })
     where
@@ -211,12 +247,6 @@ module _ {S : Type 0} {g : Ghosts S} where
       old Q NotOurs it = tt
       old Q OldSchema it = absurd it
       old Q (Failed fault) it = tt
-
-      failed : (Q : Type 0) (e : TablesFault) → OnFailed {T = T} (Err e) Q → OnFailed {T = Unit {0}} (Err e) Q
-      failed Q NotOurs it = tt
-      failed Q OldSchema it = tt
-      failed Q (Failed fault.Store) it = it
-      failed Q (Failed fault.Memory) it = tt
 
   -- tables of schema 1
   pub old_opens
@@ -228,21 +258,20 @@ module _ {S : Type 0} {g : Ghosts S} where
       was = λ clean. tt;
       err = λ honest. it.goes.kept honest;
       ours = λ clean. tt;
+      told = λ clean. tt;
       crash = λ honest clean db may. inl (it.goes.quiet honest clean db may);
     };
     numbered = λ clean. subst (λ k. IsKnown k (state g a).now) is (it.found clean).1;
-    told = λ cannot clean. tt;
     quiet = λ _ honest. it.goes.quiet honest;
   }
 
   -- tables that were found ours, to which those of derived records are added
   pub then_opens
-      : {a b c : Held S} {N : Database → Type 0} (known : Bool) (r : Result (Unit {0}) TablesFault) → Opens g a b (Ok known) (λ db is. IsKnown is db) N → Brings g b c r IsOpened ⊥ → OnOldSchema r ⊥
+      : {a b c : Held S} {N : Database → Type 0} (known : Bool) (r : Result (Unit {0}) TablesFault) → Opens g a b (Ok known) (λ db is. IsKnown is db) N → Brings g b c r IsOpened ⊥ (LacksDerived (state g b).now) → OnOldSchema r ⊥
       → (IsHonest g b → ¬ CanAdd (state g b).now.schema → (c ≡ b) × OnErr r ⊥) → OpensTables g a c r
   then_opens {a} {b} {c} known r first next current none = record {
-    brings = then_brings (λ db. ¬ IsOurs db × ¬ IsNumbered db 1) known r first (brings_as r (λ before after it. it) (λ never. absurd never) next);
+    brings = then_brings (λ db. ¬ IsOurs db × ¬ IsNumbered db 1) LacksDerived known r first (brings_as r (λ before after it. it) (λ never. absurd never) (λ lacks. lacks) next);
     numbered = λ clean. old _ r current;
-    told = λ cannot clean. let back = next.lasts.clean clean in no_err _ r ((none (live back) (subst (λ (db : Database). ¬ CanAdd db.schema) (sym (first.same back).now_is) cannot)).1);
     quiet = λ nothing honest clean db may. quiet r (next.ours clean) current nothing honest clean db may;
   }
     where
@@ -254,10 +283,6 @@ module _ {S : Type 0} {g : Ghosts S} where
       old Q (Err NotOurs) it = tt
       old Q (Err OldSchema) it = absurd it
       old Q (Err (Failed fault)) it = tt
-
-      no_err : (Q : Type 0) (r : Result (Unit {0}) TablesFault) → OnErr r ⊥ → OnFailed r Q
-      no_err Q (Ok u) it = tt
-      no_err Q (Err e) it = absurd it
 
       still : ¬ CanAdd (state g a).now.schema → IsHonest g a → LeavesNoMore g a c
       still cannot honest clean db may =
@@ -273,7 +298,7 @@ module _ {S : Type 0} {g : Ghosts S} where
 
 -- ---- a connection whose limit on steps was cleared before
 
-module _ {S : Type 0} {g : Ghosts S} {old new : Held S} {R : Database → Database → Type 0} {N : Type 0} (it : Brings g old new (Ok tt) R N) (clean : HasCleanDisk (state g new)) where
+module _ {S : Type 0} {g : Ghosts S} {old new : Held S} {R : Database → Database → Type 0} {N F : Type 0} (it : Brings g old new (Ok tt) R N F) (clean : HasCleanDisk (state g new)) where
   rests : IsAtRest g new × R (state g old).now (state g new).now
   rests = it.done (it.was clean) clean
 
@@ -286,6 +311,9 @@ module _ {S : Type 0} {g : Ghosts S} {old new : Held S} {R : Database → Databa
 
     pub is_brought : R (state g conn).now (state g new).now
     is_brought = subst (λ (h : Held S). R (state g h).now (state g new).now) cleared rests.1
+
+    pub is_committed : R (state g conn).now (state g new).committed
+    is_committed = subst (λ (db : Database). R (state g conn).now db) rests.0.settled is_brought
 
     module _ (holds : Holds (state g new).now) where
       pub are_sound : KeepsConstraints (lists_of (state g new).now) → AreInOrder (lists_of (state g new).committed) × KeepsConstraints (lists_of (state g new).committed)

@@ -35,7 +35,7 @@ on_ours (Err NotOurs) f a = f a
 on_ours (Err OldSchema) f a = tt
 on_ours (Err (Failed fault)) f a = tt
 
-on_failed : {T A B : Type 0} (r : Result T TablesFault) → (A → B) → OnFailed r A → OnFailed r B
+pub on_failed : {T A B : Type 0} (r : Result T TablesFault) → (A → B) → OnFailed r A → OnFailed r B
 on_failed (Ok x) f a = tt
 on_failed (Err NotOurs) f a = tt
 on_failed (Err OldSchema) f a = tt

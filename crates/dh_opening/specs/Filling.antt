@@ -35,6 +35,10 @@ pub record IsBrought (lists : Lists) (before after : Database) : Type 0 where
 abbrev pub IsOpened : Database → Database → Type 0
 IsOpened before after = IsOurs before × IsBrought (base_of (lists_of before)) before after
 
+-- Tables of ours to which those of derived records are still to be added.
+abbrev pub LacksDerived : Database → Type 0
+LacksDerived db = IsOurs db × CanAdd db.schema
+
 -- Nothing is added where the tables are found not to be ours, or of schema 1, or where none can be added.
 abbrev pub AddsNothing : TablesFault → Database → Type 0
 AddsNothing NotOurs db = ⊤
@@ -64,8 +68,8 @@ module _ {S : Type 0} (g : Ghosts S) where
     LeavesOpened = LeavesBrought IsOpened
 
     -- What changes leave that bring a database to another, in a transaction of their own. Where the tables are told not
-    -- to be ours, N.
-    pub record Brings (result : Result (Unit {0}) TablesFault) (R : Database → Database → Type 0) (N : Type 0) : Type 0 where
+    -- to be ours, N; and F, where what changes them may be refused at any store.
+    pub record Brings (result : Result (Unit {0}) TablesFault) (R : Database → Database → Type 0) (N F : Type 0) : Type 0 where
       pub lasts : Lasts g old new
       pub done
           : IsHonest g old → HasCleanDisk (state g new)
@@ -74,14 +78,15 @@ module _ {S : Type 0} (g : Ghosts S) where
       pub was : HasCleanDisk (state g new) → OnOk result (IsHonest g old)
       pub err : IsHonest g new → OnErr result ((state g new).committed ≡ (state g old).committed)
       pub ours : HasCleanDisk (state g new) → OnNotOurs result N
+      -- `Store` is told for a fault of the store, but under F
+      pub told : HasCleanDisk (state g new) → OnFailed result (IsBlamed g old new ⊎ F)
       pub crash : LeavesBrought R
 
     -- What opening tables leaves, those of derived records being added where they are missing.
     pub record OpensTables (result : Result (Unit {0}) TablesFault) : Type 0 where
-      pub brings : Brings result IsOpened (¬ IsOurs (state g old).now × ¬ IsNumbered (state g old).now 1)
+      pub brings
+          : Brings result IsOpened (¬ IsOurs (state g old).now × ¬ IsNumbered (state g old).now 1)
+          (LacksDerived (state g old).now)
       pub numbered : HasCleanDisk (state g new) → OnOldSchema result (IsNumbered (state g old).now 1)
-      -- `Store` is told for a fault of the store alone, where nothing is added
-      pub told
-          : ¬ CanAdd (state g old).now.schema → HasCleanDisk (state g new) → OnFailed result (IsBlamed g old new)
       -- where nothing is added a crash leaves nothing more
       pub quiet : IsNothingAdded result (state g old).now → IsHonest g old → LeavesNoMore g old new

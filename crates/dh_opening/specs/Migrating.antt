@@ -13,7 +13,7 @@ use Rattle.dh_migrating.specs.Converting.{CanConvert}
 use Rattle.dh_migrating.specs.OldPasses.{old_pass_table, old_passes, old_lists_of, IsOldPass}
 use Rattle.dh_opening.specs.declared.fault.TablesFault.{TablesFault}
 use Rattle.dh_opening.specs.Opening.{AreKeptIn, IsNumbered, IsOurs, MayDerive, OnOldSchema, StandFor, other_tables}
-use Rattle.dh_opening.specs.Filling.{Brings, IsBrought, IsOpened, KeepsDerived, LeavesBrought}
+use Rattle.dh_opening.specs.Filling.{Brings, IsBrought, IsOpened, KeepsDerived, LacksDerived, LeavesBrought}
 
 -- The table of passes as schema 1 made it and our other tables stand alone, and the first can be dropped.
 pub record AreOldIn (schema : Schema) : Type 0 where
@@ -28,6 +28,10 @@ pub record IsOld (db : Database) : Type 0 where
   pub passes : StandFor old_passes IsOldPass (codes "pass") db (records_of old_passes (codes "pass") db)
   pub kept : AreKeptIn db (old_lists_of db)
   pub derived : MayDerive db
+
+-- Tables that migrating has to change.
+abbrev pub IsBehind : Database → Type 0
+IsBehind db = IsOld db ⊎ LacksDerived db
 
 -- What migrated tables show: if they were ours, what they showed, and if they were of schema 1, their records, each pass
 -- without an end; of derived records those that were there.
@@ -48,5 +52,7 @@ module _ {S : Type 0} (g : Ghosts S) (old new : Held S) where
 
   -- What migrating leaves.
   pub record Migrates (result : Result (Unit {0}) TablesFault) : Type 0 where
-    pub brings : Brings g old new result IsMigrated (¬ IsOurs (state g old).now × ¬ IsOld (state g old).now)
+    pub brings
+        : Brings g old new result IsMigrated (¬ IsOurs (state g old).now × ¬ IsOld (state g old).now)
+        (IsBehind (state g old).now)
     pub current : OnOldSchema result ⊥

@@ -7,7 +7,7 @@ ghost use Rattle.dh_rows.specs.Calls.{IsHonest, Lasts};
 ghost use Rattle.dh_schema.specs.Making.{CanAdd};
 ghost use Rattle.dh_migrating.specs.Converting.{Carries};
 ghost use Rattle.dh_opening.specs.Opening.{IsOurs, OnNotOurs, OnOldSchema};
-ghost use Rattle.dh_opening.specs.Filling.{Brings, IsAtRest, IsFilled, IsOpened, LeavesOpened};
+ghost use Rattle.dh_opening.specs.Filling.{Brings, IsAtRest, IsFilled, IsOpened, LacksDerived, LeavesOpened};
 
 use crate::fault::TablesFault;
 use dh_lookup::Fault;
@@ -51,7 +51,8 @@ fn fill_at_once<S: Alter>(conn: &mut Connection<S>) -> Result<(), TablesFault>
 pub(crate) fn complete<S: Alter>(conn: &mut Connection<S>) -> Result<(), TablesFault>
     requires rests { HasCleanDisk (state S.Store conn.old) → IsAtRest S.Store conn.old }
     requires ours { IsHonest S.Store conn.old → IsOurs (state S.Store conn.old).now }
-    ensures brings { Brings S.Store conn.old conn.new result IsOpened ⊥ }
+    ensures brings { Brings S.Store conn.old conn.new result IsOpened ⊥
+        (LacksDerived (state S.Store conn.old).now) }
     ensures current { OnOldSchema result ⊥ }
     ensures none { IsHonest S.Store conn.old → ¬ CanAdd (state S.Store conn.old).now.schema
         → (conn.new ≡ conn.old) × OnErr result ⊥ }

@@ -1,10 +1,10 @@
 //! Tables of schema 1 made tables of schema 2.
 
-ghost use Rattle.std.specs.Prelude.{◌≡◌, ◌≢◌, false, None, IfErr, IfOk, IsTrue, OnErr, OnOk};
+ghost use Rattle.std.specs.Prelude.{◌≡◌, ◌≢◌, ◌⊎◌, false, None, IfErr, IfOk, IsTrue, OnErr, OnOk};
 ghost use Rattle.sqlite.specs.Effect.{Database, IsDatabase};
 ghost use Rattle.sqlite.specs.Held.{state};
 ghost use Rattle.sqlite.specs.State.{HasCleanDisk};
-ghost use Rattle.dh_rows.specs.Calls.{GoesWithin, IsHonest, Lasts, LeavesCommitted, committed, seen};
+ghost use Rattle.dh_rows.specs.Calls.{GoesWithin, IsBlamed, IsHonest, Lasts, LeavesCommitted, committed, seen};
 ghost use Rattle.dh_records.specs.Codings.{passes};
 ghost use Rattle.dh_records.specs.Constraints.{AreInOrder, InOrder, KeepsConstraints};
 ghost use Rattle.dh_schema.specs.Making.{CommitsNothing};
@@ -12,9 +12,9 @@ ghost use Rattle.dh_schema.specs.Tables.{lists_of};
 ghost use Rattle.dh_constraints.specs.Lists.{lists_in};
 ghost use Rattle.dh_migrating.specs.Converting.{Carries, IsConverted, IsConvertible};
 ghost use Rattle.dh_migrating.specs.OldPasses.{old_lists_of};
-ghost use Rattle.dh_opening.specs.Opening.{IsNumbered, IsOurs, OnNotOurs, OnOldSchema, Opens};
+ghost use Rattle.dh_opening.specs.Opening.{IsNumbered, IsOurs, OnFailed, OnNotOurs, OnOldSchema, Opens};
 ghost use Rattle.dh_opening.specs.Filling.{IsAtRest, IsFilled};
-ghost use Rattle.dh_opening.specs.Migrating.{IsMigrated, IsOld, IsShown, LeavesMigrated, Migrates};
+ghost use Rattle.dh_opening.specs.Migrating.{IsBehind, IsMigrated, IsOld, IsShown, LeavesMigrated, Migrates};
 
 use crate::fault::TablesFault;
 use crate::filling::{complete, fill};
@@ -70,6 +70,8 @@ fn convert_tables<S: Alter>(conn: &mut Connection<S>, alloc: Global) -> Result<(
         × IsMigrated (state S.Store conn.old).now (state S.Store conn.new).now) }
     ensures ours { HasCleanDisk (state S.Store conn.new)
         → OnNotOurs result (¬ IsOld (state S.Store conn.old).now) }
+    ensures told { HasCleanDisk (state S.Store conn.new) → OnFailed result
+        (IsBlamed S.Store conn.old conn.new ⊎ IsBehind (state S.Store conn.old).now) }
     ensures current { OnOldSchema result ⊥ }
 {
     let records = old_records(conn, alloc)?;
@@ -81,6 +83,7 @@ fn convert_tables<S: Alter>(conn: &mut Connection<S>, alloc: Global) -> Result<(
 
 /// The same in a transaction of its own. A connection that is refused may still be in it.
 fn migrate_tables<S: Alter>(conn: &mut Connection<S>, alloc: Global) -> Result<(), TablesFault>
+    requires outside { HasCleanDisk (state S.Store conn.old) → conn.old.in_transaction ≡ false }
     requires unlimited { conn.old.step_limit ≡ None }
     requires number { IsHonest S.Store conn.old → IsNumbered (state S.Store conn.old).now 1 }
     ensures lasts { Lasts S.Store conn.old conn.new }
@@ -93,6 +96,8 @@ fn migrate_tables<S: Alter>(conn: &mut Connection<S>, alloc: Global) -> Result<(
     ensures ours { HasCleanDisk (state S.Store conn.new)
         → OnNotOurs result (¬ IsOurs (state S.Store conn.old).now
         × ¬ IsOld (state S.Store conn.old).now) }
+    ensures told { HasCleanDisk (state S.Store conn.new) → OnFailed result
+        (IsBlamed S.Store conn.old conn.new ⊎ IsBehind (state S.Store conn.old).now) }
     ensures current { OnOldSchema result ⊥ }
     ensures crash { LeavesMigrated S.Store conn.old conn.new }
 {
@@ -129,6 +134,8 @@ pub fn migrate<S: Alter>(
     requires { conn.in_transaction ≡ false }
     ensures opened { IfOk result (λ t. HasCleanDisk (state S.Store t)
         → IsHonest S.Store conn × IsHonest S.Store t × (t.in_transaction ≡ false)) }
+    ensures brought { IfOk result (λ t. HasCleanDisk (state S.Store t)
+        → IsMigrated (state S.Store conn).now (state S.Store t).committed) }
     ensures shown { IfOk result (λ t. HasCleanDisk (state S.Store t)
         → IsShown (state S.Store conn).now (seen S.Store lists_of t)) }
     ensures last { IfOk result (λ t. HasCleanDisk (state S.Store t)
@@ -142,6 +149,9 @@ pub fn migrate<S: Alter>(
         → e.0 ≡ TablesFault.NotOurs
         → ¬ IsOurs (state S.Store conn).now × ¬ IsOld (state S.Store conn).now) }
     ensures current { IfErr result (λ e. e.0 ≢ TablesFault.OldSchema) }
+    ensures told { IfErr result (λ e. HasCleanDisk (state S.Store e.1)
+        → e.0 ≡ TablesFault.Failed Fault.Store
+        → IsBlamed S.Store conn e.1 ⊎ IsBehind (state S.Store conn).now) }
     ensures back { IfErr result (λ e. IsHonest S.Store e.1 → CommitsNothing S.Store conn e.1) }
     ensures stop { IfErr result (λ e. LeavesMigrated S.Store conn e.1) }
 {

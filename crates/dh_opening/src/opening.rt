@@ -1,17 +1,17 @@
 //! Our tables in a database: made where there is none of them, and opened where they stand.
 
-ghost use Rattle.std.specs.Prelude.{◌≡◌, ◌≢◌, false, None, IfErr, IfOk, IsTrue};
+ghost use Rattle.std.specs.Prelude.{◌≡◌, ◌≢◌, ◌⊎◌, false, None, IfErr, IfOk, IsTrue};
 ghost use Rattle.sqlite.specs.Held.{state};
 ghost use Rattle.sqlite.specs.State.{HasCleanDisk};
 ghost use Rattle.dh_rows.specs.Calls.{AreOurs, IsBlamed, IsHonest, LeavesCommitted, LeavesNoMore, committed, seen};
 ghost use Rattle.dh_records.specs.Codings as coding;
 ghost use Rattle.dh_records.specs.Constraints.{AreInOrder, InOrder, KeepsConstraints};
 ghost use Rattle.dh_records.specs.Lists.{Lists, base_of};
-ghost use Rattle.dh_schema.specs.Making.{CanAdd, CanMake, CommitsNothing, no_lists};
+ghost use Rattle.dh_schema.specs.Making.{CanAdd, CanMake, CommitsNothing, IsMade, no_lists};
 ghost use Rattle.dh_schema.specs.Tables.{Holds, lists_of};
 ghost use Rattle.dh_constraints.specs.Lists.{lists_in};
 ghost use Rattle.dh_opening.specs.Opening.{AreKeptIn, AreLaid, IsKnown, IsNumbered, IsOurs, MayDerive, Opens, other_tables};
-ghost use Rattle.dh_opening.specs.Filling.{AddsNothing, KeepsDerived, LeavesOpened, OpensTables};
+ghost use Rattle.dh_opening.specs.Filling.{AddsNothing, IsOpened, KeepsDerived, LacksDerived, LeavesOpened, OpensTables};
 
 use crate::fault::TablesFault;
 use crate::filling::complete;
@@ -112,12 +112,15 @@ pub fn create<S: Alter>(conn: Connection<S>) -> Result<Tables<S>, (TablesFault, 
         → seen S.Store lists_of t ≡ no_lists) }
     ensures last { IfOk result (λ t. IsHonest S.Store conn → HasCleanDisk (state S.Store t)
         → committed S.Store lists_of t ≡ no_lists) }
+    ensures made { IfOk result (λ t. IsHonest S.Store conn → HasCleanDisk (state S.Store t)
+        → IsMade (state S.Store t).committed) }
     ensures free { IfOk result (λ t. CanMake (state S.Store conn).now.schema) }
     ensures left { IfOk result (λ t. IsHonest S.Store t → LeavesCommitted S.Store lists_of t) }
     ensures ours { IfErr result (λ e. CanMake (state S.Store conn).now.schema
         → e.0 ≢ TablesFault.NotOurs) }
     ensures taken { IfErr result (λ e. ¬ CanMake (state S.Store conn).now.schema
         → e.0 ≡ TablesFault.NotOurs) }
+    ensures current { IfErr result (λ e. e.0 ≢ TablesFault.OldSchema) }
     ensures back { IfErr result (λ e. IsHonest S.Store e.1 → CommitsNothing S.Store conn e.1) }
 {
     let mut conn = conn;
@@ -175,6 +178,8 @@ pub fn open<S: Alter>(
     requires { conn.in_transaction ≡ false }
     ensures opened { IfOk result (λ t. HasCleanDisk (state S.Store t)
         → IsHonest S.Store conn × IsHonest S.Store t × (t.in_transaction ≡ false)) }
+    ensures brought { IfOk result (λ t. HasCleanDisk (state S.Store t)
+        → IsOpened (state S.Store conn).now (state S.Store t).committed) }
     ensures seen { IfOk result (λ t. HasCleanDisk (state S.Store t)
         → base_of (seen S.Store lists_of t) ≡ base_of (seen S.Store lists_of conn)) }
     ensures derived { IfOk result (λ t. HasCleanDisk (state S.Store t)
@@ -193,9 +198,9 @@ pub fn open<S: Alter>(
         → ¬ IsOurs (state S.Store conn).now × ¬ IsNumbered (state S.Store conn).now 1) }
     ensures old { IfErr result (λ e. HasCleanDisk (state S.Store e.1)
         → e.0 ≡ TablesFault.OldSchema → IsNumbered (state S.Store conn).now 1) }
-    ensures told { IfErr result (λ e. ¬ CanAdd (state S.Store conn).now.schema
-        → HasCleanDisk (state S.Store e.1)
-        → e.0 ≡ TablesFault.Failed Fault.Store → IsBlamed S.Store conn e.1) }
+    ensures told { IfErr result (λ e. HasCleanDisk (state S.Store e.1)
+        → e.0 ≡ TablesFault.Failed Fault.Store
+        → IsBlamed S.Store conn e.1 ⊎ LacksDerived (state S.Store conn).now) }
     ensures back { IfErr result (λ e. IsHonest S.Store e.1 → CommitsNothing S.Store conn e.1) }
     ensures kept { IfErr result (λ e. AddsNothing e.0 (state S.Store conn).now
         → IsHonest S.Store conn → LeavesNoMore S.Store conn e.1) }

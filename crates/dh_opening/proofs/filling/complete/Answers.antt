@@ -1,7 +1,7 @@
 use Rattle.std.proofs.Common.{inr, refl, rules, subst}
 use Rattle.sqlite.specs.Held.{state}
 use Rattle.dh_schema.specs.Making.{CanAdd}
-use Rattle.dh_opening.proofs.BringLemmas.{brings_nothing}
+use Rattle.dh_opening.proofs.BringLemmas.{any_failed, brings_nothing}
 use Rattle.dh_opening.proofs.FillLemmas.{ours_brought}
 use Rattle.dh_opening.proofs.Spelling.{not_alone}
 use Rattle.dh_opening.proofs.filling.complete.Goals as goal
@@ -14,6 +14,9 @@ returns-then-can_add g c = record {
     was = c.fill_at_once.ensures.was;
     err = c.fill_at_once.ensures.err;
     ours = λ clean. c.fill_at_once.ensures.ours;
+    told = λ clean.
+        any_failed c.fill_at_once.result
+        (inr (c.requires.ours (c.requires.rests (c.fill_at_once.ensures.lasts.clean clean)).honest, subst CanAdd c.schema.ensures.value (c.can_add.ensures.0 (search rules))));
     crash = c.fill_at_once.ensures.crash;
   };
   current = c.fill_at_once.ensures.current;

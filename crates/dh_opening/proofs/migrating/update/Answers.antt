@@ -1,5 +1,5 @@
-use Rattle.std.proofs.Common.{Bool, inl}
-use Rattle.dh_opening.specs.Migrating.{IsOld}
+use Rattle.std.proofs.Common.{◌∙◌, Bool, inl, inr}
+use Rattle.dh_opening.specs.Migrating.{IsBehind, IsOld}
 use Rattle.dh_opening.specs.Opening.{IsOurs}
 use Rattle.dh_opening.proofs.BringLemmas.{brings_as, handed_brings, never_old, ours_then, rests_then, then_brings}
 use Rattle.dh_opening.proofs.migrating.update.Goals as goal
@@ -21,21 +21,25 @@ complete-requires g c = record {
 pub returns-then-branch : goal.returns-then-branch
 returns-then-branch g c = record {
   migrates = record {
-    brings = then_brings (λ db. ¬ IsOurs db × ¬ IsOld db) c.in_ok-is_current.field-0 c.complete.result c.in_ok-is_current.ensures.opens (brings_as c.complete.result (λ before after it. inl it) (λ never. absurd never) c.complete.ensures.brings);
+    brings = then_brings (λ db. ¬ IsOurs db × ¬ IsOld db) IsBehind c.in_ok-is_current.field-0 c.complete.result c.in_ok-is_current.ensures.opens (brings_as c.complete.result (λ before after it. inl it) (λ never. absurd never) inr c.complete.ensures.brings);
     current = c.complete.ensures.current;
   };
 }
 
+pub migrate_tables-requires-clause-outside : goal.migrate_tables-requires-clause-outside
+migrate_tables-requires-clause-outside g c clean = (c.in_ok-is_current.ensures.opens.same clean).mode ∙ c.requires.outside
+
 pub returns-else-branch : goal.returns-else-branch
 returns-else-branch g c = record {
   migrates = record {
-    brings = then_brings (λ db. ¬ IsOurs db × ¬ IsOld db) c.in_ok-is_current.field-0 c.migrate_tables.result c.in_ok-is_current.ensures.opens
+    brings = then_brings (λ db. ¬ IsOurs db × ¬ IsOld db) IsBehind c.in_ok-is_current.field-0 c.migrate_tables.result c.in_ok-is_current.ensures.opens
         (record {
           lasts = c.migrate_tables.ensures.lasts;
           done = c.migrate_tables.ensures.done;
           was = c.migrate_tables.ensures.was;
           err = c.migrate_tables.ensures.err;
           ours = c.migrate_tables.ensures.ours;
+          told = c.migrate_tables.ensures.told;
           crash = c.migrate_tables.ensures.crash;
         });
     current = c.migrate_tables.ensures.current;

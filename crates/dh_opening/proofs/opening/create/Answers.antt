@@ -1,9 +1,10 @@
-use Rattle.std.proofs.Common.{◌∙◌, ap, rules, subst}
+use Rattle.std.proofs.Common.{◌∙◌, ap, rules, subst, sym}
 use Rattle.sqlite.specs.Effect.{Database}
 use Rattle.sqlite.specs.Held.{state}
 use Rattle.dh_schema.specs.Tables.{Holds, lists_of}
 use Rattle.dh_rows.proofs.Indexes.{placed}
-use Rattle.dh_schema.specs.Making.{CanMake}
+use Rattle.dh_rows.specs.Calls.{IsHonest}
+use Rattle.dh_schema.specs.Making.{CanMake, IsMade}
 use Rattle.dh_opening.proofs.opening.create.Goals as goal
 
 pub make_at_once-requires-clause-placed : goal.make_at_once-requires-clause-placed
@@ -14,6 +15,11 @@ make_at_once-requires-clause-can g c = subst CanMake c.schema.ensures.value (c.c
 
 pub returns-in-Ok-clause-free : goal.returns-in-Ok-clause-free
 returns-in-Ok-clause-free g c = subst (λ h. CanMake (state g.S.Store h).now.schema) c.set_step_limit.ensures (subst CanMake c.schema.ensures.value (c.can_make.ensures.0 (search rules)))
+
+pub returns-in-Ok-clause-made : goal.returns-in-Ok-clause-made
+returns-in-Ok-clause-made g c = rw c.over.ensures (λ honest clean.
+    let it = c.in-Ok.ensures.ok (subst (IsHonest g.S.Store) (sym c.set_step_limit.ensures) honest) clean in
+    subst IsMade it.settled it.made)
 
 pub over-requires : goal.over-requires
 over-requires g c = record {

@@ -1,12 +1,11 @@
-use Rattle.std.proofs.Common.{◌∙◌, Err, ap, subst}
+use Rattle.std.proofs.Common.{◌∙◌, ◌⊎◌, Err, ap, subst}
 use Rattle.sqlite.specs.Held.{state}
-use Rattle.sqlite.specs.State.{HasCleanDisk}
 use Rattle.dh_rows.specs.Calls.{IsBlamed, IsHonest, LeavesNoMore}
 use Rattle.dh_schema.specs.Making.{CanAdd}
 use Rattle.dh_schema.specs.Tables.{lists_of}
 use Rattle.dh_opening.specs.Opening.{IsNumbered, IsOurs, OnFailed}
-use Rattle.dh_opening.specs.Filling.{AddsNothing, LeavesOpened}
-use Rattle.dh_opening.proofs.BringLemmas.{is_open, is_brought, is_last, are_sound, keeps}
+use Rattle.dh_opening.specs.Filling.{AddsNothing, LacksDerived, LeavesOpened}
+use Rattle.dh_opening.proofs.BringLemmas.{is_open, is_brought, is_committed, is_last, are_sound, keeps}
 use Rattle.dh_opening.proofs.OpenLemmas.{on_not_ours, on_old_schema, on_store_failed}
 use Rattle.dh_opening.proofs.opening.open.Goals as goal
 
@@ -17,6 +16,9 @@ finish-requires g c = record {
 
 pub returns-in-Ok-clause-opened : goal.returns-in-Ok-clause-opened
 returns-in-Ok-clause-opened g c = rw c.finish.ensures (λ clean. is_open c.in-Ok.ensures.opens.brings clean c.args.conn c.set_step_limit.ensures)
+
+pub returns-in-Ok-clause-brought : goal.returns-in-Ok-clause-brought
+returns-in-Ok-clause-brought g c = rw c.finish.ensures (λ clean. is_committed c.in-Ok.ensures.opens.brings clean c.args.conn c.set_step_limit.ensures)
 
 pub returns-in-Ok-clause-seen : goal.returns-in-Ok-clause-seen
 returns-in-Ok-clause-seen g c = rw c.finish.ensures (λ clean. (is_brought c.in-Ok.ensures.opens.brings clean c.args.conn c.set_step_limit.ensures).1.base)
@@ -49,9 +51,9 @@ pub returns-in-Err-clause-old : goal.returns-in-Err-clause-old
 returns-in-Err-clause-old g c clean is = subst (λ h. IsNumbered (state g.S.Store h).now 1) c.set_step_limit.ensures (on_old_schema (Unit {0}) _ c.in-Err.fault (c.in-Err.ensures.opens.numbered clean) is)
 
 pub returns-in-Err-clause-told : goal.returns-in-Err-clause-told
-returns-in-Err-clause-told g c cannot clean is =
+returns-in-Err-clause-told g c clean is =
     on_store_failed (Unit {0}) _ c.in-Err.fault
-    (subst (λ h. ¬ CanAdd (state g.S.Store h).now.schema → HasCleanDisk (state g.S.Store c.open_tables.new.conn) → OnFailed {T = Unit {0}} (Err c.in-Err.fault) (IsBlamed g.S.Store h c.open_tables.new.conn)) c.set_step_limit.ensures c.in-Err.ensures.opens.told cannot clean) is
+    (subst (λ h. OnFailed {T = Unit {0}} (Err c.in-Err.fault) (IsBlamed g.S.Store h c.open_tables.new.conn ⊎ LacksDerived (state g.S.Store h).now)) c.set_step_limit.ensures (c.in-Err.ensures.opens.brings.told clean)) is
 
 pub returns-in-Err-clause-kept : goal.returns-in-Err-clause-kept
 returns-in-Err-clause-kept g c = subst (λ h. AddsNothing c.in-Err.fault (state g.S.Store h).now → IsHonest g.S.Store h → LeavesNoMore g.S.Store h c.open_tables.new.conn) c.set_step_limit.ensures c.in-Err.ensures.opens.quiet
