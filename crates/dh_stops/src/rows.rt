@@ -7,7 +7,7 @@ use sqlite::{Alter, Connection};
 use std::alloc::{AllocError, Global};
 
 /// Each of our tables, in the order of its key.
-const TABLES: [&str; 11] = [
+const TABLES: [&str; 13] = [
     "SELECT * FROM meta ORDER BY schema",
     "SELECT * FROM rule ORDER BY host, place",
     "SELECT * FROM redirect ORDER BY host, place",
@@ -19,6 +19,8 @@ const TABLES: [&str; 11] = [
     "SELECT * FROM pick ORDER BY host, name",
     "SELECT * FROM pass ORDER BY host, pass",
     "SELECT * FROM holds ORDER BY host, pass, slug",
+    "SELECT * FROM alias ORDER BY host, class, name",
+    "SELECT * FROM route ORDER BY host, seg, place",
 ];
 
 /// Adds the rows of a query as text, or why there are none.
