@@ -3,6 +3,7 @@
 
 mod beginnings;
 mod handed;
+mod kept;
 mod logs;
 mod passes;
 mod streams;
