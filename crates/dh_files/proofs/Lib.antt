@@ -1,2 +1,0 @@
-pub mod SettleLemmas
-pub mod CountLemmas
