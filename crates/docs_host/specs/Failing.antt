@@ -5,6 +5,7 @@ use Rattle.dh_lines.specs.declared.lines.Order.{Order}
 use Rattle.dh_lines.specs.declared.lines.Order.TheVariants as order
 use Rattle.dh_world.specs.World.{Text}
 use Rattle.docs_host.specs.Orders.{has_bad_target}
+use Rattle.docs_host.specs.declared.lists.ListFileFault.TheVariants.{TooLong}
 use Rattle.docs_host.specs.declared.failure.Failure.{Failure}
 use Rattle.docs_host.specs.declared.failure.Failure.TheVariants.{File, List, Store, Memory, Bind, Write, Script, Request}
 use Rattle.docs_host.specs.declared.failure.Status.{Status}
@@ -42,6 +43,11 @@ is_of_server failure = is_of_output failure
 abbrev pub is_of_init : Failure → Bool
 is_of_init (File fault) = true
 is_of_init failure = false
+
+-- the file of a list has too many bytes
+abbrev pub is_too_long : Failure → Bool
+is_too_long (List TooLong) = true
+is_too_long failure = false
 
 -- the file of a list alone
 abbrev pub is_of_list : Failure → Bool

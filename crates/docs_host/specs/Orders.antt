@@ -1,11 +1,14 @@
 -- What an order does over a desk.
-use Rattle.std.specs.Prelude.{◌≡◌, ℕ, Bool, true, false, is_none, List, [], ◌∷◌, ◌++◌, Option, Result, Ok, Err, IfOk}
+use Rattle.std.specs.Prelude.{◌≡◌, ℕ, Bool, true, false, is_none, List, [], ◌∷◌, ◌++◌, codes, Option, Result, Ok, Err, IfOk}
+use Rattle.std.specs.Fmt.{decimal}
 use Rattle.std.specs.Io.KnownBytes.{Appends}
 use Rattle.dh_http.specs.Answers.{AnswersSource, Writes}
 use Rattle.dh_http.specs.declared.fault.Done.{Done as Answered}
 use Rattle.dh_lines.specs.Lines.{asking}
 use Rattle.dh_lines.specs.declared.lines.Order.{Order}
 use Rattle.dh_lines.specs.declared.lines.Order.TheVariants as order
+use Rattle.dh_lists.specs.Lists.{ReadsList}
+use Rattle.dh_lists.specs.declared.lists.ListFault.{ListFault}
 use Rattle.dh_paths.specs.Targets.{target_of}
 use Rattle.dh_script.specs.Running.{RunsScript}
 use Rattle.dh_script.specs.Script.{Performs}
@@ -34,6 +37,16 @@ single_status false = Done
 -- the command that adds these redirects to those of a project
 abbrev pub import_order : Text → List Redirect → Order
 import_order host list = order.Act (asking host (ImportRedirects list))
+
+-- what a list orders of a project: the command that adds the redirects that it writes; or what is wrong with it
+abbrev pub OrdersList : Text → List ℕ → Result Order ListFault → Type 0
+OrdersList host list (Ok order) =
+    (redirects : List Redirect) × ReadsList list (Ok redirects) × (order ≡ import_order host redirects)
+OrdersList host list (Err fault) = ReadsList list (Err fault)
+
+-- what is printed of a list whose record of this number writes no redirect
+abbrev pub bad_record : ℕ → Text
+bad_record number = codes "bad record " ++ decimal number
 
 -- an order was performed at a moment, what it prints was written, with LF, and the status says whether it was
 -- refused

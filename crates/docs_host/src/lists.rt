@@ -1,17 +1,23 @@
 //! Lists of redirects in files.
 
-ghost use Rattle.std.specs.Prelude.{◌≡◌, false, IfErr, IsTrue};
+ghost use Rattle.std.specs.Prelude.{◌≡◌, ◌≤◌, ◌<◌, ◌∷◌, ◌++◌, true, false, [], length, IfOk, IfErr, IfSome, OnOk, IsTrue};
+ghost use Rattle.std.specs.Io.KnownBytes.{Appends};
 ghost use Rattle.dh_server.specs.Telling.{TellsSome};
 ghost use Rattle.docs_host.specs.Ends.{Ended, may_end_single};
-ghost use Rattle.docs_host.specs.Failing.{may_fail, is_of_list, is_of_output};
+ghost use Rattle.docs_host.specs.Failing.{may_fail, is_of_list, is_of_output, is_too_long};
 ghost use Rattle.docs_host.specs.Failures.{list_name};
+ghost use Rattle.docs_host.specs.Orders as spec;
+ghost use Rattle.docs_host.specs.Orders.{OrdersList, bad_record};
 
 use crate::failure::{Failure, Status, put};
 use crate::orders::say;
 use crate::streams::Streams;
-use dh_lists::RecordFault;
+use dh_lines::Order;
+use dh_lists::{ListFault, RecordFault, read_list};
+use dh_paths::Text;
 use dh_ports::{Intake, Port, Sink, Source, Stop};
-use std::alloc::Global;
+use dh_world::{Command, CommandChange, Redirects};
+use std::alloc::{AllocError, Global};
 use std::fs::File;
 use std::io;
 
@@ -65,7 +71,8 @@ fn open_failure(error: &io::Error) -> Failure
 }
 
 fn read_failure(stop: Stop) -> Failure
-    ensures { IsTrue (may_fail is_of_list result) }
+    ensures fails { IsTrue (may_fail is_of_list result) }
+    ensures cause { is_too_long result ≡ false }
 {
     match stop {
         Stop::Read | Stop::TooManyTurns => Failure::List(ListFileFault::Unread),
@@ -77,7 +84,12 @@ fn read_failure(stop: Stop) -> Failure
 /// the system tells of a file is no promise.
 fn read_whole<R: Source>(alloc: Global, source: &mut R) -> Result<Vec<u8>, Failure>
     requires { R.broken source.old ≡ false }
-    ensures { IfErr result (λ failure. IsTrue (may_fail is_of_list failure)) }
+    ensures fails { IfErr result (λ failure. IsTrue (may_fail is_of_list failure)) }
+    ensures whole { IfOk result (λ bytes.
+        IfSome (R.left source.old) (λ input. bytes.items ≡ input)) }
+    ensures little { IfOk result (λ bytes. length bytes.items ≤ 1048576) }
+    ensures long { IfErr result (λ failure. is_too_long failure ≡ true
+        → IfSome (R.left source.old) (λ input. 1048576 < length input)) }
 {
     let mut intake = Intake::new(alloc);
     'pieces: loop {
@@ -102,6 +114,26 @@ pub fn read_list_file(rt: &HostRuntime, path: &str) -> Result<Vec<u8>, Failure>
     }
 }
 
+/// The command that adds these redirects to those of a project.
+fn import_order(alloc: Global, host: &Text, list: Redirects) -> Result<Order, AllocError>
+    ensures { IfOk result (λ order. order ≡ spec.import_order host.now list) }
+{
+    Ok(Order::Act(Command {
+        host: Text::copy_of(alloc, host.as_str())?,
+        change: CommandChange::ImportRedirects { list },
+    }))
+}
+
+/// The command that adds the redirects of a list to those of a project, or the record of it that writes none.
+pub fn order_in(alloc: Global, host: &Text, list: &[u8]) -> Result<Order, ListFault>
+    ensures { OrdersList host.now list.now result }
+{
+    match read_list(alloc, list) {
+        Ok(redirects) => Ok(import_order(alloc, host, redirects)?),
+        Err(fault) => Err(fault),
+    }
+}
+
 /// Says which record of a list writes no redirect, and tells why.
 pub fn refuse_record<R: Source, W: Sink, E: Sink>(
     alloc: Global,
@@ -112,6 +144,9 @@ pub fn refuse_record<R: Source, W: Sink, E: Sink>(
 ) -> Result<Status, Failure>
     requires { W.broken streams.old.sink ≡ false }
     ensures ends { Ended (λ status. IsTrue (may_end_single status)) is_of_output result }
+    ensures refuses { IfOk result (λ status. status ≡ Status.Refused) }
+    ensures says { OnOk result (Appends (W.held streams.old.sink) (W.held streams.new.sink)
+        (bad_record number ++ 10 ∷ [])) }
     ensures tells { TellsSome E.broken E.held streams.old.errors streams.new.errors }
 {
     let text = format!(in alloc; "bad record {number}")?;
