@@ -9,5 +9,5 @@ over-requires g c honest =
 
 pub returns-in-Ok-over : goal.returns-in-Ok-over
 returns-in-Ok-over g c = record {
-  opened = settled_after g.S.Store IsOpened c.args.conn c.count_projects.new.conn c.in-Ok.tables c.in-Ok-over.desk.tables c.in-Ok-over.ensures.tables (c.count_projects.ensures.same c.requires) c.in-Ok.ensures.opened c.in-Ok.ensures.brought;
+  opened = settled_after g.S.Store IsOpened c.args.conn c.count_projects-projects.new.conn c.in-Ok.tables c.in-Ok-over.desk.tables c.in-Ok-over.ensures.tables (c.count_projects-projects.ensures.same c.requires) c.in-Ok.ensures.opened c.in-Ok.ensures.brought;
 }
