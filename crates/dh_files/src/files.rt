@@ -1,12 +1,19 @@
 //! Files with tables of ours.
 
-ghost use Rattle.std.specs.Prelude.{◌≡◌, false, IfOk};
+ghost use Rattle.std.specs.Prelude.{◌≡◌, ◌≢◌, false, [], IfErr, IfOk};
+ghost use Rattle.sqlite.specs.Held.{state};
+ghost use Rattle.sqlite.specs.State.{HasCleanDisk};
+ghost use Rattle.dh_rows.specs.Calls.{IsHonest};
+ghost use Rattle.dh_schema.specs.Making.{IsMade};
+ghost use Rattle.dh_opening.specs.Filling.{IsOpened};
+ghost use Rattle.dh_opening.specs.Migrating.{IsMigrated};
+ghost use Rattle.dh_files.specs.Settling.{Settles};
 
 use crate::fault::FileFault;
 use crate::looking::{Found, look};
 use dh_desk::Desk;
 use dh_opening::TablesFault;
-use sqlite::{Alter, Connection, FileFrom, FileStore, Start};
+use sqlite::{Alter, Connection, Error, FileFrom, FileStore, Row, Start};
 use std::alloc::Global;
 
 /// A connection to a file, whose contents `S` stands for.
@@ -31,7 +38,13 @@ fn close<S: Start>(conn: FileConnection<S>) -> Result<(), FileFault> {
 }
 
 /// Makes the tables in a database that has none at all.
-fn make_tables<S: Alter + Drop>(conn: Connection<S>) -> Result<Connection<S>, FileFault> {
+fn make_tables<S: Alter + Drop>(conn: Connection<S>) -> Result<Connection<S>, FileFault>
+    ensures made { IfOk result (λ c. IsHonest S.Store conn → HasCleanDisk (state S.Store c)
+        → Settles S.Store (λ _ after. IsMade after) conn c) }
+    ensures bare { IfOk result (λ c. ((state S.Store conn).now.schema.tables ≡ [])
+        × ((state S.Store conn).now.schema.views ≡ [])) }
+    ensures current { IfErr result (λ e. e ≢ FileFault.OldSchema) }
+{
     if !conn.schema().tables.is_empty() || !conn.schema().views.is_empty() {
         return Err(FileFault::Taken);
     }
@@ -50,11 +63,26 @@ pub fn init_file<S: Start>(rt: &HostRuntime, path: &str, start: S) -> Result<(),
     close(make_tables(connect(rt, path, start)?)?)
 }
 
+/// What counts the projects. Outside a transaction all that is seen stays.
+fn count_row<S: Alter>(conn: &mut Connection<S>) -> Result<Row, Error>
+    ensures outside { conn.old.in_transaction ≡ false → conn.new.in_transaction ≡ false }
+    ensures same { conn.old.in_transaction ≡ false → IsHonest S.Store conn.new
+        → IsHonest S.Store conn.old
+        × ((state S.Store conn.new).now ≡ (state S.Store conn.old).now) }
+{
+    // (this tells that what is seen was committed)
+    let _ = conn.is_autocommit();
+    conn.query_row("SELECT COUNT(*) FROM project", &[])
+}
+
 /// The number of projects; 0 where there is no such table, which the opening of the tables tells.
 fn count_projects<S: Alter>(conn: &mut Connection<S>) -> i64
-    ensures { conn.old.in_transaction ≡ false → conn.new.in_transaction ≡ false }
+    ensures outside { conn.old.in_transaction ≡ false → conn.new.in_transaction ≡ false }
+    ensures same { conn.old.in_transaction ≡ false → IsHonest S.Store conn.new
+        → IsHonest S.Store conn.old
+        × ((state S.Store conn.new).now ≡ (state S.Store conn.old).now) }
 {
-    match conn.query_row("SELECT COUNT(*) FROM project", &[]) {
+    match count_row(conn) {
         Ok(row) => row.get(0).unwrap_or(0),
         Err(_) => 0,
     }
@@ -66,6 +94,8 @@ fn open_tables<S: Alter + Drop>(
     conn: Connection<S>,
 ) -> Result<(Desk<S>, i64), FileFault>
     requires { conn.in_transaction ≡ false }
+    ensures opened { IfOk result (λ p. HasCleanDisk (state S.Store p.0.tables)
+        → Settles S.Store IsOpened conn p.0.tables) }
 {
     let mut conn = conn;
     let projects = count_projects(&mut conn);
@@ -111,6 +141,9 @@ fn migrate_tables<S: Alter + Drop>(
     conn: Connection<S>,
 ) -> Result<Connection<S>, FileFault>
     requires { conn.in_transaction ≡ false }
+    ensures migrated { IfOk result (λ c. HasCleanDisk (state S.Store c)
+        → Settles S.Store IsMigrated conn c) }
+    ensures current { IfErr result (λ e. e ≢ FileFault.OldSchema) }
 {
     match dh_opening::migrate(alloc, conn) {
         Ok(tables) => Ok(tables.into_conn()),
