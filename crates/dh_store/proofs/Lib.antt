@@ -4,6 +4,7 @@ pub mod Kept
 pub mod OneTable
 pub mod OurTables
 pub mod Statements
+pub mod GrantStatements
 pub mod Asking
 pub mod Finding
 pub mod Known

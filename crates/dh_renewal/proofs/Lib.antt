@@ -1,0 +1,3 @@
+pub mod Together
+pub mod FindingLemmas
+pub mod RenewingLemmas
