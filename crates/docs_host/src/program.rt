@@ -12,18 +12,19 @@ ghost use Rattle.docs_host.specs.Telling.{TellsEnd};
 ghost use Rattle.docs_host.specs.Telling as telling;
 
 use crate::failure::{Failure, Status, tell, tell_usage};
-use crate::lists::{order_in, read_list_file, refuse_record};
+use crate::lists::{read_list_file, refuse_record};
 use crate::orders::{run_lines, run_order, say};
 use crate::serving::Served;
 use crate::streams::Streams;
 use crate::usage::{tell_help, tell_mistake};
 use dh_files::{close_desk, init_file, migrate_file, open_desk};
 use dh_lines::{Line, LineFault, Order, line_of};
-use dh_lists::ListFault;
+use dh_lists::{ListFault, read_list};
 use dh_paths::Text;
 use dh_ports::{Sink, Source};
 use dh_sample::{answer_sample, empty_desk};
 use dh_script::is_bad_target;
+use dh_world::{Command, CommandChange, Redirects};
 use sqlite::Start;
 use std::alloc::{AllocError, Global};
 
@@ -110,6 +111,16 @@ fn migrate<S: Start>(rt: &HostRuntime, start: S, file: &str) -> Result<Status, F
     Ok(Status::Done)
 }
 
+/// The command that adds these redirects to those of a project.
+fn import_order(alloc: Global, host: &Text, list: Redirects) -> Result<Order, AllocError>
+    ensures { IfOk result (λ order. order ≡ spec.import_order host.now list) }
+{
+    Ok(Order::Act(Command {
+        host: Text::copy_of(alloc, host.as_str())?,
+        change: CommandChange::ImportRedirects { list },
+    }))
+}
+
 /// Adds the redirects of a list's file to those of a project, over the records of a file, which is opened
 /// once the list is read.
 fn import<S: Start, R: Source, W: Sink, E: Sink>(
@@ -128,8 +139,11 @@ fn import<S: Start, R: Source, W: Sink, E: Sink>(
     ensures tells { TellsSome E.broken E.held streams.old.errors streams.new.errors }
 {
     let bytes = read_list_file(rt, list.as_str())?;
-    match order_in(rt.alloc(), host, bytes.as_slice()) {
-        Ok(order) => run_over(rt, start, &order, file, streams, now),
+    match read_list(rt.alloc(), bytes.as_slice()) {
+        Ok(redirects) => {
+            let order = import_order(rt.alloc(), host, redirects)?;
+            run_over(rt, start, &order, file, streams, now)
+        }
         Err(ListFault::BadRecord(number, fault)) => {
             refuse_record(rt.alloc(), list.as_str(), number, fault, streams)
         }

@@ -4,7 +4,6 @@ use Rattle.dh_lines.specs.declared.lines.Order.{Order}
 use Rattle.dh_world.specs.declared.command.CommandChange.TheVariants.{ImportRedirects}
 use Rattle.docs_host.specs.Ends.{Ended, EndsOver}
 use Rattle.docs_host.specs.Failing.{is_of_file}
-use Rattle.docs_host.specs.Orders.{OrdersList}
 use Rattle.docs_host.proofs.Ending.{import_ended, list_failed, record_refused}
 use Rattle.docs_host.proofs.program.import.Goals as goal
 
@@ -15,12 +14,9 @@ returns-in_err-bytes-clause-ends g c =
 
 pub returns-in-Ok-clause-ends : goal.returns-in-Ok-clause-ends
 returns-in-Ok-clause-ends g c =
-    let host = c.args.host.now in
-    let made = subst (OrdersList host c.in_ok-bytes.bytes.items) c.in-Ok.is c.order_in.ensures in
-    let held = g.W.Sink.held c.args.streams.now.sink in
-    let now = g.W.Sink.held c.run_over.new.streams.sink in
-    let ended = subst (λ (o : Order). Ended (EndsOver o held now) (is_of_file o) c.run_over.result) made.2 c.run_over.ensures.ends in
-    import_ended host c.args.list.now held now (asking host (ImportRedirects made.0)) c.run_over.result ended
+    let ended = subst (λ (o : Order). Ended (EndsOver o (g.W.Sink.held c.args.streams.now.sink) (g.W.Sink.held c.run_over.new.streams.sink)) (is_of_file o) c.run_over.result)
+    c.in_ok-order-in-Ok.ensures c.run_over.ensures.ends in
+    import_ended c.args.host.now c.args.list.now (g.W.Sink.held c.args.streams.now.sink) (g.W.Sink.held c.run_over.new.streams.sink) (asking c.args.host.now (ImportRedirects c.in-Ok.redirects)) c.run_over.result ended
 
 pub returns-in-Err-BadRecord-clause-ends : goal.returns-in-Err-BadRecord-clause-ends
 returns-in-Err-BadRecord-clause-ends g c =
