@@ -1,13 +1,15 @@
 -- What stands after a command that was refused, and after a rollback.
-use Rattle.std.proofs.Common.{◌≡◌, false, is_ok, Result, Ok, Err, sym, subst, true≢false}
+use Rattle.std.proofs.Common.{◌≡◌, false, is_ok, Option, Result, Ok, Err, sym, subst, true≢false}
 use Rattle.sqlite_trees.specs.declared.store.Store.{Ghosts}
 use Rattle.sqlite.specs.Held.{Held}
 use Rattle.dh_records.specs.Lists.{Lists, world_of}
 use Rattle.dh_replies.specs.Kept.{AreRight}
 use Rattle.dh_replies.specs.declared.replies.Replies.{Replies}
-use Rattle.dh_derived.specs.Rightness.{AreRightAt}
+use Rattle.dh_schema.specs.Calling.{HasRecords}
 use Rattle.dh_tables.specs.Going.{last_records, records}
 use Rattle.dh_transactions.specs.Steps.{Steps, Transacts}
+use Rattle.dh_view.specs.Right.{IsRightAt}
+use Rattle.dh_view.proofs.RightLemmas.{right_from}
 use Rattle.dh_world.specs.World.{Text}
 use Rattle.dh_world.specs.declared.answer.Answer.{Answer}
 use Rattle.dh_world.specs.declared.command.Command.{Command}
@@ -19,12 +21,15 @@ stays : (before after : Lists) (command : Command) (r : Result Answer Refusal) �
 stays before after command (Ok answer) refused steps = absurd (true≢false refused)
 stays before after command (Err e) refused steps = steps.0
 
--- the stored rows of each host are right once all since the last commit is undone
-pub rows_right
+-- what is seen is consistent once all since the last commit is undone
+pub kept_records
     : {S : Type 0} (g : Ghosts S) (old new : Held S) → IsKept g old → Lasts g old new
-    → (IsHonest g new → records g new ≡ last_records g old) → (host : Text) → IsHonest g new → AreRightAt (records g new) host
-rows_right g old new kept lasts same host honest =
-    subst (λ l. AreRightAt l host) (sym (same honest)) ((kept (lasts.was honest)).right host)
+    → (IsHonest g new → records g new ≡ last_records g old) → HasRecords g new AreConsistent
+kept_records g old new kept lasts same honest = subst AreConsistent (sym (same honest)) (kept (lasts.was honest))
+
+-- the stored rows of each host are right then
+pub rows_right : {S : Type 0} (g : Ghosts S) (h : Held S) → HasRecords g h AreConsistent → (o : Option Text) → IsRightAt g h o
+rows_right g h consistent o host is honest = let it = consistent honest in right_from (records g h) host it.sound (it.right host)
 
 module _ {S : Type 0} (g : Ghosts S) (old new : Held S) (command : Command) (r : Result Answer Refusal) (did : Transacts g old new command r) (refused : is_ok r ≡ false) where
   same_records : IsHonest g new → last_records g new ≡ last_records g old

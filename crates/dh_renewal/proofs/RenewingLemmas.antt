@@ -19,7 +19,7 @@ use Rattle.dh_class_names.specs.declared.class_names.ClassNames.{ClassNames}
 use Rattle.dh_records.specs.Changes.{drop_aliases}
 use Rattle.dh_records.specs.Codings as coding
 use Rattle.dh_records.specs.Constraints.{InOrder, AreSound}
-use Rattle.dh_records.specs.Lists.{Lists, world_of, is_pass, is_pick_of, is_version_of}
+use Rattle.dh_records.specs.Lists.{Lists, base_of, world_of, is_pass, is_pick_of, is_version_of}
 use Rattle.dh_records.specs.declared.records.HeldRow.{HeldRow}
 use Rattle.dh_records.specs.declared.records.PickRow.{PickRow}
 use Rattle.dh_records.specs.declared.records.VersionRow.{VersionRow}
@@ -134,13 +134,18 @@ module _ {S : Type 0} (g : Ghosts S) (a c : Held S) (host : Text) where
       (renewed_right r host its.0 (records g a) its.1 (up before) its.2)
 
   right_of : (l next : Lists) → next ≡ host_renewed_at host l → InOrder coding.routes.key l.routes → (o : Option Project) → get (world_of l) host ≡ o → RightOf host l next
-  right_of l next is up None none = record {
-    here = λ p found. absurd (cc);
-    others = λ other apart it. subst (λ k. AreRightAt k other) (sym (is ∙ host_renewed_none host l none)) it;
-  }
+  right_of l next is up None none =
+      let same : next ≡ l = is ∙ host_renewed_none host l none in record {
+        base = ap base_of same;
+        none = λ _. same;
+        here = λ p found. absurd (cc);
+        others = λ other apart it. subst (λ k. AreRightAt k other) (sym same) it;
+      }
   right_of l next is up (Some p) found =
       let it = host_renewed_right host p l found up in
       let made : next ≡ host_renewed host p l = is ∙ ap (λ o. option_map_or (λ q. host_renewed host q l) o l) found in record {
+        base = ap base_of made ∙ it.base;
+        none = λ none. absurd (cc);
         here = λ q same. subst (λ k. AreRightAt k host) (sym made) it.here;
         others = λ other apart was. subst (λ k. AreRightAt k other) (sym made) (it.others other apart was);
       }

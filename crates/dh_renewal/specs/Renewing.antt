@@ -4,7 +4,7 @@ use Rattle.std.specs.FinMap.{get}
 use Rattle.std.specs.Str.{bytes_eq}
 use Rattle.dh_world.specs.World.{Text, Project}
 use Rattle.dh_class_names.specs.declared.class_names.ClassNames.{ClassNames}
-use Rattle.dh_records.specs.Lists.{Lists, world_of, class_text}
+use Rattle.dh_records.specs.Lists.{Lists, base_of, world_of, class_text}
 use Rattle.dh_derived.specs.Rightness.{AreRightAt}
 use Rattle.dh_derived.specs.Renewals.{AreRightBut}
 use Rattle.dh_derived.specs.Renewed.{set_names}
@@ -37,7 +37,10 @@ abbrev pub FindsBranch : Text → Lists → Option Text → Type 0
 FindsBranch host l None = get (world_of l) host ≡ None
 FindsBranch host l (Some branch) = HasBranch host branch l
 
--- The stored rows of a host are right, if it has a project, and those of each other host that were.
+-- The stored rows of a host are right, if it has a project, and those of each other host that were. Where it has none
+-- nothing has changed, and nowhere the records that the others are derived from.
 pub record RightOf (host : Text) (old new : Lists) : Type 0 where
+  pub base : base_of new ≡ base_of old
+  pub none : get (world_of old) host ≡ None → new ≡ old
   pub here : (p : Project) → get (world_of old) host ≡ Some p → AreRightAt new host
   pub others : (other : Text) → bytes_eq host other ≡ false → AreRightAt old other → AreRightAt new other

@@ -57,7 +57,7 @@ fn desk_over<S: Alter + Drop>(
     requires { conn.in_transaction ≡ false }
 {
     match open(alloc, conn) {
-        Ok(tables) => match Desk::over(alloc, tables) {
+        Ok(tables) => match Desk::open(alloc, tables) {
             Ok(desk) => Ok(desk),
             Err((fault, tables)) => Err((TablesFault::Failed(fault), tables.into_conn())),
         },

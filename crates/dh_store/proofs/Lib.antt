@@ -5,6 +5,7 @@ pub mod OneTable
 pub mod OurTables
 pub mod Statements
 pub mod GrantStatements
+pub mod WholeStatements
 pub mod Asking
 pub mod Finding
 pub mod Known

@@ -8,9 +8,8 @@ use Rattle.dh_plans.specs.Edits.{edited, all_edited, MayEdit, MayEditAll}
 use Rattle.dh_plans.specs.declared.edits.Edit.{Edit}
 use Rattle.dh_plans.specs.declared.edits.Edit.TheVariants.{AddLang, PutVersion, PutWithoutPages, RemoveVersion, PutPage, RemovePages, SetDefaults, SetRules, SetRedirects, AddPass, RemovePass, Grant, Revoke, PutAnswer}
 use Rattle.dh_rows.specs.Calls.{Goes, GoesWithin, IsHonest}
-use Rattle.dh_records.specs.Constraints.{AreInOrder, AreSound, KeepsConstraints}
+use Rattle.dh_records.specs.Constraints.{AreSound}
 use Rattle.dh_records.specs.Lists.{Lists, base_of, world_of}
-use Rattle.dh_records.proofs.BaseLemmas.{base_world, base_constraints, constraints_of_base, order_of_base}
 use Rattle.dh_derived.specs.Renewed.{renewed, renewed_at}
 use Rattle.dh_derived.specs.Rightness.{AreRight}
 use Rattle.dh_derived.specs.declared.renewals.Renewal.{Renewal}
@@ -18,6 +17,7 @@ use Rattle.dh_derived.proofs.RenewedLemmas.{renewed_base}
 use Rattle.dh_derived.proofs.RightLemmas.{right_but_covered}
 use Rattle.dh_renewal.specs.Finding.{CoversEdit}
 use Rattle.dh_renewal.specs.Renewing.{LacksRenewal}
+use Rattle.dh_renewal.proofs.SameBase.{same_sound, same_world}
 use Rattle.dh_schema.specs.InTurn.{goes_anywhere}
 use Rattle.dh_tables.specs.Going.{HasRecords, Makes, Sees, records}
 use Rattle.dh_tables.proofs.Together.{goes_within_on}
@@ -60,20 +60,6 @@ routes_stay host (RemovePass pass) l = refl
 routes_stay host (Grant pass slug) l = refl
 routes_stay host (Revoke pass slug) l = refl
 routes_stay host (PutAnswer a) l = refl
-
--- records that differ in derived rows alone spell one world, and are sound together
-same_world : (next l : Lists) → base_of next ≡ base_of l → world_of next ≡ world_of l
-same_world next l base = sym (base_world next) ∙ ap world_of base ∙ base_world l
-
-base_order : (l : Lists) → AreInOrder l → AreInOrder (base_of l)
-base_order l up = assumption (up.projects)
-
-same_sound : (next l : Lists) → base_of next ≡ base_of l → AreSound l → AreSound next
-same_sound next l base sound =
-    record {
-      order = order_of_base next (subst AreInOrder (sym base) (base_order l sound.order));
-      constraints = constraints_of_base next (subst KeepsConstraints (sym base) (base_constraints l sound.constraints));
-    }
 
 -- ---- one edit
 
