@@ -2,6 +2,7 @@
 
 ghost use Rattle.std.specs.Prelude.{◌≡◌, false};
 
+use crate::calls::run_list;
 use crate::rows::rows_of;
 use dh_desk::{Desk, Tables};
 use dh_opening::{TablesFault, create, migrate, open};
@@ -49,6 +50,18 @@ fn script_line<S: Alter>(
     String::from_str(alloc, text.trim_end())
 }
 
+/// What the calls of a list come to, which stand behind `run`, a line each, or what a line of a script prints.
+fn told_over<S: Alter>(
+    alloc: Global,
+    desk: &mut Desk<S>,
+    line: &str,
+) -> Result<String, AllocError> {
+    match line.strip_prefix("run\n") {
+        Some(calls) => run_list(alloc, desk, calls),
+        None => script_line(alloc, desk, line),
+    }
+}
+
 /// A desk over the tables that stand there.
 fn desk_over<S: Alter + Drop>(
     alloc: Global,
@@ -91,7 +104,7 @@ fn stated<S: Alter + Drop>(
     Ok((Told { began: true, said }, conn))
 }
 
-/// Runs a line: `rows`, `init`, `migrate`, a statement behind `= `, or else a line of a script.
+/// Runs a line: `rows`, `init`, `migrate`, a statement behind `= `, a list of calls behind `run`, or else a line of a script.
 pub fn tell<S: Alter + Drop>(
     alloc: Global,
     conn: Connection<S>,
@@ -115,7 +128,7 @@ pub fn tell<S: Alter + Drop>(
     match desk_over(alloc, conn) {
         Ok(desk) => {
             let mut desk = desk;
-            let said = script_line(alloc, &mut desk, line)?;
+            let said = told_over(alloc, &mut desk, line)?;
             Ok((Told { began: true, said }, desk.into_conn()))
         }
         Err((fault, conn)) => {
