@@ -1,8 +1,9 @@
 -- How runs end, by what is ordered and by what came of it.
 use Rattle.std.proofs.Common.{◌≡◌, ◌⊎◌, ◌∙◌, ℕ, ◌+◌, ◌-◌, ◌≤◌, arith, zero, suc, Bool, true, false, true≢false, List, [], ◌∷◌, ◌++◌, Option, Result, Ok, Err, refl, sym, ap, subst, inl, inr}
 use Rattle.std.proofs.lemmas.Result.{err_from_is_err_and}
-use Rattle.std.specs.Prelude.{IsTrue, IsErrAnd, None, drop, codes}
+use Rattle.std.specs.Prelude.{IsTrue, IsErrAnd, IfOk, OnOk, None, drop, codes}
 use Rattle.std.specs.FinMap.{empty}
+use Rattle.std.specs.Io.KnownBytes.{Appends}
 use Rattle.clap.specs.Faults.{fault_of, is_simple_and_free}
 use Rattle.clap.specs.Kinds.{IsAmong}
 use Rattle.clap.specs.Simple.{App}
@@ -16,17 +17,21 @@ use Rattle.dh_faults.specs.declared.fault.Fault.TheVariants as lookup
 use Rattle.dh_server.specs.Serving.{Steps}
 use Rattle.dh_world.specs.World.{Text, World}
 use Rattle.dh_world.specs.declared.command.Command.{Command}
+use Rattle.dh_world.specs.declared.command.CommandChange.TheVariants.{ImportRedirects}
 use Rattle.dh_lines.proofs.LineLemmas.{steady}
 use Rattle.dh_lines.specs.App.{docs_app}
 use Rattle.dh_lines.specs.declared.lines.Order.{Order}
 use Rattle.dh_lines.specs.declared.lines.Order.TheVariants as order
+use Rattle.dh_lists.specs.declared.lists.ListFault.{ListFault}
+use Rattle.dh_lists.specs.declared.lists.ListFault.TheVariants as listed
+use Rattle.dh_lists.specs.declared.lists.RecordFault.{RecordFault}
 use Rattle.dh_script.specs.Running.{RunsScript}
-use Rattle.dh_lines.specs.Lines.{line_in}
-use Rattle.docs_host.specs.Ends.{Ended, EndsError, EndsHelp, EndsScript, EndsChecked, EndsOver, EndsAsked, EndsWords}
+use Rattle.dh_lines.specs.Lines.{asking, line_in}
+use Rattle.docs_host.specs.Ends.{Ended, EndsError, EndsHelp, EndsScript, EndsChecked, EndsOver, EndsOrdered, EndsList, EndsAsked, EndsWords}
 use Rattle.docs_host.specs.Ends.{is_fault, status_after, may_end_order, may_end_single, asks_help, line_asked, line_run}
-use Rattle.docs_host.specs.Failing.{may_fail, IsDoneOr, is_of_output, is_of_list, is_of_script, is_of_checked, is_of_file, is_of_memory}
+use Rattle.docs_host.specs.Failing.{may_fail, IsDoneOr, is_of_output, is_of_list, is_of_script, is_of_command, is_of_checked, is_of_file, is_of_memory}
 use Rattle.docs_host.specs.Failures.{failure_of}
-use Rattle.docs_host.specs.Orders.{RunsRequest, has_bad_target}
+use Rattle.docs_host.specs.Orders.{OrdersList, RunsRequest, bad_record, has_bad_target}
 use Rattle.docs_host.specs.declared.failure.Failure.{Failure}
 use Rattle.docs_host.specs.declared.failure.Failure.TheVariants.{File, List as OfList, Store, Memory, Bind, Write, Script, Request}
 use Rattle.docs_host.specs.declared.failure.Status.{Status}
@@ -164,25 +169,80 @@ module _ (held now : Option Text) (o : Order) where
 
 -- ---- an import
 
+single_faulty : (s : Status) → s ≡ Faulty → IsTrue (may_end_single s)
+single_faulty s is = subst (λ (it : Status). IsTrue (may_end_single it)) (sym is) refl
+
+-- what is written may fail a command
+output_fails : (f : Failure) → MayEnd is_of_output f → MayEnd is_of_command f
+output_fails (File fault) it = refl
+output_fails (OfList fault) it = it
+output_fails Store it = it
+output_fails Memory it = refl
+output_fails Bind it = it
+output_fails Write it = refl
+output_fails (Script fault) it = it
+output_fails (Request fault) it = it
+
+act_fails : (c : Command) (f : Failure) → MayEnd (is_of_file (order.Act c)) f → MayEnd is_of_command f
+act_fails c (File fault) it = refl
+act_fails c (OfList fault) it = it
+act_fails c Store it = it
+act_fails c Memory it = refl
+act_fails c Bind it = it
+act_fails c Write it = refl
+act_fails c (Script fault) it = it
+act_fails c (Request fault) it = it
+
+module _ (host : Text) (bytes : List ℕ) (held now : Option Text) where
+  abbrev EndsListed : Result Status Failure → Type 0
+  EndsListed r = Ended (EndsList host bytes held now) is_of_command r
+
+  -- its command ended so
+  pub command_ended : (o : Order) (r : Result Status Failure) → OrdersList host bytes (Ok o)
+      → Ended (EndsOver o held now) (is_of_file o) r → EndsListed r
+  command_ended o (Ok status) orders it = ((Ok o, orders, it.0), it.1)
+  command_ended o (Err f) orders it =
+      let may = subst (λ (done : Order). MayEnd (is_of_file done) f) orders.2 it.1 in
+      ((Ok o, orders, it.0), act_fails (asking host (ImportRedirects orders.0)) f may)
+
+  -- a record of it was refused
+  pub record_ended : (number : ℕ) (fault : RecordFault) (r : Result Status Failure) → OrdersList host bytes (Err (listed.BadRecord number fault))
+      → Ended (λ s. IsTrue (may_end_single s)) is_of_output r → IfOk r (λ s. s ≡ Refused)
+      → OnOk r (Appends held now (bad_record number ++ 10 ∷ [])) → EndsListed r
+  record_ended number fault (Ok status) orders it refused says =
+      ((Err (listed.BadRecord number fault), orders, inl (refused, says)), it.1)
+  record_ended number fault (Err f) orders it refused says =
+      ((Err (listed.BadRecord number fault), orders, inr (is_faulty is_of_output (λ fault. refl) f it.1)), output_fails f it.1)
+
+  -- what it orders ends as a command may
+  ordered_may : (ordered : Result Order ListFault) (s : Status) → OrdersList host bytes ordered → EndsOrdered ordered held now s → IsTrue (may_end_single s)
+  ordered_may (Ok o) s orders ends = subst (λ (done : Order). EndsOver done held now s) orders.2 ends
+  ordered_may (Err (listed.BadRecord number fault)) s orders (inl ends) = subst (λ (it : Status). IsTrue (may_end_single it)) (sym ends.0) refl
+  ordered_may (Err (listed.BadRecord number fault)) s orders (inr is) = single_faulty s is
+  ordered_may (Err listed.Memory) s orders ends = single_faulty s ends.1
+
+-- memory was out before its command
+pub unlisted : (host : Text) (bytes : List ℕ) (held : Option Text) → EndsListed host bytes held held (Err Memory)
+unlisted host bytes held = ((Err listed.Memory, tt, (refl, refl)), refl)
+
 module _ (host list : Text) (held now : Option Text) where
   abbrev EndsImport : Result Status Failure → Type 0
   EndsImport r = Ended (EndsOver (order.Import host list) held now) (is_of_file (order.Import host list)) r
 
-  -- what its command may fail of it may fail of
-  import_may : (c : Command) (f : Failure) → MayEnd (is_of_file (order.Act c)) f → MayEnd (is_of_file (order.Import host list)) f
-  import_may c (File fault) it = refl
-  import_may c (OfList fault) it = refl
-  import_may c Store it = it
-  import_may c Memory it = refl
-  import_may c Bind it = it
-  import_may c Write it = refl
-  import_may c (Script fault) it = it
-  import_may c (Request fault) it = it
+  command_may : (f : Failure) → MayEnd is_of_command f → MayEnd (is_of_file (order.Import host list)) f
+  command_may (File fault) it = refl
+  command_may (OfList fault) it = refl
+  command_may Store it = it
+  command_may Memory it = refl
+  command_may Bind it = it
+  command_may Write it = refl
+  command_may (Script fault) it = it
+  command_may (Request fault) it = it
 
-  -- its command ended so
-  pub import_ended : (c : Command) (r : Result Status Failure) → Ended (EndsOver (order.Act c) held now) (is_of_file (order.Act c)) r → EndsImport r
-  import_ended c (Ok status) it = it
-  import_ended c (Err f) it = (it.0, import_may c f it.1)
+  -- what the list orders ended so
+  pub import_ended : (bytes : List ℕ) (r : Result Status Failure) → EndsListed host bytes held now r → EndsImport r
+  import_ended bytes (Ok status) it = (ordered_may host bytes held now it.0.0 status it.0.1 it.0.2, it.1)
+  import_ended bytes (Err f) it = (ordered_may host bytes held now it.0.0 (status_after f) it.0.1 it.0.2, command_may f it.1)
 
   list_may : (f : Failure) → MayEnd is_of_list f → EndsImport (Err f)
   list_may (File fault) it = (refl, refl)
@@ -197,21 +257,6 @@ module _ (host list : Text) (held now : Option Text) where
   -- the list was not read
   pub list_failed : (f : Failure) (r : Result Status Failure) → IsErrAnd r (λ failure. failure ≡ f) → MayEnd is_of_list f → EndsImport r
   list_failed f r is may = handed_on EndsImport f r is (list_may f may)
-
-  output_may : (f : Failure) → MayEnd is_of_output f → MayEnd (is_of_file (order.Import host list)) f
-  output_may (File fault) it = refl
-  output_may (OfList fault) it = refl
-  output_may Store it = it
-  output_may Memory it = refl
-  output_may Bind it = it
-  output_may Write it = refl
-  output_may (Script fault) it = it
-  output_may (Request fault) it = it
-
-  -- a record of it was refused
-  pub record_refused : (r : Result Status Failure) → Ended (λ s. IsTrue (may_end_single s)) is_of_output r → EndsImport r
-  record_refused (Ok status) it = it
-  record_refused (Err f) it = (it.0, output_may f it.1)
 
 -- ---- by the words
 

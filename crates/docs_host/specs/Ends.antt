@@ -18,9 +18,11 @@ use Rattle.dh_lines.specs.Lines.{line_in}
 use Rattle.dh_lines.specs.declared.lines.Line.{Line}
 use Rattle.dh_lines.specs.declared.lines.Order.{Order}
 use Rattle.dh_lines.specs.declared.lines.Order.TheVariants as order
+use Rattle.dh_lists.specs.declared.lists.ListFault.{ListFault}
+use Rattle.dh_lists.specs.declared.lists.ListFault.TheVariants as list
 use Rattle.dh_script.specs.Running.{RunsScript}
 use Rattle.docs_host.specs.Failing.{may_fail, is_of_output}
-use Rattle.docs_host.specs.Orders.{has_bad_target}
+use Rattle.docs_host.specs.Orders.{has_bad_target, OrdersList, bad_record}
 use Rattle.docs_host.specs.declared.failure.Failure.{Failure}
 use Rattle.docs_host.specs.declared.failure.Failure.TheVariants as failure
 use Rattle.docs_host.specs.declared.failure.Status.{Status}
@@ -107,6 +109,20 @@ EndsChecked false order held now status = IsTrue (may_end_order order status)
 
 abbrev pub EndsOver : Order → Option Text → Option Text → Status → Type 0
 EndsOver order = EndsChecked (has_bad_target order) order
+
+-- of what a list orders: its command ended so; a record that writes no redirect was told and refused, or
+-- 3; or memory was out, and nothing was written
+abbrev pub EndsOrdered : Result Order ListFault → Option Text → Option Text → Status → Type 0
+EndsOrdered (Ok order) held now status = EndsOver order held now status
+EndsOrdered (Err (list.BadRecord number fault)) held now status =
+    ((status ≡ Refused) × Appends held now (bad_record number ++ 10 ∷ [])) ⊎ (status ≡ Faulty)
+EndsOrdered (Err list.Memory) held now status = (now ≡ held) × (status ≡ Faulty)
+
+-- what a list of these bytes orders of a project ended so
+abbrev pub EndsList : Text → List ℕ → Option Text → Option Text → Status → Type 0
+EndsList host bytes held now status =
+    (ordered : Result Order ListFault) × OrdersList host bytes ordered
+    × EndsOrdered ordered held now status
 
 -- ---- by the words
 

@@ -54,6 +54,11 @@ abbrev pub is_of_list : Failure → Bool
 is_of_list (List fault) = true
 is_of_list failure = false
 
+-- a command over a file
+abbrev pub is_of_command : Failure → Bool
+is_of_command (File fault) = true
+is_of_command failure = is_of_output failure
+
 -- over a desk
 abbrev pub is_of_order : Order → Failure → Bool
 is_of_order order.Script failure = is_of_script failure

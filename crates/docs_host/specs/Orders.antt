@@ -7,6 +7,8 @@ use Rattle.dh_http.specs.declared.fault.Done.{Done as Answered}
 use Rattle.dh_lines.specs.Lines.{asking}
 use Rattle.dh_lines.specs.declared.lines.Order.{Order}
 use Rattle.dh_lines.specs.declared.lines.Order.TheVariants as order
+use Rattle.dh_lists.specs.Lists.{ReadsList}
+use Rattle.dh_lists.specs.declared.lists.ListFault.{ListFault}
 use Rattle.dh_paths.specs.Targets.{target_of}
 use Rattle.dh_script.specs.Running.{RunsScript}
 use Rattle.dh_script.specs.Script.{Performs}
@@ -35,6 +37,14 @@ single_status false = Done
 -- the command that adds these redirects to those of a project
 abbrev pub import_order : Text → List Redirect → Order
 import_order host list = order.Act (asking host (ImportRedirects list))
+
+-- what a list of these bytes orders of a project: the command that adds the redirects that it writes; or
+-- what is wrong with it
+abbrev pub OrdersList : Text → List ℕ → Result Order ListFault → Type 0
+OrdersList host bytes (Ok order) =
+    (redirects : List Redirect) × ReadsList bytes (Ok redirects)
+    × (order ≡ import_order host redirects)
+OrdersList host bytes (Err fault) = ReadsList bytes (Err fault)
 
 -- what is printed of a list whose record of this number writes no redirect
 abbrev pub bad_record : ℕ → Text

@@ -6,14 +6,18 @@ ghost use Rattle.dh_server.specs.Telling.{TellsSome};
 ghost use Rattle.docs_host.specs.Ends.{Ended, may_end_single};
 ghost use Rattle.docs_host.specs.Failing.{may_fail, is_of_list, is_of_output, is_too_long};
 ghost use Rattle.docs_host.specs.Failures.{list_name};
-ghost use Rattle.docs_host.specs.Orders.{bad_record};
+ghost use Rattle.docs_host.specs.Orders as spec;
+ghost use Rattle.docs_host.specs.Orders.{OrdersList, bad_record};
 
 use crate::failure::{Failure, Status, put};
 use crate::orders::say;
 use crate::streams::Streams;
-use dh_lists::RecordFault;
+use dh_lines::Order;
+use dh_lists::{ListFault, RecordFault, read_list};
+use dh_paths::Text;
 use dh_ports::{Intake, Port, Sink, Source, Stop};
-use std::alloc::Global;
+use dh_world::{Command, CommandChange, Redirects};
+use std::alloc::{AllocError, Global};
 use std::fs::File;
 use std::io;
 
@@ -53,6 +57,13 @@ impl ListFileFault {
             ListFileFault::TooLong => "this list has more than 1,048,576 bytes",
         }
     }
+}
+
+/// The file of a list, as it was read.
+#[derive(Clone, Copy)]
+pub struct ListFile<'a> {
+    pub path: &'a str,
+    pub bytes: &'a [u8],
 }
 
 fn open_failure(error: &io::Error) -> Failure
@@ -107,6 +118,26 @@ pub fn read_list_file(rt: &HostRuntime, path: &str) -> Result<Vec<u8>, Failure>
     match File::open(rt, path) {
         Ok(file) => read_whole(rt.alloc(), &mut Port::new(file)),
         Err(error) => Err(open_failure(&error)),
+    }
+}
+
+/// The command that adds these redirects to those of a project.
+fn import_order(alloc: Global, host: &Text, list: Redirects) -> Result<Order, AllocError>
+    ensures { IfOk result (λ order. order ≡ spec.import_order host.now list) }
+{
+    Ok(Order::Act(Command {
+        host: Text::copy_of(alloc, host.as_str())?,
+        change: CommandChange::ImportRedirects { list },
+    }))
+}
+
+/// The command that adds the redirects of a list to those of a project, or the record of it that writes none.
+pub fn order_in(alloc: Global, host: &Text, bytes: &[u8]) -> Result<Order, ListFault>
+    ensures { OrdersList host.now bytes.now result }
+{
+    match read_list(alloc, bytes) {
+        Ok(redirects) => Ok(import_order(alloc, host, redirects)?),
+        Err(fault) => Err(fault),
     }
 }
 

@@ -3,28 +3,27 @@
 ghost use Rattle.std.specs.Prelude.{◌≡◌, true, false, map, drop, string_bytes, option_map, IfOk, MatchOption, Some};
 ghost use Rattle.dh_server.specs.Telling.{TellsSome};
 ghost use Rattle.dh_lines.specs.Lines.{line_in};
-ghost use Rattle.docs_host.specs.Ends.{Ended, EndsScript, EndsRequest, EndsOver, EndsBy};
+ghost use Rattle.docs_host.specs.Ends.{Ended, EndsScript, EndsRequest, EndsOver, EndsList, EndsBy};
 ghost use Rattle.docs_host.specs.Ends.{EndsAsked, EndsWords, EndsProgram, asks_help, line_run};
-ghost use Rattle.docs_host.specs.Failing.{IsDoneOr, is_of_init, is_of_file, is_of_memory, is_of_run};
+ghost use Rattle.docs_host.specs.Failing.{IsDoneOr, is_of_init, is_of_file, is_of_command, is_of_memory, is_of_run};
 ghost use Rattle.docs_host.specs.Orders as spec;
 ghost use Rattle.docs_host.specs.Orders.{AreUnbroken};
 ghost use Rattle.docs_host.specs.Telling.{TellsEnd};
 ghost use Rattle.docs_host.specs.Telling as telling;
 
 use crate::failure::{Failure, Status, tell, tell_usage};
-use crate::lists::{read_list_file, refuse_record};
+use crate::lists::{ListFile, order_in, read_list_file, refuse_record};
 use crate::orders::{run_lines, run_order, say};
 use crate::serving::Served;
 use crate::streams::Streams;
 use crate::usage::{tell_help, tell_mistake};
 use dh_files::{close_desk, init_file, migrate_file, open_desk};
 use dh_lines::{Line, LineFault, Order, line_of};
-use dh_lists::{ListFault, read_list};
+use dh_lists::ListFault;
 use dh_paths::Text;
 use dh_ports::{Sink, Source};
 use dh_sample::{answer_sample, empty_desk};
 use dh_script::is_bad_target;
-use dh_world::{Command, CommandChange, Redirects};
 use sqlite::Start;
 use std::alloc::{AllocError, Global};
 
@@ -111,14 +110,29 @@ fn migrate<S: Start>(rt: &HostRuntime, start: S, file: &str) -> Result<Status, F
     Ok(Status::Done)
 }
 
-/// The command that adds these redirects to those of a project.
-fn import_order(alloc: Global, host: &Text, list: Redirects) -> Result<Order, AllocError>
-    ensures { IfOk result (λ order. order ≡ spec.import_order host.now list) }
+/// Adds the redirects of a list to those of a project, over the records of a file; or says which record of
+/// the list writes none.
+fn import_list<S: Start, R: Source, W: Sink, E: Sink>(
+    rt: &HostRuntime,
+    start: S,
+    host: &Text,
+    list: ListFile<'_>,
+    file: &str,
+    streams: &mut Streams<R, W, E>,
+    now: u64,
+) -> Result<Status, Failure>
+    requires ready { AreUnbroken (R.broken streams.old.source) (W.broken streams.old.sink) }
+    ensures ends { Ended (EndsList host.now list.entry.bytes.now
+        (W.held streams.old.sink) (W.held streams.new.sink)) is_of_command result }
+    ensures tells { TellsSome E.broken E.held streams.old.errors streams.new.errors }
 {
-    Ok(Order::Act(Command {
-        host: Text::copy_of(alloc, host.as_str())?,
-        change: CommandChange::ImportRedirects { list },
-    }))
+    match order_in(rt.alloc(), host, list.bytes) {
+        Ok(order) => run_over(rt, start, &order, file, streams, now),
+        Err(ListFault::BadRecord(number, fault)) => {
+            refuse_record(rt.alloc(), list.path, number, fault, streams)
+        }
+        Err(ListFault::Memory) => Err(Failure::Memory),
+    }
 }
 
 /// Adds the redirects of a list's file to those of a project, over the records of a file, which is opened
@@ -139,16 +153,11 @@ fn import<S: Start, R: Source, W: Sink, E: Sink>(
     ensures tells { TellsSome E.broken E.held streams.old.errors streams.new.errors }
 {
     let bytes = read_list_file(rt, list.as_str())?;
-    match read_list(rt.alloc(), bytes.as_slice()) {
-        Ok(redirects) => {
-            let order = import_order(rt.alloc(), host, redirects)?;
-            run_over(rt, start, &order, file, streams, now)
-        }
-        Err(ListFault::BadRecord(number, fault)) => {
-            refuse_record(rt.alloc(), list.as_str(), number, fault, streams)
-        }
-        Err(ListFault::Memory) => Err(Failure::Memory),
-    }
+    let read = ListFile {
+        path: list.as_str(),
+        bytes: bytes.as_slice(),
+    };
+    import_list(rt, start, host, read, file, streams, now)
 }
 
 /// Does a line of the program.
