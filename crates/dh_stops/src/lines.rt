@@ -63,7 +63,7 @@ fn told_over<S: Alter>(
 }
 
 /// A desk over the tables that stand there.
-fn desk_over<S: Alter + Drop>(
+pub fn desk_over<S: Alter + Drop>(
     alloc: Global,
     conn: Connection<S>,
 ) -> Result<Desk<S>, (TablesFault, Connection<S>)>
