@@ -93,10 +93,12 @@ module _ (row : ProjectRow) (rest : List ProjectRow) (start now next : Lists) (w
   }
 
 pub midway_last : (start now : Lists) → Midway [] start now → IsDerived start now
-midway_last start now it = record { base = it.base; right = λ host. elim (it.right host) [
+midway_last start now it = record {
+  base = it.base;
+  right = λ host. elim (it.right host) [
     | inl right ↦ right
     | inr due ↦ absurd (true≢false (sym due.0))
-  ]
+  ];
 }
 
 -- lists with one base and the same stored rows are one
@@ -186,7 +188,7 @@ derives_all g old worked new lasts kept quiet ready commits crash ours = record 
       elim (crash it.honest clean db may) [
         | inl before ↦ inl (quiet (commits.lasts.clean clean) db before)
         | inr is ↦
-        inr (subst (IsDerived (last_records g old)) (sym (sym (ap (λ (d : Database). lists_of (record { schema = d.schema; trees = db })) (kept it.honest)) ∙ is)) it.derived)
+            inr (subst (IsDerived (last_records g old)) (sym (sym (ap (λ (d : Database). lists_of (record { schema = d.schema; trees = db })) (kept it.honest)) ∙ is)) it.derived)
       ];
 }
 

@@ -13,8 +13,8 @@ use Rattle.dh_derived.specs.Rightness.{AreRight}
 use Rattle.dh_world.specs.declared.refusal.Refusal.{Refusal}
 
 -- these are the stored rows
-abbrev pub HasDerived : Lists → List AliasRow → List RouteRow → Type 0
-HasDerived l aliases routes = (aliases ≡ l.aliases) × (routes ≡ l.routes)
+abbrev pub AreDerivedRows : Lists → List AliasRow → List RouteRow → Type 0
+AreDerivedRows l aliases routes = (aliases ≡ l.aliases) × (routes ≡ l.routes)
 
 -- The records that others are derived from stay, and those are what they say.
 pub record IsDerived (before after : Lists) : Type 0 where

@@ -9,7 +9,7 @@ ghost use Rattle.dh_tables.specs.Going.{Asks, HasRecords, IsWithin, Makes, Sees,
 ghost use Rattle.dh_records.specs.Constraints.{AreSound};
 ghost use Rattle.dh_records.specs.Lists.{base_of};
 ghost use Rattle.dh_world.specs.CheckResults.{IsFault};
-ghost use Rattle.dh_renewal.specs.Filling.{Derives, HasDerived, IsDerived, IsReady};
+ghost use Rattle.dh_renewal.specs.Filling.{Derives, AreDerivedRows, IsDerived, IsReady};
 
 use crate::renewing::renew_host;
 use dh_records::{AliasRow, Record, RouteRow};
@@ -75,17 +75,14 @@ struct Rows {
 fn derived_rows<S: Alter>(tables: &mut Tables<S>, alloc: Global) -> Result<Rows, Refusal>
     ensures asks { Asks S.Store tables.old tables.new result }
     ensures value { Learns S.Store tables.old tables.new result
-        (λ l rows. HasDerived l rows.aliases.items rows.routes.items) }
+        (λ l rows. AreDerivedRows l rows.aliases.items rows.routes.items) }
 {
     let aliases = tables.all_aliases(alloc)?;
     let routes = tables.all_routes(alloc)?;
     Ok(Rows { aliases, routes })
 }
 
-fn projects_of<S: Alter>(
-    tables: &mut Tables<S>,
-    alloc: Global,
-) -> Result<Vec<ProjectRow>, Refusal>
+fn projects_of<S: Alter>(tables: &mut Tables<S>, alloc: Global) -> Result<Vec<ProjectRow>, Refusal>
     ensures asks { Asks S.Store tables.old tables.new result }
     ensures value { Learns S.Store tables.old tables.new result
         (λ l rows. rows.items ≡ l.projects) }
