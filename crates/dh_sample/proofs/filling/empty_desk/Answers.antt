@@ -4,4 +4,4 @@ use Rattle.dh_renewal.proofs.FillingLemmas.{none_consistent}
 use Rattle.dh_sample.proofs.filling.empty_desk.Goals as goal
 
 pub over-requires : goal.over-requires
-over-requires g c honest = subst AreConsistent (sym c.in_ok-in_memory.ensures.last) none_consistent
+over-requires c honest = subst AreConsistent (sym c.in_ok-in_memory.ensures.last) none_consistent
