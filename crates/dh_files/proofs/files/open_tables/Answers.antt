@@ -4,7 +4,7 @@ use Rattle.dh_files.proofs.files.open_tables.Goals as goal
 
 pub open-requires-in-Ok : goal.open-requires-in-Ok
 open-requires-in-Ok g c = record {
-  settled = λ honest. record { outside = (c.in-Ok.ensures.opened honest.0).1.1; same = sym (c.in-Ok.ensures.last honest.0) };
+  settled = λ honest. record { outside = (c.in-Ok.ensures.opened honest.0).2; same = sym (c.in-Ok.ensures.last honest.0) };
   sound = λ honest. let sound = c.in-Ok.ensures.sound honest.0 in record { order = sound.0; constraints = sound.1 };
 }
 
