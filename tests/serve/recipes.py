@@ -270,7 +270,7 @@ def mike(part):
     part.same("mike: versions that are stored", ended.stderr.count(READ), 2)
     done(recipe, "mike: the moves", moves)
     ended = done(recipe, "mike: the import", brought)
-    part.same("mike: what is brought", ended.stdout, "added 3\nok\n")
+    part.same("mike: what is brought", ended.stdout, "added 3\nok\nok\n")
     recipe.serves("mike", "1.0", "/en/1.0/", "/en/1.0/guide/")
     recipe.serves("mike", "2.0", "/en/2.0/guide/")
     with recipe.project.serve() as server:
