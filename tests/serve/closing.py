@@ -9,6 +9,7 @@ import threading
 import time
 from pathlib import Path
 
+import fronts
 import host as hosts
 from host import Broken, ask, get_bytes, make, read_reply
 
@@ -72,17 +73,10 @@ def reply_to(port, request):
 
 
 UPSTREAM = """
-daemon off; error_log ROOM/nginx.log; pid ROOM/nginx.pid;
-events {}
-http {
-    access_log off;
-    client_body_temp_path ROOM/body; proxy_temp_path ROOM/proxy; fastcgi_temp_path ROOM/fastcgi;
-    uwsgi_temp_path ROOM/uwsgi; scgi_temp_path ROOM/scgi;
-    upstream docs { server 127.0.0.1:BEHIND; server 127.0.0.1:BEHIND; }
-    server {
-        listen 127.0.0.1:BEFORE;
-        location / { proxy_pass http://docs; proxy_set_header Host $host; }
-    }
+upstream docs { server 127.0.0.1:BEHIND; server 127.0.0.1:BEHIND; }
+server {
+    listen 127.0.0.1:BEFORE;
+    location / { proxy_pass http://docs; proxy_set_header Host $host; }
 }
 """
 
@@ -91,25 +85,15 @@ def behind_nginx(part, server):
     if not shutil.which("nginx"):
         part.skip("there is no nginx, so no GET with a body goes through one")
         return
-    with socket.socket() as one:
-        one.bind(("127.0.0.1", 0))
-        port = one.getsockname()[1]
-    conf = Path(part.path("upstream.conf"))
-    text = UPSTREAM.replace("ROOM", str(part.room)).replace("BEHIND", str(server.port)).replace("BEFORE", str(port))
-    conf.write_text(text)
-    part.room.chmod(0o777)
-    process = subprocess.Popen(["nginx", "-e", part.path("nginx.log"), "-c", conf], stdin=subprocess.DEVNULL)
-    try:
-        wait_for(port, process)
+    port = hosts.free_port()
+    site = UPSTREAM.replace("BEHIND", str(server.port)).replace("BEFORE", str(port))
+    with fronts.nginx(part, fronts.of_sites(part, site), port):
         bodies, others = set(), set()
         for _ in range(100):
             bodies.add(status(port, get_with_body(20000, 20000)))
             others.add(status(port, get_bytes(SMALL, HOST)))
         part.same("GETs with a body of 20 kB behind nginx, 100 times", bodies, {200})
         part.same("the requests behind them", others, {200})
-    finally:
-        process.terminate()
-        process.wait(10)
 
 
 def status(port, request):
@@ -117,17 +101,6 @@ def status(port, request):
     request = request.replace(b"\r\n\r\n", b"\r\nConnection: close\r\n\r\n", 1)
     reply = ask(port, request)
     return int(reply.split()[1]) if reply else None
-
-
-def wait_for(port, process):
-    end = time.monotonic() + 10
-    while time.monotonic() < end and process.poll() is None:
-        try:
-            socket.create_connection(("127.0.0.1", port)).close()
-            return
-        except OSError:
-            time.sleep(0.05)
-    raise Broken("nginx did not start")
 
 
 # curl: a page comes whole while a body goes out

@@ -6,6 +6,7 @@ import select
 import signal
 import socket
 import subprocess
+import threading
 import time
 from pathlib import Path
 
@@ -123,6 +124,46 @@ class Server:
 
     def __exit__(self, *_):
         self.kill()
+
+
+class Pushes(threading.Thread):
+    """Pushes tags one after another until a connection fails; knows which were asked for and which were answered.
+
+    As long as `again` is true, a push whose connection fails is asked for again."""
+
+    def __init__(self, server, host, key, first=0, again=False):
+        super().__init__(daemon=True)
+        self.server, self.host, self.key, self.next, self.again = server, host, key, first, again
+        self.asked, self.answered, self.wrong = [], [], None
+
+    def run(self):
+        while True:
+            name = f"1.0.{self.next}"
+            self.next += 1
+            self.asked.append(name)
+            reply = self.push(name)
+            while reply is None and self.again:
+                reply = self.push(name)
+            if reply is None:
+                return
+            if reply[0] != 200:
+                self.wrong = reply
+                return
+            self.answered.append(name)
+
+    def push(self, name):
+        try:
+            return self.server.post("/_/push", self.host, self.key, {"key": "k", "kind": "tag", "ref": name})
+        except OSError:
+            return None
+
+
+def versions(server, host):
+    """The slugs that /_/versions names."""
+    reply = server.get("/_/versions", host)
+    if reply is None or reply[0] != 200:
+        raise Broken(f"/_/versions: {reply}")
+    return {version["slug"] for version in json.loads(reply[1])["versions"]}
 
 
 def run(program, *words, stdin=""):

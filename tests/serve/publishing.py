@@ -572,9 +572,10 @@ def documents(part):
 class Project:
     """A project in a file of its own, which is served between commands."""
 
-    def __init__(self, part, store, host=HOST):
+    def __init__(self, part, store, host=HOST, is_made=True):
         self.part, self.store = part, part.path(store)
-        make(part.program, self.store, f"new-project {host} en main public {KEY}")
+        if is_made:
+            make(part.program, self.store, f"new-project {host} en main public {KEY}")
 
     def command(self, line):
         return command(self.part.program, self.store, line)
@@ -675,9 +676,9 @@ def readme(part):
         part.same("README: the site's address", server.get("/", "localhost")[0], 302)
 
 
-def block_of(title, language):
-    """The blocks of a language below a title of docs/publish.md."""
-    below = (DOCS / "publish.md").read_text().split(f"## {title}\n")[1].split("\n## ")[0]
+def block_of(title, language, document="publish.md"):
+    """The blocks of a language below a title of a document."""
+    below = (DOCS / document).read_text().split(f"## {title}\n")[1].split("\n## ")[0]
     return [block.split("```")[0] for block in below.split(f"```{language}\n")[1:]]
 
 
@@ -706,18 +707,22 @@ BUILDER = '#!/bin/sh\n[ "$1 $2" = "build --site-dir" ] && rm -rf "$3" && cp -r d
 class Recipe:
     """A repository with documentation, and a project; each shell step runs in the repository."""
 
-    def __init__(self, part, name):
+    def __init__(self, part, name, is_made=True):
         self.part = part
-        self.repository, programs = Path(part.path(name)), Path(part.path(f"{name}-bin"))
-        programs.mkdir()
+        self.repository, self.programs = Path(part.path(name)), Path(part.path(f"{name}-bin"))
+        self.programs.mkdir()
         (self.repository / "tools").mkdir(parents=True)
-        self.project = Project(part, f"{name}/docs.db", "docs.example.org")
+        self.project = Project(part, f"{name}/docs.db", "docs.example.org", is_made)
         for program, text in (("mkdocs", BUILDER), ("pip", "#!/bin/sh\n")):
-            (programs / program).write_text(text)
-            (programs / program).chmod(0o755)
-        os.symlink(part.program, programs / "docs_host")
+            self.stand_in(program, text)
+        os.symlink(part.program, self.programs / "docs_host")
         shutil.copy(TOOL, self.repository / "tools" / "publish")
-        self.given = {"PATH": f"{programs}:{os.environ['PATH']}", "DOCS_KEY": KEY, "HOME": part.path(".")}
+        self.given = {"PATH": f"{self.programs}:{os.environ['PATH']}", "DOCS_KEY": KEY, "HOME": part.path(".")}
+
+    def stand_in(self, program, text):
+        """A program that stands for another."""
+        (self.programs / program).write_text(text)
+        (self.programs / program).chmod(0o755)
 
     def write(self, text):
         for name in ("index.html", "guide/index.html"):
@@ -725,9 +730,9 @@ class Recipe:
             page.parent.mkdir(parents=True, exist_ok=True)
             page.write_text(f"{text}\n")
 
-    def shell(self, step, **given):
+    def shell(self, step, typed="", **given):
         line, given = ["bash", "-e", "-c", step], {**self.given, **given}
-        texts = {"capture_output": True, "encoding": "utf-8"}
+        texts = {"input": typed, "capture_output": True, "encoding": "utf-8"}
         return subprocess.run(line, cwd=self.repository, env=given, timeout=60, **texts)
 
     def steps(self, what, steps, **given):

@@ -1,5 +1,5 @@
 -- What edits leave right: what a class's names ask for stays, or the class is covered.
-use Rattle.std.proofs.Common.{◌≡◌, ℕ, Bool, true, false, not, ◌&&◌, ◌||◌, cond, Option, Some, None, is_some, refl, sym, ap, ap₂, ◌∙◌}
+use Rattle.std.proofs.Common.{◌≡◌, ℕ, false, not, ◌&&◌, cond, Option, Some, None, is_some, refl, sym, ap, ap₂, ◌∙◌}
 use Rattle.std.specs.Str.{bytes_eq}
 use Rattle.std.specs.FinMap.{FinMap, get, insert, remove, retain_keys, contains_key, get-insert, get-remove, get-retain_keys}
 use Rattle.std.specs.FinSet.{FinSet}
@@ -9,7 +9,7 @@ use Rattle.dh_classes.specs.Classes.{class_holds}
 use Rattle.dh_aliases.specs.declared.names.Names.{Names}
 use Rattle.dh_aliases.specs.Names.{names_of}
 use Rattle.dh_aliases.proofs.NameLemmas.{same_names}
-use Rattle.dh_plans.specs.Edits.{edited, MayEdit}
+use Rattle.dh_plans.specs.Edits.{edited}
 use Rattle.dh_plans.specs.declared.edits.Edit.{Edit}
 use Rattle.dh_plans.specs.declared.edits.Edit.TheVariants.{AddLang, PutVersion, PutWithoutPages, RemoveVersion, PutPage, RemovePages, SetDefaults, SetRules, SetRedirects, AddPass, RemovePass, Grant, Revoke, PutAnswer}
 use Rattle.dh_records.proofs.Keys.{turned}

@@ -1,5 +1,5 @@
 -- What is stored of a name once one name is set, or several.
-use Rattle.std.proofs.Common.{◌≡◌, ℕ, pos, Bool, true, false, not, ◌&&◌, ◌||◌, cond, List, [], ◌∷◌, find, Option, Some, None, is_eq, refl, sym, ap, ap₂, ◌∙◌, ◌⊎◌, inl, inr, true≢false}
+use Rattle.std.proofs.Common.{◌≡◌, ℕ, pos, Bool, true, false, not, ◌&&◌, ◌||◌, cond, List, [], ◌∷◌, find, Option, Some, None, is_eq, refl, sym, ap, ap₂, ◌∙◌, true≢false}
 use Rattle.std.specs.Prelude.{option_map}
 use Rattle.std.specs.List.{list_any}
 use Rattle.std.specs.Str.{bytes_eq}
@@ -11,19 +11,20 @@ use Rattle.sqlite_value.proofs.OrderLemmas.{then-Equal}
 use Rattle.sqlite_keyed.proofs.ListLemmas.{all_of}
 use Rattle.dh_rows.specs.Keyed.{same_key}
 use Rattle.dh_aliases.specs.declared.names.Names.{Names}
+use Rattle.dh_aliases.specs.Names.{names_of}
 use Rattle.dh_world.specs.World.{Project}
 use Rattle.dh_world.proofs.MapLemmas.{find_in_filter, find_same}
 use Rattle.dh_records.specs.Codings as coding
 use Rattle.dh_records.specs.Codings.{alias_number}
 use Rattle.dh_records.specs.Changes.{put_alias, drop_alias, drop_aliases}
-use Rattle.dh_records.specs.Lists.{Lists, base_of, same_alias, is_alias_at, is_alias_of}
+use Rattle.dh_records.specs.Lists.{Lists, base_of, class_text, same_alias, is_alias_at, is_alias_of}
 use Rattle.dh_records.specs.declared.records.AliasRow.{AliasRow}
 use Rattle.dh_records.specs.declared.records.AliasName.{AliasName}
 use Rattle.dh_records.specs.declared.records.AliasName.TheVariants.{Latest, Stable, Default}
 use Rattle.dh_records.proofs.Keys.{eq_then, same_text}
 use Rattle.dh_records.proofs.RecordLemmas.{find_put, found_none}
-use Rattle.dh_derived.specs.Rightness.{class_in, named, kept_at}
-use Rattle.dh_derived.specs.Renewed.{set_alias, set_names, set_classes, names_due}
+use Rattle.dh_derived.specs.Rightness.{named, kept_at}
+use Rattle.dh_derived.specs.Renewed.{set_alias, set_names, set_classes}
 
 -- ---- the key of an alias
 
@@ -186,39 +187,50 @@ module _ (host class : List ℕ) (names : Names) (l : Lists) where
 
 -- ---- those of several
 
-pub base_classes : (host : List ℕ) (p : Project) (cs : List (List ℕ)) (l : Lists) → base_of (set_classes host p cs l) ≡ base_of l
-base_classes host p [] l = refl
-base_classes host p (c ∷ cs) l = base_classes host p cs (set_names host c (names_due p (class_in c)) l) ∙ base_names host c (names_due p (class_in c)) l
+module _ (host : List ℕ) (p : Project) (l : Lists) where
+  abbrev set : List (Option (List ℕ)) → Lists
+  set cs = set_classes host p cs l
 
-pub routes_classes : (host : List ℕ) (p : Project) (cs : List (List ℕ)) (l : Lists) → (set_classes host p cs l).routes ≡ l.routes
-routes_classes host p [] l = refl
-routes_classes host p (c ∷ cs) l = routes_classes host p cs (set_names host c (names_due p (class_in c)) l) ∙ routes_names host c (names_due p (class_in c)) l
+  pub base_classes : (cs : List (Option (List ℕ))) → base_of (set cs) ≡ base_of l
+  base_classes [] = refl
+  base_classes (c ∷ cs) = base_names host (class_text c) (names_of p c) (set cs) ∙ base_classes cs
 
-pub elsewhere_classes : (host : List ℕ) (p : Project) (cs : List (List ℕ)) (l : Lists) (h : List ℕ) → bytes_eq host h ≡ false → (c : List ℕ) (n : AliasName) → kept_at (set_classes host p cs l) h c n ≡ kept_at l h c n
-elsewhere_classes host p [] l h apart c n = refl
-elsewhere_classes host p (x ∷ cs) l h apart c n =
-    elsewhere_classes host p cs (set_names host x (names_due p (class_in x)) l) h apart c n
-    ∙ kept_names host x (names_due p (class_in x)) l h c n
-    ∙ ap (λ b. cond (b && bytes_eq x c) (named n (names_due p (class_in x))) (kept_at l h c n)) apart
+  pub routes_classes : (cs : List (Option (List ℕ))) → (set cs).routes ≡ l.routes
+  routes_classes [] = refl
+  routes_classes (c ∷ cs) = routes_names host (class_text c) (names_of p c) (set cs) ∙ routes_classes cs
 
--- each class of the list is right then, and each that was
-pub right_classes : (host : List ℕ) (p : Project) (cs : List (List ℕ)) (l : Lists) (c : List ℕ) (n : AliasName) → (list_any (λ x. bytes_eq x c) cs ≡ true) ⊎ (kept_at l host c n ≡ named n (names_due p (class_in c)))
-    → kept_at (set_classes host p cs l) host c n ≡ named n (names_due p (class_in c))
-right_classes host p [] l c n (inl e) = absurd (true≢false (sym e))
-right_classes host p [] l c n (inr right) = right
-right_classes host p (x ∷ cs) l c n it = right_classes host p cs (set_names host x (names_due p (class_in x)) l) c n (go (bytes_eq x c) refl it)
-  where
-    here : bytes_eq host host ≡ true
-    here = (bytes_eq-Decides host host).1 refl
+  pub elsewhere_classes : (cs : List (Option (List ℕ))) (h : List ℕ) → bytes_eq host h ≡ false → (c : List ℕ) (n : AliasName) → kept_at (set cs) h c n ≡ kept_at l h c n
+  elsewhere_classes [] h apart c n = refl
+  elsewhere_classes (x ∷ cs) h apart c n =
+      kept_names host (class_text x) (names_of p x) (set cs) h c n
+      ∙ ap (λ b. cond (b && bytes_eq (class_text x) c) (named n (names_of p x)) (kept_at (set cs) h c n)) apart
+      ∙ elsewhere_classes cs h apart c n
 
-    after : (b : Bool) → bytes_eq x c ≡ b → kept_at (set_names host x (names_due p (class_in x)) l) host c n ≡ cond b (named n (names_due p (class_in x))) (kept_at l host c n)
-    after b e = kept_names host x (names_due p (class_in x)) l host c n ∙ ap₂ (λ a d. cond (a && d) (named n (names_due p (class_in x))) (kept_at l host c n)) here e
+  here_names : (x : Option (List ℕ)) (cs : List (Option (List ℕ))) (c : List ℕ) (n : AliasName) → kept_at (set (x ∷ cs)) host c n ≡ cond (bytes_eq (class_text x) c) (named n (names_of p x)) (kept_at (set cs) host c n)
+  here_names x cs c n =
+      kept_names host (class_text x) (names_of p x) (set cs) host c n
+      ∙ ap (λ b. cond (b && bytes_eq (class_text x) c) (named n (names_of p x)) (kept_at (set cs) host c n)) ((bytes_eq-Decides host host).1 refl)
 
-    go : (b : Bool) → bytes_eq x c ≡ b → ((b || list_any (λ y. bytes_eq y c) cs) ≡ true) ⊎ (kept_at l host c n ≡ named n (names_due p (class_in c)))
-        → (list_any (λ y. bytes_eq y c) cs ≡ true) ⊎ (kept_at (set_names host x (names_due p (class_in x)) l) host c n ≡ named n (names_due p (class_in c)))
-    go true e any = inr (after true e ∙ ap (λ t. named n (names_due p (class_in t))) ((bytes_eq-Decides x c).0 e))
-    go false e (inl any) = inl any
-    go false e (inr right) = inr (after false e ∙ right)
+  -- the class of a text that is not empty
+  its_class : (x : Option (List ℕ)) (b : ℕ) (bs : List ℕ) → class_text x ≡ b ∷ bs → x ≡ Some (b ∷ bs)
+  its_class None b bs e = absurd cc
+  its_class (Some t) b bs e = ap Some e
+
+  -- what is stored for a pass then
+  pub kept_pass : (cs : List (Option (List ℕ))) (b : ℕ) (bs : List ℕ) (n : AliasName)
+      → kept_at (set cs) host (b ∷ bs) n ≡ cond (list_any (λ x. bytes_eq (class_text x) (b ∷ bs)) cs) (named n (names_of p (Some (b ∷ bs)))) (kept_at l host (b ∷ bs) n)
+  kept_pass [] b bs n = refl
+  kept_pass (x ∷ cs) b bs n = here_names x cs (b ∷ bs) n ∙ go (bytes_eq (class_text x) (b ∷ bs)) refl (kept_pass cs b bs n)
+    where
+      go : (d : Bool) → bytes_eq (class_text x) (b ∷ bs) ≡ d
+          → kept_at (set cs) host (b ∷ bs) n ≡ cond (list_any (λ y. bytes_eq (class_text y) (b ∷ bs)) cs) (named n (names_of p (Some (b ∷ bs)))) (kept_at l host (b ∷ bs) n)
+          → cond d (named n (names_of p x)) (kept_at (set cs) host (b ∷ bs) n) ≡ cond (d || list_any (λ y. bytes_eq (class_text y) (b ∷ bs)) cs) (named n (names_of p (Some (b ∷ bs)))) (kept_at l host (b ∷ bs) n)
+      go true e more = ap (λ c. named n (names_of p c)) (its_class x b bs ((bytes_eq-Decides (class_text x) (b ∷ bs)).0 e))
+      go false e more = more
+
+  -- and for the callers with no pass, where they stand first
+  pub kept_bare : (cs : List (Option (List ℕ))) (n : AliasName) → kept_at (set (None ∷ cs)) host [] n ≡ named n (names_of p None)
+  kept_bare cs n = here_names None cs [] n
 
 -- ---- all of a host are dropped
 

@@ -1,5 +1,5 @@
 -- What a version that is put leaves right.
-use Rattle.std.proofs.Common.{◌≡◌, ℕ, Bool, true, false, not, ◌&&◌, ◌||◌, cond, List, [], ◌∷◌, Option, Some, None, is_some, refl, sym, ap, ap₂, subst, ◌∙◌, ◌⊎◌, inl, inr, true≢false}
+use Rattle.std.proofs.Common.{◌≡◌, Bool, true, false, not, ◌&&◌, ◌||◌, cond, List, [], ◌∷◌, Option, Some, None, is_some, refl, sym, ap, ap₂, ◌∙◌, inl, inr, true≢false}
 use Rattle.std.specs.Prelude.{IsTrue}
 use Rattle.std.specs.List.{AllByRecursion, list_any}
 use Rattle.std.specs.Option.{option_and_then, option_map_or}
@@ -14,14 +14,13 @@ use Rattle.dh_world.specs.Seen.{is_alias}
 use Rattle.dh_world.specs.Visibility.{may_see}
 use Rattle.dh_world.specs.World.{Text, Project}
 use Rattle.dh_classes.specs.Classes.{class_holds, sees, versions_for}
-use Rattle.dh_aliases.specs.Tops.{IsTop, IsStable, stable_in, stable_version}
+use Rattle.dh_aliases.specs.Tops.{IsStable, stable_in, stable_version}
 use Rattle.dh_aliases.specs.Names.{names_of, is_of_branch}
 use Rattle.dh_aliases.specs.Puts.{IsNew, IsNotAbove}
 use Rattle.dh_aliases.proofs.HiddenLemmas.{hidden_put}
 use Rattle.dh_aliases.proofs.PassLemmas.{seen_at, is_there, seen_named, passes_see_more}
 use Rattle.dh_aliases.proofs.PutLemmas.{there, unseen_put, quiet_put}
 use Rattle.dh_aliases.proofs.TopLemmas.{stable_is_top}
-use Rattle.dh_derived.specs.Rightness.{has_class}
 use Rattle.dh_derived.specs.Renewals.{Covers, IsCoherent, is_low}
 use Rattle.dh_derived.specs.declared.renewals.Renewal.{Renewal}
 use Rattle.dh_derived.specs.declared.renewals.Renewal.TheVariants.{Nothing, Aliases}
@@ -33,18 +32,17 @@ flagged true e = absurd (true≢false (sym e))
 
 -- ---- what is not seen
 
-none_missing : (b : Bool) → (b && false) ≡ false
-none_missing true = refl
-none_missing false = refl
-
 unseen_by : (v : Version) (held : Bool) → v.active ≡ false → may_see v held ≡ false
 unseen_by v held off = ap (λ b. b && (not v.private || held)) off
 
-unopened : (v : Version) (held : Bool) → v.private ≡ true → held ≡ false → may_see v held ≡ false
-unopened v held private shut = ap₂ (λ a b. v.active && (not a || b)) private shut ∙ none_missing v.active
-
-opened : (v : Version) (held : Bool) → v.active ≡ true → v.private ≡ false → may_see v held ≡ true
-opened v held on public = ap₂ (λ a b. a && (not b || held)) on public
+-- what callers with no pass see all others see, too
+opened : (v : Version) (held : Bool) → may_see v false ≡ true → may_see v held ≡ true
+opened v held e = go v.active v.private e
+  where
+    go : (a b : Bool) → (a && (not b || false)) ≡ true → (a && (not b || held)) ≡ true
+    go true false f = refl
+    go true true f = absurd (true≢false (sym f))
+    go false b f = absurd (true≢false (sym f))
 
 sees_as : (p : Project) (class : Option Text) (s : Text) (o : Option Version) → get p.versions s ≡ o → sees p class s ≡ option_map_or (λ v. may_see v (class_holds p class s)) o false
 sees_as p class s o e = ap (λ o. option_map_or (λ v. may_see v (class_holds p class s)) o false) e
@@ -92,10 +90,6 @@ module _ (p : Project) (v : Version) where
       unseen_before : (class : Option Text) → sees p class v.slug ≡ false
       unseen_before class = sees_as p class v.slug None free
 
-      pub inactive : v.active ≡ false → Covers Nothing p put
-      inactive off = same_names_cover (λ class.
-          unseen_put p class v.slug v (unseen_before class) (sees_put class ∙ unseen_by v (class_holds p class v.slug) off))
-
       not_held : (class : Option Text) → class_holds p class v.slug ≡ false
       not_held None = refl
       not_held (Some c) = go (contains_key p.held (c, v.slug)) refl
@@ -104,11 +98,11 @@ module _ (p : Project) (v : Version) where
           go false e = refl
           go true e = absurd (true≢false (sym (is.granted c v.slug e) ∙ ap is_some free))
 
-      pub private_new : v.private ≡ true → Covers Nothing p put
-      private_new private = same_names_cover (λ class.
-          unseen_put p class v.slug v (unseen_before class) (sees_put class ∙ unopened v (class_holds p class v.slug) private (not_held class)))
+      pub unseen_new : may_see v false ≡ false → Covers Nothing p put
+      unseen_new unseen = same_names_cover (λ class.
+          unseen_put p class v.slug v (unseen_before class) (sees_put class ∙ ap (may_see v) (not_held class) ∙ unseen))
 
-      -- and is a public one that is not above the stable one
+      -- and is seen by all, and not above the stable one
 
       module _ (no_alias : is_alias v.slug ≡ false) where
         not_named : (name : Text) → IsTrue (is_alias name || contains_key p.versions name) → bytes_eq name v.slug ≡ false
@@ -124,12 +118,12 @@ module _ (p : Project) (v : Version) where
         no_default [] may = refl
         no_default (name ∷ names) may = ap₂ (λ a b. a || b) (not_named name may.0) (no_default names may.1)
 
-        module _ (name_is : slug_from v.name ≡ Some v.slug) (on : v.active ≡ true) (public : v.private ≡ false) (other : is_of_branch p.branch v ≡ false) where
+        module _ (name_is : slug_from v.name ≡ Some v.slug) (shown : may_see v false ≡ true) (other : is_of_branch p.branch v ≡ false) where
           is_new : (class : Option Text) → IsNew p class v.slug v
           is_new class = record {
             named = (refl, name_is);
             unseen = unseen_before class;
-            seen = sees_put class ∙ opened v (class_holds p class v.slug) on public;
+            seen = sees_put class ∙ opened v (class_holds p class v.slug) shown;
             other_branch = other;
             no_alias = no_alias;
             no_default = no_default p.defaults is.default_names;

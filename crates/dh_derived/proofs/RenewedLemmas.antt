@@ -1,5 +1,5 @@
 -- Stored rows that are made right are right.
-use Rattle.std.proofs.Common.{◌≡◌, ℕ, Bool, true, false, ◌&&◌, ◌||◌, cond, List, [], ◌∷◌, ◌++◌, map, filter, find, Option, Some, None, is_some, refl, sym, ap, ap₂, ◌∙◌, ◌⊎◌, inl, inr, true≢false}
+use Rattle.std.proofs.Common.{◌≡◌, ℕ, Bool, true, false, ◌&&◌, ◌||◌, cond, List, [], ◌∷◌, map, filter, find, Option, Some, None, is_some, refl, sym, ap, ◌∙◌}
 use Rattle.std.specs.List.{list_any}
 use Rattle.std.specs.Str.{bytes_eq}
 use Rattle.std.specs.FinMap.{get, contains_key}
@@ -10,22 +10,21 @@ use Rattle.dh_world.specs.World.{Text, Project}
 use Rattle.dh_records.specs.Codings as coding
 use Rattle.dh_records.specs.Changes.{drop_aliases}
 use Rattle.dh_records.specs.Constraints.{InOrder}
-use Rattle.dh_records.specs.Lists.{Lists, base_of, world_of, is_pass_of, is_pass, is_redirect_of, is_route_in, placed, route_row, set_routes}
+use Rattle.dh_records.specs.Lists.{Lists, base_of, world_of, class_text, is_pass_of, is_pass, is_redirect_of, is_route_in, placed, route_row, set_routes}
 use Rattle.dh_records.specs.declared.records.AliasName.{AliasName}
 use Rattle.dh_records.specs.declared.records.AliasName.TheVariants.{Latest, Stable, Default}
 use Rattle.dh_records.specs.declared.records.PassRow.{PassRow}
-use Rattle.dh_records.specs.declared.records.Route.{Route}
 use Rattle.dh_records.proofs.BaseLemmas.{base_world}
 use Rattle.dh_records.proofs.RecordLemmas.{of_each_host}
 use Rattle.dh_records.proofs.WorldLemmas.{has_pass_in}
-use Rattle.dh_records.proofs.Parts as parts
-use Rattle.dh_records.proofs.PartLemmas.{part_in}
+use Rattle.dh_records.proofs.RedirectLemmas.{redirects_in}
 use Rattle.dh_derived.specs.Rightness.{class_in, has_class, named, due_in, due_at, kept_at, route_of, routes_due, AreRight, AreRightAt}
 use Rattle.dh_derived.specs.Renewals.{AreRightBut}
-use Rattle.dh_derived.specs.Renewed.{set_names, set_classes, names_due, no_names, classes_at, renew_routes, renewed, host_renewed, HostRenewed}
+use Rattle.dh_derived.specs.Renewed.{set_names, set_classes, names_due, no_names, classes_at, routes_for, renew_routes, renewed, host_renewed, HostRenewed}
 use Rattle.dh_derived.specs.declared.renewals.Renewal.{Renewal}
 use Rattle.dh_derived.specs.declared.renewals.Renewal.TheVariants.{Nothing, Routes, Class, Aliases}
-use Rattle.dh_derived.proofs.KeptLemmas.{base_names, routes_names, kept_names, base_classes, routes_classes, elsewhere_classes, right_classes, kept_dropped}
+use Rattle.dh_derived.proofs.DueLemmas.{none_due}
+use Rattle.dh_derived.proofs.KeptLemmas.{base_names, routes_names, kept_names, base_classes, routes_classes, elsewhere_classes, kept_pass, kept_bare, kept_dropped}
 use Rattle.dh_derived.proofs.RouteLemmas.{routes_here, routes_elsewhere}
 
 -- ---- what is due
@@ -44,36 +43,36 @@ same_world next l base = sym (base_world next) ∙ ap world_of base ∙ base_wor
 
 -- ---- the classes of a host
 
-found_any : (host c : Text) (rows : List PassRow) (more : List Text) → is_some (find (is_pass host c) rows) ≡ true → list_any (λ x. bytes_eq x c) (map (λ (x : PassRow). x.pass) (filter (is_pass_of host) rows) ++ more) ≡ true
-found_any host c [] more e = absurd (true≢false (sym e))
-found_any host c (r ∷ rows) more e = go (bytes_eq r.host host) (bytes_eq r.pass c) refl e (found_any host c rows more)
+-- a pass is listed where it is the host's
+listed : (host c : Text) (rows : List PassRow) → list_any (λ x. bytes_eq (class_text x) c) (map (λ (x : PassRow). Some x.pass) (filter (is_pass_of host) rows)) ≡ is_some (find (is_pass host c) rows)
+listed host c [] = refl
+listed host c (r ∷ rows) = go (bytes_eq r.host host) (bytes_eq r.pass c) refl (listed host c rows)
   where
-    go : (a b : Bool) → bytes_eq r.pass c ≡ b → is_some (cond (a && b) (Some r) (find (is_pass host c) rows)) ≡ true → (is_some (find (is_pass host c) rows) ≡ true → list_any (λ x. bytes_eq x c) (map (λ (x : PassRow). x.pass) (filter (is_pass_of host) rows) ++ more) ≡ true)
-        → list_any (λ x. bytes_eq x c) (map (λ (x : PassRow). x.pass) (cond a (r ∷ filter (is_pass_of host) rows) (filter (is_pass_of host) rows)) ++ more) ≡ true
-    go true true is f later = ap (λ x. x || list_any (λ y. bytes_eq y c) (map (λ (x : PassRow). x.pass) (filter (is_pass_of host) rows) ++ more)) is
-    go true false is f later = ap (λ x. x || list_any (λ y. bytes_eq y c) (map (λ (x : PassRow). x.pass) (filter (is_pass_of host) rows) ++ more)) is ∙ later f
-    go false b is f later = later f
-
-any_last : (c : Text) (xs : List Text) → list_any (λ x. bytes_eq x c) (xs ++ c ∷ []) ≡ true
-any_last c [] = ap (λ b. b || false) ((bytes_eq-Decides c c).1 refl)
-any_last c (x ∷ xs) = ap (λ b. bytes_eq x c || b) (any_last c xs) ∙ go (bytes_eq x c)
-  where
-    go : (b : Bool) → (b || true) ≡ true
-    go true = refl
-    go false = refl
+    go : (a b : Bool) → bytes_eq r.pass c ≡ b
+        → list_any (λ x. bytes_eq (class_text x) c) (map (λ (x : PassRow). Some x.pass) (filter (is_pass_of host) rows)) ≡ is_some (find (is_pass host c) rows)
+        → list_any (λ x. bytes_eq (class_text x) c) (map (λ (x : PassRow). Some x.pass) (cond a (r ∷ filter (is_pass_of host) rows) (filter (is_pass_of host) rows))) ≡ is_some (cond (a && b) (Some r) (find (is_pass host c) rows))
+    go true true is more = ap (λ x. x || list_any (λ y. bytes_eq (class_text y) c) (map (λ (y : PassRow). Some y.pass) (filter (is_pass_of host) rows))) is
+    go true false is more = ap (λ x. x || list_any (λ y. bytes_eq (class_text y) c) (map (λ (y : PassRow). Some y.pass) (filter (is_pass_of host) rows))) is ∙ more
+    go false b is more = more
 
 module _ (host : Text) (p : Project) (l : Lists) (found : get (world_of l) host ≡ Some p) where
-  listed : (class : Text) → has_class p (class_in class) ≡ true → list_any (λ x. bytes_eq x class) (classes_at host l) ≡ true
-  listed [] has = any_last [] (map (λ x. x.pass) (filter (is_pass_of host) l.passes))
-  listed (b ∷ bs) has = found_any host (b ∷ bs) l.passes ([] ∷ []) (sym (has_pass_in l host p found (b ∷ bs)) ∙ has)
-
-  redirects_in : p.redirects ≡ map (λ r. r.redirect) (filter (is_redirect_of host) l.redirects)
-  redirects_in = part_in parts.redirects l host p found
+  -- all names of the host are set, and others than the project's passes had none
+  classes_due : (old : Lists) → ((b : ℕ) (bs : List ℕ) (name : AliasName) → contains_key p.passes (b ∷ bs) ≡ false → kept_at old host (b ∷ bs) name ≡ None)
+      → (class : Text) (name : AliasName) → kept_at (set_classes host p (classes_at host l) old) host class name ≡ due_in p (class_in class) name
+  classes_due old none [] name = kept_bare host p old (map (λ x. Some x.pass) (filter (is_pass_of host) l.passes)) name
+  classes_due old none (b ∷ bs) name =
+      kept_pass host p old (classes_at host l) b bs name
+      ∙ ap (λ d. cond d (named name (names_of p (Some (b ∷ bs)))) (kept_at old host (b ∷ bs) name)) (listed host (b ∷ bs) l.passes ∙ sym (has_pass_in l host p found (b ∷ bs)))
+      ∙ go (contains_key p.passes (b ∷ bs)) refl
+    where
+      go : (d : Bool) → contains_key p.passes (b ∷ bs) ≡ d → cond d (named name (names_of p (Some (b ∷ bs)))) (kept_at old host (b ∷ bs) name) ≡ cond d (named name (names_of p (Some (b ∷ bs)))) None
+      go true e = refl
+      go false e = none b bs name e
 
   routes_right : InOrder coding.routes.key l.routes → (seg : Text) → filter (is_route_in host seg) (renew_routes host l).routes ≡ filter (is_route_in host seg) (routes_due host (Some p))
   routes_right up seg =
-      routes_here host seg (map route_of (map (λ r. r.redirect) (filter (is_redirect_of host) l.redirects))) l.routes up
-      ∙ ap (λ rs. filter (is_route_in host seg) (placed (route_row host) 1 (map route_of rs))) (sym redirects_in)
+      routes_here host seg (routes_for host l) l.routes up
+      ∙ ap (λ rs. filter (is_route_in host seg) (placed (route_row host) 1 (map route_of rs))) (sym (redirects_in l host p found))
 
   -- the rows of the host are right, where the world stays
   right_at
@@ -105,7 +104,7 @@ pub renewed_base : (r : Renewal) (host : Text) (p : Project) (l : Lists) → bas
 renewed_base Nothing host p l = refl
 renewed_base Routes host p l = refl
 renewed_base (Class pass) host p l = base_names host pass (names_due p (class_in pass)) l
-renewed_base Aliases host p l = base_classes host p (classes_at host l) l
+renewed_base Aliases host p l = base_classes host p l (classes_at host l)
 
 names_elsewhere : (host class : Text) (names : Names) (l : Lists) (other : Text) → bytes_eq host other ≡ false → (c : Text) (n : AliasName) → kept_at (set_names host class names l) other c n ≡ kept_at l other c n
 names_elsewhere host class names l other apart c n =
@@ -149,21 +148,17 @@ module _ (host : Text) (p : Project) (l : Lists) (found : get (world_of l) host 
   with_classes = set_classes host p (classes_at host l) l
 
   classes_base : base_of with_classes ≡ base_of l
-  classes_base = base_classes host p (classes_at host l) l
-
-  listed_or_right : (class : Text) (name : AliasName) (b : Bool) → has_class p (class_in class) ≡ b → (list_any (λ x. bytes_eq x class) (classes_at host l) ≡ true) ⊎ (kept_at l host class name ≡ named name (names_due p (class_in class)))
-  listed_or_right class name true e = inl (listed host p l found class e)
-  listed_or_right class name false e = inr (it.aliases class name e ∙ sym (due_named p (class_in class) name))
+  classes_base = base_classes host p l (classes_at host l)
 
   classes_right : AreRight with_classes
   classes_right =
       of_each_host (AreRightAt with_classes) host
       (right_at host p l found with_classes classes_base
-      (λ class name. right_classes host p (classes_at host l) l class name (listed_or_right class name (has_class p (class_in class)) refl) ∙ due_named p (class_in class) name)
-      (λ seg. ap (filter (is_route_in host seg)) (routes_classes host p (classes_at host l) l) ∙ it.routes refl seg))
+      (classes_due host p l found l (λ b bs name e. it.aliases (b ∷ bs) name e ∙ none_due p (Some (b ∷ bs)) name e))
+      (λ seg. ap (filter (is_route_in host seg)) (routes_classes host p l (classes_at host l)) ∙ it.routes refl seg))
       (λ other apart.
-      stays_at with_classes l other classes_base (elsewhere_classes host p (classes_at host l) l other apart)
-      (λ seg. ap (filter (is_route_in other seg)) (routes_classes host p (classes_at host l) l)) (it.others other apart))
+      stays_at with_classes l other classes_base (elsewhere_classes host p l (classes_at host l) other apart)
+      (λ seg. ap (filter (is_route_in other seg)) (routes_classes host p l (classes_at host l))) (it.others other apart))
 
 pub renewed_right : (r : Renewal) (host : Text) (p : Project) (l : Lists) → get (world_of l) host ≡ Some p → InOrder coding.routes.key l.routes → AreRightBut r l host p → AreRight (renewed r host p l)
 renewed_right Nothing host p l found up it =
@@ -175,7 +170,7 @@ renewed_right Routes host p l found up it =
     (right_at host p l found (renew_routes host l) refl (λ class name. it.aliases class name refl) (routes_right host p l found up))
     (λ other apart.
     stays_at (renew_routes host l) l other refl (λ class name. refl)
-    (λ seg. routes_elsewhere host other seg apart (map route_of (map (λ r. r.redirect) (filter (is_redirect_of host) l.redirects))) l.routes)
+    (λ seg. routes_elsewhere host other seg apart (routes_for host l) l.routes)
     (it.others other apart))
 renewed_right (Class pass) host p l found up it = pass_right pass host p l found it
 renewed_right Aliases host p l found up it = classes_right host p l found it
@@ -190,31 +185,24 @@ module _ (host : Text) (p : Project) (l : Lists) (found : get (world_of l) host 
   full = set_classes host p (classes_at host l) bare
 
   full_base : base_of full ≡ base_of l
-  full_base = base_classes host p (classes_at host l) bare
+  full_base = base_classes host p bare (classes_at host l)
 
   full_routes : full.routes ≡ l.routes
-  full_routes = routes_classes host p (classes_at host l) bare
+  full_routes = routes_classes host p bare (classes_at host l)
 
   same_redirects : full.redirects ≡ l.redirects
   same_redirects = ap (λ (x : Lists). x.redirects) full_base
-
-  abbrev routes : List Route
-  routes = map route_of (map (λ r. r.redirect) (filter (is_redirect_of host) full.redirects))
 
   pub host_renewed_right : HostRenewed host p l
   host_renewed_right = record {
     base = full_base;
     here = right_at host p l found (host_renewed host p l) full_base
-        (λ class name. right_classes host p (classes_at host l) bare class name (go class name (has_class p (class_in class)) refl) ∙ due_named p (class_in class) name)
+        (classes_due host p l found bare (λ b bs name e. kept_dropped host l host (b ∷ bs) name ∙ ap (λ d. cond d None (kept_at l host (b ∷ bs) name)) ((bytes_eq-Decides host host).1 refl)))
         (λ seg.
         (λ i. filter (is_route_in host seg) (set_routes host (map route_of (map (λ r. r.redirect) (filter (is_redirect_of host) (same_redirects i)))) (full_routes i)))
         ∙ routes_right host p l found up seg);
     others = λ other apart.
         stays_at (host_renewed host p l) l other full_base
-        (λ class name. elsewhere_classes host p (classes_at host l) bare other apart class name ∙ kept_dropped host l other class name ∙ ap (λ b. cond b None (kept_at l other class name)) apart)
-        (λ seg. routes_elsewhere host other seg apart routes full.routes ∙ ap (filter (is_route_in other seg)) full_routes);
+        (λ class name. elsewhere_classes host p bare (classes_at host l) other apart class name ∙ kept_dropped host l other class name ∙ ap (λ b. cond b None (kept_at l other class name)) apart)
+        (λ seg. routes_elsewhere host other seg apart (routes_for host full) full.routes ∙ ap (filter (is_route_in other seg)) full_routes);
   }
-    where
-      go : (class : Text) (name : AliasName) (b : Bool) → has_class p (class_in class) ≡ b → (list_any (λ x. bytes_eq x class) (classes_at host l) ≡ true) ⊎ (kept_at bare host class name ≡ named name (names_due p (class_in class)))
-      go class name true e = inl (listed host p l found class e)
-      go class name false e = inr (kept_dropped host l host class name ∙ ap (λ b. cond b None (kept_at l host class name)) ((bytes_eq-Decides host host).1 refl) ∙ sym (due_named p (class_in class) name ∙ ap (λ b. cond b (named name (names_of p (class_in class))) None) e))

@@ -1,13 +1,13 @@
 -- Rows that were right are so after a change, but for those that its renewal covers.
-use Rattle.std.proofs.Common.{◌≡◌, false, cond, map, filter, find, Some, None, refl, sym, ap, ◌∙◌}
+use Rattle.std.proofs.Common.{◌≡◌, false, cond, map, filter, find, Some, sym, ap, ◌∙◌}
 use Rattle.std.specs.Prelude.{option_map}
 use Rattle.std.specs.Str.{bytes_eq}
 use Rattle.std.specs.FinMap.{get, insert, get-insert}
 use Rattle.dh_world.specs.World.{Text, Project}
 use Rattle.dh_world.proofs.MapLemmas.{text_total, tied_text}
 use Rattle.dh_records.specs.Lists.{Lists, world_of, is_alias_at, is_route_in, placed, route_row}
-use Rattle.dh_derived.specs.Rightness.{AreRight, AreRightAt, class_in, due_at, route_of, routes_due}
-use Rattle.dh_derived.specs.Renewals.{Covers, AreRightBut, RightButCovered}
+use Rattle.dh_derived.specs.Rightness.{AreRight, class_in, due_at, route_of, routes_due}
+use Rattle.dh_derived.specs.Renewals.{Covers, AreRightBut}
 use Rattle.dh_derived.specs.declared.renewals.Renewal.{Renewal}
 
 module _ (r : Renewal) (l next : Lists) (host : Text) (was is : Project) (right : AreRight l) (found : get (world_of l) host ≡ Some was) (world_is : world_of next ≡ insert (world_of l) host is) (aliases : next.aliases ≡ l.aliases) (routes : next.routes ≡ l.routes) (it : Covers r was is) where

@@ -6,7 +6,6 @@ use Rattle.std.specs.FinMap.{get, contains_key}
 use Rattle.std.specs.Str.{bytes_eq}
 use Rattle.std.proofs.lemmas.Bool.{and_parts}
 use Rattle.std.proofs.lemmas.Slice.Eq.{bytes_eq-Decides}
-use Rattle.dh_versions.specs.declared.version.Version.{Version}
 use Rattle.dh_world.specs.Seen.{is_alias}
 use Rattle.dh_world.specs.World.{Text, Project}
 use Rattle.dh_aliases.specs.Tops.{AreNamed, IsNamed}
@@ -16,19 +15,11 @@ use Rattle.dh_records.specs.Constraints.{AreSound, has_version, has_pass}
 use Rattle.dh_records.specs.declared.records.VersionRow.{VersionRow}
 use Rattle.dh_records.specs.declared.records.HeldRow.{HeldRow}
 use Rattle.dh_records.specs.declared.records.PickRow.{PickRow}
+use Rattle.dh_records.proofs.ConstraintLemmas.{all_found}
 use Rattle.dh_records.proofs.Keys.{are_both}
 use Rattle.dh_records.proofs.RecordLemmas.{found_passes}
 use Rattle.dh_records.proofs.WorldLemmas.{version_in, has_version_in, held_in, defaults_in}
 use Rattle.dh_derived.specs.Renewals.{IsCoherent}
-
--- what holds of all holds of one that is found
-pub found_holds : {A : Type 0} (P : A → Type 0) (t : A → Bool) (rows : List A) (x : A) → AllByRecursion P rows → find t rows ≡ Some x → P x
-found_holds P t [] x all e = absurd cc
-found_holds P t (y ∷ rows) x all e = go (t y) e (found_holds P t rows x all.1)
-  where
-    go : (b : Bool) → cond b (Some y) (find t rows) ≡ Some x → (find t rows ≡ Some x → P x) → P x
-    go true f later = let same : y ≡ x = cc in subst P same all.0
-    go false f later = later f
 
 module _ (l : Lists) (host : Text) (p : Project) (sound : AreSound l) (was : get (world_of l) host ≡ Some p) where
   named : AreNamed p.versions
@@ -39,7 +30,7 @@ module _ (l : Lists) (host : Text) (p : Project) (sound : AreSound l) (was : get
       go (Some r) found f =
           let same : r.version ≡ v = cc in
           let its : r.version.slug ≡ slug = (are_both r.host r.version.slug host slug (found_passes (is_version host slug) l.versions r found)).1 in
-          let own = found_holds (λ (x : VersionRow). slug_from x.version.name ≡ Some x.version.slug) (is_version host slug) l.versions r sound.constraints.texts.slugs found in
+          let own = all_found (λ (x : VersionRow). slug_from x.version.name ≡ Some x.version.slug) (is_version host slug) l.versions r found sound.constraints.texts.slugs in
           subst (IsNamed slug) same (its, own ∙ ap Some its)
 
   marked : HeldRow → Unit {0}
@@ -54,7 +45,7 @@ module _ (l : Lists) (host : Text) (p : Project) (sound : AreSound l) (was : get
           let both = and_parts (bytes_eq x.host host && bytes_eq x.pass pass) (bytes_eq x.slug slug) (found_passes (is_held host pass slug) l.held x found) in
           let host_is : x.host ≡ host = (are_both x.host x.pass host pass both.0).0 in
           let slug_is : x.slug ≡ slug = (bytes_eq-Decides x.slug slug).0 both.1 in
-          let there = found_holds (λ (y : HeldRow). IsTrue (has_pass l y.host y.pass && has_version l y.host y.slug)) (is_held host pass slug) l.held x sound.constraints.records.granted found in
+          let there = all_found (λ (y : HeldRow). IsTrue (has_pass l y.host y.pass && has_version l y.host y.slug)) (is_held host pass slug) l.held x found sound.constraints.records.granted in
           ap₂ (has_version l) (sym host_is) (sym slug_is) ∙ (and_parts (has_pass l x.host x.pass) (has_version l x.host x.slug) there).1
 
   picked : (rows : List PickRow) → AllByRecursion (λ d. IsTrue (is_alias d.name || has_version l d.host d.name)) rows

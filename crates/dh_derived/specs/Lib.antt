@@ -1,3 +1,4 @@
 pub mod Rightness
 pub mod Renewals
 pub mod Renewed
+pub mod Consistent

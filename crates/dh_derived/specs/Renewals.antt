@@ -1,5 +1,5 @@
 -- Which rows of a host a change of its project leaves right.
-use Rattle.std.specs.Prelude.{◌≡◌, Bool, true, false, not, ◌||◌, IsTrue, List, Option, Some, None, filter}
+use Rattle.std.specs.Prelude.{◌≡◌, Bool, true, false, not, ◌||◌, IsTrue, Option, Some, None, filter}
 use Rattle.std.specs.List.{AllByRecursion}
 use Rattle.std.specs.Str.{bytes_eq}
 use Rattle.std.specs.FinMap.{get, insert, contains_key}
@@ -17,7 +17,7 @@ use Rattle.dh_plans.specs.declared.edits.Edit.TheVariants.{PutVersion, PutWithou
 use Rattle.dh_records.specs.Constraints.{AreSound}
 use Rattle.dh_records.specs.Lists.{Lists, world_of, is_route_in}
 use Rattle.dh_records.specs.declared.records.AliasName.{AliasName}
-use Rattle.dh_derived.specs.Rightness.{class_in, has_class, due_in, due_at, kept_at, routes_due, AreRight, AreRightAt}
+use Rattle.dh_derived.specs.Rightness.{class_in, has_class, due_in, kept_at, routes_due, AreRight, AreRightAt}
 use Rattle.dh_derived.specs.declared.renewals.Renewal.{Renewal}
 use Rattle.dh_derived.specs.declared.renewals.Renewal.TheVariants.{Nothing, Routes, Class, Aliases}
 

@@ -1,6 +1,7 @@
 -- The records once stored rows of a host are made right: which are put and which are removed.
-use Rattle.std.specs.Prelude.{◌≡◌, false, if◌then◌else◌, List, [], ◌∷◌, ◌++◌, map, filter, Option, Some, None}
+use Rattle.std.specs.Prelude.{◌≡◌, false, if◌then◌else◌, List, [], ◌∷◌, map, filter, Option, Some, None}
 use Rattle.std.specs.FinMap.{get}
+use Rattle.std.specs.Option.{option_map_or}
 use Rattle.std.specs.Str.{bytes_eq}
 use Rattle.dh_aliases.specs.declared.names.Names.{Names}
 use Rattle.dh_aliases.specs.Names.{names_of}
@@ -8,7 +9,8 @@ use Rattle.dh_world.specs.World.{Text, Project}
 use Rattle.dh_records.specs.Codings as coding
 use Rattle.dh_records.specs.Constraints.{InOrder}
 use Rattle.dh_records.specs.Changes.{put_alias, drop_alias, drop_aliases, set_routes}
-use Rattle.dh_records.specs.Lists.{Lists, base_of, world_of, is_pass_of, is_redirect_of}
+use Rattle.dh_records.specs.Lists.{Lists, base_of, world_of, class_text, is_pass_of, is_redirect_of}
+use Rattle.dh_records.specs.declared.records.Route.{Route}
 use Rattle.dh_records.specs.declared.records.AliasName.{AliasName}
 use Rattle.dh_records.specs.declared.records.AliasName.TheVariants.{Latest, Stable, Default}
 use Rattle.dh_derived.specs.Rightness.{class_in, has_class, route_of, AreRight, AreRightAt}
@@ -35,20 +37,23 @@ no_names = record { latest = None; stable = None; «default» = None }
 abbrev pub names_due : Project → Option Text → Names
 names_due p class = if has_class p class then names_of p class else no_names
 
--- those of several classes, one after the other
-abbrev pub set_classes : Text → Project → List Text → Lists → Lists
+-- those of several classes that the project has, the last first
+abbrev pub set_classes : Text → Project → List (Option Text) → Lists → Lists
 set_classes host p [] l = l
-set_classes host p (class ∷ classes) l = set_classes host p classes (set_names host class (names_due p (class_in class)) l)
+set_classes host p (class ∷ classes) l = set_names host (class_text class) (names_of p class) (set_classes host p classes l)
 
--- the classes of a host: of each pass, and of the callers with none
-abbrev pub classes_at : Text → Lists → List Text
-classes_at host l = map (λ x. x.pass) (filter (is_pass_of host) l.passes) ++ [] ∷ []
+-- the classes of a host: the callers with no pass, and those of each pass
+abbrev pub classes_at : Text → Lists → List (Option Text)
+classes_at host l = None ∷ map (λ x. Some x.pass) (filter (is_pass_of host) l.passes)
 
 -- ---- routes
 
+-- of the redirects of a host
+abbrev pub routes_for : Text → Lists → List Route
+routes_for host l = map route_of (map (λ r. r.redirect) (filter (is_redirect_of host) l.redirects))
+
 abbrev pub renew_routes : Text → Lists → Lists
-renew_routes host l =
-    set_routes host (map route_of (map (λ r. r.redirect) (filter (is_redirect_of host) l.redirects))) l
+renew_routes host l = set_routes host (routes_for host l) l
 
 -- ---- a renewal
 
@@ -59,9 +64,16 @@ renewed Routes host p l = renew_routes host l
 renewed (Class pass) host p l = set_names host pass (names_due p (class_in pass)) l
 renewed Aliases host p l = set_classes host p (classes_at host l) l
 
+-- the same, where the host has a project
+abbrev pub renewed_at : Renewal → Text → Lists → Lists
+renewed_at r host l = option_map_or (λ p. renewed r host p l) (get (world_of l) host) l
+
 -- all rows of the host are, whatever stood there
 abbrev pub host_renewed : Text → Project → Lists → Lists
 host_renewed host p l = renew_routes host (set_classes host p (classes_at host l) (drop_aliases host l))
+
+abbrev pub host_renewed_at : Text → Lists → Lists
+host_renewed_at host l = option_map_or (λ p. host_renewed host p l) (get (world_of l) host) l
 
 -- ---- laws
 

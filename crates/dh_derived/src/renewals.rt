@@ -1,6 +1,7 @@
 //! Which stored rows of its host an edit of a project leaves to be made right.
 
 ghost use Rattle.std.specs.Prelude.{◌≡◌, false, IfOk, IsTrue, option_map};
+ghost use Rattle.dh_world.specs.Visibility.{may_see};
 ghost use Rattle.dh_aliases.specs.Names as names;
 ghost use Rattle.dh_derived.specs.Renewals as spec;
 ghost use Rattle.dh_derived.specs.Renewals.{FitsEdit, FitsAdded, FitsReplaced, is_low};
@@ -81,6 +82,13 @@ pub fn renewal_of_replaced(was: &Version, version: &Version) -> Renewal
     Renewal::Aliases
 }
 
+/// Whether callers with no pass see the version.
+pub fn is_seen_by_all(version: &Version) -> bool
+    ensures { result ≡ may_see version.now false }
+{
+    version.active && !version.private
+}
+
 fn is_of_branch(branch: &RefName, version: &Version) -> bool
     ensures { result ≡ names.is_of_branch branch.now version.now }
 {
@@ -110,12 +118,10 @@ pub fn renewal_of_added(
     // The version that `stable` stands for, to callers with no pass.
     stable: Option<&Version>,
 ) -> Result<Renewal, AllocError>
-    ensures { IfOk result (FitsAdded version.now branch.now (option_map (λ v. v.now) stable.entry)) }
+    ensures { IfOk result
+        (FitsAdded version.now branch.now (option_map (λ v. v.now) stable.entry)) }
 {
-    if !version.active {
-        return Ok(Renewal::Nothing);
-    }
-    if version.private {
+    if !is_seen_by_all(version) {
         return Ok(Renewal::Nothing);
     }
     if is_of_branch(branch, version) {

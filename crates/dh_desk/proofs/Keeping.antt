@@ -1,22 +1,35 @@
--- What stands after a command that was refused.
-use Rattle.std.proofs.Common.{◌≡◌, false, is_ok, Result, Ok, Err, sym, subst, true≢false}
+-- What stands after a command that was refused, and after a rollback.
+use Rattle.std.proofs.Common.{◌≡◌, false, is_ok, Option, Result, Ok, Err, sym, subst, true≢false}
 use Rattle.sqlite_trees.specs.declared.store.Store.{Ghosts}
 use Rattle.sqlite.specs.Held.{Held}
-use Rattle.dh_records.specs.Constraints.{AreSound}
 use Rattle.dh_records.specs.Lists.{Lists, world_of}
 use Rattle.dh_replies.specs.Kept.{AreRight}
 use Rattle.dh_replies.specs.declared.replies.Replies.{Replies}
-use Rattle.dh_tables.specs.Going.{last_records}
+use Rattle.dh_schema.specs.Calling.{HasRecords}
+use Rattle.dh_tables.specs.Going.{last_records, records}
 use Rattle.dh_transactions.specs.Steps.{Steps, Transacts}
+use Rattle.dh_view.specs.Right.{IsRightAt}
+use Rattle.dh_view.proofs.RightLemmas.{right_from}
+use Rattle.dh_world.specs.World.{Text}
 use Rattle.dh_world.specs.declared.answer.Answer.{Answer}
 use Rattle.dh_world.specs.declared.command.Command.{Command}
 use Rattle.dh_world.specs.declared.refusal.Refusal.{Refusal}
-use Rattle.dh_desk.specs.Desk.{AreCurrent, IsHonest, IsKept}
+use Rattle.dh_desk.specs.Desk.{AreConsistent, AreCurrent, IsHonest, IsKept, Lasts}
 
 -- a refusal leaves the records
 stays : (before after : Lists) (command : Command) (r : Result Answer Refusal) → is_ok r ≡ false → Steps before after command r → after ≡ before
 stays before after command (Ok answer) refused steps = absurd (true≢false refused)
 stays before after command (Err e) refused steps = steps.0
+
+-- what is seen is consistent once all since the last commit is undone
+pub kept_records
+    : {S : Type 0} (g : Ghosts S) (old new : Held S) → IsKept g old → Lasts g old new
+    → (IsHonest g new → records g new ≡ last_records g old) → HasRecords g new AreConsistent
+kept_records g old new kept lasts same honest = subst AreConsistent (sym (same honest)) (kept (lasts.was honest))
+
+-- the stored rows of each host are right then
+pub rows_right : {S : Type 0} (g : Ghosts S) (h : Held S) → HasRecords g h AreConsistent → (o : Option Text) → IsRightAt g h o
+rows_right g h consistent o host is honest = let it = consistent honest in right_from (records g h) host it.sound (it.right host)
 
 module _ {S : Type 0} (g : Ghosts S) (old new : Held S) (command : Command) (r : Result Answer Refusal) (did : Transacts g old new command r) (refused : is_ok r ≡ false) where
   same_records : IsHonest g new → last_records g new ≡ last_records g old
@@ -25,6 +38,6 @@ module _ {S : Type 0} (g : Ghosts S) (old new : Held S) (command : Command) (r :
   -- so what was right of it is right of what it left
   pub refused_keeps : (kept : Replies) → IsKept g old × AreCurrent g old kept → IsKept g new × AreCurrent g new kept
   refused_keeps kept was = (
-    λ honest. subst AreSound (sym (same_records honest)) (was.0 (did.lasts.was honest)),
+    λ honest. subst AreConsistent (sym (same_records honest)) (was.0 (did.lasts.was honest)),
     λ honest. subst (λ l. AreRight (world_of l) kept.entries) (sym (same_records honest)) (was.1 (did.lasts.was honest)),
   )

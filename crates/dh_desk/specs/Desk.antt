@@ -4,7 +4,6 @@ use Rattle.std.specs.Coded.{Coded, code_by, coded×, coded_bool, coded_ℕ}
 use Rattle.sqlite_trees.specs.declared.store.Store.{Ghosts}
 use Rattle.sqlite.specs.Held.{Held, held_code}
 use Rattle.dh_records.specs.Lists.{world_of}
-use Rattle.dh_records.specs.Constraints.{AreSound}
 use Rattle.dh_replies.specs.Kept.{AreRight}
 use Rattle.dh_replies.specs.declared.replies.Replies.{Replies}
 use Rattle.dh_tables.specs.Going.{records}
@@ -22,6 +21,7 @@ pub use Rattle.dh_rows.specs.Calls.{IsHonest, IsRefused, Lasts}
 pub use Rattle.dh_schema.specs.Calling.{Blames}
 pub use Rattle.dh_schema.specs.Tables.{lists_of}
 pub use Rattle.dh_tables.specs.Going.{last_records}
+pub use Rattle.dh_transactions.specs.Steps.{AreConsistent}
 
 -- a desk: its tables, whether a fault of the store has closed it, and how many replies it keeps
 pub record Standing (S : Type 0) : Type 0 where
@@ -59,9 +59,9 @@ module _ {S : Type 0} (g : Ghosts S) where
     pub lasts : Lasts g old.tables new.tables
     pub moves : IsHonest g new.tables → Relates (world old) (world new)
 
-  -- while the store is honest, what is committed is sound
+  -- while the store is honest, what is committed is sound, and its stored rows are right
   abbrev pub IsKept : Held S → Type 0
-  IsKept h = IsHonest g h → AreSound (last_records g h)
+  IsKept h = IsHonest g h → AreConsistent (last_records g h)
 
   -- while the store is honest, each reply that is kept is that of the world
   abbrev pub AreCurrent : Held S → Replies → Type 0

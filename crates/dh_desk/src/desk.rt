@@ -3,6 +3,10 @@ ghost use Rattle.std.specs.Prelude.{◌≡◌, ◌≤◌, ◌⊎◌, true, false
 ghost use Rattle.std.specs.Option.{option_map};
 ghost use Rattle.dh_rows.specs.Calls.{KeepsCommitted, Lasts, LeavesNoMore, LeavesCommitted};
 ghost use Rattle.dh_transactions.specs.Crashes.{LeavesEither};
+ghost use Rattle.dh_records.specs.Constraints.{AreSound};
+ghost use Rattle.dh_records.specs.Lists.{base_of};
+ghost use Rattle.dh_renewal.specs.Filling.{IsLeft, LeavesDerived};
+ghost use Rattle.dh_schema.specs.Calling.{IsSettled};
 ghost use Rattle.dh_tables.specs.Going.{IsOver};
 ghost use Rattle.dh_transactions.specs.Steps.{Transacts};
 ghost use Rattle.dh_world.specs.CheckResults.{IsFault};
@@ -14,6 +18,7 @@ ghost use Rattle.dh_replies.specs.declared.replies.TheConstants.{MOST_REPLIES};
 ghost use Rattle.dh_desk.specs.Desk.{IsKept, TellsMemory, is_fault, reply_in, state, veil_of, world};
 
 use crate::reads::read;
+use dh_renewal::derive;
 use dh_replies::Replies;
 use dh_reply::{Fault, Read, Reply};
 use dh_tables::Tables;
@@ -134,6 +139,28 @@ impl<S: Alter> Desk<S> {
                 replies,
             }),
             Err(_) => Err((Fault::Memory, tables)),
+        }
+    }
+
+    /// The desk over tables outside a transaction, whose stored rows may be others than their records say: they are made
+    /// right before, in a transaction that is committed where one changes. Where that fails the tables are handed back.
+    pub fn open(alloc: Global, tables: Tables<S>) -> Result<Desk<S>, (Fault, Tables<S>)>
+        requires settled { IsHonest S.Store tables → IsSettled S.Store tables }
+        requires sound { IsHonest S.Store tables → AreSound (last_records S.Store tables) }
+        ensures opened { IfOk result (λ desk. HasCleanDisk (state S.Store desk.tables)
+            → IsLeft S.Store tables desk.tables) }
+        ensures closed { IfOk result (λ desk. desk.closed ≡ false) }
+        ensures none { IfOk result (λ desk. desk.cached ≡ 0) }
+        ensures crash { IfOk result (λ desk. LeavesDerived S.Store tables desk.tables) }
+        ensures kept { IfErr result (λ e. IsHonest S.Store e.1
+            → base_of (last_records S.Store e.1) ≡ base_of (last_records S.Store tables)) }
+        ensures stop { IfErr result (λ e. LeavesDerived S.Store tables e.1) }
+    {
+        let mut tables = tables;
+        match derive(&mut tables, alloc) {
+            Ok(()) => Desk::over(alloc, tables),
+            Err(Refusal::OutOfMemory) => Err((Fault::Memory, tables)),
+            Err(_) => Err((Fault::Store, tables)),
         }
     }
 

@@ -6,8 +6,9 @@ ghost use Rattle.dh_reply.specs.Replies.{reply_to};
 ghost use Rattle.dh_classes.specs.Replies.{IsOfClass, reply_for};
 ghost use Rattle.dh_replies.specs.Kept.{AreRight, question_for};
 ghost use Rattle.dh_records.specs.Lists.{world_of};
-ghost use Rattle.dh_schema.specs.Calling.{IsSettled};
-ghost use Rattle.dh_desk.specs.Desk.{AreCurrent, Blames, IsHonest, IsRefused, Lasts, last_records, lists_of};
+ghost use Rattle.dh_schema.specs.Calling.{HasRecords, IsSettled};
+ghost use Rattle.dh_desk.specs.Desk.{AreConsistent, AreCurrent, Blames, IsHonest, IsKept, IsRefused, Lasts};
+ghost use Rattle.dh_desk.specs.Desk.{last_records, lists_of};
 ghost use Rattle.dh_desk.specs.Desk.{reply_in, veil_of, world_seen};
 ghost use Rattle.dh_view.specs.View.{Fails, Looks, shown};
 ghost use Rattle.dh_world.specs.Reads.{host_named, caller_named};
@@ -60,6 +61,7 @@ fn look<S: Alter>(
     caller: Caller,
     read: &Read,
 ) -> Result<Reply, Fault>
+    requires { HasRecords S.Store tables.old AreConsistent }
     ensures looks { Looks S.Store tables.old tables.new }
     ensures told { OnStore result (Fails S.Store tables.old tables.new) }
     ensures value { IsHonest S.Store tables.new
@@ -82,6 +84,7 @@ fn reply_to_class<S: Alter>(
     caller: Caller,
     asked: &Read,
 ) -> Result<Reply, Fault>
+    requires { HasRecords S.Store tables.old AreConsistent }
     ensures looks { Looks S.Store tables.old tables.new }
     ensures told { OnStore result (Fails S.Store tables.old tables.new) }
     ensures right { let w = world_seen S.Store tables.old in
@@ -110,7 +113,8 @@ fn reply_by_class<S: Alter>(
     caller: Caller,
     asked: &Read,
 ) -> Result<Reply, Fault>
-    requires { IsHonest S.Store tables.old → IsSettled S.Store tables.old }
+    requires settled { IsHonest S.Store tables.old → IsSettled S.Store tables.old }
+    requires consistent { HasRecords S.Store tables.old AreConsistent }
     ensures looks { Looks S.Store tables.old tables.new }
     ensures told { OnStore result (Fails S.Store tables.old tables.new) }
     ensures right { let w = world_seen S.Store tables.old in
@@ -142,7 +146,8 @@ pub fn read<S: Alter>(
     asked: &Read,
     moment: u64,
 ) -> Result<Reply, Fault>
-    requires { AreCurrent S.Store tables.old replies.old }
+    requires kept { IsKept S.Store tables.old }
+    requires current { AreCurrent S.Store tables.old replies.old }
     ensures current { AreCurrent S.Store tables.new replies.new }
     ensures value { IsHonest S.Store tables.new
         → IfOk result (λ r. r ≡ reply_to (seen (world_of (last_records S.Store tables.old))

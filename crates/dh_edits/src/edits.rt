@@ -1,11 +1,11 @@
-//! Making the edits of a plan, within a transaction.
+//! Making an edit of a plan, within a transaction.
 ghost use Rattle.std.specs.Prelude.{◌≡◌, None, IfOk};
 ghost use Rattle.std.specs.List.{IsDistinct};
 ghost use Rattle.std.specs.Str.{bytes_eq};
 ghost use Rattle.dh_rows.specs.Calls.{IsHonest};
 ghost use Rattle.dh_records.specs.Changes as change;
 ghost use Rattle.dh_tables.specs.Going.{HasRecords, IsWithin, Makes};
-ghost use Rattle.dh_row_edits.specs.RowEdits.{RowsMay, RowsMayAll, all_rows_edited, rows_edited, version_row};
+ghost use Rattle.dh_row_edits.specs.RowEdits.{RowsMay, rows_edited, version_row};
 
 use dh_checks::CheckedPage;
 use dh_lookup::Page;
@@ -246,7 +246,8 @@ fn put_answer<S: Alter>(
     Ok(tables.keep(alloc, host, &slug, operation, &key, &answer)?)
 }
 
-fn make_edit<S: Alter>(
+/// Makes one edit of the host's project, within a transaction. One that is refused may be made in part.
+pub fn make_edit<S: Alter>(
     tables: &mut Tables<S>,
     alloc: Global,
     host: &HostName,
@@ -277,22 +278,4 @@ fn make_edit<S: Alter>(
         Edit::Revoke { pass, slug } => revoke(tables, host, &pass, &slug),
         Edit::PutAnswer(first) => put_answer(tables, alloc, host, first),
     }
-}
-
-/// Makes edits one after the other.
-pub fn make_edits<S: Alter>(
-    tables: &mut Tables<S>,
-    alloc: Global,
-    host: &HostName,
-    edits: Vec<Edit<'_>>,
-) -> Result<(), Refusal>
-    requires within { IsWithin S.Store tables.old }
-    requires may { HasRecords S.Store tables.old (RowsMayAll host.now edits.items) }
-    ensures makes { Makes S.Store tables.old tables.new result
-        (all_rows_edited host.now edits.entry.items) }
-{
-    for edit in edits {
-        make_edit(tables, alloc, host, edit)?;
-    }
-    Ok(())
 }

@@ -1,6 +1,6 @@
-//! The edits of a plan, made on the tables within a transaction.
+//! The edits of a plan, each made on the tables within a transaction.
 #![tactic(auto)]
 
 mod edits;
 
-pub use edits::make_edits;
+pub use edits::make_edit;

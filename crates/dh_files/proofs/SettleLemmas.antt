@@ -1,15 +1,20 @@
 -- What making, opening and migrating leave of a connection, and a look before.
-use Rattle.std.proofs.Common.{◌≡◌, ◌≢◌, false, refl, sym, subst}
+use Rattle.std.proofs.Common.{◌≡◌, ◌≢◌, false, refl, sym, subst, ◌∙◌}
 use Rattle.sqlite_trees.specs.declared.store.Store.{Ghosts}
 use Rattle.sqlite.specs.Effect.{Database}
 use Rattle.sqlite.specs.Held.{Held, state}
 use Rattle.sqlite.specs.State.{HasCleanDisk}
-use Rattle.dh_rows.specs.Calls.{IsHonest}
+use Rattle.dh_rows.specs.Calls.{IsHonest, committed}
+use Rattle.dh_records.specs.Constraints.{AreInOrder, KeepsConstraints}
+use Rattle.dh_schema.specs.Tables.{lists_of}
+use Rattle.dh_renewal.specs.Filling.{IsLeft}
+use Rattle.dh_renewal.proofs.SameBase.{same_sound}
+use Rattle.dh_opening.specs.Filling.{IsOpened}
 use Rattle.dh_faults.specs.declared.fault.Fault.TheVariants as below
 use Rattle.dh_opening.specs.declared.fault.TablesFault.{TablesFault}
 use Rattle.dh_opening.specs.declared.fault.TablesFault.TheVariants as tables
 use Rattle.dh_files.specs.Faults.{fault_of}
-use Rattle.dh_files.specs.Settling.{Settles}
+use Rattle.dh_files.specs.Settling.{IsServed, Settles}
 use Rattle.dh_files.specs.declared.fault.FileFault.{FileFault}
 use Rattle.dh_files.specs.declared.fault.FileFault.TheVariants as file
 
@@ -22,6 +27,32 @@ module _ {S : Type 0} (g : Ghosts S) (R : Database → Database → Type 0) (con
       let it = opened here in
       let was = same it.0 in
       subst (Settles g R conn) (sym is) (record { was = was.0; honest = it.1; outside = it.2; last = subst (λ (db : Database). R db (state g over).committed) was.1 (brought here) })
+
+-- tables that were opened, and whose stored rows were made right
+pub served_after
+    : {S : Type 0} (g : Ghosts S) (conn looked mid new : Held S)
+    → (IsHonest g looked → IsHonest g conn × ((state g looked).now ≡ (state g conn).now))
+    → (HasCleanDisk (state g mid) → IsHonest g looked × IsHonest g mid × (mid.in_transaction ≡ false))
+    → (HasCleanDisk (state g mid) → IsOpened (state g looked).now (state g mid).committed)
+    → (HasCleanDisk (state g mid) → AreInOrder (committed g lists_of mid) × KeepsConstraints (committed g lists_of mid))
+    → (HasCleanDisk (state g new) → IsLeft g mid new) → HasCleanDisk (state g new) → Settles g IsServed conn new
+served_after g conn looked mid new same opened brought sound left clean =
+    let it = left clean in
+    let here = it.was.0 in
+    let was = same (opened here).0 in
+    let found = brought here in
+    let its = sound here in record {
+      was = was.0;
+      honest = it.honest;
+      outside = it.outside;
+      last = subst (λ (db : Database). IsServed db (state g new).committed) was.1 (record {
+        ours = found.0;
+        holds = it.holds;
+        keeps = (same_sound (committed g lists_of new) (committed g lists_of mid) it.derived.base (record { order = its.0; constraints = its.1 })).constraints;
+        base = it.derived.base ∙ found.1.base;
+        right = it.derived.right;
+      });
+    }
 
 -- a fault that is not of schema 1
 pub not_old : (told : FileFault) (fault : TablesFault) → told ≡ fault_of fault → fault ≢ tables.OldSchema → told ≢ file.OldSchema

@@ -5,9 +5,8 @@ ghost use Rattle.sqlite.specs.Held.{state};
 ghost use Rattle.sqlite.specs.State.{HasCleanDisk};
 ghost use Rattle.dh_rows.specs.Calls.{IsHonest};
 ghost use Rattle.dh_schema.specs.Making.{IsMade};
-ghost use Rattle.dh_opening.specs.Filling.{IsOpened};
 ghost use Rattle.dh_opening.specs.Migrating.{IsMigrated};
-ghost use Rattle.dh_files.specs.Settling.{Settles};
+ghost use Rattle.dh_files.specs.Settling.{IsServed, Settles};
 
 use crate::fault::FileFault;
 use crate::looking::{Found, look};
@@ -88,19 +87,19 @@ fn count_projects<S: Alter>(conn: &mut Connection<S>) -> i64
     }
 }
 
-/// Opens the tables of a connection, and counts the projects.
+/// Opens the tables of a connection, makes the stored rows right, and counts the projects.
 fn open_tables<S: Alter + Drop>(
     alloc: Global,
     conn: Connection<S>,
 ) -> Result<(Desk<S>, i64), FileFault>
     requires { conn.in_transaction ≡ false }
     ensures opened { IfOk result (λ p. HasCleanDisk (state S.Store p.0.tables)
-        → Settles S.Store IsOpened conn p.0.tables) }
+        → Settles S.Store IsServed conn p.0.tables) }
 {
     let mut conn = conn;
     let projects = count_projects(&mut conn);
     match dh_opening::open(alloc, conn) {
-        Ok(tables) => match Desk::over(alloc, tables) {
+        Ok(tables) => match Desk::open(alloc, tables) {
             Ok(desk) => Ok((desk, projects)),
             Err((fault, _tables)) => Err(FileFault::from(TablesFault::Failed(fault))),
         },
@@ -126,7 +125,8 @@ fn connect_to_database<S: Start>(
 
 /// Opens a file that `init_file` made, and tells how many projects it has. The whole file is read. No
 /// other program can open it until it is closed. It makes no file, and leaves one that it refuses as it
-/// is. To a file that an earlier program made it adds the tables of derived records.
+/// is. To a file that an earlier program made it adds the tables of derived
+/// records, and where their rows are not what the others say it makes them so.
 pub fn open_desk<S: Start>(
     rt: &HostRuntime,
     path: &str,

@@ -63,14 +63,14 @@ fn told_over<S: Alter>(
 }
 
 /// A desk over the tables that stand there.
-fn desk_over<S: Alter + Drop>(
+pub fn desk_over<S: Alter + Drop>(
     alloc: Global,
     conn: Connection<S>,
 ) -> Result<Desk<S>, (TablesFault, Connection<S>)>
     requires { conn.in_transaction ≡ false }
 {
     match open(alloc, conn) {
-        Ok(tables) => match Desk::over(alloc, tables) {
+        Ok(tables) => match Desk::open(alloc, tables) {
             Ok(desk) => Ok(desk),
             Err((fault, tables)) => Err((TablesFault::Failed(fault), tables.into_conn())),
         },

@@ -2,7 +2,7 @@
 
 ghost use Rattle.std.specs.Prelude.{◌≡◌, false};
 
-use dh_opening::open;
+use crate::lines::desk_over;
 use sqlite::{Alter, Connection};
 use std::alloc::{AllocError, Global};
 
@@ -34,15 +34,15 @@ fn add_rows<S: Alter>(
     out.push_str(format!(in alloc; "{rows:?}\n")?.as_str())
 }
 
-/// What an open says of the tables of a connection, and all their rows, as text.
+/// What an opening says of the tables of a connection, and all their rows, as it leaves them, as text.
 pub fn rows_of<S: Alter + Drop>(
     alloc: Global,
     conn: Connection<S>,
 ) -> Result<(String, Connection<S>), AllocError>
     requires { conn.in_transaction ≡ false }
 {
-    let (said, mut conn) = match open(alloc, conn) {
-        Ok(tables) => (String::from_str(alloc, "ours\n")?, tables.into_conn()),
+    let (said, mut conn) = match desk_over(alloc, conn) {
+        Ok(desk) => (String::from_str(alloc, "ours\n")?, desk.into_conn()),
         Err((fault, conn)) => (format!(in alloc; "{fault:?}\n")?, conn),
     };
     let mut out = said;

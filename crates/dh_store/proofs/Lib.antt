@@ -4,6 +4,8 @@ pub mod Kept
 pub mod OneTable
 pub mod OurTables
 pub mod Statements
+pub mod GrantStatements
+pub mod WholeStatements
 pub mod Asking
 pub mod Finding
 pub mod Known

@@ -1,5 +1,5 @@
 -- What the WHERE of our statements tests.
-use Rattle.std.proofs.Common.{◌≡◌, ℕ, pos, nat_lt, arith, List, Bool, true, false, Some, refl, ◌∙◌, is_gt, int_cmp}
+use Rattle.std.proofs.Common.{◌≡◌, ℕ, pos, nat_lt, arith, List, Bool, true, false, Some, refl, ◌∙◌, is_eq, is_gt, int_cmp, ◌==◌}
 use Rattle.std.proofs.lemmas.Map.Text.{is_eq-slice_cmp}
 use Rattle.std.proofs.lemmas.Bool.Decides.{nat_tests}
 use Rattle.std.specs.Str.{bytes_eq}
@@ -33,6 +33,13 @@ later_place a b = grind (arith, nat_tests)
 pub above_place : (a b : ℕ) → is_true (binary (Compare Gt Binary) (Int (pos a)) (Int (pos b))) ≡ nat_lt b a
 unfolding binary
 above_place a b = rw (value_cmp-Int (pos a) (pos b)) (truth _ ∙ later_place a b)
+
+same_place : (a b : ℕ) → is_eq (int_cmp (pos a) (pos b)) ≡ (a == b)
+same_place a b = grind (arith, nat_tests)
+
+pub equal_place : (a b : ℕ) → is_true (binary (Compare Eq Binary) (Int (pos a)) (Int (pos b))) ≡ (a == b)
+unfolding binary
+equal_place a b = rw (value_cmp-Int (pos a) (pos b)) (truth _ ∙ same_place a b)
 
 pub equal_op : (a b : Operation) → is_true (binary (Compare Eq Binary) (flag (is_upload a)) (flag (is_upload b))) ≡ same_op a b
 unfolding binary value_cmp lib.Ieee.is_nan lib.Ieee.lt

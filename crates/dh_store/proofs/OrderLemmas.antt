@@ -3,7 +3,7 @@ use Rattle.sqlite.specs.Effect.{Database}
 use Rattle.dh_rows.specs.Keyed.{by_key}
 use Rattle.dh_rows.proofs.Lists.{rises-sort, by_key_total}
 use Rattle.dh_records.specs.Codings as coding
-use Rattle.dh_records.specs.Constraints.{AreInOrder}
+use Rattle.dh_records.specs.Constraints.{InOrder, AreInOrder}
 use Rattle.dh_schema.specs.Tables.{Holds, lists_of}
 
 pub in_order : (db : Database) → Holds db → AreInOrder (lists_of db)
@@ -19,3 +19,6 @@ in_order db h = record {
   rules = rises-sort (by_key coding.rules.key) (by_key_total coding.rules.key) _ h.rules.rows.keyed;
   redirects = rises-sort (by_key coding.redirects.key) (by_key_total coding.redirects.key) _ h.redirects.rows.keyed;
 }
+
+pub routes_in_order : (db : Database) → Holds db → InOrder coding.routes.key (lists_of db).routes
+routes_in_order db h = rises-sort (by_key coding.routes.key) (by_key_total coding.routes.key) _ h.routes.rows.keyed

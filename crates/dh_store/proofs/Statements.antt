@@ -1,5 +1,5 @@
 -- What our statements ask and do.
-use Rattle.std.proofs.Common.{◌≡◌, ℕ, ℤ, pos, List, [], ◌∷◌, nat_lt, codes, None, Some, refl, sym, subst, ◌∙◌}
+use Rattle.std.proofs.Common.{◌≡◌, ◌==◌, ℕ, ℤ, pos, List, [], ◌∷◌, nat_lt, codes, None, Some, refl, sym, subst, ◌∙◌}
 use Rattle.std.specs.Str.{bytes_eq}
 use Rattle.sqlite_value.specs.declared.value.Value.TheVariants.{Null, Int, Text}
 use Rattle.sqlite_value.specs.Keys.{first_key}
@@ -32,7 +32,8 @@ use Rattle.dh_records.specs.Codings.{projects, langs, versions, pages, used, pic
 use Rattle.dh_records.specs.Changes as change
 use Rattle.dh_schema.specs.Tables.{Holds, lists_of, project_table, lang_table, version_table, page_table, used_table, pick_table, pass_table, holds_table, rule_table, redirect_table, alias_table, route_table}
 use Rattle.dh_records.specs.Lists.{is_project, is_lang_of, is_version_of, is_version, is_page_of, is_page_in, is_page, is_used, same_op, is_pick_of, is_pass_of, is_pass, is_held, is_held_by, is_held_on, is_rule_of, is_rule_behind, is_redirect_of, is_redirect_behind, is_alias_of, is_alias_at, same_alias, is_route_of, is_route_in}
-use Rattle.dh_store.proofs.Matching.{equal_text, above_place, equal_alias, equal_op}
+use Rattle.dh_store.proofs.Matching.{equal_text, above_place, equal_alias, equal_op, equal_place}
+use Rattle.dh_store.specs.Listing.{is_redirect_at}
 use Rattle.dh_records.proofs.Keys.{one, two, three, four}
 use Rattle.dh_store.specs.Meanings.{Alters, AsksFor}
 use Rattle.dh_store.proofs.OneTable.{asks, deletes, deletes_above, inserts, upserts}
@@ -417,6 +418,16 @@ redirects_is = (refl, refl)
 
 pub redirects_asked : (s : State) (host : List ℕ) → AsksFor redirects.encode IsRedirect (λ l. l.redirects) (is_redirect_of host) s redirects_text (Text host ∷ [])
 redirects_asked s host = asks of_redirects s redirects_text _ _ _ _ redirects_is refl (is_redirect_of host) (λ n x. rw (equal_text x.host host) (one (bytes_eq x.host host))) (λ tree n x. refl) (λ x y. refl)
+
+abbrev pub redirect_at_text : List ℕ
+redirect_at_text = codes "SELECT host, place, kind, status, force, source, target FROM redirect WHERE host = ?1 AND place = ?2 ORDER BY host, place"
+
+redirect_at_is : (select_of redirect_table redirect_at_text ≡ Some (0 ∷ 1 ∷ 2 ∷ 3 ∷ 4 ∷ 5 ∷ 6 ∷ [], (0, 0) ∷ (1, 1) ∷ [], 0 ∷ 1 ∷ [])) × (parameters_in redirect_at_text ≡ Some 2)
+unfolding everything
+redirect_at_is = (refl, refl)
+
+pub redirect_at_asked : (s : State) (host : List ℕ) (place : ℕ) → AsksFor redirects.encode IsRedirect (λ l. l.redirects) (is_redirect_at host place) s redirect_at_text (Text host ∷ Int (pos place) ∷ [])
+redirect_at_asked s host place = asks of_redirects s redirect_at_text _ _ _ _ redirect_at_is refl (is_redirect_at host place) (λ n x. rw (equal_text x.host host, equal_place x.place place) (two (bytes_eq x.host host) (x.place == place))) (λ tree n x. refl) (λ x y. refl)
 
 redirect_key : IsKeyOf redirect_table (1 ∷ 2 ∷ [])
 redirect_key = record { primary = refl; uniques = refl; apart = refl; own = refl; among = refl }

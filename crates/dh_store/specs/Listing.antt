@@ -1,5 +1,5 @@
 -- Lists in order of projects, and what setting one makes of all lists.
-use Rattle.std.specs.Prelude.{◌≡◌, ℕ, Bool, not, ◌&&◌, nat_lt, pos, List, [], ◌∷◌, filter, length}
+use Rattle.std.specs.Prelude.{◌≡◌, ℕ, Bool, not, ◌&&◌, ◌==◌, nat_lt, pos, List, [], ◌∷◌, filter, length}
 use Rattle.std.specs.Str.{bytes_eq}
 use Rattle.std.proofs.Common.{refl}
 use Rattle.sqlite_value.specs.Order.{Row}
@@ -86,3 +86,7 @@ module _ {X V : Type 0} (l : Listing X V) where
   -- these items at the places from 1 on, and none of the host behind them
   abbrev pub list_set : List ℕ → List V → Lists → Lists
   list_set host vs lists = all_put host vs (without_behind host (length vs) lists)
+
+-- the redirect of a host at a place
+abbrev pub is_redirect_at : List ℕ → ℕ → RedirectRow → Bool
+is_redirect_at host place r = bytes_eq r.host host && r.place == place

@@ -21,6 +21,7 @@ mod projects;
 mod retry_keys;
 mod statement;
 mod versions;
+mod whole;
 
 use dh_lookup::Fault;
 use dh_rows::{begin, commit, rollback};

@@ -1,4 +1,5 @@
 pub mod Crashing
+pub mod EditingLemmas
 pub mod Ending
 pub mod OpenLemmas
 pub mod Turning

@@ -4,8 +4,7 @@ use Rattle.std.specs.FinMap.{get}
 use Rattle.dh_checks.specs.Commands.{change_of, command_of}
 use Rattle.dh_checks.specs.declared.checking.CheckedChange.{CheckedChange}
 use Rattle.dh_records.specs.Lists.{Lists, world_of}
-use Rattle.dh_records.specs.Constraints.{AreSound}
-use Rattle.dh_transactions.specs.Steps.{Turns, Steps}
+use Rattle.dh_transactions.specs.Steps.{AreConsistent, Turns, Steps}
 use Rattle.dh_world.specs.CheckResults.{IsFault}
 use Rattle.dh_world.specs.Step.{IsSetAside, change_at, settled, turn, step, after_texts}
 use Rattle.dh_world.specs.WrongTexts.{bad_text}
@@ -40,7 +39,7 @@ pub ended
     → Steps start after c answer
 ended start worked after kept c result (Ok a) right same turned ok err =
     let at : Turns start worked c (Ok a) = subst (Turns start worked c) ok.0 turned in
-    let P : Lists → Type 0 = λ l. (step (world_of start) c ≡ Ok (world_of l, a)) × AreSound l in
+    let P : Lists → Type 0 = λ l. (step (world_of start) c ≡ Ok (world_of l, a)) × AreConsistent l in
     subst P (sym ok.1) (right_texts start c right ∙ at.0, at.1)
 ended start worked after kept c result (Err e) right same turned ok err = (err.0 ∙ same, go err.1)
   where

@@ -3,18 +3,16 @@ use Rattle.std.proofs.Common.{◌≡◌, ◌⊎◌, Some, Result, Ok, Err, sym, 
 use Rattle.std.specs.Result.{IsErrAnd}
 use Rattle.std.proofs.lemmas.Result.{err_from_is_err_and}
 use Rattle.dh_checks.specs.Commands.{change_of, command_of}
-use Rattle.dh_plans.specs.Edits.{MayRunOut}
+use Rattle.dh_plans.specs.Edits.{MayEditAll, MayRunOut, all_edited}
 use Rattle.dh_plans.specs.Knowing.{Decides}
 use Rattle.dh_plans.specs.Planned.{Planned}
 use Rattle.dh_checks.specs.declared.checking.CheckedChange.{CheckedChange}
 use Rattle.dh_plans.specs.declared.facts.Facts.{Facts}
 use Rattle.dh_records.specs.Lists.{Lists, world_of}
-use Rattle.dh_row_edits.proofs.EditLemmas.{all_may, all_spell}
 use Rattle.dh_transactions.proofs.Turning.{turn_at}
 use Rattle.dh_looks.specs.Finding.{FindsFacts}
-use Rattle.dh_row_edits.specs.RowEdits.{RowsMayAll, all_rows_edited}
-use Rattle.dh_records.specs.Constraints.{AreSound}
-use Rattle.dh_transactions.specs.Steps.{Turns}
+use Rattle.dh_transactions.specs.Editing.{Changes, MayChange}
+use Rattle.dh_transactions.specs.Steps.{AreConsistent, Turns}
 use Rattle.dh_world.specs.Changes as world
 use Rattle.dh_world.specs.Step.{settled, PushRefused, PushRefusedAt}
 use Rattle.dh_world.specs.World.{Text}
@@ -39,16 +37,15 @@ module _ (host : Text) (change : CheckedChange) (lists : Lists) (f : Facts) (fou
       go (inl (inr is)) = inr (inr (turn_at host change lists (Some found.0) found.1 ∙ ap (settled (world_of lists) host) is))
       go (inr refused) = inr (inl (subst (λ o. PushRefusedAt (change_of change) o e) (sym found.1) refused))
 
-  module _ (sound : AreSound lists) (plan : Planned) (decided : Decides change f (Ok plan)) where
-    pub edits_may : RowsMayAll host plan.edits lists
-    edits_may = all_may host plan.edits lists found.0 sound found.1 (decided found.0 found.2).1
+  module _ (plan : Planned) (decided : Decides change f (Ok plan)) where
+    pub edits_may : AreConsistent lists → MayChange host (MayEditAll plan.edits) lists
+    edits_may consistent = record { project = found.0; found = found.1; holds = (decided found.0 found.2).1; consistent = consistent }
 
     -- a plan that was carried out
-    pub turn_done : Turns lists (all_rows_edited host plan.edits lists) (command_of host change) (Ok plan.answer)
-    turn_done =
-        let it = decided found.0 found.2 in
-        let after = all_spell host plan.edits lists found.0 sound found.1 it.1 in (
-          turn_at host change lists (Some found.0) found.1 ∙ ap (settled (world_of lists) host) it.0
-              ∙ ap (λ w. Ok (w, plan.answer)) (sym after.world_is),
-          after.sound,
+    pub turn_done : (after : Lists) → Changes host (all_edited plan.edits) lists after → Turns lists after (command_of host change) (Ok plan.answer)
+    turn_done after changes =
+        let puts = changes found.0 found.1 in (
+          turn_at host change lists (Some found.0) found.1 ∙ ap (settled (world_of lists) host) (decided found.0 found.2).0
+              ∙ ap (λ w. Ok (w, plan.answer)) (sym puts.world_is),
+          puts.consistent,
         )

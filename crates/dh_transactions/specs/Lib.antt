@@ -1,3 +1,4 @@
 pub mod Steps
 pub mod Opening
+pub mod Editing
 pub mod Crashes

@@ -1,4 +1,4 @@
--- What a command makes of sound records.
+-- What a command makes of consistent records.
 use Rattle.std.specs.Prelude.{◌≡◌, ◌⊎◌, Result, Ok, Err, IfErr, OnOk}
 use Rattle.std.specs.FinMap.{get}
 use Rattle.sqlite_trees.specs.declared.store.Store.{Ghosts}
@@ -7,7 +7,7 @@ use Rattle.sqlite.specs.State.{HasCleanDisk}
 use Rattle.dh_rows.specs.Calls.{IsHonest, IsNotCommitted, IsNotUndone, Lasts, LeavesNoMore}
 use Rattle.dh_records.specs.Lists.{Lists, world_of}
 use Rattle.dh_tables.specs.Going.{IsOver, last_records}
-use Rattle.dh_records.specs.Constraints.{AreSound}
+pub use Rattle.dh_derived.specs.Consistent.{AreConsistent}
 use Rattle.dh_transactions.specs.Crashes.{LeavesStep}
 use Rattle.dh_faults.specs.declared.fault.Fault.{Fault}
 use Rattle.dh_world.specs.CheckResults.{IsFault, refusal_from}
@@ -19,7 +19,7 @@ use Rattle.dh_world.specs.declared.refusal.Refusal.{Refusal}
 -- a command whose texts are right, before its commit
 abbrev pub Turns : Lists → Lists → Command → Result Answer Refusal → Type 0
 Turns before after c (Ok answer) =
-    (turn (world_of before) c ≡ Ok (world_of after, answer)) × AreSound after
+    (turn (world_of before) c ≡ Ok (world_of after, answer)) × AreConsistent after
 Turns before after c (Err e) =
     IsFault e
     ⊎ (PushRefusedAt c.change (get (world_of before) c.host) e ⊎ (turn (world_of before) c ≡ Err e))
@@ -27,7 +27,7 @@ Turns before after c (Err e) =
 -- a command in whole, by what is committed
 abbrev pub Steps : Lists → Lists → Command → Result Answer Refusal → Type 0
 Steps before after c (Ok answer) =
-    (step (world_of before) c ≡ Ok (world_of after, answer)) × AreSound after
+    (step (world_of before) c ≡ Ok (world_of after, answer)) × AreConsistent after
 Steps before after c (Err e) =
     (after ≡ before) × (IsSetAside (world_of before) c e ⊎ (step (world_of before) c ≡ Err e))
 

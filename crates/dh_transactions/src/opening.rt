@@ -9,7 +9,7 @@ ghost use Rattle.dh_records.specs.Constraints.{has_language};
 ghost use Rattle.dh_tables.specs.Going.{HasRecords, Lacks, Makes, Stays, records};
 ghost use Rattle.dh_transactions.specs.Opening.{project_row, main_lang, with_row, with_lang, with_project};
 ghost use Rattle.dh_records.specs.Constraints.{AreSound};
-ghost use Rattle.dh_transactions.specs.Steps.{Turns};
+ghost use Rattle.dh_transactions.specs.Steps.{AreConsistent, Turns};
 
 use dh_checks::{CheckedChange, NewProject, ProjectSettings};
 use dh_commands::open;
@@ -91,7 +91,7 @@ pub fn open_project<S: Alter>(
     host: &HostName,
     change: CheckedChange<'_>,
 ) -> Result<Answer, Refusal>
-    requires sound { HasRecords S.Store tables.old AreSound }
+    requires consistent { HasRecords S.Store tables.old AreConsistent }
     requires none { HasRecords S.Store tables.old (λ l. get (world_of l) host.now ≡ None) }
     ensures goes { GoesWithin S.Store tables.old tables.new }
     ensures live { OnOk result (Stays S.Store tables.old tables.new) }

@@ -7,13 +7,12 @@ ghost use Rattle.dh_rows.specs.Calls.{IsHonest, Lasts, LeavesNoMore, Goes};
 ghost use Rattle.dh_world.specs.CheckResults.{IsFault};
 ghost use Rattle.dh_transactions.specs.Crashes.{LeavesEnd};
 ghost use Rattle.dh_tables.specs.Going.{HasRecords, IsOver, IsWithin, Stays, records, last_records};
-ghost use Rattle.dh_records.specs.Constraints.{AreSound};
-ghost use Rattle.dh_transactions.specs.Steps.{IsNotEnded, Transacts, Turns};
+ghost use Rattle.dh_transactions.specs.Steps.{AreConsistent, IsNotEnded, Transacts, Turns};
 
+use crate::editing::edit_project;
 use crate::opening::open_project;
 use dh_checks::{CheckedChange, CheckedCommand, check};
 use dh_commands::decide;
-use dh_edits::make_edits;
 use dh_looks::look;
 use dh_paths::HostName;
 use dh_plans::Plan;
@@ -22,7 +21,8 @@ use dh_world::{Answer, Command, Refusal};
 use sqlite::Alter;
 use std::alloc::Global;
 
-/// Looks up what the command asks for, decides, and makes the edits that are decided on.
+/// Looks up what the command asks for, decides, and makes the edits that are decided on, and the stored rows right after
+/// each.
 fn work<S: Alter>(
     tables: &mut Tables<S>,
     alloc: Global,
@@ -30,7 +30,7 @@ fn work<S: Alter>(
     change: CheckedChange<'_>,
 ) -> Result<Answer, Refusal>
     requires within { IsWithin S.Store tables.old }
-    requires sound { HasRecords S.Store tables.old AreSound }
+    requires consistent { HasRecords S.Store tables.old AreConsistent }
     ensures goes { Goes S.Store tables.old tables.new }
     ensures live { OnOk result (Stays S.Store tables.old tables.new) }
     ensures turns { IsHonest S.Store tables.new
@@ -41,7 +41,7 @@ fn work<S: Alter>(
         return open_project(tables, alloc, host, change);
     };
     let Plan { edits, answer } = decide(alloc, change, facts)?;
-    make_edits(tables, alloc, host, edits)?;
+    edit_project(tables, alloc, host, edits)?;
     Ok(answer)
 }
 
@@ -84,7 +84,8 @@ pub fn run<S: Alter>(
     requires outside { IsHonest S.Store tables.old → tables.old.in_transaction ≡ false }
     requires settled { IsHonest S.Store tables.old
         → records S.Store tables.old ≡ last_records S.Store tables.old }
-    requires sound { IsHonest S.Store tables.old → AreSound (last_records S.Store tables.old) }
+    requires consistent { IsHonest S.Store tables.old
+        → AreConsistent (last_records S.Store tables.old) }
     ensures { Transacts S.Store tables.old tables.new command.now result }
 {
     let CheckedCommand { host, change } = check(alloc, command)?;

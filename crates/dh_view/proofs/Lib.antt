@@ -1,3 +1,6 @@
 pub mod ViewLemmas
 pub mod PassLemmas
 pub mod Shown
+pub mod Kept
+pub mod Leading
+pub mod RightLemmas

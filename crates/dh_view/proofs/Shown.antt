@@ -25,8 +25,9 @@ use Rattle.dh_world.specs.World.{Text, text_cmp, Project}
 use Rattle.dh_world.specs.Visibility.{live_pass, holds, is_visible, may_see}
 use Rattle.dh_records.specs.Lists.{Lists, project_of, world_of, is_project, is_version, is_version_of, is_page, is_lang_of, is_pick_of, is_redirect_of}
 use Rattle.dh_world.specs.Seen.{seen_project, without_default, default_of, visible_versions}
+use Rattle.dh_classes.specs.Classes.{class_of}
 use Rattle.dh_records.specs.Constraints.{RiseBySlug}
-use Rattle.dh_view.specs.View.{has_project, host_in, languages_in, opens, project_in, row_of, sees, shown_under, slug_in}
+use Rattle.dh_view.specs.View.{has_project, host_in, languages_in, opens, project_in, row_of, sees, shown_under, shows_pass, slug_in}
 use Rattle.dh_world.proofs.MapLemmas.{tied_text}
 use Rattle.dh_records.proofs.SeenLemmas.{get_project, get_version, get_page}
 use Rattle.dh_world.proofs.SeenLemmas.{seen_page}
@@ -119,31 +120,6 @@ resolved_is lists row c name =
     let m = visible_versions (project_of lists row) c in
     ap (λ o. option_or (option_map own_name o) (alias_of (seen_project (project_of lists row) c) name)) (found_version name (entries m) (own_keys lists row c) ∙ sym (get-entries m name))
 
-pub default_is : (p : Project) (c : Caller) → (seen_project p c).default ≡ default_of (λ name. is_some (resolved (seen_project p c) name)) p.defaults
-unfolding seen_project without_default resolved
-default_is p c = refl
-
--- the first name that resolves is the default, and without one it is an alias
-default_first : (resolves : Text → Bool) (names : List Text) → default_of resolves names ≡ option_or (find resolves names) (default_of resolves [])
-default_first resolves [] = refl
-default_first resolves (n ∷ names) = go (resolves n) (default_first resolves names)
-  where
-    go : (b : Bool) → default_of resolves names ≡ option_or (find resolves names) (default_of resolves []) → cond b (Some n) (default_of resolves names) ≡ option_or (cond b (Some n) (find resolves names)) (default_of resolves [])
-    go true more = refl
-    go false more = more
-
-settles : {A : Type 0} (o rest : Option A) → is_some o ≡ true → option_or o rest ≡ o
-settles None rest e = absurd (true≢false (sym e))
-settles (Some x) rest e = refl
-
-passes_on : {A : Type 0} (o rest : Option A) → is_some o ≡ false → option_or o rest ≡ rest
-passes_on None rest e = refl
-passes_on (Some x) rest e = absurd (true≢false e)
-
--- with no default left to ask for, none was found
-pub none_left : (resolves : Text → Bool) (picks : List PickRow) (i : ℕ) → length picks ≤ i → find resolves (map (λ d. d.name) (drop i picks)) ≡ find resolves (map (λ d. d.name) picks) → None ≡ find resolves (map (λ d. d.name) picks)
-none_left resolves picks i past e = sym (at_drop_all (λ l. find resolves (map (λ d. d.name) l)) picks i past) ∙ e
-
 -- ---- lists
 
 pub slugs_of : (rows : List VersionRow) → map (λ e. e.0) (map by_slug rows) ≡ map (λ v. v.slug) (map (λ r. r.version) rows)
@@ -155,10 +131,6 @@ versions_of [] = refl
 versions_of (r ∷ rows) = ap (λ l. r.version ∷ l) (versions_of rows)
 
 -- ---- what the functions answer
-
-names_are : (lists : Lists) (row : ProjectRow) → (project_of lists row).defaults ≡ map (λ d. d.name) (filter (is_pick_of row.host) lists.picks)
-unfolding project_of
-names_are lists row = refl
 
 module _ (lists : Lists) (row : ProjectRow) (c : Caller) where
   abbrev visible : FinMap text_cmp Version
@@ -204,16 +176,6 @@ module _ (lists : Lists) (row : ProjectRow) (c : Caller) where
   pub keys_are : (kept : List VersionRow) → RiseBySlug (filter (is_version_of row.host) lists.versions) → kept ≡ filter is_shown (filter (is_version_of row.host) lists.versions) → map (λ v. v.slug) (map (λ r. r.version) kept) ≡ keys visible
   keys_are kept up k = ap (λ l. map (λ v. v.slug) (map (λ r. r.version) l)) k ∙ sym (slugs_of _) ∙ ap (map (λ e. e.0)) (sym (visible_entries lists row c up))
 
-  pub latest_is : (vs : List Version) → vs ≡ values visible → map (λ v. v.slug) vs ≡ keys visible
-      → option_map alias_name (option_and_then (slice_get (map (λ v. v.slug) vs)) (latest_of vs row.branch)) ≡ option_map alias_name whole.latest
-  unfolding seen_project without_default project_of
-  latest_is vs e k = λ i. option_map alias_name (option_and_then (slice_get (k i)) (latest_of (e i) row.branch))
-
-  pub stable_is : (vs : List Version) → vs ≡ values visible → map (λ v. v.slug) vs ≡ keys visible
-      → option_map alias_name (option_and_then (slice_get (map (λ v. v.slug) vs)) (stable_of vs)) ≡ option_map alias_name whole.stable
-  unfolding seen_project without_default
-  stable_is vs e k = λ i. option_map alias_name (option_and_then (slice_get (k i)) (stable_of (e i)))
-
   pub own_slug : (name : Text) (o : Option Version) (v : Version) → o ≡ get visible name → o ≡ Some v → Some (own_name v) ≡ resolved whole name
   own_slug name o v e is = sym (resolved_is lists row c name ∙ ap (λ o. option_or (option_map own_name o) (alias_of whole name)) (sym e ∙ is))
 
@@ -222,86 +184,6 @@ module _ (lists : Lists) (row : ProjectRow) (c : Caller) where
 
   pub slug_is : (name : Text) (o : Option Version) (v : Version) → o ≡ get visible name → o ≡ Some v → Some v.slug ≡ option_map (λ x. name) (get visible name)
   slug_is name o v e is = ap Some (slug_of (held name) row.host name lists.versions v (sym (visible_is lists row c name) ∙ sym e ∙ is)) ∙ ap (option_map (λ x. name)) (sym is ∙ e)
-
-  -- the same by the host alone
-  pub visible_under : (host : Text) (by : Caller) → host ≡ row.host → by ≡ c → visible_versions (project_of lists (row_of host)) by ≡ visible
-  unfolding project_of
-  visible_under host by h b = ap (λ h. visible_versions (project_of lists (row_of h)) by) h ∙ ap (visible_versions (project_of lists row)) b
-
-  -- the name stands for a version that the caller sees
-  abbrev pub resolves : Text → Bool
-  resolves name = is_some (resolved whole name)
-
-  -- `latest`, where it stands for a version
-  pub alias_first : (o : Option Text) (t : Text) → o ≡ option_map (λ n. codes "latest") (resolved whole (codes "latest")) → o ≡ Some t → Some t ≡ default_of resolves []
-  alias_first o t e is = go (resolved whole (codes "latest")) (sym is ∙ e)
-    where
-      go : (r : Option Named) → Some t ≡ option_map (λ n. codes "latest") r → Some t ≡ cond (is_some r) (Some (codes "latest")) (cond (is_some (resolved whole (codes "stable"))) (Some (codes "stable")) None)
-      go None e = absurd (no e)
-        where
-          no : Some t ≡ None → ⊥
-          no e = cc
-      go (Some n) e = e
-
-  -- and else `stable`
-  pub alias_second : (o : Option Text) → o ≡ option_map (λ n. codes "latest") (resolved whole (codes "latest")) → o ≡ None → option_map (λ n. codes "stable") (resolved whole (codes "stable")) ≡ default_of resolves []
-  alias_second o e is = go (resolved whole (codes "latest")) (sym is ∙ e)
-    where
-      last : (r : Option Named) → option_map (λ n. codes "stable") r ≡ cond (is_some r) (Some (codes "stable")) None
-      last None = refl
-      last (Some n) = refl
-
-      go : (r : Option Named) → None ≡ option_map (λ n. codes "latest") r → option_map (λ n. codes "stable") (resolved whole (codes "stable")) ≡ cond (is_some r) (Some (codes "latest")) (cond (is_some (resolved whole (codes "stable"))) (Some (codes "stable")) None)
-      go None e = last (resolved whole (codes "stable"))
-      go (Some n) e = absurd (no e)
-        where
-          no : None ≡ Some (codes "latest") → ⊥
-          no e = cc
-
-  -- one default on, in tables that show the same
-  found_next : (at : Lists) (picks : List PickRow) (i : ℕ) (x : PickRow) (text : Text) (found : Option Text) → at ≡ lists → i < length picks → x ≡ slice_index_or picks i x → text ≡ x.name
-      → found ≡ option_map (λ n. text) (resolved (seen_project (project_of at row) c) text)
-      → find resolves (map (λ d. d.name) (drop i picks)) ≡ option_or found (find resolves (map (λ d. d.name) (drop (i + 1) picks)))
-  found_next at picks i x text found same low is e f =
-      at_drop_more (λ l. find resolves (map (λ d. d.name) l)) picks i x low
-      ∙ ap (λ y. cond (resolves y.name) (Some y.name) (find resolves (map (λ d. d.name) (drop (i + 1) picks)))) (sym is)
-      ∙ go (resolved whole x.name) (find resolves (map (λ d. d.name) (drop (i + 1) picks)))
-      ∙ ap (λ o. option_or o (find resolves (map (λ d. d.name) (drop (i + 1) picks))))
-      (sym (f ∙ ap (λ l. option_map (λ n. text) (resolved (seen_project (project_of l row) c) text)) same ∙ ap (λ t. option_map (λ n. t) (resolved whole t)) e))
-    where
-      go : (o : Option Named) (rest : Option Text) → cond (is_some o) (Some x.name) rest ≡ option_or (option_map (λ n. x.name) o) rest
-      go None rest = refl
-      go (Some n) rest = refl
-
-  -- it is found now, or it is among those that are left
-  module _ (at : Lists) (picks : List PickRow) (i : ℕ) (x : PickRow) (text : Text) (found : Option Text) (same : at ≡ lists) (low : i < length picks) (is : x ≡ slice_index_or picks i x) (e : text ≡ x.name)
-      (f : found ≡ option_map (λ n. text) (resolved (seen_project (project_of at row) c) text)) (left : find resolves (map (λ d. d.name) (drop i picks)) ≡ find resolves (map (λ d. d.name) picks)) where
-    pub found_now : is_some found ≡ true → found ≡ find resolves (map (λ d. d.name) picks)
-    found_now some = sym (settles found (find resolves (map (λ d. d.name) (drop (i + 1) picks))) some) ∙ sym (found_next at picks i x text found same low is e f) ∙ left
-
-    pub found_later : is_some found ≡ false → find resolves (map (λ d. d.name) (drop (i + 1) picks)) ≡ find resolves (map (λ d. d.name) picks)
-    found_later none = sym (passes_on found (find resolves (map (λ d. d.name) (drop (i + 1) picks))) none) ∙ sym (found_next at picks i x text found same low is e f) ∙ left
-
-  default_by : (picks : List PickRow) → picks ≡ filter (is_pick_of row.host) lists.picks → option_or (find resolves (map (λ d. d.name) picks)) (default_of resolves []) ≡ whole.default
-  default_by picks e =
-      ap (λ l. option_or (find resolves (map (λ d. d.name) l)) (default_of resolves [])) e
-      ∙ sym (default_is (project_of lists row) c ∙ ap (default_of resolves) (names_are lists row) ∙ default_first resolves (map (λ d. d.name) (filter (is_pick_of row.host) lists.picks)))
-
-  module _ (at : Lists) (same : at ≡ lists) (picks asked : List PickRow) (e : picks ≡ filter (is_pick_of row.host) lists.picks) (a : asked ≡ picks) (o : Option Text)
-      (f : o ≡ find (λ name. is_some (resolved (seen_project (project_of at row) c) name)) (map (λ d. d.name) asked)) where
-    found_as_default : option_or o (default_of resolves []) ≡ whole.default
-    found_as_default =
-        ap (λ o. option_or o (default_of resolves []))
-        (f ∙ ap (λ l. find (λ name. is_some (resolved (seen_project (project_of l row) c) name)) (map (λ d. d.name) asked)) same ∙ ap (λ ps. find resolves (map (λ d. d.name) ps)) a)
-        ∙ default_by picks e
-
-    pub default_chosen : (t : Text) → o ≡ Some t → Some t ≡ whole.default
-    default_chosen t is = ap (λ o. option_or o (default_of resolves [])) (sym is) ∙ found_as_default
-
-    pub default_alias : (now : Lists) → now ≡ at → o ≡ None → default_of (λ name. is_some (resolved (seen_project (project_of now row) c) name)) [] ≡ whole.default
-    default_alias now still is =
-        ap (λ l. default_of (λ name. is_some (resolved (seen_project (project_of l row) c) name)) []) (still ∙ same)
-        ∙ ap (λ o. option_or o (default_of resolves [])) (sym is) ∙ found_as_default
 
   seen_when : (slug : Text) → is_visible (project_of lists row) c slug ≡ is_some (get visible slug)
   seen_when slug =
@@ -357,10 +239,6 @@ pub langs_shown : (p : Project) (c : Caller) → p.languages ≡ (seen_project p
 unfolding seen_project without_default
 langs_shown p c = refl
 
-pub redirects_are : (lists : Lists) (row : ProjectRow) → map (λ r. r.redirect) (filter (is_redirect_of row.host) lists.redirects) ≡ (project_of lists row).redirects
-unfolding project_of
-redirects_are lists row = refl
-
 -- ---- what stands under a host
 
 -- the record of a project that stands
@@ -410,13 +288,13 @@ languages_shown lists o c = go (project_in lists o)
 
 -- what is read by the host alone is that of the project
 module _ (lists : Lists) (row : ProjectRow) (c : Caller) (host : Text) (own : row.host ≡ host) where
-  pub redirects_under : (project_of lists (row_of host)).redirects ≡ (seen_project (project_of lists row) c).redirects
-  unfolding seen_project without_default project_of
-  redirects_under = ap (λ h. (project_of lists (row_of h)).redirects) (sym own)
-
   pub versions_under : values (visible_versions (project_of lists (row_of host)) c) ≡ (seen_project (project_of lists row) c).versions
   unfolding seen_project without_default project_of
   versions_under = ap (λ h. values (visible_versions (project_of lists (row_of h)) c)) (sym own)
+
+  pub pass_under : is_some (class_of (project_of lists (row_of host)) c) ≡ is_some (class_of (project_of lists row) c)
+  unfolding project_of
+  pass_under = ap (λ h. is_some (class_of (project_of lists (row_of h)) c)) (sym own)
 
   pub slug_under : (name : Text) → option_map (λ v. name) (get (visible_versions (project_of lists (row_of host)) c) name) ≡ cond (is_visible (project_of lists row) c name) (Some name) None
   unfolding project_of
@@ -427,6 +305,29 @@ module _ (lists : Lists) (row : ProjectRow) (c : Caller) (host : Text) (own : ro
       by_sight : (o : Option Version) → option_map (λ v. name) o ≡ cond (is_some o) (Some name) None
       by_sight None = refl
       by_sight (Some v) = refl
+
+-- a host under which a project stands
+pub host_found : (lists : Lists) (o : Option Text) (host : Text) → Some host ≡ host_in lists o → o ≡ Some host
+host_found lists o host e = go (has_project lists o) e
+  where
+    go : (b : Bool) → Some host ≡ cond b o None → o ≡ Some host
+    go true e = sym e
+    go false e = absurd (no e)
+      where
+        no : Some host ≡ None → ⊥
+        no e = cc
+
+pub project_found : (lists : Lists) (o : Option Text) (host : Text) (row : ProjectRow) → o ≡ Some host → project_in lists o ≡ Some (project_of lists row) → get (world_of lists) host ≡ Some (project_of lists row)
+project_found lists o host row is found = ap (project_in lists) (sym is) ∙ found
+
+-- ---- the pass that is shown
+
+-- whether the caller of a project, or of none, shows a live pass
+abbrev shows : Caller → Option Project → Bool
+shows c p = is_some (option_and_then (λ p. class_of p c) p)
+
+pub pass_found : (lists : Lists) (o : Option Text) (c : Caller) (host : Text) → Some host ≡ host_in lists o → is_some (class_of (project_of lists (row_of host)) c) ≡ shows_pass lists o c
+pass_found lists o c host e = let found = under_host lists o host e in pass_under lists found.0 c host found.1 ∙ ap (shows c) (sym found.2)
 
 -- ---- the slug of a version that is seen
 

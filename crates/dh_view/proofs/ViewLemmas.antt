@@ -1,6 +1,6 @@
 -- What looks leave, one after the other.
 use Rattle.std.proofs.Common.{◌≡◌, ◌≤◌, ℕ, Bool, true, false, ◌&&◌, Option, None, Some, Result, Ok, Err, IsTrue, IfOk, OnOk, OnErr, inl, inr, refl, ◌⊎◌, subst, sym, ap, ◌∙◌, arith, zero, suc, true≢false}
-use Rattle.std.specs.Prelude.{List, [], Vec, IsErrAnd, option_map, option_and_then}
+use Rattle.std.specs.Prelude.{List, [], Vec, IsErrAnd, is_some, option_map, option_and_then}
 use Rattle.std.specs.Option.{option_map_or}
 use Rattle.std.specs.FinMap.{get}
 use Rattle.sqlite_trees.specs.View.{doubt}
@@ -19,13 +19,16 @@ use Rattle.dh_world.specs.World.{Text}
 use Rattle.dh_records.specs.Lists.{Lists, project_of}
 use Rattle.dh_records.specs.declared.records.ProjectRow.{ProjectRow}
 use Rattle.dh_world.specs.Seen as sight
+use Rattle.dh_classes.specs.Classes.{class_of}
 use Rattle.dh_schema.proofs.CallLemmas.{on_store}
 use Rattle.dh_schema.specs.Calling as call
 use Rattle.dh_schema.specs.Calling.{IsSettled}
 use Rattle.dh_schema.specs.InTurn.{blamed_before, goes_none, goes_on, refused_on, same_none, same_on}
-use Rattle.dh_view.specs.View.{doubt_of, host_in, languages_in, meaning_of, project_in, row_of, sees, shown, shown_in, shown_under, slug_in, visible_in, fails_on, looks_on, Asks, Fails, Looks, Obtains}
+use Rattle.dh_view.specs.Remembered.{AreLanguages, IsKnown, IsSeen, IsShown}
+use Rattle.dh_view.specs.Right.{IsRightAt, IsRightIn}
+use Rattle.dh_view.specs.View.{doubt_of, has_project, host_in, languages_in, meaning_of, project_in, row_of, sees, shown, shown_in, shown_under, shows_pass, slug_in, visible_in, fails_on, looks_on, Asks, Fails, Looks, Obtains}
 use Rattle.dh_view.specs.declared.view.View.{View}
-use Rattle.dh_view.proofs.Shown.{languages_found, not_under, slug_found, under_host}
+use Rattle.dh_view.proofs.Shown.{languages_found, not_under, pass_found, slug_found, under_host}
 
 -- ---- doubt
 
@@ -212,6 +215,26 @@ module _ {S : Type 0} {g : Ghosts S} where
       let same = ((looks_from settled p).unmoved it).same in
       subst P (sym same.now_is) (fact same.was_honest)
 
+-- what a view recalls holds of these tables
+pub record Recalls {S : Type 0} (g : Ghosts S) (v : View S g) (h : Held S) : Type 0 where
+  pub right : IsRightAt g h v.host
+  pub is_known : IsKnown g h v.host v.known
+  pub is_seen : IsSeen g h v.host v.caller v.slug
+  pub are_languages : AreLanguages g h v.host v.langs
+  pub is_shown : IsShown g h v.host v.caller v.shown
+
+-- looks at its tables leave it so
+pub recalls
+    : {S : Type 0} {g : Ghosts S} {T : Type 0} (v : View S g) {h : Held S} {r : Result T Fault}
+    → (IsHonest g v.tables.now → IsSettled g v.tables.now) → Asks g v.tables.now h r → Recalls g v h
+recalls v settled looks = record {
+  right = λ host is. still_told (λ l. IsRightIn l host) settled looks (v.right host is);
+  is_known = λ known. still_told (λ l. has_project l v.host ≡ true) settled looks (v.is_known known);
+  is_seen = λ slug is. still_told (λ l. sees l v.host v.caller slug ≡ true) settled looks (v.is_seen slug is);
+  are_languages = λ langs is. still_told (λ l. langs ≡ languages_in l v.host) settled looks (v.are_languages langs is);
+  is_shown = λ shown is. still_told (λ l. shown ≡ shows_pass l v.host v.caller) settled looks (v.is_shown shown is);
+}
+
 -- an answer that is said in another way
 pub same_answer : {T U E : Type 0} (f : T → U) (r : Result T E) (v w : U) → v ≡ w → IfOk r (λ x. f x ≡ v) → IfOk r (λ x. f x ≡ w)
 same_answer f (Ok x) v w e h = h ∙ e
@@ -253,37 +276,6 @@ module _ {S : Type 0} (g : Ghosts S) where
       let led : Looks g a.tables.now b.tables.now = p.leads.3 in
       view_looks g a c r (stay.0 ∙ p.leads.0, stay.1 ∙ p.leads.1, stay.2 ∙ p.leads.2)
       (looks_on led (looks_from settled q)) (on_store r (fails_on led) (fails_from r q))
-
-  -- the project whose record was found, as the caller sees it
-  module _ {a b : View S g} {o : Option ProjectRow} (p : lookup.Asks (meaning_of g) a b (Ok o))
-      (value : IsHonest g b.tables.now → option_map (project_of (seen g lists_of a.tables.now)) o ≡ project_in (seen g lists_of a.tables.now) a.host) where
-    shown_found
-        : (row : ProjectRow) → o ≡ Some row → IsHonest g b.tables.now
-        → Some (shown_in (seen g lists_of b.tables.now) row b.caller) ≡ shown g a.tables.now a.host a.caller
-    shown_found row is it =
-        let lists = seen g lists_of a.tables.now in
-        ap (λ l. Some (shown_in l row b.caller)) (p.leads.3.unmoved it).same.now_is
-        ∙ ap (λ c. Some (shown_in lists row c)) p.leads.2
-        ∙ ap (λ o. option_map (λ q. sight.seen_project q a.caller) (option_map (project_of lists) o)) (sym is)
-        ∙ ap (option_map (λ q. sight.seen_project q a.caller)) (value it)
-
-    none_shown : o ≡ None → IsHonest g b.tables.now → None ≡ shown g a.tables.now a.host a.caller
-    none_shown is it =
-        let lists = seen g lists_of a.tables.now in
-        ap (λ o. option_map (λ q. sight.seen_project q a.caller) (option_map (project_of lists) o)) (sym is)
-        ∙ ap (option_map (λ q. sight.seen_project q a.caller)) (value it)
-
-    -- what a look at the tables tells of it
-    pub maybe_shown
-        : {U : Type 0} {h : Held S} {r : Result (Option U) Fault} {v : Option U} (f : SeenProject → Option U) (row : ProjectRow) → o ≡ Some row
-        → v ≡ f (shown_in (seen g lists_of b.tables.now) row b.caller) → Asks g b.tables.now h r → (IsHonest g h → IfOk r (λ x. x ≡ v))
-        → doubt_of g h ≡ 0 → IfOk r (λ x. x ≡ option_and_then f (shown g a.tables.now a.host a.caller))
-    maybe_shown {h = h} {r = r} f row is e asks reads d =
-        let it = honest g h d in
-        same_answer (λ x. x) r _ _ (e ∙ ap (option_and_then f) (shown_found row is (asks.goes.lasts.was it))) (reads it)
-
-    pub maybe_none : {U : Type 0} (f : SeenProject → Option U) → o ≡ None → doubt_of g b.tables.now ≡ 0 → None ≡ option_and_then f (shown g a.tables.now a.host a.caller)
-    maybe_none f is d = ap (option_and_then f) (none_shown is (honest g b.tables.now d))
 
   -- what was found before a call is found after it
   module _ {T : Type 0} {a b : View S g} {x : T} (p : lookup.Asks (meaning_of g) a b (Ok x)) (it : IsHonest g b.tables.now) where
@@ -345,15 +337,28 @@ module _ {S : Type 0} (g : Ghosts S) where
     none_under_host : o ≡ None → IsHonest g b.tables.now → None ≡ shown g a.tables.now a.host a.caller
     none_under_host is it = ap (option_map (λ q. sight.seen_project q a.caller)) (sym (not_under (seen g lists_of a.tables.now) a.host (sym is ∙ value it)))
 
-    -- what a look at the tables by the host alone tells of it
-    pub maybe_under
+    -- and whether the caller shows a live pass
+    pub pass_under_host
+        : (host : Text) → o ≡ Some host → IsHonest g b.tables.now
+        → is_some (class_of (project_of (seen g lists_of b.tables.now) (row_of host)) b.caller) ≡ shows_pass (seen g lists_of a.tables.now) a.host a.caller
+    pass_under_host host is it =
+        let lists = seen g lists_of a.tables.now in
+        ap (λ l. is_some (class_of (project_of l (row_of host)) b.caller)) (p.leads.3.unmoved it).same.now_is
+        ∙ ap (λ c. is_some (class_of (project_of lists (row_of host)) c)) p.leads.2
+        ∙ pass_found lists a.host a.caller host (sym is ∙ value it)
+
+    -- what a look at the tables by the host alone tells of the project that stands under it
+    pub maybe_right
         : {U : Type 0} {h : Held S} {r : Result (Option U) Fault} {v : Option U} (f : SeenProject → Option U) (host : Text) → o ≡ Some host
-        → ((row : ProjectRow) → row.host ≡ host → v ≡ f (shown_in (seen g lists_of b.tables.now) row b.caller)) → Asks g b.tables.now h r → (IsHonest g h → IfOk r (λ x. x ≡ v))
+        → (IsHonest g b.tables.now → (row : ProjectRow) → row.host ≡ host → project_in (seen g lists_of a.tables.now) a.host ≡ Some (project_of (seen g lists_of a.tables.now) row)
+        → v ≡ f (shown_in (seen g lists_of a.tables.now) row a.caller))
+        → Asks g b.tables.now h r → (IsHonest g h → IfOk r (λ x. x ≡ v))
         → doubt_of g h ≡ 0 → IfOk r (λ x. x ≡ option_and_then f (shown g a.tables.now a.host a.caller))
-    maybe_under {h = h} {r = r} f host is e asks reads d =
+    maybe_right {h = h} {r = r} f host is e asks reads d =
         let it = honest g h d in
-        let found = shown_under_host host is (asks.goes.lasts.was it) in
-        same_answer (λ x. x) r _ _ (e found.0 found.1 ∙ ap (option_and_then f) found.2) (reads it)
+        let before = asks.goes.lasts.was it in
+        let found = under_host (seen g lists_of a.tables.now) a.host host (sym is ∙ value before) in
+        same_answer (λ x. x) r _ _ (e before found.0 found.1 found.2 ∙ ap (λ q. option_and_then f (option_map (λ q. sight.seen_project q a.caller) q)) (sym found.2)) (reads it)
 
     pub maybe_none_under : {U : Type 0} (f : SeenProject → Option U) → o ≡ None → doubt_of g b.tables.now ≡ 0 → None ≡ option_and_then f (shown g a.tables.now a.host a.caller)
     maybe_none_under f is d = ap (option_and_then f) (none_under_host is (honest g b.tables.now d))
@@ -372,10 +377,6 @@ module _ {S : Type 0} (g : Ghosts S) where
     all_none_under f e is d = e ∙ ap (λ o. option_map_or f o []) (none_under_host is (honest g b.tables.now d))
 
 -- ---- answers
-
-pub through : {T U V E : Type 0} (f : T → U) (k : U → V) (r : Result T E) (v : U) (w : V) → k v ≡ w → IfOk r (λ x. f x ≡ v) → IfOk r (λ x. k (f x) ≡ w)
-through f k (Ok x) v w e h = ap k h ∙ e
-through f k (Err x) v w e h = tt
 
 pub from_answer : {T E : Type 0} {P Q : T → Type 0} (r : Result T E) → ((x : T) → P x → Q x) → IfOk r P → IfOk r Q
 from_answer (Ok x) f h = f x h

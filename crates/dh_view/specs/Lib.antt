@@ -1,2 +1,4 @@
 pub mod Remembered
+pub mod Right
+pub mod Stored
 pub mod View

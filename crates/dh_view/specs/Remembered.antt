@@ -9,6 +9,7 @@ use Rattle.dh_schema.specs.Calling.{HasRecords}
 use Rattle.dh_world.specs.declared.caller.Caller.{Caller}
 use Rattle.dh_world.specs.World.{Text, Project}
 use Rattle.dh_world.specs.Visibility.{is_visible}
+use Rattle.dh_classes.specs.Classes.{class_of}
 
 -- the project under a host
 abbrev pub project_in : Lists → Option Text → Option Project
@@ -30,6 +31,10 @@ slug_in l host caller slug = if sees l host caller slug then Some slug else None
 abbrev pub languages_in : Lists → Option Text → List Text
 languages_in l host = option_map_or (λ p. p.languages) (project_in l host) []
 
+-- the caller shows a pass of it that is live
+abbrev pub shows_pass : Lists → Option Text → Caller → Bool
+shows_pass l host caller = is_some (option_and_then (λ p. class_of p caller) (project_in l host))
+
 module _ {S : Type 0} (g : Ghosts S) (h : Held S) (host : Option Text) where
   -- a project that was found stands
   abbrev pub IsKnown : Bool → Type 0
@@ -44,3 +49,8 @@ module _ {S : Type 0} (g : Ghosts S) (h : Held S) (host : Option Text) where
   abbrev pub AreLanguages : Option (List Text) → Type 0
   AreLanguages read =
       (langs : List Text) → read ≡ Some langs → HasRecords g h (λ l. langs ≡ languages_in l host)
+
+  -- whether the caller shows a live pass is as it was found
+  abbrev pub IsShown : Caller → Option Bool → Type 0
+  IsShown caller found =
+      (shown : Bool) → found ≡ Some shown → HasRecords g h (λ l. shown ≡ shows_pass l host caller)

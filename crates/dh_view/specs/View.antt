@@ -13,7 +13,6 @@ use Rattle.dh_rows.specs.Calls.{Goes, IsBlamed, IsHonest, IsSame, Lasts, Leaves,
 use Rattle.dh_versions.specs.declared.version.Version.{Version}
 use Rattle.dh_lookup.specs.Lookup as lookup
 use Rattle.dh_lookup.specs.Lookup.{Meaning}
-use Rattle.dh_lookup.specs.SeenProject.{resolved}
 use Rattle.dh_faults.specs.declared.fault.Fault.{Fault}
 use Rattle.dh_lookup.specs.declared.seen_project.SeenProject.{SeenProject}
 use Rattle.dh_records.specs.declared.records.VersionRow.{VersionRow}
@@ -27,7 +26,7 @@ use Rattle.dh_schema.specs.Calling.{Blames, IsSettled, Learns}
 use Rattle.dh_schema.specs.InTurn.{blamed_before, lasts_none, lasts_on, same_none, same_on, shut_before}
 use Rattle.dh_records.specs.Lists.{Lists, project_of, world_of}
 use Rattle.dh_schema.specs.Tables.{lists_of}
-pub use Rattle.dh_view.specs.Remembered.{has_project, languages_in, project_in, sees, slug_in}
+pub use Rattle.dh_view.specs.Remembered.{has_project, languages_in, project_in, sees, shows_pass, slug_in}
 use Rattle.dh_view.specs.declared.view.View.{View}
 
 -- ---- what a caller sees of the records
@@ -74,10 +73,6 @@ module _ (l : Lists) (row : ProjectRow) (caller : Caller) where
   -- the project as the caller sees it
   abbrev pub shown_in : SeenProject
   shown_in = sight.seen_project (project_of l row) caller
-
-  -- the name stands for a version that the caller sees
-  abbrev pub resolves : Text → Bool
-  resolves name = is_some (resolved shown_in name)
 
 -- ---- what looks leave
 

@@ -1,10 +1,10 @@
 //! What a caller sees of the tables, as a `Lookup`.
 
 ghost use Rattle.std.specs.Prelude.{◌≡◌};
-ghost use Rattle.dh_view.specs.Remembered.{AreLanguages, IsKnown, IsSeen};
+ghost use Rattle.dh_view.specs.Remembered.{AreLanguages, IsKnown, IsSeen, IsShown};
+ghost use Rattle.dh_view.specs.Right.{IsRightAt};
 
 mod aliases;
-mod defaults;
 mod languages;
 mod looking;
 mod redirects;
@@ -12,7 +12,6 @@ mod versions;
 
 use dh_lookup::Items;
 use dh_paths::{HostName, Lang, Slug};
-use dh_records::ProjectRow;
 use dh_store::Tables;
 use dh_world::Caller;
 pub use looking::doubt_is_of_the_store;
@@ -21,7 +20,8 @@ use std::alloc::Global;
 
 /// The project under a host, as a caller sees it. Within a transaction each look answers `Store`.
 /// Outside one a look does so only where the store counted a fault in it or was shut before it.
-/// What a look was told once the tables are not asked again, where there was memory to keep it.
+/// What a look was told once the tables are not asked again, where there was memory to keep it. What names stand for and
+/// where redirects lead is read from the rows that are derived, which are right.
 #[derive(Drop)]
 pub struct View<'a, S: Alter> {
     tables: &'a mut Tables<S>,
@@ -33,14 +33,19 @@ pub struct View<'a, S: Alter> {
     slug: Option<Slug>,
     /// The languages, once they were read.
     langs: Option<Items<Lang>>,
+    /// Whether the caller shows a live pass, once it was looked for.
+    shown: Option<bool>,
+    ghost right: { IsRightAt S.Store tables.now host },
     ghost is_known: { IsKnown S.Store tables.now host known },
     ghost is_seen: { IsSeen S.Store tables.now host caller slug },
     ghost are_languages: { AreLanguages S.Store tables.now host langs },
+    ghost is_shown: { IsShown S.Store tables.now host caller shown },
 }
 
 impl<'a, S: Alter> View<'a, S> {
     /// What the caller sees under the host; no host has no project.
     pub fn new(tables: &'a mut Tables<S>, host: Option<HostName>, caller: Caller) -> View<'a, S>
+        requires right { IsRightAt S.Store tables.old host }
         ensures same { result.tables.ghost_name ≡ tables.entry.ghost_name }
         ensures now { result.tables.now ≡ tables.old }
         ensures host { result.host ≡ host }
@@ -53,6 +58,7 @@ impl<'a, S: Alter> View<'a, S> {
             known: false,
             slug: None,
             langs: None,
+            shown: None,
         }
     }
 
@@ -68,6 +74,7 @@ impl<'a, S: Alter> View<'a, S> {
             known: _known,
             slug: _slug,
             langs: _langs,
+            shown: _shown,
         } = self;
         tables
     }
@@ -91,34 +98,5 @@ impl<'a> HostView<'a> {
             host,
             caller,
         }
-    }
-}
-
-/// The project that stands under the host of a view, with its caller; looks at it take memory from the allocator.
-#[derive(Clone, Copy)]
-struct ProjectView<'a> {
-    alloc: Global,
-    project: &'a ProjectRow,
-    caller: &'a Caller,
-}
-
-impl<'a> ProjectView<'a> {
-    fn new(alloc: Global, project: &'a ProjectRow, caller: &'a Caller) -> ProjectView<'a>
-        ensures project { result.project.now ≡ project.now }
-        ensures caller { result.caller.now ≡ caller.now }
-    {
-        ProjectView {
-            alloc,
-            project,
-            caller,
-        }
-    }
-
-    /// The same by the host alone.
-    fn under(&self) -> HostView<'_>
-        ensures host { result.host.now ≡ self.now.project.now.host }
-        ensures caller { result.caller.now ≡ self.now.caller.now }
-    {
-        HostView::new(self.alloc, &self.project.host, self.caller)
     }
 }

@@ -1,8 +1,10 @@
 //! The calls on the records that are derived from others: what names stand for to each class of callers, and routes.
 
 ghost use Rattle.std.specs.Prelude.{filter, find};
-ghost use Rattle.dh_schema.specs.Calling.{IsWithin, Reads, ReadsAll, Writes, WritesWithin};
+ghost use Rattle.dh_schema.specs.Calling.{HasRecords, IsWithin, Reads, ReadsAll, Writes, WritesWithin};
 ghost use Rattle.dh_records.specs.Changes as change;
+ghost use Rattle.dh_records.specs.Codings as coding;
+ghost use Rattle.dh_records.specs.Constraints.{InOrder};
 ghost use Rattle.dh_records.specs.Lists as spec;
 
 use super::{Tables, as_place};
@@ -93,6 +95,13 @@ impl<S: Alter> Tables<S> {
             "SELECT host, seg, place, force FROM route WHERE host = ?1 AND seg = ?2 ORDER BY host, seg, place",
             key,
         )
+    }
+
+    /// That routes stand in the order of their keys. It does nothing.
+    pub fn show_order(&self)
+        ensures { HasRecords S.Store self.now (λ l. InOrder coding.routes.key l.routes) }
+    {
+        let _ = &self.conn;
     }
 
     /// Puts a route at a place.

@@ -1,18 +1,20 @@
-//! The lists of a project: its languages, defaults, rules and redirects. A language is added in `projects.rt`, and
+//! The lists of a project: its languages, defaults, passes, grants, rules and redirects. A language is added in `projects.rt`, and
 //! defaults are set in `defaults.rt`.
 
-ghost use Rattle.std.specs.Prelude.{◌<◌, ◌^◌, refl};
-ghost use Rattle.dh_schema.specs.Calling.{IsWithin, WritesWithin};
+ghost use Rattle.std.specs.Prelude.{◌<◌, ◌^◌, find, refl};
+ghost use Rattle.std.specs.Str.{bytes_eq};
+ghost use Rattle.dh_schema.specs.Calling.{IsWithin, Reads, WritesWithin};
 ghost use Rattle.dh_records.specs.Changes as change;
 ghost use Rattle.dh_records.specs.Lists as spec;
-ghost use Rattle.dh_store.specs.Listing.{redirect_list, rule_list};
+ghost use Rattle.dh_store.specs.Listing.{is_redirect_at, redirect_list, rule_list};
 
 use super::listing::{Listed, Placed, set};
 use super::{Tables, as_place};
-use dh_lookup::Fault;
+use dh_lookup::{Fault, Found};
 use dh_paths::{HostName, Lang, Slug};
 use dh_records::{
-    LangRow, PickRow, RedirectRow, RuleRow, action_number, is_tag, kind_number, show_number,
+    HeldRow, LangRow, PassRow, PickRow, RedirectRow, RuleRow, action_number, is_tag, kind_number,
+    show_number,
 };
 use dh_redirects::Redirect;
 use dh_rules::Rule;
@@ -62,6 +64,52 @@ impl Listed for PickRow {
 
     fn into_item(self) -> Slug {
         self.name
+    }
+}
+
+impl Listed for PassRow {
+    type Item = PassRow;
+
+    ghost all = { λ l. l.passes };
+
+    ghost is_of = { spec.is_pass_of };
+
+    ghost item = { λ row. row };
+
+    fn rows<S: Alter>(
+        tables: &mut Tables<S>,
+        alloc: Global,
+        host: &HostName,
+    ) -> Result<Vec<PassRow>, Fault> {
+        let sql = "SELECT host, pass, until FROM pass WHERE host = ?1 ORDER BY host, pass";
+        tables.all_records(alloc, sql, params![host.as_str()])
+    }
+
+    fn into_item(self) -> PassRow {
+        self
+    }
+}
+
+impl Listed for HeldRow {
+    type Item = HeldRow;
+
+    ghost all = { λ l. l.held };
+
+    ghost is_of = { λ host row. bytes_eq row.host host };
+
+    ghost item = { λ row. row };
+
+    fn rows<S: Alter>(
+        tables: &mut Tables<S>,
+        alloc: Global,
+        host: &HostName,
+    ) -> Result<Vec<HeldRow>, Fault> {
+        let sql = "SELECT host, pass, slug FROM holds WHERE host = ?1 ORDER BY host, pass, slug";
+        tables.all_records(alloc, sql, params![host.as_str()])
+    }
+
+    fn into_item(self) -> HeldRow {
+        self
     }
 }
 
@@ -213,6 +261,18 @@ impl Placed for RedirectRow {
 }
 
 impl<S: Alter> Tables<S> {
+    /// The redirect of a project at a place.
+    pub fn redirect(&mut self, alloc: Global, host: &HostName, place: u32) -> Found<RedirectRow>
+        ensures { Reads S.Store self.old self.new result
+            (λ l. find (is_redirect_at host.now place) l.redirects) }
+    {
+        self.first_record(
+            alloc,
+            "SELECT host, place, kind, status, force, source, target FROM redirect WHERE host = ?1 AND place = ?2 ORDER BY host, place",
+            params![host.as_str(), place],
+        )
+    }
+
     /// Sets the rules of a project, in the order in which they run, within a transaction. A call that is refused may leave some of them until the transaction ends.
     pub fn set_rules(&mut self, alloc: Global, host: &HostName, rules: &[Rule]) -> Result<(), Fault>
         requires within { IsWithin S.Store self.old }

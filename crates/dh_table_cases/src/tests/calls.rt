@@ -2,7 +2,6 @@
 
 use dh_lookup::{Fault, Lookup};
 use dh_opening::{TablesFault, create};
-use dh_paths::HostName;
 use dh_rows::{place_of, run};
 use dh_tables::Tables;
 use dh_view::View;
@@ -30,15 +29,13 @@ fn taken_names_are_refused(rt: HostRuntime) -> Result<(), Fail> {
 
 #[test]
 fn within_a_transaction_a_view_answers_nothing(rt: HostRuntime) -> Result<(), Fail> {
-    let alloc = rt.alloc();
-    let mut tables = Tables::in_memory(alloc)?;
+    let mut tables = Tables::in_memory(rt.alloc())?;
     tables.begin()?;
-    let host = HostName::parse(alloc, "docs.test")?;
     let caller = Caller {
         pass: None,
         moment: 0,
     };
-    let mut view = View::new(&mut tables, Some(host), caller);
+    let mut view = View::new(&mut tables, None, caller);
     assert!(rt; matches!(view.known(), Err(Fault::Store)));
     let tables = view.close();
     tables.back()?;

@@ -1,71 +1,78 @@
-//! The version that a name stands for: one with that slug, or the alias of that name.
+//! What names stand for, to the caller's class.
 
-ghost use Rattle.std.specs.Prelude.{◌≡◌, map, slice_get};
-ghost use Rattle.std.specs.Option.{option_and_then};
-ghost use Rattle.dh_lookup.specs.SeenProject.{alias_of, alias_to, resolved};
-ghost use Rattle.dh_view.specs.View.{Reads, shown_in};
+ghost use Rattle.std.specs.Prelude.{◌≡◌, None, if◌then◌else◌, is_some, IfOk};
+ghost use Rattle.dh_classes.specs.Classes.{class_of};
+ghost use Rattle.dh_derived.specs.Rightness.{class_in, kept_at};
+ghost use Rattle.dh_lookup.specs.SeenProject.{alias_to};
+ghost use Rattle.dh_records.specs.Lists.{project_of};
+ghost use Rattle.dh_view.specs.View.{Reads, row_of};
 
-use crate::view::ProjectView;
-use dh_lookup::{Found, Named};
+use crate::view::HostView;
+use dh_lookup::{Fault, Found, Named};
+use dh_paths::{Slug, Text};
+use dh_records::AliasName;
 use dh_store::Tables;
-use dh_versions::{Version, latest, stable};
+use dh_world::Caller;
 use sqlite::Alter;
+use std::alloc::{AllocError, Global};
 
-/// The alias for the version at a place.
-fn alias_at(versions: Vec<Version>, place: Option<usize>) -> Option<Named>
-    ensures { result ≡ alias_to
-        (option_and_then (slice_get (map (λ v. v.slug) versions.items)) place) }
+/// The text of a caller's class: his pass where it is live, else the empty one.
+pub fn class_text(caller: &Caller, live: bool) -> &str
+    ensures { class_in result.now ≡ if live then caller.now.pass else None }
 {
-    match versions.into_iter().nth(place?) {
-        Some(version) => Some(Named {
-            slug: version.slug,
-            alias: true,
-        }),
+    if live {
+        match &caller.pass {
+            Some(pass) => pass.as_str(),
+            None => "",
+        }
+    } else {
+        ""
+    }
+}
+
+pub fn as_alias(slug: Option<Slug>) -> Option<Named>
+    ensures { result ≡ alias_to slug }
+{
+    match slug {
+        Some(slug) => Some(Named { slug, alias: true }),
         None => None,
     }
 }
 
-impl ProjectView<'_> {
-    fn latest_named<S: Alter>(&self, tables: &mut Tables<S>) -> Found<Named>
-        ensures { Reads S.Store tables.old tables.new result
-            (λ l. alias_to (shown_in l self.now.project.now self.now.caller.now).latest) }
-    {
-        let versions = self.under().all_visible(tables)?;
-        let place = latest(versions.as_slice(), &self.project.branch);
-        Ok(alias_at(versions, place))
+pub fn as_text(alloc: Global, name: Option<Slug>) -> Result<Option<Text>, AllocError>
+    ensures { IfOk result (λ text. text ≡ name) }
+{
+    match name {
+        Some(name) => Ok(Some(Text::copy_of(alloc, name.as_str())?)),
+        None => Ok(None),
     }
+}
 
-    fn stable_named<S: Alter>(&self, tables: &mut Tables<S>) -> Found<Named>
-        ensures { Reads S.Store tables.old tables.new result
-            (λ l. alias_to (shown_in l self.now.project.now self.now.caller.now).stable) }
+impl HostView<'_> {
+    /// Whether the caller shows a live pass.
+    pub fn shows_pass<S: Alter>(&self, tables: &mut Tables<S>) -> Result<bool, Fault>
+        ensures { Reads S.Store tables.old tables.new result (λ l. is_some
+            (class_of (project_of l (row_of self.now.host.now)) self.now.caller.now)) }
     {
-        let versions = self.under().all_visible(tables)?;
-        let place = stable(self.alloc, versions.as_slice())?;
-        Ok(alias_at(versions, place))
-    }
-
-    pub fn alias_named<S: Alter>(&self, tables: &mut Tables<S>, name: &str) -> Found<Named>
-        ensures { Reads S.Store tables.old tables.new result
-            (λ l. alias_of (shown_in l self.now.project.now self.now.caller.now) name.now) }
-    {
-        match name {
-            "latest" => self.latest_named(tables),
-            "stable" => self.stable_named(tables),
-            _ => Ok(None),
+        match &self.caller.pass {
+            Some(pass) => self.is_live(tables, pass),
+            None => Ok(false),
         }
     }
 
-    /// The visible version with that slug, else the alias of that name.
-    pub fn version_for<S: Alter>(&self, tables: &mut Tables<S>, name: &str) -> Found<Named>
+    /// What the row of a class and a name says.
+    pub fn kept<S: Alter>(
+        &self,
+        tables: &mut Tables<S>,
+        class: &str,
+        name: AliasName,
+    ) -> Found<Slug>
         ensures { Reads S.Store tables.old tables.new result
-            (λ l. resolved (shown_in l self.now.project.now self.now.caller.now) name.now) }
+            (λ l. kept_at l self.now.host.now class.now name) }
     {
-        match self.under().visible_version(tables, name)? {
-            Some(version) => Ok(Some(Named {
-                slug: version.slug,
-                alias: false,
-            })),
-            None => self.alias_named(tables, name),
+        match tables.alias(self.alloc, self.host, class, name)? {
+            Some(row) => Ok(Some(row.slug)),
+            None => Ok(None),
         }
     }
 }

@@ -1,24 +1,23 @@
 //! The looks of a view. Each fact that a view remembers is asked of the tables where it is not remembered yet.
 
 ghost use Rattle.std.specs.Prelude.{◌≡◌, ◌↔◌, IfOk, IfSome, IsTrue, OnOk, is_some};
-ghost use Rattle.std.specs.Option.{option_map};
 ghost use Rattle.std.proofs.Common.{◌∙◌, refl};
 ghost use Rattle.sqlite.specs.Held.{Held};
 ghost use Rattle.dh_rows.specs.Calls.{IsHonest};
 ghost use Rattle.dh_lookup.specs.Lookup.{Asks, TellsMaybe};
-ghost use Rattle.dh_lookup.specs.SeenProject.{alias_of};
+ghost use Rattle.dh_lookup.specs.SeenProject.{alias_of, alias_to};
 ghost use Rattle.dh_redirects.specs.FirstResult.{first_result};
-ghost use Rattle.dh_records.specs.Lists.{project_of};
 ghost use Rattle.dh_schema.specs.Calling.{HasRecords, IsSettled};
-ghost use Rattle.dh_world.specs.Seen as sight;
 ghost use Rattle.dh_view.specs.Remembered.{IsSeen};
+ghost use Rattle.dh_view.specs.Stored.{stands_for};
 ghost use Rattle.dh_view.specs.View as view;
 ghost use Rattle.dh_view.specs.View.{LooksUp, doubt_of, fails_on, host_in, looks_none, looks_on, meaning_of, unmoved_none, unmoved_on};
 
-use super::{HostView, ProjectView, View};
+use super::aliases::{as_alias, as_text, class_text};
+use super::{HostView, View};
 use dh_lookup::{Fault, Found, Items, Lookup, Named, Page};
 use dh_paths::{HostName, Lang, Slug, Text};
-use dh_records::ProjectRow;
+use dh_records::AliasName;
 use dh_redirects::{Asked, Location};
 use dh_versions::Version;
 use sqlite::Alter;
@@ -65,29 +64,9 @@ impl<'a, S: Alter> View<'a, S> {
             None => Ok(None),
         }
     }
-
-    /// The record of the project, where there is one under the host.
-    fn project(&mut self, alloc: Global) -> Found<ProjectRow>
-        ensures { LooksUp S.Store self.old self.new result
-            (λ l o. option_map (project_of l) o ≡ view.project_in l self.old.host) }
-    {
-        if !self.tables.is_settled() {
-            return Err(Fault::Store);
-        }
-        match &self.host {
-            Some(host) => self.tables.project(alloc, host),
-            None => Ok(None),
-        }
-    }
 }
 
 // ---- the version that a name stands for
-
-fn is_alias(name: &str) -> bool
-    ensures { result ≡ sight.is_alias name.now }
-{
-    name == "latest" || name == "stable"
-}
 
 impl<'a, S: Alter> View<'a, S> {
     /// The slug of the version that was found last, if it is this one.
@@ -152,6 +131,91 @@ impl<'a, S: Alter> View<'a, S> {
             None => self.find_slug(alloc, name),
         }
     }
+}
+
+// ---- what names stand for
+
+impl<'a, S: Alter> View<'a, S> {
+    /// Whether the caller shows a live pass, if it was looked for before.
+    fn noted_pass(&self) -> Option<bool>
+        ensures read { IfSome result (λ shown. HasRecords S.Store self.now.tables.now
+            (λ l. shown ≡ view.shows_pass l self.now.host self.now.caller)) }
+        ensures settled { IsTrue (is_some result)
+            → IsHonest S.Store self.now.tables.now → IsSettled S.Store self.now.tables.now }
+    {
+        match self.shown {
+            Some(shown) if self.tables.is_settled() => Some(shown),
+            _ => None,
+        }
+    }
+
+    /// Keeps whether he does.
+    fn note_pass(&mut self, shown: bool)
+        requires read { HasRecords S.Store self.old.tables.now
+            (λ l. shown ≡ view.shows_pass l self.old.host self.old.caller) }
+        ensures same { self.new.tables.ghost_name ≡ self.old.tables.ghost_name }
+        ensures now { self.new.tables.now ≡ self.old.tables.now }
+        ensures host { self.new.host ≡ self.old.host }
+        ensures caller { self.new.caller ≡ self.old.caller }
+    {
+        self.shown = Some(shown);
+    }
+
+    /// Whether he does, asked of the tables.
+    fn ask_pass(&mut self, alloc: Global) -> Result<bool, Fault>
+        ensures { LooksUp S.Store self.old self.new result
+            (λ l shown. shown ≡ view.shows_pass l self.old.host self.old.caller) }
+    {
+        match self.opened(alloc)? {
+            Some(host) => HostView::new(alloc, &host, &self.caller).shows_pass(self.tables),
+            None => Ok(false),
+        }
+    }
+
+    /// The same, which is kept.
+    fn find_pass(&mut self, alloc: Global) -> Result<bool, Fault>
+        ensures { LooksUp S.Store self.old self.new result
+            (λ l shown. shown ≡ view.shows_pass l self.old.host self.old.caller) }
+    {
+        let shown = self.ask_pass(alloc)?;
+        self.note_pass(shown);
+        Ok(shown)
+    }
+
+    /// Whether he does; the tables are asked once.
+    fn shows_pass(&mut self, alloc: Global) -> Result<bool, Fault>
+        ensures { LooksUp S.Store self.old self.new result
+            (λ l shown. shown ≡ view.shows_pass l self.old.host self.old.caller) }
+    {
+        match self.noted_pass() {
+            Some(shown) => Ok(shown),
+            None => self.find_pass(alloc),
+        }
+    }
+
+    /// What a name stands for, to the caller's class.
+    fn kept(&mut self, alloc: Global, name: AliasName) -> Found<Slug>
+        ensures asks { Asks (meaning_of S.Store) self.old self.new result }
+        ensures value { TellsMaybe (meaning_of S.Store) self.old self.new result (stands_for name) }
+    {
+        let live = self.shows_pass(alloc)?;
+        match &self.host {
+            Some(host) => {
+                let class = class_text(&self.caller, live);
+                HostView::new(alloc, host, &self.caller).kept(self.tables, class, name)
+            }
+            None => Ok(None),
+        }
+    }
+
+    fn kept_alias(&mut self, alloc: Global, name: AliasName) -> Found<Named>
+        ensures asks { Asks (meaning_of S.Store) self.old self.new result }
+        ensures value { TellsMaybe (meaning_of S.Store) self.old self.new result
+            (λ p. alias_to (stands_for name p)) }
+    {
+        let slug = self.kept(alloc, name)?;
+        Ok(as_alias(slug))
+    }
 
     /// The alias of that name.
     fn alias(&mut self, alloc: Global, name: &str) -> Found<Named>
@@ -159,14 +223,10 @@ impl<'a, S: Alter> View<'a, S> {
         ensures value { TellsMaybe (meaning_of S.Store) self.old self.new result
             (λ p. alias_of p name.now) }
     {
-        if !is_alias(name) {
-            return Ok(None);
-        }
-        match self.project(alloc)? {
-            Some(project) => {
-                ProjectView::new(alloc, &project, &self.caller).alias_named(self.tables, name)
-            }
-            None => Ok(None),
+        match name {
+            "latest" => self.kept_alias(alloc, AliasName::Latest),
+            "stable" => self.kept_alias(alloc, AliasName::Stable),
+            _ => Ok(None),
         }
     }
 }
@@ -287,12 +347,8 @@ impl<'a, S: Alter> Lookup for View<'a, S> {
     }
 
     fn default(&mut self, alloc: Global) -> Found<Text> {
-        match self.project(alloc)? {
-            Some(project) => ProjectView::new(alloc, &project, &self.caller).default_name(
-                self.tables,
-            ),
-            None => Ok(None),
-        }
+        let name = self.kept(alloc, AliasName::Default)?;
+        Ok(as_text(alloc, name)?)
     }
 
     fn langs(&mut self, alloc: Global) -> Result<Vec<Lang>, Fault> {

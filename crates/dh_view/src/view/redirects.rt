@@ -1,18 +1,198 @@
-//! Where the redirects of a project lead.
+//! Where the redirects of a project lead: by their routes, and then each by its place.
 
-ghost use Rattle.dh_records.specs.Lists.{project_of};
+ghost use Rattle.std.specs.Prelude.{◌≡◌, None, IfOk, option_map, option_and_then};
 ghost use Rattle.dh_redirects.specs.FirstResult as choice;
-ghost use Rattle.dh_view.specs.View.{Reads, row_of};
+ghost use Rattle.dh_view.specs.Stored as spec;
+ghost use Rattle.dh_view.specs.View.{Reads};
 
 use crate::view::HostView;
-use dh_lookup::{Found, first_result};
-use dh_records::RedirectRow;
-use dh_redirects::{Asked, Location};
+use dh_lookup::Found;
+use dh_records::{RedirectRow, RouteRow};
+use dh_redirects::{Asked, Location, Redirect};
+use dh_segments::first_segment;
 use dh_store::Tables;
 use sqlite::Alter;
+use std::alloc::{AllocError, Global};
+
+/// Whether a place comes before that of the best so far.
+fn is_before_best(place: u32, best: &Option<(u32, Location)>) -> bool
+    ensures { result ≡ spec.is_before_best place best.now }
+{
+    match best {
+        Some((found, _)) => place < *found,
+        None => true,
+    }
+}
+
+/// Whether the redirect of a route is asked for: it may be better, and has force where it is to have it.
+fn is_asked(forced: bool, route: &RouteRow, best: &Option<(u32, Location)>) -> bool
+    ensures { result ≡ spec.is_asked forced route.now best.now }
+{
+    (!forced || route.route.force) && is_before_best(route.place, best)
+}
+
+/// The better of two, of which the first is better where there is one.
+fn led_or(
+    place: u32,
+    at: Option<Location>,
+    best: Option<(u32, Location)>,
+) -> Option<(u32, Location)>
+    ensures { result ≡ spec.led_or place at best }
+{
+    match at {
+        Some(to) => Some((place, to)),
+        None => best,
+    }
+}
+
+fn location_of(best: Option<(u32, Location)>) -> Option<Location>
+    ensures { result ≡ option_map (λ led. led.1) best }
+{
+    match best {
+        Some((_, location)) => Some(location),
+        None => None,
+    }
+}
+
+/// Where a redirect leads, of all or of those with force alone.
+fn result_in(
+    alloc: Global,
+    forced: bool,
+    redirect: &Redirect,
+    asked: &Asked,
+) -> Result<Option<Location>, AllocError>
+    ensures { IfOk result (λ o. o ≡ choice.result_in forced redirect.now asked.now) }
+{
+    if forced && !redirect.force {
+        return Ok(None);
+    }
+    redirect.result(alloc, asked)
+}
+
+fn result_of(
+    alloc: Global,
+    forced: bool,
+    found: &Option<RedirectRow>,
+    asked: &Asked,
+) -> Result<Option<Location>, AllocError>
+    ensures { IfOk result (λ o. o
+        ≡ option_and_then (λ r. choice.result_in forced r.redirect asked.now) found.now) }
+{
+    match found {
+        Some(row) => result_in(alloc, forced, &row.redirect, asked),
+        None => Ok(None),
+    }
+}
 
 impl HostView<'_> {
+    /// Where the redirect at a place leads.
+    fn led_at<S: Alter>(
+        &self,
+        tables: &mut Tables<S>,
+        forced: bool,
+        place: u32,
+        asked: &Asked,
+    ) -> Found<Location>
+        ensures { Reads S.Store tables.old tables.new result
+            (λ l. spec.led_at l self.now.host.now forced asked.now place) }
+    {
+        let found = tables.redirect(self.alloc, self.host, place)?;
+        Ok(result_of(self.alloc, forced, &found, asked)?)
+    }
+
+    /// Where the redirect at a place leads, or else the best so far.
+    fn led_or_best<S: Alter>(
+        &self,
+        tables: &mut Tables<S>,
+        forced: bool,
+        place: u32,
+        asked: &Asked,
+        best: Option<(u32, Location)>,
+    ) -> Found<(u32, Location)>
+        ensures { Reads S.Store tables.old tables.new result
+            (λ l. spec.led_or place (spec.led_at l self.now.host.now forced asked.now place) best) }
+    {
+        let at = self.led_at(tables, forced, place, asked)?;
+        Ok(led_or(place, at, best))
+    }
+
+    /// The better of the best so far and where the redirect of a route leads.
+    fn better<S: Alter>(
+        &self,
+        tables: &mut Tables<S>,
+        forced: bool,
+        route: &RouteRow,
+        asked: &Asked,
+        best: Option<(u32, Location)>,
+    ) -> Found<(u32, Location)>
+        ensures { Reads S.Store tables.old tables.new result (λ l. spec.better
+            (spec.led_at l self.now.host.now forced asked.now) forced route.now best) }
+    {
+        if is_asked(forced, route, &best) {
+            self.led_or_best(tables, forced, route.place, asked, best)
+        } else {
+            Ok(best)
+        }
+    }
+
+    /// The best of the best so far and where the redirects of routes lead.
+    fn best_of<S: Alter>(
+        &self,
+        tables: &mut Tables<S>,
+        forced: bool,
+        routes: &[RouteRow],
+        asked: &Asked,
+        best: Option<(u32, Location)>,
+    ) -> Found<(u32, Location)>
+        ensures { Reads S.Store tables.old tables.new result (λ l. spec.best_of
+            (spec.led_at l self.now.host.now forced asked.now) forced routes.now best) }
+    {
+        let mut best = best;
+        for route in routes {
+            let next = self.better(tables, forced, route, asked, best)?;
+            best = next;
+        }
+        Ok(best)
+    }
+
+    /// The same of the routes of a segment.
+    fn best_in<S: Alter>(
+        &self,
+        tables: &mut Tables<S>,
+        forced: bool,
+        seg: &str,
+        asked: &Asked,
+        best: Option<(u32, Location)>,
+    ) -> Found<(u32, Location)>
+        ensures { Reads S.Store tables.old tables.new result
+            (λ l. spec.best_in l self.now.host.now forced asked.now seg.now best) }
+    {
+        let routes = tables.routes_in(self.alloc, self.host, seg)?;
+        self.best_of(tables, forced, routes.as_slice(), asked, best)
+    }
+
+    /// The best of the redirects that may lead away from the path.
+    fn best_at<S: Alter>(
+        &self,
+        tables: &mut Tables<S>,
+        forced: bool,
+        asked: &Asked,
+    ) -> Found<(u32, Location)>
+        ensures { Reads S.Store tables.old tables.new result
+            (λ l. spec.best_at l self.now.host.now forced asked.now) }
+    {
+        let own = self.best_in(
+            tables,
+            forced,
+            first_segment(asked.path.as_str()),
+            asked,
+            None,
+        )?;
+        self.best_in(tables, forced, "", asked, own)
+    }
+
     /// Where the first of the redirects leads that has a result: of all, or of those with force alone.
+    /// None is read that stands behind the best so far, or that may not lead away from the path.
     pub fn redirected<S: Alter>(
         &self,
         tables: &mut Tables<S>,
@@ -20,10 +200,9 @@ impl HostView<'_> {
         asked: &Asked,
     ) -> Found<Location>
         ensures { Reads S.Store tables.old tables.new result
-            (λ l. choice.first_result forced (project_of l (row_of self.now.host.now)).redirects
-            asked.now) }
+            (λ l. option_map (λ led. led.1) (spec.best_at l self.now.host.now forced asked.now)) }
     {
-        let redirects = tables.list::<RedirectRow>(self.alloc, self.host)?;
-        Ok(first_result(self.alloc, forced, redirects.as_slice(), asked)?)
+        let best = self.best_at(tables, forced, asked)?;
+        Ok(location_of(best))
     }
 }

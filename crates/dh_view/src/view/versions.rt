@@ -87,7 +87,7 @@ fn versions_of(alloc: Global, rows: Vec<VersionRow>) -> Result<Vec<Version>, All
 
 impl HostView<'_> {
     /// Whether a pass is one of the host's that has not ended when the caller reads.
-    fn is_live<S: Alter>(&self, tables: &mut Tables<S>, pass: &Token) -> Result<bool, Fault>
+    pub fn is_live<S: Alter>(&self, tables: &mut Tables<S>, pass: &Token) -> Result<bool, Fault>
         ensures { Reads S.Store tables.old tables.new result
             (λ l. visibility.is_live (project_of l (row_of self.now.host.now))
             self.now.caller.now.moment pass.now) }

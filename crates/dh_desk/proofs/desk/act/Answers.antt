@@ -5,7 +5,7 @@ use Rattle.dh_transactions.proofs.Crashing.{refused_after, step_after}
 use Rattle.dh_transactions.proofs.Ending.{over_aside, stays, steps_aside}
 use Rattle.dh_schema.specs.InTurn.{lasts_on}
 use Rattle.dh_tables.specs.Going.{last_records}
-use Rattle.dh_records.specs.Constraints.{AreSound}
+use Rattle.dh_desk.specs.Desk.{AreConsistent}
 use Rattle.dh_transactions.specs.Steps.{Steps}
 
 pub returns-in_err-back : goal.returns-in_err-back
@@ -24,7 +24,7 @@ pub run-requires : goal.run-requires
 run-requires g c = record {
   outside = λ honest. (c.in_ok-back.ensures.undone.done honest).mode;
   settled = λ honest. let it = c.in_ok-back.ensures.undone.done honest in it.now_is ∙ sym it.last_is;
-  sound = λ honest. subst AreSound (sym (c.in_ok-back.ensures.undone.done honest).last_is) (c.requires (c.back.ensures.goes.lasts.was honest));
+  consistent = λ honest. subst AreConsistent (sym (c.in_ok-back.ensures.undone.done honest).last_is) (c.requires (c.back.ensures.goes.lasts.was honest));
 }
 
 pub returns : goal.returns

@@ -1,7 +1,11 @@
 use Rattle.std.proofs.Common.{rules, ◌≡◌}
 use Rattle.dh_rows.specs.Calls.{IsHonest}
 use Rattle.dh_view.proofs.ViewLemmas.{undoubted}
+use Rattle.dh_desk.proofs.Keeping.{rows_right}
 use Rattle.dh_desk.proofs.reads.look.Goals as goal
+
+pub new-view-requires : goal.new-view-requires
+new-view-requires g c = record { right = rows_right g.S.Store c.args.tables.now c.requires c.args.host }
 
 pub returns-clause-value : goal.returns-clause-value
 returns-clause-value g c honest =

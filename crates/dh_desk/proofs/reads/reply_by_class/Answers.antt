@@ -7,10 +7,14 @@ use Rattle.dh_schema.proofs.CallLemmas.{on_store}
 use Rattle.dh_view.specs.View.{fails_on, looks_on}
 use Rattle.dh_view.proofs.ViewLemmas.{asks_handed, still}
 use Rattle.dh_world.specs.Seen as sight
-use Rattle.dh_desk.specs.Desk.{world_seen}
+use Rattle.dh_desk.specs.Desk.{AreConsistent, world_seen}
 use Rattle.dh_desk.proofs.Classing.{own_class, reply_to_caller}
 use Rattle.dh_desk.proofs.Reading.{fails_from, looks_from}
 use Rattle.dh_desk.proofs.reads.reply_by_class.Goals as goal
+
+pub reply_to_class-requires : goal.reply_to_class-requires
+reply_to_class-requires g c honest =
+    subst AreConsistent (sym (still c.in_ok-class-in-Some.ensures.asks honest)) (c.requires.consistent (c.class_in.ensures.asks.goes.lasts.was honest))
 
 pub returns-in-None-clause-right : goal.returns-in-None-clause-right
 returns-in-None-clause-right g c honest right = (
@@ -22,14 +26,14 @@ pub returns-in_err-class-in-Some : goal.returns-in_err-class-in-Some
 returns-in_err-class-in-Some g c =
     let asks = asks_handed c.from_residual.result c.in_err-class-in-Some.field-0.0 c.in_err-class-in-Some.was c.from_residual.ensures.1 c.class_in.ensures.asks in
     record {
-      looks = looks_from c.class_in.result c.class_in.ensures.asks c.requires;
+      looks = looks_from c.class_in.result c.class_in.ensures.asks c.requires.settled;
       told = fails_from c.from_residual.result asks;
       right = λ honest right. (right, search rules);
     }
 
 pub returns-in_ok-class-in-Some : goal.returns-in_ok-class-in-Some
 returns-in_ok-class-in-Some g c =
-    let first = looks_from (Ok c.in_ok-class-in-Some.class) c.in_ok-class-in-Some.ensures.asks c.requires in
+    let first = looks_from (Ok c.in_ok-class-in-Some.class) c.in_ok-class-in-Some.ensures.asks c.requires.settled in
     record {
       looks = looks_on first c.reply_to_class.ensures.looks;
       told = on_store c.reply_to_class.result (fails_on first) c.reply_to_class.ensures.told;

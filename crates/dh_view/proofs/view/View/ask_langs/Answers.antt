@@ -2,7 +2,7 @@ use Rattle.std.proofs.Common.{refl, rules, sym, ◌∙◌}
 use Rattle.dh_rows.specs.Calls.{seen}
 use Rattle.dh_schema.specs.Tables.{lists_of}
 use Rattle.dh_view.proofs.Shown.{languages_none}
-use Rattle.dh_view.proofs.ViewLemmas.{languages_under_host, same_answer, settled_on, view_on}
+use Rattle.dh_view.proofs.ViewLemmas.{languages_under_host, recalls, same_answer, settled_on, view_on}
 use Rattle.dh_view.proofs.view.View.ask_langs.Goals as goal
 
 pub returns-in-Some : goal.returns-in-Some
@@ -23,3 +23,8 @@ returns-in-None g c = record {
       c.new-in-None.ensures.items
       ∙ languages_none (seen g.S.Store lists_of c.args.self.now.tables.now) c.args.self.now.host (sym c.in-None.is ∙ c.in_ok-host.ensures.value it);
 }
+
+pub invariant_of-self : goal.invariant_of-self
+invariant_of-self g c =
+    let it = recalls c.opened.new.self c.in_ok-host.ensures.settled c.all_langs.ensures.asks in
+    record { right = it.right; is_known = it.is_known; is_seen = it.is_seen; are_languages = it.are_languages; is_shown = it.is_shown }

@@ -1,5 +1,5 @@
 use Rattle.std.proofs.Common.{refl}
-use Rattle.dh_view.proofs.ViewLemmas.{same_answer, settled_on, slug_under_host, view_on}
+use Rattle.dh_view.proofs.ViewLemmas.{recalls, same_answer, settled_on, slug_under_host, view_on}
 use Rattle.dh_view.proofs.view.View.ask_slug.Goals as goal
 
 pub returns-in-Some : goal.returns-in-Some
@@ -11,3 +11,8 @@ returns-in-Some g c = record {
       (slug_under_host g.S.Store c.in_ok-host.ensures.asks c.in_ok-host.ensures.value c.in-Some.host c.args.name.now c.in-Some.is (c.visible_slug.ensures.asks.goes.lasts.was it))
       ((rw (c.new.ensures.host, c.new.ensures.caller) at c.visible_slug.ensures.value) it);
 }
+
+pub invariant_of-self : goal.invariant_of-self
+invariant_of-self g c =
+    let it = recalls c.opened.new.self c.in_ok-host.ensures.settled c.visible_slug.ensures.asks in
+    record { right = it.right; is_known = it.is_known; is_seen = it.is_seen; are_languages = it.are_languages; is_shown = it.is_shown }

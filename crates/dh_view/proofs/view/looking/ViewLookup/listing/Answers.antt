@@ -2,7 +2,7 @@ use Rattle.std.proofs.Common.{refl}
 use Rattle.dh_rows.specs.Calls.{seen}
 use Rattle.dh_schema.specs.Tables.{lists_of}
 use Rattle.dh_view.proofs.Shown.{versions_under}
-use Rattle.dh_view.proofs.ViewLemmas.{all_none_under, all_under, from_answer, view_on}
+use Rattle.dh_view.proofs.ViewLemmas.{all_none_under, all_under, from_answer, recalls, view_on}
 use Rattle.dh_view.proofs.view.looking.ViewLookup.listing.Goals as goal
 
 pub returns-in-Some : goal.returns-in-Some
@@ -16,3 +16,8 @@ returns-in-Some g c = record {
 
 pub returns-in-None-clause-value : goal.returns-in-None-clause-value
 returns-in-None-clause-value g c = all_none_under g.S.Store c.in_ok-host.ensures.asks c.in_ok-host.ensures.value (λ p. p.versions) c.new-in-None.ensures.items c.in-None.is
+
+pub invariant_of-self : goal.invariant_of-self
+invariant_of-self g c =
+    let it = recalls c.opened.new.self c.in_ok-host.ensures.settled c.all_visible.ensures.asks in
+    record { right = it.right; is_known = it.is_known; is_seen = it.is_seen; are_languages = it.are_languages; is_shown = it.is_shown }

@@ -1,0 +1,5 @@
+pub mod SameBase
+pub mod Together
+pub mod FindingLemmas
+pub mod RenewingLemmas
+pub mod FillingLemmas

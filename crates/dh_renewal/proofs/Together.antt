@@ -1,0 +1,51 @@
+-- Looks and then changes, within a transaction.
+use Rattle.std.proofs.Common.{◌≡◌, Result, Ok, Err, OnOk, IfErr, ap, ◌∙◌}
+use Rattle.sqlite_trees.specs.declared.store.Store.{Ghosts}
+use Rattle.sqlite.specs.Held.{Held}
+use Rattle.dh_rows.specs.Calls.{Goes, IsHonest}
+use Rattle.dh_records.specs.Lists.{Lists}
+use Rattle.dh_schema.specs.InTurn.{goes_anywhere, goes_on}
+use Rattle.dh_tables.specs.Going.{Asks, Makes, Sees, records}
+use Rattle.dh_tables.proofs.Together.{goes_within_on}
+use Rattle.dh_world.specs.CheckResults.{IsFault}
+use Rattle.dh_world.specs.declared.refusal.Refusal.{Refusal}
+
+module _ {S : Type 0} (g : Ghosts S) where
+  -- changes after looks
+  pub looked
+      : {T : Type 0} (a b c : Held S) (r : Result T Refusal) (next change : Lists → Lists)
+      → Goes g a b → Sees g a b (records g a) → Makes g b c r next → (IsHonest g b → next (records g a) ≡ change (records g a))
+      → Makes g a c r change
+  looked a b c r next change goes sees it same = record {
+    goes = goes_within_on (goes_anywhere goes) sees.live sees.mode it.goes;
+    sees = both r it.sees;
+    err = it.err;
+  }
+    where
+      both : {T : Type 0} (r : Result T Refusal) → OnOk r (Sees g b c (next (records g b))) → OnOk r (Sees g a c (change (records g a)))
+      both (Ok x) after = record {
+        live = λ honest clean. after.live (sees.live honest (it.goes.lasts.clean clean)) clean;
+        now_is = λ honest.
+            let middle = it.goes.lasts.was honest in
+            after.now_is honest ∙ ap next (sees.now_is middle) ∙ same middle;
+        mode = λ honest. after.mode honest ∙ sees.mode (it.goes.lasts.was honest);
+      }
+      both (Err e) after = tt
+
+  -- two looks, and then what is made of them
+  pub asks_on
+      : {T : Type 0} (a b c : Held S) (r : Result T Refusal)
+      → Goes g a b → Sees g a b (records g a) → Goes g b c → Sees g b c (records g b) → IfErr r IsFault → Asks g a c r
+  asks_on a b c r first sees then seen err = record {
+    goes = goes_on first sees.live then;
+    looks = both r;
+    err = err;
+  }
+    where
+      both : {T : Type 0} (r : Result T Refusal) → OnOk r (Sees g a c (records g a))
+      both (Ok x) = record {
+        live = λ honest clean. seen.live (sees.live honest (then.lasts.clean clean)) clean;
+        now_is = λ honest. seen.now_is honest ∙ sees.now_is (then.lasts.was honest);
+        mode = λ honest. seen.mode honest ∙ sees.mode (then.lasts.was honest);
+      }
+      both (Err e) = tt

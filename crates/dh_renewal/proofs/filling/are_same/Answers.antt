@@ -1,0 +1,1 @@
+use Rattle.dh_renewal.proofs.filling.are_same.Goals as goal

@@ -1,0 +1,21 @@
+use Rattle.dh_records.specs.Lists.{Lists}
+use Rattle.dh_tables.specs.Going.{records}
+use Rattle.dh_derived.specs.Renewed.{renewed_at}
+use Rattle.dh_derived.specs.declared.renewals.Renewal.TheVariants.{Aliases}
+use Rattle.dh_renewal.specs.Renewing.{set_all}
+use Rattle.dh_renewal.proofs.Together.{looked}
+use Rattle.dh_renewal.proofs.RenewingLemmas.{classes_renewed}
+use Rattle.dh_renewal.proofs.renewing.renew_classes.Goals as goal
+
+pub returns : goal.returns
+returns g c = record {
+  makes =
+      let l : Lists = records g.S.Store c.args.tables.now in
+      looked g.S.Store c.args.tables.now c.names_of_all.new.tables c.set_all.new.tables c.set_all.result
+      (set_all c.args.host.now c.in_ok-all.all.items) (renewed_at Aliases c.args.host.now)
+      c.names_of_all.ensures.asks.goes c.in_ok-all.ensures.asks.looks c.set_all.ensures.makes
+      (λ honest.
+      let before = c.names_of_all.ensures.asks.goes.lasts.was honest in
+      classes_renewed c.args.host.now l c.args.branch.now (c.requires.branch before) c.in_ok-all.all.items
+      (c.in_ok-all.ensures.value honest (c.requires.sound before)));
+}

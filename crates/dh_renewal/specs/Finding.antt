@@ -1,0 +1,38 @@
+-- What an edit leaves to be made right, of sound records whose stored rows are right.
+use Rattle.std.specs.Prelude.{◌≡◌, Option, Some, None}
+use Rattle.std.specs.FinMap.{get}
+use Rattle.dh_texts.specs.SlugOfName.{slug_from}
+use Rattle.dh_versions.specs.declared.version.Version.{Version}
+use Rattle.dh_world.specs.Changes.{with_version}
+use Rattle.dh_world.specs.World.{Text, Project}
+use Rattle.dh_classes.specs.Classes.{versions_for}
+use Rattle.dh_aliases.specs.Tops.{stable_version}
+use Rattle.dh_plans.specs.Edits.{edited, MayEdit}
+use Rattle.dh_plans.specs.declared.edits.Edit.{Edit}
+use Rattle.dh_records.specs.Constraints.{AreSound}
+use Rattle.dh_records.specs.Lists.{Lists, world_of}
+use Rattle.dh_derived.specs.Rightness.{AreRightAt}
+use Rattle.dh_derived.specs.Renewals.{Covers}
+use Rattle.dh_derived.specs.declared.renewals.Renewal.{Renewal}
+
+-- so it is of the project of a host, where the records are sound and the host's stored rows are right
+abbrev pub OfRightProject : Text → (Project → Type 0) → Lists → Type 0
+OfRightProject host P l = AreSound l → AreRightAt l host → (p : Project) → get (world_of l) host ≡ Some p → P p
+
+-- the version that `stable` stands for, to callers with no pass
+abbrev pub IsStable : Text → Lists → Option Version → Type 0
+IsStable host l o = OfRightProject host (λ p. stable_version (versions_for p None) ≡ o) l
+
+-- the renewal covers what changes once the version is put
+abbrev pub CoversPut : Text → Version → Lists → Renewal → Type 0
+CoversPut host v l r =
+    OfRightProject host (λ p. slug_from v.name ≡ Some v.slug → Covers r p (with_version p v.slug v)) l
+
+-- the same, where its slug is free
+abbrev pub CoversNew : Text → Version → Lists → Renewal → Type 0
+CoversNew host v l r =
+    OfRightProject host (λ p. slug_from v.name ≡ Some v.slug → get p.versions v.slug ≡ None → Covers r p (with_version p v.slug v)) l
+
+-- once the edit is made that may be made
+abbrev pub CoversEdit : Text → Edit → Lists → Renewal → Type 0
+CoversEdit host e l r = OfRightProject host (λ p. MayEdit e p → Covers r p (edited e p)) l

@@ -1,0 +1,101 @@
+//! Which rows an edit leaves to be made right, by what is looked up of the project before it.
+
+ghost use Rattle.std.specs.Prelude.{IfErr, IfOk};
+ghost use Rattle.dh_schema.specs.Calling.{Learns};
+ghost use Rattle.dh_tables.specs.Going.{Asks};
+ghost use Rattle.dh_world.specs.CheckResults.{IsFault};
+ghost use Rattle.dh_derived.specs.Renewals.{FitsAdded};
+ghost use Rattle.dh_renewal.specs.Finding.{CoversEdit, CoversNew, CoversPut, IsStable};
+
+use crate::looks::{branch_of, kept_alias, version_under};
+use dh_derived::{Renewal, is_seen_by_all, renewal_of, renewal_of_added, renewal_of_replaced};
+use dh_paths::{HostName, RefName};
+use dh_plans::Edit;
+use dh_records::AliasName;
+use dh_tables::Tables;
+use dh_versions::Version;
+use dh_world::Refusal;
+use sqlite::Alter;
+use std::alloc::Global;
+
+/// The version that `stable` stands for, to callers with no pass, by what is stored of it.
+fn stable_version<S: Alter>(
+    tables: &mut Tables<S>,
+    alloc: Global,
+    host: &HostName,
+) -> Result<Option<Version>, Refusal>
+    ensures asks { Asks S.Store tables.old tables.new result }
+    ensures value { Learns S.Store tables.old tables.new result (IsStable host.now) }
+{
+    let Some(slug) = kept_alias(tables, alloc, host, "", AliasName::Stable)? else {
+        return Ok(None);
+    };
+    version_under(tables, alloc, host, &slug)
+}
+
+fn added(
+    alloc: Global,
+    version: &Version,
+    branch: &RefName,
+    stable: Option<Version>,
+) -> Result<Renewal, Refusal>
+    ensures value { IfOk result (FitsAdded version.now branch.now stable) }
+    ensures err { IfErr result IsFault }
+{
+    Ok(renewal_of_added(alloc, version, branch, stable.as_ref())?)
+}
+
+/// After a version is put under a free slug.
+fn renewal_of_new<S: Alter>(
+    tables: &mut Tables<S>,
+    alloc: Global,
+    host: &HostName,
+    version: &Version,
+) -> Result<Renewal, Refusal>
+    ensures asks { Asks S.Store tables.old tables.new result }
+    ensures value { Learns S.Store tables.old tables.new result (CoversNew host.now version.now) }
+{
+    if !is_seen_by_all(version) {
+        return Ok(Renewal::Nothing);
+    }
+    let Some(branch) = branch_of(tables, alloc, host)? else {
+        return Ok(Renewal::Nothing);
+    };
+    let stable = stable_version(tables, alloc, host)?;
+    added(alloc, version, &branch, stable)
+}
+
+/// After a version is put.
+fn renewal_of_put<S: Alter>(
+    tables: &mut Tables<S>,
+    alloc: Global,
+    host: &HostName,
+    version: &Version,
+) -> Result<Renewal, Refusal>
+    ensures asks { Asks S.Store tables.old tables.new result }
+    ensures value { Learns S.Store tables.old tables.new result (CoversPut host.now version.now) }
+{
+    match version_under(tables, alloc, host, &version.slug)? {
+        Some(was) => Ok(renewal_of_replaced(&was, version)),
+        None => renewal_of_new(tables, alloc, host, version),
+    }
+}
+
+/// Which stored rows of the host the edit of its project will leave to be made right, if those are right now. It is asked
+/// before the edit. Only for a version that is put something is looked up: what it replaces; and for a new one that all
+/// callers see, the project and its stable version.
+pub fn renewal_for<S: Alter>(
+    tables: &mut Tables<S>,
+    alloc: Global,
+    host: &HostName,
+    edit: &Edit<'_>,
+) -> Result<Renewal, Refusal>
+    ensures asks { Asks S.Store tables.old tables.new result }
+    ensures value { Learns S.Store tables.old tables.new result (CoversEdit host.now edit.now) }
+{
+    match edit {
+        Edit::PutVersion(version) => renewal_of_put(tables, alloc, host, version),
+        Edit::PutWithoutPages(version) => renewal_of_put(tables, alloc, host, version),
+        _ => Ok(renewal_of(alloc, edit)?),
+    }
+}

@@ -1,0 +1,105 @@
+//! The names of classes, set in the table of aliases.
+
+ghost use Rattle.std.specs.Prelude.{◌≡◌, Some};
+ghost use Rattle.dh_tables.specs.Going.{IsWithin, Makes};
+ghost use Rattle.dh_derived.specs.Renewed as renewed;
+ghost use Rattle.dh_renewal.specs.Renewing as spec;
+
+use dh_aliases::Names;
+use dh_class_names::ClassNames;
+use dh_paths::{HostName, Slug, Text};
+use dh_records::{AliasName, AliasRow, class_text};
+use dh_tables::Tables;
+use dh_world::Refusal;
+use sqlite::Alter;
+use std::alloc::Global;
+
+fn put_alias<S: Alter>(
+    tables: &mut Tables<S>,
+    alloc: Global,
+    host: &HostName,
+    class: &str,
+    name: AliasName,
+    slug: Slug,
+) -> Result<(), Refusal>
+    ensures makes { Makes S.Store tables.old tables.new result
+        (renewed.set_alias host.now class.now name (Some slug)) }
+{
+    let row = AliasRow {
+        host: host.try_copy(alloc)?,
+        class: Text::copy_of(alloc, class)?,
+        name,
+        slug,
+    };
+    Ok(tables.put_alias(&row)?)
+}
+
+fn set_alias<S: Alter>(
+    tables: &mut Tables<S>,
+    alloc: Global,
+    host: &HostName,
+    class: &str,
+    name: AliasName,
+    slug: Option<Slug>,
+) -> Result<(), Refusal>
+    ensures makes { Makes S.Store tables.old tables.new result
+        (renewed.set_alias host.now class.now name slug) }
+{
+    match slug {
+        Some(slug) => put_alias(tables, alloc, host, class, name, slug),
+        None => Ok(tables.drop_alias(host, class, name)?),
+    }
+}
+
+/// Sets what the names of a class stand for.
+pub fn set_names<S: Alter>(
+    tables: &mut Tables<S>,
+    alloc: Global,
+    host: &HostName,
+    class: &str,
+    names: Names,
+) -> Result<(), Refusal>
+    requires within { IsWithin S.Store tables.old }
+    ensures makes { Makes S.Store tables.old tables.new result
+        (renewed.set_names host.now class.now names) }
+{
+    let Names {
+        latest,
+        stable,
+        default,
+    } = names;
+    set_alias(tables, alloc, host, class, AliasName::Latest, latest)?;
+    set_alias(tables, alloc, host, class, AliasName::Stable, stable)?;
+    set_alias(tables, alloc, host, class, AliasName::Default, default)
+}
+
+fn set_class<S: Alter>(
+    tables: &mut Tables<S>,
+    alloc: Global,
+    host: &HostName,
+    names: ClassNames,
+) -> Result<(), Refusal>
+    requires within { IsWithin S.Store tables.old }
+    ensures makes { Makes S.Store tables.old tables.new result (spec.set_class host.now names) }
+{
+    let ClassNames { class, names } = names;
+    set_names(tables, alloc, host, class_text(class.as_ref()), names)
+}
+
+/// Sets those of several classes, the last first.
+pub fn set_all<S: Alter>(
+    tables: &mut Tables<S>,
+    alloc: Global,
+    host: &HostName,
+    mut all: Vec<ClassNames>,
+) -> Result<(), Refusal>
+    requires within { IsWithin S.Store tables.old }
+    ensures makes { Makes S.Store tables.old tables.new result (spec.set_all host.now all.items) }
+{
+    while let Some(names) = all.pop() {
+        set_class(tables, alloc, host, names)?;
+    }
+    // The proof learns by it that none is left.
+    let _ = all.as_slice();
+    Ok(())
+}

@@ -1,0 +1,40 @@
+-- Edits of a host's project, on records whose stored rows are made right after each.
+use Rattle.std.specs.Prelude.{◌≡◌, Some, Result, IfErr, OnOk}
+use Rattle.std.specs.FinMap.{get, insert}
+use Rattle.sqlite_trees.specs.declared.store.Store.{Ghosts}
+use Rattle.sqlite.specs.Held.{Held}
+use Rattle.dh_rows.specs.Calls.{GoesWithin, IsHonest}
+use Rattle.dh_records.specs.Lists.{Lists, world_of}
+use Rattle.dh_tables.specs.Going.{Sees, records}
+use Rattle.dh_derived.specs.Consistent.{AreConsistent}
+use Rattle.dh_world.specs.CheckResults.{IsFault}
+use Rattle.dh_world.specs.World.{Text, Project}
+use Rattle.dh_world.specs.declared.refusal.Refusal.{Refusal}
+
+-- The records are consistent, and the host has a project of which this holds.
+pub record MayChange (host : Text) (may : Project → Type 0) (l : Lists) : Type 0 where
+  pub project : Project
+  pub found : get (world_of l) host ≡ Some project
+  pub holds : may project
+  pub consistent : AreConsistent l
+
+-- Records in which a project stands in place of the host's, and that are consistent.
+pub record PutsProject (host : Text) (before after : Lists) (p : Project) : Type 0 where
+  pub world_is : world_of after ≡ insert (world_of before) host p
+  pub consistent : AreConsistent after
+
+-- a change of the host's project
+abbrev pub Changes : Text → (Project → Project) → Lists → Lists → Type 0
+Changes host change before after =
+    (p : Project) → get (world_of before) host ≡ Some p → PutsProject host before after (change p)
+
+-- What edits of the host's project leave within a transaction, whatever they answer.
+pub record EditsProject {S : Type 0} (g : Ghosts S) {T : Type 0} (old new : Held S)
+    (result : Result T Refusal) (host : Text) (change : Project → Project) : Type 0 where
+  -- nothing is committed, and a crash leaves nothing more
+  pub goes : GoesWithin g old new
+  -- those that were made left the store as honest as it was
+  pub sees : OnOk result (Sees g old new (records g new))
+  -- and the project changed so, its stored rows with it
+  pub made : IsHonest g new → OnOk result (Changes host change (records g old) (records g new))
+  pub err : IfErr result IsFault
