@@ -22,8 +22,11 @@ def toolchain():
     return module
 
 
+def memory_available():
+    with open("/proc/meminfo", encoding="ascii") as it:
+        return 1024 * int(re.search(r"MemAvailable:\s+(\d+)", it.read())[1])
+
+
 def lanes():
     """How many checks go side by side: one a processor, while there are 5 GB of memory for each."""
-    with open("/proc/meminfo", encoding="ascii") as it:
-        free = 1024 * int(re.search(r"MemAvailable:\s+(\d+)", it.read())[1])
-    return max(1, min(len(os.sched_getaffinity(0)), free // BYTES_A_CHECK))
+    return max(1, min(len(os.sched_getaffinity(0)), memory_available() // BYTES_A_CHECK))
