@@ -385,7 +385,9 @@ def asks(part, what, port):
     stored = 200, b'{"answer":"stored","pages":1}'
     part.same(f"the largest upload through {what}", through(port, "POST", "/_/upload", upload(4194304)), stored)
     part.same(f"a page of 1 MiB through {what}", through(port, "GET", "/en/main/large.txt"), (200, b"x" * 1048576))
-    part.same(f"a larger upload through {what}", through(port, "POST", "/_/upload", upload(4194305))[0], 413)
+    # (Caddy may find the connection closed while it still sends, and tells that in place of the reply)
+    larger = through(port, "POST", "/_/upload", upload(4194305))[0]
+    part.check(f"a larger upload through {what}", larger in ((413, 502) if what == "caddy" else (413,)), larger)
 
 
 def nginx(part, folder):
