@@ -29,7 +29,7 @@ use Rattle.dh_script.specs.Running.{RunsScript}
 use Rattle.dh_lines.specs.Lines.{asking, line_in}
 use Rattle.docs_host.specs.Ends.{Ended, EndsError, EndsHelp, EndsScript, EndsChecked, EndsOver, EndsOrdered, EndsList, EndsAsked, EndsWords}
 use Rattle.docs_host.specs.Ends.{is_fault, status_after, may_end_order, may_end_single, asks_help, line_asked, line_run}
-use Rattle.docs_host.specs.Failing.{may_fail, IsDoneOr, is_of_output, is_of_list, is_of_script, is_of_command, is_of_checked, is_of_file, is_of_memory}
+use Rattle.docs_host.specs.Failing.{may_fail, IsDoneOr, is_of_output, is_of_init, is_of_list, is_of_script, is_of_command, is_of_checked, is_of_file, is_of_memory}
 use Rattle.docs_host.specs.Failures.{failure_of}
 use Rattle.docs_host.specs.Orders.{OrdersList, RunsRequest, bad_record, has_bad_target}
 use Rattle.docs_host.specs.declared.failure.Failure.{Failure}
@@ -150,6 +150,16 @@ faulty_order order.Script = refl
 faulty_order order.Answer = refl
 faulty_order (order.Serve count port log) = refl
 
+done_order : (o : Order) → IsTrue (may_end_order o Done)
+done_order (order.Act command) = refl
+done_order (order.Get host target pass own) = refl
+done_order (order.Import host list) = refl
+done_order (order.Init file) = refl
+done_order (order.Migrate file) = refl
+done_order order.Script = refl
+done_order order.Answer = refl
+done_order (order.Serve count port log) = refl
+
 module _ (held now : Option Text) (o : Order) where
   -- each run may end with a fault
   over_faulty : EndsOver o held now Faulty
@@ -162,6 +172,21 @@ module _ (held now : Option Text) (o : Order) where
   -- the file was not opened, or not closed
   pub over_file : (f : FileFault) → has_bad_target o ≡ false → Ended (EndsOver o held now) (is_of_file o) (Err (File f))
   over_file f good = (over_faulty, let P : Bool → Type 0 = λ b. IsTrue (is_of_checked b o (File f)) in subst P (sym good) refl)
+
+  over_done : has_bad_target o ≡ false → EndsOver o held now Done
+  over_done good = let P : Bool → Type 0 = λ b. EndsChecked b o held now Done in subst P (sym good) (done_order o)
+
+  -- a server went on with what a fault of the store had left
+  pub rest_ended : (r : Result Status Failure) → has_bad_target o ≡ false → IsDoneOr is_of_init r → Ended (EndsOver o held now) (is_of_file o) r
+  rest_ended (Ok status) good is = (subst (EndsOver o held now) (sym is) (over_done good), ap is_fault is)
+  rest_ended (Err (File f)) good is = over_file f good
+  rest_ended (Err Memory) good is = (over_faulty, refl)
+  rest_ended (Err (OfList fault)) good is = absurd (true≢false (sym is))
+  rest_ended (Err Store) good is = absurd (true≢false (sym is))
+  rest_ended (Err Bind) good is = absurd (true≢false (sym is))
+  rest_ended (Err Write) good is = absurd (true≢false (sym is))
+  rest_ended (Err (Script fault)) good is = absurd (true≢false (sym is))
+  rest_ended (Err (Request fault)) good is = absurd (true≢false (sym is))
 
   pub file_failed : (f : FileFault) (r : Result Status Failure) → has_bad_target o ≡ false
       → IsErrAnd r (λ failure. failure ≡ File f) → Ended (EndsOver o held now) (is_of_file o) r

@@ -1,7 +1,7 @@
 -- What standard error was told of a failure.
 use Rattle.std.proofs.Common.{◌≡◌, Bool, false, true≢false, [], Option, None, refl, sym, subst}
 use Rattle.std.specs.Prelude.{IsTrue, option_and_then}
-use Rattle.dh_server.proofs.Told.{tells_both}
+use Rattle.dh_server.proofs.Told.{some_more, tells_both}
 use Rattle.dh_server.specs.Telling.{TellsSome}
 use Rattle.dh_lines.specs.declared.lines.Line.{Line}
 use Rattle.dh_world.specs.World.{Text}
@@ -14,6 +14,10 @@ use Rattle.docs_host.specs.declared.failure.Status.{Status}
 use Rattle.docs_host.specs.declared.failure.Status.TheVariants.{Done, Refused, Usage, Faulty, Unanswered}
 
 module _ {S : Type 0} (broken : S → Bool) (held : S → Option Text) where
+  -- three texts, one after another
+  pub some_thrice : (a b c d : S) → TellsSome broken held a b → TellsSome broken held b c → TellsSome broken held c d → TellsSome broken held a d
+  some_thrice a b c d p q r = some_more broken held a c d (some_more broken held a b c p q) r
+
   module _ (line : Option Line) where
     end_is_last : {a b : S} (s : Status) → TellsLast broken held line a b s → TellsEnd broken held line a b s
     end_is_last Done it = tt

@@ -35,7 +35,6 @@ is_of_request (Request fault) = true
 is_of_request failure = false
 
 abbrev pub is_of_server : Failure → Bool
-is_of_server (File fault) = true
 is_of_server Bind = true
 is_of_server failure = is_of_output failure
 

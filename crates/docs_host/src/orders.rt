@@ -106,7 +106,7 @@ fn answer_request<S: Alter, R: Source, W: Sink>(
 pub fn run_order<S: Alter, R: Source, W: Sink, E: Sink>(
     rt: &HostRuntime,
     desk: &mut Desk<S>,
-    served: Served<'_>,
+    served: &mut Served<'_>,
     order: &Order,
     streams: &mut Streams<R, W, E>,
     now: u64,

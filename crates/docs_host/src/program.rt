@@ -14,7 +14,7 @@ ghost use Rattle.docs_host.specs.Telling as telling;
 use crate::failure::{Failure, Status, tell, tell_usage};
 use crate::lists::{ListFile, order_in, read_list_file, refuse_record};
 use crate::orders::{run_lines, run_order, say};
-use crate::serving::Served;
+use crate::serving::{Served, serve_rest};
 use crate::streams::Streams;
 use crate::usage::{tell_help, tell_mistake};
 use dh_files::{close_desk, init_file, migrate_file, open_desk};
@@ -56,10 +56,17 @@ fn run_over<S: Start, R: Source, W: Sink, E: Sink>(
         return Ok(Status::Refused);
     }
     let (mut desk, projects) = open_desk(rt, file, start)?;
-    let served = Served { file, projects };
-    let ran = run_order(rt, &mut desk, served, order, streams, now);
+    let mut served = Served {
+        file,
+        projects,
+        rest: None,
+    };
+    let ran = run_order(rt, &mut desk, &mut served, order, streams, now);
     let closed = close_desk(desk);
     let status = ran?;
+    if let Some(rest) = served.rest {
+        return serve_rest(rt, file, rest, &mut streams.errors);
+    }
     closed?;
     Ok(status)
 }

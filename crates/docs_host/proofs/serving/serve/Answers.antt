@@ -1,4 +1,4 @@
-use Rattle.std.proofs.Common.{refl, arith}
+use Rattle.std.proofs.Common.{◌-◌, refl, arith}
 use Rattle.dh_http.proofs.Moving.{Moves-refl, Moves-weaker}
 use Rattle.dh_server.proofs.Told.{some_more}
 use Rattle.docs_host.proofs.Ending.{steps_within}
@@ -7,20 +7,16 @@ use Rattle.docs_host.proofs.serving.serve.Goals as goal
 pub returns-in_err-listener-clause-steps : goal.returns-in_err-listener-clause-steps
 returns-in_err-listener-clause-steps g c = Moves-refl (λ w. steps_within 0 c.args.count w w (omega arith) refl)
 
-pub returns-clause-steps : goal.returns-clause-steps
-returns-clause-steps g c =
-    Moves-weaker c.serve_on.ensures.steps (λ u v. steps_within c.serve_on.result c.args.count u v c.serve_on.ensures.few)
+pub returns-in-Some-clause-steps : goal.returns-in-Some-clause-steps
+returns-in-Some-clause-steps g c =
+    Moves-weaker c.in-Some.ensures.steps (λ u v. steps_within (c.args.count - c.in-Some.left) c.args.count u v (omega arith))
 
-pub returns-clause-tells : goal.returns-clause-tells
-returns-clause-tells g c =
-    some_more g.E.Sink.broken g.E.Sink.held c.args.streams.now.errors c.tell_served.new.errors c.serve_on.new.errors
-    c.tell_served.ensures c.serve_on.ensures.tells
+pub returns-in-Some-clause-tells : goal.returns-in-Some-clause-tells
+returns-in-Some-clause-tells g c =
+    some_more g.E.Sink.broken g.E.Sink.held c.args.streams.now.errors c.tell_served.new.errors c.serve_desk.new.errors
+    c.tell_served.ensures c.serve_desk.ensures.tells
 
-pub returns-then-is_closed-clause-steps : goal.returns-then-is_closed-clause-steps
-returns-then-is_closed-clause-steps g c =
-    Moves-weaker c.serve_on.ensures.steps (λ u v. steps_within c.serve_on.result c.args.count u v c.serve_on.ensures.few)
-
-pub returns-then-is_closed-clause-tells : goal.returns-then-is_closed-clause-tells
-returns-then-is_closed-clause-tells g c =
-    some_more g.E.Sink.broken g.E.Sink.held c.args.streams.now.errors c.tell_served.new.errors c.serve_on.new.errors
-    c.tell_served.ensures c.serve_on.ensures.tells
+pub returns-in-None-clause-tells : goal.returns-in-None-clause-tells
+returns-in-None-clause-tells g c =
+    some_more g.E.Sink.broken g.E.Sink.held c.args.streams.now.errors c.tell_served.new.errors c.serve_desk.new.errors
+    c.tell_served.ensures c.serve_desk.ensures.tells
