@@ -12,7 +12,7 @@ use Rattle.dh_world.specs.World.{Text, text_cmp, held_cmp, Project}
 use Rattle.dh_world.specs.Visibility.{may_see}
 use Rattle.dh_world.proofs.MapLemmas.{text_total, tied_text, held_total, tied_held, found_in}
 use Rattle.dh_classes.specs.Classes.{class_holds, sees, versions_for}
-use Rattle.dh_aliases.specs.Tops.{Versions, AreNamed, IsStable, stable_in, IsMember}
+use Rattle.dh_aliases.specs.Tops.{Versions, AreNamed, IsStable, IsTop, stable_in, stable_version, IsMember}
 use Rattle.dh_aliases.proofs.MemberLemmas.{mapped_get}
 use Rattle.dh_aliases.proofs.SlugLemmas.{found_at_key, key_found}
 use Rattle.dh_aliases.proofs.TopLemmas.{stable_is_one, stable_is_top}
@@ -21,7 +21,7 @@ use Rattle.dh_records.specs.declared.records.VersionRow.{VersionRow}
 use Rattle.dh_records.specs.declared.records.HeldRow.{HeldRow}
 use Rattle.dh_records.specs.declared.records.PickRow.{PickRow}
 use Rattle.dh_class_names.specs.Rows.{version_under, is_granted, seen_under}
-use Rattle.dh_class_names.specs.Highest.{IsHighest, IsPublic, IsOpened, IsSeenWith}
+use Rattle.dh_class_names.specs.Highest.{IsHighest, IsHighestOf, IsPublic, IsOpened, IsSeenWith}
 use Rattle.dh_class_names.specs.ClassNames.{AreRowsOf, grants_of}
 use Rattle.dh_class_names.proofs.HighestLemmas.{same_highest}
 
@@ -196,3 +196,27 @@ module _ (p : Project) (branch : Text) (rows : List VersionRow) (held : List Hel
 
   pub pass_stable : (pass : Text) (o : Option Version) → IsHighest (IsSeenWith rows (grants_of pass held)) o → stable_in (versions_for p (Some pass)) ≡ option_map (λ (v : Version). v.slug) o
   pass_stable pass o highest = highest_is_stable (Some pass) o (same_highest (IsSeenWith rows (grants_of pass held)) (Sees (Some pass)) (with_seen pass) (seen_with pass) o highest)
+
+  -- and the stable version without a pass is the highest of what all callers see
+  pub stable_is_public : IsHighest (IsPublic rows) (stable_version (versions_for p None))
+  stable_is_public = go (stable_in m) (stable_is_top m named)
+    where
+      m : Versions
+      m = versions_for p None
+
+      named : AreNamed (versions_for p None)
+      named = seen_named p None it.named
+
+      own : (s : Text) (w : Version) → get (versions_for p None) s ≡ Some w → Sees None w
+      own s w stands = ap (get (versions_for p None)) (named s w stands).0 ∙ stands
+
+      top_is : (s : Text) (top : IsTop (versions_for p None) s) → IsHighestOf (IsPublic rows) top.version
+      top_is s top = record {
+        member = seen_public top.version (own s top.version top.stands);
+        release = top.release;
+        unbeaten = λ w public. top.unbeaten w.slug w (public_seen w public);
+      }
+
+      go : (o : Option Text) → IsStable (versions_for p None) o → IsHighest (IsPublic rows) (option_and_then (get (versions_for p None)) o)
+      go None none = λ w public. none w.slug w (public_seen w public)
+      go (Some s) top = subst (IsHighest (IsPublic rows)) (sym top.stands) (top_is s top)

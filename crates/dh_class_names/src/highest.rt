@@ -92,6 +92,26 @@ fn with_grant<'a>(
     }
 }
 
+/// The higher of the best and the version under a grant's slug, where there is one that is active; else the best stays.
+pub fn with_opened(
+    alloc: Global,
+    best: Option<Version>,
+    opened: Option<Version>,
+) -> Result<Option<Version>, AllocError>
+    ensures { IfOk result (λ o. o ≡ spec.with_opened best opened) }
+{
+    match opened {
+        Some(version) => {
+            if version.active && is_higher(alloc, best.as_ref(), &version)? {
+                Ok(Some(version))
+            } else {
+                Ok(best)
+            }
+        }
+        None => Ok(best),
+    }
+}
+
 /// The highest release of those that all callers see, which is known, and of those that the grants open.
 pub fn granted_top<'a>(
     alloc: Global,

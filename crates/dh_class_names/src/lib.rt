@@ -8,5 +8,7 @@ mod lookups;
 mod naming;
 
 pub use class_names::ClassNames;
+pub use highest::with_opened;
 pub use laws::rows_of_host;
-pub use naming::names_by_class;
+pub use lookups::is_seen;
+pub use naming::{alias_slug, branch_slug, is_of_branch, is_standing_alias, names_by_class};

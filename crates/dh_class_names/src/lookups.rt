@@ -47,7 +47,8 @@ fn is_granted(grants: &[HeldRow], slug: &str) -> bool
     grants.iter().any(|x| x.slug.as_str() == slug)
 }
 
-fn is_seen(version: &Version, grants: &[HeldRow], slug: &str) -> bool
+/// Whether who has these grants sees the version, which stands under this slug.
+pub fn is_seen(version: &Version, grants: &[HeldRow], slug: &str) -> bool
     ensures { result ≡ may_see version.now (spec.is_granted grants.now slug.now) }
 {
     version.active && (!version.private || is_granted(grants, slug))

@@ -20,7 +20,8 @@ use dh_records::{HeldRow, PassRow, PickRow, VersionRow};
 use dh_versions::{Kind, Version};
 use std::alloc::{AllocError, Global};
 
-fn branch_slug(alloc: Global, branch: &RefName) -> Result<Option<Slug>, AllocError>
+/// The slug of the default branch, if its name has one.
+pub fn branch_slug(alloc: Global, branch: &RefName) -> Result<Option<Slug>, AllocError>
     ensures { IfOk result (λ slug. slug ≡ slug_from branch.now) }
 {
     match slug_of(alloc, branch) {
@@ -30,7 +31,8 @@ fn branch_slug(alloc: Global, branch: &RefName) -> Result<Option<Slug>, AllocErr
     }
 }
 
-fn is_of_branch(version: &Version, branch: &RefName) -> bool
+/// Whether the version is the branch of that name.
+pub fn is_of_branch(version: &Version, branch: &RefName) -> bool
     ensures { result ≡ names.is_of_branch branch.now version.now }
 {
     version.kind == Kind::Branch && version.name.as_str() == branch.as_str()
@@ -59,7 +61,8 @@ fn latest_for(
     }
 }
 
-fn is_standing_alias(name: &str, latest: bool, stable: bool) -> bool
+/// Whether the name is an alias that stands for a version, where these two do or do not.
+pub fn is_standing_alias(name: &str, latest: bool, stable: bool) -> bool
     ensures { result ≡ spec.is_standing_alias latest stable name.now }
 {
     match name {
@@ -78,7 +81,7 @@ fn stands(rows: &[VersionRow], grants: &[HeldRow], latest: bool, stable: bool, n
 }
 
 /// The name of an alias as a slug.
-fn alias_slug(alloc: Global, name: &str) -> Result<Slug, AllocError>
+pub fn alias_slug(alloc: Global, name: &str) -> Result<Slug, AllocError>
     ensures { IfOk result (λ slug. slug ≡ name.now) }
 {
     match Slug::parse(alloc, name) {

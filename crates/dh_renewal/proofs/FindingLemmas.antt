@@ -47,10 +47,10 @@ module _ (host : Text) (l : Lists) where
       → ((slug : Text) → kept ≡ Some slug → o ≡ option_map (λ r. r.version) (find (is_version host slug) l.versions))
       → (kept ≡ None → o ≡ None)
       → IsStable host l o
-  stable_found kept o is there none sound right p found = go kept refl
+  stable_found kept o is there none sound p found right = go kept refl
     where
       is_stable : stable_in (versions_for p None) ≡ kept
-      is_stable = sym (stable_name p None) ∙ sym (ap (λ w. due_at w [] Stable) found) ∙ sym (right.aliases [] Stable) ∙ sym is
+      is_stable = sym (stable_name p None) ∙ sym right ∙ sym is
 
       go : (k : Option Text) → kept ≡ k → stable_version (versions_for p None) ≡ o
       go None e = ap (option_and_then (get (versions_for p None))) (is_stable ∙ e) ∙ sym (none e)
@@ -83,7 +83,8 @@ module _ (host : Text) (l : Lists) where
       → HasBranch host branch l → IsStable host l stable → FitsAdded v branch stable r → CoversNew host v l r
   new_is_known v branch stable r has is fits sound right p found name_is free =
       let same : has.project ≡ p = cc in
-      fits p (sound_project l host p sound found) name_is free (ap (λ (q : Project). q.branch) (sym same) ∙ has.branch_is) (is sound right p found)
+      fits p (sound_project l host p sound found) name_is free (ap (λ (q : Project). q.branch) (sym same) ∙ has.branch_is)
+      (is sound p found (right.aliases [] Stable ∙ ap (λ w. due_at w [] Stable) found))
 
   pub put_is_new : (v : Version) (r : Renewal) → None ≡ option_map (λ r. r.version) (find (is_version host v.slug) l.versions) → CoversNew host v l r → CoversPut host v l r
   put_is_new v r none it sound right p found name_is = it sound right p found name_is (version_in l host p found v.slug ∙ sym none)

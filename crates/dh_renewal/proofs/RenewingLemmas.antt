@@ -1,10 +1,8 @@
 -- What calls that make rows right make of the records.
-use Rattle.std.proofs.Common.{◌≡◌, cond, List, [], ◌∷◌, ◌++◌, map, filter, find, is_some, Option, Some, None, Result, Ok, Err, OnOk, IsTrue, refl, sym, ap, ◌∙◌, subst, true≢false}
+use Rattle.std.proofs.Common.{◌≡◌, Bool, true, false, cond, List, [], ◌∷◌, ◌++◌, map, filter, find, is_some, Option, Some, None, Result, Ok, Err, OnOk, IsTrue, refl, sym, ap, ◌∙◌, subst, true≢false}
 use Rattle.std.specs.Option.{option_map_or}
 use Rattle.std.specs.FinMap.{get}
 use Rattle.std.specs.Str.{bytes_eq}
-use Rattle.std.proofs.lemmas.Bool.{and_parts}
-use Rattle.std.proofs.lemmas.Slice.Eq.{bytes_eq-Decides}
 use Rattle.sqlite_trees.specs.declared.store.Store.{Ghosts}
 use Rattle.sqlite.specs.Held.{Held}
 use Rattle.dh_texts.specs.Texts.{is_token}
@@ -23,15 +21,16 @@ use Rattle.dh_records.specs.Lists.{Lists, base_of, world_of, is_pass, is_pick_of
 use Rattle.dh_records.specs.declared.records.HeldRow.{HeldRow}
 use Rattle.dh_records.specs.declared.records.PickRow.{PickRow}
 use Rattle.dh_records.specs.declared.records.VersionRow.{VersionRow}
-use Rattle.dh_records.proofs.RecordLemmas.{found_passes}
 use Rattle.dh_records.proofs.WorldLemmas.{has_pass_in}
-use Rattle.dh_records.specs.declared.records.PassRow.{PassRow}
 use Rattle.dh_tables.specs.Going.{HasRecords, Makes, records}
 use Rattle.dh_derived.specs.Rightness.{AreRight, AreRightAt}
 use Rattle.dh_derived.specs.Renewed.{set_names, set_classes, classes_at, names_due, no_names, renew_routes, renewed, renewed_at, host_renewed, host_renewed_at}
 use Rattle.dh_derived.specs.declared.renewals.Renewal.{Renewal}
 use Rattle.dh_derived.specs.declared.renewals.Renewal.TheVariants.{Nothing, Routes, Class, Aliases}
 use Rattle.dh_derived.proofs.RenewedLemmas.{renewed_right, host_renewed_right}
+use Rattle.dh_records.specs.declared.records.AliasName.TheVariants.{Stable}
+use Rattle.dh_derived.specs.Renewals.{AreRightBut}
+use Rattle.dh_renewal.specs.Finding.{IsStableKept}
 use Rattle.dh_renewal.specs.Renewing.{set_class, set_all, HasBranch, LacksRenewal, OfBranch, RightOf}
 
 -- ---- names of several classes
@@ -61,16 +60,16 @@ rows_found host branch l l1 l2 rows held picks e1 e2 sound rows_are held_are pic
 
 module _ (host pass : Text) (l : Lists) where
   -- no names, where the project has no such pass
-  pub no_pass : None ≡ find (is_pass host pass) l.passes → (p : Project) → get (world_of l) host ≡ Some p → no_names ≡ names_due p (Some pass)
-  no_pass none p found = sym (ap (λ b. cond b (names_of p (Some pass)) no_names) (has_pass_in l host p found pass ∙ sym (ap is_some none)))
+  pub no_pass : is_some (find (is_pass host pass) l.passes) ≡ false → (p : Project) → get (world_of l) host ≡ Some p → no_names ≡ names_due p (Some pass)
+  no_pass none p found = sym (ap (λ b. cond b (names_of p (Some pass)) no_names) (has_pass_in l host p found pass ∙ none))
 
-  -- and else those that were found
-  pub pass_names
-      : (row : PassRow) → Some row ≡ find (is_pass host pass) l.passes → (p : Project) → get (world_of l) host ≡ Some p
-      → names_of p (Some row.pass) ≡ names_due p (Some pass)
-  pass_names row there p found =
-      ap (λ t. names_of p (Some t)) ((bytes_eq-Decides row.pass pass).0 (and_parts (bytes_eq row.host host) (bytes_eq row.pass pass) (found_passes (is_pass host pass) l.passes row (sym there))).1)
-      ∙ sym (ap (λ b. cond b (names_of p (Some pass)) no_names) (has_pass_in l host p found pass ∙ sym (ap is_some there)))
+  -- and else those of who shows it
+  pub pass_names : is_some (find (is_pass host pass) l.passes) ≡ true → (p : Project) → get (world_of l) host ≡ Some p → names_of p (Some pass) ≡ names_due p (Some pass)
+  pass_names there p found = sym (ap (λ b. cond b (names_of p (Some pass)) no_names) (has_pass_in l host p found pass ∙ there))
+
+  -- what is stored of `stable` for callers with no pass is right where a pass is all that is to be renewed
+  pub stable_kept : (p : Project) → AreRightBut (Class pass) l host p → IsStableKept host l p
+  stable_kept p right = right.aliases [] Stable refl
 
 -- ---- a renewal, where the host has a project
 

@@ -32,6 +32,24 @@ module _ {S : Type 0} (g : Ghosts S) where
       }
       both (Err e) after = tt
 
+  -- two looks that were answered
+  pub looks_on
+      : (a b c : Held S) → Sees g a b (records g a) → Goes g b c → Sees g b c (records g b) → Sees g a c (records g a)
+  looks_on a b c sees then seen = record {
+    live = λ honest clean. seen.live (sees.live honest (then.lasts.clean clean)) clean;
+    now_is = λ honest. seen.now_is honest ∙ sees.now_is (then.lasts.was honest);
+    mode = λ honest. seen.mode honest ∙ sees.mode (then.lasts.was honest);
+  }
+
+  -- and then one that may be refused
+  pub asks_then
+      : {T : Type 0} (a b c : Held S) (r : Result T Refusal) → Goes g a b → Sees g a b (records g a) → Asks g b c r → Asks g a c r
+  asks_then a b c r goes sees it = record { goes = goes_on goes sees.live it.goes; looks = both r it.looks; err = it.err }
+    where
+      both : {T : Type 0} (r : Result T Refusal) → OnOk r (Sees g b c (records g b)) → OnOk r (Sees g a c (records g a))
+      both (Ok x) seen = looks_on a b c sees it.goes seen
+      both (Err e) none = tt
+
   -- two looks, and then what is made of them
   pub asks_on
       : {T : Type 0} (a b c : Held S) (r : Result T Refusal)
@@ -43,9 +61,5 @@ module _ {S : Type 0} (g : Ghosts S) where
   }
     where
       both : {T : Type 0} (r : Result T Refusal) → OnOk r (Sees g a c (records g a))
-      both (Ok x) = record {
-        live = λ honest clean. seen.live (sees.live honest (then.lasts.clean clean)) clean;
-        now_is = λ honest. seen.now_is honest ∙ sees.now_is (then.lasts.was honest);
-        mode = λ honest. seen.mode honest ∙ sees.mode (then.lasts.was honest);
-      }
+      both (Ok x) = looks_on a b c sees then seen
       both (Err e) = tt

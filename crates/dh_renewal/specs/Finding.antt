@@ -1,27 +1,44 @@
 -- What an edit leaves to be made right, of sound records whose stored rows are right.
-use Rattle.std.specs.Prelude.{◌≡◌, Option, Some, None}
+use Rattle.std.specs.Prelude.{◌≡◌, List, [], Option, Some, None}
 use Rattle.std.specs.FinMap.{get}
 use Rattle.dh_texts.specs.SlugOfName.{slug_from}
 use Rattle.dh_versions.specs.declared.version.Version.{Version}
 use Rattle.dh_world.specs.Changes.{with_version}
 use Rattle.dh_world.specs.World.{Text, Project}
 use Rattle.dh_classes.specs.Classes.{versions_for}
+use Rattle.dh_aliases.specs.Names.{names_of}
 use Rattle.dh_aliases.specs.Tops.{stable_version}
+use Rattle.dh_class_names.specs.Highest.{IsHighest, IsSeenWith}
 use Rattle.dh_plans.specs.Edits.{edited, MayEdit}
 use Rattle.dh_plans.specs.declared.edits.Edit.{Edit}
 use Rattle.dh_records.specs.Constraints.{AreSound}
 use Rattle.dh_records.specs.Lists.{Lists, world_of}
-use Rattle.dh_derived.specs.Rightness.{AreRightAt}
+use Rattle.dh_records.specs.declared.records.AliasName.TheVariants.{Stable}
+use Rattle.dh_records.specs.declared.records.HeldRow.{HeldRow}
+use Rattle.dh_derived.specs.Rightness.{AreRightAt, kept_at}
 use Rattle.dh_derived.specs.Renewals.{Covers}
 use Rattle.dh_derived.specs.declared.renewals.Renewal.{Renewal}
+use Rattle.dh_renewal.specs.ByKey.{versions_at}
 
 -- so it is of the project of a host, where the records are sound and the host's stored rows are right
 abbrev pub OfRightProject : Text → (Project → Type 0) → Lists → Type 0
 OfRightProject host P l = AreSound l → AreRightAt l host → (p : Project) → get (world_of l) host ≡ Some p → P p
 
+-- what is stored of `stable` for callers with no pass is right
+abbrev pub IsStableKept : Text → Lists → Project → Type 0
+IsStableKept host l p = kept_at l host [] Stable ≡ (names_of p None).stable
+
+-- so it is of the project of a host, where the records are sound and that is right
+abbrev pub OfKeptProject : Text → (Project → Type 0) → Lists → Type 0
+OfKeptProject host P l = AreSound l → (p : Project) → get (world_of l) host ≡ Some p → IsStableKept host l p → P p
+
 -- the version that `stable` stands for, to callers with no pass
 abbrev pub IsStable : Text → Lists → Option Version → Type 0
-IsStable host l o = OfRightProject host (λ p. stable_version (versions_for p None) ≡ o) l
+IsStable host l o = OfKeptProject host (λ p. stable_version (versions_for p None) ≡ o) l
+
+-- the version that it stands for, to who has these grants
+abbrev pub IsStableWith : Text → List HeldRow → Lists → Option Version → Type 0
+IsStableWith host grants l o = OfKeptProject host (λ p. IsHighest (IsSeenWith (versions_at host l) grants) o) l
 
 -- the renewal covers what changes once the version is put
 abbrev pub CoversPut : Text → Version → Lists → Renewal → Type 0

@@ -1,3 +1,4 @@
+pub mod ByKey
 pub mod Filling
 pub mod Finding
 pub mod Renewing

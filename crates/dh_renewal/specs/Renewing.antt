@@ -1,10 +1,13 @@
 -- Calls that make stored rows of a host right.
-use Rattle.std.specs.Prelude.{◌≡◌, false, List, [], ◌∷◌, Option, Some, None}
+use Rattle.std.specs.Prelude.{◌≡◌, false, List, [], ◌∷◌, Option, Some, None, filter}
 use Rattle.std.specs.FinMap.{get}
 use Rattle.std.specs.Str.{bytes_eq}
 use Rattle.dh_world.specs.World.{Text, Project}
+use Rattle.dh_aliases.specs.declared.names.Names.{Names}
+use Rattle.dh_aliases.specs.Names.{names_of}
 use Rattle.dh_class_names.specs.declared.class_names.ClassNames.{ClassNames}
-use Rattle.dh_records.specs.Lists.{Lists, base_of, world_of, class_text}
+use Rattle.dh_records.specs.Lists.{Lists, base_of, world_of, class_text, is_held_by}
+use Rattle.dh_records.specs.declared.records.HeldRow.{HeldRow}
 use Rattle.dh_derived.specs.Rightness.{AreRightAt}
 use Rattle.dh_derived.specs.Renewals.{AreRightBut}
 use Rattle.dh_derived.specs.Renewed.{set_names}
@@ -27,6 +30,11 @@ pub record HasBranch (host branch : Text) (l : Lists) : Type 0 where
 -- so it is of the project of the host, with this default branch
 abbrev pub OfBranch : Text → Text → (Project → Type 0) → Lists → Type 0
 OfBranch host branch P l = (p : Project) → get (world_of l) host ≡ Some p → p.branch ≡ branch → P p
+
+-- these are the names of who shows a pass, where these are its grants
+abbrev pub IsOfGrants : Text → List HeldRow → Lists → Project → Names → Type 0
+IsOfGrants host grants l p names =
+    (pass : Text) → grants ≡ filter (is_held_by host pass) l.held → names ≡ names_of p (Some pass)
 
 -- all stored rows are right, but for those of the host that a renewal covers, where the host has a project
 abbrev pub LacksRenewal : Renewal → Text → Lists → Type 0

@@ -5,33 +5,18 @@ ghost use Rattle.dh_schema.specs.Calling.{Learns};
 ghost use Rattle.dh_tables.specs.Going.{Asks};
 ghost use Rattle.dh_world.specs.CheckResults.{IsFault};
 ghost use Rattle.dh_derived.specs.Renewals.{FitsAdded};
-ghost use Rattle.dh_renewal.specs.Finding.{CoversEdit, CoversNew, CoversPut, IsStable};
+ghost use Rattle.dh_renewal.specs.Finding.{CoversEdit, CoversNew, CoversPut};
 
-use crate::looks::{branch_of, kept_alias, version_under};
+use crate::looks::{branch_of, version_under};
+use crate::stable::stable_version;
 use dh_derived::{Renewal, is_seen_by_all, renewal_of, renewal_of_added, renewal_of_replaced};
 use dh_paths::{HostName, RefName};
 use dh_plans::Edit;
-use dh_records::AliasName;
 use dh_tables::Tables;
 use dh_versions::Version;
 use dh_world::Refusal;
 use sqlite::Alter;
 use std::alloc::Global;
-
-/// The version that `stable` stands for, to callers with no pass, by what is stored of it.
-fn stable_version<S: Alter>(
-    tables: &mut Tables<S>,
-    alloc: Global,
-    host: &HostName,
-) -> Result<Option<Version>, Refusal>
-    ensures asks { Asks S.Store tables.old tables.new result }
-    ensures value { Learns S.Store tables.old tables.new result (IsStable host.now) }
-{
-    let Some(slug) = kept_alias(tables, alloc, host, "", AliasName::Stable)? else {
-        return Ok(None);
-    };
-    version_under(tables, alloc, host, &slug)
-}
 
 fn added(
     alloc: Global,

@@ -1,6 +1,7 @@
 //! Stored rows of a host made right, on the tables: which an edit leaves to be made so, and how they are.
 #![tactic(auto)]
 
+mod by_key;
 mod filling;
 mod finding;
 mod looks;
@@ -8,6 +9,7 @@ mod names;
 mod renewing;
 mod routes;
 mod setting;
+mod stable;
 
 pub use dh_derived::Renewal;
 pub use filling::derive;

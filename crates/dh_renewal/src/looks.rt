@@ -9,7 +9,7 @@ ghost use Rattle.dh_renewal.specs.Renewing.{FindsBranch};
 
 use dh_paths::{HostName, RefName, Slug, Token};
 use dh_records::AliasName;
-use dh_tables::{Listed, PassRow, Tables, VersionRow};
+use dh_tables::{HeldRow, Listed, PassRow, Tables, VersionRow};
 use dh_versions::Version;
 use dh_world::Refusal;
 use sqlite::Alter;
@@ -75,6 +75,20 @@ pub fn pass_of<S: Alter>(
         (λ l row. row ≡ find (lists.is_pass host.now pass.now) l.passes) }
 {
     Ok(tables.pass(alloc, host, pass)?)
+}
+
+/// What a pass holds, in the order of slugs.
+pub fn grants_of<S: Alter>(
+    tables: &mut Tables<S>,
+    alloc: Global,
+    host: &HostName,
+    pass: &Token,
+) -> Result<Vec<HeldRow>, Refusal>
+    ensures asks { Asks S.Store tables.old tables.new result }
+    ensures value { Learns S.Store tables.old tables.new result
+        (λ l rows. rows.items ≡ filter (lists.is_held_by host.now pass.now) l.held) }
+{
+    Ok(tables.held_by(alloc, host, pass)?)
 }
 
 /// The versions of a project, in the order of their slugs.

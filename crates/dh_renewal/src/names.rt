@@ -1,16 +1,18 @@
 //! What the names of a project are, by its records.
 
-ghost use Rattle.std.specs.Prelude.{◌≡◌, [], ◌∷◌, Some, map};
+ghost use Rattle.std.specs.Prelude.{◌≡◌, Some, map};
 ghost use Rattle.dh_schema.specs.Calling.{Learns};
 ghost use Rattle.dh_tables.specs.Going.{Asks};
 ghost use Rattle.dh_records.specs.Constraints.{AreSound};
 ghost use Rattle.dh_class_names.specs.ClassNames.{class_names, classes_of};
-ghost use Rattle.dh_class_names.specs.declared.class_names.ClassNames as declared;
 ghost use Rattle.dh_derived.specs.Renewed as renewed;
 ghost use Rattle.dh_derived.specs.Renewed.{classes_at};
-ghost use Rattle.dh_renewal.specs.Renewing.{OfBranch};
+ghost use Rattle.dh_renewal.specs.Finding.{IsStableKept};
+ghost use Rattle.dh_renewal.specs.Renewing.{IsOfGrants, OfBranch};
 
-use crate::looks::{pass_of, rows_of, versions_of};
+use crate::by_key::names_with_grants;
+use crate::looks::{grants_of, pass_of, rows_of, versions_of};
+use crate::stable::stable_with;
 use dh_aliases::Names;
 use dh_class_names::{ClassNames, names_by_class};
 use dh_paths::{HostName, RefName, Token};
@@ -71,18 +73,25 @@ fn no_names() -> Names
     }
 }
 
-/// The names of the second of two classes.
-fn second_names(all: Vec<ClassNames>) -> Names
-    ensures { (a b : declared.ClassNames) → all.items ≡ a ∷ b ∷ [] → result ≡ b.names }
+/// The names of the callers of a pass that has these grants.
+fn names_of_grants<S: Alter>(
+    tables: &mut Tables<S>,
+    alloc: Global,
+    host: &HostName,
+    branch: &RefName,
+    grants: &[HeldRow],
+) -> Result<Names, Refusal>
+    ensures asks { Asks S.Store tables.old tables.new result }
+    ensures value { Learns S.Store tables.old tables.new result (λ l names. AreSound l
+        → OfBranch host.now branch.now (λ p. IsStableKept host.now l p
+        → IsOfGrants host.now grants.now l p names) l) }
 {
-    let mut all = all;
-    match all.pop() {
-        Some(last) => last.names,
-        None => no_names(),
-    }
+    let stable = stable_with(tables, alloc, host, grants)?;
+    names_with_grants(tables, alloc, host, branch, grants, stable)
 }
 
-/// The names of the callers with a pass; none, where the project has no such pass.
+/// The names of the callers with a pass; none, where the project has no such pass. What is stored of `stable` for
+/// callers with no pass is right, and of the versions few are looked up, however many there are.
 pub fn names_of_pass<S: Alter>(
     tables: &mut Tables<S>,
     alloc: Global,
@@ -92,12 +101,12 @@ pub fn names_of_pass<S: Alter>(
 ) -> Result<Names, Refusal>
     ensures asks { Asks S.Store tables.old tables.new result }
     ensures value { Learns S.Store tables.old tables.new result (λ l names. AreSound l
-        → OfBranch host.now branch.now (λ p. names ≡ renewed.names_due p (Some pass.now)) l) }
+        → OfBranch host.now branch.now (λ p. IsStableKept host.now l p
+        → names ≡ renewed.names_due p (Some pass.now)) l) }
 {
-    let Some(row) = pass_of(tables, alloc, host, pass)? else {
+    if pass_of(tables, alloc, host, pass)?.is_none() {
         return Ok(no_names());
-    };
-    let passes = [row];
-    let all = names_with(tables, alloc, host, branch, &passes)?;
-    Ok(second_names(all))
+    }
+    let grants = grants_of(tables, alloc, host, pass)?;
+    names_of_grants(tables, alloc, host, branch, grants.as_slice())
 }

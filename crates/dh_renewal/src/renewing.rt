@@ -31,6 +31,7 @@ fn renew_class<S: Alter>(
     requires within { IsWithin S.Store tables.old }
     requires sound { HasRecords S.Store tables.old AreSound }
     requires branch { HasRecords S.Store tables.old (HasBranch host.now branch.now) }
+    requires lacks { HasRecords S.Store tables.old (LacksRenewal (Renewal.Class pass.now) host.now) }
     ensures makes { Makes S.Store tables.old tables.new result
         (renewed.renewed_at (Renewal.Class pass.now) host.now) }
 {
@@ -64,6 +65,7 @@ fn renew_of<S: Alter>(
     requires within { IsWithin S.Store tables.old }
     requires sound { HasRecords S.Store tables.old AreSound }
     requires branch { HasRecords S.Store tables.old (HasBranch host.now branch.now) }
+    requires lacks { HasRecords S.Store tables.old (LacksRenewal renewal.now host.now) }
     ensures makes { Makes S.Store tables.old tables.new result
         (renewed.renewed_at renewal.now host.now) }
 {
@@ -83,6 +85,7 @@ fn renew_within<S: Alter>(
 ) -> Result<(), Refusal>
     requires within { IsWithin S.Store tables.old }
     requires sound { HasRecords S.Store tables.old AreSound }
+    requires lacks { HasRecords S.Store tables.old (LacksRenewal renewal.now host.now) }
     ensures makes { Makes S.Store tables.old tables.new result
         (renewed.renewed_at renewal.now host.now) }
 {
@@ -95,8 +98,8 @@ fn renew_within<S: Alter>(
     }
 }
 
-/// Makes right what a renewal covers of the stored rows of a host, within a transaction, if the host has a project. A call
-/// that is refused may leave some of it until the transaction ends.
+/// Makes right what a renewal covers of the stored rows of a host, where all others are, within a transaction. A call that
+/// is refused may leave some of it until the transaction ends.
 pub fn renew<S: Alter>(
     tables: &mut Tables<S>,
     alloc: Global,
@@ -105,10 +108,10 @@ pub fn renew<S: Alter>(
 ) -> Result<(), Refusal>
     requires within { IsWithin S.Store tables.old }
     requires sound { HasRecords S.Store tables.old AreSound }
+    requires lacks { HasRecords S.Store tables.old (LacksRenewal renewal.now host.now) }
     ensures makes { Makes S.Store tables.old tables.new result
         (renewed.renewed_at renewal.now host.now) }
-    ensures right { HasRecords S.Store tables.old (LacksRenewal renewal.now host.now)
-        → OnOk result (HasRecords S.Store tables.new AreRight) }
+    ensures right { OnOk result (HasRecords S.Store tables.new AreRight) }
 {
     tables.show_order();
     renew_within(tables, alloc, host, renewal)

@@ -118,14 +118,14 @@ module _
   pub sound_then : HasRecords g c AreSound
   sound_then honest = subst AreSound (sym (now_is honest)) (edited_sound host e (records g a) (may_then honest))
 
-  lacks_then : HasRecords g c (LacksRenewal r host)
+  pub lacks_then : HasRecords g c (LacksRenewal r host)
   lacks_then honest =
       subst (LacksRenewal r host) (sym (now_is honest))
       (edited_lacks host e (records g a) (may_then honest) r (covers (goes.lasts.was honest)))
 
   module _
       (d : Held S) {T : Type 0} (result : Result T Refusal) (it : Makes g c d result (renewed_at r host))
-      (right : HasRecords g c (LacksRenewal r host) → OnOk result (HasRecords g d AreRight)) where
+      (right : OnOk result (HasRecords g d AreRight)) where
     pub edit_made : EditsProject g a d result host (edited e)
     edit_made = record {
       goes = goes_within_on
@@ -134,7 +134,7 @@ module _
           (λ honest. sees.mode honest ∙ looks.mode (goes.lasts.was honest))
           it.goes;
       sees = shows result it.sees;
-      made = λ honest. changes honest result it.sees (right lacks_then);
+      made = λ honest. changes honest result it.sees right;
       err = it.err;
     }
       where

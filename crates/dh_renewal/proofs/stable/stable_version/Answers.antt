@@ -1,7 +1,7 @@
 use Rattle.std.proofs.Common.{◌∙◌, None, refl, sym}
 use Rattle.dh_tables.specs.Going.{records}
 use Rattle.dh_renewal.proofs.FindingLemmas.{stable_found, stable_after}
-use Rattle.dh_renewal.proofs.finding.stable_version.Goals as goal
+use Rattle.dh_renewal.proofs.stable.stable_version.Goals as goal
 
 pub returns-in_default-clause-value : goal.returns-in_default-clause-value
 returns-in_default-clause-value g c honest =

@@ -1,0 +1,67 @@
+//! The version that `stable` stands for, by keys.
+
+ghost use Rattle.dh_schema.specs.Calling.{Learns};
+ghost use Rattle.dh_tables.specs.Going.{Asks};
+ghost use Rattle.dh_class_names.specs.Highest.{IsHighest, IsPublic, IsSeenWith};
+ghost use Rattle.dh_renewal.specs.ByKey.{versions_at};
+ghost use Rattle.dh_renewal.specs.Finding.{IsStable, IsStableWith};
+
+use crate::looks::{kept_alias, version_under};
+use dh_class_names::with_opened;
+use dh_paths::HostName;
+use dh_records::AliasName;
+use dh_tables::{HeldRow, Tables};
+use dh_versions::Version;
+use dh_world::Refusal;
+use sqlite::Alter;
+use std::alloc::Global;
+
+/// The version that `stable` stands for, to callers with no pass, by what is stored of it.
+pub fn stable_version<S: Alter>(
+    tables: &mut Tables<S>,
+    alloc: Global,
+    host: &HostName,
+) -> Result<Option<Version>, Refusal>
+    ensures asks { Asks S.Store tables.old tables.new result }
+    ensures value { Learns S.Store tables.old tables.new result (IsStable host.now) }
+{
+    let Some(slug) = kept_alias(tables, alloc, host, "", AliasName::Stable)? else {
+        return Ok(None);
+    };
+    version_under(tables, alloc, host, &slug)
+}
+
+/// The highest release of those that all callers see, which is known, and of those that the grants open.
+fn highest_with<S: Alter>(
+    tables: &mut Tables<S>,
+    alloc: Global,
+    host: &HostName,
+    grants: &[HeldRow],
+    public: Option<Version>,
+) -> Result<Option<Version>, Refusal>
+    ensures asks { Asks S.Store tables.old tables.new result }
+    ensures value { Learns S.Store tables.old tables.new result (λ l o.
+        IsHighest (IsPublic (versions_at host.now l)) public
+        → IsHighest (IsSeenWith (versions_at host.now l) grants.now) o) }
+{
+    let mut best = public;
+    for grant in grants {
+        let opened = version_under(tables, alloc, host, &grant.slug)?;
+        best = with_opened(alloc, best, opened)?;
+    }
+    Ok(best)
+}
+
+/// The version that `stable` stands for, to who has these grants.
+pub fn stable_with<S: Alter>(
+    tables: &mut Tables<S>,
+    alloc: Global,
+    host: &HostName,
+    grants: &[HeldRow],
+) -> Result<Option<Version>, Refusal>
+    ensures asks { Asks S.Store tables.old tables.new result }
+    ensures value { Learns S.Store tables.old tables.new result (IsStableWith host.now grants.now) }
+{
+    let public = stable_version(tables, alloc, host)?;
+    highest_with(tables, alloc, host, grants, public)
+}
