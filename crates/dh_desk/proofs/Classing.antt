@@ -6,6 +6,8 @@ use Rattle.std.specs.FinMap.{get}
 use Rattle.std.specs.List.{find}
 use Rattle.std.specs.Option.{option_map_or}
 use Rattle.std.proofs.lemmas.Slice.Eq.{bytes_eq-Decides}
+use Rattle.sqlite_trees.specs.declared.store.Store.{Ghosts}
+use Rattle.sqlite.specs.Held.{Held}
 use Rattle.dh_classes.specs.Classes.{class_of}
 use Rattle.dh_classes.specs.Replies.{IsOfClass, reply_for}
 use Rattle.dh_classes.proofs.ClassLemmas.{class_stays}
@@ -20,6 +22,7 @@ use Rattle.dh_replies.specs.Kept.{question_for}
 use Rattle.dh_reply.specs.Replies.{reply_to}
 use Rattle.dh_wire.specs.declared.reply.Read.{Read}
 use Rattle.dh_wire.specs.declared.reply.Reply.{Reply}
+use Rattle.dh_view.specs.Remembered.{IsClassed}
 use Rattle.dh_world.specs.declared.caller.Caller.{Caller}
 use Rattle.dh_world.specs.World.{Project, Text, World}
 use Rattle.dh_world.specs.Seen.{seen}
@@ -33,6 +36,27 @@ own_class w host caller class of_class = go (get w host) of_class
     go : (o : Option Project) → IfSome o (λ p. class_of p caller ≡ class) → IfSome o (λ p. class_of p (record { pass = class; moment = caller.moment }) ≡ class)
     go None e = tt
     go (Some p) e = subst (λ x. class_of p (record { pass = x; moment = caller.moment }) ≡ x) e (class_stays p caller)
+
+-- who is of a class has it in the project, where there is one
+pub class_shown : (w : World) (host : Text) (caller : Caller) (class : Option Text) → IsOfClass w host caller class
+    → (p : Project) → get w host ≡ Some p → class_of p caller ≡ class
+class_shown w host caller class of_class p is = subst (λ o. IfSome o (λ p. class_of p caller ≡ class)) is of_class
+
+-- and the other way round
+pub of_shown : (w : World) (host : Text) (caller : Caller) → ((p : Project) → get w host ≡ Some p → class_of p caller ≡ caller.pass)
+    → IsOfClass w host caller caller.pass
+of_shown w host caller shown = go (get w host) refl
+  where
+    go : (o : Option Project) → get w host ≡ o → IfSome o (λ p. class_of p caller ≡ caller.pass)
+    go None is = tt
+    go (Some p) is = shown p is
+
+-- under no host's name every caller shows his class
+pub no_host : {S : Type 0} (g : Ghosts S) (h : Held S) (caller : Caller) → IsClassed g h None caller
+no_host g h caller honest p is = absurd (none_is_some is)
+  where
+    none_is_some : None ≡ Some p → ⊥
+    none_is_some e = cc
 
 module _ (w : World) (host : Text) (caller : Caller) (class : Option Text) (asked : Read) (r : Result Reply Fault) (of_class : IsOfClass w host caller class) where
   same_reply : reply_for w (question_for host class asked) ≡ reply_to (seen w (Some host) caller) asked.path asked.query

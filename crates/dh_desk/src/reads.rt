@@ -3,13 +3,14 @@ ghost use Rattle.std.specs.Prelude.{◌≡◌, ◌⊎◌, Some, None, false, IfO
 ghost use Rattle.std.specs.Option.{option_map};
 ghost use Rattle.dh_faults.specs.Faults.{OnStore};
 ghost use Rattle.dh_reply.specs.Replies.{reply_to};
-ghost use Rattle.dh_classes.specs.Replies.{IsOfClass, reply_for};
+ghost use Rattle.dh_classes.specs.Replies.{reply_for};
 ghost use Rattle.dh_replies.specs.Kept.{AreRight, question_for};
 ghost use Rattle.dh_records.specs.Lists.{world_of};
 ghost use Rattle.dh_schema.specs.Calling.{HasRecords, IsSettled};
 ghost use Rattle.dh_desk.specs.Desk.{AreConsistent, AreCurrent, Blames, IsHonest, IsKept, IsRefused, Lasts};
 ghost use Rattle.dh_desk.specs.Desk.{last_records, lists_of};
 ghost use Rattle.dh_desk.specs.Desk.{reply_in, veil_of, world_seen};
+ghost use Rattle.dh_view.specs.Remembered.{IsClassed};
 ghost use Rattle.dh_view.specs.View.{Fails, Looks, shown};
 ghost use Rattle.dh_world.specs.Reads.{host_named, caller_named};
 ghost use Rattle.dh_world.specs.Seen.{seen};
@@ -53,7 +54,7 @@ fn caller_in(alloc: Global, pass: Option<&str>, moment: u64) -> Result<Caller, F
     Ok(Caller { pass, moment })
 }
 
-/// The reply to a read, of tables outside a transaction.
+/// The reply to a read by a caller who shows his class as his pass, of tables outside a transaction.
 fn look<S: Alter>(
     tables: &mut Tables<S>,
     alloc: Global,
@@ -61,14 +62,15 @@ fn look<S: Alter>(
     caller: Caller,
     read: &Read,
 ) -> Result<Reply, Fault>
-    requires { HasRecords S.Store tables.old AreConsistent }
+    requires consistent { HasRecords S.Store tables.old AreConsistent }
+    requires is_classed { IsClassed S.Store tables.old host caller }
     ensures looks { Looks S.Store tables.old tables.new }
     ensures told { OnStore result (Fails S.Store tables.old tables.new) }
     ensures value { IsHonest S.Store tables.new
         → IfOk result (λ r. r
         ≡ reply_to (shown S.Store tables.old host caller) read.now.path read.now.query) }
 {
-    let mut view = View::new(tables, host, caller);
+    let mut view = View::new(alloc, tables, host, caller);
     let answer = reply(alloc, &mut view, read);
     let _tables = view.close();
     answer
@@ -84,11 +86,12 @@ fn reply_to_class<S: Alter>(
     caller: Caller,
     asked: &Read,
 ) -> Result<Reply, Fault>
-    requires { HasRecords S.Store tables.old AreConsistent }
+    requires consistent { HasRecords S.Store tables.old AreConsistent }
+    requires is_classed { IsClassed S.Store tables.old (Some host) caller }
     ensures looks { Looks S.Store tables.old tables.new }
     ensures told { OnStore result (Fails S.Store tables.old tables.new) }
     ensures right { let w = world_seen S.Store tables.old in
-        IsHonest S.Store tables.new → IsOfClass w host caller caller.pass
+        IsHonest S.Store tables.new
         → AreRight w replies.old.entries → AreRight w replies.new.entries
         × IfOk result (λ r. r ≡ reply_for w (question_for host caller.pass asked.now)) }
 {

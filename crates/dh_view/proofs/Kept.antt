@@ -16,7 +16,7 @@ use Rattle.dh_records.specs.declared.records.AliasName.{AliasName}
 use Rattle.dh_records.specs.declared.records.AliasName.TheVariants.{Latest, Stable, Default}
 use Rattle.dh_records.specs.Lists.{Lists, world_of}
 use Rattle.dh_derived.specs.Rightness.{class_in, due_at, due_in, has_class, kept_at, named}
-use Rattle.dh_view.specs.Remembered.{project_in, shows_pass}
+use Rattle.dh_view.specs.Remembered.{ShowsClass, project_in}
 use Rattle.dh_view.specs.Right.{IsRightIn}
 use Rattle.dh_view.specs.Stored.{stands_for}
 use Rattle.dh_view.specs.View.{shown_under}
@@ -26,14 +26,6 @@ use Rattle.dh_view.specs.View.{shown_under}
 -- what is told of a pass that passes a test
 abbrev tested : (Text → Bool) → Option Text → Option Text
 tested test shown = option_and_then (λ t. cond (test t) (Some t) None) shown
-
-class_when : (test : Text → Bool) (shown : Option Text) (live : Bool) → live ≡ is_some (tested test shown) → cond live shown None ≡ tested test shown
-class_when test None live e = ap (λ b. cond b None None) e
-class_when test (Some t) live e = ap (λ b. cond b (Some t) None) e ∙ go (test t)
-  where
-    go : (b : Bool) → cond (is_some (cond b (Some t) None)) (Some t) None ≡ cond b (Some t) None
-    go true = refl
-    go false = refl
 
 -- the project has the class of its callers
 has_own : (p : Project) (moment : ℕ) (shown : Option Text) → has_class p (tested (is_live p moment) shown) ≡ true
@@ -63,13 +55,13 @@ module _ (p : Project) (c : Caller) where
 
 module _ (lists : Lists) (o : Option Text) (c : Caller) where
   pub kept_shown
-      : (host class : Text) (live : Bool) (name : AliasName) → o ≡ Some host → IsRightIn lists host
-      → class_in class ≡ cond live c.pass None → live ≡ shows_pass lists o c
+      : (host class : Text) (name : AliasName) → o ≡ Some host → IsRightIn lists host
+      → class_in class ≡ c.pass → ShowsClass lists o c
       → kept_at lists host class name ≡ option_and_then (stands_for name) (shown_under lists o c)
-  kept_shown host class live name is right text seen =
-      right.rows.aliases class name ∙ ap (λ q. due_at q class name) (sym (ap (project_in lists) is)) ∙ by_project (project_in lists o) seen
+  kept_shown host class name is right text own =
+      right.rows.aliases class name ∙ ap (λ q. due_at q class name) (sym (ap (project_in lists) is)) ∙ by_project (project_in lists o) own
     where
-      by_project : (q : Option Project) → live ≡ is_some (option_and_then (λ p. class_of p c) q)
+      by_project : (q : Option Project) → ((p : Project) → q ≡ Some p → class_of p c ≡ c.pass)
           → due_at q class name ≡ option_and_then (stands_for name) (option_map (λ p. seen_project p c) q)
-      by_project None e = refl
-      by_project (Some p) e = ap (λ k. due_in p k name) (text ∙ class_when (is_live p c.moment) c.pass live e) ∙ due_shown p c name
+      by_project None own = refl
+      by_project (Some p) own = ap (λ k. due_in p k name) (text ∙ sym (own p refl)) ∙ due_shown p c name

@@ -1,35 +1,26 @@
--- What a caller's pass opens, by what was found in the lists.
-use Rattle.std.proofs.Common.{◌≡◌, Bool, true, false, not, ◌&&◌, ◌||◌, cond, List, [], ◌∷◌, filter, Some, None, refl, sym, ap, ◌∙◌, true≢false}
-use Rattle.std.specs.Prelude.{is_some, option_and_then}
+-- What a class opens, by what was found in the lists.
+use Rattle.std.proofs.Common.{◌≡◌, Bool, true, false, not, ◌&&◌, ◌||◌, cond, List, [], ◌∷◌, filter, Option, Some, None, refl, sym, ap, ◌∙◌, true≢false}
+use Rattle.std.specs.Prelude.{is_some}
 use Rattle.std.specs.List.{find, list_any, AllByRecursion}
 use Rattle.std.specs.Str.{bytes_eq}
 use Rattle.dh_versions.specs.declared.version.Version.{Version}
 use Rattle.dh_records.specs.declared.records.ProjectRow.{ProjectRow}
 use Rattle.dh_records.specs.declared.records.VersionRow.{VersionRow}
 use Rattle.dh_records.specs.declared.records.HeldRow.{HeldRow}
-use Rattle.dh_world.specs.declared.caller.Caller.{Caller}
 use Rattle.dh_world.specs.World.{Text}
-use Rattle.dh_world.specs.Visibility.{is_live, live_pass, holds, may_see}
+use Rattle.dh_world.specs.Visibility.{may_see}
+use Rattle.dh_classes.specs.Classes.{class_holds}
 use Rattle.dh_records.specs.Lists.{Lists, project_of, is_held, is_held_by}
 use Rattle.dh_view.specs.View.{opens}
 use Rattle.dh_records.proofs.SeenLemmas.{holds_is}
 
-module _ (lists : Lists) (row : ProjectRow) (c : Caller) (own : Text) (is : c.pass ≡ Some own) where
+module _ (lists : Lists) (row : ProjectRow) (class : Option Text) (own : Text) (is : class ≡ Some own) where
   abbrev held : Text → Bool
-  held slug = holds (project_of lists row) (live_pass (project_of lists row) c) slug
+  held slug = class_holds (project_of lists row) class slug
 
-  -- the pass that he shows counts where it is live
-  shown_if_live : (live : Bool) → is_live (project_of lists row) c.moment own ≡ live → live_pass (project_of lists row) c ≡ cond live (Some own) None
-  shown_if_live live e =
-      ap (option_and_then (λ pass. cond (is_live (project_of lists row) c.moment pass) (Some pass) None)) is ∙ ap (λ b. cond b (Some own) None) e
-
-  -- of a live pass the grants decide
-  pub held_live : is_live (project_of lists row) c.moment own ≡ true → (slug : Text) → is_some (find (is_held row.host own slug) lists.held) ≡ held slug
-  held_live live slug = sym (ap (λ pass. holds (project_of lists row) pass slug) (shown_if_live true live) ∙ holds_is lists row own slug)
-
-  -- any other opens nothing
-  pub held_dead : is_live (project_of lists row) c.moment own ≡ false → (slug : Text) → false ≡ held slug
-  held_dead dead slug = sym (ap (λ pass. holds (project_of lists row) pass slug) (shown_if_live false dead))
+  -- of a pass its grants decide
+  pub held_own : (slug : Text) → is_some (find (is_held row.host own slug) lists.held) ≡ held slug
+  held_own slug = sym (ap (λ pass. class_holds (project_of lists row) pass slug) is ∙ holds_is lists row own slug)
 
   opens_held : (slug : Text) (rows : List HeldRow) → opens (filter (is_held_by row.host own) rows) slug ≡ is_some (find (is_held row.host own slug) rows)
   opens_held slug [] = refl
@@ -41,9 +32,13 @@ module _ (lists : Lists) (row : ProjectRow) (c : Caller) (own : Text) (is : c.pa
       go true false e more = ap (λ b. b || opens (filter (is_held_by row.host own) rows) slug) e ∙ more
       go false b e more = more
 
-  -- the grants of a live pass
-  pub grants_open : is_live (project_of lists row) c.moment own ≡ true → (grants : List HeldRow) → grants ≡ filter (is_held_by row.host own) lists.held → (slug : Text) → opens grants slug ≡ held slug
-  grants_open live grants g slug = ap (λ l. opens l slug) g ∙ opens_held slug lists.held ∙ held_live live slug
+  -- the grants of the pass
+  pub grants_open : (grants : List HeldRow) → grants ≡ filter (is_held_by row.host own) lists.held → (slug : Text) → opens grants slug ≡ held slug
+  grants_open grants g slug = ap (λ l. opens l slug) g ∙ opens_held slug lists.held ∙ held_own slug
+
+-- without a pass nothing is held
+pub held_none : (lists : Lists) (row : ProjectRow) (class : Option Text) → class ≡ None → (slug : Text) → false ≡ class_holds (project_of lists row) class slug
+held_none lists row class is slug = sym (ap (λ pass. class_holds (project_of lists row) pass slug) is)
 
 -- no grants open nothing
 pub none_open : (grants : List HeldRow) → grants ≡ [] → (slug : Text) → opens grants slug ≡ false

@@ -25,9 +25,11 @@ use Rattle.dh_world.specs.World.{Text, text_cmp, Project}
 use Rattle.dh_world.specs.Visibility.{live_pass, holds, is_visible, may_see}
 use Rattle.dh_records.specs.Lists.{Lists, project_of, world_of, is_project, is_version, is_version_of, is_page, is_lang_of, is_pick_of, is_redirect_of}
 use Rattle.dh_world.specs.Seen.{seen_project, without_default, default_of, visible_versions}
-use Rattle.dh_classes.specs.Classes.{class_of}
-use Rattle.dh_records.specs.Constraints.{RiseBySlug}
-use Rattle.dh_view.specs.View.{has_project, host_in, languages_in, opens, project_in, row_of, sees, shown_under, shows_pass, slug_in}
+use Rattle.dh_classes.specs.Classes as classes
+use Rattle.dh_classes.specs.Classes.{class_holds, class_of, versions_for}
+use Rattle.dh_records.specs.Constraints as constraint
+use Rattle.dh_records.specs.Constraints.{RiseBySlug, languages_of}
+use Rattle.dh_view.specs.View.{ShowsClass, has_project, host_in, languages_in, opens, project_in, sees, shown_under, slug_in, version_in, versions_in}
 use Rattle.dh_world.proofs.MapLemmas.{tied_text}
 use Rattle.dh_records.proofs.SeenLemmas.{get_project, get_version, get_page}
 use Rattle.dh_world.proofs.SeenLemmas.{seen_page}
@@ -43,16 +45,20 @@ if_seen held (Some r) = cond (may_see r.version held) (Some r.version) None
 alike : (p : Text → Bool) (q x : Text) → text_cmp q x ≡ Equal → p x ≡ p q
 alike p q x e = ap p (sym (exact_bytes q x e))
 
-pub visible_is : (lists : Lists) (row : ProjectRow) (c : Caller) (slug : Text)
-    → get (visible_versions (project_of lists row) c) slug ≡ if_seen (holds (project_of lists row) (live_pass (project_of lists row) c) slug) (find (is_version row.host slug) lists.versions)
-visible_is lists row c slug =
-    let held = holds (project_of lists row) (live_pass (project_of lists row) c) slug in
-    get-retain_keys (project_of lists row).versions (is_visible (project_of lists row) c) slug (alike _ slug)
+pub visible_for : (lists : Lists) (row : ProjectRow) (class : Option Text) (slug : Text)
+    → get (versions_for (project_of lists row) class) slug ≡ if_seen (class_holds (project_of lists row) class slug) (find (is_version row.host slug) lists.versions)
+visible_for lists row class slug =
+    let held = class_holds (project_of lists row) class slug in
+    get-retain_keys (project_of lists row).versions (classes.sees (project_of lists row) class) slug (alike _ slug)
     ∙ ap (λ o. cond (option_map_or (λ v. may_see v held) o false) o None) (get_version lists row slug) ∙ go held (find (is_version row.host slug) lists.versions)
   where
     go : (held : Bool) (o : Option VersionRow) → cond (option_map_or (λ v. may_see v held) (option_map (λ r. r.version) o) false) (option_map (λ r. r.version) o) None ≡ if_seen held o
     go held None = refl
     go held (Some r) = refl
+
+visible_is : (lists : Lists) (row : ProjectRow) (c : Caller) (slug : Text)
+    → get (visible_versions (project_of lists row) c) slug ≡ if_seen (holds (project_of lists row) (live_pass (project_of lists row) c) slug) (find (is_version row.host slug) lists.versions)
+visible_is lists row c slug = visible_for lists row (class_of (project_of lists row) c) slug
 
 found_passes : {A : Type 0} (p : A → Bool) (xs : List A) (x : A) → find p xs ≡ Some x → p x ≡ true
 found_passes p [] x e = absurd (not_some x e)
@@ -122,15 +128,47 @@ resolved_is lists row c name =
 
 -- ---- lists
 
-pub slugs_of : (rows : List VersionRow) → map (λ e. e.0) (map by_slug rows) ≡ map (λ v. v.slug) (map (λ r. r.version) rows)
-slugs_of [] = refl
-slugs_of (r ∷ rows) = ap (λ l. r.version.slug ∷ l) (slugs_of rows)
-
-pub versions_of : (rows : List VersionRow) → map (λ e. e.1) (map by_slug rows) ≡ map (λ r. r.version) rows
+versions_of : (rows : List VersionRow) → map (λ e. e.1) (map by_slug rows) ≡ map (λ r. r.version) rows
 versions_of [] = refl
 versions_of (r ∷ rows) = ap (λ l. r.version ∷ l) (versions_of rows)
 
 -- ---- what the functions answer
+
+module _ (lists : Lists) (row : ProjectRow) (class : Option Text) where
+  abbrev in_class : FinMap text_cmp Version
+  in_class = versions_for (project_of lists row) class
+
+  abbrev class_has : Text → Bool
+  class_has = class_holds (project_of lists row) class
+
+  found_as : (name : Text) (o : Option VersionRow) (r : VersionRow) → o ≡ find (is_version row.host name) lists.versions → o ≡ Some r → cond (may_see r.version (class_has r.version.slug)) (Some r.version) None ≡ get in_class name
+  found_as name o r e is =
+      ap (λ slug. cond (may_see r.version (class_has slug)) (Some r.version) None) (own_slug_of row.host name lists.versions r (sym e ∙ is))
+      ∙ ap (if_seen (class_has name)) (sym is ∙ e) ∙ sym (visible_for lists row class name)
+
+  pub when_told : (seen : Bool) (name : Text) (o : Option VersionRow) (r : VersionRow) → o ≡ find (is_version row.host name) lists.versions → o ≡ Some r → seen ≡ may_see r.version (class_has r.version.slug) → then_some seen r.version ≡ get in_class name
+  when_told seen name o r e is told = ap (λ b. then_some b r.version) told ∙ as_cond (may_see r.version (class_has r.version.slug)) ∙ found_as name o r e is
+    where
+      as_cond : (b : Bool) → then_some b r.version ≡ cond b (Some r.version) None
+      as_cond true = refl
+      as_cond false = refl
+
+  pub when_absent : (name : Text) (o : Option VersionRow) → o ≡ find (is_version row.host name) lists.versions → o ≡ None → None ≡ get in_class name
+  when_absent name o e is = ap (if_seen (class_has name)) (sym is ∙ e) ∙ sym (visible_for lists row class name)
+
+  pub slug_is : (name : Text) (o : Option Version) (v : Version) → o ≡ get in_class name → o ≡ Some v → Some v.slug ≡ option_map (λ x. name) (get in_class name)
+  slug_is name o v e is = ap Some (slug_of (class_has name) row.host name lists.versions v (sym (visible_for lists row class name) ∙ sym e ∙ is)) ∙ ap (option_map (λ x. name)) (sym is ∙ e)
+
+  -- what decides over the versions as the class does leaves those that it sees
+  pub kept_are : (at : Lists) (grants opened : List HeldRow) (rows asked kept : List VersionRow) → at ≡ lists → rows ≡ filter (is_version_of row.host) lists.versions → asked ≡ rows → opened ≡ grants
+      → kept ≡ filter (λ r. may_see r.version (opens opened r.version.slug)) rows
+      → AllByRecursion (λ r. may_see r.version (opens grants r.version.slug) ≡ may_see r.version (class_holds (project_of at row) class r.version.slug)) asked
+      → kept ≡ filter (λ r. may_see r.version (class_has r.version.slug)) (filter (is_version_of row.host) lists.versions)
+  kept_are at grants opened rows asked kept same e a o k all =
+      let told = subst (λ l. AllByRecursion (λ r. may_see r.version (opens grants r.version.slug) ≡ may_see r.version (class_holds (project_of l row) class r.version.slug)) asked) same all in
+      k ∙ ap (λ gs. filter (λ r. may_see r.version (opens gs r.version.slug)) rows) o
+      ∙ same_filter (λ r. may_see r.version (opens grants r.version.slug)) (λ r. may_see r.version (class_has r.version.slug)) rows (subst (AllByRecursion (λ r. may_see r.version (opens grants r.version.slug) ≡ may_see r.version (class_has r.version.slug))) a told)
+      ∙ ap (filter (λ r. may_see r.version (class_has r.version.slug))) e
 
 module _ (lists : Lists) (row : ProjectRow) (c : Caller) where
   abbrev visible : FinMap text_cmp Version
@@ -142,48 +180,17 @@ module _ (lists : Lists) (row : ProjectRow) (c : Caller) where
   abbrev held : Text → Bool
   held = holds (project_of lists row) (live_pass (project_of lists row) c)
 
-  found_as : (name : Text) (o : Option VersionRow) (r : VersionRow) → o ≡ find (is_version row.host name) lists.versions → o ≡ Some r → cond (may_see r.version (held r.version.slug)) (Some r.version) None ≡ get visible name
-  found_as name o r e is =
-      ap (λ slug. cond (may_see r.version (held slug)) (Some r.version) None) (own_slug_of row.host name lists.versions r (sym e ∙ is))
-      ∙ ap (if_seen (held name)) (sym is ∙ e) ∙ sym (visible_is lists row c name)
-
-  pub when_told : (seen : Bool) (name : Text) (o : Option VersionRow) (r : VersionRow) → o ≡ find (is_version row.host name) lists.versions → o ≡ Some r → seen ≡ may_see r.version (held r.version.slug) → then_some seen r.version ≡ get visible name
-  when_told seen name o r e is told = ap (λ b. then_some b r.version) told ∙ as_cond (may_see r.version (held r.version.slug)) ∙ found_as name o r e is
-    where
-      as_cond : (b : Bool) → then_some b r.version ≡ cond b (Some r.version) None
-      as_cond true = refl
-      as_cond false = refl
-
-  pub when_absent : (name : Text) (o : Option VersionRow) → o ≡ find (is_version row.host name) lists.versions → o ≡ None → None ≡ get visible name
-  when_absent name o e is = ap (if_seen (held name)) (sym is ∙ e) ∙ sym (visible_is lists row c name)
-
   abbrev is_shown : VersionRow → Bool
   is_shown r = may_see r.version (held r.version.slug)
 
-  -- what decides over the versions as the pass does leaves those that are shown
-  pub kept_are : (at : Lists) (grants opened : List HeldRow) (rows asked kept : List VersionRow) → at ≡ lists → rows ≡ filter (is_version_of row.host) lists.versions → asked ≡ rows → opened ≡ grants
-      → kept ≡ filter (λ r. may_see r.version (opens opened r.version.slug)) rows
-      → AllByRecursion (λ r. may_see r.version (opens grants r.version.slug) ≡ may_see r.version (holds (project_of at row) (live_pass (project_of at row) c) r.version.slug)) asked
-      → kept ≡ filter is_shown (filter (is_version_of row.host) lists.versions)
-  kept_are at grants opened rows asked kept same e a o k all =
-      let told = subst (λ l. AllByRecursion (λ r. may_see r.version (opens grants r.version.slug) ≡ may_see r.version (holds (project_of l row) (live_pass (project_of l row) c) r.version.slug)) asked) same all in
-      k ∙ ap (λ gs. filter (λ r. may_see r.version (opens gs r.version.slug)) rows) o
-      ∙ same_filter (λ r. may_see r.version (opens grants r.version.slug)) is_shown rows (subst (AllByRecursion (λ r. may_see r.version (opens grants r.version.slug) ≡ is_shown r)) a told) ∙ ap (filter is_shown) e
-
-  pub values_are : (kept : List VersionRow) → RiseBySlug (filter (is_version_of row.host) lists.versions) → kept ≡ filter is_shown (filter (is_version_of row.host) lists.versions) → map (λ r. r.version) kept ≡ values visible
+  values_are : (kept : List VersionRow) → RiseBySlug (filter (is_version_of row.host) lists.versions) → kept ≡ filter is_shown (filter (is_version_of row.host) lists.versions) → map (λ r. r.version) kept ≡ values visible
   values_are kept up k = ap (map (λ r. r.version)) k ∙ sym (versions_of _) ∙ ap (map (λ e. e.1)) (sym (visible_entries lists row c up))
 
-  pub keys_are : (kept : List VersionRow) → RiseBySlug (filter (is_version_of row.host) lists.versions) → kept ≡ filter is_shown (filter (is_version_of row.host) lists.versions) → map (λ v. v.slug) (map (λ r. r.version) kept) ≡ keys visible
-  keys_are kept up k = ap (λ l. map (λ v. v.slug) (map (λ r. r.version) l)) k ∙ sym (slugs_of _) ∙ ap (map (λ e. e.0)) (sym (visible_entries lists row c up))
-
-  pub own_slug : (name : Text) (o : Option Version) (v : Version) → o ≡ get visible name → o ≡ Some v → Some (own_name v) ≡ resolved whole name
+  own_slug : (name : Text) (o : Option Version) (v : Version) → o ≡ get visible name → o ≡ Some v → Some (own_name v) ≡ resolved whole name
   own_slug name o v e is = sym (resolved_is lists row c name ∙ ap (λ o. option_or (option_map own_name o) (alias_of whole name)) (sym e ∙ is))
 
-  pub no_slug : (name : Text) (o : Option Version) → o ≡ get visible name → o ≡ None → alias_of whole name ≡ resolved whole name
+  no_slug : (name : Text) (o : Option Version) → o ≡ get visible name → o ≡ None → alias_of whole name ≡ resolved whole name
   no_slug name o e is = sym (resolved_is lists row c name ∙ ap (λ o. option_or (option_map own_name o) (alias_of whole name)) (sym e ∙ is))
-
-  pub slug_is : (name : Text) (o : Option Version) (v : Version) → o ≡ get visible name → o ≡ Some v → Some v.slug ≡ option_map (λ x. name) (get visible name)
-  slug_is name o v e is = ap Some (slug_of (held name) row.host name lists.versions v (sym (visible_is lists row c name) ∙ sym e ∙ is)) ∙ ap (option_map (λ x. name)) (sym is ∙ e)
 
   seen_when : (slug : Text) → is_visible (project_of lists row) c slug ≡ is_some (get visible slug)
   seen_when slug =
@@ -217,7 +224,7 @@ module _ (lists : Lists) (row : ProjectRow) (c : Caller) where
   pub page_is : (lang slug path : Text) → page_at whole lang slug path ≡ cond (is_some (get visible slug)) (option_map (λ x. x.page) (find (is_page row.host slug lang path) lists.pages)) None
   page_is lang slug path = seen_page (project_of lists row) c lang slug path ∙ rw (seen_when slug, get_page lists row slug lang path) refl
 
-pub known_is : (lists : Lists) (o : Option Text) (host : Text) → o ≡ Some host → is_some (find (is_project host) lists.projects) ≡ is_some (option_and_then (get (world_of lists)) o)
+known_is : (lists : Lists) (o : Option Text) (host : Text) → o ≡ Some host → is_some (find (is_project host) lists.projects) ≡ is_some (option_and_then (get (world_of lists)) o)
 known_is lists o host e = rw e (sym (ap is_some (get_project lists host) ∙ mapped (find (is_project host) lists.projects)))
   where
     mapped : (o : Option ProjectRow) → is_some (option_map (project_of lists) o) ≡ is_some o
@@ -227,7 +234,7 @@ known_is lists o host e = rw e (sym (ap is_some (get_project lists host) ∙ map
 pub found_is : (lists : Lists) (o : Option Text) (host : Text) → o ≡ Some host → option_map (project_of lists) (find (is_project host) lists.projects) ≡ option_and_then (get (world_of lists)) o
 found_is lists o host e = rw e (sym (get_project lists host))
 
-pub languages_are : (lists : Lists) (row : ProjectRow) → map (λ l. l.lang) (filter (is_lang_of row.host) lists.langs) ≡ (project_of lists row).languages
+languages_are : (lists : Lists) (row : ProjectRow) → map (λ l. l.lang) (filter (is_lang_of row.host) lists.langs) ≡ (project_of lists row).languages
 unfolding project_of
 languages_are lists row = refl
 
@@ -269,14 +276,30 @@ not_under lists o e = go (project_in lists o) refl e
     go None is e = is
     go (Some p) is e = ap (project_in lists) (sym e)
 
-pub languages_found : (lists : Lists) (o : Option Text) (host : Text) → Some host ≡ host_in lists o → (project_of lists (row_of host)).languages ≡ languages_in lists o
-unfolding project_of
-languages_found lists o host e =
-    let found = under_host lists o host e in
-    ap (λ h. (project_of lists (row_of h)).languages) (sym found.1) ∙ ap (λ p. option_map_or (λ p. p.languages) p []) (sym found.2)
+none_first : (ls : List Text) → is_some (slice_get ls 0) ≡ false → ls ≡ []
+none_first [] e = refl
+none_first (x ∷ ls) e = absurd (true≢false e)
 
-pub languages_none : (lists : Lists) (o : Option Text) → None ≡ host_in lists o → [] ≡ languages_in lists o
-languages_none lists o e = ap (λ p. option_map_or (λ p. p.languages) p []) (sym (not_under lists o e))
+-- a host with a language exactly where it has a project has those of the project
+pub languages_right : (lists : Lists) (o : Option Text) (host : Text) → o ≡ Some host → is_some (slice_get (languages_of lists host) 0) ≡ constraint.has_project lists host → languages_of lists host ≡ languages_in lists o
+languages_right lists o host is first = go (find (is_project host) lists.projects) refl (sym (found_is lists o host is))
+  where
+    go : (r : Option ProjectRow) → find (is_project host) lists.projects ≡ r → project_in lists o ≡ option_map (project_of lists) r → languages_of lists host ≡ languages_in lists o
+    go None found e = none_first (languages_of lists host) (first ∙ ap is_some found) ∙ ap (λ p. option_map_or (λ p. p.languages) p []) (sym e)
+    go (Some row) found e =
+        ap (languages_of lists) (sym ((bytes_eq-Decides row.host host).0 (found_passes (is_project host) lists.projects row found)))
+        ∙ languages_are lists row ∙ ap (λ p. option_map_or (λ p. p.languages) p []) (sym e)
+
+pub languages_none : (lists : Lists) (o : Option Text) → o ≡ None → [] ≡ languages_in lists o
+languages_none lists o is = ap (languages_in lists) (sym is)
+
+-- and its project is known by the first of them
+pub known_by_first : (lists : Lists) (o : Option Text) → ((host : Text) → o ≡ Some host → is_some (slice_get (languages_of lists host) 0) ≡ constraint.has_project lists host) → is_some (slice_get (languages_in lists o) 0) ≡ has_project lists o
+known_by_first lists o first = by o refl
+  where
+    by : (x : Option Text) → o ≡ x → is_some (slice_get (languages_in lists o) 0) ≡ has_project lists o
+    by None is = ap (λ x. is_some (slice_get (languages_in lists x) 0)) is ∙ sym (ap (has_project lists) is)
+    by (Some host) is = sym (ap (λ ls. is_some (slice_get ls 0)) (languages_right lists o host is (first host is))) ∙ first host is ∙ known_is lists o host is
 
 -- every caller sees all languages
 pub languages_shown : (lists : Lists) (o : Option Text) (c : Caller) → languages_in lists o ≡ option_map_or (λ p. p.langs) (shown_under lists o c) []
@@ -286,20 +309,18 @@ languages_shown lists o c = go (project_in lists o)
     go None = refl
     go (Some p) = langs_shown p c
 
--- what is read by the host alone is that of the project
-module _ (lists : Lists) (row : ProjectRow) (c : Caller) (host : Text) (own : row.host ≡ host) where
-  pub versions_under : values (visible_versions (project_of lists (row_of host)) c) ≡ (seen_project (project_of lists row) c).versions
+-- what is read by the host and the class alone is that of the project to its caller
+module _ (lists : Lists) (row : ProjectRow) (c : Caller) (host : Text) (own : row.host ≡ host) (class : Option Text) (of_class : class_of (project_of lists row) c ≡ class) where
+  pub versions_under : RiseBySlug (filter (is_version_of host) lists.versions) → versions_in lists host class ≡ (seen_project (project_of lists row) c).versions
   unfolding seen_project without_default project_of
-  versions_under = ap (λ h. values (visible_versions (project_of lists (row_of h)) c)) (sym own)
+  versions_under up =
+      ap (λ h. versions_in lists h class) (sym own) ∙ ap (versions_in lists row.host) (sym of_class)
+      ∙ values_are lists row c (filter (is_shown lists row c) (filter (is_version_of row.host) lists.versions)) (subst (λ h. RiseBySlug (filter (is_version_of h) lists.versions)) (sym own) up) refl
 
-  pub pass_under : is_some (class_of (project_of lists (row_of host)) c) ≡ is_some (class_of (project_of lists row) c)
-  unfolding project_of
-  pass_under = ap (λ h. is_some (class_of (project_of lists (row_of h)) c)) (sym own)
-
-  pub slug_under : (name : Text) → option_map (λ v. name) (get (visible_versions (project_of lists (row_of host)) c) name) ≡ cond (is_visible (project_of lists row) c name) (Some name) None
+  pub slug_under : (name : Text) → option_map (λ v. name) (version_in lists host class name) ≡ cond (is_visible (project_of lists row) c name) (Some name) None
   unfolding project_of
   slug_under name =
-      ap (λ h. option_map (λ v. name) (get (visible_versions (project_of lists (row_of h)) c) name)) (sym own)
+      ap (λ h. option_map (λ v. name) (version_in lists h class name)) (sym own) ∙ ap (λ k. option_map (λ v. name) (version_in lists row.host k name)) (sym of_class)
       ∙ by_sight (get (visible_versions (project_of lists row) c) name) ∙ ap (λ b. cond b (Some name) None) (sym (seen_when lists row c name))
     where
       by_sight : (o : Option Version) → option_map (λ v. name) o ≡ cond (is_some o) (Some name) None
@@ -320,15 +341,6 @@ host_found lists o host e = go (has_project lists o) e
 pub project_found : (lists : Lists) (o : Option Text) (host : Text) (row : ProjectRow) → o ≡ Some host → project_in lists o ≡ Some (project_of lists row) → get (world_of lists) host ≡ Some (project_of lists row)
 project_found lists o host row is found = ap (project_in lists) (sym is) ∙ found
 
--- ---- the pass that is shown
-
--- whether the caller of a project, or of none, shows a live pass
-abbrev shows : Caller → Option Project → Bool
-shows c p = is_some (option_and_then (λ p. class_of p c) p)
-
-pub pass_found : (lists : Lists) (o : Option Text) (c : Caller) (host : Text) → Some host ≡ host_in lists o → is_some (class_of (project_of lists (row_of host)) c) ≡ shows_pass lists o c
-pass_found lists o c host e = let found = under_host lists o host e in pass_under lists found.0 c host found.1 ∙ ap (shows c) (sym found.2)
-
 -- ---- the slug of a version that is seen
 
 module _ (lists : Lists) (o : Option Text) (c : Caller) where
@@ -336,8 +348,10 @@ module _ (lists : Lists) (o : Option Text) (c : Caller) where
   abbrev told_of : Text → Option Project → Option Text
   told_of name p = cond (option_map_or (λ p. is_visible p c name) p false) (Some name) None
 
-  pub slug_found : (host name : Text) → Some host ≡ host_in lists o → option_map (λ v. name) (get (visible_versions (project_of lists (row_of host)) c) name) ≡ slug_in lists o c name
-  slug_found host name e = let found = under_host lists o host e in slug_under lists found.0 c host found.1 name ∙ ap (told_of name) (sym found.2)
+  pub slug_found : (host name : Text) → Some host ≡ host_in lists o → ShowsClass lists o c → option_map (λ v. name) (version_in lists host c.pass name) ≡ slug_in lists o c name
+  slug_found host name e own =
+      let found = under_host lists o host e in
+      slug_under lists found.0 c host found.1 c.pass (own (project_of lists found.0) found.2) name ∙ ap (told_of name) (sym found.2)
 
   not_some : (x : Text) → Some x ≡ None → ⊥
   not_some x e = cc

@@ -19,16 +19,15 @@ use Rattle.dh_world.specs.World.{Text}
 use Rattle.dh_records.specs.Lists.{Lists, project_of}
 use Rattle.dh_records.specs.declared.records.ProjectRow.{ProjectRow}
 use Rattle.dh_world.specs.Seen as sight
-use Rattle.dh_classes.specs.Classes.{class_of}
 use Rattle.dh_schema.proofs.CallLemmas.{on_store}
 use Rattle.dh_schema.specs.Calling as call
 use Rattle.dh_schema.specs.Calling.{IsSettled}
 use Rattle.dh_schema.specs.InTurn.{blamed_before, goes_none, goes_on, refused_on, same_none, same_on}
-use Rattle.dh_view.specs.Remembered.{AreLanguages, IsKnown, IsSeen, IsShown}
+use Rattle.dh_view.specs.Remembered.{AreLanguages, IsClassed, IsKnown, IsSeen}
 use Rattle.dh_view.specs.Right.{IsRightAt, IsRightIn}
-use Rattle.dh_view.specs.View.{doubt_of, has_project, host_in, languages_in, meaning_of, project_in, row_of, sees, shown, shown_in, shown_under, shows_pass, slug_in, visible_in, fails_on, looks_on, Asks, Fails, Looks, Obtains}
+use Rattle.dh_view.specs.View.{ShowsClass, doubt_of, has_project, host_in, languages_in, meaning_of, project_in, sees, shown, shown_in, shown_under, slug_in, version_in, fails_on, looks_on, Asks, Fails, Looks, Obtains}
 use Rattle.dh_view.specs.declared.view.View.{View}
-use Rattle.dh_view.proofs.Shown.{languages_found, not_under, pass_found, slug_found, under_host}
+use Rattle.dh_view.proofs.Shown.{not_under, slug_found, under_host}
 
 -- ---- doubt
 
@@ -179,7 +178,7 @@ module _ {S : Type 0} {g : Ghosts S} where
         }
       ]
 
-  looks_from : {T : Type 0} {a b : Held S} {r : Result T Fault} → (IsHonest g a → IsSettled g a) → Asks g a b r → Looks g a b
+  pub looks_from : {T : Type 0} {a b : Held S} {r : Result T Fault} → (IsHonest g a → IsSettled g a) → Asks g a b r → Looks g a b
   looks_from {a = a} {b = b} {r = r} settled p = record {
     lasts = p.goes.lasts;
     unmoved = λ it. record {
@@ -188,7 +187,7 @@ module _ {S : Type 0} {g : Ghosts S} where
     };
   }
 
-  fails_from : {T : Type 0} {a b : Held S} (r : Result T Fault) → Asks g a b r → OnStore r (Fails g a b)
+  pub fails_from : {T : Type 0} {a b : Held S} (r : Result T Fault) → Asks g a b r → OnStore r (Fails g a b)
   fails_from (Ok x) p = tt
   fails_from (Err Memory) p = tt
   fails_from (Err Store) p = record {
@@ -221,7 +220,7 @@ pub record Recalls {S : Type 0} (g : Ghosts S) (v : View S g) (h : Held S) : Typ
   pub is_known : IsKnown g h v.host v.known
   pub is_seen : IsSeen g h v.host v.caller v.slug
   pub are_languages : AreLanguages g h v.host v.langs
-  pub is_shown : IsShown g h v.host v.caller v.shown
+  pub is_classed : IsClassed g h v.host v.caller
 
 -- looks at its tables leave it so
 pub recalls
@@ -232,8 +231,13 @@ recalls v settled looks = record {
   is_known = λ known. still_told (λ l. has_project l v.host ≡ true) settled looks (v.is_known known);
   is_seen = λ slug is. still_told (λ l. sees l v.host v.caller slug ≡ true) settled looks (v.is_seen slug is);
   are_languages = λ langs is. still_told (λ l. langs ≡ languages_in l v.host) settled looks (v.are_languages langs is);
-  is_shown = λ shown is. still_told (λ l. shown ≡ shows_pass l v.host v.caller) settled looks (v.is_shown shown is);
+  is_classed = still_told (λ l. ShowsClass l v.host v.caller) settled looks v.is_classed;
 }
+
+-- what follows from what an answer says
+pub from_answer : {T E : Type 0} {P Q : T → Type 0} (r : Result T E) → ((x : T) → P x → Q x) → IfOk r P → IfOk r Q
+from_answer (Ok x) f h = f x h
+from_answer (Err x) f h = tt
 
 -- an answer that is said in another way
 pub same_answer : {T U E : Type 0} (f : T → U) (r : Result T E) (v w : U) → v ≡ w → IfOk r (λ x. f x ≡ v) → IfOk r (λ x. f x ≡ w)
@@ -302,50 +306,18 @@ module _ {S : Type 0} (g : Ghosts S) where
   -- what stands under the host of a view, where a project does
   module _ {a b : View S g} {o : Option Text} (p : lookup.Asks (meaning_of g) a b (Ok o))
       (value : IsHonest g b.tables.now → o ≡ host_in (seen g lists_of a.tables.now) a.host) where
-    -- the record of the project
-    shown_under_host
-        : (host : Text) → o ≡ Some host → IsHonest g b.tables.now
-        → (row : ProjectRow) × (row.host ≡ host) × (Some (shown_in (seen g lists_of b.tables.now) row b.caller) ≡ shown g a.tables.now a.host a.caller)
-    shown_under_host host is it =
-        let lists = seen g lists_of a.tables.now in
-        let found = under_host lists a.host host (sym is ∙ value it) in (
-          found.0,
-          found.1,
-          ap (λ l. Some (shown_in l found.0 b.caller)) (p.leads.3.unmoved it).same.now_is
-              ∙ ap (λ c. Some (shown_in lists found.0 c)) p.leads.2
-              ∙ ap (option_map (λ q. sight.seen_project q a.caller)) (sym found.2),
-        )
-
-    -- the slug that was looked up by the host alone
+    -- the slug that was looked up by the host and the class alone
     pub slug_under_host
-        : (host name : Text) → o ≡ Some host → IsHonest g b.tables.now
-        → option_map (λ v. name) (get (visible_in (seen g lists_of b.tables.now) host b.caller) name) ≡ slug_in (seen g lists_of a.tables.now) a.host a.caller name
-    slug_under_host host name is it =
+        : (host name : Text) → o ≡ Some host → ShowsClass (seen g lists_of a.tables.now) a.host a.caller → IsHonest g b.tables.now
+        → option_map (λ v. name) (version_in (seen g lists_of b.tables.now) host b.caller.pass name) ≡ slug_in (seen g lists_of a.tables.now) a.host a.caller name
+    slug_under_host host name is own it =
         let lists = seen g lists_of a.tables.now in
-        ap (λ l. option_map (λ v. name) (get (visible_in l host b.caller) name)) (p.leads.3.unmoved it).same.now_is
-        ∙ ap (λ c. option_map (λ v. name) (get (visible_in lists host c) name)) p.leads.2
-        ∙ slug_found lists a.host a.caller host name (sym is ∙ value it)
-
-    -- and the languages
-    pub languages_under_host
-        : (host : Text) → o ≡ Some host → IsHonest g b.tables.now
-        → (project_of (seen g lists_of b.tables.now) (row_of host)).languages ≡ languages_in (seen g lists_of a.tables.now) a.host
-    languages_under_host host is it =
-        ap (λ l. (project_of l (row_of host)).languages) (p.leads.3.unmoved it).same.now_is
-        ∙ languages_found (seen g lists_of a.tables.now) a.host host (sym is ∙ value it)
+        ap (λ l. option_map (λ v. name) (version_in l host b.caller.pass name)) (p.leads.3.unmoved it).same.now_is
+        ∙ ap (λ (c : Caller). option_map (λ v. name) (version_in lists host c.pass name)) p.leads.2
+        ∙ slug_found lists a.host a.caller host name (sym is ∙ value it) own
 
     none_under_host : o ≡ None → IsHonest g b.tables.now → None ≡ shown g a.tables.now a.host a.caller
     none_under_host is it = ap (option_map (λ q. sight.seen_project q a.caller)) (sym (not_under (seen g lists_of a.tables.now) a.host (sym is ∙ value it)))
-
-    -- and whether the caller shows a live pass
-    pub pass_under_host
-        : (host : Text) → o ≡ Some host → IsHonest g b.tables.now
-        → is_some (class_of (project_of (seen g lists_of b.tables.now) (row_of host)) b.caller) ≡ shows_pass (seen g lists_of a.tables.now) a.host a.caller
-    pass_under_host host is it =
-        let lists = seen g lists_of a.tables.now in
-        ap (λ l. is_some (class_of (project_of l (row_of host)) b.caller)) (p.leads.3.unmoved it).same.now_is
-        ∙ ap (λ c. is_some (class_of (project_of lists (row_of host)) c)) p.leads.2
-        ∙ pass_found lists a.host a.caller host (sym is ∙ value it)
 
     -- what a look at the tables by the host alone tells of the project that stands under it
     pub maybe_right
@@ -363,21 +335,18 @@ module _ {S : Type 0} (g : Ghosts S) where
     pub maybe_none_under : {U : Type 0} (f : SeenProject → Option U) → o ≡ None → doubt_of g b.tables.now ≡ 0 → None ≡ option_and_then f (shown g a.tables.now a.host a.caller)
     maybe_none_under f is d = ap (option_and_then f) (none_under_host is (honest g b.tables.now d))
 
-    -- the same of a list
+    -- the same of a list, of which a fact is told
     pub all_under
-        : {U Z : Type 0} {h : Held S} {r : Result (Vec U Z) Fault} {v : List U} (f : SeenProject → List U) (host : Text) → o ≡ Some host
-        → ((row : ProjectRow) → row.host ≡ host → v ≡ f (shown_in (seen g lists_of b.tables.now) row b.caller)) → Asks g b.tables.now h r → (IsHonest g h → IfOk r (λ list. list.items ≡ v))
+        : {U Z : Type 0} {h : Held S} {r : Result (Vec U Z) Fault} (Fact : List U → Type 0) (f : SeenProject → List U) (host : Text) → o ≡ Some host
+        → (IsHonest g b.tables.now → (row : ProjectRow) → row.host ≡ host → project_in (seen g lists_of a.tables.now) a.host ≡ Some (project_of (seen g lists_of a.tables.now) row)
+        → (v : List U) → Fact v → v ≡ f (shown_in (seen g lists_of a.tables.now) row a.caller))
+        → Asks g b.tables.now h r → (IsHonest g h → IfOk r (λ list. Fact list.items))
         → doubt_of g h ≡ 0 → IfOk r (λ list. list.items ≡ option_map_or f (shown g a.tables.now a.host a.caller) [])
-    all_under {h = h} {r = r} f host is e asks reads d =
+    all_under {h = h} {r = r} Fact f host is e asks told d =
         let it = honest g h d in
-        let found = shown_under_host host is (asks.goes.lasts.was it) in
-        same_answer (λ list. list.items) r _ _ (e found.0 found.1 ∙ ap (λ o. option_map_or f o []) found.2) (reads it)
+        let before = asks.goes.lasts.was it in
+        let found = under_host (seen g lists_of a.tables.now) a.host host (sym is ∙ value before) in
+        from_answer r (λ list fact. e before found.0 found.1 found.2 list.items fact ∙ ap (λ q. option_map_or f (option_map (λ q. sight.seen_project q a.caller) q) []) (sym found.2)) (told it)
 
     pub all_none_under : {U : Type 0} {list : List U} (f : SeenProject → List U) → list ≡ [] → o ≡ None → doubt_of g b.tables.now ≡ 0 → list ≡ option_map_or f (shown g a.tables.now a.host a.caller) []
     all_none_under f e is d = e ∙ ap (λ o. option_map_or f o []) (none_under_host is (honest g b.tables.now d))
-
--- ---- answers
-
-pub from_answer : {T E : Type 0} {P Q : T → Type 0} (r : Result T E) → ((x : T) → P x → Q x) → IfOk r P → IfOk r Q
-from_answer (Ok x) f h = f x h
-from_answer (Err x) f h = tt

@@ -1,4 +1,4 @@
--- What a view remembers of what the tables told it. It names no type of this crate, whose ghost fields cite it.
+-- What a view remembers of what the tables told it, and what it is told of its caller. It names no type of this crate, whose ghost fields cite it.
 use Rattle.std.specs.Prelude.{◌≡◌, Bool, true, false, if◌then◌else◌, List, [], Option, Some, None, is_some, option_and_then}
 use Rattle.std.specs.Option.{option_map_or}
 use Rattle.std.specs.FinMap.{get}
@@ -31,9 +31,9 @@ slug_in l host caller slug = if sees l host caller slug then Some slug else None
 abbrev pub languages_in : Lists → Option Text → List Text
 languages_in l host = option_map_or (λ p. p.languages) (project_in l host) []
 
--- the caller shows a pass of it that is live
-abbrev pub shows_pass : Lists → Option Text → Caller → Bool
-shows_pass l host caller = is_some (option_and_then (λ p. class_of p caller) (project_in l host))
+-- the pass that the caller shows, or none, is his class in it
+abbrev pub ShowsClass : Lists → Option Text → Caller → Type 0
+ShowsClass l host caller = (p : Project) → project_in l host ≡ Some p → class_of p caller ≡ caller.pass
 
 module _ {S : Type 0} (g : Ghosts S) (h : Held S) (host : Option Text) where
   -- a project that was found stands
@@ -50,7 +50,6 @@ module _ {S : Type 0} (g : Ghosts S) (h : Held S) (host : Option Text) where
   AreLanguages read =
       (langs : List Text) → read ≡ Some langs → HasRecords g h (λ l. langs ≡ languages_in l host)
 
-  -- whether the caller shows a live pass is as it was found
-  abbrev pub IsShown : Caller → Option Bool → Type 0
-  IsShown caller found =
-      (shown : Bool) → found ≡ Some shown → HasRecords g h (λ l. shown ≡ shows_pass l host caller)
+  -- the caller is one who shows his class as his pass
+  abbrev pub IsClassed : Caller → Type 0
+  IsClassed caller = HasRecords g h (λ l. ShowsClass l host caller)

@@ -1,10 +1,10 @@
 -- What a view of the tables shows, and what looks at them leave.
-use Rattle.std.specs.Prelude.{◌≡◌, ◌⊎◌, ℕ, Bool, ◌&&◌, if◌then◌else◌, List, [], Option, None, Result, OnOk, is_some, true, false}
+use Rattle.std.specs.Prelude.{◌≡◌, ◌⊎◌, ℕ, Bool, ◌&&◌, if◌then◌else◌, List, [], map, filter, Option, None, Result, OnOk, is_some, true, false}
 use Rattle.std.proofs.Common.{inl, inr, ◌∙◌, sym}
 use Rattle.std.proofs.lemmas.Bool.{cases_Bool}
 use Rattle.std.specs.List.{list_any, AllByRecursion}
 use Rattle.std.specs.Str.{bytes_eq}
-use Rattle.std.specs.FinMap.{FinMap}
+use Rattle.std.specs.FinMap.{get}
 use Rattle.sqlite_trees.specs.View.{doubt}
 use Rattle.sqlite_trees.specs.declared.store.Store.{Ghosts}
 use Rattle.sqlite.specs.State.{HasCleanDisk}
@@ -19,14 +19,15 @@ use Rattle.dh_records.specs.declared.records.VersionRow.{VersionRow}
 use Rattle.dh_records.specs.declared.records.HeldRow.{HeldRow}
 use Rattle.dh_records.specs.declared.records.ProjectRow.{ProjectRow}
 use Rattle.dh_world.specs.declared.caller.Caller.{Caller}
-use Rattle.dh_world.specs.World.{Text, text_cmp}
-use Rattle.dh_world.specs.Visibility.{live_pass, holds, may_see}
+use Rattle.dh_world.specs.World.{Text}
+use Rattle.dh_world.specs.Visibility.{may_see}
+use Rattle.dh_classes.specs.Classes.{class_holds, versions_for}
 use Rattle.dh_world.specs.Seen as sight
 use Rattle.dh_schema.specs.Calling.{Blames, IsSettled, Learns}
 use Rattle.dh_schema.specs.InTurn.{blamed_before, lasts_none, lasts_on, same_none, same_on, shut_before}
-use Rattle.dh_records.specs.Lists.{Lists, project_of, world_of}
+use Rattle.dh_records.specs.Lists.{Lists, is_version_of, project_of, world_of}
 use Rattle.dh_schema.specs.Tables.{lists_of}
-pub use Rattle.dh_view.specs.Remembered.{has_project, languages_in, project_in, sees, shows_pass, slug_in}
+pub use Rattle.dh_view.specs.Remembered.{ShowsClass, has_project, languages_in, project_in, sees, slug_in}
 use Rattle.dh_view.specs.declared.view.View.{View}
 
 -- ---- what a caller sees of the records
@@ -60,14 +61,20 @@ shown_under l host caller = sight.seen (world_of l) host caller
 abbrev pub row_of : Text → ProjectRow
 row_of host = record { host = host; main = []; branch = []; wkey = []; new_private = false }
 
-module _ (l : Lists) (host : Text) (caller : Caller) where
-  -- the caller's live pass holds the version
+module _ (l : Lists) (host : Text) (class : Option Text) where
+  -- the class holds the version
   abbrev pub held_in : Text → Bool
-  held_in slug =
-      holds (project_of l (row_of host)) (live_pass (project_of l (row_of host)) caller) slug
+  held_in slug = class_holds (project_of l (row_of host)) class slug
 
-  abbrev pub visible_in : FinMap text_cmp Version
-  visible_in = sight.visible_versions (project_of l (row_of host)) caller
+  -- the version with the slug, where the class sees it
+  abbrev pub version_in : Text → Option Version
+  version_in slug = get (versions_for (project_of l (row_of host)) class) slug
+
+  -- the versions that it sees
+  abbrev pub versions_in : List Version
+  versions_in =
+      map (λ r. r.version)
+      (filter (λ r. may_see r.version (held_in r.version.slug)) (filter (is_version_of host) l.versions))
 
 module _ (l : Lists) (row : ProjectRow) (caller : Caller) where
   -- the project as the caller sees it

@@ -1,17 +1,16 @@
 //! What a caller sees of the tables, as a `Lookup`.
 
 ghost use Rattle.std.specs.Prelude.{◌≡◌};
-ghost use Rattle.dh_view.specs.Remembered.{AreLanguages, IsKnown, IsSeen, IsShown};
+ghost use Rattle.dh_view.specs.Remembered.{AreLanguages, IsClassed, IsKnown, IsSeen};
 ghost use Rattle.dh_view.specs.Right.{IsRightAt};
 
 mod aliases;
-mod languages;
 mod looking;
 mod redirects;
 mod versions;
 
 use dh_lookup::Items;
-use dh_paths::{HostName, Lang, Slug};
+use dh_paths::{HostName, Lang, Slug, Token};
 use dh_store::Tables;
 use dh_world::Caller;
 pub use looking::doubt_is_of_the_store;
@@ -21,10 +20,12 @@ use std::alloc::Global;
 /// The project under a host, as a caller sees it. Within a transaction each look answers `Store`.
 /// Outside one a look does so only where the store counted a fault in it or was shut before it.
 /// What a look was told once the tables are not asked again, where there was memory to keep it. What names stand for and
-/// where redirects lead is read from the rows that are derived, which are right.
+/// where redirects lead is read from the rows that are derived, which are right. Whether the caller's pass is live is
+/// not asked: he shows one that is, or none.
 #[derive(Drop)]
 pub struct View<'a, S: Alter> {
     tables: &'a mut Tables<S>,
+    alloc: Global,
     host: Option<HostName>,
     caller: Caller,
     /// Whether a project was found under the host.
@@ -33,19 +34,23 @@ pub struct View<'a, S: Alter> {
     slug: Option<Slug>,
     /// The languages, once they were read.
     langs: Option<Items<Lang>>,
-    /// Whether the caller shows a live pass, once it was looked for.
-    shown: Option<bool>,
     ghost right: { IsRightAt S.Store tables.now host },
+    ghost is_classed: { IsClassed S.Store tables.now host caller },
     ghost is_known: { IsKnown S.Store tables.now host known },
     ghost is_seen: { IsSeen S.Store tables.now host caller slug },
     ghost are_languages: { AreLanguages S.Store tables.now host langs },
-    ghost is_shown: { IsShown S.Store tables.now host caller shown },
 }
 
 impl<'a, S: Alter> View<'a, S> {
-    /// What the caller sees under the host; no host has no project.
-    pub fn new(tables: &'a mut Tables<S>, host: Option<HostName>, caller: Caller) -> View<'a, S>
+    /// What the caller sees under the host, who shows his class in its project as his pass; no host has no project.
+    pub fn new(
+        alloc: Global,
+        tables: &'a mut Tables<S>,
+        host: Option<HostName>,
+        caller: Caller,
+    ) -> View<'a, S>
         requires right { IsRightAt S.Store tables.old host }
+        requires is_classed { IsClassed S.Store tables.old host caller }
         ensures same { result.tables.ghost_name ≡ tables.entry.ghost_name }
         ensures now { result.tables.now ≡ tables.old }
         ensures host { result.host ≡ host }
@@ -53,12 +58,12 @@ impl<'a, S: Alter> View<'a, S> {
     {
         View {
             tables,
+            alloc,
             host,
             caller,
             known: false,
             slug: None,
             langs: None,
-            shown: None,
         }
     }
 
@@ -69,34 +74,30 @@ impl<'a, S: Alter> View<'a, S> {
     {
         let View {
             tables,
+            alloc: _alloc,
             host: _host,
             caller: _caller,
             known: _known,
             slug: _slug,
             langs: _langs,
-            shown: _shown,
         } = self;
         tables
     }
 }
 
-/// What stands under a host, with a caller; looks at it take memory from the allocator.
+/// What stands under a host, with a class of callers; looks at it take memory from the allocator.
 #[derive(Clone, Copy)]
 struct HostView<'a> {
     alloc: Global,
     host: &'a HostName,
-    caller: &'a Caller,
+    class: &'a Option<Token>,
 }
 
 impl<'a> HostView<'a> {
-    fn new(alloc: Global, host: &'a HostName, caller: &'a Caller) -> HostView<'a>
+    fn new(alloc: Global, host: &'a HostName, class: &'a Option<Token>) -> HostView<'a>
         ensures host { result.host.now ≡ host.now }
-        ensures caller { result.caller.now ≡ caller.now }
+        ensures class { result.class.now ≡ class.now }
     {
-        HostView {
-            alloc,
-            host,
-            caller,
-        }
+        HostView { alloc, host, class }
     }
 }

@@ -1,6 +1,6 @@
 //! The looks of a view. Each fact that a view remembers is asked of the tables where it is not remembered yet.
 
-ghost use Rattle.std.specs.Prelude.{◌≡◌, ◌↔◌, IfOk, IfSome, IsTrue, OnOk, is_some};
+ghost use Rattle.std.specs.Prelude.{◌≡◌, ◌↔◌, IfOk, IfSome, IsTrue, OnOk, is_some, slice_get};
 ghost use Rattle.std.proofs.Common.{◌∙◌, refl};
 ghost use Rattle.sqlite.specs.Held.{Held};
 ghost use Rattle.dh_rows.specs.Calls.{IsHonest};
@@ -17,7 +17,7 @@ use super::aliases::{as_alias, as_text, class_text};
 use super::{HostView, View};
 use dh_lookup::{Fault, Found, Items, Lookup, Named, Page};
 use dh_paths::{HostName, Lang, Slug, Text};
-use dh_records::AliasName;
+use dh_records::{AliasName, LangRow};
 use dh_redirects::{Asked, Location};
 use dh_versions::Version;
 use sqlite::Alter;
@@ -25,19 +25,21 @@ use std::alloc::{AllocError, Global};
 
 // ---- the project
 
+/// Whether there is one.
+fn has_first(langs: &[Lang]) -> bool
+    ensures { result ≡ is_some (slice_get langs.now 0) }
+{
+    langs.first().is_some()
+}
+
 impl<'a, S: Alter> View<'a, S> {
-    /// Whether there is a project under the host, asked of the tables.
+    /// Whether there is a project under the host, asked of the tables: it has languages, which are kept.
     fn ask_known(&mut self) -> Result<bool, Fault>
         ensures { LooksUp S.Store self.old self.new result
             (λ l o. o ≡ view.has_project l self.old.host) }
     {
-        if !self.tables.is_settled() {
-            return Err(Fault::Store);
-        }
-        match &self.host {
-            Some(host) => self.tables.has_project(host),
-            None => Ok(false),
-        }
+        let langs = self.find_langs()?;
+        Ok(has_first(langs.as_slice()))
     }
 
     /// Whether there is one; the tables are asked until there is.
@@ -105,7 +107,7 @@ impl<'a, S: Alter> View<'a, S> {
     {
         match self.opened(alloc)? {
             Some(host) => {
-                HostView::new(alloc, &host, &self.caller).visible_slug(self.tables, name)
+                HostView::new(alloc, &host, &self.caller.pass).visible_slug(self.tables, name)
             }
             None => Ok(None),
         }
@@ -136,74 +138,21 @@ impl<'a, S: Alter> View<'a, S> {
 // ---- what names stand for
 
 impl<'a, S: Alter> View<'a, S> {
-    /// Whether the caller shows a live pass, if it was looked for before.
-    fn noted_pass(&self) -> Option<bool>
-        ensures read { IfSome result (λ shown. HasRecords S.Store self.now.tables.now
-            (λ l. shown ≡ view.shows_pass l self.now.host self.now.caller)) }
-        ensures settled { IsTrue (is_some result)
-            → IsHonest S.Store self.now.tables.now → IsSettled S.Store self.now.tables.now }
-    {
-        match self.shown {
-            Some(shown) if self.tables.is_settled() => Some(shown),
-            _ => None,
-        }
-    }
-
-    /// Keeps whether he does.
-    fn note_pass(&mut self, shown: bool)
-        requires read { HasRecords S.Store self.old.tables.now
-            (λ l. shown ≡ view.shows_pass l self.old.host self.old.caller) }
-        ensures same { self.new.tables.ghost_name ≡ self.old.tables.ghost_name }
-        ensures now { self.new.tables.now ≡ self.old.tables.now }
-        ensures host { self.new.host ≡ self.old.host }
-        ensures caller { self.new.caller ≡ self.old.caller }
-    {
-        self.shown = Some(shown);
-    }
-
-    /// Whether he does, asked of the tables.
-    fn ask_pass(&mut self, alloc: Global) -> Result<bool, Fault>
-        ensures { LooksUp S.Store self.old self.new result
-            (λ l shown. shown ≡ view.shows_pass l self.old.host self.old.caller) }
-    {
-        match self.opened(alloc)? {
-            Some(host) => HostView::new(alloc, &host, &self.caller).shows_pass(self.tables),
-            None => Ok(false),
-        }
-    }
-
-    /// The same, which is kept.
-    fn find_pass(&mut self, alloc: Global) -> Result<bool, Fault>
-        ensures { LooksUp S.Store self.old self.new result
-            (λ l shown. shown ≡ view.shows_pass l self.old.host self.old.caller) }
-    {
-        let shown = self.ask_pass(alloc)?;
-        self.note_pass(shown);
-        Ok(shown)
-    }
-
-    /// Whether he does; the tables are asked once.
-    fn shows_pass(&mut self, alloc: Global) -> Result<bool, Fault>
-        ensures { LooksUp S.Store self.old self.new result
-            (λ l shown. shown ≡ view.shows_pass l self.old.host self.old.caller) }
-    {
-        match self.noted_pass() {
-            Some(shown) => Ok(shown),
-            None => self.find_pass(alloc),
-        }
-    }
-
     /// What a name stands for, to the caller's class.
     fn kept(&mut self, alloc: Global, name: AliasName) -> Found<Slug>
         ensures asks { Asks (meaning_of S.Store) self.old self.new result }
         ensures value { TellsMaybe (meaning_of S.Store) self.old self.new result (stands_for name) }
     {
-        let live = self.shows_pass(alloc)?;
+        if !self.tables.is_settled() {
+            return Err(Fault::Store);
+        }
+        let class = &self.caller.pass;
         match &self.host {
-            Some(host) => {
-                let class = class_text(&self.caller, live);
-                HostView::new(alloc, host, &self.caller).kept(self.tables, class, name)
-            }
+            Some(host) => HostView::new(alloc, host, class).kept(
+                self.tables,
+                class_text(class),
+                name,
+            ),
             None => Ok(None),
         }
     }
@@ -274,23 +223,26 @@ impl<'a, S: Alter> View<'a, S> {
     }
 
     /// The languages, asked of the tables.
-    fn ask_langs(&mut self, alloc: Global) -> Result<Vec<Lang>, Fault>
+    fn ask_langs(&mut self) -> Result<Vec<Lang>, Fault>
         ensures { LooksUp S.Store self.old self.new result
             (λ l langs. langs.items ≡ view.languages_in l self.old.host) }
     {
-        match self.opened(alloc)? {
-            Some(host) => HostView::new(alloc, &host, &self.caller).all_langs(self.tables),
-            None => Ok(Vec::new(alloc)),
+        if !self.tables.is_settled() {
+            return Err(Fault::Store);
+        }
+        match &self.host {
+            Some(host) => self.tables.list::<LangRow>(self.alloc, host),
+            None => Ok(Vec::new(self.alloc)),
         }
     }
 
     /// The same, which are kept.
-    fn find_langs(&mut self, alloc: Global) -> Result<Vec<Lang>, Fault>
+    fn find_langs(&mut self) -> Result<Vec<Lang>, Fault>
         ensures { LooksUp S.Store self.old self.new result
             (λ l langs. langs.items ≡ view.languages_in l self.old.host) }
     {
-        let langs = self.ask_langs(alloc)?;
-        self.note_langs(alloc, langs.as_slice());
+        let langs = self.ask_langs()?;
+        self.note_langs(self.alloc, langs.as_slice());
         Ok(langs)
     }
 }
@@ -305,7 +257,7 @@ impl<'a, S: Alter> View<'a, S> {
             (λ p. first_result forced p.redirects asked.now) }
     {
         match self.opened(alloc)? {
-            Some(host) => HostView::new(alloc, &host, &self.caller).redirected(
+            Some(host) => HostView::new(alloc, &host, &self.caller.pass).redirected(
                 self.tables,
                 forced,
                 asked,
@@ -354,7 +306,7 @@ impl<'a, S: Alter> Lookup for View<'a, S> {
     fn langs(&mut self, alloc: Global) -> Result<Vec<Lang>, Fault> {
         match self.noted_langs(alloc)? {
             Some(langs) => Ok(langs),
-            None => self.find_langs(alloc),
+            None => self.find_langs(),
         }
     }
 
@@ -378,7 +330,7 @@ impl<'a, S: Alter> Lookup for View<'a, S> {
 
     fn listing(&mut self, alloc: Global) -> Result<Vec<Version>, Fault> {
         match self.opened(alloc)? {
-            Some(host) => HostView::new(alloc, &host, &self.caller).all_visible(self.tables),
+            Some(host) => HostView::new(alloc, &host, &self.caller.pass).all_visible(self.tables),
             None => Ok(Vec::new(alloc)),
         }
     }

@@ -1,43 +1,22 @@
 //! The versions that a caller sees, and the grants that open the private ones.
 
-ghost use Rattle.std.specs.Prelude.{◌≡◌, false, map, filter, [], IfOk};
+ghost use Rattle.std.specs.Prelude.{◌≡◌, map, filter, [], IfOk};
 ghost use Rattle.std.specs.List.{list_any};
-ghost use Rattle.std.specs.Option.{option_map, option_map_or};
-ghost use Rattle.std.specs.FinMap.{get, keys, values};
-ghost use Rattle.dh_records.specs.Lists.{project_of};
+ghost use Rattle.std.specs.Option.{option_map};
+ghost use Rattle.dh_records.specs.Constraints.{RiseBySlug};
+ghost use Rattle.dh_records.specs.Lists.{is_version_of};
 ghost use Rattle.dh_view.specs.View as view;
-ghost use Rattle.dh_view.specs.View.{Obtains, Reads, OpensAs, ShowsAs, held_in, is_shown, row_of, visible_in};
+ghost use Rattle.dh_view.specs.View.{Obtains, Reads, OpensAs, ShowsAs, held_in, is_shown, version_in, versions_in};
 ghost use Rattle.dh_world.specs.Visibility as visibility;
 
 use crate::view::HostView;
 use dh_lookup::{Fault, Found};
-use dh_paths::{Slug, Token};
-use dh_records::{HeldRow, PassRow, VersionRow};
+use dh_paths::Slug;
+use dh_records::{HeldRow, VersionRow};
 use dh_store::Tables;
 use dh_versions::Version;
-use dh_world::PassEnd;
 use sqlite::Alter;
 use std::alloc::{AllocError, Global};
-
-/// Whether the moment comes before the end, where there is one.
-fn is_before(moment: u64, until: &Option<PassEnd>) -> bool
-    ensures { result ≡ visibility.is_before moment until.now }
-{
-    match until {
-        Some(end) => moment < end.second(),
-        None => true,
-    }
-}
-
-/// Whether a pass that was looked up is there, and has not ended at a moment.
-fn is_live_at(moment: u64, found: &Option<PassRow>) -> bool
-    ensures { result ≡ option_map_or (λ row. visibility.is_before moment row.until) found.now false }
-{
-    match found {
-        Some(row) => is_before(moment, &row.until),
-        None => false,
-    }
-}
 
 fn may_see(version: &Version, held: bool) -> bool
     ensures { result ≡ visibility.may_see version.now held }
@@ -86,39 +65,22 @@ fn versions_of(alloc: Global, rows: Vec<VersionRow>) -> Result<Vec<Version>, All
 }
 
 impl HostView<'_> {
-    /// Whether a pass is one of the host's that has not ended when the caller reads.
-    pub fn is_live<S: Alter>(&self, tables: &mut Tables<S>, pass: &Token) -> Result<bool, Fault>
-        ensures { Reads S.Store tables.old tables.new result
-            (λ l. visibility.is_live (project_of l (row_of self.now.host.now))
-            self.now.caller.now.moment pass.now) }
-    {
-        let found = tables.pass(self.alloc, self.host, pass)?;
-        Ok(is_live_at(self.caller.moment, &found))
-    }
-
-    /// Whether the caller's pass is live, and holds the version.
+    /// Whether the class holds the version.
     fn is_held<S: Alter>(&self, tables: &mut Tables<S>, slug: &Slug) -> Result<bool, Fault>
         ensures { Reads S.Store tables.old tables.new result
-            (λ l. held_in l self.now.host.now self.now.caller.now slug.now) }
+            (λ l. held_in l self.now.host.now self.now.class.now slug.now) }
     {
-        match &self.caller.pass {
-            Some(pass) => {
-                let live = self.is_live(tables, pass)?;
-                if live {
-                    tables.held(self.host, pass, slug)
-                } else {
-                    Ok(false)
-                }
-            }
+        match self.class {
+            Some(pass) => tables.held(self.host, pass, slug),
             None => Ok(false),
         }
     }
 
-    /// Whether the caller may see a version of the project. Only of a private one is the pass asked.
+    /// Whether the class may see a version of the project. Only of a private one are its grants asked.
     fn is_seen<S: Alter>(&self, tables: &mut Tables<S>, version: &Version) -> Result<bool, Fault>
         ensures { Reads S.Store tables.old tables.new result
             (λ l. visibility.may_see version.now
-            (held_in l self.now.host.now self.now.caller.now version.now.slug)) }
+            (held_in l self.now.host.now self.now.class.now version.now.slug)) }
     {
         if !version.private {
             return Ok(version.active);
@@ -130,7 +92,7 @@ impl HostView<'_> {
     /// The visible version with this slug.
     pub fn visible_version<S: Alter>(&self, tables: &mut Tables<S>, name: &str) -> Found<Version>
         ensures { Reads S.Store tables.old tables.new result
-            (λ l. get (visible_in l self.now.host.now self.now.caller.now) name.now) }
+            (λ l. version_in l self.now.host.now self.now.class.now name.now) }
     {
         match tables.version(self.alloc, self.host, name)? {
             Some(row) => Ok(self.is_seen(tables, &row.version)?.then_some(row.version)),
@@ -141,7 +103,7 @@ impl HostView<'_> {
     /// The slug, where there is a visible version with it.
     pub fn visible_slug<S: Alter>(&self, tables: &mut Tables<S>, name: &str) -> Found<Slug>
         ensures { Reads S.Store tables.old tables.new result (λ l. option_map (λ _. name.now)
-            (get (visible_in l self.now.host.now self.now.caller.now) name.now)) }
+            (version_in l self.now.host.now self.now.class.now name.now)) }
     {
         match self.visible_version(tables, name)? {
             Some(version) => Ok(Some(version.slug)),
@@ -149,25 +111,18 @@ impl HostView<'_> {
         }
     }
 
-    /// What the caller's pass holds, if it is live.
+    /// What the class holds.
     fn grants_of<S: Alter>(&self, tables: &mut Tables<S>) -> Result<Vec<HeldRow>, Fault>
         ensures { Obtains S.Store tables.old tables.new result
-            (λ l grants. OpensAs grants.items (held_in l self.now.host.now self.now.caller.now)) }
+            (λ l grants. OpensAs grants.items (held_in l self.now.host.now self.now.class.now)) }
     {
-        match &self.caller.pass {
-            Some(pass) => {
-                let live = self.is_live(tables, pass)?;
-                if live {
-                    tables.held_by(self.alloc, self.host, pass)
-                } else {
-                    Ok(no_grants(self.alloc))
-                }
-            }
+        match self.class {
+            Some(pass) => tables.held_by(self.alloc, self.host, pass),
             None => Ok(no_grants(self.alloc)),
         }
     }
 
-    /// The grants that decide which of these versions the caller may see. Where none is private no
+    /// The grants that decide which of these versions the class may see. Where none is private no
     /// grant does, and none is looked for.
     fn grants_for<S: Alter>(
         &self,
@@ -176,7 +131,7 @@ impl HostView<'_> {
     ) -> Result<Vec<HeldRow>, Fault>
         ensures { Obtains S.Store tables.old tables.new result
             (λ l grants. ShowsAs rows.now grants.items
-            (held_in l self.now.host.now self.now.caller.now)) }
+            (held_in l self.now.host.now self.now.class.now)) }
     {
         if any_private(rows) {
             self.grants_of(tables)
@@ -188,9 +143,8 @@ impl HostView<'_> {
     /// The visible versions in the order of their slugs.
     pub fn all_visible<S: Alter>(&self, tables: &mut Tables<S>) -> Result<Vec<Version>, Fault>
         ensures { Obtains S.Store tables.old tables.new result
-            (λ l v. (v.items ≡ values (visible_in l self.now.host.now self.now.caller.now))
-            × (map (λ x. x.slug) v.items
-            ≡ keys (visible_in l self.now.host.now self.now.caller.now))) }
+            (λ l v. (v.items ≡ versions_in l self.now.host.now self.now.class.now)
+            × RiseBySlug (filter (is_version_of self.now.host.now) l.versions)) }
     {
         let rows = tables.versions(self.alloc, self.host)?;
         let grants = self.grants_for(tables, rows.as_slice())?;

@@ -5,7 +5,7 @@ use Rattle.dh_desk.proofs.Keeping.{rows_right}
 use Rattle.dh_desk.proofs.reads.look.Goals as goal
 
 pub new-view-requires : goal.new-view-requires
-new-view-requires g c = record { right = rows_right g.S.Store c.args.tables.now c.requires c.args.host }
+new-view-requires g c = record { right = rows_right g.S.Store c.args.tables.now c.requires.consistent c.args.host; is_classed = c.requires.is_classed }
 
 pub returns-clause-value : goal.returns-clause-value
 returns-clause-value g c honest =

@@ -2,7 +2,8 @@ use Rattle.std.proofs.Common.{rules, ◌∙◌, ap, map, subst}
 use Rattle.dh_rows.specs.Calls.{seen}
 use Rattle.dh_schema.specs.Tables.{lists_of}
 use Rattle.dh_records.specs.Constraints.{RiseBySlug}
-use Rattle.dh_view.proofs.Shown.{kept_are, values_are, keys_are}
+use Rattle.dh_records.specs.declared.records.VersionRow.{VersionRow}
+use Rattle.dh_view.proofs.Shown.{kept_are}
 use Rattle.dh_view.proofs.ViewLemmas.{asked, asks_on, obtains_handed, still}
 use Rattle.dh_view.specs.View.{row_of}
 use Rattle.dh_view.proofs.view.HostView.all_visible.Goals as goal
@@ -18,11 +19,11 @@ returns g c = record {
   value = λ honest.
       let before = c.grants_for.ensures.asks.goes.lasts.was honest in
       let lists = seen g.S.Store lists_of c.args.tables.now in
-      let found = c.in_ok-rows.ensures.value before in
-      let rise = subst RiseBySlug found.0 found.1 in
-      let kept = kept_are lists (row_of c.args.self.now.host.now) c.args.self.now.caller.now (seen g.S.Store lists_of c.versions.new.self) c.in_ok-grants.grants.items c.as_slice-2.result.now c.in_ok-rows.rows.items c.as_slice.result.now c.only_visible.result.items
-      (still (asked c.in_ok-rows.ensures.asks) before) found.0 c.as_slice.ensures.value c.as_slice-2.ensures.value c.only_visible.ensures (c.in_ok-grants.ensures.value honest) in (
-        c.in_ok-versions_of.ensures ∙ values_are lists (row_of c.args.self.now.host.now) c.args.self.now.caller.now c.only_visible.result.items rise kept,
-        ap (map (λ v. v.slug)) c.in_ok-versions_of.ensures ∙ keys_are lists (row_of c.args.self.now.host.now) c.args.self.now.caller.now c.only_visible.result.items rise kept,
+      let found = c.in_ok-rows.ensures.value before in (
+        c.in_ok-versions_of.ensures
+            ∙ ap (map (λ (r : VersionRow). r.version))
+            (kept_are lists (row_of c.args.self.now.host.now) c.args.self.now.class.now (seen g.S.Store lists_of c.versions.new.self) c.in_ok-grants.grants.items c.as_slice-2.result.now c.in_ok-rows.rows.items c.as_slice.result.now c.only_visible.result.items
+            (still (asked c.in_ok-rows.ensures.asks) before) found.0 c.as_slice.ensures.value c.as_slice-2.ensures.value c.only_visible.ensures (c.in_ok-grants.ensures.value honest)),
+        subst RiseBySlug found.0 found.1,
       );
 }

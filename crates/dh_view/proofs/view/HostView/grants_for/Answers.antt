@@ -9,5 +9,5 @@ pub returns-else-any_private : goal.returns-else-any_private
 returns-else-any_private g c = record {
   asks = search rules;
   value = λ honest.
-      none_private c.no_grants.result.items (held_in (seen g.S.Store lists_of c.args.tables.now) c.args.self.now.host.now c.args.self.now.caller.now) c.args.rows.now (sym c.any_private.ensures ∙ c.if-any_private.false);
+      none_private c.no_grants.result.items (held_in (seen g.S.Store lists_of c.args.tables.now) c.args.self.now.host.now c.args.self.now.class.now) c.args.rows.now (sym c.any_private.ensures ∙ c.if-any_private.false);
 }

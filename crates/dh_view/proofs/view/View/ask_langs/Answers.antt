@@ -1,30 +1,25 @@
-use Rattle.std.proofs.Common.{refl, rules, sym, ◌∙◌}
+use Rattle.std.proofs.Common.{refl, rules, ◌∙◌}
 use Rattle.dh_rows.specs.Calls.{seen}
 use Rattle.dh_schema.specs.Tables.{lists_of}
-use Rattle.dh_view.proofs.Shown.{languages_none}
-use Rattle.dh_view.proofs.ViewLemmas.{languages_under_host, recalls, same_answer, settled_on, view_on}
+use Rattle.dh_view.proofs.Shown.{languages_none, languages_right}
+use Rattle.dh_view.proofs.ViewLemmas.{asked, same_answer, view_asks}
 use Rattle.dh_view.proofs.view.View.ask_langs.Goals as goal
 
 pub returns-in-Some : goal.returns-in-Some
 returns-in-Some g c = record {
-  asks = view_on g.S.Store c.in_ok-host.ensures.asks (refl, refl, refl) c.in_ok-host.ensures.settled c.all_langs.ensures.asks;
-  settled = settled_on c.all_langs.result c.in_ok-host.ensures.settled c.all_langs.ensures.asks;
+  asks = view_asks g.S.Store (refl, refl, refl) (search rules) (asked c.list.ensures.asks);
+  settled = search rules;
   value = λ it.
-      same_answer (λ langs. langs.items) c.all_langs.result _ _
-      (languages_under_host g.S.Store c.in_ok-host.ensures.asks c.in_ok-host.ensures.value c.in-Some.host c.in-Some.is (c.all_langs.ensures.asks.goes.lasts.was it))
-      ((rw c.new.ensures.host at c.all_langs.ensures.value) it);
+      let view = c.args.self.now in
+      let before = c.list.ensures.asks.goes.lasts.was it in
+      same_answer (λ langs. langs.items) c.list.result _ _
+      (languages_right (seen g.S.Store lists_of view.tables.now) view.host c.in-Some.host c.in-Some.is (view.right c.in-Some.host c.in-Some.is before).first)
+      (c.list.ensures.value it);
 }
 
 pub returns-in-None : goal.returns-in-None
 returns-in-None g c = record {
   asks = search rules;
-  settled = c.in_ok-host.ensures.settled;
-  value = λ it.
-      c.new-in-None.ensures.items
-      ∙ languages_none (seen g.S.Store lists_of c.args.self.now.tables.now) c.args.self.now.host (sym c.in-None.is ∙ c.in_ok-host.ensures.value it);
+  settled = search rules;
+  value = λ it. c.new.ensures.items ∙ languages_none (seen g.S.Store lists_of c.args.self.now.tables.now) c.args.self.now.host c.in-None.is;
 }
-
-pub invariant_of-self : goal.invariant_of-self
-invariant_of-self g c =
-    let it = recalls c.opened.new.self c.in_ok-host.ensures.settled c.all_langs.ensures.asks in
-    record { right = it.right; is_known = it.is_known; is_seen = it.is_seen; are_languages = it.are_languages; is_shown = it.is_shown }

@@ -32,4 +32,4 @@ returns-in-None-clause-value g c =
 pub invariant_of-self : goal.invariant_of-self
 invariant_of-self g c =
     let it = recalls c.opened.new.self c.in_ok-host.ensures.settled c.redirected.ensures.asks in
-    record { right = it.right; is_known = it.is_known; is_seen = it.is_seen; are_languages = it.are_languages; is_shown = it.is_shown }
+    record { right = it.right; is_known = it.is_known; is_seen = it.is_seen; are_languages = it.are_languages; is_classed = it.is_classed }
