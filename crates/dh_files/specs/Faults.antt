@@ -8,7 +8,8 @@ use Rattle.dh_opening.specs.declared.fault.TablesFault.{TablesFault}
 use Rattle.dh_opening.specs.declared.fault.TablesFault.TheVariants as tables
 use Rattle.dh_files.specs.declared.fault.FileFault.{FileFault}
 use Rattle.dh_files.specs.declared.fault.FileFault.TheVariants.{Missing, Empty, Folder, Forbidden, Unopened, NoDatabase}
-use Rattle.dh_files.specs.declared.fault.FileFault.TheVariants.{Damaged, Busy, Taken, NotOurs, OldSchema, Full, Failed, Memory}
+use Rattle.dh_files.specs.declared.fault.FileFault.TheVariants.{Damaged, Changed, Linked, LinkedLog, Journal, Busy}
+use Rattle.dh_files.specs.declared.fault.FileFault.TheVariants.{Taken, NotOurs, OldSchema, Full, Failed, Memory}
 
 abbrev pub name_of : FileFault → List ℕ
 name_of = elim [
@@ -19,6 +20,10 @@ name_of = elim [
   | Unopened ↦ codes "Store"
   | NoDatabase ↦ codes "Store"
   | Damaged ↦ codes "Store"
+  | Changed ↦ codes "Store"
+  | Linked ↦ codes "Store"
+  | LinkedLog ↦ codes "Store"
+  | Journal ↦ codes "Store"
   | Busy ↦ codes "Store"
   | Full ↦ codes "Store"
   | Failed ↦ codes "Store"

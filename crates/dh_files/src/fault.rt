@@ -25,6 +25,14 @@ pub enum FileFault {
     NoDatabase,
     /// A page of it is not what was written, or was written without sums.
     Damaged,
+    /// By its header another SQLite wrote to it, which knows nothing of its sums.
+    Changed,
+    /// It has more than one name.
+    Linked,
+    /// Its log has more than one name, or is no file.
+    LinkedLog,
+    /// A rollback journal stands beside it.
+    Journal,
     /// Another program has it open.
     Busy,
     /// It is to be made, and there is something in it.
@@ -57,6 +65,10 @@ impl FileFault {
             | FileFault::Unopened
             | FileFault::NoDatabase
             | FileFault::Damaged
+            | FileFault::Changed
+            | FileFault::Linked
+            | FileFault::LinkedLog
+            | FileFault::Journal
             | FileFault::Busy
             | FileFault::Full
             | FileFault::Failed => "Store",
@@ -71,9 +83,22 @@ impl FileFault {
             FileFault::Folder => "it is a folder",
             FileFault::Forbidden => "it may not be read and written by this user",
             FileFault::Unopened => "the system does not open it",
-            FileFault::NoDatabase => "it is no SQLite database, and was left as it is",
+            FileFault::NoDatabase => {
+                "it does not begin as an SQLite database: it is another file, or its first bytes are damaged"
+            }
             FileFault::Damaged => {
                 "it is damaged, or a sqlite3 that knows nothing of the sums of its pages has written to it"
+            }
+            FileFault::Changed => {
+                "by its header another SQLite wrote to it, which keeps no sums of its pages"
+            }
+            FileFault::Linked =>
+                "it has a second name (a hard link), by which it would have a second log",
+            FileFault::LinkedLog => {
+                "its log, whose name ends in -wal, is a link, has a second name, or is no file"
+            }
+            FileFault::Journal => {
+                "a rollback journal of SQLite, whose name ends in -journal, stands beside it"
             }
             FileFault::Busy => "another program has it open",
             FileFault::Taken => "there is something in it already, which was left as it is",

@@ -9,7 +9,7 @@ ghost use Rattle.dh_opening.specs.Migrating.{IsMigrated};
 ghost use Rattle.dh_files.specs.Settling.{IsServed, Settles};
 
 use crate::fault::FileFault;
-use crate::looking::{Found, look};
+use crate::looking::{Found, cause_of, look, make};
 use dh_desk::Desk;
 use dh_opening::TablesFault;
 use sqlite::{Alter, Connection, Error, FileFrom, FileStore, Row, Start};
@@ -27,7 +27,7 @@ fn connect<S: Start>(rt: &HostRuntime, path: &str, start: S) -> Result<FileConne
 {
     match Connection::open_from(rt, path, true, start) {
         Ok(conn) => Ok(conn),
-        Err((error, _left)) => Err(FileFault::from(error)),
+        Err((error, _left)) => Err(cause_of(rt, path, FileFault::from(error))),
     }
 }
 
@@ -53,11 +53,14 @@ fn make_tables<S: Alter + Drop>(conn: Connection<S>) -> Result<Connection<S>, Fi
     }
 }
 
-/// Makes a file with no project. It may be there if nothing is in it: what a run left that was stopped
-/// before it had made the tables counts as nothing.
+/// Makes a file with no project, which its owner alone may read and write, and so its log. It may be there if
+/// nothing is in it: what a run left that was stopped before it had made the tables counts as nothing. One that
+/// is there keeps its permissions.
 pub fn init_file<S: Start>(rt: &HostRuntime, path: &str, start: S) -> Result<(), FileFault> {
-    if look(rt, path)? == Found::Other {
-        return Err(FileFault::Taken);
+    match look(rt, path)? {
+        Found::Other => return Err(FileFault::Taken),
+        Found::Nothing => make(rt, path)?,
+        Found::Empty | Found::Database => {}
     }
     close(make_tables(connect(rt, path, start)?)?)
 }

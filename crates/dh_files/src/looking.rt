@@ -3,11 +3,16 @@
 
 use crate::fault::FileFault;
 use std::alloc::Global;
-use std::fs::{self, OpenOptions};
+use std::fs::{self, Metadata, OpenOptions};
 use std::io::{self, Read};
+use std::os::unix::fs::{MetadataExt, OpenOptionsExt};
 
 /// The first bytes of each SQLite database.
 const FIRST: [u8; 16] = *b"SQLite format 3\0";
+
+/// The version of SQLite, 3.45.0, that the store writes into the header of each file, at the byte 96. Another
+/// SQLite writes its own there.
+const VERSION: [u8; 4] = [0, 46, 118, 136];
 
 /// What stands at a path.
 #[derive(Clone, Copy, Debug, PartialEq, Eq)]
@@ -65,4 +70,91 @@ pub fn look(rt: &HostRuntime, path: &str) -> Result<Found, FileFault> {
         return Ok(Found::Empty);
     }
     Ok(Found::Other)
+}
+
+/// Makes a file with nothing in it, which its owner alone may read and write. The store tells what stands at its
+/// name meanwhile.
+pub fn make(rt: &HostRuntime, path: &str) -> Result<(), FileFault> {
+    // (the store opens no file of these names)
+    if path == ":memory:" || path.starts_with("file:") {
+        return Err(FileFault::Unopened);
+    }
+    match OpenOptions::new()
+        .write(true)
+        .create_new(true)
+        .mode(0o600)
+        .open(rt, path)
+    {
+        Ok(_) => Ok(()),
+        Err(error) => match error.kind() {
+            io::ErrorKind::AlreadyExists => Ok(()),
+            io::ErrorKind::StorageFull => Err(FileFault::Full),
+            io::ErrorKind::OutOfMemory => Err(FileFault::Memory),
+            _ => Err(FileFault::Unopened),
+        },
+    }
+}
+
+/// What stands beside a file, at its name with another end.
+fn beside(rt: &HostRuntime, path: &str, end: &str) -> Result<Option<Metadata>, FileFault> {
+    let name = format!(in rt.alloc(); "{path}{end}").map_err(|_| FileFault::Memory)?;
+    match fs::symlink_metadata(rt, name.as_str()) {
+        Ok(about) => Ok(Some(about)),
+        Err(error) if error.kind() == io::ErrorKind::NotFound => Ok(None),
+        Err(error) => Err(FileFault::from(error)),
+    }
+}
+
+/// What keeps the store from opening a file that is there: it wants one name of the file and of its log, neither
+/// of them a link, and no rollback journal.
+fn obstacle(rt: &HostRuntime, path: &str) -> Result<Option<FileFault>, FileFault> {
+    let real = fs::canonicalize(rt, path)?;
+    if fs::metadata(rt, real.as_str())?.nlink() > 1 {
+        return Ok(Some(FileFault::Linked));
+    }
+    if let Some(log) = beside(rt, real.as_str(), "-wal")? {
+        if !log.is_file() || log.nlink() > 1 {
+            return Ok(Some(FileFault::LinkedLog));
+        }
+    }
+    if let Some(journal) = beside(rt, real.as_str(), "-journal")? {
+        if !journal.is_file() || journal.len() > 0 {
+            return Ok(Some(FileFault::Journal));
+        }
+    }
+    Ok(None)
+}
+
+/// Whether a database is another SQLite's by its header, or was written to by one.
+fn is_of_another(rt: &HostRuntime, path: &str) -> Result<bool, FileFault> {
+    let mut file = fs::File::open(rt, path)?;
+    let mut header = [0u8; 100];
+    match file.read_exact(&mut header) {
+        Ok(()) => Ok(header[96..] != VERSION[..]),
+        Err(error) if error.kind() == io::ErrorKind::UnexpectedEof => Ok(false),
+        Err(error) => Err(FileFault::from(error)),
+    }
+}
+
+/// What is wrong with a file that begins as a database does, and that the store refuses.
+fn damage(rt: &HostRuntime, path: &str) -> Result<FileFault, FileFault> {
+    if !begins_as_database(rt, path)? {
+        return Ok(FileFault::NoDatabase);
+    }
+    if is_of_another(rt, path)? {
+        return Ok(FileFault::Changed);
+    }
+    Ok(FileFault::Damaged)
+}
+
+/// What is wrong with a file that the store does not open, of which the store tells less.
+pub fn cause_of(rt: &HostRuntime, path: &str, fault: FileFault) -> FileFault {
+    match fault {
+        FileFault::Unopened => match obstacle(rt, path) {
+            Ok(Some(found)) => found,
+            _ => fault,
+        },
+        FileFault::NoDatabase | FileFault::Damaged => damage(rt, path).unwrap_or(fault),
+        _ => fault,
+    }
 }

@@ -1,22 +1,23 @@
 -- Records and the rows that keep them.
-use Rattle.std.proofs.Common.{◌≡◌, ℕ, zero, suc, ◌≤◌, ◌<◌, List, [], ◌∷◌, map, take, length, get_or, Bool, true, false, IsTrue, ◌↔◌, refl, sym, subst, ap, ap₂, ◌∙◌, arith, Less}
+use Rattle.std.proofs.Common.{◌≡◌, ℕ, List, [], ◌∷◌, ◌++◌, map, length, Bool, true, false, IsTrue, ◌↔◌, refl, sym, subst, arith, ap₂, ◌∙◌, Less}
 use Rattle.std.specs.List.{AllByRecursion}
 use Rattle.sqlite_value.specs.Order.{Row, row_cmp}
 use Rattle.sqlite_trees.specs.Tree.{IsAscending}
 use Rattle.sqlite_keyed.proofs.ListLemmas.{ascending-map, ascending_from_map, ascending_weaker}
 use Rattle.dh_rows.specs.Keyed.{Coding, by_key}
-use Rattle.dh_records.proofs.ReadingLemmas.{some_of}
 use Rattle.dh_opening.specs.Rows.{part}
 use Rattle.dh_opening.specs.Opening.{IsKeptAs, AreKept}
 
-take_none : {X : Type 0} (n : ℕ) → take {A = X} n [] ≡ []
-take_none zero = refl
-take_none (suc n) = refl
+pub nothing_left : {X : Type 0} (xs : List X) → length xs ≡ 0 → xs ≡ []
+nothing_left [] h = refl
+nothing_left (x ∷ xs) h = absurd (omega arith)
 
-all_rows : {X : Type 0} (n : ℕ) (xs : List X) → length xs ≤ n → take n xs ≡ xs
-all_rows n [] h = take_none n
-all_rows zero (x ∷ xs) h = absurd (omega arith)
-all_rows (suc n) (x ∷ xs) h = ap (λ l. x ∷ l) (all_rows n xs (omega arith))
+-- one of the rows is that of a record
+some_among : {X : Type 0} (f : X → Row) (P : X → Type 0) (front rest : List Row) (row : Row) (xs : List X) → front ++ row ∷ rest ≡ map f xs → AllByRecursion P xs → (y : X) × (row ≡ f y) × P y
+some_among f P [] rest row [] e all = absurd (cc)
+some_among f P [] rest row (x ∷ xs) e all = let same : row ≡ f x = cc in (x, same, all.0)
+some_among f P (r ∷ front) rest row [] e all = absurd (cc)
+some_among f P (r ∷ front) rest row (x ∷ xs) e all = let behind : front ++ row ∷ rest ≡ map f xs = cc in some_among f P front rest row xs behind all.1
 
 module _ {X : Type 0} (c : Coding X) (IsTyped : X → Type 0) (places : List ℕ) (same : (x : X) → part places (c.encode x) ≡ c.key x) where
   abbrev Rows : List Row → Type 0
@@ -40,12 +41,10 @@ module _ {X : Type 0} (c : Coding X) (IsTyped : X → Type 0) (places : List ℕ
       no_true it = absurd (cc)
 
   -- rows that rise are kept by the records that were read one by one
-  pub all_kept : (rows : List Row) (up : Bool) → (IsTrue up ↔ Rows rows) → up ≡ true → (n : ℕ) → length rows ≤ n → (xs : List X) → take n rows ≡ map c.encode xs → AllByRecursion IsTyped xs → AreKept c IsTyped rows xs
-  all_kept rows up both so n h xs are typed =
-      let is : rows ≡ map c.encode xs = sym (all_rows n rows h) ∙ are in
-      record { are = is; typed = typed; rise = keys_rise xs (subst Rows is (both.0 so)) }
+  pub all_kept : (rows : List Row) (up : Bool) → (IsTrue up ↔ Rows rows) → up ≡ true → (xs : List X) → rows ≡ map c.encode xs → AllByRecursion IsTyped xs → AreKept c IsTyped rows xs
+  all_kept rows up both so xs is typed = record { are = is; typed = typed; rise = keys_rise xs (subst Rows is (both.0 so)) }
 
 module _ {X : Type 0} (c : Coding X) (IsTyped : X → Type 0) where
   -- rows of which one keeps no record are those of none
-  pub none_kept : (rows : List Row) (i : ℕ) (row : Row) → i < length rows → row ≡ get_or rows i row → ((x : X) → ¬ IsKeptAs c IsTyped row x) → (xs : List X) → ¬ AreKept c IsTyped rows xs
-  none_kept rows i row h at none xs it = let y = some_of c.encode IsTyped xs rows i row it.are h at it.typed in none y.0 (record { is = y.1; typed = y.2 })
+  pub none_kept : (front rest : List Row) (row : Row) → ((x : X) → ¬ IsKeptAs c IsTyped row x) → (xs : List X) → ¬ AreKept c IsTyped (front ++ row ∷ rest) xs
+  none_kept front rest row none xs it = let y = some_among c.encode IsTyped front rest row xs it.are it.typed in none y.0 (record { is = y.1; typed = y.2 })

@@ -1,7 +1,9 @@
 pub mod Rising
 pub mod KeptLemmas
 pub mod Looks
+pub mod GatherLemmas
 pub mod Telling
+pub mod ThinLemmas
 pub mod Spelling
 pub mod OpenLemmas
 pub mod FillLemmas

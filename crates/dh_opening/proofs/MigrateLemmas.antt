@@ -85,8 +85,8 @@ module _ {S : Type 0} {g : Ghosts S} {a b : Held S} {T : Type 0} {P : Database �
   carried_look : Carries g a b (Ok tt) (λ db. db ≡ (state g a).now)
   carried_look = record { goes = goes_anywhere first.goes; made = λ honest clean. let same = first.same clean in ((clean, same.is_open), same.mode, same.now_is) }
 
-  module _ (l : Lists) (told : P (state g a).now x → IsDatabase (state g a).now × (IsNumbered (state g a).now 1 → IsOld (state g a).now × (l ≡ old_lists_of (state g a).now))) (number : IsHonest g a → IsNumbered (state g a).now 1) where
-    found_now : HasCleanDisk (state g b) → IsDatabase (state g a).now × (IsOld (state g a).now × (l ≡ old_lists_of (state g a).now))
+  module _ (passes : List PassRow) (told : P (state g a).now x → IsDatabase (state g a).now × (IsNumbered (state g a).now 1 → IsOld (state g a).now × (passes ≡ (old_lists_of (state g a).now).passes))) (number : IsHonest g a → IsNumbered (state g a).now 1) where
+    found_now : HasCleanDisk (state g b) → IsDatabase (state g a).now × (IsOld (state g a).now × (passes ≡ (old_lists_of (state g a).now).passes))
     found_now clean = let was = first.found clean in let it = told was.1 in (it.0, it.1 (number was.0))
 
     pub old_then : HasCleanDisk (state g b) → IsOld (state g a).now
@@ -95,14 +95,14 @@ module _ {S : Type 0} {g : Ghosts S} {a b : Held S} {T : Type 0} {P : Database �
     pub convertible_then : IsHonest g b → IsConvertible (state g b).now
     convertible_then honest = let it = found_now honest.0 in subst IsConvertible (sym (first.same honest.0).now_is) (convertible (state g a).now it.0 it.1.0)
 
-    pub migrated_then : {c : Held S} {r : Result (Unit {0}) Fault} (rows : List PassRow) → rows ≡ l.passes → Carries g b c r (Becomes rows (state g b).now) → Carries g a c r (IsMigrated (state g a).now)
+    pub migrated_then : {c : Held S} {r : Result (Unit {0}) Fault} (rows : List PassRow) → rows ≡ passes → Carries g b c r (Becomes rows (state g b).now) → Carries g a c r (IsMigrated (state g a).now)
     migrated_then rows is it =
         carried_on carried_look
         (carried_as
         (λ honest db became.
         let old = (found_now honest.0).1 in
         migrated (state g a).now db old.0
-        (subst (λ (xs : List PassRow). Becomes xs (state g a).now db) (is ∙ ap (λ (lists : Lists). lists.passes) old.1) (subst (λ (was : Database). Becomes rows was db) (first.same honest.0).now_is became)))
+        (subst (λ (xs : List PassRow). Becomes xs (state g a).now db) (is ∙ old.1) (subst (λ (was : Database). Becomes rows was db) (first.same honest.0).now_is became)))
         it)
 
 -- ---- what migrated tables are

@@ -35,5 +35,8 @@ module _ {t : Table} {ids rows order : List ℕ} (reads : AreTextsOf t ids rows 
         record { rows = it.0; records = it.1; typed = told.typed }
 
     -- what it has is told
+    pub told_of : (xs : List X) → StandFor c typed t.name s.now xs → AreTold c typed first second xs
+    told_of xs it = record { spells = subst (Spells c first second) it.records (spells reads s stands.stands suits first second first_are second_are it.rows); typed = it.typed }
+
     pub stand_for_none : ((xs : List X) → ¬ AreTold c typed first second xs) → (xs : List X) → ¬ StandFor c typed t.name s.now xs
-    stand_for_none none xs it = none xs (record { spells = subst (Spells c first second) it.records (spells reads s stands.stands suits first second first_are second_are it.rows); typed = it.typed })
+    stand_for_none none xs it = none xs (told_of xs it)

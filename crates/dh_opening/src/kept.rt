@@ -500,7 +500,7 @@ impl Kept for RouteRow {
 }
 
 /// The record that a row keeps; none where it keeps none that can be read again.
-fn record_in<R: Kept>(alloc: Global, row: &Row) -> Result<Option<R>, AllocError>
+pub fn record_in<R: Kept>(alloc: Global, row: &Row) -> Result<Option<R>, AllocError>
     ensures some { IfOk result (λ o. IfSome o (λ x. IsKeptAs R.Record.coding R.Record.typed row.now x)) }
     ensures none { IfOk result (λ o. o ≡ None → (x : R) → ¬ IsKeptAs R.Record.coding R.Record.typed row.now x) }
 {
@@ -517,17 +517,18 @@ fn record_in<R: Kept>(alloc: Global, row: &Row) -> Result<Option<R>, AllocError>
     }
 }
 
-/// The records that some rows keep, whose keys rise; none where the rows keep none such.
-pub fn records_in<R: Kept>(alloc: Global, rows: &[Row]) -> Result<Option<Vec<R>>, AllocError>
-    ensures some { IfOk result (λ o. IfSome o (λ v. AreKept R.Record.coding R.Record.typed rows.now v.items)) }
-    ensures none { IfOk result (λ o. o ≡ None → (xs : List R) → ¬ AreKept R.Record.coding R.Record.typed rows.now xs) }
+/// The records that some rows keep, whose keys rise; none where the rows keep none such. Each row's memory is given back as
+/// soon as its record is read.
+pub fn records_in<R: Kept>(alloc: Global, rows: Vec<Row>) -> Result<Option<Vec<R>>, AllocError>
+    ensures some { IfOk result (λ o. IfSome o (λ v. AreKept R.Record.coding R.Record.typed rows.items v.items)) }
+    ensures none { IfOk result (λ o. o ≡ None → (xs : List R) → ¬ AreKept R.Record.coding R.Record.typed rows.items xs) }
 {
-    if !rise(rows, R::key()) {
+    if !rise(rows.as_slice(), R::key()) {
         return Ok(None);
     }
     let mut found = Vec::new(alloc);
     for row in rows {
-        match record_in(alloc, row)? {
+        match record_in(alloc, &row)? {
             Some(record) => found.push(record)?,
             None => return Ok(None),
         }

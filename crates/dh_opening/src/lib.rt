@@ -4,6 +4,7 @@
 
 mod fault;
 mod filling;
+mod gathering;
 mod kept;
 mod migrating;
 mod number;
@@ -12,6 +13,7 @@ mod opening;
 mod rows;
 mod shapes;
 mod tables;
+mod thin_pages;
 
 pub use fault::TablesFault;
 pub use migrating::migrate;

@@ -1,6 +1,6 @@
 //! Tables of schema 1 made tables of schema 2.
 
-ghost use Rattle.std.specs.Prelude.{◌≡◌, ◌≢◌, ◌⊎◌, false, None, IfErr, IfOk, IsTrue, OnErr, OnOk};
+ghost use Rattle.std.specs.Prelude.{◌≡◌, ◌≢◌, ◌⊎◌, false, List, None, IfErr, IfOk, IsTrue, OnErr, OnOk};
 ghost use Rattle.sqlite.specs.Effect.{Database, IsDatabase};
 ghost use Rattle.sqlite.specs.Held.{state};
 ghost use Rattle.sqlite.specs.State.{HasCleanDisk};
@@ -14,6 +14,8 @@ ghost use Rattle.dh_migrating.specs.Converting.{Carries, IsConverted, IsConverti
 ghost use Rattle.dh_migrating.specs.OldPasses.{old_lists_of};
 ghost use Rattle.dh_opening.specs.Opening.{IsNumbered, IsOurs, OnFailed, OnNotOurs, OnOldSchema, Opens};
 ghost use Rattle.dh_opening.specs.Filling.{IsAtRest, IsFilled};
+ghost use Rattle.dh_records.specs.declared.records.PageRow.{PageRow};
+ghost use Rattle.dh_opening.specs.ThinPages.{with_bodies};
 ghost use Rattle.dh_opening.specs.Migrating.{IsBehind, IsMigrated, IsOld, IsShown, LeavesMigrated, Migrates};
 
 use crate::fault::TablesFault;
@@ -35,7 +37,7 @@ fn old_records<S: Alter>(conn: &mut Connection<S>, alloc: Global) -> Result<Reco
     requires unlimited { conn.old.step_limit ≡ None }
     ensures opens { Opens S.Store conn.old conn.new result
         (λ db records. IsDatabase db × (IsNumbered db 1
-        → IsOld db × (lists_in records ≡ old_lists_of db)))
+        → IsOld db × ((pages : List PageRow) × (with_bodies pages (lists_in records) ≡ old_lists_of db))))
         (λ db. ¬ IsOld db) }
 {
     if !are_old(conn.schema()) {

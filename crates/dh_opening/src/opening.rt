@@ -11,6 +11,7 @@ ghost use Rattle.dh_schema.specs.Making.{CanAdd, CanMake, CommitsNothing, IsMade
 ghost use Rattle.dh_schema.specs.Tables.{Holds, lists_of};
 ghost use Rattle.dh_constraints.specs.Lists.{lists_in};
 ghost use Rattle.dh_opening.specs.Opening.{AreKeptIn, AreLaid, IsKnown, IsNumbered, IsOurs, MayDerive, Opens, other_tables};
+ghost use Rattle.dh_opening.specs.ThinPages.{AreKeptWhole};
 ghost use Rattle.dh_opening.specs.Filling.{AddsNothing, IsOpened, KeepsDerived, LacksDerived, LeavesOpened, OpensTables};
 
 use crate::fault::TablesFault;
@@ -25,7 +26,8 @@ use dh_store::Tables;
 use sqlite::{Alter, Connection};
 use std::alloc::Global;
 
-/// The records of all tables, of which the passes were read before, where they keep the constraints.
+/// The records of all tables, of which the passes were read before, and the pages have no bodies, where with their bodies they
+/// keep the constraints.
 pub(crate) fn kept_records<S: Alter>(
     conn: &mut Connection<S>,
     alloc: Global,
@@ -34,7 +36,7 @@ pub(crate) fn kept_records<S: Alter>(
     requires laid { IsHonest S.Store conn.old → AreLaid other_tables (state S.Store conn.old) }
     requires order { InOrder coding.passes.key passes.items }
     ensures opens { Opens S.Store conn.old conn.new result
-        (λ db records. AreKeptIn db (lists_in records))
+        (λ db records. AreKeptWhole db records)
         (λ db. (l : Lists) → l.passes ≡ passes.items → ¬ AreKeptIn db l) }
     ensures passes { IfOk result (λ records. (lists_in records).passes ≡ passes.items) }
 {

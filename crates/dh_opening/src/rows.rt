@@ -55,7 +55,7 @@ pub fn has_values(row: &Row, values: &[ValueRef<'_>]) -> bool
 }
 
 /// The order of two rows by the values at some places.
-fn compare_at(a: &Row, b: &Row, places: &[usize]) -> Ordering
+pub fn compare_at(a: &Row, b: &Row, places: &[usize]) -> Ordering
     ensures { result ≡ row_cmp (part places.now a.now) (part places.now b.now) }
 {
     let [first, others @ ..] = places else {

@@ -7,14 +7,19 @@ ghost use Rattle.dh_records.specs.Codings as coding;
 ghost use Rattle.dh_records.specs.Constraints.{InOrder};
 ghost use Rattle.dh_records.specs.Lists.{Lists};
 ghost use Rattle.dh_constraints.specs.Lists.{lists_in};
+ghost use Rattle.std.specs.List.{AllByRecursion};
+ghost use Rattle.dh_schema.specs.Tables.{page_table};
+ghost use Rattle.dh_opening.specs.ThinPages.{AreThinIn, HasPages, HasThin, IsFit};
 ghost use Rattle.dh_opening.specs.Opening.{Answers, AreLaid, AreSpelled, AreTold, IsNumbered, IsWhole, Opens, StandFor, other_tables};
 
 use crate::fault::TablesFault;
+use crate::gathering::gather;
 use crate::kept::{Kept, records_in};
 use crate::number::Number;
 use crate::shapes::has_number;
+use crate::thin_pages::ThinPages;
 use dh_constraints::Records;
-use dh_records::PassRow;
+use dh_records::{PageRow, PassRow};
 use dh_rows::are_rowids;
 use sqlite::{Alter, Connection, Row};
 use std::alloc::{AllocError, Global};
@@ -35,12 +40,12 @@ fn select<S: Alter>(conn: &mut Connection<S>, sql: &str) -> Result<Vec<Row>, Tab
 fn records_of<R: Kept>(
     alloc: Global,
     ids: &[Row],
-    rows: &[Row],
+    rows: Vec<Row>,
 ) -> Result<Option<Vec<R>>, AllocError>
     ensures some { IfOk result (λ o. IfSome o (λ v.
-        AreTold R.Record.coding R.Record.typed ids.now rows.now v.items)) }
+        AreTold R.Record.coding R.Record.typed ids.now rows.items v.items)) }
     ensures none { IfOk result (λ o. o ≡ None → (xs : List R)
-        → ¬ AreTold R.Record.coding R.Record.typed ids.now rows.now xs) }
+        → ¬ AreTold R.Record.coding R.Record.typed ids.now rows.items xs) }
 {
     if are_rowids(ids) {
         records_in(alloc, rows)
@@ -64,7 +69,7 @@ pub fn read_table<S: Alter, R: Kept>(
 {
     let ids = select(conn, R::ids())?;
     let rows = select(conn, R::rows())?;
-    match records_of(alloc, ids.as_slice(), rows.as_slice())? {
+    match records_of(alloc, ids.as_slice(), rows)? {
         Some(records) => Ok(records),
         None => Err(TablesFault::NotOurs),
     }
@@ -91,6 +96,28 @@ pub fn read_two<S: Alter, A: Kept, B: Kept>(
     Ok((first, second))
 }
 
+/// The pages of a whole table, judged row by row, and kept without their bodies.
+fn read_pages<S: Alter>(
+    conn: &mut Connection<S>,
+    alloc: Global,
+) -> Result<Vec<PageRow>, TablesFault>
+    requires laid { IsHonest S.Store conn.old → AreLaid (page_table ∷ []) (state S.Store conn.old) }
+    ensures opens { Opens S.Store conn.old conn.new result
+        (λ db v. HasThin db v.items) (λ db. (xs : List PageRow) → ¬ HasPages db xs) }
+    ensures order { IfOk result (λ v. InOrder coding.pages.key v.items) }
+{
+    let ids = select(conn, PageRow::ids())?;
+    let mut found = ThinPages::new(alloc);
+    gather(conn, alloc, PageRow::rows(), &mut found)?;
+    if !are_rowids(ids.as_slice()) {
+        return Err(TablesFault::NotOurs);
+    }
+    match found.into_pages() {
+        Some(pages) => Ok(pages),
+        None => Err(TablesFault::NotOurs),
+    }
+}
+
 /// The number of the schema.
 pub fn number_of<S: Alter>(conn: &mut Connection<S>, alloc: Global) -> Result<u32, TablesFault>
     requires unlimited { conn.old.step_limit ≡ None }
@@ -107,7 +134,7 @@ pub fn number_of<S: Alter>(conn: &mut Connection<S>, alloc: Global) -> Result<u3
     }
 }
 
-/// The records of all our tables, of which the passes were read before.
+/// The records of all our tables, of which the passes were read before, and the pages have no bodies.
 pub fn all_records<S: Alter>(
     conn: &mut Connection<S>,
     alloc: Global,
@@ -116,11 +143,13 @@ pub fn all_records<S: Alter>(
     requires laid { IsHonest S.Store conn.old → AreLaid other_tables (state S.Store conn.old) }
     requires order { InOrder coding.passes.key passes.items }
     ensures opens { Opens S.Store conn.old conn.new result
-        (λ db records. AreSpelled db (lists_in records)) (λ db. (l : Lists) → ¬ AreSpelled db l) }
+        (λ db records. AreThinIn db records)
+        (λ db. (l : Lists) → AllByRecursion IsFit l.pages → ¬ AreSpelled db l) }
     ensures passes { IfOk result (λ records. (lists_in records).passes ≡ passes.items) }
 {
     let (projects, langs) = read_two(conn, alloc)?;
-    let (versions, pages) = read_two(conn, alloc)?;
+    let versions = read_table(conn, alloc)?;
+    let pages = read_pages(conn, alloc)?;
     let (used, picks) = read_two(conn, alloc)?;
     let (rules, redirects) = read_two(conn, alloc)?;
     let held = read_table(conn, alloc)?;

@@ -22,7 +22,7 @@ returns-in-Some-clause-opens g c =
     (λ honest it.
     stand_for g.R.Kept.reads (state g.S.Store c.args.conn.now) (c.requires.laid honest) g.R.Record.typed (subst (λ k. IsCodingOf g.R.Kept.table k g.R.Kept.order) c.rows.ensures.same g.R.Kept.suits)
     c.in_ok-ids.ids.items c.in_ok-rows.rows.items (subst (λ t. Answers (state g.S.Store c.args.conn.now).now t c.in_ok-ids.ids.items) c.ids.ensures it.0) (subst (λ t. Answers (state g.S.Store c.args.conn.now).now t c.in_ok-rows.rows.items) c.rows.ensures.text it.1)
-    c.in-Some.records.items (rw (c.in-Some.is, c.as_slice.ensures.value, c.as_slice-2.ensures.value) at c.in_ok-records.ensures.some))
+    c.in-Some.records.items (rw (c.in-Some.is, c.as_slice.ensures.value) at c.in_ok-records.ensures.some))
 
 pub returns-clause-opens : goal.returns-clause-opens
 returns-clause-opens g c =
@@ -30,7 +30,7 @@ returns-clause-opens g c =
     (λ honest it.
     stand_for_none g.R.Kept.reads (state g.S.Store c.args.conn.now) (c.requires.laid honest) g.R.Record.typed (subst (λ k. IsCodingOf g.R.Kept.table k g.R.Kept.order) c.rows.ensures.same g.R.Kept.suits)
     c.in_ok-ids.ids.items c.in_ok-rows.rows.items (subst (λ t. Answers (state g.S.Store c.args.conn.now).now t c.in_ok-ids.ids.items) c.ids.ensures it.0) (subst (λ t. Answers (state g.S.Store c.args.conn.now).now t c.in_ok-rows.rows.items) c.rows.ensures.text it.1)
-    (rw (c.as_slice.ensures.value, c.as_slice-2.ensures.value) at (c.in_ok-records.ensures.none c.in-None.is)))
+    (rw (c.as_slice.ensures.value) at (c.in_ok-records.ensures.none c.in-None.is)))
 
 pub returns-in-Some-clause-order : goal.returns-in-Some-clause-order
 returns-in-Some-clause-order g c = (rw c.in-Some.is at c.in_ok-records.ensures.some).spells.rise
