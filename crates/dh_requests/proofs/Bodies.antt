@@ -1,11 +1,12 @@
 -- Reading up to the end of a body.
-use Rattle.std.proofs.Common.{◌≡◌, ℕ, ◌+◌, ◌-◌, ◌<◌, ◌≤◌, min, Bool, true, false, cond, leb, List, ◌++◌, length, length-append, take, Option, Some, None, Err, inl, inr, refl, arith, append_assoc, ap, sym, subst, ◌∙◌}
+use Rattle.std.proofs.Common.{◌≡◌, ℕ, ◌+◌, ◌-◌, ◌<◌, ◌≤◌, min, Bool, true, false, cond, leb, List, ◌++◌, length, length-append, length-take, length-drop, take, drop, Option, Some, None, Result, Ok, Err, inl, inr, refl, arith, append_assoc, ap, sym, subst, ◌∙◌}
 use Rattle.std.proofs.lemmas.Bool.{leb-true, leb-false}
-use Rattle.std.proofs.lemmas.List.{take-append-le, take_min}
+use Rattle.std.proofs.lemmas.List.{take-append-le, take_min, take-append-drop}
 use Rattle.std.specs.Io.KnownBytes.{Consumes}
 use Rattle.dh_ports.specs.declared.stop.Stop.{Stop}
+use Rattle.dh_ports.specs.declared.stop.Stop.TheVariants.{Read, TooManyTurns, Memory}
 use Rattle.dh_ports.specs.Ports.{CountsAtLeast}
-use Rattle.dh_ports.specs.Reading.{reader_failed, TookAtMost, AddsSome, most_lost}
+use Rattle.dh_ports.specs.Reading.{reader_failed, TookAtMost, Adds, AddsSome, most_lost}
 use Rattle.dh_requests.specs.declared.asked.Asked.TheVariants.{Command}
 use Rattle.dh_requests.specs.declared.asked.Posted.{Posted}
 use Rattle.dh_requests.specs.declared.head_end.HeadEnd.{HeadEnd}
@@ -13,7 +14,7 @@ use Rattle.dh_requests.specs.declared.head_end.HeadEnd.TheVariants.{At, TooLarge
 use Rattle.dh_requests.specs.HeadEnd.{HeadSize, head_end_in, head_end_of, OpenHead, most_spent}
 use Rattle.dh_requests.specs.Scan.{end_from, at_first}
 use Rattle.dh_requests.specs.Request.{AsksFor}
-use Rattle.dh_requests.specs.Takes.{AddsBytes, FillsUpTo, TookWhile, TookAtLeast}
+use Rattle.dh_requests.specs.Takes.{AddsBytes, AddsNear, AddsPiece, FillsUpTo, TookWhile, TookAtLeast, most_missed}
 use Rattle.dh_requests.specs.Needs.{OpenBody, IsNeeded, StaysNeeded}
 use Rattle.dh_requests.proofs.Ends.{window, end_stays, head_end_of-search}
 use Rattle.dh_requests.proofs.Little.{no_end}
@@ -36,6 +37,42 @@ fills_on old mid new before bytes after count came h lt k few =
 pub fills_stop : (A : Type 0) (old mid new : Option (List ℕ)) (before bytes : List ℕ) (count : ℕ) (stop : Stop) → AddsBytes old mid before bytes → length bytes < count → TookAtMost mid new (most_lost stop) → FillsUpTo (length before) count old new (cond (reader_failed {A = A} (Err stop)) 0 4096)
 fills_stop A old mid new before bytes count stop h lt k few =
     stopped A (λ part. length before + length part < count) old mid new h.0 stop h.1 (too_few old mid before bytes count h lt) k
+
+-- ---- a read of a piece, which brings fewer bytes than are missing and 4,096
+
+-- a read of at most 4,096 bytes is one
+pub more_is_piece : (old new : Option (List ℕ)) (before after : List ℕ) (missing : ℕ) (r : Result Bool Stop) → 0 < missing → Adds old new before after r → AddsPiece missing old new before after r
+more_is_piece old new before after missing (Ok came) some h = (h.0, h.1, h.2, h.3, omega (arith, h.4))
+more_is_piece old new before after missing (Err Read) some h = h
+more_is_piece old new before after missing (Err TooManyTurns) some h = h
+more_is_piece old new before after missing (Err Memory) some h = (h.0, (h.1.0, h.1.1, omega (arith, h.1.2)))
+
+pub adds_near_on : (old mid new : Option (List ℕ)) (before bytes after : List ℕ) (missing : ℕ) (came : Bool) → AddsBytes old mid before bytes → AddsNear missing mid new bytes after came → AddsBytes old new before after
+adds_near_on old mid new before bytes after missing came h k =
+    (h.0 ++ k.0, consumes_on old mid new h.0 k.0 h.1 k.1, k.2 ∙ ap (λ w. w ++ k.0) h.2 ∙ append_assoc before h.0 k.0)
+
+-- such a read was needed up to its last 4,096 bytes
+near_on : (old mid new : Option (List ℕ)) (before bytes more : List ℕ) (count : ℕ) → AddsBytes old mid before bytes → length bytes < count → Consumes mid new more → length more < count - length bytes + 4096 → FillsUpTo (length before) count old new 4096
+near_on old mid new before bytes more count h lt taken le few =
+    let needed = count - length bytes - 1 in
+    let front = take needed more in
+    let last = drop needed more in
+    let whole : front ++ last ≡ more = take-append-drop needed more in (
+      h.0 ++ front,
+      last,
+      omega (arith, length-append h.0 front, length-take needed more, too_few old mid before bytes count h lt, ap length h.2 ∙ length-append before h.0),
+      subst (λ w. Consumes old new w) (ap (λ w. h.0 ++ w) (sym whole) ∙ sym (append_assoc h.0 front last)) (consumes_on old mid new h.0 more h.1 taken),
+      omega (arith, length-drop needed more, le),
+    )
+
+pub fills_near : (old mid new : Option (List ℕ)) (before bytes after : List ℕ) (count missing : ℕ) (came : Bool) → AddsBytes old mid before bytes → length bytes < count → missing ≤ count - length bytes → AddsNear missing mid new bytes after came → FillsUpTo (length before) count old new 4096
+fills_near old mid new before bytes after count missing came h lt most k = near_on old mid new before bytes k.0 count h lt k.1 (omega (arith, k.4))
+
+-- and one that stopped
+pub fills_near_stop : (A : Type 0) (old mid new : Option (List ℕ)) (before bytes : List ℕ) (count missing : ℕ) (stop : Stop) → AddsBytes old mid before bytes → length bytes < count → missing ≤ count - length bytes → TookAtMost mid new (most_missed missing stop) → FillsUpTo (length before) count old new (cond (reader_failed {A = A} (Err stop)) 0 4096)
+fills_near_stop A old mid new before bytes count missing Read h lt most k = fills_stop A old mid new before bytes count Read h lt k
+fills_near_stop A old mid new before bytes count missing TooManyTurns h lt most k = fills_stop A old mid new before bytes count TooManyTurns h lt k
+fills_near_stop A old mid new before bytes count missing Memory h lt most k = near_on old mid new before bytes k.0 count h lt k.1 (omega (arith, k.2))
 
 -- one that was not made, since too many were, left the source as it was
 pub full_bytes : (old mid new : Option (List ℕ)) (before bytes : List ℕ) → AddsBytes old mid before bytes → 100000 ≤ length bytes → new ≡ mid → TookAtLeast old new (100000 - length before)

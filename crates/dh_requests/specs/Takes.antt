@@ -1,11 +1,11 @@
 -- What reading a request takes from a source.
-use Rattle.std.specs.Prelude.{◌≡◌, ℕ, ◌+◌, ◌≤◌, ◌<◌, Bool, true, false, List, ◌++◌, length, Option, Result, IsErrOf, if◌then◌else◌}
+use Rattle.std.specs.Prelude.{◌≡◌, ℕ, ◌+◌, ◌≤◌, ◌<◌, Bool, true, false, List, ◌++◌, length, Option, Result, Ok, Err, IsErrOf, if◌then◌else◌}
 use Rattle.std.specs.Io.KnownBytes.{Consumes, IsAtEnd}
 use Rattle.dh_ports.specs.Ports.{CountsUpTo, CountsAtLeast}
-use Rattle.dh_ports.specs.Reading.{reader_failed}
+use Rattle.dh_ports.specs.Reading.{reader_failed, TookAtMost, CameOrEnded}
 use Rattle.dh_ports.specs.declared.source.Source.{Ghosts}
 use Rattle.dh_ports.specs.declared.stop.Stop.{Stop}
-use Rattle.dh_ports.specs.declared.stop.Stop.TheVariants.{TooManyTurns}
+use Rattle.dh_ports.specs.declared.stop.Stop.TheVariants.{Read, TooManyTurns, Memory}
 
 -- no fewer than so many bytes were taken, where the source tells them
 abbrev pub TookAtLeast : Option (List ℕ) → Option (List ℕ) → ℕ → Type 0
@@ -43,12 +43,37 @@ abbrev pub FillsUpTo : ℕ → ℕ → Option (List ℕ) → Option (List ℕ) �
 FillsUpTo len count old new most =
     len < count → TookWhile (λ part. len + length part < count) old new most
 
+-- the bytes that the source lost, fewer than are missing and 4,096, were put behind those that were
+-- there; came says whether there were any
+abbrev pub AddsNear :
+    ℕ → Option (List ℕ) → Option (List ℕ) → List ℕ → List ℕ → Bool → Type 0
+AddsNear missing old new before after came =
+    (bytes : List ℕ)
+    × Consumes old new bytes
+    × (after ≡ before ++ bytes)
+    × CameOrEnded new bytes came
+    × (length bytes < missing + 4096)
+
+-- the most bytes that a read took which stopped, where so many were missing
+abbrev pub most_missed : ℕ → Stop → ℕ
+most_missed missing Read = 0
+most_missed missing TooManyTurns = 0
+most_missed missing Memory = missing + 4095
+
+-- one read of a body of which so many bytes are missing; where it stopped, the bytes that were there
+-- stay, and no others came
+abbrev pub AddsPiece :
+    ℕ → Option (List ℕ) → Option (List ℕ) → List ℕ → List ℕ → Result Bool Stop → Type 0
+AddsPiece missing old new before after (Ok came) = AddsNear missing old new before after came
+AddsPiece missing old new before after (Err stop) =
+    (after ≡ before) × TookAtMost old new (most_missed missing stop)
+
 -- What a call takes from a source, whatever it answers.
 module _ {S T : Type 0} (g : Ghosts S) (old new : S) (result : Result T Stop) where
   -- It makes at most so many reads, and it needs them.
   pub record Takes
       (Needs : Option (List ℕ) → Option (List ℕ) → ℕ → Type 0) (bytes times : ℕ) : Type 0 where
-    -- no more came than is needed, and then what one read brings: nothing where the reader failed
+    -- no more came than is needed, and then 4,096 bytes at most: none where the reader failed
     pub needed : Needs (g.left old) (g.left new) (if reader_failed result then 0 else 4096)
     -- the source is broken exactly where the reader failed
     pub broken : g.broken new ≡ reader_failed result

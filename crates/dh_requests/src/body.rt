@@ -1,9 +1,77 @@
 //! Reading up to the end of a body.
 
-ghost use Rattle.std.specs.Prelude.{◌≡◌, ◌-◌, ◌≤◌, false, length, IfOk};
-ghost use Rattle.dh_requests.specs.Takes.{AddsUpTo, FillsUpTo, Takes};
+ghost use Rattle.std.specs.Prelude.{◌≡◌, ◌+◌, ◌-◌, ◌≤◌, ◌<◌, false, length, min, IfOk, OnOk, IsErrOf, if◌then◌else◌};
+ghost use Rattle.dh_ports.specs.Ports.{CountsUpTo, CountsAtLeast};
+ghost use Rattle.dh_ports.specs.Reading.{reader_failed, IsFull};
+ghost use Rattle.dh_requests.specs.Takes.{AddsPiece, AddsUpTo, FillsUpTo, Takes};
 
 use dh_ports::{Intake, Source, Stop};
+
+/// The most reads that may bring bytes.
+const MOST_READS: u32 = 100_000;
+
+/// As many missing bytes, or fewer, are read as a head is read.
+const SMALL_PIECE: usize = 4_096;
+
+/// The most bytes that one read of a body asks for.
+const LARGE_PIECE: usize = 65_536;
+
+/// Reads once, up to 65,536 bytes and no more than are missing, and answers whether any came. The room for them is no local of
+/// a function that small bodies are read by.
+fn read_large<R: Source>(intake: &mut Intake, source: &mut R, missing: usize) -> Result<bool, Stop>
+    requires fine { R.broken source.old ≡ false }
+    requires some { 0 < missing }
+    ensures adds { AddsPiece missing (R.left source.old) (R.left source.new)
+        intake.old.bytes.items intake.new.bytes.items result }
+    ensures broken { R.broken source.new ≡ reader_failed result }
+    ensures spent { IfOk result (λ came.
+        intake.new.reads ≡ intake.old.reads + (if came then 1 else 0)) }
+    ensures full { IsErrOf result Stop.TooManyTurns
+        → IsFull intake.old.reads intake.old.bytes.items × (source.new ≡ source.old) }
+    ensures reads { CountsUpTo (R.fills source.old) (R.fills source.new)
+        (min 1 (100000 - intake.old.reads)) }
+    ensures asked { OnOk result (CountsAtLeast (R.fills source.old) (R.fills source.new) 1) }
+    ensures few { intake.new.reads ≤ 100000 }
+{
+    if intake.reads == MOST_READS {
+        return Err(Stop::TooManyTurns);
+    }
+    let mut room = [0u8; LARGE_PIECE];
+    let size = missing.min(LARGE_PIECE);
+    match source.fill(&mut room[..size]) {
+        Err(_) => Err(Stop::Read),
+        Ok(0) => Ok(false),
+        Ok(count) => {
+            if intake.bytes.extend_from_slice(&room[..count]).is_err() {
+                return Err(Stop::Memory);
+            }
+            intake.reads += 1;
+            Ok(true)
+        }
+    }
+}
+
+/// Reads once, and answers whether any bytes came: in a large piece where that many are missing.
+fn read_piece<R: Source>(intake: &mut Intake, source: &mut R, missing: usize) -> Result<bool, Stop>
+    requires fine { R.broken source.old ≡ false }
+    requires some { 0 < missing }
+    ensures adds { AddsPiece missing (R.left source.old) (R.left source.new)
+        intake.old.bytes.items intake.new.bytes.items result }
+    ensures broken { R.broken source.new ≡ reader_failed result }
+    ensures spent { IfOk result (λ came.
+        intake.new.reads ≡ intake.old.reads + (if came then 1 else 0)) }
+    ensures full { IsErrOf result Stop.TooManyTurns
+        → IsFull intake.old.reads intake.old.bytes.items × (source.new ≡ source.old) }
+    ensures reads { CountsUpTo (R.fills source.old) (R.fills source.new)
+        (min 1 (100000 - intake.old.reads)) }
+    ensures asked { OnOk result (CountsAtLeast (R.fills source.old) (R.fills source.new) 1) }
+    ensures few { intake.new.reads ≤ 100000 }
+{
+    if missing > SMALL_PIECE {
+        return read_large(intake, source, missing);
+    }
+    intake.more(source)
+}
 
 /// Reads until there are so many bytes, and not once more. They do not all come where the input ends before.
 pub fn read_up_to<R: Source>(
@@ -20,7 +88,8 @@ pub fn read_up_to<R: Source>(
         (100000 - length intake.old.bytes.items) (100000 - intake.old.reads) }
 {
     'pieces: while intake.bytes.len() < count {
-        if !intake.more(source)? {
+        let missing = count - intake.bytes.len();
+        if !read_piece(intake, source, missing)? {
             return Ok(false);
         }
     }
