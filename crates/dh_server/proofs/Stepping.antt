@@ -1,5 +1,5 @@
 -- What connections do to the world, as steps of commands.
-use Rattle.std.proofs.Common.{◌≡◌, ◌⊎◌, ℕ, ◌+◌, List, Option, inl, inr, arith, add-one, sym, subst}
+use Rattle.std.proofs.Common.{◌≡◌, ◌⊎◌, ℕ, zero, suc, ◌+◌, List, Option, inl, inr, arith, add-one, sym, subst}
 use Rattle.dh_wire.specs.declared.reply.Reply.{Reply}
 use Rattle.dh_requests.specs.declared.request.Request.{Request}
 use Rattle.dh_requests.specs.declared.request.Request.TheVariants as request
@@ -7,7 +7,7 @@ use Rattle.dh_world.specs.World.{World}
 use Rattle.dh_http.specs.Commands.{unavailable}
 use Rattle.dh_http.specs.Answers.{IsReplyTo, MayDo, AnswersSource}
 use Rattle.dh_ports.proofs.Taking.{counts_on, counts_from}
-use Rattle.dh_server.specs.Serving.{Turn, Serves, StepsOnce, Steps, Counts}
+use Rattle.dh_server.specs.Serving.{Turn, MayTurn, Serves, StepsOnce, Steps, ChangesNothing, PortSteps, Counts}
 
 may_do : (moment : ℕ) (before after : World) (request : Request) (reply : Reply) → IsReplyTo moment before after request reply → MayDo before after request
 may_do moment before after (request.Read host pass read head) reply is = is.0
@@ -40,10 +40,17 @@ pub counts_next : (a b c : Option ℕ) (n : ℕ) → Counts a b n → Counts b c
 counts_next a b c n p q = (counts_on a b c n 1 (n + 1) p.0 q.0 (omega arith), counts_from a b c n 1 (n + 1) p.1 q.1 (omega arith))
 
 -- one connection more
-pub serves_next : (IsMoment : ℕ → Type 0) (count : ℕ) (before between after : World) → Serves IsMoment count before between → Turn IsMoment between after → Serves IsMoment (count + 1) before after
-serves_next IsMoment count before between after h t =
-    subst (λ n. Serves IsMoment n before after) (sym (add-one count)) (between, h, t)
+pub serves_next : (IsMoment : ℕ → Type 0) (Does : ℕ → World → World → Type 0) (count : ℕ) (before between after : World)
+    → Serves IsMoment Does count before between → MayTurn IsMoment Does between after → Serves IsMoment Does (count + 1) before after
+serves_next IsMoment Does count before between after h t =
+    subst (λ n. Serves IsMoment Does n before after) (sym (add-one count)) (between, h, t)
 
-pub steps_next : (IsMoment : ℕ → Type 0) (count : ℕ) (before between after : World) → Steps count before between → Turn IsMoment between after → Steps (count + 1) before after
-steps_next IsMoment count before between after h t =
-    subst (λ n. Steps n before after) (sym (add-one count)) (between, h, turned IsMoment between after t)
+may_turn : (IsMoment : ℕ → Type 0) (Does : ℕ → World → World → Type 0) → ChangesNothing Does → (before after : World) → MayTurn IsMoment Does before after → StepsOnce before after
+may_turn IsMoment Does none before after (inl turn) = turned IsMoment before after turn
+may_turn IsMoment Does none before after (inr h) = inl (none h.0 before after h.2)
+
+-- beside a socket that changes nothing
+pub steps_of : (IsMoment : ℕ → Type 0) (Does : ℕ → World → World → Type 0) → PortSteps IsMoment Does
+steps_of IsMoment Does none zero before after same = same
+steps_of IsMoment Does none (suc count) before after h =
+    (h.0, steps_of IsMoment Does none count before h.0 h.1, may_turn IsMoment Does none h.0 after h.2)

@@ -4,6 +4,7 @@ use Rattle.std.specs.Fmt.{decimal}
 use Rattle.dh_http.specs.declared.fault.Done.{Done}
 use Rattle.dh_http.specs.declared.fault.EngineFault.{EngineFault}
 use Rattle.dh_http.specs.declared.fault.EngineFault.TheVariants as fault
+use Rattle.dh_server.specs.declared.line.Entry.{Entry}
 
 abbrev pub is_space : ℕ → Bool
 is_space byte = nat_eq byte 32
@@ -39,12 +40,15 @@ ends_line byte = nat_eq byte 13 || nat_eq byte 10
 abbrev pub first_line : List ℕ → List ℕ
 first_line bytes = take 2048 (up_to (position ends_line bytes) bytes)
 
--- what came of a connection, the method and the target of its first line, how many bytes it took, and in how many microseconds
-abbrev pub log_line : List ℕ → List ℕ → ℕ → ℕ → List ℕ
-log_line told line bytes micros =
-    told ++ codes " " ++ shown_word (first_word line)
-    ++ codes " " ++ shown_word (first_word (other_words line))
-    ++ codes " " ++ decimal bytes ++ codes " " ++ decimal micros ++ codes "\n"
+-- what came of a connection, the method and the target of its first line, how many bytes it took, in how many microseconds, the
+-- host that was asked for, when, and why that was a bad request
+abbrev pub log_line : List ℕ → Entry → ℕ → ℕ → List ℕ
+log_line told entry bytes micros =
+    told ++ codes " " ++ shown_word (first_word entry.line.now)
+    ++ codes " " ++ shown_word (first_word (other_words entry.line.now))
+    ++ codes " " ++ decimal bytes ++ codes " " ++ decimal micros
+    ++ codes " " ++ shown_word entry.host.now ++ codes " " ++ decimal entry.moment
+    ++ codes " " ++ shown_word entry.reason.now ++ codes "\n"
 
 -- what came of a connection, or of none
 abbrev pub told_as : Option (Result Done EngineFault) → List ℕ

@@ -34,11 +34,16 @@ AnswersSome IsMoment before after =
 abbrev pub Turn : (ℕ → Type 0) → World → World → Type 0
 Turn IsMoment before after = (after ≡ before) ⊎ AnswersSome IsMoment before after
 
+-- one connection of either kind, at such a moment: of the port; or of a control socket, which does what `Does` says
+abbrev pub MayTurn : (ℕ → Type 0) → (ℕ → World → World → Type 0) → World → World → Type 0
+MayTurn IsMoment Does before after =
+    Turn IsMoment before after ⊎ ((moment : ℕ) × IsMoment moment × Does moment before after)
+
 -- so many connections, one after another
-abbrev pub Serves : (ℕ → Type 0) → ℕ → World → World → Type 0
-Serves IsMoment zero before after = after ≡ before
-Serves IsMoment (suc count) before after =
-    (between : World) × Serves IsMoment count before between × Turn IsMoment between after
+abbrev pub Serves : (ℕ → Type 0) → (ℕ → World → World → Type 0) → ℕ → World → World → Type 0
+Serves IsMoment Does zero before after = after ≡ before
+Serves IsMoment Does (suc count) before after =
+    (between : World) × Serves IsMoment Does count before between × MayTurn IsMoment Does between after
 
 -- a call of the clock may give this moment
 abbrev pub GivenBy : {C : Type 0} → (C → ℕ → Type 0) → ℕ → Type 0
@@ -58,3 +63,12 @@ abbrev pub Steps : ℕ → World → World → Type 0
 Steps zero before after = after ≡ before
 Steps (suc count) before after =
     (between : World) × Steps count before between × StepsOnce between after
+
+-- a control socket over which no world is changed
+abbrev pub ChangesNothing : (ℕ → World → World → Type 0) → Type 0
+ChangesNothing Does = (moment : ℕ) (before after : World) → Does moment before after → after ≡ before
+
+-- beside such a socket so many connections are so many steps
+abbrev pub PortSteps : (ℕ → Type 0) → (ℕ → World → World → Type 0) → Type 0
+PortSteps IsMoment Does =
+    ChangesNothing Does → (count : ℕ) (before after : World) → Serves IsMoment Does count before after → Steps count before after

@@ -4,6 +4,7 @@ use Rattle.std.specs.Io.KnownBytes.{Appends}
 use Rattle.dh_http.specs.declared.fault.Done.{Done}
 use Rattle.dh_http.specs.declared.fault.EngineFault.{EngineFault}
 use Rattle.dh_server.specs.Lines.{log_line, told_as}
+use Rattle.dh_server.specs.declared.line.Entry.{Entry}
 
 module _ {S : Type 0} (broken : S → Bool) (held : S → Option (List ℕ)) where
   -- the text stands behind what the sink held, unless the sink has failed
@@ -16,6 +17,6 @@ module _ {S : Type 0} (broken : S → Bool) (held : S → Option (List ℕ)) whe
   TellsSome old new = (text : List ℕ) × Tells old new text
 
   -- the line of a connection, in some microseconds; or none
-  abbrev pub TellsLine : S → S → Option (Result Done EngineFault) → List ℕ → ℕ → Type 0
-  TellsLine old new outcome line bytes =
-      Tells old new [] ⊎ ((micros : ℕ) × Tells old new (log_line (told_as outcome) line bytes micros))
+  abbrev pub TellsLine : S → S → Option (Result Done EngineFault) → Entry → ℕ → Type 0
+  TellsLine old new outcome entry bytes =
+      Tells old new [] ⊎ ((micros : ℕ) × Tells old new (log_line (told_as outcome) entry bytes micros))

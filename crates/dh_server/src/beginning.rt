@@ -12,6 +12,9 @@ const MOST: usize = 16_384;
 /// The most bytes of a line that is told.
 const MOST_TOLD: usize = 2048;
 
+/// The most bytes of a host that is told.
+const MOST_HOST: usize = 255;
+
 /// The first bytes that came, at most 16,384, and how many came in all. Where memory is out, fewer are kept.
 #[derive(Drop)]
 pub struct Beginning {
@@ -51,6 +54,66 @@ fn behind_name<'b>(line: &'b [u8], name: &[u8]) -> Option<&'b [u8]> {
     }
 }
 
+/// The value of a line of a head, where it has the name.
+fn value_of<'b>(line: &'b [u8], name: &[u8]) -> Option<&'b [u8]> {
+    let value = behind_name(line, name)?.strip_prefix(b":")?;
+    Some(value.trim_ascii())
+}
+
+/// Whether nothing stands on a line.
+fn is_blank(line: &[u8]) -> bool {
+    matches!(line, b"\n" | b"\r\n")
+}
+
+/// How often the lines stand in a head that it is judged by.
+#[derive(Clone, Copy)]
+struct HeadLines {
+    /// All of them.
+    lines: u32,
+    hosts: u32,
+    passes: u32,
+    keys: u32,
+    lengths: u32,
+}
+
+impl HeadLines {
+    /// With one more line.
+    fn count(&mut self, line: &[u8]) {
+        self.lines = self.lines.saturating_add(1);
+        if value_of(line, b"Host").is_some() {
+            self.hosts = self.hosts.saturating_add(1);
+        }
+        if value_of(line, b"Docs-Pass").is_some() {
+            self.passes = self.passes.saturating_add(1);
+        }
+        if value_of(line, b"Docs-Key").is_some() {
+            self.keys = self.keys.saturating_add(1);
+        }
+        if value_of(line, b"Content-Length").is_some() {
+            self.lengths = self.lengths.saturating_add(1);
+        }
+    }
+}
+
+/// The lines of a head; none where it does not end there.
+fn head_lines(bytes: &[u8]) -> Option<HeadLines> {
+    let mut head = HeadLines {
+        lines: 0,
+        hosts: 0,
+        passes: 0,
+        keys: 0,
+        lengths: 0,
+    };
+    for line in bytes.split_inclusive(|b| *b == b'\n') {
+        if !is_blank(line) {
+            head.count(line);
+        } else if head.lines > 0 {
+            return Some(head);
+        }
+    }
+    None
+}
+
 /// How many bytes of a body a line of a head announces; none where it does not say how many.
 fn announced(line: &[u8]) -> Option<u64> {
     if behind_name(line, b"Transfer-Encoding").is_some() {
@@ -72,7 +135,7 @@ fn request_size(bytes: &[u8]) -> Option<u64> {
     for line in bytes.split_inclusive(|b| *b == b'\n') {
         let count = (line.len() as u64).saturating_add(announced(line)?);
         size = size.saturating_add(count);
-        if matches!(line, b"\n" | b"\r\n") {
+        if is_blank(line) {
             return Some(size);
         }
     }
@@ -104,6 +167,41 @@ impl Beginning {
     {
         let line = line_of(self.bytes.as_slice());
         &line[..MOST_TOLD.min(line.len())]
+    }
+
+    /// The value of the first `Host` line of the head, as far as that came, and no more of it than 255 bytes; empty where there is
+    /// none.
+    pub fn host(&self) -> &[u8]
+        ensures { length result.now ≤ 255 }
+    {
+        for line in self.bytes.split_inclusive(|b| *b == b'\n') {
+            if let Some(value) = value_of(line, b"Host") {
+                return &value[..MOST_HOST.min(value.len())];
+            }
+            if is_blank(line) {
+                return &[];
+            }
+        }
+        &[]
+    }
+
+    /// Why what came is a bad request, where it is one: `NoEnd`, its head has no end; `NoHost`, that has no `Host` line; `TwoLines`,
+    /// a line stands twice that may stand once; `ShortBody`, the body ends before it should; and else `Form`.
+    pub fn bad_part(&self) -> &'static str {
+        let is_post = self.first_line().starts_with(b"POST ");
+        let Some(head) = head_lines(self.bytes.as_slice()) else {
+            return "NoEnd";
+        };
+        if head.hosts == 0 {
+            return "NoHost";
+        }
+        if head.hosts > 1 || head.passes > 1 || head.keys > 1 || (is_post && head.lengths > 1) {
+            return "TwoLines";
+        }
+        match request_size(self.bytes.as_slice()) {
+            Some(size) if is_post && size > self.count => "ShortBody",
+            _ => "Form",
+        }
     }
 
     /// Whether just one request came: its head, the body that this announces, and nothing behind it. Where a head is not read as

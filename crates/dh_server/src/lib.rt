@@ -2,22 +2,29 @@
 #![tactic(auto)]
 
 mod beginning;
+mod control;
 mod counted;
 mod joined;
+mod laws;
 mod line;
 mod listening;
 mod log;
 mod serving;
+mod steady;
 mod stream;
 mod telling;
 mod timed;
 
 pub use beginning::{Beginning, Heard};
+pub use control::{Control, NoControl};
 pub use counted::Counted;
 pub use dh_http::{Done, EngineFault};
 pub use joined::Joined;
-pub use listening::{Listen, Listening};
+pub use laws::port_steps;
+pub use line::Entry;
+pub use listening::{Came, Listen, Listening};
 pub use log::Log;
 pub use serving::{answer_joined, serve_on};
+pub use steady::Steady;
 pub use telling::put_or_lose;
 pub use timed::Timed;

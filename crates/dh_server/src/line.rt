@@ -76,23 +76,63 @@ fn put_number(alloc: Global, out: &mut Vec<u8>, number: u64) -> Result<(), Alloc
     put(out, format!(in alloc; "{number}")?.as_str())
 }
 
-/// The line for a connection whose request began with that line.
+/// What a line of the log tells of a request, beside what came of it.
+#[derive(Clone, Copy)]
+pub struct Entry<'a> {
+    /// Its first line.
+    pub line: &'a [u8],
+    /// The host that its head names.
+    pub host: &'a [u8],
+    /// When it came, in seconds since 1970.
+    pub moment: u64,
+    /// Why it is a bad request; empty where it is none.
+    pub reason: &'a str,
+}
+
+impl<'a> Entry<'a> {
+    /// Where no request came.
+    pub fn none(moment: u64) -> Entry<'a>
+        ensures { result.moment ≡ moment }
+    {
+        Entry {
+            line: &[],
+            host: &[],
+            moment,
+            reason: "",
+        }
+    }
+}
+
+/// The host, the moment and the reason.
+fn put_entry(alloc: Global, out: &mut Vec<u8>, entry: &Entry<'_>) -> Result<(), AllocError>
+    ensures { OnOk result (out.new.items
+        ≡ out.old.items ++ codes " " ++ spec.shown_word entry.now.host.now
+        ++ codes " " ++ decimal entry.now.moment
+        ++ codes " " ++ spec.shown_word entry.now.reason.now) }
+{
+    put_word(out, entry.host)?;
+    put_number(alloc, out, entry.moment)?;
+    put_word(out, entry.reason.as_bytes())
+}
+
+/// The line for a connection.
 pub fn log_line(
     alloc: Global,
     told: &str,
-    line: &[u8],
+    entry: &Entry<'_>,
     bytes: u64,
     micros: u64,
 ) -> Result<Vec<u8>, AllocError>
     ensures { IfOk result (λ text. text.items
-        ≡ spec.log_line told.now line.now bytes micros) }
+        ≡ spec.log_line told.now entry.now bytes micros) }
 {
     let mut out = Vec::new(alloc);
     put(&mut out, told)?;
-    put_word(&mut out, first_word(line))?;
-    put_word(&mut out, first_word(other_words(line)))?;
+    put_word(&mut out, first_word(entry.line))?;
+    put_word(&mut out, first_word(other_words(entry.line)))?;
     put_number(alloc, &mut out, bytes)?;
     put_number(alloc, &mut out, micros)?;
+    put_entry(alloc, &mut out, entry)?;
     put(&mut out, "\n")?;
     Ok(out)
 }

@@ -1,10 +1,24 @@
 //! Where connections come from.
 
-ghost use Rattle.std.specs.Prelude.{ℕ, Option, Some};
+ghost use Rattle.std.specs.Prelude.{◌≡◌, ℕ, Option, Some};
 ghost use Rattle.dh_server.specs.Serving.{Counts};
 
-use crate::stream::next_stream;
+use crate::stream::{accept_message, accept_request, limited, pause, ready};
+use std::io;
 use std::net::{TcpListener, TcpStream};
+use std::os::unix::net::{UnixListener, UnixStream};
+
+/// How many accepts may fail, one behind the other, until none is told: a second of them.
+const MOST_TRIES: u32 = 20;
+
+/// A connection that came.
+#[derive(Drop)]
+pub enum Came {
+    /// To the port.
+    Request(TcpStream),
+    /// To the control socket.
+    Message(UnixStream),
+}
 
 /// Where connections come from.
 pub trait Listen {
@@ -12,29 +26,92 @@ pub trait Listen {
     ghost asked: { Self → Option ℕ };
 
     /// The next connection, which it waits for. None where there was none to be had, or it was lost before it could be answered.
-    fn accept(&mut self) -> Option<TcpStream>
+    fn accept(&mut self) -> Option<Came>
         ensures { Counts (asked self.old) (asked self.new) 1 };
 }
 
-/// The connections that come in at a port.
+/// The connections that come in at a port, and at a control socket where there is one: now from the one and now from the other
+/// where both have some.
 #[derive(Drop)]
 pub struct Listening<'a> {
-    listener: &'a TcpListener,
+    port: &'a TcpListener,
+    socket: Option<&'a UnixListener>,
+    /// Whether the port was tried last.
+    socket_first: bool,
     asked: u64,
 }
 
 impl<'a> Listening<'a> {
-    /// None asked for yet.
-    pub fn new(listener: &'a TcpListener) -> Listening<'a> {
-        Listening { listener, asked: 0 }
+    /// Those of a port. None asked for yet.
+    pub fn new(port: &'a TcpListener) -> Listening<'a> {
+        Listening {
+            port,
+            socket: None,
+            socket_first: true,
+            asked: 0,
+        }
+    }
+
+    /// Those of a port and of a socket, whose accepts wait no more from then on. None asked for yet.
+    pub fn with_socket(
+        port: &'a TcpListener,
+        socket: &'a UnixListener,
+    ) -> io::Result<Listening<'a>> {
+        port.set_nonblocking(true)?;
+        socket.set_nonblocking(true)?;
+        Ok(Listening {
+            port,
+            socket: Some(socket),
+            socket_first: true,
+            asked: 0,
+        })
+    }
+
+    /// Waits for a connection of either, and accepts it: from the socket, unless that was tried last and the port has one, too.
+    fn accept_either(&mut self, socket: &UnixListener) -> Option<Came>
+        ensures { self.new.asked ≡ self.old.asked }
+    {
+        let (has_request, has_message) = ready(self.port, socket);
+        let is_message = has_message && (self.socket_first || !has_request);
+        self.socket_first = !is_message;
+        if is_message {
+            accept_message(socket)
+        } else {
+            accept_request(self.port)
+        }
+    }
+
+    /// One accept.
+    fn accept_once(&mut self) -> Option<Came>
+        ensures { self.new.asked ≡ self.old.asked }
+    {
+        match self.socket {
+            Some(socket) => self.accept_either(socket),
+            None => accept_request(self.port),
+        }
+    }
+
+    /// The next connection. An accept that failed is tried again after a pause, for a second: the system may have been out of
+    /// descriptors, and then each further one fails at once.
+    fn next_came(&mut self) -> Option<Came>
+        ensures { self.new.asked ≡ self.old.asked }
+    {
+        for _ in 0..MOST_TRIES {
+            match self.accept_once() {
+                Some(came) => return Some(came),
+                None => pause(),
+            }
+        }
+        None
     }
 }
 
 impl<'a> Listen for Listening<'a> {
     ghost asked = { λ listening. Some listening.asked };
 
-    fn accept(&mut self) -> Option<TcpStream> {
+    fn accept(&mut self) -> Option<Came> {
         self.asked = self.asked.saturating_add(1);
-        next_stream(self.listener)
+        let came = self.next_came()?;
+        limited(came)
     }
 }

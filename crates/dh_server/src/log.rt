@@ -4,7 +4,7 @@ ghost use Rattle.std.specs.Prelude.{◌≡◌, false, IfOk, string_bytes};
 ghost use Rattle.dh_server.specs.Lines.{told_as, log_line};
 ghost use Rattle.dh_server.specs.Telling.{TellsLine};
 
-use crate::line::log_line;
+use crate::line::{Entry, log_line};
 use crate::telling::put_or_lose;
 use dh_http::{Done, EngineFault};
 use dh_ports::Sink;
@@ -13,10 +13,11 @@ use std::time::{Clock, Instant};
 
 /// Whether connections are told, and the clock for the last figure of their lines.
 ///
-/// A line is `STATUS METHOD TARGET BYTES MICROSECONDS`. In place of the status stands the fault of a connection without a whole
-/// reply, and `Accept` where there was none to answer. The bytes are those that the connection took. In method and target a byte
-/// that is no visible ASCII is a `?`, and of the request's line only the first 2,048 bytes are looked at. A line for which there
-/// is no memory, or which the sink does not take, is lost, and after that sink's fault each line.
+/// A line is `STATUS METHOD TARGET BYTES MICROSECONDS HOST MOMENT REASON`. In place of the status stands the fault of a connection
+/// without a whole reply, and `Accept` where there was none to answer. The bytes are those that the connection took, the moment is
+/// in seconds since 1970, and the reason is that of a 400. In a word a byte that is no visible ASCII is a `?`, and `-` stands for
+/// an empty one; of the request's line only the first 2,048 bytes are looked at. A line for which there is no memory, or which the
+/// sink does not take, is lost, and after that sink's fault each line.
 #[derive(Drop)]
 pub struct Log<T> {
     clock: T,
@@ -43,15 +44,15 @@ fn told_text(
 fn line_text(
     alloc: Global,
     outcome: Option<Result<Done, EngineFault>>,
-    line: &[u8],
+    entry: &Entry<'_>,
     bytes: u64,
     micros: u64,
 ) -> Result<Vec<u8>, AllocError>
     ensures { IfOk result (λ text. text.items
-        ≡ log_line (told_as outcome) line.now bytes micros) }
+        ≡ log_line (told_as outcome) entry.now bytes micros) }
 {
     let told = told_text(alloc, outcome)?;
-    log_line(alloc, told.as_str(), line, bytes, micros)
+    log_line(alloc, told.as_str(), entry, bytes, micros)
 }
 
 impl<T: Clock + Copy> Log<T> {
@@ -92,19 +93,19 @@ impl<T: Clock + Copy> Log<T> {
         alloc: Global,
         sink: &mut L,
         outcome: Option<Result<Done, EngineFault>>,
-        line: &[u8],
+        entry: &Entry<'_>,
         bytes: u64,
         start: Option<Instant>,
     )
         ensures line { TellsLine L.broken L.held sink.old sink.new
-            outcome line.now bytes }
+            outcome entry.now bytes }
         ensures off { self.now.is_on ≡ false → sink.new ≡ sink.old }
     {
         if !self.is_on || sink.failed() {
             return;
         }
         let micros = self.micros_since(start);
-        if let Ok(text) = line_text(alloc, outcome, line, bytes, micros) {
+        if let Ok(text) = line_text(alloc, outcome, entry, bytes, micros) {
             put_or_lose(sink, text.as_slice());
         }
     }

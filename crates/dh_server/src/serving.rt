@@ -4,14 +4,17 @@ ghost use Rattle.std.specs.Prelude.{◌≡◌, ◌≤◌, true, false, drop};
 ghost use Rattle.std.specs.Io.KnownBytes.{append_known};
 ghost use Rattle.dh_http.specs.Desk.{Moves};
 ghost use Rattle.dh_http.specs.Answers as spec;
-ghost use Rattle.dh_server.specs.Serving.{Answers, Turn, Serves, GivenBy, Steps, Counts};
+ghost use Rattle.dh_server.specs.Serving.{Answers, Turn, MayTurn, Serves, GivenBy, ChangesNothing, Steps, Counts};
 ghost use Rattle.dh_server.specs.Telling.{TellsSome};
 
 use crate::beginning::{Beginning, Heard};
+use crate::control::Control;
 use crate::counted::Counted;
 use crate::joined::Joined;
-use crate::listening::Listen;
+use crate::line::Entry;
+use crate::listening::{Came, Listen};
 use crate::log::Log;
+use crate::steady::Steady;
 use crate::stream::read_out;
 use crate::timed::Timed;
 use dh_http::{Desk, Done, EngineFault, answer};
@@ -56,6 +59,14 @@ fn leaves_input(answered: Result<Done, EngineFault>, came: &Beginning) -> bool {
     answered.is_ok() && !came.is_whole()
 }
 
+/// Why what came was answered by a 400; empty where it was not.
+fn reason_of(answered: Result<Done, EngineFault>, came: &Beginning) -> &'static str {
+    match answered {
+        Ok(Done { status: 400 }) => came.bad_part(),
+        _ => "",
+    }
+}
+
 /// Answers the request of a connection at a moment, and tells it.
 fn answer_stream<S: Alter, T: Clock + Copy, L: Sink>(
     alloc: Global,
@@ -72,29 +83,37 @@ fn answer_stream<S: Alter, T: Clock + Copy, L: Sink>(
     let start = log.start();
     let mut source = Heard::new(
         alloc,
-        Timed::new(log.clock(), MOST_SECONDS, Port::new(stream)),
+        Timed::new(log.clock(), MOST_SECONDS, Port::new(Steady::new(stream))),
     );
-    let port = Timed::new(log.clock(), MOST_SECONDS, Port::new(stream));
+    let port = Timed::new(log.clock(), MOST_SECONDS, Port::new(Steady::new(stream)));
     let mut sink = Joined::new(alloc, Counted::new(port));
     let result = answer_joined(alloc, desk, &mut source, &mut sink, now);
+    let came = source.beginning();
+    let entry = Entry {
+        line: came.first_line(),
+        host: came.host(),
+        moment: now,
+        reason: reason_of(result, came),
+    };
     log.tell(
         alloc,
         errors,
         Some(result),
-        source.beginning().first_line(),
+        &entry,
         sink.inner().count(),
         start,
     );
-    if leaves_input(result, source.beginning()) {
+    if leaves_input(result, came) {
         read_out(log.clock(), stream);
     }
 }
 
 /// Answers the next connection, at the moment when it came.
-fn serve_next<S: Alter, N: Listen, C: FnMut() -> u64, T: Clock + Copy, L: Sink>(
+fn serve_next<S: Alter, N: Listen, K: Control, C: FnMut() -> u64, T: Clock + Copy, L: Sink>(
     alloc: Global,
     desk: &mut Desk<S>,
     listener: &mut N,
+    control: &mut K,
     clock: &mut C,
     log: &Log<T>,
     errors: &mut L,
@@ -102,25 +121,28 @@ fn serve_next<S: Alter, N: Listen, C: FnMut() -> u64, T: Clock + Copy, L: Sink>(
     requires { C.IsAlwaysCallable clock.old }
     ensures asks { Counts (N.asked listener.old) (N.asked listener.new) 1 }
     ensures callable { C.IsAlwaysCallable clock.new }
-    ensures turn { Moves S.Store desk.old desk.new (Turn (GivenBy C.post)) }
+    ensures turn { Moves S.Store desk.old desk.new (MayTurn (GivenBy C.post) K.does) }
     ensures tells { TellsSome L.broken L.held errors.old errors.new }
     ensures off { log.now.is_on ≡ false → errors.new ≡ errors.old }
 {
-    let Some(stream) = listener.accept() else {
-        log.tell(alloc, errors, None, &[], 0, None);
-        return;
-    };
+    let came = listener.accept();
     let now = clock();
-    answer_stream(alloc, desk, &stream, now, log, errors);
+    match came {
+        Some(Came::Request(stream)) => answer_stream(alloc, desk, &stream, now, log, errors),
+        Some(Came::Message(stream)) => control.answer(alloc, desk, &stream, now),
+        None => log.tell(alloc, errors, None, &Entry::none(now), 0, None),
+    }
 }
 
-/// Accepts connections, one after another, and answers one request on each, which the log tells to `errors`; the clock gives the
-/// seconds since 1970. It asks for so many connections, and for no more once a fault of the store has closed the desk, which is
-/// when the reply that tells of it is out. It answers for how many it asked.
-pub fn serve_on<S: Alter, N: Listen, C: FnMut() -> u64, T: Clock + Copy, L: Sink>(
+/// Accepts connections, one after another, and answers one request on each of the port, which the log tells to `errors`; what is
+/// done with those of a control socket is handed in. The clock gives the seconds since 1970. It asks for so many connections, and
+/// for no more once a fault of the store has closed the desk, which is when the reply that tells of it is out. It answers for how
+/// many it asked.
+pub fn serve_on<S: Alter, N: Listen, K: Control, C: FnMut() -> u64, T: Clock + Copy, L: Sink>(
     alloc: Global,
     desk: &mut Desk<S>,
     listener: &mut N,
+    control: &mut K,
     clock: &mut C,
     count: u32,
     log: &Log<T>,
@@ -131,14 +153,14 @@ pub fn serve_on<S: Alter, N: Listen, C: FnMut() -> u64, T: Clock + Copy, L: Sink
     ensures few { result ≤ count }
     ensures all { desk.new.closed ≡ false → result ≡ count }
     ensures shut { desk.old.closed ≡ true → result ≡ 0 }
-    ensures serves { Moves S.Store desk.old desk.new (Serves (GivenBy C.post) result) }
-    ensures steps { Moves S.Store desk.old desk.new (Steps result) }
+    ensures serves { Moves S.Store desk.old desk.new (Serves (GivenBy C.post) K.does result) }
+    ensures steps { ChangesNothing K.does → Moves S.Store desk.old desk.new (Steps result) }
     ensures tells { TellsSome L.broken L.held errors.old errors.new }
     ensures off { log.now.is_on ≡ false → errors.new ≡ errors.old }
 {
     let mut asked = 0;
     while asked < count && !desk.is_closed() {
-        serve_next(alloc, desk, listener, clock, log, errors);
+        serve_next(alloc, desk, listener, control, clock, log, errors);
         asked += 1;
     }
     asked

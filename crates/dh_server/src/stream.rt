@@ -1,17 +1,21 @@
-//! TCP streams: how they are accepted, their limits and their end.
+//! Streams: how they are accepted, their limits and their end.
 
+use crate::listening::Came;
+use crate::steady::Steady;
 use crate::timed::Timed;
 use dh_ports::{Port, Source};
-use libc::net::poll;
+use libc::net::{POLLIN, poll};
 use libc::types::pollfd;
 use std::net::{Shutdown, TcpListener, TcpStream};
+use std::os::fd::{AsRawFd, RawFd};
+use std::os::unix::net::UnixListener;
 use std::time::{Clock, Duration};
 
 /// How many milliseconds pass behind an accept that failed.
 const PAUSE: i32 = 50;
 
-/// How many accepts may fail, one behind the other, until none is told: a second of them.
-const MOST_TRIES: u32 = 20;
+/// No limit of a wait.
+const FOREVER: i32 = -1;
 
 /// How many seconds one read or one write may wait.
 const PATIENCE: u64 = 10;
@@ -25,32 +29,56 @@ const READING_OUT: u64 = 2;
 /// How many bytes one such read asks for.
 const PIECE: usize = 16_384;
 
-/// Waits: a poll of nothing does no more, and needs no handle.
-fn pause(milliseconds: i32) {
+/// Waits behind an accept that failed: a poll of nothing does no more, and needs no handle.
+pub fn pause() {
     let mut nothing: [pollfd; 0] = [];
-    let _ = poll(&mut nothing, milliseconds);
+    let _ = poll(&mut nothing, PAUSE);
 }
 
-/// The next connection. An accept that failed is tried again after a pause, for a second: the system may have been out of
-/// descriptors, and then each further one fails at once.
-fn accept(listener: &TcpListener) -> Option<TcpStream> {
-    for _ in 0..MOST_TRIES {
-        match listener.accept() {
-            Ok((stream, _)) => return Some(stream),
-            Err(_) => pause(PAUSE),
+fn asking(fd: RawFd) -> pollfd {
+    pollfd {
+        fd,
+        events: POLLIN,
+        revents: 0,
+    }
+}
+
+/// Waits until a port or a socket has a connection, and tells which of them has. Neither where the wait was cut.
+pub fn ready(port: &TcpListener, socket: &UnixListener) -> (bool, bool) {
+    let mut asked = [asking(port.as_raw_fd()), asking(socket.as_raw_fd())];
+    if poll(&mut asked, FOREVER) < 1 {
+        return (false, false);
+    }
+    (asked[0].revents != 0, asked[1].revents != 0)
+}
+
+/// The next connection of the port.
+pub fn accept_request(port: &TcpListener) -> Option<Came> {
+    let (stream, _) = port.accept().ok()?;
+    Some(Came::Request(stream))
+}
+
+/// The next connection of the socket.
+pub fn accept_message(socket: &UnixListener) -> Option<Came> {
+    let (stream, _) = socket.accept().ok()?;
+    Some(Came::Message(stream))
+}
+
+/// A connection whose reads and writes wait for ten seconds at most. One whose limits cannot be set is let go.
+pub fn limited(came: Came) -> Option<Came> {
+    let patience = Some(Duration::from_secs(PATIENCE));
+    match &came {
+        Came::Request(stream) => {
+            stream.set_read_timeout(patience).ok()?;
+            stream.set_write_timeout(patience).ok()?;
+            let _ = stream.set_nodelay(true);
+        }
+        Came::Message(stream) => {
+            stream.set_read_timeout(patience).ok()?;
+            stream.set_write_timeout(patience).ok()?;
         }
     }
-    None
-}
-
-/// The next connection, whose reads and writes wait for ten seconds at most. One whose limits cannot be set is let go.
-pub fn next_stream(listener: &TcpListener) -> Option<TcpStream> {
-    let stream = accept(listener)?;
-    let patience = Some(Duration::from_secs(PATIENCE));
-    stream.set_read_timeout(patience).ok()?;
-    stream.set_write_timeout(patience).ok()?;
-    let _ = stream.set_nodelay(true);
-    Some(stream)
+    Some(came)
 }
 
 /// Ends the writing, and reads on until the client is done, or sends nothing for a second, three seconds in all: a stream that is
@@ -60,7 +88,7 @@ pub fn read_out<T: Clock + Copy>(clock: T, stream: &TcpStream) {
     if stream.shutdown(Shutdown::Write).is_err() || stream.set_read_timeout(patience).is_err() {
         return;
     }
-    let mut rest = Timed::new(clock, READING_OUT, Port::new(stream));
+    let mut rest = Timed::new(clock, READING_OUT, Port::new(Steady::new(stream)));
     let mut room = [0u8; PIECE];
     for _ in 0..u32::MAX {
         if !matches!(rest.fill(&mut room), Ok(1..)) {

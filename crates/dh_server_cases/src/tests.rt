@@ -6,11 +6,12 @@ mod handed;
 mod kept;
 mod logs;
 mod passes;
+mod sockets;
 mod streams;
 
 use dh_ports::{Failed, Port, Sink};
 use dh_sample::sample_desk;
-use dh_server::{Listening, Log, serve_on};
+use dh_server::{Listening, Log, NoControl, serve_on};
 use std::io;
 use std::io::Write;
 use std::net::{Ipv4Addr, SocketAddr, TcpListener, TcpStream};
@@ -78,6 +79,7 @@ fn serve(rt: &HostRuntime, listener: &TcpListener, count: u32) -> Result<u32, Fa
         rt.alloc(),
         &mut desk,
         &mut listening,
+        &mut NoControl,
         &mut || 0,
         count,
         &Log::new(rt, false),

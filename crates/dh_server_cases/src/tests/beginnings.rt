@@ -66,3 +66,29 @@ fn nobody_knows(rt: HostRuntime) -> Result<(), Fail> {
     }
     Ok(())
 }
+
+/// Whether this host and this reason are told of a source that held the text, in pieces of seven bytes.
+fn is_told(rt: &HostRuntime, text: &str, host: &str, reason: &str) -> bool {
+    let mut heard = Heard::new(rt.alloc(), Port::new(text.as_bytes()));
+    let mut room = [0u8; 7];
+    for _ in 0..text.len() {
+        let _ = heard.fill(&mut room);
+    }
+    let came = heard.beginning();
+    came.host() == host.as_bytes() && came.bad_part() == reason
+}
+
+#[test]
+fn a_400_has_its_reason(rt: HostRuntime) -> Result<(), Fail> {
+    let cut = "GET / HTTP/1.1\r\nHost: docs.test\r\n";
+    assert!(rt; is_told(&rt, cut, "docs.test", "NoEnd"));
+    let nowhere = "GET / HTTP/1.1\r\nDocs-Pass: reader-7\r\n\r\nHost: docs.test\r\n";
+    assert!(rt; is_told(&rt, nowhere, "", "NoHost"));
+    let twice = "GET / HTTP/1.1\r\nhost:docs.test\r\nDocs-Pass: a\r\ndocs-pass: b\r\n\r\n";
+    assert!(rt; is_told(&rt, twice, "docs.test", "TwoLines"));
+    let short = "POST /_/push HTTP/1.1\nHost: docs.test\nContent-Length: 9\n\n{}";
+    assert!(rt; is_told(&rt, short, "docs.test", "ShortBody"));
+    let other = "POST /_/push HTTP/1.1\nHost: a b\nContent-Length: 2\n\n{}";
+    assert!(rt; is_told(&rt, other, "a b", "Form"));
+    Ok(())
+}

@@ -3,7 +3,7 @@
 use super::{Counter, INSTALL, PAGE, client, listen, received};
 use dh_ports::Port;
 use dh_sample::sample_desk;
-use dh_server::{Listening, Log, serve_on};
+use dh_server::{Listening, Log, NoControl, serve_on};
 use std::io;
 use std::net::Shutdown;
 use std::test::Fail;
@@ -37,7 +37,8 @@ fn told(rt: &HostRuntime, text: &str) -> Result<String, Fail> {
         rt.alloc(),
         &mut desk,
         &mut listening,
-        &mut || 0,
+        &mut NoControl,
+        &mut || 1000,
         1,
         &log,
         &mut errors,
@@ -51,7 +52,7 @@ fn told(rt: &HostRuntime, text: &str) -> Result<String, Fail> {
 fn a_line_is_told(rt: HostRuntime) -> Result<(), Fail> {
     assert_eq!(rt;
         told(&rt, INSTALL)?.as_str(),
-        "200 GET /en/latest/install.html 115 0\n"
+        "200 GET /en/latest/install.html 115 0 docs.test 1000 -\n"
     );
     Ok(())
 }
@@ -60,14 +61,14 @@ fn a_line_is_told(rt: HostRuntime) -> Result<(), Fail> {
 fn a_strange_line_is_shown_as_text(rt: HostRuntime) -> Result<(), Fail> {
     assert_eq!(rt;
         told(&rt, "G\u{1b}T /\u{e9}\t HTTP/1.1\r\n\r\n")?.as_str(),
-        "400 G?T /??? 124 0\n"
+        "400 G?T /??? 124 0 - 1000 NoHost\n"
     );
     Ok(())
 }
 
 #[test]
 fn no_line_is_told_by_a_hyphen(rt: HostRuntime) -> Result<(), Fail> {
-    assert_eq!(rt; told(&rt, "")?.as_str(), "400 - - 124 0\n");
+    assert_eq!(rt; told(&rt, "")?.as_str(), "400 - - 124 0 - 1000 NoEnd\n");
     Ok(())
 }
 
@@ -87,6 +88,7 @@ fn full_log_does_not_stop_it(rt: &HostRuntime) -> Result<bool, Fail> {
         rt.alloc(),
         &mut desk,
         &mut listening,
+        &mut NoControl,
         &mut || 0,
         2,
         &log,

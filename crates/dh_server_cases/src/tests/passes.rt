@@ -5,7 +5,7 @@ use dh_http::{Answer, Command, CommandChange};
 use dh_paths::Text;
 use dh_ports::Port;
 use dh_sample::sample_desk;
-use dh_server::{Listening, Log, serve_on};
+use dh_server::{Listening, Log, NoControl, serve_on};
 use sqlite::MemStore;
 use std::alloc::Global;
 use std::net::TcpListener;
@@ -64,6 +64,7 @@ fn serve_three(rt: &HostRuntime, listener: &TcpListener) -> Result<bool, Fail> {
         rt.alloc(),
         &mut desk,
         &mut listening,
+        &mut NoControl,
         &mut clock,
         3,
         &log,

@@ -1,6 +1,6 @@
 use Rattle.std.proofs.Common.{◌≡◌, ◌≤◌, ◌-◌, true, false}
 use Rattle.dh_http.specs.Desk.{Moves}
-use Rattle.dh_server.specs.Serving.{Serves, GivenBy, Steps, Counts}
+use Rattle.dh_server.specs.Serving.{Serves, GivenBy, Counts}
 use Rattle.dh_server.specs.Telling.{TellsSome}
 use Rattle.dh_server.proofs.serving.serve_on.Given as goal
 
@@ -10,8 +10,7 @@ invariant-loop-asked g l = record {
   asks : Counts (g.N.Listen.asked l.fn.listener) (g.N.Listen.asked l.listener) l.asked;
   few : l.asked ≤ l.count;
   shut : l.fn.desk.closed ≡ true → (l.asked ≡ 0) × (l.desk.closed ≡ true);
-  serves : Moves g.S.Store l.fn.desk l.desk (Serves (GivenBy (goal.C-post g)) l.asked);
-  steps : Moves g.S.Store l.fn.desk l.desk (Steps l.asked);
+  serves : Moves g.S.Store l.fn.desk l.desk (Serves (GivenBy (goal.C-post g)) g.K.Control.does l.asked);
   tells : TellsSome g.L.Sink.broken g.L.Sink.held l.fn.errors l.errors;
   off : l.fn.log.is_on ≡ false → l.errors ≡ l.fn.errors;
 }

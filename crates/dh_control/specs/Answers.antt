@@ -1,0 +1,84 @@
+-- What a message does to the world, and what is written for it.
+use Rattle.std.specs.Prelude.{◌≡◌, ◌⊎◌, ℕ, Bool, true, [], ◌∷◌, ◌++◌, Option, Some, None, Result, Ok, Err, IfSome, OnOk, is_err}
+use Rattle.std.specs.Io.KnownBytes.{Appends}
+use Rattle.std.specs.List.{slice_split}
+use Rattle.std.specs.Str.{IsUtf8}
+use Rattle.dh_lines.specs.Lines.{line_in}
+use Rattle.dh_lines.specs.declared.lines.Line.{Line}
+use Rattle.dh_lines.specs.declared.lines.Order.{Order}
+use Rattle.dh_script.specs.Reading.{IsScript}
+use Rattle.dh_script.specs.Running.{RunsScript}
+use Rattle.dh_script.specs.Script.{Performs, MayDoOrder, is_unread}
+use Rattle.dh_script.specs.declared.fault.RunFault.TheVariants.{Write}
+use Rattle.dh_script.specs.declared.fault.ScriptFault.{ScriptFault}
+use Rattle.dh_script.specs.declared.fault.ScriptFault.TheVariants.{Run}
+use Rattle.dh_world.specs.World.{Text, World}
+use Rattle.dh_control.specs.Messages.{is_nul, body_of, behind, words_mark, script_mark}
+use Rattle.dh_control.specs.Ends.{end_of, end_line}
+use Rattle.dh_control.specs.declared.end.End.{End}
+use Rattle.dh_control.specs.declared.end.End.TheVariants.{Unknown}
+
+-- an order was performed, what it prints was written, with LF, and the end says whether it was refused; where a fault ended it,
+-- it was done or was not
+abbrev pub DoesOne : {E : Type 0} → ℕ → World → Order → World → Option Text → Option Text → Result End E → Type 0
+DoesOne moment before order after held now (Ok end) =
+    (text : Text) × (refused : Bool) × Performs moment before order after text refused
+    × Appends held now (text ++ 10 ∷ []) × (end ≡ end_of refused)
+DoesOne moment before order after held now (Err fault) = MayDoOrder moment before order after
+
+-- what is no message does nothing, and prints nothing
+abbrev pub DoesNone : {E : Type 0} → World → World → Option Text → Option Text → Result End E → Type 0
+DoesNone before after held now (Ok end) = (after ≡ before) × (now ≡ held) × (end ≡ Unknown)
+DoesNone before after held now (Err fault) = after ≡ before
+
+-- what words order is done, whatever file they name
+abbrev pub DoesWords : {E : Type 0} → ℕ → World → Option Line → World → Option Text → Option Text → Result End E → Type 0
+DoesWords moment before None after held now result = DoesNone before after held now result
+DoesWords moment before (Some line) after held now result = DoesOne moment before line.order after held now result
+
+-- what was sent as words are the texts between its NULs; what is no text does nothing
+abbrev pub DoesSent : ℕ → Text → World → World → Option Text → Option Text → Result End ScriptFault → Type 0
+DoesSent moment sent before after held now result =
+    (IsUtf8 sent × DoesWords moment before (line_in (slice_split is_nul sent)) after held now result)
+    ⊎ ((IsUtf8 sent → ⊥) × DoesNone before after held now result)
+
+-- a script ran; one that is none did nothing
+pub record DoesScript (moment : ℕ) (script : Text) (before after : World) (held now : Option Text) (result : Result End ScriptFault) : Type 0 where
+  pub ran : RunsScript moment (Some script) before after held now result
+  pub whole : OnOk result (IsScript script)
+  pub unread : is_unread result ≡ true → (after ≡ before) × (now ≡ held)
+
+abbrev pub DoesBy : ℕ → Option Text → Option Text → World → World → Option Text → Option Text → Result End ScriptFault → Type 0
+DoesBy moment (Some sent) script before after held now result = DoesSent moment sent before after held now result
+DoesBy moment None (Some script) before after held now result = DoesScript moment script before after held now result
+DoesBy moment None None before after held now result = DoesNone before after held now result
+
+-- by its mark; a message that was cut does nothing
+abbrev pub DoesBody : ℕ → Option Text → World → World → Option Text → Option Text → Result End ScriptFault → Type 0
+DoesBody moment None before after held now result = DoesNone before after held now result
+DoesBody moment (Some body) before after held now result =
+    DoesBy moment (behind words_mark body) (behind script_mark body) before after held now result
+
+-- what a message does at a moment, and what it prints
+abbrev pub DoesMessage : ℕ → Text → World → World → Option Text → Option Text → Result End ScriptFault → Type 0
+DoesMessage moment message before after held now result = DoesBody moment (body_of message) before after held now result
+
+-- the last line tells how it ended, behind what was printed; or that line is lost
+abbrev pub HasLastLine : Option Text → Option Text → Result End ScriptFault → Result End ScriptFault → Type 0
+HasLastLine held now ended result =
+    ((result ≡ ended) × Appends held now (end_line ended)) ⊎ (result ≡ Err (Run Write))
+
+-- the message of a source was done, and its end was told
+pub record AnswersWhole (moment : ℕ) (left : Option Text) (before after : World) (held now : Option Text) (result : Result End ScriptFault) : Type 0 where
+  pub message : Text
+  pub read : IfSome left (λ input. message ≡ input)
+  pub printed : Option Text
+  pub ended : Result End ScriptFault
+  pub does : DoesMessage moment message before after held printed ended
+  pub tells : HasLastLine printed now ended result
+
+-- it was, or it could not be read, and nothing was done or written
+abbrev pub AnswersMessage : ℕ → Option Text → World → World → Option Text → Option Text → Result End ScriptFault → Type 0
+AnswersMessage moment left before after held now result =
+    AnswersWhole moment left before after held now result
+    ⊎ ((is_err result ≡ true) × (after ≡ before) × (now ≡ held))

@@ -1,0 +1,44 @@
+-- How an answer is cut into what was printed and how it ended.
+use Rattle.std.specs.Prelude.{◌≡◌, ℕ, ◌-◌, ◌==◌, Bool, true, false, [], ◌∷◌, ◌++◌, Option, Some, None, Result}
+use Rattle.std.specs.Prelude.{length, take, drop, slice_index, codes, if◌then◌else◌}
+use Rattle.std.specs.Option.{option_map}
+use Rattle.dh_script.specs.declared.fault.ScriptFault.{ScriptFault}
+use Rattle.dh_world.specs.World.{Text}
+use Rattle.dh_control.specs.Ends.{end_line, end_word}
+use Rattle.dh_control.specs.Messages.{behind}
+use Rattle.dh_control.specs.declared.end.End.{End}
+
+-- a byte, where it ends a line of its own
+abbrev pub own_line : Bool → ℕ → Text
+own_line true byte = byte ∷ []
+own_line false byte = []
+
+-- a byte in front of the whole lines that follow it
+abbrev pub onto_lines : ℕ → Text → Text
+onto_lines byte [] = own_line (byte == 10) byte
+onto_lines byte (next ∷ lines) = byte ∷ next ∷ lines
+
+-- the lines of a text that have their ends, with these
+abbrev pub whole_lines : Text → Text
+whole_lines [] = []
+whole_lines (byte ∷ bytes) = onto_lines byte (whole_lines bytes)
+
+-- nothing but whole lines
+abbrev pub AreLines : Text → Type 0
+AreLines text = whole_lines text ≡ text
+
+-- of an answer without its last LF: what was printed stands in front of the last line, which is `end` and a word
+abbrev pub cut_front : Text → Option (Text × Text)
+cut_front front =
+    option_map (λ word. (whole_lines front, word)) (behind (codes "end ") (drop (length (whole_lines front)) front))
+
+-- what was printed, and the word by which the end is told
+abbrev pub cut : Text → Option (Text × Text)
+cut answer =
+    if slice_index answer (length answer - 1) == 10 then cut_front (take (length answer - 1) answer) else None
+
+-- whatever lines an answer prints, and however it ends, cutting it tells both
+abbrev pub AnswersAreCut : Type 0
+AnswersAreCut =
+    (printed : Text) (ended : Result End ScriptFault) → AreLines printed
+    → cut (printed ++ end_line ended) ≡ Some (printed, end_word ended)

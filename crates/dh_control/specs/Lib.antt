@@ -1,0 +1,4 @@
+pub mod Answers
+pub mod Cutting
+pub mod Ends
+pub mod Messages

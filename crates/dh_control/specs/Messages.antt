@@ -1,0 +1,42 @@
+-- What is sent.
+use Rattle.std.specs.Prelude.{ℕ, ◌-◌, ◌==◌, Bool, [], ◌∷◌, ◌++◌, Option, Some, None}
+use Rattle.std.specs.Prelude.{length, take, drop, slice_index, codes, nat_eq, if◌then◌else◌}
+use Rattle.std.specs.List.{starts_with}
+use Rattle.dh_world.specs.World.{Text}
+
+-- the most bytes of a message
+abbrev pub most_message : ℕ
+most_message = 1048640
+
+-- the byte that ends a message; it stands in no text
+abbrev pub last_byte : ℕ
+last_byte = 255
+
+-- a message without that byte; one that has none was cut
+abbrev pub body_of : Text → Option Text
+body_of message =
+    if slice_index message (length message - 1) == last_byte then Some (take (length message - 1) message)
+    else None
+
+-- what stands behind a mark
+abbrev pub behind : Text → Text → Option Text
+behind mark bytes = if starts_with nat_eq bytes mark then Some (drop (length mark) bytes) else None
+
+-- in front of the words of one order
+abbrev pub words_mark : Text
+words_mark = codes "docs_host 1 words\n"
+
+-- in front of the lines of a script
+abbrev pub script_mark : Text
+script_mark = codes "docs_host 1 script\n"
+
+-- between each two words
+abbrev pub is_nul : ℕ → Bool
+is_nul byte = nat_eq byte 0
+
+-- what a client sends to have an order done, whose words have a NUL between each two, and a script run
+abbrev pub words_message : Text → Text
+words_message words = words_mark ++ words ++ last_byte ∷ []
+
+abbrev pub script_message : Text → Text
+script_message script = script_mark ++ script ++ last_byte ∷ []

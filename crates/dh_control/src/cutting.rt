@@ -1,0 +1,44 @@
+//! An answer, as its client reads it.
+
+ghost use Rattle.std.specs.Prelude.{◌≡◌, ◌≤◌, length};
+ghost use Rattle.std.specs.Option.{option_map};
+ghost use Rattle.dh_control.specs.Cutting as spec;
+
+use crate::message::behind;
+
+/// An answer: what was printed, and how it ended.
+#[derive(Clone, Copy)]
+pub struct AnswerParts<'a> {
+    pub printed: &'a [u8],
+    /// `0`, `1`, `2`, or `3` and the name of a fault.
+    pub end: &'a [u8],
+}
+
+/// The lines of some bytes, each with its end: all that stands in front of the last that has none.
+fn lines_of(bytes: &[u8]) -> &[u8]
+    ensures lines { result.now ≡ spec.whole_lines bytes.now }
+    ensures within { length result.now ≤ length bytes.now }
+{
+    let mut lines = bytes;
+    while let Some((last, front)) = lines.split_last() {
+        if *last == b'\n' {
+            return lines;
+        }
+        lines = front;
+    }
+    lines
+}
+
+/// The parts of an answer. None where its last line is not whole, or tells no end.
+pub fn cut(answer: &[u8]) -> Option<AnswerParts<'_>>
+    ensures { option_map (λ parts. (parts.printed.now, parts.end.now)) result
+        ≡ spec.cut answer.now }
+{
+    let (last, front) = answer.split_last()?;
+    if *last != b'\n' {
+        return None;
+    }
+    let printed = lines_of(front);
+    let end = behind("end ", &front[printed.len()..])?;
+    Some(AnswerParts { printed, end })
+}

@@ -1,0 +1,15 @@
+//! Messages: orders that come in beside the requests of a server. What one asks for, what it does, and how its end is told.
+#![tactic(auto)]
+
+mod answering;
+mod asking;
+mod cutting;
+mod end;
+mod laws;
+mod message;
+
+pub use answering::answer_message;
+pub use asking::{script_message, words_message};
+pub use cutting::{AnswerParts, cut};
+pub use end::End;
+pub use laws::answers_are_cut;

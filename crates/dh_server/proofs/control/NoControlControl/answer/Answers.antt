@@ -1,0 +1,6 @@
+use Rattle.std.proofs.Common.{refl}
+use Rattle.dh_http.proofs.Moving.{Moves-refl}
+use Rattle.dh_server.proofs.control.NoControlControl.answer.Goals as goal
+
+pub returns : goal.returns
+returns g c = Moves-refl (λ w. refl)
