@@ -1,0 +1,11 @@
+//! What list words print: the rows of what a file holds, by definition, and the text of one row.
+#![tactic(auto)]
+
+mod rows;
+mod words;
+
+pub use rows::{
+    append_grant, append_lang, append_name, append_pass, append_project, append_redirect,
+    append_rule, append_version, listed_head,
+};
+pub use words::{ListWord, ProjectList};

@@ -1,0 +1,205 @@
+//! The rows of lists, each behind an LF.
+
+ghost use Rattle.std.specs.Prelude.{◌≡◌, ◌∷◌, ◌++◌, IfOk, OnOk, string_bytes};
+ghost use Rattle.dh_listings.specs.ListingTexts as spec;
+
+use dh_paths::{HostName, Lang, RefName, Slug, Token};
+use dh_redirects::{Redirect, RedirectKind};
+use dh_rules::{Action, Rule};
+use dh_versions::{Kind, Version};
+use dh_world::PassEnd;
+use std::alloc::{AllocError, Global};
+
+fn kind_word(kind: Kind) -> &'static str
+    ensures { result.now ≡ spec.kind_word kind }
+{
+    match kind {
+        Kind::Branch => "branch",
+        Kind::Tag => "tag",
+    }
+}
+
+fn active_word(active: bool) -> &'static str
+    ensures { result.now ≡ spec.active_word active }
+{
+    if active { "active" } else { "inactive" }
+}
+
+fn hidden_word(hidden: bool) -> &'static str
+    ensures { result.now ≡ spec.hidden_word hidden }
+{
+    if hidden { "hidden" } else { "shown" }
+}
+
+fn private_word(private: bool) -> &'static str
+    ensures { result.now ≡ spec.private_word private }
+{
+    if private { "private" } else { "public" }
+}
+
+fn action_word(action: Action) -> &'static str
+    ensures { result.now ≡ spec.action_word action }
+{
+    match action {
+        Action::Activate => "activate",
+        Action::Hide => "hide",
+        Action::Public => "public",
+        Action::Private => "private",
+        Action::Default => "default",
+    }
+}
+
+fn redirect_word(kind: RedirectKind) -> &'static str
+    ensures { result.now ≡ spec.redirect_word kind }
+{
+    match kind {
+        RedirectKind::Page => "page",
+        RedirectKind::Exact => "exact",
+        RedirectKind::CleanToHtml => "clean-to-html",
+        RedirectKind::HtmlToClean => "html-to-clean",
+    }
+}
+
+/// The text, or the word for none.
+fn text_word(text: &str) -> &str
+    ensures { result.now ≡ spec.text_word text.now }
+{
+    if text.is_empty() { "none" } else { text }
+}
+
+fn force_end(force: bool) -> &'static str
+    ensures { result.now ≡ spec.force_end force }
+{
+    if force { "\t--force" } else { "" }
+}
+
+fn put(out: &mut String, text: &str) -> Result<(), AllocError>
+    ensures { OnOk result (string_bytes out.new ≡ string_bytes out.old ++ text.now) }
+{
+    out.push_str(text)
+}
+
+/// `listed` and how many rows follow.
+#[tactic(auto, unfolding(crate::specs::ListingTexts::listed_head))]
+pub fn listed_head(alloc: Global, count: usize) -> Result<String, AllocError>
+    ensures { IfOk result (λ text. string_bytes text ≡ spec.listed_head count) }
+{
+    format!(in alloc; "listed {count}")
+}
+
+/// A slug that a pass is granted.
+pub fn append_grant(out: &mut String, slug: &Slug) -> Result<(), AllocError>
+    ensures { OnOk result (string_bytes out.new ≡ string_bytes out.old ++ 9 ∷ slug.now) }
+{
+    let slug = slug.as_str();
+    write!(out, "\t{slug}")
+}
+
+/// A project, without its write key.
+#[tactic(auto, unfolding(crate::specs::ListingTexts::project_words))]
+pub fn append_project(
+    out: &mut String,
+    host: &HostName,
+    main: &Lang,
+    branch: &RefName,
+    private: bool,
+) -> Result<(), AllocError>
+    ensures { OnOk result (string_bytes out.new
+        ≡ string_bytes out.old ++ 10 ∷ spec.project_words host.now main.now branch.now private) }
+{
+    let (host, main, branch) = (host.as_str(), main.as_str(), branch.as_str());
+    let private = private_word(private);
+    write!(out, "\n{host}\t{main}\t{branch}\t{private}")
+}
+
+pub fn append_lang(out: &mut String, lang: &Lang) -> Result<(), AllocError>
+    ensures { OnOk result (string_bytes out.new ≡ string_bytes out.old ++ 10 ∷ lang.now) }
+{
+    let lang = lang.as_str();
+    write!(out, "\n{lang}")
+}
+
+/// A name among the defaults.
+pub fn append_name(out: &mut String, name: &Slug) -> Result<(), AllocError>
+    ensures { OnOk result (string_bytes out.new ≡ string_bytes out.old ++ 10 ∷ name.now) }
+{
+    let name = name.as_str();
+    write!(out, "\n{name}")
+}
+
+#[tactic(auto, unfolding(crate::specs::ListingTexts::version_words))]
+pub fn append_version(out: &mut String, version: &Version) -> Result<(), AllocError>
+    ensures { OnOk result (string_bytes out.new
+        ≡ string_bytes out.old ++ 10 ∷ spec.version_words version.now) }
+{
+    let kind = kind_word(version.kind);
+    let (name, slug) = (version.name.as_str(), version.slug.as_str());
+    let active = active_word(version.active);
+    let hidden = hidden_word(version.hidden);
+    let private = private_word(version.private);
+    write!(
+        out,
+        "\n{kind}\t{name}\t{slug}\t{active}\t{hidden}\t{private}"
+    )
+}
+
+/// A rule at its place. Its pattern is written as it is: an expression may hold a tab or an LF.
+#[tactic(auto, unfolding(crate::specs::ListingTexts::rule_words))]
+pub fn append_rule(
+    out: &mut String,
+    alloc: Global,
+    place: u32,
+    rule: &Rule,
+) -> Result<(), AllocError>
+    ensures { OnOk result (string_bytes out.new
+        ≡ string_bytes out.old ++ 10 ∷ spec.rule_words place rule.now) }
+{
+    let kind = kind_word(rule.kind);
+    let pattern = rule.pattern.text(alloc)?;
+    let pattern = pattern.as_str();
+    let action = action_word(rule.action);
+    write!(out, "\n{place}\t{kind}\t{pattern}\t{action}")
+}
+
+#[tactic(auto, unfolding(crate::specs::ListingTexts::redirect_words))]
+pub fn append_redirect(out: &mut String, place: u32, redirect: &Redirect) -> Result<(), AllocError>
+    ensures { OnOk result (string_bytes out.new
+        ≡ string_bytes out.old ++ 10 ∷ spec.redirect_words place redirect.now) }
+{
+    let kind = redirect_word(redirect.kind);
+    let status = redirect.status;
+    let source = text_word(redirect.source.as_str());
+    let target = text_word(redirect.target.as_str());
+    let force = force_end(redirect.force);
+    write!(
+        out,
+        "\n{place}\t{kind}\t{status}\t{source}\t{target}{force}"
+    )
+}
+
+fn put_end(out: &mut String, until: &Option<PassEnd>) -> Result<(), AllocError>
+    ensures { OnOk result (string_bytes out.new ≡ string_bytes out.old ++ spec.end_word until.now) }
+{
+    match until {
+        Some(end) => {
+            let second = end.second();
+            write!(out, "{second}")
+        }
+        None => put(out, "none"),
+    }
+}
+
+/// A pass, and when it ends. What it is granted stands behind, each slug behind a tab.
+#[tactic(auto, unfolding(crate::specs::ListingTexts::pass_start))]
+pub fn append_pass(
+    out: &mut String,
+    pass: &Token,
+    until: &Option<PassEnd>,
+) -> Result<(), AllocError>
+    ensures { OnOk result (string_bytes out.new
+        ≡ string_bytes out.old ++ 10 ∷ spec.pass_start pass.now until.now) }
+{
+    let pass = pass.as_str();
+    write!(out, "\n{pass}\t")?;
+    put_end(out, until)
+}

@@ -1,0 +1,24 @@
+//! What list words ask for.
+
+use dh_paths::Text;
+
+/// What a list word asks for. Its texts are as they came: under a text that is no host's name there is no project.
+#[derive(Drop)]
+pub enum ListWord {
+    /// The projects of all hosts.
+    Projects,
+    /// A list of the project under a host.
+    OfProject { host: Text, list: ProjectList },
+}
+
+/// A list of one project.
+#[derive(Drop)]
+pub enum ProjectList {
+    Langs,
+    Versions,
+    Defaults,
+    Rules,
+    Redirects,
+    /// Passes, each with what it is granted.
+    Passes,
+}
