@@ -32,7 +32,9 @@ class Left(Exception):
 def judge_script(path):
     """What is wrong with the model's answer to a script, as lines."""
     written, fault, status = lines.run_script({}, path.read_bytes(), int(time.time()))
-    wanted_told = (TOOL.beside(path, ".err") or b"").split(b"\n")[0]
+    # (the model tells no sentences)
+    lines_told = (TOOL.beside(path, ".err") or b"").split(b"\n")
+    wanted_told = next((line for line in lines_told if line.startswith(b"fault ")), b"")
     wanted_status = int(TOOL.beside(path, ".status") or b"0")
     told = b"fault " + fault if fault else b""
     return TOOL.compared(TOOL.beside(path, ".out"), wanted_told, wanted_status, written, told, status)

@@ -1,5 +1,5 @@
 -- What reading a script takes, and the fault that it hands on.
-use Rattle.std.proofs.Common.{◌≡◌, ℕ, ◌≤◌, Bool, List, length, Option, Result, Err, IsErrAnd, arith, ap, sym, ◌∙◌}
+use Rattle.std.proofs.Common.{◌≡◌, ℕ, ◌+◌, ◌≤◌, Bool, List, length, Option, Result, Err, IsErrAnd, arith, ap, sym, ◌∙◌}
 use Rattle.std.proofs.lemmas.Result.{err_from_is_err_and}
 use Rattle.std.specs.Io.KnownBytes.{Consumes}
 use Rattle.dh_ports.specs.declared.stop.Stop.{Stop}
@@ -15,8 +15,8 @@ most_lost-little TooManyTurns = omega arith
 most_lost-little Memory = omega arith
 
 -- the bytes so far, and at most a piece that was lost
-pub stop_took : (left now next : Option (List ℕ)) (before : List ℕ) (stop : Stop) → Consumes left now before → length before ≤ 1048576 → TookAtMost now next (most_lost stop) → TookAtMost left next 1052672
-stop_took left now next before stop taken within lost =
+pub stop_took : (most : ℕ) (left now next : Option (List ℕ)) (before : List ℕ) (stop : Stop) → Consumes left now before → length before ≤ most → TookAtMost now next (most_lost stop) → TookAtMost left next (most + 4096)
+stop_took most left now next before stop taken within lost =
     let all : TookAtMost left next _ = took_on left now next before (most_lost stop) taken lost in
     (all.0, all.1, omega (arith, all.2, most_lost-little stop))
 

@@ -11,6 +11,10 @@ use Rattle.dh_world.specs.Seen.{seen}
 use Rattle.dh_world.specs.Reads.{host_named, caller_named}
 use Rattle.dh_world.specs.declared.outcome.Outcome.{Outcome}
 use Rattle.dh_lines.specs.declared.lines.Line.{Line}
+use Rattle.dh_world.specs.declared.outcome.Outcome.TheVariants as outcomes
+use Rattle.dh_script.specs.Outcomes.{text_of_outcome, is_refusal}
+use Rattle.dh_script.specs.Reasons.{reason_of, Explains}
+use Rattle.dh_script.specs.declared.reasons.Reason.{Reason}
 use Rattle.dh_script.specs.Script.{outcome_of_read, Tells, GetsAt, DoesOver, MayDo, MayDoOrder}
 
 -- what is told of a read's outcome, whose reply is the definition's
@@ -22,6 +26,13 @@ got text_in refused_in w named host shown pass moment t reply outcome result val
     let by_host = subst (λ (h : Text). IfOk reply (λ r. r ≡ reply_to (seen w (host_named h) (caller_named shown moment)) t.path t.query)) same_host value in
     let by_pass = subst (λ (p : Option Text). IfOk reply (λ r. r ≡ reply_to (seen w (host_named host) (caller_named p moment)) t.path t.query)) same_pass by_host in
     IfOk-weaker result _ _ (λ p is. (reply, by_pass, subst (λ (o : Outcome). Tells o (text_in p) (refused_in p)) same is)) told
+
+-- what is told of an outcome has its reason
+pub explained : (o : Outcome) (text : Text) (refused : Bool) (reason : Option Reason) → text ≡ text_of_outcome o → refused ≡ is_refusal o → reason ≡ reason_of o → Explains reason text refused
+explained (outcomes.Applied answer) text refused reason is told why = subst (λ (r : Option Reason). Explains r text refused) (sym why) told
+explained (outcomes.Refused refusal) text refused reason is told why = subst (λ (r : Option Reason). Explains r text refused) (sym why) (is, told)
+explained (outcomes.Replied reply) text refused reason is told why = subst (λ (r : Option Reason). Explains r text refused) (sym why) told
+explained (outcomes.Failed fault) text refused reason is told why = subst (λ (r : Option Reason). Explains r text refused) (sym why) (is, told)
 
 -- a line that names no store may do what its order may
 pub may_line : (moment : ℕ) (before after : World) (line : Line) → line.store ≡ None → MayDoOrder moment before line.order after → MayDo moment before (Some line) after

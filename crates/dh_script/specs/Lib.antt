@@ -1,5 +1,7 @@
 pub mod Outcomes
 pub mod Reading
+pub mod Reasons
 pub mod Running
 pub mod Script
 pub mod LineCalls
+pub mod Faults

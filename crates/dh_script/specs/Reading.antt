@@ -21,15 +21,23 @@ abbrev pub writer_failed : {A : Type 0} → Result A ScriptFault → Bool
 writer_failed (Ok value) = false
 writer_failed (Err fault) = is_write fault
 
--- what is true of an input whose reading ends in a fault
+-- the most bytes of a script
+abbrev pub most_script : ℕ
+most_script = 1048576
+
+-- what is true of an input, of which so many bytes may be read, whose reading ends in a fault
+abbrev pub IsCauseOver : ℕ → ScriptFault → List ℕ → Type 0
+IsCauseOver most TooLong input = most < length input
+IsCauseOver most NotText input = IsUtf8 input → ⊥
+IsCauseOver most (Unread TooManyTurns) input = 100000 ≤ length input
+IsCauseOver most (Unread Read) input = ⊤
+IsCauseOver most (Unread Memory) input = ⊤
+IsCauseOver most (Run fault) input = ⊤
+
+-- the same of a script
 abbrev pub IsCause : ScriptFault → List ℕ → Type 0
-IsCause TooLong input = 1048576 < length input
-IsCause NotText input = IsUtf8 input → ⊥
-IsCause (Unread TooManyTurns) input = 100000 ≤ length input
-IsCause (Unread Read) input = ⊤
-IsCause (Unread Memory) input = ⊤
-IsCause (Run fault) input = ⊤
+IsCause = IsCauseOver most_script
 
 -- a script: UTF-8, of at most 1,048,576 bytes
 abbrev pub IsScript : List ℕ → Type 0
-IsScript input = IsUtf8 input × (length input ≤ 1048576)
+IsScript input = IsUtf8 input × (length input ≤ most_script)

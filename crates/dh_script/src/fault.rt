@@ -3,6 +3,7 @@
 ghost use Rattle.std.specs.Prelude.{◌≡◌};
 ghost use Rattle.dh_script.specs.declared.fault.RunFault.TheVariants.{Memory};
 ghost use Rattle.dh_script.specs.declared.fault.ScriptFault.TheVariants.{Run, Unread};
+ghost use Rattle.dh_script.specs.Faults.{name_of};
 
 use dh_ports::Stop;
 use std::alloc::AllocError;
@@ -32,6 +33,22 @@ pub enum ScriptFault {
     /// Its lines did not all run. The commands so far are done.
     #[error("{0}")]
     Run(RunFault),
+}
+
+impl ScriptFault {
+    /// The name that programs read.
+    pub fn name(self) -> &'static str
+        ensures { result.now ≡ name_of self }
+    {
+        match self {
+            ScriptFault::Unread(Stop::Read) => "Read",
+            ScriptFault::Unread(Stop::TooManyTurns) => "TooManyTurns",
+            ScriptFault::Unread(Stop::Memory) | ScriptFault::Run(RunFault::Memory) => "Memory",
+            ScriptFault::TooLong => "TooLong",
+            ScriptFault::NotText => "NotText",
+            ScriptFault::Run(RunFault::Write) => "Write",
+        }
+    }
 }
 
 impl From<Stop> for ScriptFault {

@@ -6,10 +6,15 @@ mod laws;
 mod orders;
 mod outcomes;
 mod reading;
+mod reasons;
+mod report;
 mod script;
 
 pub use fault::{RunFault, ScriptFault};
 pub use laws::lines_are_calls;
 pub use orders::{Printed, is_bad_target, perform};
 pub use outcomes::outcome_text;
+pub use reading::read_script;
+pub use reasons::Reason;
+pub use report::{RefusedLine, Report};
 pub use script::run_script;

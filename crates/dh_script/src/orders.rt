@@ -4,10 +4,12 @@ ghost use Rattle.std.specs.Prelude.{◌≡◌, true, Some, string_bytes, IfOk, O
 ghost use Rattle.std.specs.Option.{is_none};
 ghost use Rattle.dh_paths.specs.Targets.{target_of};
 ghost use Rattle.dh_desk.specs.Desk.{Moves};
+ghost use Rattle.dh_script.specs.Reasons.{Explains};
 ghost use Rattle.dh_script.specs.Script.{Tells, GetsAt};
-ghost use Rattle.dh_script.specs.Script.{Performs, MayDoOrder};
+ghost use Rattle.dh_script.specs.Script.{IsUsage, Performs, MayDoOrder};
 
-use crate::outcomes::{is_refusal, outcome_text};
+use crate::outcomes::{is_refusal, outcome_text, reason_of};
+use crate::reasons::Reason;
 use dh_desk::{Desk, commanded, pass_text, read_out};
 use dh_lines::Order;
 use dh_paths::{Target, Text, TextFault};
@@ -23,26 +25,44 @@ pub struct Printed {
     pub text: String,
     /// Whether what was asked for was refused, or failed.
     pub refused: bool,
+    /// Why, where it was.
+    pub reason: Option<Reason>,
 }
 
 /// What is told of an outcome.
 fn told(alloc: Global, outcome: &Outcome) -> Result<Printed, AllocError>
-    ensures { IfOk result (λ p. Tells outcome.now (string_bytes p.text) p.refused) }
+    ensures tells { IfOk result (λ p. Tells outcome.now (string_bytes p.text) p.refused) }
+    ensures explains { IfOk result (λ p. Explains p.reason (string_bytes p.text) p.refused) }
 {
     let text = outcome_text(alloc, outcome)?;
     let refused = is_refusal(outcome);
-    Ok(Printed { text, refused })
+    let reason = reason_of(outcome);
+    Ok(Printed {
+        text,
+        refused,
+        reason,
+    })
 }
 
 /// A refusal in these words.
-fn refusal(alloc: Global, text: &str) -> Result<Printed, AllocError>
-    ensures { IfOk result (λ p. (string_bytes p.text ≡ text.now) × (p.refused ≡ true)) }
+fn refusal(alloc: Global, text: &str, reason: Reason) -> Result<Printed, AllocError>
+    ensures { IfOk result (λ p. (string_bytes p.text ≡ text.now) × (p.refused ≡ true)
+        × (p.reason ≡ Some reason)) }
 {
     let text = String::from_str(alloc, text)?;
     Ok(Printed {
         text,
         refused: true,
+        reason: Some(reason),
     })
+}
+
+/// What is told of what is no command and no read.
+pub fn usage(alloc: Global) -> Result<Printed, AllocError>
+    ensures tells { IfOk result (λ p. IsUsage (string_bytes p.text) p.refused) }
+    ensures explains { IfOk result (λ p. Explains p.reason (string_bytes p.text) p.refused) }
+{
+    refusal(alloc, "usage", Reason::Usage)
 }
 
 fn do_read<S: Alter>(
@@ -56,6 +76,7 @@ fn do_read<S: Alter>(
     ensures gets { Moves S.Store desk.old desk.new
         (λ before after. (after ≡ before) × IfOk result
         (λ p. GetsAt before host.now pass.now moment (Some target) (string_bytes p.text) p.refused)) }
+    ensures explains { IfOk result (λ p. Explains p.reason (string_bytes p.text) p.refused) }
 {
     let Target {
         host: _,
@@ -79,11 +100,12 @@ fn do_get<S: Alter>(
         (λ before after. (after ≡ before) × IfOk result
         (λ p. GetsAt before host.now pass.now moment (target_of target.now)
         (string_bytes p.text) p.refused)) }
+    ensures explains { IfOk result (λ p. Explains p.reason (string_bytes p.text) p.refused) }
 {
     match Target::read(alloc, target.as_str().as_bytes()) {
         Ok(target) => do_read(alloc, desk, host, pass, moment, target),
         Err(TextFault::Memory) => Err(AllocError),
-        Err(_) => refusal(alloc, "bad target"),
+        Err(_) => refusal(alloc, "bad target", Reason::BadTarget),
     }
 }
 
@@ -111,6 +133,7 @@ pub fn perform<S: Alter>(
         (λ p. Performs now before order.now after (string_bytes p.text) p.refused)) }
     ensures may { Moves S.Store desk.old desk.new
         (λ before after. OnErr result (MayDoOrder now before order.now after)) }
+    ensures explains { IfOk result (λ p. Explains p.reason (string_bytes p.text) p.refused) }
 {
     match order {
         Order::Act(command) => told(alloc, &commanded(desk.apply(alloc, command))),
@@ -120,11 +143,11 @@ pub fn perform<S: Alter>(
             pass,
             moment,
         } => do_get(alloc, desk, host, target, pass, moment.unwrap_or(now)),
-        Order::Import { .. } => refusal(alloc, "usage"),
-        Order::Init { .. } => refusal(alloc, "usage"),
-        Order::Migrate { .. } => refusal(alloc, "usage"),
-        Order::Script => refusal(alloc, "usage"),
-        Order::Answer => refusal(alloc, "usage"),
-        Order::Serve { .. } => refusal(alloc, "usage"),
+        Order::Import { .. } => usage(alloc),
+        Order::Init { .. } => usage(alloc),
+        Order::Migrate { .. } => usage(alloc),
+        Order::Script => usage(alloc),
+        Order::Answer => usage(alloc),
+        Order::Serve { .. } => usage(alloc),
     }
 }

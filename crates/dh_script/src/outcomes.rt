@@ -6,7 +6,9 @@ ghost use Rattle.dh_script.specs.Outcomes.{active_text, hidden_text, private_tex
 ghost use Rattle.dh_script.specs.Outcomes.{text_of_properties, text_of_answer, text_of_refusal};
 ghost use Rattle.dh_script.specs.Outcomes.{text_of_reply, text_of_fault, text_of_outcome};
 ghost use Rattle.dh_script.specs.Outcomes.{is_refusal as refuses};
+ghost use Rattle.dh_script.specs.Reasons.{reason_of as spec_reason};
 
+use crate::reasons::Reason;
 use dh_paths::{Slug, Text};
 use dh_reply::{Fault, Reply};
 use dh_world::{Answer, Outcome, Refusal};
@@ -162,5 +164,17 @@ pub fn is_refusal(outcome: &Outcome) -> bool
         Outcome::Refused(_) => true,
         Outcome::Replied(_) => false,
         Outcome::Failed(_) => true,
+    }
+}
+
+/// Why it is none that was asked for.
+pub fn reason_of(outcome: &Outcome) -> Option<Reason>
+    ensures { result ≡ spec_reason outcome.now }
+{
+    match outcome {
+        Outcome::Applied(_) => None,
+        Outcome::Refused(refusal) => Some(Reason::Refused(*refusal)),
+        Outcome::Replied(_) => None,
+        Outcome::Failed(fault) => Some(Reason::Failed(*fault)),
     }
 }

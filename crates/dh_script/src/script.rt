@@ -12,53 +12,57 @@ ghost use Rattle.dh_script.specs.Script.{Does, MayDo, is_unread};
 ghost use Rattle.dh_script.specs.Running.{Ran, RanBut, RunsScript, lines_in, seen, stopped_by_writer, words_in, worded};
 
 use crate::fault::{RunFault, ScriptFault};
-use crate::orders::perform;
+use crate::orders::{Printed, perform, usage};
 use crate::reading::read_script;
+use crate::report::Report;
 use dh_desk::Desk;
 use dh_lines::{Line, LineFault, docs_command, line_by};
 use dh_ports::{Sink, Source, Stop, put_all};
 use sqlite::Alter;
 use std::alloc::{AllocError, Global};
 
+/// The most bytes of a script.
+const MOST_BYTES: usize = 1_048_576;
+
 /// The most lines that one program of words reads, since their words live as long as it.
 const BATCH: usize = 1024;
 
 /// Does what a line orders that names no store of its own.
-fn own_text<S: Alter>(
+fn own_line<S: Alter>(
     alloc: Global,
     desk: &mut Desk<S>,
     line: &Line,
     now: u64,
-) -> Result<String, AllocError>
+) -> Result<Printed, AllocError>
     ensures does { Moves S.Store desk.old desk.new (λ before after. IfOk result
-        (λ text. Does now before (Some line.now) after (string_bytes text))) }
+        (λ p. Does now before (Some line.now) after (string_bytes p.text))) }
     ensures may { Moves S.Store desk.old desk.new
         (λ before after. OnErr result (MayDo now before (Some line.now) after)) }
 {
     match &line.store {
-        Some(_) => String::from_str(alloc, "usage"),
-        None => Ok(perform(alloc, desk, &line.order, now)?.text),
+        Some(_) => usage(alloc),
+        None => Ok(perform(alloc, desk, &line.order, now)?),
     }
 }
 
 /// Does what the words of a line order, and gives what the line prints.
-fn line_text<'a, S: Alter>(
+fn line_printed<'a, S: Alter>(
     alloc: Global,
     desk: &mut Desk<S>,
     program: &mut clap::Command<'a>,
     words: &'a [String],
     now: u64,
-) -> Result<String, AllocError>
+) -> Result<Printed, AllocError>
     requires { StandsFor docs_app program.old }
     ensures stands { StandsFor docs_app program.new }
     ensures does { Moves S.Store desk.old desk.new (λ before after. IfOk result
-        (λ text. Does now before (line_in (map string_bytes words.now)) after (string_bytes text))) }
+        (λ p. Does now before (line_in (map string_bytes words.now)) after (string_bytes p.text))) }
     ensures may { Moves S.Store desk.old desk.new
         (λ before after. OnErr result (MayDo now before (line_in (map string_bytes words.now)) after)) }
 {
     match line_by(alloc, program, words) {
-        Ok(line) => own_text(alloc, desk, &line, now),
-        Err(LineFault::Usage) => String::from_str(alloc, "usage"),
+        Ok(line) => own_line(alloc, desk, &line, now),
+        Err(LineFault::Usage) => usage(alloc),
         Err(LineFault::Memory) => Err(AllocError),
     }
 }
@@ -70,6 +74,7 @@ fn run_words<'a, S: Alter, W: Sink>(
     program: &mut clap::Command<'a>,
     words: &'a [String],
     sink: &mut W,
+    report: &mut Report,
     now: u64,
 ) -> Result<(), RunFault>
     requires writes { W.broken sink.old ≡ false }
@@ -80,7 +85,9 @@ fn run_words<'a, S: Alter, W: Sink>(
         (λ before after. Ran now before (map string_bytes words.now ∷ []) after
         (W.held sink.old) (W.held sink.new) result) }
 {
-    let mut text = line_text(alloc, desk, program, words, now)?;
+    let printed = line_printed(alloc, desk, program, words, now)?;
+    report.note(printed.reason);
+    let mut text = printed.text;
     text.push('\n')?;
     put_all(sink, text.as_bytes()).map_err(|_| RunFault::Write)
 }
@@ -91,6 +98,7 @@ fn run_batch<'a, S: Alter, W: Sink>(
     desk: &mut Desk<S>,
     lines: &'a [Vec<String>],
     sink: &mut W,
+    report: &mut Report,
     now: u64,
 ) -> Result<(), RunFault>
     requires { W.broken sink.old ≡ false }
@@ -101,7 +109,15 @@ fn run_batch<'a, S: Alter, W: Sink>(
 {
     let mut program = docs_command(alloc)?;
     for words in lines {
-        run_words(alloc, desk, &mut program, words.as_slice(), sink, now)?;
+        run_words(
+            alloc,
+            desk,
+            &mut program,
+            words.as_slice(),
+            sink,
+            report,
+            now,
+        )?;
     }
     Ok(())
 }
@@ -120,6 +136,21 @@ fn words_of(alloc: Global, line: &str) -> Result<Vec<String>, AllocError>
         }
     }
     Ok(words)
+}
+
+/// Tells a report which lines of a text have words.
+fn number_lines(alloc: Global, text: &str, report: &mut Report) {
+    let mut number: usize = 0;
+    for line in text.lines() {
+        number = number.saturating_add(1);
+        let has_words = match words_of(alloc, line) {
+            Ok(words) => !words.is_empty(),
+            Err(_) => false,
+        };
+        if has_words {
+            report.expect(number);
+        }
+    }
 }
 
 /// Adds the words of a line to a batch, unless it has none.
@@ -141,6 +172,7 @@ fn take_line<S: Alter, W: Sink>(
     batch: &mut Vec<Vec<String>>,
     line: &str,
     sink: &mut W,
+    report: &mut Report,
     now: u64,
 ) -> Result<(), RunFault>
     requires { W.broken sink.old ≡ false }
@@ -153,7 +185,7 @@ fn take_line<S: Alter, W: Sink>(
     if batch.len() < BATCH {
         return Ok(());
     }
-    run_batch(alloc, desk, batch.as_slice(), sink, now)?;
+    run_batch(alloc, desk, batch.as_slice(), sink, report, now)?;
     batch.clear();
     Ok(())
 }
@@ -164,6 +196,7 @@ fn run_lines<S: Alter, W: Sink>(
     desk: &mut Desk<S>,
     text: &str,
     sink: &mut W,
+    report: &mut Report,
     now: u64,
 ) -> Result<(), RunFault>
     requires { W.broken sink.old ≡ false }
@@ -172,24 +205,26 @@ fn run_lines<S: Alter, W: Sink>(
         (λ before after. Ran now before (lines_in text.now) after
         (W.held sink.old) (W.held sink.new) result) }
 {
+    number_lines(alloc, text, report);
     let mut batch = Vec::new(alloc);
     for line in text.lines() {
-        take_line(alloc, desk, &mut batch, line, sink, now)?;
+        take_line(alloc, desk, &mut batch, line, sink, report, now)?;
     }
-    run_batch(alloc, desk, batch.as_slice(), sink, now)
+    run_batch(alloc, desk, batch.as_slice(), sink, report, now)
 }
 
 /// Runs the lines of a script, which is read whole before its first line runs: at most 1,048,576
 /// bytes in at most 100,000 reads. A line ends with LF or CR LF, and the last may lack its end; its
 /// words stand between spaces and tabs. A line without words is passed over, and so is one that
 /// begins with `#`. Each other line writes one line: what came of its command or read, `bad target`
-/// for a read whose target is none, or `usage`, also where it names a store. `now` is the moment of each
-/// read that gives none of its own, in seconds since 1970.
+/// for a read whose target is none, or `usage`, also where it names a store. The report has those lines that were
+/// refused or failed. `now` is the moment of each read that gives none of its own, in seconds since 1970.
 pub fn run_script<S: Alter, R: Source, W: Sink>(
     alloc: Global,
     desk: &mut Desk<S>,
     source: &mut R,
     sink: &mut W,
+    report: &mut Report,
     now: u64,
 ) -> Result<(), ScriptFault>
     requires reader { R.broken source.old ≡ false }
@@ -208,9 +243,9 @@ pub fn run_script<S: Alter, R: Source, W: Sink>(
     ensures full { IsErrOf result (ScriptFault.Unread Stop.TooManyTurns)
         → CountsAtLeast (R.fills source.old) (R.fills source.new) 100000 }
 {
-    let bytes = read_script(alloc, source)?;
+    let bytes = read_script(alloc, source, MOST_BYTES)?;
     match str::from_utf8(bytes.as_slice()) {
-        Ok(text) => Ok(run_lines(alloc, desk, text, sink, now)?),
+        Ok(text) => Ok(run_lines(alloc, desk, text, sink, report, now)?),
         Err(_) => Err(ScriptFault::NotText),
     }
 }

@@ -7,7 +7,7 @@ use crate::rows::rows_of;
 use dh_desk::{Desk, Tables};
 use dh_opening::{TablesFault, create, migrate, open};
 use dh_ports::Port;
-use dh_script::run_script;
+use dh_script::{Report, run_script};
 use sqlite::{Alter, Connection};
 use std::alloc::{AllocError, Global};
 
@@ -44,7 +44,8 @@ fn script_line<S: Alter>(
     let mut printed = Vec::new(alloc);
     let mut sink = Port::new(&mut printed);
     let mut source = Port::new(line.as_bytes());
-    let _ended = run_script(alloc, desk, &mut source, &mut sink, 0);
+    let mut report = Report::new(alloc);
+    let _ended = run_script(alloc, desk, &mut source, &mut sink, &mut report, 0);
     drop(sink);
     let text = str::from_utf8(printed.as_slice()).unwrap_or("no text");
     String::from_str(alloc, text.trim_end())

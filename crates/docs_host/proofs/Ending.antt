@@ -1,7 +1,7 @@
 -- How runs end, by what is ordered and by what came of it.
 use Rattle.std.proofs.Common.{◌≡◌, ◌⊎◌, ◌∙◌, ℕ, ◌+◌, ◌-◌, ◌≤◌, arith, zero, suc, Bool, true, false, true≢false, List, [], ◌∷◌, ◌++◌, Option, Result, Ok, Err, refl, sym, ap, subst, inl, inr}
 use Rattle.std.proofs.lemmas.Result.{err_from_is_err_and}
-use Rattle.std.specs.Prelude.{IsTrue, IsErrAnd, IfOk, OnOk, None, drop, codes}
+use Rattle.std.specs.Prelude.{◌||◌, IsTrue, IsErrAnd, IfOk, OnOk, None, drop, codes}
 use Rattle.std.specs.FinMap.{empty}
 use Rattle.std.specs.Io.KnownBytes.{Appends}
 use Rattle.clap.specs.Faults.{fault_of, is_simple_and_free}
@@ -27,8 +27,8 @@ use Rattle.dh_lists.specs.declared.lists.ListFault.TheVariants as listed
 use Rattle.dh_lists.specs.declared.lists.RecordFault.{RecordFault}
 use Rattle.dh_script.specs.Running.{RunsScript}
 use Rattle.dh_lines.specs.Lines.{asking, line_in}
-use Rattle.docs_host.specs.Ends.{Ended, EndsError, EndsHelp, EndsScript, EndsChecked, EndsOver, EndsOrdered, EndsList, EndsAsked, EndsWords}
-use Rattle.docs_host.specs.Ends.{is_fault, status_after, may_end_order, may_end_single, asks_help, line_asked, line_run}
+use Rattle.docs_host.specs.Ends.{Ended, EndsError, EndsHelp, EndsScript, EndsChecked, EndsOver, EndsOrdered, EndsList, EndsAsked, EndsFirst, EndsVersion, EndsWords}
+use Rattle.docs_host.specs.Ends.{is_fault, status_after, may_end_order, may_end_single, asks_help, asks_version, line_asked, line_run}
 use Rattle.docs_host.specs.Failing.{may_fail, IsDoneOr, is_of_output, is_of_init, is_of_list, is_of_script, is_of_command, is_of_checked, is_of_file, is_of_memory}
 use Rattle.docs_host.specs.Failures.{failure_of}
 use Rattle.docs_host.specs.Orders.{OrdersList, RunsRequest, bad_record, has_bad_target}
@@ -286,18 +286,31 @@ module _ (host list : Text) (held now : Option Text) where
 -- ---- by the words
 
 module _ (words : List Text) where
-  pub no_line : asks_help words ≡ true → line_run words ≡ None
+  pub no_line : asks_help words ≡ true → line_asked (asks_help words) words ≡ None
   no_line asks = ap (λ b. line_asked b words) asks
 
-  pub its_line : asks_help words ≡ false → line_run words ≡ line_in words
+  pub its_line : asks_help words ≡ false → line_asked (asks_help words) words ≡ line_in words
   its_line asks = ap (λ b. line_asked b words) asks
 
+  -- of the version no line is run
+  pub no_version_line : asks_version words ≡ true → line_run words ≡ None
+  no_version_line asks = ap (λ b. line_asked (b || asks_help words) words) asks
+
+  pub no_version : asks_version words ≡ false → line_run words ≡ line_asked (asks_help words) words
+  no_version asks = ap (λ b. line_asked (b || asks_help words) words) asks
+
   module _ (moment : ℕ) (left held now : Option Text) (s : Status) where
+    pub version_asked : asks_version words ≡ true → EndsVersion held now s → EndsWords moment words left held now s
+    version_asked asks it = let P : Bool → Type 0 = λ b. EndsFirst moment b words left held now s in subst P (sym asks) it
+
+    pub other_asked : asks_version words ≡ false → EndsAsked moment (asks_help words) words left held now s → EndsWords moment words left held now s
+    other_asked asks it = let P : Bool → Type 0 = λ b. EndsFirst moment b words left held now s in subst P (sym asks) it
+
     pub help_asked : (names : List Text) → asks_help words ≡ true → names ≡ drop 1 words
-        → EndsHelp (names ++ codes "--help" ∷ []) s → EndsWords moment words left held now s
+        → EndsHelp (names ++ codes "--help" ∷ []) s → EndsAsked moment (asks_help words) words left held now s
     help_asked names asks same it =
         let P : Bool → Type 0 = λ b. EndsAsked moment b words left held now s in
         subst P (sym asks) (subst (λ n. EndsHelp (n ++ codes "--help" ∷ []) s) same it)
 
-    pub line_asked_for : asks_help words ≡ false → EndsAsked moment false words left held now s → EndsWords moment words left held now s
+    pub line_asked_for : asks_help words ≡ false → EndsAsked moment false words left held now s → EndsAsked moment (asks_help words) words left held now s
     line_asked_for asks it = let P : Bool → Type 0 = λ b. EndsAsked moment b words left held now s in subst P (sym asks) it

@@ -1,6 +1,6 @@
 -- How the program ends, by its words. Of a run, `left` is what its source had left, and `held` and
 -- `now` are what its sink held before and holds after it; each is `None` where it does not tell that.
-use Rattle.std.specs.Prelude.{◌≡◌, ◌⊎◌, ⊤, ℕ, Bool, true, false, IsTrue, List, [], ◌∷◌, ◌++◌, drop, codes}
+use Rattle.std.specs.Prelude.{◌≡◌, ◌⊎◌, ⊤, ℕ, Bool, true, false, ◌||◌, IsTrue, List, [], ◌∷◌, ◌++◌, drop, codes}
 use Rattle.std.specs.Prelude.{Option, Some, None, Result, Ok, Err}
 use Rattle.std.specs.FinMap.{empty}
 use Rattle.std.specs.Io.KnownBytes.{Appends}
@@ -158,17 +158,27 @@ abbrev pub EndsLine : ℕ → Option Line → List Text → Option Text → Opti
 EndsLine moment None words left held now status = EndsHelp words status
 EndsLine moment (Some line) words left held now status = EndsBy moment line.store line.order left held now status
 
+-- 0: the version was written; or 3
+abbrev pub EndsVersion : Option Text → Option Text → Status → Type 0
+EndsVersion held now Done = Appends held now (codes "docs_host 0.1.0" ++ 10 ∷ [])
+EndsVersion held now Faulty = ⊤
+EndsVersion held now _ = ⊥
+
+abbrev pub asks_version : List Text → Bool
+asks_version [] = false
+asks_version (word ∷ words) = bytes_eq word (codes "--version")
+
 abbrev pub asks_help : List Text → Bool
 asks_help [] = false
 asks_help (word ∷ words) = bytes_eq word (codes "help")
 
--- the line that is run: none where the first word is `help`
+-- the line that is run: none where the first word is `--version` or `help`
 abbrev pub line_asked : Bool → List Text → Option Line
 line_asked true words = None
 line_asked false words = line_in words
 
 abbrev pub line_run : List Text → Option Line
-line_run words = line_asked (asks_help words) words
+line_run words = line_asked (asks_version words || asks_help words) words
 
 -- the first word is `help`, and those behind it with `--help` ask for it; or the words' line ended so,
 -- or 3, and nothing was written
@@ -177,8 +187,13 @@ EndsAsked moment true words left held now status = EndsHelp (drop 1 words ++ cod
 EndsAsked moment false words left held now status =
     EndsLine moment (line_in words) words left held now status ⊎ ((now ≡ held) × (status ≡ Faulty))
 
+-- the first word is `--version`, which was written, or 3; or the words ended so
+abbrev pub EndsFirst : ℕ → Bool → List Text → Option Text → Option Text → Option Text → Status → Type 0
+EndsFirst moment true words left held now status = EndsVersion held now status
+EndsFirst moment false words left held now status = EndsAsked moment (asks_help words) words left held now status
+
 abbrev pub EndsWords : ℕ → List Text → Option Text → Option Text → Option Text → Status → Type 0
-EndsWords moment words = EndsAsked moment (asks_help words) words
+EndsWords moment words = EndsFirst moment (asks_version words) words
 
 -- the exit status is that of an end that these words may have, and `IsTold` holds of that end
 pub record EndsProgram (moment : ℕ) (words : List Text) (left held now : Option Text) (IsTold : Status → Type 0) (code : ℕ) : Type 0 where

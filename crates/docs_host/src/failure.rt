@@ -1,7 +1,7 @@
 //! How the program ends, and how it tells why.
 
-ghost use Rattle.std.specs.Prelude.{◌≡◌, ◌++◌, codes, option_map};
-ghost use Rattle.dh_server.specs.Telling.{Tells};
+ghost use Rattle.std.specs.Prelude.{◌≡◌, ◌++◌, ◌∷◌, [], codes, option_map};
+ghost use Rattle.dh_server.specs.Telling.{Tells, TellsSome};
 ghost use Rattle.docs_host.specs.Ends.{exit_code, status_after};
 ghost use Rattle.docs_host.specs.Failures as spec;
 ghost use Rattle.docs_host.specs.Failures.{failure_of, failure_of_sample};
@@ -14,9 +14,9 @@ use dh_http::EngineFault;
 use dh_ports::{Sink, Stop};
 use dh_reply::Fault;
 use dh_sample::SampleFault;
-use dh_script::{RunFault, ScriptFault};
+use dh_script::{Reason, RefusedLine, Report, RunFault, ScriptFault};
 use dh_server::put_or_lose;
-use std::alloc::AllocError;
+use std::alloc::{AllocError, Global};
 
 /// How the program ends.
 #[derive(Clone, Copy, Debug, PartialEq, Eq)]
@@ -275,6 +275,45 @@ pub fn tell<E: Sink>(errors: &mut E, failure: Failure, file: Option<&str>) -> St
     tell_name(errors, failure);
     tell_cause(errors, failure, file);
     failure.status()
+}
+
+/// Tells a sentence.
+fn tell_sentence<E: Sink>(errors: &mut E, sentence: &str)
+    ensures { Tells E.broken E.held errors.old errors.new
+        (codes "docs_host: " ++ sentence.now ++ 10 ∷ []) }
+{
+    put(errors, "docs_host: ");
+    put(errors, sentence);
+    put(errors, "\n");
+}
+
+/// Tells why what was asked for was not done, where it was not.
+pub fn tell_reason<E: Sink>(errors: &mut E, reason: Option<Reason>)
+    ensures { TellsSome E.broken E.held errors.old errors.new }
+{
+    if let Some(reason) = reason {
+        tell_sentence(errors, reason.sentence());
+    }
+}
+
+/// Tells why a line of a script was refused, unless memory is out.
+fn tell_line<E: Sink>(alloc: Global, errors: &mut E, line: RefusedLine)
+    ensures { TellsSome E.broken E.held errors.old errors.new }
+{
+    let number = line.number;
+    let sentence = line.reason.sentence();
+    if let Ok(text) = format!(in alloc; "docs_host: line {number}: {sentence}\n") {
+        put(errors, text.as_str());
+    }
+}
+
+/// Tells which lines of a script were refused, and why.
+pub fn tell_report<E: Sink>(alloc: Global, errors: &mut E, report: &Report)
+    ensures { TellsSome E.broken E.held errors.old errors.new }
+{
+    for line in report.refused() {
+        tell_line(alloc, errors, *line);
+    }
 }
 
 /// Tells a mistake in the words.

@@ -12,13 +12,13 @@ ghost use Rattle.docs_host.specs.Failing.{IsDoneOr, is_of_output, is_of_script, 
 ghost use Rattle.docs_host.specs.Failing.{is_of_order};
 ghost use Rattle.docs_host.specs.Orders.{AreUnbroken, RunsSingle, RunsRequest, RunsOrder, single_status};
 
-use crate::failure::{Failure, Status};
+use crate::failure::{Failure, Status, tell_reason, tell_report};
 use crate::serving::{Served, serve};
 use crate::streams::Streams;
 use dh_http::{Desk, answer};
 use dh_lines::Order;
 use dh_ports::{Sink, Source, put_both};
-use dh_script::{perform, run_script};
+use dh_script::{Report, ScriptFault, perform, run_script};
 use sqlite::Alter;
 use std::alloc::Global;
 
@@ -45,12 +45,13 @@ fn status_told(refused: bool) -> Status
     }
 }
 
-/// Does a single command or read, and writes what came of it.
-fn run_single<S: Alter, W: Sink>(
+/// Does a single command or read, writes what came of it, and tells why it was refused where it was.
+fn run_single<S: Alter, W: Sink, E: Sink>(
     alloc: Global,
     desk: &mut Desk<S>,
     order: &Order,
     sink: &mut W,
+    errors: &mut E,
     now: u64,
 ) -> Result<Status, Failure>
     requires { W.broken sink.old ≡ false }
@@ -59,18 +60,42 @@ fn run_single<S: Alter, W: Sink>(
     ensures may { Moves S.Store desk.old desk.new
         (λ before after. OnErr result (MayDoOrder now before order.now after)) }
     ensures ends { Ended (λ status. IsTrue (may_end_single status)) is_of_output result }
+    ensures tells { TellsSome E.broken E.held errors.old errors.new }
 {
     let printed = perform(alloc, desk, order, now)?;
     say(sink, printed.text.as_str())?;
+    tell_reason(errors, printed.reason);
     Ok(status_told(printed.refused))
 }
 
-/// Runs the lines of the input.
-pub fn run_lines<S: Alter, R: Source, W: Sink>(
+/// Runs a script, and tells then which of its lines were refused.
+fn run_reported<S: Alter, R: Source, W: Sink, E: Sink>(
     alloc: Global,
     desk: &mut Desk<S>,
     source: &mut R,
     sink: &mut W,
+    errors: &mut E,
+    now: u64,
+) -> Result<(), ScriptFault>
+    requires ready { AreUnbroken (R.broken source.old) (W.broken sink.old) }
+    ensures ran { Moves S.Store desk.old desk.new
+        (λ before after. RunsScript now (R.left source.old) before after
+        (W.held sink.old) (W.held sink.new) result) }
+    ensures tells { TellsSome E.broken E.held errors.old errors.new }
+{
+    let mut report = Report::new(alloc);
+    let ran = run_script(alloc, desk, source, sink, &mut report, now);
+    tell_report(alloc, errors, &report);
+    ran
+}
+
+/// Runs the lines of the input.
+pub fn run_lines<S: Alter, R: Source, W: Sink, E: Sink>(
+    alloc: Global,
+    desk: &mut Desk<S>,
+    source: &mut R,
+    sink: &mut W,
+    errors: &mut E,
     now: u64,
 ) -> Result<Status, Failure>
     requires ready { AreUnbroken (R.broken source.old) (W.broken sink.old) }
@@ -78,8 +103,9 @@ pub fn run_lines<S: Alter, R: Source, W: Sink>(
         (λ before after. RunsScript now (R.left source.old) before after
         (W.held sink.old) (W.held sink.new) result) }
     ensures ends { IsDoneOr is_of_script result }
+    ensures tells { TellsSome E.broken E.held errors.old errors.new }
 {
-    run_script(alloc, desk, source, sink, now)?;
+    run_reported(alloc, desk, source, sink, errors, now)?;
     Ok(Status::Done)
 }
 
@@ -125,6 +151,7 @@ pub fn run_order<S: Alter, R: Source, W: Sink, E: Sink>(
             desk,
             &mut streams.source,
             &mut streams.sink,
+            &mut streams.errors,
             now,
         ),
         Order::Answer => answer_request(
@@ -141,6 +168,13 @@ pub fn run_order<S: Alter, R: Source, W: Sink, E: Sink>(
         | Order::Get { .. }
         | Order::Import { .. }
         | Order::Init { .. }
-        | Order::Migrate { .. } => run_single(rt.alloc(), desk, order, &mut streams.sink, now),
+        | Order::Migrate { .. } => run_single(
+            rt.alloc(),
+            desk,
+            order,
+            &mut streams.sink,
+            &mut streams.errors,
+            now,
+        ),
     }
 }

@@ -4,26 +4,27 @@ ghost use Rattle.std.specs.Prelude.{◌≡◌, true, false, map, drop, string_by
 ghost use Rattle.dh_server.specs.Telling.{TellsSome};
 ghost use Rattle.dh_lines.specs.Lines.{line_in};
 ghost use Rattle.docs_host.specs.Ends.{Ended, EndsScript, EndsRequest, EndsOver, EndsList, EndsBy};
-ghost use Rattle.docs_host.specs.Ends.{EndsAsked, EndsWords, EndsProgram, asks_help, line_run};
+ghost use Rattle.docs_host.specs.Ends.{EndsAsked, EndsWords, EndsProgram};
+ghost use Rattle.docs_host.specs.Ends.{asks_help, asks_version, line_asked, line_run};
 ghost use Rattle.docs_host.specs.Failing.{IsDoneOr, is_of_init, is_of_file, is_of_command, is_of_memory, is_of_run};
 ghost use Rattle.docs_host.specs.Orders as spec;
 ghost use Rattle.docs_host.specs.Orders.{AreUnbroken};
 ghost use Rattle.docs_host.specs.Telling.{TellsEnd};
 ghost use Rattle.docs_host.specs.Telling as telling;
 
-use crate::failure::{Failure, Status, tell, tell_usage};
+use crate::failure::{Failure, Status, tell, tell_reason, tell_usage};
 use crate::lists::{ListFile, order_in, read_list_file, refuse_record};
 use crate::orders::{run_lines, run_order, say};
 use crate::serving::{Served, serve_rest};
 use crate::streams::Streams;
-use crate::usage::{tell_help, tell_mistake};
+use crate::usage::{tell_help, tell_mistake, tell_version};
 use dh_files::{close_desk, init_file, migrate_file, open_desk};
 use dh_lines::{Line, LineFault, Order, line_of};
 use dh_lists::ListFault;
 use dh_paths::Text;
 use dh_ports::{Sink, Source};
 use dh_sample::{answer_sample, empty_desk};
-use dh_script::is_bad_target;
+use dh_script::{Reason, is_bad_target};
 use sqlite::Start;
 use std::alloc::{AllocError, Global};
 
@@ -53,6 +54,7 @@ fn run_over<S: Start, R: Source, W: Sink, E: Sink>(
 {
     if has_bad_target(rt.alloc(), order)? {
         say(&mut streams.sink, "bad target")?;
+        tell_reason(&mut streams.errors, Some(Reason::BadTarget));
         return Ok(Status::Refused);
     }
     let (mut desk, projects) = open_desk(rt, file, start)?;
@@ -72,18 +74,20 @@ fn run_over<S: Start, R: Source, W: Sink, E: Sink>(
 }
 
 /// Runs the lines of the input over an empty store in memory.
-fn run_in_memory<R: Source, W: Sink>(
+fn run_in_memory<R: Source, W: Sink, E: Sink>(
     alloc: Global,
     source: &mut R,
     sink: &mut W,
+    errors: &mut E,
     now: u64,
 ) -> Result<Status, Failure>
     requires ready { AreUnbroken (R.broken source.old) (W.broken sink.old) }
-    ensures { Ended (EndsScript now (R.left source.old) (W.held sink.old) (W.held sink.new))
+    ensures ends { Ended (EndsScript now (R.left source.old) (W.held sink.old) (W.held sink.new))
         (is_of_memory Order.Script) result }
+    ensures tells { TellsSome E.broken E.held errors.old errors.new }
 {
     let mut desk = empty_desk(alloc)?;
-    run_lines(alloc, &mut desk, source, sink, now)
+    run_lines(alloc, &mut desk, source, sink, errors, now)
 }
 
 /// Answers the request of the input, over the sample.
@@ -188,6 +192,7 @@ fn run_line<S: Start, R: Source, W: Sink, E: Sink>(
             rt.alloc(),
             &mut streams.source,
             &mut streams.sink,
+            &mut streams.errors,
             now,
         ),
         (Order::Answer, None) => answer_over_sample(
@@ -217,6 +222,16 @@ fn helped(words: &[String]) -> Option<&[String]>
     match words.split_first() {
         Some((first, rest)) if first.as_str() == "help" => Some(rest),
         _ => None,
+    }
+}
+
+/// Whether the words ask which version of the program this is.
+fn wants_version(words: &[String]) -> bool
+    ensures { result ≡ asks_version (map string_bytes words.now) }
+{
+    match words.split_first() {
+        Some((first, _)) => first.as_str() == "--version",
+        None => false,
     }
 }
 
@@ -280,6 +295,28 @@ fn file_of(line: &Line, failure: Failure) -> Option<&str>
 }
 
 /// Gives the help that the words ask for, or does what they order.
+fn run_or_help<S: Start, R: Source, W: Sink, E: Sink>(
+    rt: &HostRuntime,
+    start: S,
+    words: &[String],
+    streams: &mut Streams<R, W, E>,
+    now: u64,
+) -> Status
+    requires ready { AreUnbroken (R.broken streams.old.source) (W.broken streams.old.sink) }
+    ensures ends { EndsAsked now (asks_help (map string_bytes words.now))
+        (map string_bytes words.now) (R.left streams.old.source)
+        (W.held streams.old.sink) (W.held streams.new.sink) result }
+    ensures told { TellsEnd E.broken E.held
+        (line_asked (asks_help (map string_bytes words.now)) (map string_bytes words.now))
+        streams.old.errors streams.new.errors result }
+{
+    match helped(words) {
+        Some(names) => tell_help(rt.alloc(), names, &mut streams.sink, &mut streams.errors),
+        None => run_words(rt, start, words, streams, now),
+    }
+}
+
+/// Says which version this is, gives the help that the words ask for, or does what they order.
 fn run_asked<S: Start, R: Source, W: Sink, E: Sink>(
     rt: &HostRuntime,
     start: S,
@@ -293,10 +330,10 @@ fn run_asked<S: Start, R: Source, W: Sink, E: Sink>(
     ensures told { TellsEnd E.broken E.held (line_run (map string_bytes words.now))
         streams.old.errors streams.new.errors result }
 {
-    match helped(words) {
-        Some(names) => tell_help(rt.alloc(), names, &mut streams.sink, &mut streams.errors),
-        None => run_words(rt, start, words, streams, now),
+    if wants_version(words) {
+        return tell_version(&mut streams.sink, &mut streams.errors);
     }
+    run_or_help(rt, start, words, streams, now)
 }
 
 /// The whole program over its words, without its own name: its streams are given, and `start` stands for what

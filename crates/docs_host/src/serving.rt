@@ -13,7 +13,7 @@ use crate::streams::Streams;
 use dh_files::{FileFault, close_desk, open_desk};
 use dh_http::Desk;
 use dh_ports::{Sink, Source};
-use dh_server::{Listen, Listening, Log, serve_on};
+use dh_server::{Listen, Listening, Log, NoControl, serve_on};
 use sqlite::Alter;
 use sqlite_disk::Unknown;
 use std::alloc::Global;
@@ -92,7 +92,16 @@ fn serve_desk<S: Alter, N: Listen, E: Sink>(
 {
     let mut clock = || seconds(rt);
     let log = Log::new(rt, log);
-    let asked = serve_on(rt.alloc(), desk, listening, &mut clock, count, &log, errors);
+    let asked = serve_on(
+        rt.alloc(),
+        desk,
+        listening,
+        &mut NoControl,
+        &mut clock,
+        count,
+        &log,
+        errors,
+    );
     if desk.is_closed() {
         return Some(count - asked);
     }

@@ -2,11 +2,12 @@
 
 ghost use Rattle.std.specs.Prelude.{◌≡◌, ◌++◌, [], ◌∷◌, false, map, codes, string_bytes, IfOk, OnErr, ⊤, None};
 ghost use Rattle.clap.specs.Values.{kind_of};
-ghost use Rattle.docs_host.specs.Ends.{Ended, EndsError, EndsHelp};
+ghost use Rattle.docs_host.specs.Ends.{Ended, EndsError, EndsHelp, EndsVersion};
 ghost use Rattle.docs_host.specs.Failing.{is_of_output};
 ghost use Rattle.docs_host.specs.Telling.{TellsEnd};
 
 use crate::failure::{Failure, Status, put, tell, tell_usage};
+use crate::orders::say;
 use clap::error::ErrorKind;
 use clap::{ArgMatches, Error};
 use dh_lines::{docs_command, reads};
@@ -80,6 +81,16 @@ fn tell_values<E: Sink>(alloc: Global, matches: &ArgMatches<'_>, errors: &mut E)
     }
 }
 
+/// A text of `clap`, whose line on usage begins with the program's own name, too, where a command is meant.
+fn with_program_name(alloc: Global, text: String) -> Result<String, AllocError> {
+    match text.as_str().split_once("\nUsage: ") {
+        Some((front, usage)) if !usage.starts_with("docs_host") => {
+            format!(in alloc; "{front}\nUsage: docs_host {usage}")
+        }
+        _ => String::from_str(alloc, text.as_str()),
+    }
+}
+
 /// Writes the help that was asked for to standard output, and a mistake to standard error.
 fn tell_error<W: Sink, E: Sink>(
     alloc: Global,
@@ -95,7 +106,7 @@ fn tell_error<W: Sink, E: Sink>(
     if kind == ErrorKind::OutOfMemory {
         return Err(Failure::Memory);
     }
-    let text = format!(in alloc; "{error}")?;
+    let text = with_program_name(alloc, format!(in alloc; "{error}")?)?;
     if kind != ErrorKind::DisplayHelp {
         put(errors, text.as_str());
         return Ok(Status::Usage);
@@ -193,4 +204,23 @@ pub fn tell_mistake<W: Sink, E: Sink>(
 {
     let told = tell_words(alloc, words, sink, errors);
     ended(told, errors)
+}
+
+/// Writes which version of the program this is. Of the commit that it was built from it knows nothing.
+fn write_version<W: Sink>(sink: &mut W) -> Result<Status, Failure>
+    requires { W.broken sink.old ≡ false }
+    ensures ends { Ended (EndsVersion (W.held sink.old) (W.held sink.new)) is_of_output result }
+{
+    say(sink, "docs_host 0.1.0")?;
+    Ok(Status::Done)
+}
+
+/// Says which version of the program this is.
+pub fn tell_version<W: Sink, E: Sink>(sink: &mut W, errors: &mut E) -> Status
+    requires { W.broken sink.old ≡ false }
+    ensures ends { EndsVersion (W.held sink.old) (W.held sink.new) result }
+    ensures told { TellsEnd E.broken E.held None errors.old errors.new result }
+{
+    let written = write_version(sink);
+    ended(written, errors)
 }

@@ -29,13 +29,14 @@ fn taken_names_are_refused(rt: HostRuntime) -> Result<(), Fail> {
 
 #[test]
 fn within_a_transaction_a_view_answers_nothing(rt: HostRuntime) -> Result<(), Fail> {
-    let mut tables = Tables::in_memory(rt.alloc())?;
+    let alloc = rt.alloc();
+    let mut tables = Tables::in_memory(alloc)?;
     tables.begin()?;
     let caller = Caller {
         pass: None,
         moment: 0,
     };
-    let mut view = View::new(&mut tables, None, caller);
+    let mut view = View::new(alloc, &mut tables, None, caller);
     assert!(rt; matches!(view.known(), Err(Fault::Store)));
     let tables = view.close();
     tables.back()?;

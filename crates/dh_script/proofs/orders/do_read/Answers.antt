@@ -9,8 +9,9 @@ returns g c = record {
     moves = λ honest. (
       c.read.ensures.same honest,
       got (λ p. string_bytes p.text) (λ p. p.refused) (world g.S.Store c.args.desk.now) c.as_str.result.now c.args.host.now _ c.args.pass.now c.args.moment c.args.target c.read.result c.read_out-outcome.result c.told.result
-          (c.read.ensures.value honest) c.as_str.ensures c.pass_text.ensures c.read_out-outcome.ensures c.told.ensures,
+          (c.read.ensures.value honest) c.as_str.ensures c.pass_text.ensures c.read_out-outcome.ensures c.told.ensures.tells,
     );
     lasts = c.read.ensures.lasts;
   };
+  explains = c.told.ensures.explains;
 }

@@ -8,7 +8,7 @@ invariant-pieces g l = record {
   taken : Consumes (g.R.Source.left l.fn.source) (g.R.Source.left l.source) l.intake.bytes.items;
   asked : CountsUpTo (g.R.Source.fills l.fn.source) (g.R.Source.fills l.source) l.intake.reads;
   counted : CountsAtLeast (g.R.Source.fills l.fn.source) (g.R.Source.fills l.source) l.intake.reads;
-  little : length l.intake.bytes.items ≤ 1048576;
+  little : length l.intake.bytes.items ≤ l.most;
   few : l.intake.reads ≤ 100000;
   fine : g.R.Source.broken l.source ≡ false;
 }

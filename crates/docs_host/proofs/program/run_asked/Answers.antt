@@ -1,30 +1,29 @@
-use Rattle.std.proofs.Common.{map, string_bytes}
+use Rattle.std.proofs.Common.{◌∙◌, map, sym, string_bytes}
 use Rattle.std.specs.Prelude.{None}
-use Rattle.dh_lines.specs.Lines.{line_in}
-use Rattle.docs_host.specs.Ends.{line_run}
-use Rattle.docs_host.proofs.Ending.{no_line, its_line, help_asked, line_asked_for}
+use Rattle.docs_host.specs.Ends.{asks_help, line_asked, line_run}
+use Rattle.docs_host.proofs.Ending.{no_version, no_version_line, other_asked, version_asked}
 use Rattle.docs_host.proofs.Telling.{told_of}
 use Rattle.docs_host.proofs.program.run_asked.Goals as goal
 
-pub returns-in-Some-clause-ends : goal.returns-in-Some-clause-ends
-returns-in-Some-clause-ends g c =
-    help_asked (map string_bytes c.args.words.now) c.args.now (g.R.Source.left c.args.streams.now.source) (g.W.Sink.held c.args.streams.now.sink)
-    (g.W.Sink.held c.tell_help.new.sink) c.tell_help.result (map string_bytes c.in-Some.names.now)
-    c.in-Some.ensures.0 c.in-Some.ensures.1 c.tell_help.ensures.ends
+pub returns-then-wants_version-clause-ends : goal.returns-then-wants_version-clause-ends
+returns-then-wants_version-clause-ends g c =
+    version_asked (map string_bytes c.args.words.now) c.args.now (g.R.Source.left c.args.streams.now.source) (g.W.Sink.held c.args.streams.now.sink)
+    (g.W.Sink.held c.tell_version.new.sink) c.tell_version.result (sym c.wants_version.ensures ∙ c.if-wants_version.true) c.tell_version.ensures.ends
 
-pub returns-in-Some-clause-told : goal.returns-in-Some-clause-told
-returns-in-Some-clause-told g c =
-    told_of g.E.Sink.broken g.E.Sink.held c.args.streams.now.errors c.tell_help.new.errors c.tell_help.result
-    (line_run (map string_bytes c.args.words.now)) None (no_line (map string_bytes c.args.words.now) c.in-Some.ensures.0)
-    c.tell_help.ensures.told
+pub returns-then-wants_version-clause-told : goal.returns-then-wants_version-clause-told
+returns-then-wants_version-clause-told g c =
+    told_of g.E.Sink.broken g.E.Sink.held c.args.streams.now.errors c.tell_version.new.errors c.tell_version.result
+    (line_run (map string_bytes c.args.words.now)) None
+    (no_version_line (map string_bytes c.args.words.now) (sym c.wants_version.ensures ∙ c.if-wants_version.true)) c.tell_version.ensures.told
 
-pub returns-in-None-clause-ends : goal.returns-in-None-clause-ends
-returns-in-None-clause-ends g c =
-    line_asked_for (map string_bytes c.args.words.now) c.args.now (g.R.Source.left c.args.streams.now.source) (g.W.Sink.held c.args.streams.now.sink)
-    (g.W.Sink.held c.run_words.new.streams.sink) c.run_words.result c.in-None.ensures c.run_words.ensures.ends
+pub returns-clause-ends : goal.returns-clause-ends
+returns-clause-ends g c =
+    other_asked (map string_bytes c.args.words.now) c.args.now (g.R.Source.left c.args.streams.now.source) (g.W.Sink.held c.args.streams.now.sink)
+    (g.W.Sink.held c.run_or_help.new.streams.sink) c.run_or_help.result (sym c.wants_version.ensures ∙ c.if-wants_version.false) c.run_or_help.ensures.ends
 
-pub returns-in-None-clause-told : goal.returns-in-None-clause-told
-returns-in-None-clause-told g c =
-    told_of g.E.Sink.broken g.E.Sink.held c.args.streams.now.errors c.run_words.new.streams.errors c.run_words.result
-    (line_run (map string_bytes c.args.words.now)) (line_in (map string_bytes c.args.words.now))
-    (its_line (map string_bytes c.args.words.now) c.in-None.ensures) c.run_words.ensures.told
+pub returns-clause-told : goal.returns-clause-told
+returns-clause-told g c =
+    told_of g.E.Sink.broken g.E.Sink.held c.args.streams.now.errors c.run_or_help.new.streams.errors c.run_or_help.result
+    (line_run (map string_bytes c.args.words.now))
+    (line_asked (asks_help (map string_bytes c.args.words.now)) (map string_bytes c.args.words.now))
+    (no_version (map string_bytes c.args.words.now) (sym c.wants_version.ensures ∙ c.if-wants_version.false)) c.run_or_help.ensures.told

@@ -8,13 +8,13 @@ use Rattle.docs_host.specs.Failing.{is_of_memory}
 use Rattle.docs_host.proofs.Ending.{no_desk, script_ended}
 use Rattle.docs_host.proofs.program.run_in_memory.Goals as goal
 
-pub returns-in_err-desk : goal.returns-in_err-desk
-returns-in_err-desk g c =
+pub returns-in_err-desk-clause-ends : goal.returns-in_err-desk-clause-ends
+returns-in_err-desk-clause-ends g c =
     no_desk (EndsScript c.args.now (g.R.Source.left c.args.source.now) (g.W.Sink.held c.args.sink.now) (g.W.Sink.held c.args.sink.now))
     (inl refl) (is_of_memory Script) refl c.in_err-desk.field-0.0 c.from_residual.result c.from_residual.ensures.1
 
-pub returns : goal.returns
-returns g c =
+pub returns-clause-ends : goal.returns-clause-ends
+returns-clause-ends g c =
     script_ended c.args.now (g.R.Source.left c.args.source.now) (g.W.Sink.held c.args.sink.now) (g.W.Sink.held c.run_lines.new.sink)
     (world over_memory c.in_ok-desk.desk) (world over_memory c.run_lines.new.desk) c.run_lines.result c.in_ok-desk.ensures
     (c.run_lines.ensures.ran.moves (memory_is_clean c.run_lines.new.desk.tables, refl)) c.run_lines.ensures.ends

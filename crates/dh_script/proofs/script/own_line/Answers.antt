@@ -1,7 +1,7 @@
 use Rattle.dh_desk.proofs.Moving.{Moves-weaker}
 use Rattle.dh_script.proofs.RunLemmas.{on_err}
 use Rattle.dh_script.proofs.ScriptLemmas.{may_line}
-use Rattle.dh_script.proofs.script.own_text.Goals as goal
+use Rattle.dh_script.proofs.script.own_line.Goals as goal
 
 pub returns-in_err-perform-in-None-clause-may : goal.returns-in_err-perform-in-None-clause-may
 returns-in_err-perform-in-None-clause-may g c =

@@ -1,0 +1,121 @@
+//! Why what a line asks for was not done, and what people are told of it.
+
+use dh_reply::Fault;
+use dh_world::Refusal;
+
+/// Why what a line asks for was not done.
+#[derive(Clone, Copy, Debug, PartialEq, Eq)]
+pub enum Reason {
+    /// A command was refused.
+    Refused(Refusal),
+    /// A read failed.
+    Failed(Fault),
+    /// The target of a read is none.
+    BadTarget,
+    /// It is no command and no read.
+    Usage,
+}
+
+impl Reason {
+    /// What is wrong, as a sentence without its end, and what to do where that is plain.
+    pub fn sentence(self) -> &'static str {
+        match self {
+            Reason::Refused(refusal) => refusal_sentence(refusal),
+            Reason::Failed(Fault::Store) => "the store failed, and the read has no reply",
+            Reason::Failed(Fault::Memory) => "memory is out, and the read has no reply",
+            Reason::BadTarget => {
+                "the target is none: a path in ASCII that begins with '/', perhaps behind http:// and a host, without '#'; what it decodes to is UTF-8 without control bytes"
+            }
+            Reason::Usage => {
+                "it is no command and no read, or names a file; 'docs_host help NAME' tells the words of each"
+            }
+        }
+    }
+}
+
+/// What a refusal says: of a text that is none what it may be, and else what is there or missing.
+fn refusal_sentence(refusal: Refusal) -> &'static str {
+    match refusal {
+        Refusal::BadHost
+        | Refusal::BadLang
+        | Refusal::BadRef
+        | Refusal::BadPath
+        | Refusal::BadPage
+        | Refusal::BadPattern
+        | Refusal::BadRedirect(_)
+        | Refusal::BadToken
+        | Refusal::BadKey
+        | Refusal::BadUntil => text_sentence(refusal),
+        Refusal::NoProject => "the host has no project; new-project makes one",
+        Refusal::ProjectTaken => "the host has a project already",
+        Refusal::WrongKey => "the write key is not the project's",
+        Refusal::LangTaken => "the project has the language already",
+        Refusal::NoLang => "the project has not the language; add-lang adds it",
+        Refusal::NoVersion => "the project has no such version; a push makes one",
+        Refusal::SlugTaken => "another branch or tag has the same name in addresses",
+        Refusal::Inactive => "the version is inactive; activate makes it active",
+        Refusal::BadPlace => {
+            "the project's list has no such place: they count from 1, and a new one is at most one behind the last"
+        }
+        Refusal::TooMany => {
+            "the list is full: a project has at most 30 languages, 1,000 passes, 100 redirects and 50 rules"
+        }
+        Refusal::PassTaken => "the project has the pass already",
+        Refusal::NoPass => "the project has not the pass; add-pass adds it",
+        Refusal::PatternRefused(_) => {
+            "the pattern of a rule is too large to run; drop-rule takes the rule away"
+        }
+        Refusal::Store => {
+            "the store failed: what became of the command is known when the file is opened again"
+        }
+        Refusal::OutOfMemory => "memory is out, and nothing was done",
+    }
+}
+
+/// What a text, a page or a redirect may be, which one that was refused is not.
+fn text_sentence(refusal: Refusal) -> &'static str {
+    match refusal {
+        Refusal::BadHost => {
+            "the host is none: 1 to 253 of a-z, 0-9, '.' and '-', the first and last a letter or digit"
+        }
+        Refusal::BadLang => {
+            "the language is none: 2 to 16 of a-z, 0-9 and '-', the first a letter, the last no '-', and not 'page'"
+        }
+        Refusal::BadRef => {
+            "the branch or tag is none (1 to 255 bytes, no control byte), or the version is none (1 to 128 of a-z, 0-9, '.', '_' and '-', the first a letter or digit)"
+        }
+        Refusal::BadPath => {
+            "the page's path is none: 1 to 512 bytes, no control byte, no part between slashes empty, '.' or '..'"
+        }
+        Refusal::BadPage => {
+            "a page's media type (1 to 100 visible characters) or size (at most 1,048,576 bytes) is none, two pages have one path, or there are more than 256"
+        }
+        Refusal::BadPattern => {
+            "the expression of the rule cannot be read, is too large, or has more than 200 bytes"
+        }
+        Refusal::BadRedirect(number) => redirect_sentence(number),
+        Refusal::BadKey => {
+            "the retry key is none: 1 to 64 of A-Z, a-z, 0-9, '-', '.', '_' and '~'"
+        }
+        Refusal::BadUntil => "the end of a pass is above 9,223,372,036,854,775,807",
+        _ => "a pass or write key is none: 1 to 64 of A-Z, a-z, 0-9, '-', '.', '_' and '~'",
+    }
+}
+
+/// What is wrong with a redirect, by the number of its fault.
+fn redirect_sentence(number: u8) -> &'static str {
+    match number {
+        1 => {
+            "FROM of the redirect is none: a path that begins with '/', of at most 512 bytes, no control byte"
+        }
+        2 => "FROM of the redirect has a '*' before its end",
+        3 => {
+            "TO of the redirect is none: a path, or http:// or https:// with a host, of at most 512 bytes, no control byte"
+        }
+        4 => "TO of the redirect has ':splat', and FROM has no '*' at its end to fill it",
+        5 => "the status of the redirect is neither 301 nor 302",
+        _ => {
+            "a redirect of the kind clean-to-html or html-to-clean has no FROM and no TO: 'none' stands for both"
+        }
+    }
+}
