@@ -1,5 +1,5 @@
 -- What is found under a name after one more member was put in.
-use Rattle.std.proofs.Common.{◌≡◌, ◌∙◌, ℕ, List, codes, true, false, Option, Some, option_map, option_and_then, true≢false, bytes_eq, refl, sym, ap}
+use Rattle.std.proofs.Common.{◌≡◌, ◌∙◌, ℕ, List, codes, true, false, Some, option_map, option_and_then, true≢false, bytes_eq, sym, ap}
 use Rattle.std.proofs.lemmas.Slice.Eq.{bytes_eq-Decides}
 use Rattle.serde_json.proofs.Views.{get_member-put, get_member-put_other}
 use Rattle.serde_json.specs.Data.{Data, object, Members, put}

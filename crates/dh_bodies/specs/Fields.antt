@@ -1,5 +1,5 @@
 -- What is kept of an object that is read past: what its named members say.
-use Rattle.std.specs.Prelude.{◌≡◌, ℕ, List, codes, Option, option_map, option_and_then, option_copied}
+use Rattle.std.specs.Prelude.{◌≡◌, ℕ, List, codes, Option, option_map, option_copied}
 use Rattle.serde_json.specs.Data.{Data}
 use Rattle.serde_json.specs.Find.{get, as_str, as_bool}
 use Rattle.dh_world.specs.Answers.{text_at}

@@ -1,10 +1,10 @@
 use Rattle.std.proofs.Common.{◌≡◌, ◌-◌, ◌<◌, [], ◌∷◌, length, Some, None, option_copied, Result, Ok, Err, OnErr, refl, sym, ap, ◌∙◌, arith}
-use Rattle.json.specs.Json.{parse_map, after_end_array, read_key, items, members, value}
+use Rattle.json.specs.Json.{parse_map, after_end_array, read_key, items, value}
 use Rattle.json.specs.Reads.{token_of}
 use Rattle.json.proofs.Grammar.{read_key-shorter, value_is}
 use Rattle.serde_json.specs.Data.{Data, null, boolean, number, string, array, object, no_items, item, no_members, put}
 use Rattle.serde_json.specs.Find.{as_str, as_bool}
-use Rattle.serde_json.specs.Read.{of_json, of_items, of_members, converted}
+use Rattle.serde_json.specs.Read.{of_json, of_items, converted}
 use Rattle.dh_bodies.proofs.Reading.{item_read, item_refused, items_over, member_read, member_refused, key_refused, members_over}
 use Rattle.dh_bodies.specs.Fields.{IsLeaf}
 use Rattle.dh_bodies.specs.declared.leaf.Leaf.{Leaf}
