@@ -1,6 +1,6 @@
 //! What an object says under the names that count. Of a name that stands twice the last value counts.
 
-ghost use Rattle.std.specs.Prelude.{◌≡◌, ◌<◌, Some, Err, IfOk, OnOk, length, option_map, option_copied, codes, false};
+ghost use Rattle.std.specs.Prelude.{◌≡◌, ◌<◌, Some, Err, IfOk, OnOk, length, option_copied, codes, false};
 ghost use Rattle.std.specs.Str.{bytes_eq};
 ghost use Rattle.json.specs.Json.{value, members};
 ghost use Rattle.serde_json.specs.Data.{Data, Members, no_members, object, put};
@@ -8,7 +8,7 @@ ghost use Rattle.serde_json.specs.Find.{get};
 ghost use Rattle.serde_json.specs.Read.{of_json, of_members, converted};
 ghost use Rattle.dh_world.specs.Answers.{text_at};
 ghost use Rattle.dh_bodies.specs.Bodies.{flag_from};
-ghost use Rattle.dh_bodies.specs.Fields.{IsLeaf, AreFieldsOf, text_there};
+ghost use Rattle.dh_bodies.specs.Fields.{IsLeaf, AreFieldsOf};
 ghost use Rattle.dh_bodies.specs.declared.unread.Unread.TheVariants.{NotJson};
 
 use crate::leaf::{Leaf, leaf_from, read_leaf};
@@ -42,24 +42,6 @@ pub(crate) fn text_after<'a>(
         → option_copied result ≡ text_at wanted.now (object (put name.now d ms)) }
 {
     if wanted == name { leaf.text } else { before }
-}
-
-/// The same where it counts whether anything stands there.
-pub(crate) fn place_after<'a>(
-    wanted: &str,
-    before: Option<Option<&'a str>>,
-    name: &str,
-    leaf: Leaf<'a>,
-) -> Option<Option<&'a str>>
-    ensures { (ms : Members) (d : Data) → IsLeaf leaf.entry d
-        → option_map option_copied before.entry ≡ text_there wanted.now (object ms)
-        → option_map option_copied result ≡ text_there wanted.now (object (put name.now d ms)) }
-{
-    if wanted == name {
-        Some(leaf.text)
-    } else {
-        before
-    }
 }
 
 fn flag_after(wanted: &str, before: Option<bool>, name: &str, leaf: Leaf<'_>) -> Option<bool>

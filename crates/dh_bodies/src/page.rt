@@ -1,6 +1,6 @@
 //! The pages of an upload's body, read one after another.
 
-ghost use Rattle.std.specs.Prelude.{◌≡◌, ◌∷◌, [], ◌++◌, Some, None, Err, IfOk, OnOk, ◌<◌, length, option_map, option_and_then};
+ghost use Rattle.std.specs.Prelude.{◌≡◌, ◌∷◌, [], ◌++◌, Some, None, Err, IfOk, OnOk, ◌<◌, length, option_map, option_and_then, option_copied};
 ghost use Rattle.base64.specs.Engines.{standard};
 ghost use Rattle.base64.specs.GeneralPurpose.{decoded_of};
 ghost use Rattle.json.specs.Json.{value, items, members};
@@ -8,10 +8,10 @@ ghost use Rattle.serde_json.specs.Data.{Data, Items, Members, no_members, object
 ghost use Rattle.serde_json.specs.Find.{as_array};
 ghost use Rattle.serde_json.specs.Read.{of_json, of_items, of_members, converted};
 ghost use Rattle.dh_bodies.specs.Bodies as spec;
-ghost use Rattle.dh_bodies.specs.Fields.{AreTextsOf, IsLeaf};
+ghost use Rattle.dh_bodies.specs.Fields.{AreTextsOf, IsLeaf, text_there};
 ghost use Rattle.dh_bodies.specs.declared.unread.Unread.TheVariants.{NotJson};
 
-use crate::field::{place_after, text_after};
+use crate::field::text_after;
 use crate::leaf::{Leaf, leaf_from, read_leaf};
 use crate::unread::Unread;
 use base64::DecodeAllocError;
@@ -28,6 +28,24 @@ pub(crate) struct PageTexts<'a> {
     media: Option<&'a str>,
     text: Option<Option<&'a str>>,
     base64: Option<Option<&'a str>>,
+}
+
+/// What stands under the name that is wanted, as a text where it is one, after a member of the other name.
+fn place_after<'a>(
+    wanted: &str,
+    before: Option<Option<&'a str>>,
+    name: &str,
+    leaf: Leaf<'a>,
+) -> Option<Option<&'a str>>
+    ensures { (ms : Members) (d : Data) → IsLeaf leaf.entry d
+        → option_map option_copied before.entry ≡ text_there wanted.now (object ms)
+        → option_map option_copied result ≡ text_there wanted.now (object (put name.now d ms)) }
+{
+    if wanted == name {
+        Some(leaf.text)
+    } else {
+        before
+    }
 }
 
 impl<'a> PageTexts<'a> {

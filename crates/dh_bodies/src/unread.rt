@@ -4,7 +4,7 @@ ghost use Rattle.std.specs.Prelude.{◌≡◌};
 ghost use Rattle.dh_bodies.specs.declared.unread.Unread.TheVariants.{NotJson, Memory};
 
 use json::Invalid;
-use std::alloc::{AllocError, AllocFailed};
+use std::alloc::AllocError;
 
 /// Why a body was not read to its end.
 #[derive(Clone, Copy, Drop)]
@@ -25,14 +25,6 @@ impl From<AllocError> for Unread {
     ghost from_gives = { λ _ unread. unread ≡ Memory };
 
     fn from(_refused: AllocError) -> Unread {
-        Unread::Memory
-    }
-}
-
-impl<T: Drop> From<AllocFailed<T>> for Unread {
-    ghost from_gives = { λ _ unread. unread ≡ Memory };
-
-    fn from(_refused: AllocFailed<T>) -> Unread {
         Unread::Memory
     }
 }
