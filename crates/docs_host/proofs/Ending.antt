@@ -144,6 +144,7 @@ faulty_order : (o : Order) → IsTrue (may_end_order o Faulty)
 faulty_order (order.Act command) = refl
 faulty_order (order.Get host target pass own) = refl
 faulty_order (order.Import host list) = refl
+faulty_order (order.List word) = refl
 faulty_order (order.Init file) = refl
 faulty_order (order.Migrate file) = refl
 faulty_order order.Script = refl
@@ -154,6 +155,7 @@ done_order : (o : Order) → IsTrue (may_end_order o Done)
 done_order (order.Act command) = refl
 done_order (order.Get host target pass own) = refl
 done_order (order.Import host list) = refl
+done_order (order.List word) = refl
 done_order (order.Init file) = refl
 done_order (order.Migrate file) = refl
 done_order order.Script = refl

@@ -205,11 +205,17 @@ fn run_line<S: Start, R: Source, W: Sink, E: Sink>(
             import(rt, start, host, list, file.as_str(), streams, now)
         }
         (order, Some(file)) => run_over(rt, start, order, file.as_str(), streams, now),
-        (Order::Act(_) | Order::Get { .. } | Order::Import { .. } | Order::Serve { .. }, None) =>
-            Ok(tell_usage(
-                &mut streams.errors,
-                "which file has the records is missing: --store FILE",
-            )),
+        (
+            Order::Act(_)
+            | Order::Get { .. }
+            | Order::Import { .. }
+            | Order::List(_)
+            | Order::Serve { .. },
+            None,
+        ) => Ok(tell_usage(
+            &mut streams.errors,
+            "which file has the records is missing: --store FILE",
+        )),
     }
 }
 
