@@ -8,7 +8,7 @@ use Rattle.std.proofs.lemmas.List.{get_or_at, take_at, drop_at}
 use Rattle.std.proofs.lemmas.List.Elements.{All-head, All-tail}
 use Rattle.std.proofs.lemmas.List.Splits.{slice_split_at, slice_split_none}
 use Rattle.std.proofs.lemmas.Slice.Eq.{bytes_eq-Decides}
-use Rattle.std.proofs.lemmas.Str.{IsUtf8-append, IsUtf8-from_is_utf8}
+use Rattle.std.proofs.lemmas.Str.{IsUtf8-append}
 use Rattle.dh_lines.specs.Lines.{line_in}
 use Rattle.dh_script.specs.declared.fault.ScriptFault.{ScriptFault}
 use Rattle.dh_world.specs.World.{Text, World}
@@ -16,6 +16,7 @@ use Rattle.dh_control.specs.Answers.{DoesBody, DoesBy, DoesMessage, DoesScript, 
 use Rattle.dh_control.specs.Messages.{behind, body_of, is_nul, joined, script_mark, script_message, words_mark, words_message}
 use Rattle.dh_control.specs.declared.end.End.{End}
 use Rattle.dh_control.proofs.Cuts.{length_more}
+use Rattle.dh_control.proofs.Words.{small_text}
 
 -- ---- words
 
@@ -38,7 +39,7 @@ joined_text : (word : Text) (words : List Text) → IsWord word → All IsWord w
 joined_text word [] is are = subst IsUtf8 (sym (append-nil word)) is.0
 joined_text word (next ∷ words) is are =
     IsUtf8-append word (0 ∷ joined (next ∷ words)) is.0
-    (IsUtf8-append (0 ∷ []) (joined (next ∷ words)) (IsUtf8-from_is_utf8 (0 ∷ []) refl) (joined_text next words (All-head IsWord next words are) (All-tail IsWord next words are)))
+    (IsUtf8-append (0 ∷ []) (joined (next ∷ words)) (small_text (0 ∷ []) refl) (joined_text next words (All-head IsWord next words are) (All-tail IsWord next words are)))
 
 -- ---- messages
 
