@@ -150,6 +150,9 @@ def words(part, store):
         (["grant", HOST, "reader-7", "1.0.0"], "ok\n", 0),
         (["get", HOST, "/en/1.0.0/", "--pass", "reader-7"], "200 - 7\n", 0),
         (["get", HOST, "/en/1.0.0/"], "404 - 14\n", 0),
+        (["list-versions", HOST], None, 0),
+        (["list-passes", HOST], "listed 1\nreader-7\tnone\t1.0.0\n", 0),
+        (["list-rules", "other.test"], "refused 10 NoProject\n", 1),
     ):
         beside = run(part.program, *asked, "--store", store)
         over = run(part.program, *asked, "--store", alone)

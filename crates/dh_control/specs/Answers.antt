@@ -8,7 +8,7 @@ use Rattle.dh_lines.specs.declared.lines.Line.{Line}
 use Rattle.dh_lines.specs.declared.lines.Order.{Order}
 use Rattle.dh_script.specs.Reading.{IsScript}
 use Rattle.dh_script.specs.Running.{RunsScript}
-use Rattle.dh_script.specs.Script.{Performs, MayDoOrder, is_unread}
+use Rattle.dh_script.specs.Script.{PerformsSingle, MayDoSingle, is_unread}
 use Rattle.dh_script.specs.declared.fault.RunFault.TheVariants.{Write}
 use Rattle.dh_script.specs.declared.fault.ScriptFault.{ScriptFault}
 use Rattle.dh_script.specs.declared.fault.ScriptFault.TheVariants.{Run}
@@ -22,9 +22,9 @@ use Rattle.dh_control.specs.declared.end.End.TheVariants.{Unknown}
 -- it was done or was not
 abbrev pub DoesOne : {E : Type 0} → ℕ → World → Order → World → Option Text → Option Text → Result End E → Type 0
 DoesOne moment before order after held now (Ok end) =
-    (text : Text) × (refused : Bool) × Performs moment before order after text refused
+    (text : Text) × (refused : Bool) × PerformsSingle moment before order after text refused
     × Appends held now (text ++ 10 ∷ []) × (end ≡ end_of refused)
-DoesOne moment before order after held now (Err fault) = MayDoOrder moment before order after
+DoesOne moment before order after held now (Err fault) = MayDoSingle moment before order after
 
 -- what is no message does nothing, and prints nothing
 abbrev pub DoesNone : {E : Type 0} → World → World → Option Text → Option Text → Result End E → Type 0

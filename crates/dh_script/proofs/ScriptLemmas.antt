@@ -15,7 +15,9 @@ use Rattle.dh_world.specs.declared.outcome.Outcome.TheVariants as outcomes
 use Rattle.dh_script.specs.Outcomes.{text_of_outcome, is_refusal}
 use Rattle.dh_script.specs.Reasons.{reason_of, Explains}
 use Rattle.dh_script.specs.declared.reasons.Reason.{Reason}
-use Rattle.dh_script.specs.Script.{outcome_of_read, Tells, GetsAt, DoesOver, MayDo, MayDoOrder}
+use Rattle.dh_listings.specs.ListingTexts.{listing_text}
+use Rattle.dh_listings.specs.declared.words.ListWord.{ListWord}
+use Rattle.dh_script.specs.Script.{outcome_of_read, Tells, GetsAt, DoesOver, MayDo, MayDoOrder, ListsAt, TellsList}
 
 -- what is told of a read's outcome, whose reply is the definition's
 pub got : {P E : Type 0} (text_in : P → Text) (refused_in : P → Bool) (w : World) (named host : Text) (shown pass : Option Text) (moment : ℕ) (t : Target) (reply : Result Reply Fault) (outcome : Outcome) (result : Result P E)
@@ -26,6 +28,12 @@ got text_in refused_in w named host shown pass moment t reply outcome result val
     let by_host = subst (λ (h : Text). IfOk reply (λ r. r ≡ reply_to (seen w (host_named h) (caller_named shown moment)) t.path t.query)) same_host value in
     let by_pass = subst (λ (p : Option Text). IfOk reply (λ r. r ≡ reply_to (seen w (host_named host) (caller_named p moment)) t.path t.query)) same_pass by_host in
     IfOk-weaker result _ _ (λ p is. (reply, by_pass, subst (λ (o : Outcome). Tells o (text_in p) (refused_in p)) same is)) told
+
+-- what is told of a list, which is the definition's
+pub list_told : {P E : Type 0} (text_in : P → Text) (refused_in : P → Bool) (w : World) (word : ListWord) (listed : Result (Option Text) Fault) (result : Result P E)
+    → IfOk listed (λ found. found ≡ listing_text w word) → IfOk result (λ p. TellsList listed (text_in p) (refused_in p))
+    → IfOk result (λ p. ListsAt w word (text_in p) (refused_in p))
+list_told text_in refused_in w word listed result value told = IfOk-weaker result _ _ (λ p is. (listed, value, is)) told
 
 -- what is told of an outcome has its reason
 pub explained : (o : Outcome) (text : Text) (refused : Bool) (reason : Option Reason) → text ≡ text_of_outcome o → refused ≡ is_refusal o → reason ≡ reason_of o → Explains reason text refused

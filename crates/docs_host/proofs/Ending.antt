@@ -164,6 +164,7 @@ pub faulty_order : (o : Order) → IsTrue (may_end_order o Faulty)
 faulty_order (order.Act command) = refl
 faulty_order (order.Get host target pass own) = refl
 faulty_order (order.Import host list) = refl
+faulty_order (order.List word) = refl
 faulty_order (order.Init file) = refl
 faulty_order (order.Migrate file) = refl
 faulty_order order.Script = refl
@@ -174,6 +175,7 @@ done_order : (o : Order) → IsTrue (may_end_order o Done)
 done_order (order.Act command) = refl
 done_order (order.Get host target pass own) = refl
 done_order (order.Import host list) = refl
+done_order (order.List word) = refl
 done_order (order.Init file) = refl
 done_order (order.Migrate file) = refl
 done_order order.Script = refl
@@ -206,6 +208,7 @@ module _ (held now : Option Text) (o : Order) where
       by : {fault : ControlFault} (o : Order) → IsTrue (is_of_order o (Control fault)) → IsTrue (may_be_sent o)
       by (order.Act command) it = refl
       by (order.Get host target pass own) it = refl
+      by (order.List word) it = refl
       by (order.Import host list) it = absurd (true≢false (sym it))
       by (order.Init file) it = absurd (true≢false (sym it))
       by (order.Migrate file) it = absurd (true≢false (sym it))

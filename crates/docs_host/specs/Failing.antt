@@ -77,6 +77,7 @@ is_of_opened order failure = is_of_order order failure
 abbrev pub may_be_sent : Order → Bool
 may_be_sent (order.Act command) = true
 may_be_sent (order.Get host target pass own) = true
+may_be_sent (order.List word) = true
 may_be_sent order.Script = true
 may_be_sent order = false
 

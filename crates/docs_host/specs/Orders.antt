@@ -11,7 +11,7 @@ use Rattle.dh_lists.specs.Lists.{ReadsList}
 use Rattle.dh_lists.specs.declared.lists.ListFault.{ListFault}
 use Rattle.dh_paths.specs.Targets.{target_of}
 use Rattle.dh_script.specs.Running.{RunsScript}
-use Rattle.dh_script.specs.Script.{Performs}
+use Rattle.dh_script.specs.Script.{PerformsSingle}
 use Rattle.dh_control.specs.Answers.{AnswersMessage}
 use Rattle.dh_control.specs.declared.end.End.{End}
 use Rattle.dh_script.specs.declared.fault.ScriptFault.{ScriptFault}
@@ -53,12 +53,12 @@ OrdersList host bytes (Err fault) = ReadsList bytes (Err fault)
 abbrev pub bad_record : ℕ → Text
 bad_record number = codes "bad record " ++ decimal number
 
--- an order was performed at a moment, what it prints was written, with LF, and the status says whether it was
+-- a single order was performed at a moment, what it prints was written, with LF, and the status says whether it was
 -- refused
 pub record RunsSingle (moment : ℕ) (before : World) (order : Order) (after : World) (held now : Option (List ℕ)) (status : Status) : Type 0 where
   pub text : Text
   pub refused : Bool
-  pub performed : Performs moment before order after text refused
+  pub performed : PerformsSingle moment before order after text refused
   pub written : Appends held now (text ++ 10 ∷ [])
   pub told : status ≡ single_status refused
 
@@ -82,7 +82,7 @@ abbrev pub ServesBoth : ℕ → World → World → Type 0
 ServesBoth = Serves (λ moment. ⊤) DoesSome
 
 -- an order was run: the lines of a script, whole or in part; a request, which was answered, wholly or
--- in part; so many connections, each with one request or one message; or a single command or read
+-- in part; so many connections, each with one request or one message; or a single command, read or list
 abbrev pub RunsOrder : ℕ → World → Order → World → Option Text → Option Text → Option Text → Result Status Failure → Type 0
 RunsOrder moment before order.Script after left held now result = RunsScript moment left before after held now result
 RunsOrder moment before order.Answer after left held now result = RunsRequest moment before after left held now result
@@ -93,6 +93,8 @@ RunsOrder moment before (order.Get host target pass own) after left held now res
     IfOk result (RunsSingle moment before (order.Get host target pass own) after held now)
 RunsOrder moment before (order.Import host list) after left held now result =
     IfOk result (RunsSingle moment before (order.Import host list) after held now)
+RunsOrder moment before (order.List word) after left held now result =
+    IfOk result (RunsSingle moment before (order.List word) after held now)
 RunsOrder moment before (order.Init file) after left held now result =
     IfOk result (RunsSingle moment before (order.Init file) after held now)
 RunsOrder moment before (order.Migrate file) after left held now result =

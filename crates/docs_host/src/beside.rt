@@ -106,7 +106,9 @@ fn message_for(
         (option_map (λ bytes. bytes.items) message)) }
 {
     match order {
-        Order::Act(_) | Order::Get { .. } => Ok(Some(words_message(alloc, words)?)),
+        Order::Act(_) | Order::Get { .. } | Order::List(_) => {
+            Ok(Some(words_message(alloc, words)?))
+        }
         Order::Script => Ok(Some(script_message(alloc, script)?)),
         Order::Import { .. }
         | Order::Init { .. }

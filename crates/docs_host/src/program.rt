@@ -247,11 +247,17 @@ fn run_line<S: Start, R: Source, W: Sink, E: Sink>(
             import(rt, start, host, list, file.as_str(), streams, now)
         }
         (order, Some(file)) => run_over(rt, start, words, order, file.as_str(), streams, now),
-        (Order::Act(_) | Order::Get { .. } | Order::Import { .. } | Order::Serve { .. }, None) =>
-            Ok(tell_usage(
-                &mut streams.errors,
-                "which file has the records is missing: --store FILE",
-            )),
+        (
+            Order::Act(_)
+            | Order::Get { .. }
+            | Order::Import { .. }
+            | Order::List(_)
+            | Order::Serve { .. },
+            None,
+        ) => Ok(tell_usage(
+            &mut streams.errors,
+            "which file has the records is missing: --store FILE",
+        )),
     }
 }
 
@@ -384,7 +390,7 @@ fn run_asked<S: Start, R: Source, W: Sink, E: Sink>(
 /// 2 a mistake in the words, 3 a fault of a store, file, script, port or output, 4 a request without a whole
 /// reply.
 ///
-/// A command, a read or a script over a file that a server has open is sent to that server, and the run ends as it tells.
+/// A command, a read, a list or a script over a file that a server has open is sent to that server, and the run ends as it tells.
 /// Faults are found in this order: the words, the target of a read, the list, the file, the control socket, the port, the
 /// run; where the file is a server's, the script before the file.
 /// `now` is the moment of each read that gives none of its own, in seconds since 1970; a server asks the clock.
