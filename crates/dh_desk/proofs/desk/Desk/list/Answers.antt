@@ -1,5 +1,5 @@
 use Rattle.dh_desk.proofs.Keeping.{unmoved_keeps}
-use Rattle.dh_desk.proofs.desk.listing.Desk.list.Goals as goal
+use Rattle.dh_desk.proofs.desk.Desk.list.Goals as goal
 
 pub invariant_of-self : goal.invariant_of-self
 invariant_of-self g c =
