@@ -101,7 +101,7 @@ served_within n count w v few it = subst (λ m. ServesBoth m w v) (omega (arith,
 -- which moments they were does not count
 some_answered : (IsMoment : ℕ → Type 0) (w v : World) → Turn IsMoment w v → Turn (λ moment. ⊤) w v
 some_answered IsMoment w v (inl same) = inl same
-some_answered IsMoment w v (inr (moment, is, answered)) = inr (moment, tt, answered)
+some_answered IsMoment w v (inr it) = inr (it.0, tt, it.2, it.3, it.4, it.5)
 
 may_turn : (IsMoment : ℕ → Type 0) (Does : ℕ → World → World → Type 0) (w v : World)
     → MayTurn IsMoment Does w v → MayTurn (λ moment. ⊤) Does w v

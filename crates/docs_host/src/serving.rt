@@ -82,6 +82,22 @@ fn tell_again<E: Sink>(alloc: Global, file: &str, errors: &mut E)
     }
 }
 
+/// Does what a message asks for, and answers it.
+fn answer_some<S: Alter, R: Source, W: Sink>(
+    alloc: Global,
+    desk: &mut Desk<S>,
+    source: &mut R,
+    sink: &mut W,
+    now: u64,
+)
+    requires reader { R.broken source.old ≡ false }
+    requires writer { W.broken sink.old ≡ false }
+    ensures { Moves S.Store desk.old desk.new (DoesSome now) }
+{
+    // What came of it is told to the client, where it is there to be told.
+    let _ = answer_message(alloc, desk, source, sink, now);
+}
+
 /// What comes in at the control socket: messages.
 #[derive(Drop)]
 struct Messages<'a> {
@@ -100,8 +116,7 @@ impl<'a> Control for Messages<'a> {
     ) {
         let mut source = Timed::new(self.clock, MOST_SECONDS, Port::new(Steady::new(stream)));
         let mut sink = Port::new(Steady::new(stream));
-        // What came of it is told to the client, where it is there to be told.
-        let _ = answer_message(alloc, desk, &mut source, &mut sink, now);
+        answer_some(alloc, desk, &mut source, &mut sink, now);
     }
 }
 
