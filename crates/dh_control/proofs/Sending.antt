@@ -1,5 +1,5 @@
 -- What is sent is what is done.
-use Rattle.std.proofs.Common.{◌≡◌, ◌∙◌, ℕ, ◌==◌, cond, true, false, List, [], ◌∷◌, ◌++◌, length, take, drop, map, append_assoc, append-nil, Option, Some, None, Result, inl, inr, refl, sym, ap, subst}
+use Rattle.std.proofs.Common.{◌≡◌, ◌∙◌, ℕ, ◌==◌, cond, List, [], ◌∷◌, ◌++◌, length, take, drop, map, append-nil, Option, Some, None, Result, inl, inr, refl, sym, ap, subst}
 use Rattle.std.specs.Prelude.{nat_eq, slice_index}
 use Rattle.std.specs.List.{All, flat_map, join_by, slice_split}
 use Rattle.std.specs.Cmp.Lexicographic.{pointwise}
@@ -60,8 +60,7 @@ module _ (moment : ℕ) (before after : World) (held now : Option Text) (result 
   body_done : (mark sent : Text) → DoesMessage moment (mark ++ sent ++ 255 ∷ []) before after held now result
       → DoesBody moment (Some (mark ++ sent)) before after held now result
   body_done mark sent does =
-      let found : body_of (mark ++ sent ++ 255 ∷ []) ≡ Some (mark ++ sent) = ap body_of (sym (append_assoc mark sent (255 ∷ []))) ∙ body_found (mark ++ sent) in
-      subst (λ b. DoesBody moment b before after held now result) found does
+      subst (λ b. DoesBody moment b before after held now result) (body_found (mark ++ sent)) does
 
   sent_done : (sent : Text) (words : List Text) → IsUtf8 sent → slice_split is_nul sent ≡ words → DoesSent moment sent before after held now result
       → DoesWords moment before (line_in words) after held now result

@@ -1,5 +1,5 @@
 -- Which words tell an end.
-use Rattle.std.proofs.Common.{◌≡◌, ℕ, ◌<◌, Bool, true, false, ◌&&◌, [], ◌∷◌, refl, sym, subst, Option, Some, None, Result, Ok, Err, arith, IsAscii, IsUtf8}
+use Rattle.std.proofs.Common.{◌≡◌, ℕ, ◌<◌, Bool, true, false, ◌&&◌, [], ◌∷◌, refl, sym, subst, None, Result, Ok, Err, arith, IsAscii, IsUtf8}
 use Rattle.std.specs.List.{list_all}
 use Rattle.std.specs.Prelude.{codes, nat_lt}
 use Rattle.std.proofs.lemmas.Bool.{false≢true}
@@ -51,21 +51,3 @@ is_text (Err (Run run.Write)) = small_text (end_word (Err (Run run.Write))) refl
 -- what is no text tells none
 pub no_text : (word : Text) → (IsUtf8 word → ⊥) → ReadsEnd word None
 no_text word none ended is = none (subst IsUtf8 (sym is) (is_text ended))
-
--- and so does another word than these
-pub no_word
-    : (word : Text)
-    → (word ≡ codes "0" → ⊥) → (word ≡ codes "1" → ⊥) → (word ≡ codes "2" → ⊥)
-    → (word ≡ codes "3 Memory" → ⊥) → (word ≡ codes "3 Write" → ⊥) → (word ≡ codes "3 Read" → ⊥)
-    → (word ≡ codes "3 TooManyTurns" → ⊥) → (word ≡ codes "3 TooLong" → ⊥) → (word ≡ codes "3 NotText" → ⊥)
-    → ReadsEnd word None
-no_word word done refused unknown memory write read turns long text (Ok Done) is = done is
-no_word word done refused unknown memory write read turns long text (Ok Refused) is = refused is
-no_word word done refused unknown memory write read turns long text (Ok Unknown) is = unknown is
-no_word word done refused unknown memory write read turns long text (Err (Unread Read)) is = read is
-no_word word done refused unknown memory write read turns long text (Err (Unread TooManyTurns)) is = turns is
-no_word word done refused unknown memory write read turns long text (Err (Unread Memory)) is = memory is
-no_word word done refused unknown memory write read turns long text (Err TooLong) is = long is
-no_word word done refused unknown memory write read turns long text (Err NotText) is = text is
-no_word word done refused unknown memory write read turns long text (Err (Run run.Memory)) is = memory is
-no_word word done refused unknown memory write read turns long text (Err (Run run.Write)) is = write is
