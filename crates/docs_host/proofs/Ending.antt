@@ -202,10 +202,10 @@ module _ (held now : Option Text) (o : Order) where
   )
 
   -- no order over a desk fails so
-  no_control : {fault : ControlFault} → IsTrue (is_of_order o (Control fault)) → IsTrue (may_be_sent o)
-  no_control it = by o it
+  no_control : (fault : ControlFault) → IsTrue (is_of_order o (Control fault)) → IsTrue (may_be_sent o)
+  no_control fault it = by o it
     where
-      by : {fault : ControlFault} (o : Order) → IsTrue (is_of_order o (Control fault)) → IsTrue (may_be_sent o)
+      by : (o : Order) → IsTrue (is_of_order o (Control fault)) → IsTrue (may_be_sent o)
       by (order.Act command) it = refl
       by (order.Get host target pass own) it = refl
       by (order.List word) it = refl
@@ -223,7 +223,7 @@ module _ (held now : Option Text) (o : Order) where
   opened_sent Memory it = refl
   opened_sent Bind it = it
   opened_sent (Socket fault) it = it
-  opened_sent (Control fault) it = no_control it
+  opened_sent (Control fault) it = no_control fault it
   opened_sent Write it = it
   opened_sent (Script fault) it = it
   opened_sent (Request fault) it = it

@@ -1,4 +1,3 @@
-pub mod Answered
 pub mod Asking
 pub mod Ending
 pub mod Telling

@@ -99,9 +99,8 @@ fn explain_script<E: Sink>(alloc: Global, script: &str, printed: &str, errors: &
     let mut number: usize = 0;
     for line in script.lines() {
         number = number.saturating_add(1);
-        if has_words(line) {
-            explain_line(alloc, number, told.next().unwrap_or(""), errors);
-        }
+        let own = if has_words(line) { told.next() } else { None };
+        explain_line(alloc, number, own.unwrap_or(""), errors);
     }
 }
 
