@@ -218,6 +218,10 @@ def writes(part, store, folder):
     bodies = {body for pages in PAGES.values() for _, body in pages.values()}
     part.same("a file for each body", len(list((folder / "pages").iterdir())), len(bodies))
     is_same(part, "an export once more", store, folder)
+    named = Path(part.path("named"))
+    words = [EXPORT, HOST, named, "--store", store]
+    subprocess.run(words, env={**os.environ, "DOCS_HOST": part.program}, capture_output=True, timeout=hosts.TIME_LIMIT)
+    part.check("one by the program that DOCS_HOST names", named.exists() and files_of(named) == files_of(folder))
 
 
 def script(part, store):
@@ -285,6 +289,14 @@ def without_pages(part, store, folder):
 
 # ---- what is refused, and changes nothing
 
+# The program, behind each of whose runs another one has left a log.
+WRITER = """#!/bin/sh
+{program} "$@"
+status=$?
+for word; do case $word in --store=*) printf '%0100d' 1 > "${{word#--store=}}-wal";; esac; done
+exit $status
+"""
+
 
 def no_exports(part, store, folder):
     absent, none = part.path("absent.docs"), Path(part.path("none"))
@@ -300,6 +312,12 @@ def no_exports(part, store, folder):
     refused("no program", tool(part, EXPORT, HOST, none, "--store", store, program=absent), 2, "No such file")
     with part.serve(store):
         refused("a file that is served", exported(part, store, none), 3, "another program has it open")
+    writer = Path(part.path("writer"))
+    writer.write_text(WRITER.format(program=part.program))
+    writer.chmod(0o755)
+    ended = tool(part, EXPORT, HOST, none, "--store", store, program=writer)
+    refused("a file that another program writes", ended, 3, "not in the file yet")
+    os.remove(f"{store}-wal")
     Path(f"{none}.part").mkdir()
     ends(part, "no export: what a killed run has left", exported(part, store, none), 2, "none.part is there already")
     Path(f"{none}.part").rmdir()
@@ -386,6 +404,10 @@ def goes_on(part, folder):
     ended = imported(part, folder, to, "--go-on", key="other")
     ends(part, "one with another key", ended, 1, "WrongKey", "may have a part of the project")
     is_same(part, "it changes nothing", to, folder)
+    with part.serve(to) as server:
+        upload(server, "main", "en", {"more.html": ("text/html", b"more")})
+    ended = imported(part, folder, to, "--go-on")
+    ends(part, "one of a project with another page", ended, 1, "the pages of the project are others: it has", "more.html")
 
 
 def full(part, folder):
@@ -424,17 +446,21 @@ def stopped(part, folder):
     is_same(part, "an export of what was stopped is the same", to, folder)
 
 
+# What the project has not; without a line it is of another branch.
+OTHER_LINES = [
+    "",
+    f"add-lang {HOST} fr",
+    f"push {HOST} {KEY} k0 branch other",
+    f"add-pass {HOST} reader-7 --until 7",
+    f"add-redirect {HOST} 1 page 301 /x /y",
+    f"add-rule {HOST} 1 tag all hide",
+    f"set-default {HOST} latest",
+]
+
+
 def others(part, folder):
     """Projects that have something else than the folder are left as they are."""
-    for number, line in enumerate((
-        "",
-        f"add-lang {HOST} fr",
-        f"push {HOST} {KEY} k0 branch other",
-        f"add-pass {HOST} reader-7 --until 7",
-        f"add-redirect {HOST} 1 page 301 /x /y",
-        f"add-rule {HOST} 1 tag all hide",
-        f"set-default {HOST} latest",
-    )):
+    for number, line in enumerate(OTHER_LINES):
         to = part.path(f"other-{number}.docs")
         fresh(part, to)
         by_script(part, to, f"new-project {HOST} en {'main' if line else 'trunk'} public {KEY}\n{line}\n")
