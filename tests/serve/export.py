@@ -91,6 +91,7 @@ def export(part):
         test(part, store, folder)
     for test in (other_folders, goes_on, full, stopped, others):
         test(part, folder)
+    few(part)
     histories(part)
 
 
@@ -122,8 +123,8 @@ def do(part, store, lines):
     """The commands of lines of an export, a run each."""
     for line in lines:
         words = json.loads(line) if line.startswith("[") else line.split(" ")
-        if "<write-key>" in words:
-            words[words.index("<write-key>")] = KEY
+        if words[0] in ("new-project", "push"):
+            words[-1 if words[0] == "new-project" else words.index("<write-key>")] = KEY
         ended = run(part.program, words[0], "--store", store, *words[1:])
         if ended.returncode != 0:
             raise Broken(f"{line}: {ended}")
@@ -408,6 +409,29 @@ def goes_on(part, folder):
         upload(server, "main", "en", {"more.html": ("text/html", b"more")})
     ended = imported(part, folder, to, "--go-on")
     ends(part, "one of a project with another page", ended, 1, "the pages of the project are others: it has", "more.html")
+
+
+# An inactive default branch, which has the name that stands for the write key, among the defaults.
+FEW = [
+    f"new-project {HOST} en <write-key> public {KEY}",
+    f"push {HOST} {KEY} k0 branch <write-key>",
+    f"set-default {HOST} write-key-",
+    f"deactivate {HOST} write-key-",
+]
+
+
+def few(part):
+    """A project of few commands, behind each of which an import goes on."""
+    store, folder = part.path("few.docs"), Path(part.path("few"))
+    make(part.program, store, *FEW)
+    ends(part, "an export of few commands", exported(part, store, folder), 0, "5 commands")
+    lines = lines_of(folder)
+    for number in range(len(lines) + 1):
+        to = part.path(f"few-{number}.docs")
+        make(part.program, to)
+        do(part, to, lines[:number])
+        ends(part, f"an import that goes on behind {number} of them", imported(part, folder, to, "--go-on"), 0, "is the same")
+        is_same(part, f"an export of it is the same ({number} of few)", to, folder)
 
 
 def full(part, folder):
