@@ -52,9 +52,9 @@ add-rule {HOST} 1 branch re:^release- activate
 add-rule {HOST} 2 branch semver default
 """
 
-# Commands with words that no line of a script has, or that look like options.
+# Commands as an export has them, with words that no line of a script has, or that look like options.
 ODD = [
-    ["push", HOST, KEY, "k0", "branch", "a branch"],
+    ["push", HOST, "<write-key>", "k0", "branch", "a branch"],
     ["add-pass", "--until", "4102444800", "--", HOST, "-reader"],
     ["grant", "--", HOST, "-reader", "2.0.0"],
     ["add-redirect", HOST, "1", "exact", "301", "/a page", "/en/main/p/2.html"],
@@ -317,7 +317,7 @@ def no_exports(part, store, folder):
     writer.write_text(WRITER.format(program=part.program))
     writer.chmod(0o755)
     ended = tool(part, EXPORT, HOST, none, "--store", store, program=writer)
-    refused("a file that another program writes", ended, 3, "not in the file yet")
+    refused("a file that another program writes", ended, 3, f"{store}-wal has changes that are not in the file yet")
     os.remove(f"{store}-wal")
     Path(f"{none}.part").mkdir()
     ends(part, "no export: what a killed run has left", exported(part, store, none), 2, "none.part is there already")
