@@ -1,5 +1,5 @@
 -- What a server is asked for that has the file, and how a run ends by its answer.
-use Rattle.std.specs.Prelude.{◌≡◌, ◌⊎◌, ℕ, Bool, true, false, IsTrue, List, [], ◌∷◌, Option, Some, None, Result, Ok, Err, is_err}
+use Rattle.std.specs.Prelude.{◌≡◌, ◌⊎◌, ℕ, Bool, true, false, IsTrue, List, Option, Some, None, Result, Ok, Err, is_err}
 use Rattle.std.specs.Io.KnownBytes.{Appends}
 use Rattle.dh_ports.specs.Ports.{PutsFirst}
 use Rattle.dh_world.specs.World.{Text}

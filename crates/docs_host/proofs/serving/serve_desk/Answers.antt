@@ -1,7 +1,6 @@
 use Rattle.std.proofs.Common.{subst, sym, ◌∙◌, arith}
 use Rattle.dh_http.specs.Desk.{Moves}
 use Rattle.dh_http.proofs.Moving.{Moves-weaker}
-use Rattle.dh_server.specs.Serving.{GivenBy}
 use Rattle.docs_host.proofs.Ending.{any_moment}
 use Rattle.docs_host.specs.Orders.{ServesBoth}
 use Rattle.docs_host.proofs.serving.serve_desk.Goals as goal
