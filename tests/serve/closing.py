@@ -185,9 +185,6 @@ def without_descriptors(part, server):
     lowest_free = next(number for number in range(len(taken) + 1) if number not in taken)
     lines = len(server.told_at_last().splitlines())
     resource.prlimit(process.pid, resource.RLIMIT_NOFILE, (lowest_free, before[1]))
-    # The accept that waits already has the descriptor that it will give.
-    part.same("a page by the last descriptor", server.get(SMALL, HOST)[0], 200)
-    lines += 1
     with socket.create_connection(("127.0.0.1", server.port)) as waiting:
         waiting.sendall(get_bytes(SMALL, HOST))
         spent, begun = processor_seconds(process), time.monotonic()
