@@ -169,7 +169,7 @@ def sweep_run(part, name, run, base, judge, again=None):
     """Refuses each allocation of a run over a file, and then, where `again` is told, runs it once more over what it left."""
     worlds, counts, verdicts = Worlds(part), collections.Counter(), {}
     with new_folder() as folder, new_folder() as plain:
-        for one in (folder, plain):
+        for one in (folder, plain) if base else ():
             copy_store(base, one)
         before = worlds.of(plain)
         whole = part.run(run.words, run.data, plain)
@@ -234,6 +234,14 @@ def get_request(target):
 
 def answers(target):
     return Run(["answer", "--store", STORE], target, "input")
+
+
+def memory_of(part, path):
+    """A case of tests/ or examples/: a script over memory, or a request to the sample."""
+    if path.suffix == ".script":
+        show(path.stem, sweep_script(part, path, None, {}))
+    else:
+        show(path.stem, sweep_run(part, path.stem, Run(["answer"], path.read_bytes(), "input"), None, judge_request))
 
 
 def memory(part):

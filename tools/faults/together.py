@@ -1,9 +1,10 @@
 """All scripts of tests/scripts on one desk: first one after another, then line by line in turns; over memory, and over a file."""
 
+import collections
 import random
 import re
 
-from common import ROOT, STORE, Broken, make_base, new_folder, printing_lines
+from common import ROOT, STORE, Broken, make_base, new_folder, printing_lines, sentences
 
 FOLDER = ROOT / "tests" / "scripts"
 
@@ -56,6 +57,13 @@ def scripts():
         yield path.stem, lines, printed
 
 
+def told():
+    """The sentences that these scripts tell, without the numbers of their lines, and how often."""
+    paths = [path.with_suffix(".err") for path in sorted(FOLDER.rglob("*.script")) if not path.with_suffix(".ports").exists()]
+    paths = [path for path in paths if path.exists() and not path.with_suffix(".status").exists()]
+    return collections.Counter(it for path in paths for it in sentences(path.read_bytes())[0])
+
+
 def one_after_another(name):
     for number, (stem, lines, printed) in enumerate(scripts()):
         for line, out in zip(lines, printed):
@@ -91,9 +99,10 @@ def run(part, what, script, words, folder):
     printed = ended.out.splitlines(keepends=True)
     if ended.status or len(printed) != len(script):
         part.check(what, False, f"status {ended.status}, {len(printed)} lines of {len(script)}: {ended.err[-300:]!r}")
-        return
+        return collections.Counter()
     for line, out in zip(script, printed):
         part.check(f"{what}, {line.name}: {line.text[:80]!r}", out == line.printed, f"{out!r}, and not {line.printed!r}")
+    return collections.Counter(sentences(ended.err)[0])
 
 
 def together(part):
@@ -102,7 +111,10 @@ def together(part):
         make_base(part, folder)
         # (a desk in memory ends with its script, so both turns are one list)
         lines = [*one_after_another(b"a"), *in_turns(b"b", 1)]
+        wanted = told() + told()
         for where, words in (("memory", ["script"]), ("a file", ["script", "--store", STORE])):
+            said = collections.Counter()
             for number, script in enumerate(in_scripts(lines)):
-                run(part, f"over {where}, part {number + 1}", script, words, folder)
-            print(f"  over {where}: {len(lines):,} lines", flush=True)
+                said += run(part, f"over {where}, part {number + 1}", script, words, folder)
+            part.check(f"over {where}: the sentences", said == wanted, (said - wanted, wanted - said))
+            print(f"  over {where}: {len(lines):,} lines, {sum(said.values()):,} sentences", flush=True)
