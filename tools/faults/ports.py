@@ -1,11 +1,17 @@
 """Ports: requests and scripts that come byte by byte, are cut, or whose reads and writes fail, at each place; and input without end."""
 
 import socket
+import struct
 import subprocess
+import sys
 import tempfile
 import threading
 
-from common import SCRIPTS, STORE, TIME_LIMIT, Ended, Script, Worlds, copy_store, make_base, new_folder
+from common import ROOT, SCRIPTS, STORE, TIME_LIMIT, Ended, Script, Worlds, copy_store, make_base, new_folder
+
+sys.path.insert(0, str(ROOT / "tests" / "serve"))
+
+import host as hosts  # noqa: E402
 
 HOST, KEY = "docs.test", "wkey-1"
 
@@ -183,8 +189,43 @@ def long_scripts(part, base, folder):
         part.check(f"a script of {count:,} reads", is_right, ended)
 
 
+# ---- connections
+
+
+def talk(port, data, piece, is_reset=False):
+    """What a server answers to bytes that come in such pieces, behind which the client ends its writing, or breaks the connection."""
+    with socket.create_connection(("127.0.0.1", port), timeout=TIME_LIMIT) as connection:
+        connection.setsockopt(socket.IPPROTO_TCP, socket.TCP_NODELAY, 1)
+        if is_reset:
+            connection.setsockopt(socket.SOL_SOCKET, socket.SO_LINGER, struct.pack("ii", 1, 0))
+        for at in range(0, len(data), piece):
+            connection.sendall(data[at : at + piece])
+        if is_reset:
+            return None
+        connection.shutdown(socket.SHUT_WR)
+        return b"".join(iter(lambda: connection.recv(65536), b""))
+
+
+def connections(part, base, folder):
+    """A server whose clients end or break the connection at each byte of a push makes no version; byte by byte it makes one."""
+    copy_store(base, folder)
+    whole = push()
+    with hosts.Server(part.program, f"{folder}/{STORE}", 1_000_000, f"{folder}/told") as server:
+        for count in range(len(whole)):
+            reply = talk(server.port, whole[:count], 64)
+            part.check(f"a connection that ends behind {count} bytes", reply.startswith(b"HTTP/1.1 400 "), reply)
+            talk(server.port, whole[:count], 64, True)
+        part.check("no version", hosts.versions(server, HOST) == {"main"}, hosts.versions(server, HOST))
+        reply = talk(server.port, whole, 1)
+        part.check("a request byte by byte", reply.startswith(b"HTTP/1.1 200 "), reply)
+        again = talk(server.port, whole, 4096)
+        part.check("and again", again == reply, again)
+        part.check("one version", hosts.versions(server, HOST) == {"main", "1.0.0"}, hosts.versions(server, HOST))
+        part.check("the server goes on", server.process.poll() is None)
+
+
 def ports(part):
-    """Requests and scripts over a file."""
+    """Requests and scripts over a file, and connections to a server."""
     with new_folder() as made, new_folder() as empty, new_folder() as folder:
         base = make_base(part, made, PROJECT.encode())
         desk = Desk(part, base, folder, ["answer", "--store", STORE])
@@ -195,3 +236,4 @@ def ports(part):
         without_end(part, desk)
         script(part, make_base(part, empty), folder, SCRIPTS / "properties.script")
         long_scripts(part, base, folder)
+        connections(part, base, folder)
