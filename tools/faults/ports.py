@@ -21,7 +21,11 @@ MOST_READS = 100_000
 # What has no end, here.
 MANY = 10_000_000
 
-PROJECT = f"new-project {HOST} en main public {KEY}\npush {HOST} {KEY} k0 branch main\nupload {HOST} {KEY} u0 main en a text/plain a\n"
+PROJECT = f"""new-project {HOST} en main public {KEY}
+push {HOST} {KEY} k0 branch main
+upload {HOST} {KEY} u0 main en a text/plain a
+add-rule {HOST} 1 tag all activate
+"""
 
 
 def post(target, body, spaces=0):
