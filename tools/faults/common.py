@@ -5,6 +5,7 @@ import re
 import shutil
 import sqlite3
 import subprocess
+import sys
 import tempfile
 from contextlib import closing
 from pathlib import Path
@@ -12,8 +13,11 @@ from typing import NamedTuple
 
 HERE = Path(__file__).resolve().parent
 ROOT = HERE.parent.parent
-BUILT = ROOT / "crates" / "docs_host" / "out" / "docs_host"
 SCRIPTS = HERE / "scripts"
+sys.path.insert(0, str(ROOT / "tests" / "serve"))
+
+import host as hosts  # noqa: E402
+from host import Broken  # noqa: E402
 
 # Seconds for one run, and how many failures of a part are shown.
 TIME_LIMIT, MOST_SHOWN = 120, 10
@@ -27,10 +31,6 @@ SENTENCE = re.compile(rb"^docs_host: line \d+: (.*)\n", re.M)
 # What a line prints that met a fault of the store, and one that found no memory.
 STORE_FAILED = (b"refused 23 Store", b"failed store")
 NO_MEMORY = (b"refused 24 OutOfMemory", b"failed memory")
-
-
-class Broken(Exception):
-    """What stops a part."""
 
 
 class Ended(NamedTuple):
@@ -131,9 +131,10 @@ def bytes_of(path):
 
 
 def printing_lines(data):
-    """The lines of a script that print something, each with its end. A line ends at LF alone: a CR may stand in it."""
+    """The lines of a script that print something, each with its end: a last one without an LF may end with a CR, which is its own."""
     lines = re.findall(rb"[^\n]*\n|[^\n]+", data)
-    return [line.rstrip(b"\n") + b"\n" for line in lines if line.strip() and not line.startswith(b"#")]
+    lines = [line if line.endswith(b"\n") else line + b" \n" for line in lines]
+    return [line for line in lines if line.strip() and not line.startswith(b"#")]
 
 
 class Script:

@@ -3,15 +3,10 @@
 import socket
 import struct
 import subprocess
-import sys
 import tempfile
 import threading
 
-from common import ROOT, SCRIPTS, STORE, TIME_LIMIT, Ended, Script, Worlds, copy_store, make_base, new_folder
-
-sys.path.insert(0, str(ROOT / "tests" / "serve"))
-
-import host as hosts  # noqa: E402
+from common import SCRIPTS, STORE, TIME_LIMIT, Ended, Script, Worlds, copy_store, hosts, make_base, new_folder
 
 HOST, KEY = "docs.test", "wkey-1"
 
