@@ -91,6 +91,20 @@ def sweep_script(part, path, base, more):
     sweep(part, script.name, script.words, script.data, base, more, judge)
 
 
+def sweep_lost(part, path, base):
+    """A test of these tests: a write that is lost, with no word of it, leaves other rows at some call."""
+    script, wrong = Script(part, path, base), 0
+    with new_folder() as folder:
+        copy_store(base, folder)
+        count = calls_of(part, script.words, script.data, folder, {})
+        for at in range(1, count + 1):
+            copy_store(base, folder)
+            ended = part.run(script.words, script.data, folder, CALL=str(at), CALL_HOW="lose")
+            wrong += judge_script(script, ended, "lose", part.world(folder)).startswith("-")
+    part.check("writes that are lost are seen", wrong > 0)
+    print(f"  {script.name}, a write that is lost: {count} calls: {wrong} seen", flush=True)
+
+
 def sweep_run(part, name, words, base, more, is_new=False):
     """A single run from a base, or one that makes the file."""
     with new_folder() as plain:
@@ -117,3 +131,4 @@ def device(part):
                     sweep_script(part, path, base, more)
             for name, words, begins in runs:
                 sweep_run(part, name, words, begins, more, name == "init")
+        sweep_lost(part, SCRIPTS / "versions.script", base)

@@ -13,7 +13,7 @@
  *
  * Files: the calls that change one are pwrite, ftruncate, fdatasync and fsync
  *   CALL=N         what CALL_HOW says happens at the Nth of them: kill (the program ends there), once (it fails), rest (so does each
- *                  after it), half (half of it is written, and it fails)
+ *                  after it), half (half of it is written, and it fails), lose (nothing is written, and it tells that it was)
  *   CALL_READS=1   pread counts and fails, too
  *   CALL_RARE=N SEED=S  by chance one call of N fails
  *   ROOM=N         so many bytes more may be stored in all, and then the disk is full
@@ -311,14 +311,14 @@ ssize_t write(int to, const void *bytes, size_t size) {
 
 /* Files. */
 
-enum { GOES, FAILS, HALF };
+enum { GOES, FAILS, HALF, LOST };
 
 static unsigned long calls;
 
 /* What becomes of the next call. */
 static int fate(void) {
     static unsigned long at, call_rare;
-    static int is_set, kills, rest, half;
+    static int is_set, kills, rest, half, loses;
     if (!is_set) {
         is_set = 1;
         at = number("CALL");
@@ -326,12 +326,13 @@ static int fate(void) {
         kills = is("CALL_HOW", "kill");
         rest = is("CALL_HOW", "rest");
         half = is("CALL_HOW", "half");
+        loses = is("CALL_HOW", "lose");
     }
     calls++;
     if (one_of(call_rare)) return FAILS;
     if (!at || calls < at || (calls > at && !rest)) return GOES;
     if (kills) raise(KILL);
-    return half ? HALF : FAILS;
+    return loses ? LOST : half ? HALF : FAILS;
 }
 
 /* The bytes that the disk still takes; below 0 where that is not limited. */
@@ -364,6 +365,7 @@ ssize_t pwrite(int to, const void *bytes, size_t size, off_t at) {
     size_t count;
     if (!real) real = next("pwrite");
     if (how == FAILS) return fail(IO_ERROR);
+    if (how == LOST) return size;
     if (how == HALF) {
         if (size > 1) real(to, bytes, size / 2, at);
         return fail(NO_SPACE);
@@ -380,9 +382,10 @@ ssize_t pread(int from, void *room, size_t size, off_t at) {
 
 int ftruncate(int file, off_t length) {
     static int (*real)(int, off_t);
+    int how = fate();
     long growth;
     if (!real) real = next("ftruncate");
-    if (fate() != GOES) return fail(IO_ERROR);
+    if (how != GOES) return how == LOST ? 0 : fail(IO_ERROR);
     if (is_limited()) {
         /* (a file that is cut gives room back) */
         growth = length - lseek(file, 0, FROM_END);
@@ -394,14 +397,16 @@ int ftruncate(int file, off_t length) {
 
 int fdatasync(int file) {
     static int (*real)(int);
+    int how = fate();
     if (!real) real = next("fdatasync");
-    return fate() == GOES ? real(file) : fail(IO_ERROR);
+    return how == GOES ? real(file) : how == LOST ? 0 : fail(IO_ERROR);
 }
 
 int fsync(int file) {
     static int (*real)(int);
+    int how = fate();
     if (!real) real = next("fsync");
-    return fate() == GOES ? real(file) : fail(IO_ERROR);
+    return how == GOES ? real(file) : how == LOST ? 0 : fail(IO_ERROR);
 }
 
 __attribute__((destructor)) static void count_calls(void) {
