@@ -20,9 +20,13 @@ def calls_of(part, words, data, folder, more):
     return int(ended.err.split()[-1])
 
 
+# What a single command tells that met a fault, beside how the run ends.
+REFUSED = b"docs_host: the store failed: what became of the command is known when the file is opened again\n"
+
+
 def is_fault(err):
     """Whether what is told beside sentences about lines is nothing, or a fault of the store."""
-    rest = sentences(err)[1].splitlines()
+    rest = sentences(err)[1].removeprefix(REFUSED).splitlines()
     return not rest or (len(rest) == 2 and rest[0] == b"fault Store" and rest[1].startswith(b"docs_host: "))
 
 
