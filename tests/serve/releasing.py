@@ -291,7 +291,8 @@ def archive(part):
     part.same("files with another sum", wrong, [])
     part.same("the program", (folder / "docs_host").read_bytes(), Path(part.program).read_bytes())
     part.check("VERSION", (folder / "VERSION").read_text().startswith("docs_host "), (folder / "VERSION").read_text())
-    for name in ("README.md", "CHECK", "docs/operations.md", "docs/SCRIPTS.md", "deploy/nginx.conf", "tools/publish"):
+    tools = "tools/publish", "tools/export", "tools/import-project"
+    for name in ("README.md", "CHECK", "docs/operations.md", "docs/SCRIPTS.md", "deploy/nginx.conf", *tools):
         part.check(f"the archive has {name}", name in there, sorted(there))
     return folder
 

@@ -1,17 +1,21 @@
 //! The change that a body asks for.
 
 ghost use Rattle.std.specs.Prelude.{◌≡◌, IfOk};
-ghost use Rattle.serde_json.specs.View.{view};
+ghost use Rattle.serde_json.specs.Data.{Data};
+ghost use Rattle.dh_bodies.specs.Fields.{AreFieldsOf};
 ghost use Rattle.dh_bodies.specs.Bodies as spec;
 
-use crate::field::{flag_in, text_in};
-use crate::page::pages_in;
+use crate::field::{Fields, read_fields};
 use crate::post::Post;
+use crate::unread::Unread;
 use dh_paths::Text;
 use dh_versions::Kind;
-use dh_world::CommandChange;
-use serde_json::Value;
+use dh_world::{CommandChange, Pages};
+use json::{Reader, Scratch};
 use std::alloc::{AllocError, Global};
+
+/// How deep the lists and objects of a body may nest.
+const MAX_DEPTH: usize = 127;
 
 fn kind_of(text: &str) -> Option<Kind>
     ensures { result ≡ spec.kind_of text.now }
@@ -23,69 +27,69 @@ fn kind_of(text: &str) -> Option<Kind>
     }
 }
 
-fn push_in(alloc: Global, wkey: Text, value: &Value) -> Result<Option<CommandChange>, AllocError>
-    ensures { IfOk result (λ change. change ≡ spec.push_in wkey (view value.now)) }
+fn push_of(
+    alloc: Global,
+    wkey: Text,
+    fields: &Fields<'_>,
+) -> Result<Option<CommandChange>, AllocError>
+    ensures { IfOk result (λ change. (d : Data) → AreFieldsOf fields.now d
+        → change ≡ spec.push_in wkey d) }
 {
-    let Some(kind) = value.get("kind").and_then(Value::as_str).and_then(kind_of) else {
+    let (Some(key), Some(name)) = (fields.key, fields.name) else {
         return Ok(None);
     };
-    let Some(key) = text_in(alloc, value, "key")? else {
-        return Ok(None);
-    };
-    let Some(name) = text_in(alloc, value, "ref")? else {
+    let Some(kind) = fields.kind.and_then(kind_of) else {
         return Ok(None);
     };
     Ok(Some(CommandChange::Push {
         wkey,
-        key,
+        key: Text::copy_of(alloc, key)?,
         kind,
-        name,
+        name: Text::copy_of(alloc, name)?,
     }))
 }
 
-fn upload_in(alloc: Global, wkey: Text, value: Value) -> Result<Option<CommandChange>, AllocError>
-    ensures { IfOk result (λ change. change ≡ spec.upload_in wkey (view value)) }
+fn upload_of(
+    alloc: Global,
+    wkey: Text,
+    fields: Fields<'_>,
+) -> Result<Option<CommandChange>, AllocError>
+    ensures { IfOk result (λ change. (d : Data) → AreFieldsOf fields.entry d
+        → change ≡ spec.upload_in wkey d) }
 {
-    let Some(key) = text_in(alloc, &value, "key")? else {
+    let (Some(key), Some(slug), Some(lang)) = (fields.key, fields.slug, fields.lang) else {
         return Ok(None);
     };
-    let Some(slug) = text_in(alloc, &value, "version")? else {
-        return Ok(None);
-    };
-    let Some(lang) = text_in(alloc, &value, "language")? else {
-        return Ok(None);
-    };
-    let Some(replace) = flag_in(&value, "replace") else {
-        return Ok(None);
-    };
-    let Some(pages) = pages_in(alloc, value)? else {
+    let (Some(replace), Some(pages)) = (fields.replace, fields.pages) else {
         return Ok(None);
     };
     Ok(Some(CommandChange::Upload {
         wkey,
-        key,
-        slug,
-        lang,
+        key: Text::copy_of(alloc, key)?,
+        slug: Text::copy_of(alloc, slug)?,
+        lang: Text::copy_of(alloc, lang)?,
         replace,
-        pages,
+        pages: Pages::wrap(pages),
     }))
 }
 
-fn change_in(
+fn change_of(
     alloc: Global,
     post: Post,
     wkey: Text,
-    value: Value,
+    fields: Fields<'_>,
 ) -> Result<Option<CommandChange>, AllocError>
-    ensures { IfOk result (λ change. change ≡ spec.change_in post wkey (view value)) }
+    ensures { IfOk result (λ change. (d : Data) → AreFieldsOf fields.entry d
+        → change ≡ spec.change_in post wkey d) }
 {
     match post {
-        Post::Push => push_in(alloc, wkey, &value),
-        Post::Upload => upload_in(alloc, wkey, value),
+        Post::Push => push_of(alloc, wkey, &fields),
+        Post::Upload => upload_of(alloc, wkey, fields),
     }
 }
 
 /// The change that a body asks for, with the write key that came beside it; none where the body has not the form.
+/// Of what it does not name nothing is kept.
 pub fn read_change(
     alloc: Global,
     post: Post,
@@ -94,14 +98,18 @@ pub fn read_change(
 ) -> Result<Option<CommandChange>, AllocError>
     ensures { IfOk result (λ change. change ≡ spec.change_of post key body.now) }
 {
-    match Value::from_slice(alloc, body) {
-        Ok(value) => change_in(alloc, post, key, value),
-        Err(error) => {
-            if error.is_memory() {
-                Err(AllocError)
-            } else {
-                Ok(None)
-            }
-        }
+    let Ok(text) = str::from_utf8(body) else {
+        return Ok(None);
+    };
+    let mut scratch = Scratch::new(alloc);
+    let mut reader = Reader::new(text, &mut scratch)?;
+    let fields = match read_fields(alloc, &mut reader, MAX_DEPTH) {
+        Ok(fields) => fields,
+        Err(Unread::NotJson) => return Ok(None),
+        Err(Unread::Memory) => return Err(AllocError),
+    };
+    if reader.next().is_some() {
+        return Ok(None);
     }
+    change_of(alloc, post, key, fields)
 }

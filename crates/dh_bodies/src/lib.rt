@@ -4,8 +4,10 @@
 pub mod change;
 mod field;
 mod laws;
+mod leaf;
 mod page;
 pub mod post;
+mod unread;
 
 pub use change::read_change;
 pub use laws::{base64_is_exact, last_value_counts};

@@ -52,7 +52,7 @@ ended_at bytes lines front last same parts is =
 pub open_at : (bytes lines front : Text) (last : ℕ) → whole_lines bytes ≡ whole_lines lines → lines ≡ front ++ last ∷ [] → (last == 10) ≡ false → whole_lines bytes ≡ whole_lines front
 open_at bytes lines front last same parts not = same ∙ ap whole_lines parts ∙ open_line front last not
 
-length_more : (front : Text) (last : ℕ) → length (front ++ last ∷ []) - 1 ≡ length front
+pub length_more : (front : Text) (last : ℕ) → length (front ++ last ∷ []) - 1 ≡ length front
 length_more front last = omega (arith, length-append front (last ∷ []))
 
 -- the last byte, and what stands in front of it

@@ -1,19 +1,19 @@
 -- What a message does to the world, and what is written for it.
-use Rattle.std.specs.Prelude.{◌≡◌, ◌⊎◌, ℕ, Bool, true, [], ◌∷◌, ◌++◌, Option, Some, None, Result, Ok, Err, IfSome, OnOk, is_err}
+use Rattle.std.specs.Prelude.{◌≡◌, ◌⊎◌, ℕ, Bool, true, false, List, [], ◌∷◌, ◌++◌, Option, Some, None, Result, Ok, Err, IfSome, OnOk, is_err}
 use Rattle.std.specs.Io.KnownBytes.{Appends}
-use Rattle.std.specs.List.{slice_split}
+use Rattle.std.specs.List.{All, slice_split}
 use Rattle.std.specs.Str.{IsUtf8}
 use Rattle.dh_lines.specs.Lines.{line_in}
 use Rattle.dh_lines.specs.declared.lines.Line.{Line}
 use Rattle.dh_lines.specs.declared.lines.Order.{Order}
 use Rattle.dh_script.specs.Reading.{IsScript}
 use Rattle.dh_script.specs.Running.{RunsScript}
-use Rattle.dh_script.specs.Script.{Performs, MayDoOrder, is_unread}
+use Rattle.dh_script.specs.Script.{PerformsSingle, MayDoSingle, is_unread}
 use Rattle.dh_script.specs.declared.fault.RunFault.TheVariants.{Write}
 use Rattle.dh_script.specs.declared.fault.ScriptFault.{ScriptFault}
 use Rattle.dh_script.specs.declared.fault.ScriptFault.TheVariants.{Run}
 use Rattle.dh_world.specs.World.{Text, World}
-use Rattle.dh_control.specs.Messages.{is_nul, body_of, behind, words_mark, script_mark}
+use Rattle.dh_control.specs.Messages.{is_nul, body_of, behind, words_mark, script_mark, words_message, script_message}
 use Rattle.dh_control.specs.Ends.{end_of, end_line}
 use Rattle.dh_control.specs.declared.end.End.{End}
 use Rattle.dh_control.specs.declared.end.End.TheVariants.{Unknown}
@@ -22,9 +22,9 @@ use Rattle.dh_control.specs.declared.end.End.TheVariants.{Unknown}
 -- it was done or was not
 abbrev pub DoesOne : {E : Type 0} → ℕ → World → Order → World → Option Text → Option Text → Result End E → Type 0
 DoesOne moment before order after held now (Ok end) =
-    (text : Text) × (refused : Bool) × Performs moment before order after text refused
+    (text : Text) × (refused : Bool) × PerformsSingle moment before order after text refused
     × Appends held now (text ++ 10 ∷ []) × (end ≡ end_of refused)
-DoesOne moment before order after held now (Err fault) = MayDoOrder moment before order after
+DoesOne moment before order after held now (Err fault) = MayDoSingle moment before order after
 
 -- what is no message does nothing, and prints nothing
 abbrev pub DoesNone : {E : Type 0} → World → World → Option Text → Option Text → Result End E → Type 0
@@ -82,3 +82,24 @@ abbrev pub AnswersMessage : ℕ → Option Text → World → World → Option T
 AnswersMessage moment left before after held now result =
     AnswersWhole moment left before after held now result
     ⊎ ((is_err result ≡ true) × (after ≡ before) × (now ≡ held))
+
+-- ---- both ends of a message
+
+-- a text without a NUL
+abbrev pub IsWord : Text → Type 0
+IsWord word = IsUtf8 word × All (λ byte. is_nul byte ≡ false) word
+
+-- of the words that a client sends their line is done
+abbrev pub WordsAreDone : Type 0
+WordsAreDone =
+    (moment : ℕ) (word : Text) (words : List Text) (before after : World) (held now : Option Text) (result : Result End ScriptFault)
+    → IsWord word → All IsWord words
+    → DoesMessage moment (words_message (word ∷ words)) before after held now result
+    → DoesWords moment before (line_in (word ∷ words)) after held now result
+
+-- the script that a client sends is the one that runs
+abbrev pub ScriptsAreDone : Type 0
+ScriptsAreDone =
+    (moment : ℕ) (script : Text) (before after : World) (held now : Option Text) (result : Result End ScriptFault)
+    → DoesMessage moment (script_message script) before after held now result
+    → DoesScript moment script before after held now result

@@ -1,5 +1,5 @@
 -- How the end of a message is told.
-use Rattle.std.specs.Prelude.{Bool, true, false, [], ◌∷◌, ◌++◌, Result, Ok, Err, codes}
+use Rattle.std.specs.Prelude.{◌≡◌, Bool, true, false, [], ◌∷◌, ◌++◌, Option, Some, None, Result, Ok, Err, codes}
 use Rattle.dh_script.specs.Faults.{name_of}
 use Rattle.dh_script.specs.declared.fault.ScriptFault.{ScriptFault}
 use Rattle.dh_world.specs.World.{Text}
@@ -28,3 +28,8 @@ end_word ended = end_number ended ++ end_name ended
 -- the last line of an answer
 abbrev pub end_line : Result End ScriptFault → Text
 end_line ended = codes "end " ++ end_number ended ++ (end_name ended ++ 10 ∷ [])
+
+-- the end that a word tells; where there is none, no end is told by it
+abbrev pub ReadsEnd : Text → Option (Result End ScriptFault) → Type 0
+ReadsEnd word None = (ended : Result End ScriptFault) → word ≡ end_word ended → ⊥
+ReadsEnd word (Some ended) = word ≡ end_word ended

@@ -1,7 +1,7 @@
 -- What is sent.
-use Rattle.std.specs.Prelude.{ℕ, ◌-◌, ◌==◌, Bool, [], ◌∷◌, ◌++◌, Option, Some, None}
+use Rattle.std.specs.Prelude.{ℕ, ◌-◌, ◌==◌, Bool, List, [], ◌∷◌, ◌++◌, Option, Some, None}
 use Rattle.std.specs.Prelude.{length, take, drop, slice_index, codes, nat_eq, if◌then◌else◌}
-use Rattle.std.specs.List.{starts_with}
+use Rattle.std.specs.List.{join_by, starts_with}
 use Rattle.dh_world.specs.World.{Text}
 
 -- the most bytes of a message
@@ -34,9 +34,13 @@ script_mark = codes "docs_host 1 script\n"
 abbrev pub is_nul : ℕ → Bool
 is_nul byte = nat_eq byte 0
 
--- what a client sends to have an order done, whose words have a NUL between each two, and a script run
-abbrev pub words_message : Text → Text
-words_message words = words_mark ++ words ++ last_byte ∷ []
+-- words, a NUL between each two
+abbrev pub joined : List Text → Text
+joined = join_by (λ word. word) (0 ∷ [])
+
+-- what a client sends to have words of the program done, and a script run
+abbrev pub words_message : List Text → Text
+words_message words = words_mark ++ joined words ++ last_byte ∷ []
 
 abbrev pub script_message : Text → Text
 script_message script = script_mark ++ script ++ last_byte ∷ []

@@ -17,7 +17,7 @@ use crate::message::{MOST_BYTES, SCRIPT, WORDS, behind, body_of, words_of};
 use dh_desk::Desk;
 use dh_lines::{LineFault, Order, line_of};
 use dh_ports::{Port, Sink, Source, put_both};
-use dh_script::{Report, RunFault, ScriptFault, perform, read_script, run_script};
+use dh_script::{Report, RunFault, ScriptFault, perform_single, read_script, run_script};
 use sqlite::Alter;
 use std::alloc::Global;
 
@@ -34,7 +34,7 @@ fn do_order<S: Alter, W: Sink>(
     ensures does { Moves S.Store desk.old desk.new (λ before after.
         DoesOne now before order.now after (W.held sink.old) (W.held sink.new) result) }
 {
-    let printed = perform(alloc, desk, order, now)?;
+    let printed = perform_single(alloc, desk, order, now)?;
     match put_both(sink, printed.text.as_bytes(), b"\n") {
         Ok(()) => Ok(end_of(printed.refused)),
         Err(_) => Err(RunFault::Write),

@@ -1,18 +1,27 @@
 //! Messages, as a client makes them.
 
-ghost use Rattle.std.specs.Prelude.{◌≡◌, IfOk};
+ghost use Rattle.std.specs.Prelude.{◌≡◌, map, string_bytes, IfOk};
 ghost use Rattle.dh_control.specs.Messages as spec;
 
 use crate::message::{LAST, SCRIPT, WORDS};
 use std::alloc::{AllocError, Global};
 
-/// The message that orders what words of the program do, which have a NUL between each two.
-pub fn words_message(alloc: Global, words: &str) -> Result<Vec<u8>, AllocError>
-    ensures { IfOk result (λ message. message.items ≡ spec.words_message words.now) }
+/// The words, a NUL between each two.
+fn joined(alloc: Global, words: &[String]) -> Result<String, AllocError>
+    ensures { IfOk result (λ text. string_bytes text ≡ spec.joined (map string_bytes words.now)) }
 {
+    words.join(alloc, "\0")
+}
+
+/// The message that has words of the program done. A server reads the same words, if none of them has a NUL.
+pub fn words_message(alloc: Global, words: &[String]) -> Result<Vec<u8>, AllocError>
+    ensures { IfOk result (λ message. message.items
+        ≡ spec.words_message (map string_bytes words.now)) }
+{
+    let joined = joined(alloc, words)?;
     let mut message = Vec::new(alloc);
     message.extend_from_slice(WORDS.as_bytes())?;
-    message.extend_from_slice(words.as_bytes())?;
+    message.extend_from_slice(joined.as_bytes())?;
     message.push(LAST)?;
     Ok(message)
 }

@@ -15,7 +15,7 @@ pub struct AnswerParts<'a> {
 }
 
 /// The lines of some bytes, each with its end: all that stands in front of the last that has none.
-fn lines_of(bytes: &[u8]) -> &[u8]
+pub fn whole_lines(bytes: &[u8]) -> &[u8]
     ensures lines { result.now ≡ spec.whole_lines bytes.now }
     ensures within { length result.now ≤ length bytes.now }
 {
@@ -38,7 +38,7 @@ pub fn cut(answer: &[u8]) -> Option<AnswerParts<'_>>
     if *last != b'\n' {
         return None;
     }
-    let printed = lines_of(front);
+    let printed = whole_lines(front);
     let end = behind("end ", &front[printed.len()..])?;
     Some(AnswerParts { printed, end })
 }

@@ -2,8 +2,10 @@
 
 ghost use Rattle.std.specs.Prelude.{◌≡◌};
 ghost use Rattle.dh_control.specs.Ends as spec;
+ghost use Rattle.dh_control.specs.Ends.{ReadsEnd};
 
-use dh_script::ScriptFault;
+use dh_ports::Stop;
+use dh_script::{RunFault, ScriptFault};
 
 /// How a message ends that met no fault.
 #[derive(Clone, Copy, Debug, PartialEq, Eq)]
@@ -42,5 +44,26 @@ pub fn end_name(ended: Result<End, ScriptFault>) -> &'static str
     match ended {
         Ok(_) => "",
         Err(fault) => fault.name(),
+    }
+}
+
+/// The end that a word of an answer tells, where it tells one. Two faults have one name, and so this is one of theirs.
+pub fn read_end(word: &[u8]) -> Option<Result<End, ScriptFault>>
+    ensures { ReadsEnd word.now result }
+{
+    let Ok(word) = str::from_utf8(word) else {
+        return None;
+    };
+    match word {
+        "0" => Some(Ok(End::Done)),
+        "1" => Some(Ok(End::Refused)),
+        "2" => Some(Ok(End::Unknown)),
+        "3 Memory" => Some(Err(ScriptFault::Run(RunFault::Memory))),
+        "3 Write" => Some(Err(ScriptFault::Run(RunFault::Write))),
+        "3 Read" => Some(Err(ScriptFault::Unread(Stop::Read))),
+        "3 TooManyTurns" => Some(Err(ScriptFault::Unread(Stop::TooManyTurns))),
+        "3 TooLong" => Some(Err(ScriptFault::TooLong)),
+        "3 NotText" => Some(Err(ScriptFault::NotText)),
+        _ => None,
     }
 }

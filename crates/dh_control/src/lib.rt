@@ -10,6 +10,6 @@ mod message;
 
 pub use answering::answer_message;
 pub use asking::{script_message, words_message};
-pub use cutting::{AnswerParts, cut};
-pub use end::End;
-pub use laws::answers_are_cut;
+pub use cutting::{AnswerParts, cut, whole_lines};
+pub use end::{End, read_end};
+pub use laws::{answers_are_cut, messages_are_done};

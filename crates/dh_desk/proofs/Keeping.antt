@@ -31,13 +31,19 @@ kept_records g old new kept lasts same honest = subst AreConsistent (sym (same h
 pub rows_right : {S : Type 0} (g : Ghosts S) (h : Held S) → HasRecords g h AreConsistent → (o : Option Text) → IsRightAt g h o
 rows_right g h consistent o host is honest = let it = consistent honest in right_from (records g h) host it.sound (it.right host)
 
+-- what was right of records is right of the same
+pub unmoved_keeps
+    : {S : Type 0} (g : Ghosts S) (old new : Held S) → Lasts g old new → (IsHonest g new → last_records g new ≡ last_records g old)
+    → (kept : Replies) → IsKept g old × AreCurrent g old kept → IsKept g new × AreCurrent g new kept
+unmoved_keeps g old new lasts same kept was = (
+  λ honest. subst AreConsistent (sym (same honest)) (was.0 (lasts.was honest)),
+  λ honest. subst (λ l. AreRight (world_of l) kept.entries) (sym (same honest)) (was.1 (lasts.was honest)),
+)
+
 module _ {S : Type 0} (g : Ghosts S) (old new : Held S) (command : Command) (r : Result Answer Refusal) (did : Transacts g old new command r) (refused : is_ok r ≡ false) where
   same_records : IsHonest g new → last_records g new ≡ last_records g old
   same_records honest = stays (last_records g old) (last_records g new) command r refused (did.steps honest)
 
   -- so what was right of it is right of what it left
   pub refused_keeps : (kept : Replies) → IsKept g old × AreCurrent g old kept → IsKept g new × AreCurrent g new kept
-  refused_keeps kept was = (
-    λ honest. subst AreConsistent (sym (same_records honest)) (was.0 (did.lasts.was honest)),
-    λ honest. subst (λ l. AreRight (world_of l) kept.entries) (sym (same_records honest)) (was.1 (did.lasts.was honest)),
-  )
+  refused_keeps kept was = unmoved_keeps g old new did.lasts same_records kept was

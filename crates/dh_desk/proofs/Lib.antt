@@ -5,3 +5,4 @@ pub mod Calling
 pub mod Classing
 pub mod Filing
 pub mod Keeping
+pub mod Listing

@@ -17,6 +17,8 @@ ghost use Rattle.dh_faults.specs.declared.fault.Fault.TheVariants as fault;
 ghost use Rattle.dh_replies.specs.declared.replies.TheConstants.{MOST_REPLIES};
 ghost use Rattle.dh_desk.specs.Desk.{IsKept, TellsMemory, is_fault, reply_in, state, veil_of, world};
 
+mod listing;
+
 use crate::reads::read;
 use dh_renewal::derive;
 use dh_replies::Replies;

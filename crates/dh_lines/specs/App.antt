@@ -89,6 +89,21 @@ get_app = with_rule (with_rule (form (codes "get") (codes "host" ∷ codes "targ
 abbrev pub import_app : App
 import_app = form (codes "import") (codes "host" ∷ codes "list" ∷ [])
 
+-- `NAME HOST`: a word that lists what a project has
+abbrev pub list_app : Text → App
+list_app name = form name (codes "host" ∷ [])
+
+abbrev pub list_apps : List App
+list_apps =
+    form (codes "list-projects") []
+    ∷ list_app (codes "list-langs")
+    ∷ list_app (codes "list-versions")
+    ∷ list_app (codes "list-defaults")
+    ∷ list_app (codes "list-rules")
+    ∷ list_app (codes "list-redirects")
+    ∷ list_app (codes "list-passes")
+    ∷ []
+
 abbrev pub script_app : App
 script_app = form (codes "script") []
 
@@ -99,7 +114,7 @@ answer_app = form (codes "answer") []
 abbrev pub store_apps : List App
 store_apps =
     project_apps ++ version_apps ++ pass_apps ++ redirect_apps ++ rule_apps
-    ++ (get_app ∷ import_app ∷ script_app ∷ answer_app ∷ [])
+    ++ (get_app ∷ import_app ∷ []) ++ list_apps ++ (script_app ∷ answer_app ∷ [])
 
 -- a form that takes `--store FILE`, too
 abbrev pub with_store : App → App

@@ -33,10 +33,15 @@ use Rattle.dh_world.specs.declared.command.CommandChange.TheVariants.{AddPass, D
 use Rattle.dh_world.specs.declared.command.CommandChange.TheVariants.{Revoke, AddRedirect}
 use Rattle.dh_world.specs.declared.command.CommandChange.TheVariants.{DropRedirect, AddRule}
 use Rattle.dh_world.specs.declared.command.CommandChange.TheVariants.{DropRule}
+use Rattle.dh_listings.specs.declared.words.ListWord.TheVariants.{Projects, OfProject}
+use Rattle.dh_listings.specs.declared.words.ProjectList.{ProjectList}
+use Rattle.dh_listings.specs.declared.words.ProjectList.TheVariants.{Langs, Versions, Defaults, Rules}
+use Rattle.dh_listings.specs.declared.words.ProjectList.TheVariants.{Redirects, Passes}
 use Rattle.dh_words.specs.Words.{is_plain, ArePlain}
 use Rattle.dh_lines.specs.App.{docs_app}
 use Rattle.dh_lines.specs.declared.lines.Line.{Line}
 use Rattle.dh_lines.specs.declared.lines.Order.{Order}
+use Rattle.dh_lines.specs.declared.lines.Order.TheVariants as order
 use Rattle.dh_lines.specs.declared.lines.Order.TheVariants.{Act, Get, Import, Init, Migrate, Script}
 use Rattle.dh_lines.specs.declared.lines.Order.TheVariants.{Answer, Serve}
 use Rattle.dh_lines.specs.declared.lines.LineFault.{LineFault}
@@ -338,6 +343,26 @@ command_in name rows =
     with_word (codes "host") rows (λ host.
     option_map (asking host) (change_in name rows))
 
+-- the list of a project that a word of this name asks for
+abbrev pub list_named : Text → Option ProjectList
+list_named name =
+    if bytes_eq name (codes "list-langs") then Some Langs
+    else if bytes_eq name (codes "list-versions") then Some Versions
+    else if bytes_eq name (codes "list-defaults") then Some Defaults
+    else if bytes_eq name (codes "list-rules") then Some Rules
+    else if bytes_eq name (codes "list-redirects") then Some Redirects
+    else if bytes_eq name (codes "list-passes") then Some Passes
+    else None
+
+-- `NAME HOST`, of a word that lists this
+abbrev pub list_in : ProjectList → List Row → Option Order
+list_in list rows = with_word (codes "host") rows (λ host. Some (order.List (OfProject host list)))
+
+-- what a word orders that lists this, or else a command of this name
+abbrev pub list_or_command : Option ProjectList → Text → List Row → Option Order
+list_or_command (Some list) name rows = list_in list rows
+list_or_command None name rows = option_map Act (command_in name rows)
+
 -- what a line of this name orders
 abbrev pub order_in : Text → List Row → Option Order
 order_in name rows =
@@ -348,7 +373,8 @@ order_in name rows =
     else if bytes_eq name (codes "init") then init_in rows
     else if bytes_eq name (codes "migrate") then migrate_in rows
     else if bytes_eq name (codes "serve") then serve_in rows
-    else option_map Act (command_in name rows)
+    else if bytes_eq name (codes "list-projects") then Some (order.List Projects)
+    else list_or_command (list_named name) name rows
 
 -- the line of this order, over the store in this file
 abbrev pub as_line : Option Text → Order → Line
@@ -441,6 +467,11 @@ OrdersRuleOf kind_word kind action_word action =
 abbrev pub OrdersRule : Text → Action → Type 0
 OrdersRule word action =
     OrdersRuleOf (codes "branch") Branch word action × OrdersRuleOf (codes "tag") Tag word action
+
+-- `NAME HOST` lists this, where HOST is plain
+abbrev pub OrdersList : Text → ProjectList → Type 0
+OrdersList name list = (host : Text) → is_plain host ≡ true
+    → Orders (name ∷ host ∷ []) (order.List (OfProject host list))
 
 -- `serve --store FILE --count N` and these words serve N connections at this port over the store in
 -- FILE, where FILE and N are plain, and N is digits of this number

@@ -150,8 +150,8 @@ fn bare_command<'a>(alloc: Global) -> Syntax<'a>
     syntax.as_program()
 }
 
-/// The lines of scripts, and what the program does with its input.
-const FORMS: [Form<'static>; 24] = [
+/// The lines of scripts, what lists, and what the program does with its input.
+const FORMS: [Form<'static>; 31] = [
     Form {
         name: "new-project",
         about: "Makes a project with one language and no version",
@@ -324,6 +324,55 @@ const FORMS: [Form<'static>; 24] = [
         about: "Adds the redirects of a list that are not there behind the project's others, all or none",
         example: "Example: docs_host import docs.test redirects.csv --store docs.db",
         ids: &["host", "list"],
+        more: &[],
+    },
+    Form {
+        name: "list-projects",
+        about: "Lists the projects of all hosts, without their write keys",
+        example: "Example: docs_host list-projects --store docs.db",
+        ids: &[],
+        more: &[],
+    },
+    Form {
+        name: "list-langs",
+        about: "Lists the languages of a project, its main one first",
+        example: "Example: docs_host list-langs docs.test --store docs.db",
+        ids: &["host"],
+        more: &[],
+    },
+    Form {
+        name: "list-versions",
+        about: "Lists the versions of a project",
+        example: "Example: docs_host list-versions docs.test --store docs.db",
+        ids: &["host"],
+        more: &[],
+    },
+    Form {
+        name: "list-defaults",
+        about: "Lists the defaults of a project, the first one first",
+        example: "Example: docs_host list-defaults docs.test --store docs.db",
+        ids: &["host"],
+        more: &[],
+    },
+    Form {
+        name: "list-rules",
+        about: "Lists the rules of a project by their places",
+        example: "Example: docs_host list-rules docs.test --store docs.db",
+        ids: &["host"],
+        more: &[],
+    },
+    Form {
+        name: "list-redirects",
+        about: "Lists the redirects of a project by their places",
+        example: "Example: docs_host list-redirects docs.test --store docs.db",
+        ids: &["host"],
+        more: &[],
+    },
+    Form {
+        name: "list-passes",
+        about: "Lists the passes of a project, with their ends and grants",
+        example: "Example: docs_host list-passes docs.test --store docs.db",
+        ids: &["host"],
         more: &[],
     },
     Form {

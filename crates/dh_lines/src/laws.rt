@@ -18,13 +18,17 @@ ghost use Rattle.dh_world.specs.declared.command.CommandChange.TheVariants.{SetD
 ghost use Rattle.dh_world.specs.declared.command.CommandChange.TheVariants.{DropPass, Grant};
 ghost use Rattle.dh_world.specs.declared.command.CommandChange.TheVariants.{Revoke, DropRedirect};
 ghost use Rattle.dh_world.specs.declared.command.CommandChange.TheVariants.{DropRule};
+ghost use Rattle.dh_listings.specs.declared.words.ListWord.TheVariants.{Projects};
+ghost use Rattle.dh_listings.specs.declared.words.ProjectList.TheVariants as lists;
 ghost use Rattle.dh_words.specs.Words.{is_plain, ArePlain, has_command};
 ghost use Rattle.dh_lines.specs.App.{docs_app};
 ghost use Rattle.dh_lines.specs.Lines.{line_in, asking, Orders, OrdersOnVersion, OrdersOnPass};
 ghost use Rattle.dh_lines.specs.Lines.{OrdersOnGrant, OrdersRedirect, OrdersForced, OrdersRule};
+ghost use Rattle.dh_lines.specs.Lines.{OrdersList};
 ghost use Rattle.dh_lines.specs.Lines.{place_of, moment_of, as_line, ServesAt, ServesAtPort};
 ghost use Rattle.dh_lines.specs.declared.lines.Order.TheVariants.{Act, Get, Import, Init};
 ghost use Rattle.dh_lines.specs.declared.lines.Order.TheVariants.{Migrate, Script, Answer};
+ghost use Rattle.dh_lines.specs.declared.lines.Order.TheVariants as order;
 
 /// The lines on projects and pushes.
 pub fn project_lines()
@@ -145,6 +149,17 @@ pub fn get_lines()
 pub fn import_lines()
     ensures { (host list : Text) → ArePlain (host ∷ list ∷ [])
         → Orders (codes "import" ∷ host ∷ list ∷ []) (Import host list) }
+{}
+
+/// The lines that list the projects, and what one of them has.
+pub fn list_lines()
+    ensures projects { Orders (codes "list-projects" ∷ []) (order.List Projects) }
+    ensures langs { OrdersList (codes "list-langs") lists.Langs }
+    ensures versions { OrdersList (codes "list-versions") lists.Versions }
+    ensures defaults { OrdersList (codes "list-defaults") lists.Defaults }
+    ensures rules { OrdersList (codes "list-rules") lists.Rules }
+    ensures redirects { OrdersList (codes "list-redirects") lists.Redirects }
+    ensures passes { OrdersList (codes "list-passes") lists.Passes }
 {}
 
 /// What the program itself does with its input.

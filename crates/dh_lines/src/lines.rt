@@ -3,6 +3,7 @@
 use crate::app::docs_command;
 use clap::ArgMatches;
 use clap::error::ErrorKind;
+use dh_listings::{ListWord, ProjectList};
 use dh_paths::{Bytes, Text};
 use dh_redirects::{Redirect, RedirectKind, read_status};
 use dh_rules::{Action, Pattern, Rule};
@@ -33,6 +34,8 @@ pub enum Order {
         /// The file of the list.
         list: Text,
     },
+    /// To list what the records hold.
+    List(ListWord),
     /// To make a store in a file.
     Init {
         file: Text,
@@ -99,6 +102,7 @@ ghost use Rattle.dh_lines.specs.Lines.{text_meant as meant_by, redirect_in, add_
 ghost use Rattle.dh_lines.specs.Lines.{drop_redirect_in, redirect_change_in, pattern_of, action_of};
 ghost use Rattle.dh_lines.specs.Lines.{rule_in, add_rule_in, drop_rule_in, rule_change_in};
 ghost use Rattle.dh_lines.specs.Lines.{command_in, get_in, init_in, count_in, port_in, serve_in};
+ghost use Rattle.dh_lines.specs.Lines.{list_in, list_named, list_or_command as spec_list_or_command};
 ghost use Rattle.dh_lines.specs.Lines.{order_in, named_line, line_with, line_in, Says, Matches};
 
 fn value<'a>(matches: &ArgMatches<'a>, id: &str) -> Option<&'a str>
@@ -596,6 +600,39 @@ fn command(alloc: Global, name: &str, matches: &ArgMatches<'_>) -> Result<Comman
     Ok(Command { host, change })
 }
 
+/// The list of a project that a word of this name asks for.
+fn project_list(name: &str) -> Option<ProjectList>
+    ensures { result ≡ list_named name.now }
+{
+    match name {
+        "list-langs" => Some(ProjectList::Langs),
+        "list-versions" => Some(ProjectList::Versions),
+        "list-defaults" => Some(ProjectList::Defaults),
+        "list-rules" => Some(ProjectList::Rules),
+        "list-redirects" => Some(ProjectList::Redirects),
+        "list-passes" => Some(ProjectList::Passes),
+        _ => None,
+    }
+}
+
+fn list(alloc: Global, list: ProjectList, matches: &ArgMatches<'_>) -> Result<Order, LineFault>
+    ensures { Says (list_in list (rows_of (found_of matches.now))) result }
+{
+    let host = word(alloc, matches, "host")?;
+    Ok(Order::List(ListWord::OfProject { host, list }))
+}
+
+/// A line that lists what a project has, or a command.
+fn list_or_command(alloc: Global, name: &str, matches: &ArgMatches<'_>) -> Result<Order, LineFault>
+    ensures { Says (spec_list_or_command (list_named name.now) name.now
+        (rows_of (found_of matches.now))) result }
+{
+    match project_list(name) {
+        Some(found) => list(alloc, found, matches),
+        None => Ok(Order::Act(command(alloc, name, matches)?)),
+    }
+}
+
 /// What a line of this name orders.
 fn read_order(alloc: Global, name: &str, matches: &ArgMatches<'_>) -> Result<Order, LineFault>
     ensures { Says (order_in name.now (rows_of (found_of matches.now))) result }
@@ -608,7 +645,8 @@ fn read_order(alloc: Global, name: &str, matches: &ArgMatches<'_>) -> Result<Ord
         "init" => init(alloc, matches),
         "migrate" => migrate(alloc, matches),
         "serve" => serve(matches),
-        _ => Ok(Order::Act(command(alloc, name, matches)?)),
+        "list-projects" => Ok(Order::List(ListWord::Projects)),
+        _ => list_or_command(alloc, name, matches),
     }
 }
 

@@ -1,8 +1,11 @@
 -- What list words print of a world.
-use Rattle.std.specs.Prelude.{ℕ, ◌+◌, Bool, true, false, List, [], ◌∷◌, ◌++◌, length, map, filter, flat_map, codes, Option, Some, None, option_map, option_and_then, unwrap_or, slice_get}
+use Rattle.std.specs.Prelude.{ℕ, ◌+◌, Bool, true, false, List, [], ◌∷◌, ◌++◌, length, map, filter, flat_map, codes, Option, Some, None, option_map, option_and_then, unwrap_or, slice_get, if◌then◌else◌}
 use Rattle.std.specs.Fmt.{decimal}
+use Rattle.std.specs.List.{list_all}
 use Rattle.std.specs.Str.{bytes_eq}
 use Rattle.std.specs.FinMap.{entries, get}
+use Rattle.dh_texts.specs.Texts.{is_no_control}
+use Rattle.dh_paths.specs.Escapes.{escaped}
 use Rattle.dh_versions.specs.declared.version.Kind.{Kind}
 use Rattle.dh_versions.specs.declared.version.Kind.TheVariants.{Branch, Tag}
 use Rattle.dh_versions.specs.declared.version.Version.{Version}
@@ -66,6 +69,11 @@ abbrev pub end_word : Option ℕ → Text
 end_word None = codes "none"
 end_word (Some end) = decimal end
 
+-- a text as a word of a row: it stands as it is, but for one with a control byte, as a tab, which stands behind `escaped:`
+-- with percent escapes
+abbrev pub row_word : Text → Text
+row_word text = if list_all is_no_control text then text else codes "escaped:" ++ escaped text
+
 -- ---- rows: words with a tab between two
 
 -- `HOST LANG BRANCH public|private`, of the main language; the write key is left out
@@ -82,7 +90,8 @@ version_words v =
 -- `PLACE branch|tag PATTERN ACTION`
 unfoldable pub rule_words : ℕ → Rule → Text
 rule_words place r =
-    decimal place ++ 9 ∷ kind_word r.kind ++ 9 ∷ pattern_text r.pattern ++ 9 ∷ action_word r.action
+    decimal place ++ 9 ∷ kind_word r.kind ++ 9 ∷ row_word (pattern_text r.pattern)
+    ++ 9 ∷ action_word r.action
 
 -- `PLACE KIND STATUS FROM TO`, and `--force`
 unfoldable pub redirect_words : ℕ → Redirect → Text

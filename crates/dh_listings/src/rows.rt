@@ -3,7 +3,7 @@
 ghost use Rattle.std.specs.Prelude.{◌≡◌, ◌∷◌, ◌++◌, IfOk, OnOk, string_bytes};
 ghost use Rattle.dh_listings.specs.ListingTexts as spec;
 
-use dh_paths::{HostName, Lang, RefName, Slug, Token};
+use dh_paths::{HostName, Lang, RefName, Slug, Token, all_no_control, encode_path};
 use dh_redirects::{Redirect, RedirectKind};
 use dh_rules::{Action, Rule};
 use dh_versions::{Kind, Version};
@@ -143,7 +143,20 @@ pub fn append_version(out: &mut String, version: &Version) -> Result<(), AllocEr
     )
 }
 
-/// A rule at its place. Its pattern is written as it is: an expression may hold a tab or an LF.
+/// A text as a word of a row: one with a control byte, which may be a tab or an LF, stands behind a mark with percent
+/// escapes.
+fn row_word(alloc: Global, text: String) -> Result<String, AllocError>
+    ensures { IfOk result (λ word. string_bytes word ≡ spec.row_word (string_bytes text)) }
+{
+    if all_no_control(text.as_bytes()) {
+        return Ok(text);
+    }
+    let escaped = encode_path(alloc, text.as_str())?;
+    let escaped = escaped.as_str();
+    format!(in alloc; "escaped:{escaped}")
+}
+
+/// A rule at its place.
 #[tactic(auto, unfolding(crate::specs::ListingTexts::rule_words))]
 pub fn append_rule(
     out: &mut String,
@@ -155,7 +168,7 @@ pub fn append_rule(
         ≡ string_bytes out.old ++ 10 ∷ spec.rule_words place rule.now) }
 {
     let kind = kind_word(rule.kind);
-    let pattern = rule.pattern.text(alloc)?;
+    let pattern = row_word(alloc, rule.pattern.text(alloc)?)?;
     let pattern = pattern.as_str();
     let action = action_word(rule.action);
     write!(out, "\n{place}\t{kind}\t{pattern}\t{action}")

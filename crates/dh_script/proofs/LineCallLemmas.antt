@@ -29,6 +29,7 @@ of_order : (moment : ℕ) (before after : World) (o : Order) (text : Text) → D
 of_order moment before after (order.Act c) text (refused, (answer, stepped, tells)) = (outcome_of answer, (answer, stepped, refl), tells.0)
 of_order moment before after (order.Get host target pass own) text (refused, (same, did)) = of_target before after host pass (unwrap_or own moment) (target_of target) text refused same did
 of_order moment before after (order.Import host list) text (refused, (same, did)) = (same, did.0)
+of_order moment before after (order.List word) text (refused, (same, did)) = (same, did.0)
 of_order moment before after (order.Init file) text (refused, (same, did)) = (same, did.0)
 of_order moment before after (order.Migrate file) text (refused, (same, did)) = (same, did.0)
 of_order moment before after order.Script text (refused, (same, did)) = (same, did.0)

@@ -14,6 +14,10 @@ use Rattle.dh_world.specs.Reads.{host_named, caller_named}
 use Rattle.dh_world.specs.declared.command.Command.{Command}
 use Rattle.dh_world.specs.declared.outcome.Outcome.{Outcome}
 use Rattle.dh_world.specs.declared.refusal.Refusal.{Refusal}
+use Rattle.dh_world.specs.declared.refusal.Refusal.TheVariants.{NoProject}
+use Rattle.dh_world.specs.declared.outcome.Outcome.TheVariants as outcome
+use Rattle.dh_listings.specs.ListingTexts.{listing_text}
+use Rattle.dh_listings.specs.declared.words.ListWord.{ListWord}
 use Rattle.dh_script.specs.Outcomes.{text_of_outcome, is_refusal}
 use Rattle.dh_lines.specs.declared.lines.Line.{Line}
 use Rattle.dh_lines.specs.declared.lines.Order.{Order}
@@ -58,6 +62,8 @@ Performs moment before (order.Get host target pass own) after text refused =
     × GetsAt before host pass (unwrap_or own moment) (target_of target) text refused
 Performs moment before (order.Import host list) after text refused =
     (after ≡ before) × IsUsage text refused
+Performs moment before (order.List word) after text refused =
+    (after ≡ before) × IsUsage text refused
 Performs moment before (order.Init file) after text refused =
     (after ≡ before) × IsUsage text refused
 Performs moment before (order.Migrate file) after text refused =
@@ -82,6 +88,31 @@ DoesOver moment before (Some file) order after text = (after ≡ before) × (tex
 abbrev pub Does : ℕ → World → Option Line → World → Text → Type 0
 Does moment before None after text = (after ≡ before) × (text ≡ codes "usage")
 Does moment before (Some line) after text = DoesOver moment before line.store line.order after text
+
+-- what was listed is printed; where there is no project that is refused, and of a fault the failure is told
+abbrev pub TellsList : Result (Option Text) Fault → Text → Bool → Type 0
+TellsList (Ok (Some listed)) text refused = (text ≡ listed) × (refused ≡ false)
+TellsList (Ok None) text refused = Tells (outcome.Refused NoProject) text refused
+TellsList (Err fault) text refused = Tells (outcome.Failed fault) text refused
+
+-- a word that lists prints what it lists of the world, unless the store or memory failed
+abbrev pub ListsAt : World → ListWord → Text → Bool → Type 0
+ListsAt w word text refused =
+    (listed : Result (Option Text) Fault) × IfOk listed (λ found. found ≡ listing_text w word)
+    × TellsList listed text refused
+
+-- what a single order does to the world at a moment, what it prints, and whether it is refused: one that lists changes
+-- nothing, and prints the list; any other is performed as that of a line
+abbrev pub PerformsSingle : ℕ → World → Order → World → Text → Bool → Type 0
+PerformsSingle moment before (order.List word) after text refused =
+    (after ≡ before) × ListsAt before word text refused
+PerformsSingle moment before order after text refused = Performs moment before order after text refused
+
+-- a single order was done, whatever it prints, or nothing was
+abbrev pub MayDoSingle : ℕ → World → Order → World → Type 0
+MayDoSingle moment before order after =
+    (after ≡ before)
+    ⊎ ((text : Text) × (refused : Bool) × PerformsSingle moment before order after text refused)
 
 -- a line of this order was done, whatever it prints, or nothing was
 abbrev pub MayDoOrder : ℕ → World → Order → World → Type 0

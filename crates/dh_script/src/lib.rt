@@ -3,6 +3,7 @@
 
 mod fault;
 mod laws;
+mod lists;
 mod orders;
 mod outcomes;
 mod reading;
@@ -12,7 +13,7 @@ mod script;
 
 pub use fault::{RunFault, ScriptFault};
 pub use laws::lines_are_calls;
-pub use orders::{Printed, is_bad_target, perform};
+pub use orders::{Printed, is_bad_target, perform, perform_single};
 pub use outcomes::outcome_text;
 pub use reading::read_script;
 pub use reasons::Reason;

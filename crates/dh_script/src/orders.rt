@@ -7,7 +7,9 @@ ghost use Rattle.dh_desk.specs.Desk.{Moves};
 ghost use Rattle.dh_script.specs.Reasons.{Explains};
 ghost use Rattle.dh_script.specs.Script.{Tells, GetsAt};
 ghost use Rattle.dh_script.specs.Script.{IsUsage, Performs, MayDoOrder};
+ghost use Rattle.dh_script.specs.Script.{PerformsSingle, MayDoSingle};
 
+use crate::lists::list;
 use crate::outcomes::{is_refusal, outcome_text, reason_of};
 use crate::reasons::Reason;
 use dh_desk::{Desk, commanded, pass_text, read_out};
@@ -30,7 +32,7 @@ pub struct Printed {
 }
 
 /// What is told of an outcome.
-fn told(alloc: Global, outcome: &Outcome) -> Result<Printed, AllocError>
+pub(crate) fn told(alloc: Global, outcome: &Outcome) -> Result<Printed, AllocError>
     ensures tells { IfOk result (λ p. Tells outcome.now (string_bytes p.text) p.refused) }
     ensures explains { IfOk result (λ p. Explains p.reason (string_bytes p.text) p.refused) }
 {
@@ -120,7 +122,7 @@ pub fn is_bad_target(alloc: Global, target: &Text) -> Result<bool, AllocError>
     }
 }
 
-/// Does what one order says over a desk: a command or a read. It is refused where its outcome is a
+/// Does what the order of a line says over a desk: a command or a read. It is refused where its outcome is a
 /// refusal or a failure, where the target of a read is none (`bad target`), and where the order is
 /// neither (`usage`). `now` is the moment of a read that gives none of its own, in seconds since 1970.
 pub fn perform<S: Alter>(
@@ -144,10 +146,38 @@ pub fn perform<S: Alter>(
             moment,
         } => do_get(alloc, desk, host, target, pass, moment.unwrap_or(now)),
         Order::Import { .. } => usage(alloc),
+        Order::List(_) => usage(alloc),
         Order::Init { .. } => usage(alloc),
         Order::Migrate { .. } => usage(alloc),
         Order::Script => usage(alloc),
         Order::Answer => usage(alloc),
         Order::Serve { .. } => usage(alloc),
+    }
+}
+
+/// The same of an order that is no line of a script: it may list, too. That is refused where there is no project, and
+/// where the store or memory failed.
+pub fn perform_single<S: Alter>(
+    alloc: Global,
+    desk: &mut Desk<S>,
+    order: &Order,
+    now: u64,
+) -> Result<Printed, AllocError>
+    ensures performs { Moves S.Store desk.old desk.new (λ before after. IfOk result
+        (λ p. PerformsSingle now before order.now after (string_bytes p.text) p.refused)) }
+    ensures may { Moves S.Store desk.old desk.new
+        (λ before after. OnErr result (MayDoSingle now before order.now after)) }
+    ensures explains { IfOk result (λ p. Explains p.reason (string_bytes p.text) p.refused) }
+{
+    match order {
+        Order::List(word) => list(alloc, desk, word),
+        Order::Act(_)
+        | Order::Get { .. }
+        | Order::Import { .. }
+        | Order::Init { .. }
+        | Order::Migrate { .. }
+        | Order::Script
+        | Order::Answer
+        | Order::Serve { .. } => perform(alloc, desk, order, now),
     }
 }

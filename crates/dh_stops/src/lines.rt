@@ -4,10 +4,13 @@ ghost use Rattle.std.specs.Prelude.{◌≡◌, false};
 
 use crate::calls::run_list;
 use crate::rows::rows_of;
-use dh_desk::{Desk, Tables};
+use dh_desk::{Desk, Tables, commanded};
+use dh_lists::read_list;
 use dh_opening::{TablesFault, create, migrate, open};
+use dh_paths::Text;
 use dh_ports::Port;
-use dh_script::{Report, run_script};
+use dh_script::{Report, outcome_text, run_script};
+use dh_world::{Command, CommandChange};
 use sqlite::{Alter, Connection};
 use std::alloc::{AllocError, Global};
 
@@ -51,14 +54,37 @@ fn script_line<S: Alter>(
     String::from_str(alloc, text.trim_end())
 }
 
-/// What the calls of a list come to, which stand behind `run`, a line each, or what a line of a script prints.
+/// What an import of redirects comes to: behind the host stand the records of a list, with `;` between each two.
+fn import_line<S: Alter>(
+    alloc: Global,
+    desk: &mut Desk<S>,
+    words: &str,
+) -> Result<String, AllocError> {
+    let Some((host, records)) = words.split_once(' ') else {
+        return String::from_str(alloc, "no list");
+    };
+    let records = records.replace(alloc, ";", "\n")?;
+    let Ok(list) = read_list(alloc, records.as_bytes()) else {
+        return String::from_str(alloc, "no list");
+    };
+    let command = Command {
+        host: Text::copy_of(alloc, host)?,
+        change: CommandChange::ImportRedirects { list },
+    };
+    outcome_text(alloc, &commanded(desk.apply(alloc, &command)))
+}
+
+/// What the calls of a list come to, which stand behind `run`, a line each; an import; or what a line of a script prints.
 fn told_over<S: Alter>(
     alloc: Global,
     desk: &mut Desk<S>,
     line: &str,
 ) -> Result<String, AllocError> {
-    match line.strip_prefix("run\n") {
-        Some(calls) => run_list(alloc, desk, calls),
+    if let Some(calls) = line.strip_prefix("run\n") {
+        return run_list(alloc, desk, calls);
+    }
+    match line.strip_prefix("import ") {
+        Some(words) => import_line(alloc, desk, words),
         None => script_line(alloc, desk, line),
     }
 }
@@ -105,7 +131,8 @@ fn stated<S: Alter + Drop>(
     Ok((Told { began: true, said }, conn))
 }
 
-/// Runs a line: `rows`, `init`, `migrate`, a statement behind `= `, a list of calls behind `run`, or else a line of a script.
+/// Runs a line: `rows`, `init`, `migrate`, a statement behind `= `, a list of calls behind `run`, an import of redirects behind
+/// `import `, or else a line of a script.
 pub fn tell<S: Alter + Drop>(
     alloc: Global,
     conn: Connection<S>,

@@ -1,7 +1,7 @@
 -- How runs end, by what is ordered and by what came of it.
 use Rattle.std.proofs.Common.{◌≡◌, ◌⊎◌, ◌∙◌, ℕ, ◌+◌, ◌-◌, ◌≤◌, arith, zero, suc, Bool, true, false, true≢false, List, [], ◌∷◌, ◌++◌, Option, Result, Ok, Err, refl, sym, ap, subst, inl, inr}
 use Rattle.std.proofs.lemmas.Result.{err_from_is_err_and}
-use Rattle.std.specs.Prelude.{◌||◌, IsTrue, IsErrAnd, IfOk, OnOk, None, drop, codes}
+use Rattle.std.specs.Prelude.{◌||◌, ⊤, IsTrue, IsErrAnd, IfOk, OnOk, None, drop, codes}
 use Rattle.std.specs.FinMap.{empty}
 use Rattle.std.specs.Io.KnownBytes.{Appends}
 use Rattle.clap.specs.Faults.{fault_of, is_simple_and_free}
@@ -14,7 +14,7 @@ use Rattle.dh_http.specs.Answers.{AnswersSource, Writes}
 use Rattle.dh_http.specs.declared.fault.EngineFault.{EngineFault}
 use Rattle.dh_faults.specs.declared.fault.Fault.{Fault}
 use Rattle.dh_faults.specs.declared.fault.Fault.TheVariants as lookup
-use Rattle.dh_server.specs.Serving.{Steps}
+use Rattle.dh_server.specs.Serving.{MayTurn, Serves, Turn}
 use Rattle.dh_world.specs.World.{Text, World}
 use Rattle.dh_world.specs.declared.command.Command.{Command}
 use Rattle.dh_world.specs.declared.command.CommandChange.TheVariants.{ImportRedirects}
@@ -29,11 +29,12 @@ use Rattle.dh_script.specs.Running.{RunsScript}
 use Rattle.dh_lines.specs.Lines.{asking, line_in}
 use Rattle.docs_host.specs.Ends.{Ended, EndsError, EndsHelp, EndsScript, EndsChecked, EndsOver, EndsOrdered, EndsList, EndsAsked, EndsFirst, EndsVersion, EndsWords}
 use Rattle.docs_host.specs.Ends.{is_fault, status_after, may_end_order, may_end_single, asks_help, asks_version, line_asked, line_run}
-use Rattle.docs_host.specs.Failing.{may_fail, IsDoneOr, is_of_output, is_of_init, is_of_list, is_of_script, is_of_command, is_of_checked, is_of_file, is_of_memory}
+use Rattle.docs_host.specs.Failing.{may_fail, IsDoneOr, is_of_output, is_of_init, is_of_list, is_of_script, is_of_command, is_of_opened, is_of_order, is_of_sent, may_be_sent, is_of_checked, is_of_file, is_of_memory}
 use Rattle.docs_host.specs.Failures.{failure_of}
-use Rattle.docs_host.specs.Orders.{OrdersList, RunsRequest, bad_record, has_bad_target}
+use Rattle.docs_host.specs.Orders.{OrdersList, RunsRequest, DoesSome, ServesBoth, bad_record, has_bad_target, import_order}
+use Rattle.docs_host.specs.declared.beside.ControlFault.{ControlFault}
 use Rattle.docs_host.specs.declared.failure.Failure.{Failure}
-use Rattle.docs_host.specs.declared.failure.Failure.TheVariants.{File, List as OfList, Store, Memory, Bind, Write, Script, Request}
+use Rattle.docs_host.specs.declared.failure.Failure.TheVariants.{File, List as OfList, Store, Memory, Bind, Socket, Control, Write, Script, Request}
 use Rattle.docs_host.specs.declared.failure.Status.{Status}
 use Rattle.docs_host.specs.declared.failure.Status.TheVariants.{Done, Refused, Usage, Faulty, Unanswered}
 
@@ -49,12 +50,14 @@ is_faulty is_of none (OfList fault) it = refl
 is_faulty is_of none Store it = refl
 is_faulty is_of none Memory it = refl
 is_faulty is_of none Bind it = refl
+is_faulty is_of none (Socket fault) it = refl
+is_faulty is_of none (Control fault) it = refl
 is_faulty is_of none Write it = refl
 is_faulty is_of none (Script fault) it = refl
 is_faulty is_of none (Request fault) it = absurd (true≢false (sym it ∙ none fault))
 
 -- what is so of a failure is so where it is handed on
-handed_on : (P : Result Status Failure → Type 0) (f : Failure) (r : Result Status Failure) → IsErrAnd r (λ failure. failure ≡ f) → P (Err f) → P r
+pub handed_on : (P : Result Status Failure → Type 0) (f : Failure) (r : Result Status Failure) → IsErrAnd r (λ failure. failure ≡ f) → P (Err f) → P r
 handed_on P f r is it =
     let at = err_from_is_err_and r is in
     subst P (sym (at.1 ∙ ap (λ e. Err e) at.2)) it
@@ -84,16 +87,31 @@ error_ended words app k (Ok Unanswered) same kinds it = absurd it
 error_ended words app k (Err failure) same kinds it = (subst (EndsHelp words) (sym (is_faulty is_of_output (λ fault. refl) failure it)) tt, it)
 
 -- further connections did nothing
-more_steps : (k n : ℕ) (w v : World) → Steps n w v → Steps (k + n) w v
-more_steps zero n w v it = let none : n ≡ 0 + n = omega arith in subst (λ m. Steps m w v) none it
-more_steps (suc k) n w v it =
-    let one : Steps (suc (k + n)) w v = (v, more_steps k n w v it, inl refl) in
+more_served : (k n : ℕ) (w v : World) → ServesBoth n w v → ServesBoth (k + n) w v
+more_served zero n w v it = let none : n ≡ 0 + n = omega arith in subst (λ m. ServesBoth m w v) none it
+more_served (suc k) n w v it =
+    let one : ServesBoth (suc (k + n)) w v = (v, more_served k n w v it, inl (inl refl)) in
     let next : suc (k + n) ≡ suc k + n = omega arith in
-    subst (λ m. Steps m w v) next one
+    subst (λ m. ServesBoth m w v) next one
 
 -- fewer connections came
-pub steps_within : (n count : ℕ) (w v : World) → n ≤ count → Steps n w v → Steps count w v
-steps_within n count w v few it = subst (λ m. Steps m w v) (omega (arith, few)) (more_steps (count - n) n w v it)
+pub served_within : (n count : ℕ) (w v : World) → n ≤ count → ServesBoth n w v → ServesBoth count w v
+served_within n count w v few it = subst (λ m. ServesBoth m w v) (omega (arith, few)) (more_served (count - n) n w v it)
+
+-- which moments they were does not count
+some_answered : (IsMoment : ℕ → Type 0) (w v : World) → Turn IsMoment w v → Turn (λ moment. ⊤) w v
+some_answered IsMoment w v (inl same) = inl same
+some_answered IsMoment w v (inr it) = inr (it.0, tt, it.2, it.3, it.4, it.5)
+
+may_turn : (IsMoment : ℕ → Type 0) (Does : ℕ → World → World → Type 0) (w v : World)
+    → MayTurn IsMoment Does w v → MayTurn (λ moment. ⊤) Does w v
+may_turn IsMoment Does w v (inl turn) = inl (some_answered IsMoment w v turn)
+may_turn IsMoment Does w v (inr (moment, is, did)) = inr (moment, tt, did)
+
+pub any_moment : (IsMoment : ℕ → Type 0) (n : ℕ) (w v : World) → Serves IsMoment DoesSome n w v → ServesBoth n w v
+any_moment IsMoment zero w v it = it
+any_moment IsMoment (suc n) w v it =
+    (it.0, any_moment IsMoment n w it.0 it.1, may_turn IsMoment DoesSome it.0 v it.2)
 
 -- the engine's fault is that of the run
 pub request_failed
@@ -119,6 +137,8 @@ script_in_memory (OfList fault) it = it
 script_in_memory Store it = refl
 script_in_memory Memory it = refl
 script_in_memory Bind it = it
+script_in_memory (Socket fault) it = it
+script_in_memory (Control fault) it = it
 script_in_memory Write it = it
 script_in_memory (Script fault) it = refl
 script_in_memory (Request fault) it = it
@@ -140,10 +160,11 @@ script_ended moment left held now before after (Err failure) none ran is = (
 
 -- ---- over a file
 
-faulty_order : (o : Order) → IsTrue (may_end_order o Faulty)
+pub faulty_order : (o : Order) → IsTrue (may_end_order o Faulty)
 faulty_order (order.Act command) = refl
 faulty_order (order.Get host target pass own) = refl
 faulty_order (order.Import host list) = refl
+faulty_order (order.List word) = refl
 faulty_order (order.Init file) = refl
 faulty_order (order.Migrate file) = refl
 faulty_order order.Script = refl
@@ -154,6 +175,7 @@ done_order : (o : Order) → IsTrue (may_end_order o Done)
 done_order (order.Act command) = refl
 done_order (order.Get host target pass own) = refl
 done_order (order.Import host list) = refl
+done_order (order.List word) = refl
 done_order (order.Init file) = refl
 done_order (order.Migrate file) = refl
 done_order order.Script = refl
@@ -169,28 +191,67 @@ module _ (held now : Option Text) (o : Order) where
       by true = refl
       by false = faulty_order o
 
-  -- the file was not opened, or not closed
-  pub over_file : (f : FileFault) → has_bad_target o ≡ false → Ended (EndsOver o held now) (is_of_file o) (Err (File f))
-  over_file f good = (over_faulty, let P : Bool → Type 0 = λ b. IsTrue (is_of_checked b o (File f)) in subst P (sym good) refl)
+  -- this run, or a server, ended so: of what has no bad target
+  pub checked : (r : Result Status Failure) → has_bad_target o ≡ false
+      → Ended (λ s. IsTrue (may_end_order o s)) (is_of_sent o) r → Ended (EndsOver o held now) (is_of_file o) r
+  checked (Ok s) good it =
+      (let Q : Bool → Type 0 = λ b. EndsChecked b o held now s in subst Q (sym good) it.0, it.1)
+  checked (Err f) good it = (
+    (let Q : Bool → Type 0 = λ b. EndsChecked b o held now (status_after f) in subst Q (sym good) it.0),
+    (let Q : Bool → Type 0 = λ b. MayEnd (is_of_checked b o) f in subst Q (sym good) it.1),
+  )
 
-  over_done : has_bad_target o ≡ false → EndsOver o held now Done
-  over_done good = let P : Bool → Type 0 = λ b. EndsChecked b o held now Done in subst P (sym good) (done_order o)
+  -- no order over a desk fails so
+  no_control : (fault : ControlFault) → IsTrue (is_of_order o (Control fault)) → IsTrue (may_be_sent o)
+  no_control fault it = by o it
+    where
+      by : (o : Order) → IsTrue (is_of_order o (Control fault)) → IsTrue (may_be_sent o)
+      by (order.Act command) it = refl
+      by (order.Get host target pass own) it = refl
+      by (order.List word) it = refl
+      by (order.Import host list) it = absurd (true≢false (sym it))
+      by (order.Init file) it = absurd (true≢false (sym it))
+      by (order.Migrate file) it = absurd (true≢false (sym it))
+      by order.Script it = refl
+      by order.Answer it = absurd (true≢false (sym it))
+      by (order.Serve count port log) it = absurd (true≢false (sym it))
+
+  pub opened_sent : (f : Failure) → MayEnd (is_of_opened o) f → MayEnd (is_of_sent o) f
+  opened_sent (File fault) it = refl
+  opened_sent (OfList fault) it = it
+  opened_sent Store it = it
+  opened_sent Memory it = refl
+  opened_sent Bind it = it
+  opened_sent (Socket fault) it = it
+  opened_sent (Control fault) it = no_control fault it
+  opened_sent Write it = it
+  opened_sent (Script fault) it = it
+  opened_sent (Request fault) it = it
+
+  pub opened_ended : (r : Result Status Failure) → has_bad_target o ≡ false
+      → Ended (λ s. IsTrue (may_end_order o s)) (is_of_opened o) r → Ended (EndsOver o held now) (is_of_file o) r
+  opened_ended (Ok s) good it = checked (Ok s) good it
+  opened_ended (Err f) good it = checked (Err f) good (it.0, opened_sent f it.1)
 
   -- a server went on with what a fault of the store had left
-  pub rest_ended : (r : Result Status Failure) → has_bad_target o ≡ false → IsDoneOr is_of_init r → Ended (EndsOver o held now) (is_of_file o) r
-  rest_ended (Ok status) good is = (subst (EndsOver o held now) (sym is) (over_done good), ap is_fault is)
-  rest_ended (Err (File f)) good is = over_file f good
-  rest_ended (Err Memory) good is = (over_faulty, refl)
-  rest_ended (Err (OfList fault)) good is = absurd (true≢false (sym is))
-  rest_ended (Err Store) good is = absurd (true≢false (sym is))
-  rest_ended (Err Bind) good is = absurd (true≢false (sym is))
-  rest_ended (Err Write) good is = absurd (true≢false (sym is))
-  rest_ended (Err (Script fault)) good is = absurd (true≢false (sym is))
-  rest_ended (Err (Request fault)) good is = absurd (true≢false (sym is))
+  pub rest_ended : (r : Result Status Failure) → IsDoneOr is_of_init r
+      → Ended (λ s. IsTrue (may_end_order o s)) (is_of_opened o) r
+  rest_ended (Ok status) is = (subst (λ (s : Status). IsTrue (may_end_order o s)) (sym is) (done_order o), ap is_fault is)
+  rest_ended (Err (File f)) is = (faulty_order o, refl)
+  rest_ended (Err Memory) is = (faulty_order o, refl)
+  rest_ended (Err (OfList fault)) is = absurd (true≢false (sym is))
+  rest_ended (Err Store) is = absurd (true≢false (sym is))
+  rest_ended (Err Bind) is = absurd (true≢false (sym is))
+  rest_ended (Err (Socket fault)) is = absurd (true≢false (sym is))
+  rest_ended (Err (Control fault)) is = absurd (true≢false (sym is))
+  rest_ended (Err Write) is = absurd (true≢false (sym is))
+  rest_ended (Err (Script fault)) is = absurd (true≢false (sym is))
+  rest_ended (Err (Request fault)) is = absurd (true≢false (sym is))
 
-  pub file_failed : (f : FileFault) (r : Result Status Failure) → has_bad_target o ≡ false
-      → IsErrAnd r (λ failure. failure ≡ File f) → Ended (EndsOver o held now) (is_of_file o) r
-  file_failed f r good is = handed_on (Ended (EndsOver o held now) (is_of_file o)) (File f) r is (over_file f good)
+  -- the file was not opened, or not closed
+  pub file_failed : (f : FileFault) (r : Result Status Failure)
+      → IsErrAnd r (λ failure. failure ≡ File f) → Ended (λ s. IsTrue (may_end_order o s)) (is_of_opened o) r
+  file_failed f r is = handed_on (Ended (λ s. IsTrue (may_end_order o s)) (is_of_opened o)) (File f) r is (faulty_order o, refl)
 
 -- ---- an import
 
@@ -204,16 +265,20 @@ output_fails (OfList fault) it = it
 output_fails Store it = it
 output_fails Memory it = refl
 output_fails Bind it = it
+output_fails (Socket fault) it = it
+output_fails (Control fault) it = it
 output_fails Write it = refl
 output_fails (Script fault) it = it
 output_fails (Request fault) it = it
 
-act_fails : (c : Command) (f : Failure) → MayEnd (is_of_file (order.Act c)) f → MayEnd is_of_command f
+act_fails : (c : Command) (f : Failure) → MayEnd (is_of_opened (order.Act c)) f → MayEnd is_of_command f
 act_fails c (File fault) it = refl
 act_fails c (OfList fault) it = it
 act_fails c Store it = it
 act_fails c Memory it = refl
 act_fails c Bind it = it
+act_fails c (Socket fault) it = it
+act_fails c (Control fault) it = it
 act_fails c Write it = refl
 act_fails c (Script fault) it = it
 act_fails c (Request fault) it = it
@@ -223,12 +288,18 @@ module _ (host : Text) (bytes : List ℕ) (held now : Option Text) where
   EndsListed r = Ended (EndsList host bytes held now) is_of_command r
 
   -- its command ended so
+  over_act : (o : Order) (s : Status) → OrdersList host bytes (Ok o) → IsTrue (may_end_order o s) → EndsOver o held now s
+  over_act o s orders it =
+      let act = import_order host orders.0 in
+      let at : IsTrue (may_end_order act s) = subst (λ (done : Order). IsTrue (may_end_order done s)) orders.2 it in
+      subst (λ (done : Order). EndsOver done held now s) (sym orders.2) at
+
   pub command_ended : (o : Order) (r : Result Status Failure) → OrdersList host bytes (Ok o)
-      → Ended (EndsOver o held now) (is_of_file o) r → EndsListed r
-  command_ended o (Ok status) orders it = ((Ok o, orders, it.0), it.1)
+      → Ended (λ s. IsTrue (may_end_order o s)) (is_of_opened o) r → EndsListed r
+  command_ended o (Ok status) orders it = ((Ok o, orders, over_act o status orders it.0), it.1)
   command_ended o (Err f) orders it =
-      let may = subst (λ (done : Order). MayEnd (is_of_file done) f) orders.2 it.1 in
-      ((Ok o, orders, it.0), act_fails (asking host (ImportRedirects orders.0)) f may)
+      let may = subst (λ (done : Order). MayEnd (is_of_opened done) f) orders.2 it.1 in
+      ((Ok o, orders, over_act o (status_after f) orders it.0), act_fails (asking host (ImportRedirects orders.0)) f may)
 
   -- a record of it was refused
   pub record_ended : (number : ℕ) (fault : RecordFault) (r : Result Status Failure) → OrdersList host bytes (Err (listed.BadRecord number fault))
@@ -260,6 +331,8 @@ module _ (host list : Text) (held now : Option Text) where
   command_may Store it = it
   command_may Memory it = refl
   command_may Bind it = it
+  command_may (Socket fault) it = it
+  command_may (Control fault) it = it
   command_may Write it = refl
   command_may (Script fault) it = it
   command_may (Request fault) it = it
@@ -275,6 +348,8 @@ module _ (host list : Text) (held now : Option Text) where
   list_may Store it = (refl, it)
   list_may Memory it = (refl, refl)
   list_may Bind it = (refl, it)
+  list_may (Socket fault) it = (refl, it)
+  list_may (Control fault) it = (refl, it)
   list_may Write it = (refl, refl)
   list_may (Script fault) it = (refl, it)
   list_may (Request fault) it = absurd (cc)

@@ -37,6 +37,8 @@ status_after (failure.List fault) = Faulty
 status_after failure.Store = Faulty
 status_after failure.Memory = Faulty
 status_after failure.Bind = Faulty
+status_after (failure.Socket fault) = Faulty
+status_after (failure.Control fault) = Faulty
 status_after failure.Write = Faulty
 status_after (failure.Script fault) = Faulty
 status_after (failure.Request fault) = Unanswered
@@ -96,7 +98,7 @@ may_end_order (order.Serve count port log) status = may_end status
 may_end_order order.Answer status = may_end_request status
 may_end_order _ status = may_end_single status
 
--- ---- over a file
+-- ---- over a file, by this run or by the server that has it
 
 -- a read of a bad target is told and refused
 abbrev pub EndsBadTarget : Option Text → Option Text → Status → Type 0

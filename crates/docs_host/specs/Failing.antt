@@ -7,7 +7,7 @@ use Rattle.dh_world.specs.World.{Text}
 use Rattle.docs_host.specs.Orders.{has_bad_target}
 use Rattle.docs_host.specs.declared.lists.ListFileFault.TheVariants.{TooLong}
 use Rattle.docs_host.specs.declared.failure.Failure.{Failure}
-use Rattle.docs_host.specs.declared.failure.Failure.TheVariants.{File, List, Store, Memory, Bind, Write, Script, Request}
+use Rattle.docs_host.specs.declared.failure.Failure.TheVariants.{File, List, Store, Memory, Bind, Socket, Control, Write, Script, Request}
 use Rattle.docs_host.specs.declared.failure.Status.{Status}
 use Rattle.docs_host.specs.declared.failure.Status.TheVariants.{Done}
 
@@ -34,8 +34,10 @@ abbrev pub is_of_request : Failure → Bool
 is_of_request (Request fault) = true
 is_of_request failure = false
 
+-- its port, or its control socket
 abbrev pub is_of_server : Failure → Bool
 is_of_server Bind = true
+is_of_server (Socket fault) = true
 is_of_server failure = is_of_output failure
 
 -- the file alone
@@ -66,11 +68,28 @@ is_of_order (order.Serve count port log) failure = is_of_server failure
 is_of_order (order.Import host list) (List fault) = true
 is_of_order order failure = is_of_output failure
 
--- over a file, which is not opened for a read of a bad target
+-- over a file that this run opens
+abbrev pub is_of_opened : Order → Failure → Bool
+is_of_opened order (File fault) = true
+is_of_opened order failure = is_of_order order failure
+
+-- what a server is asked for that has the file
+abbrev pub may_be_sent : Order → Bool
+may_be_sent (order.Act command) = true
+may_be_sent (order.Get host target pass own) = true
+may_be_sent (order.List word) = true
+may_be_sent order.Script = true
+may_be_sent order = false
+
+-- over a file that a server may have
+abbrev pub is_of_sent : Order → Failure → Bool
+is_of_sent order (Control fault) = may_be_sent order
+is_of_sent order failure = is_of_opened order failure
+
+-- over a file, which is not opened for a read of a bad target, nor is a server asked
 abbrev pub is_of_checked : Bool → Order → Failure → Bool
 is_of_checked true order failure = is_of_output failure
-is_of_checked false order (File fault) = true
-is_of_checked false order failure = is_of_order order failure
+is_of_checked false order failure = is_of_sent order failure
 
 abbrev pub is_of_file : Order → Failure → Bool
 is_of_file order = is_of_checked (has_bad_target order) order

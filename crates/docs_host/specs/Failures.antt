@@ -7,15 +7,16 @@ use Rattle.dh_faults.specs.declared.fault.Fault.{Fault}
 use Rattle.dh_faults.specs.declared.fault.Fault.TheVariants as lookup
 use Rattle.dh_sample.specs.declared.answer.SampleFault.{SampleFault}
 use Rattle.dh_sample.specs.declared.answer.SampleFault.TheVariants as sample
-use Rattle.dh_ports.specs.declared.stop.Stop.TheVariants as stop
-use Rattle.dh_script.specs.declared.fault.RunFault.TheVariants as run
-use Rattle.dh_script.specs.declared.fault.ScriptFault.{ScriptFault}
-use Rattle.dh_script.specs.declared.fault.ScriptFault.TheVariants as script
+use Rattle.dh_script.specs.Faults as script
 use Rattle.dh_world.specs.World.{Text}
 use Rattle.docs_host.specs.declared.lists.ListFileFault.{ListFileFault}
 use Rattle.docs_host.specs.declared.lists.ListFileFault.TheVariants as list
+use Rattle.docs_host.specs.declared.beside.ControlFault.{ControlFault}
+use Rattle.docs_host.specs.declared.beside.ControlFault.TheVariants as control
 use Rattle.docs_host.specs.declared.failure.Failure.{Failure}
-use Rattle.docs_host.specs.declared.failure.Failure.TheVariants.{File, List, Store, Memory, Bind, Write, Script, Request}
+use Rattle.docs_host.specs.declared.socket.SocketFault.{SocketFault}
+use Rattle.docs_host.specs.declared.socket.SocketFault.TheVariants as socket
+use Rattle.docs_host.specs.declared.failure.Failure.TheVariants.{File, List, Store, Memory, Bind, Socket, Control, Write, Script, Request}
 
 abbrev pub failure_of : Fault → Failure
 failure_of lookup.Store = Store
@@ -33,14 +34,17 @@ list_name list.Forbidden = codes "Read"
 list_name list.Unread = codes "Read"
 list_name list.TooLong = codes "TooLong"
 
-abbrev pub script_name : ScriptFault → Text
-script_name (script.Unread stop.Read) = codes "Read"
-script_name (script.Unread stop.TooManyTurns) = codes "TooManyTurns"
-script_name (script.Unread stop.Memory) = codes "Memory"
-script_name script.TooLong = codes "TooLong"
-script_name script.NotText = codes "NotText"
-script_name (script.Run run.Memory) = codes "Memory"
-script_name (script.Run run.Write) = codes "Write"
+abbrev pub socket_name : SocketFault → Text
+socket_name socket.TooLong = codes "Bind"
+socket_name socket.Taken = codes "Bind"
+socket_name socket.Unbound = codes "Bind"
+socket_name socket.Memory = codes "Memory"
+
+-- that of the fault which a server told
+abbrev pub control_name : ControlFault → Text
+control_name control.Untold = codes "Control"
+control_name control.OtherVersion = codes "Control"
+control_name (control.Met fault) = script.name_of fault
 
 abbrev pub request_name : EngineFault → Text
 request_name engine.Read = codes "Read"
@@ -53,6 +57,8 @@ name_of (List fault) = list_name fault
 name_of Store = codes "Store"
 name_of Memory = codes "Memory"
 name_of Bind = codes "Bind"
+name_of (Socket fault) = socket_name fault
+name_of (Control fault) = control_name fault
 name_of Write = codes "Write"
-name_of (Script fault) = script_name fault
+name_of (Script fault) = script.name_of fault
 name_of (Request fault) = request_name fault

@@ -2,4 +2,5 @@ pub mod Ends
 pub mod Failing
 pub mod Failures
 pub mod Orders
+pub mod Sent
 pub mod Telling

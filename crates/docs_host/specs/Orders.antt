@@ -1,5 +1,5 @@
 -- What an order does over a desk.
-use Rattle.std.specs.Prelude.{◌≡◌, ℕ, Bool, true, false, is_none, List, [], ◌∷◌, ◌++◌, codes, Option, Result, Ok, Err, IfOk}
+use Rattle.std.specs.Prelude.{◌≡◌, ⊤, ℕ, Bool, true, false, is_none, List, [], ◌∷◌, ◌++◌, codes, Option, Result, Ok, Err, IfOk}
 use Rattle.std.specs.Fmt.{decimal}
 use Rattle.std.specs.Io.KnownBytes.{Appends}
 use Rattle.dh_http.specs.Answers.{AnswersSource, Writes}
@@ -11,8 +11,11 @@ use Rattle.dh_lists.specs.Lists.{ReadsList}
 use Rattle.dh_lists.specs.declared.lists.ListFault.{ListFault}
 use Rattle.dh_paths.specs.Targets.{target_of}
 use Rattle.dh_script.specs.Running.{RunsScript}
-use Rattle.dh_script.specs.Script.{Performs}
-use Rattle.dh_server.specs.Serving.{Steps}
+use Rattle.dh_script.specs.Script.{PerformsSingle}
+use Rattle.dh_control.specs.Answers.{AnswersMessage}
+use Rattle.dh_control.specs.declared.end.End.{End}
+use Rattle.dh_script.specs.declared.fault.ScriptFault.{ScriptFault}
+use Rattle.dh_server.specs.Serving.{Serves}
 use Rattle.dh_redirects.specs.declared.redirect.Redirect.{Redirect}
 use Rattle.dh_world.specs.World.{Text, World}
 use Rattle.dh_world.specs.declared.command.CommandChange.TheVariants.{ImportRedirects}
@@ -50,12 +53,12 @@ OrdersList host bytes (Err fault) = ReadsList bytes (Err fault)
 abbrev pub bad_record : ℕ → Text
 bad_record number = codes "bad record " ++ decimal number
 
--- an order was performed at a moment, what it prints was written, with LF, and the status says whether it was
+-- a single order was performed at a moment, what it prints was written, with LF, and the status says whether it was
 -- refused
 pub record RunsSingle (moment : ℕ) (before : World) (order : Order) (after : World) (held now : Option (List ℕ)) (status : Status) : Type 0 where
   pub text : Text
   pub refused : Bool
-  pub performed : Performs moment before order after text refused
+  pub performed : PerformsSingle moment before order after text refused
   pub written : Appends held now (text ++ 10 ∷ [])
   pub told : status ≡ single_status refused
 
@@ -67,18 +70,31 @@ RunsRequest moment before after left held now (Err (Request fault)) =
     Writes (AnswersSource moment left before after) held now (Err fault)
 RunsRequest moment before after left held now (Err failure) = ⊥
 
+-- what a control socket has done at a moment: some message was done and answered, or it could not be read, and nothing was done
+abbrev pub DoesSome : ℕ → World → World → Type 0
+DoesSome moment before after =
+    (left : Option Text) × (held : Option Text) × (now : Option Text) × (result : Result End ScriptFault)
+    × AnswersMessage moment left before after held now result
+
+-- so many connections, one after another, each at some moment: of the port, with one request; or of the control socket, with one
+-- message
+abbrev pub ServesBoth : ℕ → World → World → Type 0
+ServesBoth = Serves (λ moment. ⊤) DoesSome
+
 -- an order was run: the lines of a script, whole or in part; a request, which was answered, wholly or
--- in part; so many connections, each with one command at most; or a single command or read
+-- in part; so many connections, each with one request or one message; or a single command, read or list
 abbrev pub RunsOrder : ℕ → World → Order → World → Option Text → Option Text → Option Text → Result Status Failure → Type 0
 RunsOrder moment before order.Script after left held now result = RunsScript moment left before after held now result
 RunsOrder moment before order.Answer after left held now result = RunsRequest moment before after left held now result
-RunsOrder moment before (order.Serve count port log) after left held now result = Steps count before after
+RunsOrder moment before (order.Serve count port log) after left held now result = ServesBoth count before after
 RunsOrder moment before (order.Act command) after left held now result =
     IfOk result (RunsSingle moment before (order.Act command) after held now)
 RunsOrder moment before (order.Get host target pass own) after left held now result =
     IfOk result (RunsSingle moment before (order.Get host target pass own) after held now)
 RunsOrder moment before (order.Import host list) after left held now result =
     IfOk result (RunsSingle moment before (order.Import host list) after held now)
+RunsOrder moment before (order.List word) after left held now result =
+    IfOk result (RunsSingle moment before (order.List word) after held now)
 RunsOrder moment before (order.Init file) after left held now result =
     IfOk result (RunsSingle moment before (order.Init file) after held now)
 RunsOrder moment before (order.Migrate file) after left held now result =

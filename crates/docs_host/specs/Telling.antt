@@ -9,7 +9,7 @@ use Rattle.docs_host.specs.Ends.{status_after}
 use Rattle.docs_host.specs.Failing.{may_fail, is_of_line}
 use Rattle.docs_host.specs.Failures.{name_of}
 use Rattle.docs_host.specs.declared.failure.Failure.{Failure}
-use Rattle.docs_host.specs.declared.failure.Failure.TheVariants.{File, List}
+use Rattle.docs_host.specs.declared.failure.Failure.TheVariants.{File, List, Socket}
 use Rattle.docs_host.specs.declared.failure.Status.{Status}
 use Rattle.docs_host.specs.declared.failure.Status.TheVariants.{Faulty, Unanswered}
 
@@ -33,6 +33,7 @@ file_of failure line = file_by failure line.order line.store
 abbrev pub file_named : Failure → Option Text → Option Text
 file_named (File fault) file = file
 file_named (List fault) file = file
+file_named (Socket fault) file = file
 file_named failure file = None
 
 -- ---- texts

@@ -6,15 +6,17 @@ ghost use Rattle.docs_host.specs.Ends.{exit_code, status_after};
 ghost use Rattle.docs_host.specs.Failures as spec;
 ghost use Rattle.docs_host.specs.Failures.{failure_of, failure_of_sample};
 ghost use Rattle.docs_host.specs.Telling.{TellsCause, TellsFault, file_named, file_text, name_text};
-ghost use Rattle.docs_host.specs.declared.failure.Failure.TheVariants.{File, Memory, Script, Request};
+ghost use Rattle.docs_host.specs.declared.failure.Failure.TheVariants.{File, Memory, Script, Socket, Request};
 
+use crate::beside::ControlFault;
 use crate::lists::ListFileFault;
+use crate::socket::SocketFault;
 use dh_files::FileFault;
 use dh_http::EngineFault;
 use dh_ports::{Sink, Stop};
 use dh_reply::Fault;
 use dh_sample::SampleFault;
-use dh_script::{Reason, RefusedLine, Report, RunFault, ScriptFault};
+use dh_script::{Reason, Report, RunFault, ScriptFault};
 use dh_server::put_or_lose;
 use std::alloc::{AllocError, Global};
 
@@ -61,6 +63,10 @@ pub enum Failure {
     Memory,
     /// No connection can come in at the port.
     Bind,
+    /// The file's control socket.
+    Socket(SocketFault),
+    /// The server that has the file.
+    Control(ControlFault),
     /// Standard output.
     Write,
     Script(ScriptFault),
@@ -87,6 +93,8 @@ impl Failure {
             | Failure::Store
             | Failure::Memory
             | Failure::Bind
+            | Failure::Socket(_)
+            | Failure::Control(_)
             | Failure::Write
             | Failure::Script(_) => Status::Faulty,
         }
@@ -102,8 +110,10 @@ impl Failure {
             Failure::Store => "Store",
             Failure::Memory => "Memory",
             Failure::Bind => "Bind",
+            Failure::Socket(fault) => fault.name(),
+            Failure::Control(fault) => fault.name(),
             Failure::Write => "Write",
-            Failure::Script(fault) => script_name(fault),
+            Failure::Script(fault) => fault.name(),
             Failure::Request(fault) => request_name(fault),
         }
     }
@@ -116,6 +126,8 @@ impl Failure {
             Failure::Store => "the records in memory cannot be made",
             Failure::Memory => "memory is out",
             Failure::Bind => "the port is taken, or may not be used by this user",
+            Failure::Socket(fault) => fault.cause(),
+            Failure::Control(fault) => fault.cause(),
             Failure::Write => "standard output takes no more",
             Failure::Script(fault) => script_cause(fault),
             Failure::Request(fault) => request_cause(fault),
@@ -147,16 +159,11 @@ fn script_cause(fault: ScriptFault) -> &'static str {
     }
 }
 
-fn script_name(fault: ScriptFault) -> &'static str
-    ensures { result.now ≡ spec.script_name fault }
-{
-    match fault {
-        ScriptFault::Unread(Stop::Read) => "Read",
-        ScriptFault::Unread(Stop::TooManyTurns) => "TooManyTurns",
-        ScriptFault::Unread(Stop::Memory) | ScriptFault::Run(RunFault::Memory) => "Memory",
-        ScriptFault::TooLong => "TooLong",
-        ScriptFault::NotText => "NotText",
-        ScriptFault::Run(RunFault::Write) => "Write",
+impl From<SocketFault> for Failure {
+    ghost from_gives = { λ fault failure. failure ≡ Socket fault };
+
+    fn from(fault: SocketFault) -> Failure {
+        Failure::Socket(fault)
     }
 }
 
@@ -239,7 +246,7 @@ fn named_file(failure: Failure, file: Option<&str>) -> Option<&str>
         ≡ file_named failure (option_map (λ name. name.now) file.entry) }
 {
     match failure {
-        Failure::File(_) | Failure::List(_) => file,
+        Failure::File(_) | Failure::List(_) | Failure::Socket(_) => file,
         _ => None,
     }
 }
@@ -278,7 +285,7 @@ pub fn tell<E: Sink>(errors: &mut E, failure: Failure, file: Option<&str>) -> St
 }
 
 /// Tells a sentence.
-fn tell_sentence<E: Sink>(errors: &mut E, sentence: &str)
+pub fn tell_sentence<E: Sink>(errors: &mut E, sentence: &str)
     ensures { Tells E.broken E.held errors.old errors.new
         (codes "docs_host: " ++ sentence.now ++ 10 ∷ []) }
 {
@@ -297,11 +304,9 @@ pub fn tell_reason<E: Sink>(errors: &mut E, reason: Option<Reason>)
 }
 
 /// Tells why a line of a script was refused, unless memory is out.
-fn tell_line<E: Sink>(alloc: Global, errors: &mut E, line: RefusedLine)
+pub fn tell_line<E: Sink>(alloc: Global, errors: &mut E, number: usize, sentence: &str)
     ensures { TellsSome E.broken E.held errors.old errors.new }
 {
-    let number = line.number;
-    let sentence = line.reason.sentence();
     if let Ok(text) = format!(in alloc; "docs_host: line {number}: {sentence}\n") {
         put(errors, text.as_str());
     }
@@ -312,7 +317,7 @@ pub fn tell_report<E: Sink>(alloc: Global, errors: &mut E, report: &Report)
     ensures { TellsSome E.broken E.held errors.old errors.new }
 {
     for line in report.refused() {
-        tell_line(alloc, errors, *line);
+        tell_line(alloc, errors, line.number, line.reason.sentence());
     }
 }
 

@@ -1,12 +1,15 @@
 //! A host of versioned documentation.
 #![tactic(auto)]
 
+mod beside;
 mod clock;
+mod explaining;
 mod failure;
 mod lists;
 mod orders;
 mod program;
 mod serving;
+mod socket;
 mod streams;
 mod usage;
 

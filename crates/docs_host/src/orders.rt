@@ -5,7 +5,7 @@ ghost use Rattle.std.specs.Io.KnownBytes.{Appends};
 ghost use Rattle.dh_http.specs.Desk.{Moves};
 ghost use Rattle.dh_server.specs.Telling.{TellsSome};
 ghost use Rattle.dh_script.specs.Running.{RunsScript};
-ghost use Rattle.dh_script.specs.Script.{MayDoOrder};
+ghost use Rattle.dh_script.specs.Script.{MayDoSingle};
 ghost use Rattle.docs_host.specs.Ends.{Ended, may_end_request, may_end_single};
 ghost use Rattle.docs_host.specs.Ends.{may_end_order, is_fault};
 ghost use Rattle.docs_host.specs.Failing.{IsDoneOr, is_of_output, is_of_script, is_of_request};
@@ -18,7 +18,7 @@ use crate::streams::Streams;
 use dh_http::{Desk, answer};
 use dh_lines::Order;
 use dh_ports::{Sink, Source, put_both};
-use dh_script::{Report, ScriptFault, perform, run_script};
+use dh_script::{Report, ScriptFault, perform_single, run_script};
 use sqlite::Alter;
 use std::alloc::Global;
 
@@ -58,11 +58,11 @@ fn run_single<S: Alter, W: Sink, E: Sink>(
     ensures runs { Moves S.Store desk.old desk.new (λ before after. IfOk result
         (RunsSingle now before order.now after (W.held sink.old) (W.held sink.new))) }
     ensures may { Moves S.Store desk.old desk.new
-        (λ before after. OnErr result (MayDoOrder now before order.now after)) }
+        (λ before after. OnErr result (MayDoSingle now before order.now after)) }
     ensures ends { Ended (λ status. IsTrue (may_end_single status)) is_of_output result }
     ensures tells { TellsSome E.broken E.held errors.old errors.new }
 {
-    let printed = perform(alloc, desk, order, now)?;
+    let printed = perform_single(alloc, desk, order, now)?;
     say(sink, printed.text.as_str())?;
     tell_reason(errors, printed.reason);
     Ok(status_told(printed.refused))
@@ -167,6 +167,7 @@ pub fn run_order<S: Alter, R: Source, W: Sink, E: Sink>(
         Order::Act(_)
         | Order::Get { .. }
         | Order::Import { .. }
+        | Order::List(_)
         | Order::Init { .. }
         | Order::Migrate { .. } => run_single(
             rt.alloc(),

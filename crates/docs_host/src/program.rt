@@ -1,24 +1,25 @@
 //! The program over its words.
 
-ghost use Rattle.std.specs.Prelude.{◌≡◌, true, false, map, drop, string_bytes, option_map, IfOk, MatchOption, Some};
+ghost use Rattle.std.specs.Prelude.{◌≡◌, true, false, map, drop, string_bytes, option_map, IfOk, IsTrue, MatchOption, Some};
 ghost use Rattle.dh_server.specs.Telling.{TellsSome};
 ghost use Rattle.dh_lines.specs.Lines.{line_in};
 ghost use Rattle.docs_host.specs.Ends.{Ended, EndsScript, EndsRequest, EndsOver, EndsList, EndsBy};
 ghost use Rattle.docs_host.specs.Ends.{EndsAsked, EndsWords, EndsProgram};
-ghost use Rattle.docs_host.specs.Ends.{asks_help, asks_version, line_asked, line_run};
-ghost use Rattle.docs_host.specs.Failing.{IsDoneOr, is_of_init, is_of_file, is_of_command, is_of_memory, is_of_run};
+ghost use Rattle.docs_host.specs.Ends.{asks_help, asks_version, line_asked, line_run, may_end_order};
+ghost use Rattle.docs_host.specs.Failing.{IsDoneOr, is_of_init, is_of_file, is_of_command, is_of_memory, is_of_opened, is_of_run};
 ghost use Rattle.docs_host.specs.Orders as spec;
 ghost use Rattle.docs_host.specs.Orders.{AreUnbroken};
 ghost use Rattle.docs_host.specs.Telling.{TellsEnd};
 ghost use Rattle.docs_host.specs.Telling as telling;
 
+use crate::beside::run_beside;
 use crate::failure::{Failure, Status, tell, tell_reason, tell_usage};
 use crate::lists::{ListFile, order_in, read_list_file, refuse_record};
 use crate::orders::{run_lines, run_order, say};
 use crate::serving::{Served, serve_rest};
 use crate::streams::Streams;
 use crate::usage::{tell_help, tell_mistake, tell_version};
-use dh_files::{close_desk, init_file, migrate_file, open_desk};
+use dh_files::{FileDesk, FileFault, close_desk, init_file, migrate_file, open_desk};
 use dh_lines::{Line, LineFault, Order, line_of};
 use dh_lists::ListFault;
 use dh_paths::Text;
@@ -38,10 +39,59 @@ fn has_bad_target(alloc: Global, order: &Order) -> Result<bool, AllocError>
     }
 }
 
-/// Does what is ordered over the records of a file.
+/// Does what is ordered over the desk of a file, and closes the file.
+fn run_opened<S: Start, R: Source, W: Sink, E: Sink>(
+    rt: &HostRuntime,
+    opened: (FileDesk<S>, i64),
+    order: &Order,
+    file: &str,
+    streams: &mut Streams<R, W, E>,
+    now: u64,
+) -> Result<Status, Failure>
+    requires ready { AreUnbroken (R.broken streams.old.source) (W.broken streams.old.sink) }
+    ensures ends { Ended (λ status. IsTrue (may_end_order order.now status))
+        (is_of_opened order.now) result }
+    ensures tells { TellsSome E.broken E.held streams.old.errors streams.new.errors }
+{
+    let (mut desk, projects) = opened;
+    let mut served = Served {
+        file,
+        projects,
+        rest: None,
+    };
+    let ran = run_order(rt, &mut desk, &mut served, order, streams, now);
+    let closed = close_desk(desk);
+    let status = ran?;
+    if let Some(rest) = served.rest {
+        return serve_rest(rt, file, rest, &mut streams.errors);
+    }
+    closed?;
+    Ok(status)
+}
+
+/// Does what is ordered over the records of a file that no other program has.
+fn run_alone<S: Start, R: Source, W: Sink, E: Sink>(
+    rt: &HostRuntime,
+    start: S,
+    order: &Order,
+    file: &str,
+    streams: &mut Streams<R, W, E>,
+    now: u64,
+) -> Result<Status, Failure>
+    requires ready { AreUnbroken (R.broken streams.old.source) (W.broken streams.old.sink) }
+    ensures ends { Ended (λ status. IsTrue (may_end_order order.now status))
+        (is_of_opened order.now) result }
+    ensures tells { TellsSome E.broken E.held streams.old.errors streams.new.errors }
+{
+    let opened = open_desk(rt, file, start)?;
+    run_opened(rt, opened, order, file, streams, now)
+}
+
+/// Does what is ordered over the records of a file; where a server has it, that is asked to.
 fn run_over<S: Start, R: Source, W: Sink, E: Sink>(
     rt: &HostRuntime,
     start: S,
+    words: &[String],
     order: &Order,
     file: &str,
     streams: &mut Streams<R, W, E>,
@@ -57,20 +107,11 @@ fn run_over<S: Start, R: Source, W: Sink, E: Sink>(
         tell_reason(&mut streams.errors, Some(Reason::BadTarget));
         return Ok(Status::Refused);
     }
-    let (mut desk, projects) = open_desk(rt, file, start)?;
-    let mut served = Served {
-        file,
-        projects,
-        rest: None,
-    };
-    let ran = run_order(rt, &mut desk, &mut served, order, streams, now);
-    let closed = close_desk(desk);
-    let status = ran?;
-    if let Some(rest) = served.rest {
-        return serve_rest(rt, file, rest, &mut streams.errors);
+    match open_desk(rt, file, start) {
+        Ok(opened) => run_opened(rt, opened, order, file, streams, now),
+        Err(FileFault::Busy) => run_beside(rt, words, order, file, streams),
+        Err(fault) => Err(Failure::File(fault)),
     }
-    closed?;
-    Ok(status)
 }
 
 /// Runs the lines of the input over an empty store in memory.
@@ -138,7 +179,7 @@ fn import_list<S: Start, R: Source, W: Sink, E: Sink>(
     ensures tells { TellsSome E.broken E.held streams.old.errors streams.new.errors }
 {
     match order_in(rt.alloc(), host, list.bytes) {
-        Ok(order) => run_over(rt, start, &order, file, streams, now),
+        Ok(order) => run_alone(rt, start, &order, file, streams, now),
         Err(ListFault::BadRecord(number, fault)) => {
             refuse_record(rt.alloc(), list.path, number, fault, streams)
         }
@@ -171,10 +212,11 @@ fn import<S: Start, R: Source, W: Sink, E: Sink>(
     import_list(rt, start, host, read, file, streams, now)
 }
 
-/// Does a line of the program.
+/// Does a line of the program, of which these are the words.
 fn run_line<S: Start, R: Source, W: Sink, E: Sink>(
     rt: &HostRuntime,
     start: S,
+    words: &[String],
     line: &Line,
     streams: &mut Streams<R, W, E>,
     now: u64,
@@ -204,12 +246,18 @@ fn run_line<S: Start, R: Source, W: Sink, E: Sink>(
         (Order::Import { host, list }, Some(file)) => {
             import(rt, start, host, list, file.as_str(), streams, now)
         }
-        (order, Some(file)) => run_over(rt, start, order, file.as_str(), streams, now),
-        (Order::Act(_) | Order::Get { .. } | Order::Import { .. } | Order::Serve { .. }, None) =>
-            Ok(tell_usage(
-                &mut streams.errors,
-                "which file has the records is missing: --store FILE",
-            )),
+        (order, Some(file)) => run_over(rt, start, words, order, file.as_str(), streams, now),
+        (
+            Order::Act(_)
+            | Order::Get { .. }
+            | Order::Import { .. }
+            | Order::List(_)
+            | Order::Serve { .. },
+            None,
+        ) => Ok(tell_usage(
+            &mut streams.errors,
+            "which file has the records is missing: --store FILE",
+        )),
     }
 }
 
@@ -239,6 +287,7 @@ fn wants_version(words: &[String]) -> bool
 fn run_told<S: Start, R: Source, W: Sink, E: Sink>(
     rt: &HostRuntime,
     start: S,
+    words: &[String],
     line: &Line,
     streams: &mut Streams<R, W, E>,
     now: u64,
@@ -249,7 +298,7 @@ fn run_told<S: Start, R: Source, W: Sink, E: Sink>(
     ensures told { TellsEnd E.broken E.held (Some line.now)
         streams.old.errors streams.new.errors result }
 {
-    match run_line(rt, start, line, streams, now) {
+    match run_line(rt, start, words, line, streams, now) {
         Ok(status) => status,
         Err(failure) => tell(&mut streams.errors, failure, file_of(line, failure)),
     }
@@ -279,7 +328,7 @@ fn run_words<S: Start, R: Source, W: Sink, E: Sink>(
         ),
         Err(LineFault::Memory) => return tell(&mut streams.errors, Failure::Memory, None),
     };
-    run_told(rt, start, &line, streams, now)
+    run_told(rt, start, words, &line, streams, now)
 }
 
 /// The file that is named beside a failure: that of the list, or that of the records.
@@ -341,7 +390,9 @@ fn run_asked<S: Start, R: Source, W: Sink, E: Sink>(
 /// 2 a mistake in the words, 3 a fault of a store, file, script, port or output, 4 a request without a whole
 /// reply.
 ///
-/// Faults are found in this order: the words, the target of a read, the list, the file, the port, the run.
+/// A command, a read, a list or a script over a file that a server has open is sent to that server, and the run ends as it tells.
+/// Faults are found in this order: the words, the target of a read, the list, the file, the control socket, the port, the
+/// run; where the file is a server's, the script before the file.
 /// `now` is the moment of each read that gives none of its own, in seconds since 1970; a server asks the clock.
 pub fn run_program<S: Start, R: Source, W: Sink, E: Sink>(
     rt: &HostRuntime,

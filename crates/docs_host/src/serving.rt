@@ -1,28 +1,36 @@
 //! The server.
 
-ghost use Rattle.std.specs.Prelude.{◌≡◌, ◌≤◌, ◌-◌, true, false, unwrap_or, IfErr, IfOk, OnOk, IsTrue, MatchOption};
+ghost use Rattle.std.specs.Prelude.{◌≡◌, ◌≤◌, ◌-◌, true, false, unwrap_or, IfErr, IfOk, OnOk, OnErr, IsTrue, MatchOption};
 ghost use Rattle.dh_http.specs.Desk.{Moves};
-ghost use Rattle.dh_server.specs.Serving.{Counts, Steps};
+ghost use Rattle.dh_server.specs.Serving.{Counts};
 ghost use Rattle.dh_server.specs.Telling.{TellsSome};
 ghost use Rattle.docs_host.specs.Failing.{IsDoneOr, is_of_init, is_of_server, may_fail};
+ghost use Rattle.docs_host.specs.Orders.{DoesSome, ServesBoth};
 
 use crate::clock::seconds;
 use crate::failure::{Failure, Status, put};
 use crate::orders::say;
+use crate::socket::{bind_socket, remove_socket};
 use crate::streams::Streams;
+use dh_control::answer_message;
 use dh_files::{FileFault, close_desk, open_desk};
 use dh_http::Desk;
-use dh_ports::{Sink, Source};
-use dh_server::{Listen, Listening, Log, NoControl, serve_on};
+use dh_ports::{Port, Sink, Source};
+use dh_server::{Control, Listen, Listening, Log, Steady, Timed, serve_on};
 use sqlite::Alter;
 use sqlite_disk::Unknown;
 use std::alloc::Global;
 use std::net::{SocketAddr, TcpListener};
+use std::os::unix::net::{UnixListener, UnixStream};
 
-/// What a fault of the store left to serve, over the same port.
+/// How many seconds a message may take to come. What it asks for has no such limit: a script runs to its end.
+const MOST_SECONDS: u64 = 60;
+
+/// What a fault of the store left to serve, over the same port and socket.
 #[derive(Drop)]
 pub struct Rest {
     listener: TcpListener,
+    socket: UnixListener,
     /// How many connections are still to be answered.
     count: u32,
     /// Whether each is told.
@@ -74,6 +82,44 @@ fn tell_again<E: Sink>(alloc: Global, file: &str, errors: &mut E)
     }
 }
 
+/// Does what a message asks for, and answers it.
+fn answer_some<S: Alter, R: Source, W: Sink>(
+    alloc: Global,
+    desk: &mut Desk<S>,
+    source: &mut R,
+    sink: &mut W,
+    now: u64,
+)
+    requires reader { R.broken source.old ≡ false }
+    requires writer { W.broken sink.old ≡ false }
+    ensures { Moves S.Store desk.old desk.new (DoesSome now) }
+{
+    // What came of it is told to the client, where it is there to be told.
+    let _ = answer_message(alloc, desk, source, sink, now);
+}
+
+/// What comes in at the control socket: messages.
+#[derive(Drop)]
+struct Messages<'a> {
+    clock: &'a HostRuntime,
+}
+
+impl<'a> Control for Messages<'a> {
+    ghost does = { DoesSome };
+
+    fn answer<S: Alter>(
+        &mut self,
+        alloc: Global,
+        desk: &mut Desk<S>,
+        stream: &UnixStream,
+        now: u64,
+    ) {
+        let mut source = Timed::new(self.clock, MOST_SECONDS, Port::new(Steady::new(stream)));
+        let mut sink = Port::new(Steady::new(stream));
+        answer_some(alloc, desk, &mut source, &mut sink, now);
+    }
+}
+
 /// Answers so many connections over a desk. Where a fault of the store closes it, it answers how many are left.
 fn serve_desk<S: Alter, N: Listen, E: Sink>(
     rt: &HostRuntime,
@@ -87,7 +133,7 @@ fn serve_desk<S: Alter, N: Listen, E: Sink>(
         (count - unwrap_or result 0) }
     ensures left { MatchOption result (desk.new.closed ≡ false)
         (λ left. (desk.new.closed ≡ true) × (left ≤ count)) }
-    ensures steps { Moves S.Store desk.old desk.new (Steps (count - unwrap_or result 0)) }
+    ensures serves { Moves S.Store desk.old desk.new (ServesBoth (count - unwrap_or result 0)) }
     ensures tells { TellsSome E.broken E.held errors.old errors.new }
 {
     let mut clock = || seconds(rt);
@@ -96,7 +142,7 @@ fn serve_desk<S: Alter, N: Listen, E: Sink>(
         rt.alloc(),
         desk,
         listening,
-        &mut NoControl,
+        &mut Messages { clock: rt },
         &mut clock,
         count,
         &log,
@@ -108,8 +154,55 @@ fn serve_desk<S: Alter, N: Listen, E: Sink>(
     None
 }
 
-/// Answers so many connections at a port, one request each, which the log tells to standard error. Where a fault
-/// of the store closes the desk, what is left of them is for `serve_rest`.
+/// Answers so many connections at a port and at a socket. Where a fault of the store closes the desk, what is left of
+/// them is for `serve_rest`.
+fn serve_at<S: Alter, R: Source, W: Sink, E: Sink>(
+    rt: &HostRuntime,
+    desk: &mut Desk<S>,
+    served: &mut Served<'_>,
+    socket: UnixListener,
+    count: u32,
+    port: u16,
+    log: bool,
+    streams: &mut Streams<R, W, E>,
+) -> Result<Status, Failure>
+    requires { W.broken streams.old.sink ≡ false }
+    ensures serves { Moves S.Store desk.old desk.new (ServesBoth count) }
+    ensures ends { IsDoneOr is_of_server result }
+    ensures rest { OnOk result (MatchOption served.new.rest (desk.new.closed ≡ false)
+        (λ rest. (rest.count ≤ count)
+        × Moves S.Store desk.old desk.new (ServesBoth (count - rest.count)))) }
+    ensures same { OnErr result (served.new.rest ≡ served.old.rest) }
+    ensures file { served.new.file ≡ served.old.file }
+    ensures tells { TellsSome E.broken E.held streams.old.errors streams.new.errors }
+{
+    let listener = bind(rt, port, &mut streams.sink)?;
+    tell_served(
+        rt.alloc(),
+        served.file,
+        served.projects,
+        &mut streams.errors,
+    );
+    let Ok(mut listening) = Listening::with_socket(&listener, &socket) else {
+        return Err(Failure::Bind);
+    };
+    match serve_desk(rt, desk, &mut listening, count, log, &mut streams.errors) {
+        Some(left) => {
+            served.rest = Some(Rest {
+                listener,
+                socket,
+                count: left,
+                log,
+            });
+        }
+        None => served.rest = None,
+    }
+    Ok(Status::Done)
+}
+
+/// Answers so many connections: of a port, one request each, which the log tells to standard error; and of the control
+/// socket beside the file, one message each. Where a fault of the store closes the desk, what is left of them is for
+/// `serve_rest`, and the socket stays; else it is removed.
 pub fn serve<S: Alter, R: Source, W: Sink, E: Sink>(
     rt: &HostRuntime,
     desk: &mut Desk<S>,
@@ -120,36 +213,31 @@ pub fn serve<S: Alter, R: Source, W: Sink, E: Sink>(
     streams: &mut Streams<R, W, E>,
 ) -> Result<Status, Failure>
     requires { W.broken streams.old.sink ≡ false }
-    ensures steps { Moves S.Store desk.old desk.new (Steps count) }
+    ensures serves { Moves S.Store desk.old desk.new (ServesBoth count) }
     ensures ends { IsDoneOr is_of_server result }
     ensures rest { OnOk result (MatchOption served.new.rest (desk.new.closed ≡ false)
         (λ rest. (rest.count ≤ count)
-        × Moves S.Store desk.old desk.new (Steps (count - rest.count)))) }
+        × Moves S.Store desk.old desk.new (ServesBoth (count - rest.count)))) }
     ensures tells { TellsSome E.broken E.held streams.old.errors streams.new.errors }
 {
-    let listener = bind(rt, port, &mut streams.sink)?;
-    tell_served(
-        rt.alloc(),
-        served.file,
-        served.projects,
-        &mut streams.errors,
-    );
-    let mut listening = Listening::new(&listener);
-    match serve_desk(rt, desk, &mut listening, count, log, &mut streams.errors) {
-        Some(left) => {
-            served.rest = Some(Rest {
-                listener,
-                count: left,
-                log,
-            });
-        }
-        None => served.rest = None,
+    let socket = bind_socket(rt, served.file)?;
+    let ended = serve_at(rt, desk, served, socket, count, port, log, streams);
+    if served.rest.is_none() {
+        remove_socket(rt, served.file);
     }
-    Ok(Status::Done)
+    ended
+}
+
+/// Removes the control socket of an open file where no connection is left.
+fn remove_at_end(rt: &HostRuntime, file: &str, left: Option<u32>) {
+    if left.is_none() {
+        remove_socket(rt, file);
+    }
 }
 
 /// Opens a file again whose store has failed, and answers so many connections over it. Where the store fails once
-/// more it answers how many are left.
+/// more it answers how many are left, and the control socket stays; else that is removed. It stays, too, where the file
+/// does not open: another program may have it by now, and the socket may be that one's.
 fn serve_again<N: Listen, E: Sink>(
     rt: &HostRuntime,
     file: &str,
@@ -168,6 +256,7 @@ fn serve_again<N: Listen, E: Sink>(
     let (mut desk, projects) = open_desk(rt, file, Unknown)?;
     tell_served(rt.alloc(), file, projects, errors);
     let left = serve_desk(rt, &mut desk, listening, count, log, errors);
+    remove_at_end(rt, file, left);
     let closed = close_desk(desk);
     if left.is_none() {
         closed?;
@@ -200,7 +289,8 @@ fn serve_left<N: Listen, E: Sink>(
     Err(Failure::File(FileFault::Failed))
 }
 
-/// Answers what a fault of the store left to answer, over the file, which is opened again. Clients wait meanwhile.
+/// Answers what a fault of the store left to answer, over the file, which is opened again. Clients of both kinds wait
+/// meanwhile.
 pub fn serve_rest<E: Sink>(
     rt: &HostRuntime,
     file: &str,
@@ -210,6 +300,9 @@ pub fn serve_rest<E: Sink>(
     ensures ends { IsDoneOr is_of_init result }
     ensures tells { TellsSome E.broken E.held errors.old errors.new }
 {
-    let mut listening = Listening::new(&rest.listener);
+    // (both were made so before, and stay so)
+    let Ok(mut listening) = Listening::with_socket(&rest.listener, &rest.socket) else {
+        return Err(Failure::File(FileFault::Failed));
+    };
     serve_left(rt, file, &mut listening, rest.count, rest.log, errors)
 }

@@ -1,20 +1,13 @@
 use Rattle.std.proofs.Common.{◌∙◌, sym}
-use Rattle.dh_server.proofs.Told.{some_more}
-use Rattle.docs_host.proofs.Ending.{file_failed, rest_ended}
+use Rattle.docs_host.proofs.Ending.{checked, opened_ended}
 use Rattle.docs_host.proofs.program.run_over.Goals as goal
 
-pub returns-in_err-closed-clause-ends : goal.returns-in_err-closed-clause-ends
-returns-in_err-closed-clause-ends g c =
-    file_failed (g.W.Sink.held c.args.streams.now.sink) (g.W.Sink.held c.run_order-ran.new.streams.sink) c.args.order.now
-    c.in_err-closed.field-0.0 c.from_residual-in_err-closed.result (sym c.in_ok-has_bad_target.ensures ∙ c.if-branch.false)
-    c.from_residual-in_err-closed.ensures.1
+pub returns-in-Ok-clause-ends : goal.returns-in-Ok-clause-ends
+returns-in-Ok-clause-ends g c =
+    opened_ended (g.W.Sink.held c.args.streams.now.sink) (g.W.Sink.held c.run_opened.new.streams.sink) c.args.order.now
+    c.run_opened.result (sym c.in_ok-has_bad_target.ensures ∙ c.if-branch.false) c.run_opened.ensures.ends
 
-pub returns-in-Some-clause-ends : goal.returns-in-Some-clause-ends
-returns-in-Some-clause-ends g c =
-    rest_ended (g.W.Sink.held c.args.streams.now.sink) (g.W.Sink.held c.run_order-ran.new.streams.sink) c.args.order.now
-    c.serve_rest.result (sym c.in_ok-has_bad_target.ensures ∙ c.if-branch.false) c.serve_rest.ensures.ends
-
-pub returns-in-Some-clause-tells : goal.returns-in-Some-clause-tells
-returns-in-Some-clause-tells g c =
-    some_more g.E.Sink.broken g.E.Sink.held c.args.streams.now.errors c.run_order-ran.new.streams.errors c.serve_rest.new.errors
-    c.run_order-ran.ensures.tells c.serve_rest.ensures.tells
+pub returns-in-Err-Busy-clause-ends : goal.returns-in-Err-Busy-clause-ends
+returns-in-Err-Busy-clause-ends g c =
+    checked (g.W.Sink.held c.args.streams.now.sink) (g.W.Sink.held c.run_beside.new.streams.sink) c.args.order.now
+    c.run_beside.result (sym c.in_ok-has_bad_target.ensures ∙ c.if-branch.false) c.run_beside.ensures.ends

@@ -1,6 +1,6 @@
 use Rattle.std.proofs.Common.{rules, arith}
 use Rattle.dh_control.proofs.Cuts.{ended_at, open_at}
-use Rattle.dh_control.proofs.cutting.lines_of.Goals as goal
+use Rattle.dh_control.proofs.cutting.whole_lines.Goals as goal
 
 pub returns-then-last-eq10-clause-lines : goal.returns-then-last-eq10-clause-lines
 returns-then-last-eq10-clause-lines c =

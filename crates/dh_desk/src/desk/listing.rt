@@ -1,0 +1,71 @@
+//! Lists of what the tables hold.
+ghost use Rattle.std.specs.Prelude.{◌≡◌, true, false, Err, IfOk, OnOk};
+ghost use Rattle.dh_faults.specs.declared.fault.Fault.TheVariants as fault;
+ghost use Rattle.dh_desk.specs.Desk.{Blames, IsHonest, IsKept, IsRefused, Lasts, last_records, lists_of, world};
+ghost use Rattle.dh_desk.specs.DeskLists.{is_unlisted};
+ghost use Rattle.dh_listings.specs.ListingTexts.{listing_text};
+ghost use Rattle.dh_records.specs.Lists.{world_of};
+ghost use Rattle.dh_rows.specs.Calls.{LeavesCommitted};
+
+use super::Desk;
+use dh_faults::{Fault, Found};
+use dh_listing_reads::listing_in;
+use dh_listings::ListWord;
+use dh_paths::Text;
+use dh_tables::Tables;
+use sqlite::Alter;
+use std::alloc::Global;
+
+/// What a list word prints. A transaction that is open is undone first.
+fn list<S: Alter>(tables: &mut Tables<S>, alloc: Global, word: &ListWord) -> Found<Text>
+    requires { IsKept S.Store tables.old }
+    ensures value { IsHonest S.Store tables.new → IfOk result
+        (λ text. text ≡ listing_text (world_of (last_records S.Store tables.old)) word.now) }
+    ensures same { IsHonest S.Store tables.new
+        → last_records S.Store tables.new ≡ last_records S.Store tables.old }
+    ensures rests { IsHonest S.Store tables.new
+        → IsRefused S.Store lists_of tables.old tables.new }
+    ensures told { Blames S.Store tables.old tables.new result ⊥ }
+    ensures outside { IsHonest S.Store tables.new → OnOk result (tables.new.in_transaction ≡ false) }
+    ensures lasts { Lasts S.Store tables.old tables.new }
+{
+    tables.back()?;
+    listing_in(tables, alloc, word)
+}
+
+/// Whether the store has failed in a list.
+fn is_unlisted_in(answer: &Found<Text>) -> bool
+    ensures { result ≡ is_unlisted answer.now }
+{
+    matches!(answer, Err(Fault::Store))
+}
+
+impl<S: Alter> Desk<S> {
+    /// What a list word prints, without the end of its last line; none, where there is no project. After a fault of
+    /// the store the desk answers it to each call.
+    pub fn list(&mut self, alloc: Global, word: &ListWord) -> Found<Text>
+        ensures value { IsHonest S.Store self.new.tables
+            → IfOk result (λ text. text ≡ listing_text (world S.Store self.old) word.now) }
+        ensures same { IsHonest S.Store self.new.tables
+            → world S.Store self.new ≡ world S.Store self.old }
+        ensures rests { IsHonest S.Store self.new.tables
+            → IsRefused S.Store lists_of self.old.tables self.new.tables }
+        ensures told { Blames S.Store self.old.tables self.new.tables result
+            (self.old.closed ≡ true) }
+        ensures outside { IsHonest S.Store self.new.tables
+            → OnOk result (self.new.tables.in_transaction ≡ false) }
+        ensures left { IsHonest S.Store self.new.tables
+            → LeavesCommitted S.Store lists_of self.new.tables }
+        ensures closed { self.old.closed ≡ true
+            → (result ≡ Err fault.Store) × (self.new ≡ self.old) }
+        ensures closes { self.new.closed ≡ is_unlisted result }
+        ensures lasts { Lasts S.Store self.old.tables self.new.tables }
+    {
+        if self.closed {
+            return Err(Fault::Store);
+        }
+        let answer = list(&mut self.tables, alloc, word);
+        self.closed = is_unlisted_in(&answer);
+        answer
+    }
+}

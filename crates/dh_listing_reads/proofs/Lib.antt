@@ -1,0 +1,2 @@
+pub mod OrderedRows
+pub mod ListLemmas

@@ -1,0 +1,19 @@
+-- The rows of records.
+use Rattle.std.specs.Prelude.{List, map, filter}
+use Rattle.std.specs.Str.{bytes_eq}
+use Rattle.dh_world.specs.World.{Text}
+use Rattle.dh_records.specs.declared.records.ProjectRow.{ProjectRow}
+use Rattle.dh_records.specs.declared.records.PassRow.{PassRow}
+use Rattle.dh_records.specs.declared.records.HeldRow.{HeldRow}
+use Rattle.dh_listings.specs.ListingTexts.{project_words, pass_words}
+
+abbrev pub of_project : ProjectRow → Text
+of_project r = project_words r.host r.main r.branch r.new_private
+
+-- the slugs of those grants that are of the pass
+abbrev pub slugs_for : List HeldRow → Text → List Text
+slugs_for grants pass = map (λ r. r.slug) (filter (λ r. bytes_eq r.pass pass) grants)
+
+-- a pass with what it holds of these grants
+abbrev pub of_pass : List HeldRow → PassRow → Text
+of_pass grants r = pass_words r.pass r.until (slugs_for grants r.pass)

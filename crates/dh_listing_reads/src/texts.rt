@@ -1,0 +1,82 @@
+//! The text of some records, a row each.
+
+ghost use Rattle.std.specs.Prelude.{◌≡◌, ◌∷◌, ◌++◌, ℕ, List, IfOk, OnOk, map, string_bytes};
+ghost use Rattle.dh_listings.specs.ListingTexts as spec;
+ghost use Rattle.dh_listing_reads.specs.RecordRows as rows;
+
+use dh_listings::{
+    append_lang, append_name, append_project, append_redirect, append_rule, append_version,
+    listed_head,
+};
+use dh_paths::Text;
+use dh_tables::{LangRow, PickRow, ProjectRow, RedirectRow, RuleRow, VersionRow};
+use std::alloc::{AllocError, Global};
+
+/// A record that is a row of a list.
+pub trait RowText {
+    // Its row,
+    ghost shown: { Self → List ℕ };
+
+    /// which is put behind an LF.
+    fn put(&self, alloc: Global, out: &mut String) -> Result<(), AllocError>
+        ensures { OnOk result (string_bytes out.new ≡ string_bytes out.old ++ 10 ∷ shown self.now) };
+}
+
+impl RowText for ProjectRow {
+    ghost shown = { rows.of_project };
+
+    fn put(&self, _alloc: Global, out: &mut String) -> Result<(), AllocError> {
+        append_project(out, &self.host, &self.main, &self.branch, self.new_private)
+    }
+}
+
+impl RowText for LangRow {
+    ghost shown = { λ r. r.lang };
+
+    fn put(&self, _alloc: Global, out: &mut String) -> Result<(), AllocError> {
+        append_lang(out, &self.lang)
+    }
+}
+
+impl RowText for PickRow {
+    ghost shown = { λ r. r.name };
+
+    fn put(&self, _alloc: Global, out: &mut String) -> Result<(), AllocError> {
+        append_name(out, &self.name)
+    }
+}
+
+impl RowText for VersionRow {
+    ghost shown = { λ r. spec.version_words r.version };
+
+    fn put(&self, _alloc: Global, out: &mut String) -> Result<(), AllocError> {
+        append_version(out, &self.version)
+    }
+}
+
+impl RowText for RuleRow {
+    ghost shown = { λ r. spec.rule_words r.place r.rule };
+
+    fn put(&self, alloc: Global, out: &mut String) -> Result<(), AllocError> {
+        append_rule(out, alloc, self.place, &self.rule)
+    }
+}
+
+impl RowText for RedirectRow {
+    ghost shown = { λ r. spec.redirect_words r.place r.redirect };
+
+    fn put(&self, _alloc: Global, out: &mut String) -> Result<(), AllocError> {
+        append_redirect(out, self.place, &self.redirect)
+    }
+}
+
+/// `listed`, how many records there are, and their rows.
+pub fn records_text<R: RowText>(alloc: Global, records: &[R]) -> Result<Text, AllocError>
+    ensures { IfOk result (λ text. text ≡ spec.listed_text (map R.shown records.now)) }
+{
+    let mut out = listed_head(alloc, records.len())?;
+    for record in records {
+        record.put(alloc, &mut out)?;
+    }
+    Ok(Text::wrap(out))
+}

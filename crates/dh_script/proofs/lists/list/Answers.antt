@@ -1,0 +1,17 @@
+use Rattle.std.proofs.Common.{string_bytes}
+use Rattle.dh_desk.specs.Desk.{world}
+use Rattle.dh_script.proofs.ScriptLemmas.{list_told}
+use Rattle.dh_script.proofs.lists.list.Goals as goal
+
+pub returns : goal.returns
+returns g c = record {
+  lists = record {
+    moves = λ honest. (
+      c.list-answer.ensures.same honest,
+      list_told (λ p. string_bytes p.text) (λ p. p.refused) (world g.S.Store c.args.desk.now) c.args.word.now c.list-answer.result c.told_list.result
+          (c.list-answer.ensures.value honest) c.told_list.ensures.tells,
+    );
+    lasts = c.list-answer.ensures.lasts;
+  };
+  explains = c.told_list.ensures.explains;
+}

@@ -1,0 +1,55 @@
+//! What a word prints that lists.
+
+ghost use Rattle.std.specs.Prelude.{◌≡◌, string_bytes, false, None, IfOk};
+ghost use Rattle.dh_desk.specs.Desk.{Moves};
+ghost use Rattle.dh_script.specs.Reasons.{Explains};
+ghost use Rattle.dh_script.specs.Script.{ListsAt, TellsList};
+
+use crate::orders::{Printed, told};
+use dh_desk::Desk;
+use dh_faults::Found;
+use dh_listings::ListWord;
+use dh_paths::Text;
+use dh_world::{Outcome, Refusal};
+use sqlite::Alter;
+use std::alloc::{AllocError, Global};
+
+/// The text of a list.
+fn listed(alloc: Global, text: &Text) -> Result<Printed, AllocError>
+    ensures { IfOk result (λ p. (string_bytes p.text ≡ text.now) × (p.refused ≡ false)
+        × (p.reason ≡ None)) }
+{
+    let text = String::from_str(alloc, text.as_str())?;
+    Ok(Printed {
+        text,
+        refused: false,
+        reason: None,
+    })
+}
+
+/// What is told of what was listed.
+fn told_list(alloc: Global, answer: &Found<Text>) -> Result<Printed, AllocError>
+    ensures tells { IfOk result (λ p. TellsList answer.now (string_bytes p.text) p.refused) }
+    ensures explains { IfOk result (λ p. Explains p.reason (string_bytes p.text) p.refused) }
+{
+    match answer {
+        Ok(Some(text)) => listed(alloc, text),
+        Ok(None) => told(alloc, &Outcome::Refused(Refusal::NoProject)),
+        Err(fault) => told(alloc, &Outcome::Failed(*fault)),
+    }
+}
+
+/// Lists what a word asks for.
+pub fn list<S: Alter>(
+    alloc: Global,
+    desk: &mut Desk<S>,
+    word: &ListWord,
+) -> Result<Printed, AllocError>
+    ensures lists { Moves S.Store desk.old desk.new
+        (λ before after. (after ≡ before) × IfOk result
+        (λ p. ListsAt before word.now (string_bytes p.text) p.refused)) }
+    ensures explains { IfOk result (λ p. Explains p.reason (string_bytes p.text) p.refused) }
+{
+    let answer = desk.list(alloc, word);
+    told_list(alloc, &answer)
+}

@@ -1,0 +1,86 @@
+-- What a server is asked for that has the file, and how a run ends by its answer.
+use Rattle.std.specs.Prelude.{◌≡◌, ◌⊎◌, ℕ, Bool, true, false, IsTrue, List, Option, Some, None, Result, Ok, Err, is_err}
+use Rattle.std.specs.Io.KnownBytes.{Appends}
+use Rattle.dh_ports.specs.Ports.{PutsFirst}
+use Rattle.dh_world.specs.World.{Text}
+use Rattle.dh_lines.specs.declared.lines.Order.{Order}
+use Rattle.dh_lines.specs.declared.lines.Order.TheVariants as order
+use Rattle.dh_script.specs.declared.fault.RunFault.TheVariants as run
+use Rattle.dh_script.specs.declared.fault.ScriptFault.{ScriptFault}
+use Rattle.dh_script.specs.declared.fault.ScriptFault.TheVariants as script
+use Rattle.dh_control.specs.Cutting.{cut, whole_lines}
+use Rattle.dh_control.specs.Ends.{ReadsEnd}
+use Rattle.dh_control.specs.Messages.{script_message, words_message}
+use Rattle.dh_control.specs.declared.end.End.{End}
+use Rattle.dh_control.specs.declared.end.End.TheVariants as end
+use Rattle.docs_host.specs.Ends.{Ended, may_end_order}
+use Rattle.docs_host.specs.Failing.{is_of_sent, may_be_sent}
+use Rattle.docs_host.specs.declared.beside.ControlFault.TheVariants.{Untold, OtherVersion, Met}
+use Rattle.docs_host.specs.declared.failure.Failure.{Failure}
+use Rattle.docs_host.specs.declared.failure.Failure.TheVariants.{Control, Script, Write}
+use Rattle.docs_host.specs.declared.failure.Status.{Status}
+use Rattle.docs_host.specs.declared.failure.Status.TheVariants.{Done, Refused}
+
+-- ---- the message
+
+-- of a script its lines, and of another order the words that the run was given
+abbrev pub message_of : List Text → Order → Text → Text
+message_of words order.Script script = script_message script
+message_of words order script = words_message words
+
+-- there is none of an order that no server is asked for
+abbrev pub Asks : List Text → Order → Text → Option Text → Type 0
+Asks words order script None = may_be_sent order ≡ false
+Asks words order script (Some message) =
+    (may_be_sent order ≡ true) × (message ≡ message_of words order script)
+
+-- ---- the answer
+
+-- what of an answer is printed, and the word that tells its end; of one that was cut its whole lines are, and it has no such word
+abbrev pub parts_by : Text → Option (Text × Text) → Text × Option Text
+parts_by answer None = (whole_lines answer, None)
+parts_by answer (Some parts) = (parts.0, Some parts.1)
+
+abbrev pub parts_of : Text → Bool → Text × Option Text
+parts_of answer true = parts_by answer (cut answer)
+parts_of answer false = (whole_lines answer, None)
+
+-- a script has no refusal of its own, and so a server that tells one tells no end of it
+abbrev pub refused_as : Order → Result Status Failure
+refused_as order.Script = Err (Control Untold)
+refused_as order = Ok Refused
+
+-- how a run ends by the end that its server tells
+abbrev pub ends_as : Order → Option (Result End ScriptFault) → Result Status Failure
+ends_as order None = Err (Control Untold)
+ends_as order (Some (Ok end.Done)) = Ok Done
+ends_as order (Some (Ok end.Refused)) = refused_as order
+ends_as order (Some (Ok end.Unknown)) = Err (Control OtherVersion)
+ends_as order (Some (Err fault)) = Err (Control (Met fault))
+
+-- by the word that tells it; nobody knows the end where there is no such word, or it tells none
+abbrev pub EndsTold : Order → Option Text → Result Status Failure → Type 0
+EndsTold order None result = result ≡ ends_as order None
+EndsTold order (Some word) result =
+    (told : Option (Result End ScriptFault)) × ReadsEnd word told × (result ≡ ends_as order told)
+
+-- what standard output is that takes no more
+abbrev pub unwritten : Order → Failure
+unwritten order.Script = Script (script.Run run.Write)
+unwritten order = Write
+
+-- what is to be printed was, and the run ends as it was told; or standard output took a front of it alone
+abbrev pub Prints : Order → Text × Option Text → Option Text → Option Text → Result Status Failure → Type 0
+Prints order parts held now result =
+    (Appends held now parts.0 × EndsTold order parts.1 result)
+    ⊎ ((result ≡ Err (unwritten order)) × (count : ℕ) × PutsFirst held now parts.0 count)
+
+-- a run ended as its order may, or with a failure of a file that a server may have
+abbrev pub EndsSent : Order → Result Status Failure → Type 0
+EndsSent order = Ended (λ status. IsTrue (may_end_order order status)) (is_of_sent order)
+
+-- a server answered, which was printed so; or none was asked or none answered, and nothing was printed
+abbrev pub IsAnswered : Order → Option Text → Option Text → Result Status Failure → Type 0
+IsAnswered order held now result =
+    ((answer : Text) × (is_whole : Bool) × Prints order (parts_of answer is_whole) held now result)
+    ⊎ ((is_err result ≡ true) × (now ≡ held))

@@ -1,0 +1,257 @@
+//! Runs over a file that a server has open: the server does what is ordered, and the run ends as it tells.
+
+ghost use Rattle.std.specs.Prelude.{◌≡◌, ◌++◌, true, false, map, string_bytes, option_map, IfErr, IfOk, IfSome};
+ghost use Rattle.dh_server.specs.Telling.{TellsSome};
+ghost use Rattle.docs_host.specs.Failing.{may_be_sent};
+ghost use Rattle.docs_host.specs.Failures.{control_name};
+ghost use Rattle.docs_host.specs.Orders.{AreUnbroken};
+ghost use Rattle.docs_host.specs.Sent as spec;
+ghost use Rattle.docs_host.specs.Sent.{Asks, EndsSent, EndsTold, IsAnswered, Prints, ends_as};
+
+use crate::explaining::explain;
+use crate::failure::{Failure, Status};
+use crate::socket::connect_socket;
+use crate::streams::Streams;
+use dh_control::{End, cut, read_end, script_message, whole_lines, words_message};
+use dh_files::FileFault;
+use dh_lines::Order;
+use dh_ports::{Port, Sink, Source, put_all};
+use dh_script::{RunFault, ScriptFault, read_script};
+use dh_server::Steady;
+use std::alloc::{AllocError, Global};
+use std::net::Shutdown;
+use std::os::unix::net::UnixStream;
+
+/// The most bytes of a script.
+const MOST_SCRIPT: usize = 1_048_576;
+
+/// How many bytes of an answer one read asks for.
+const PIECE: usize = 16_384;
+
+/// Why a server did not do what it was asked, or may not have.
+#[derive(Clone, Copy, Debug, PartialEq, Eq)]
+pub enum ControlFault {
+    /// It did not tell how it ended.
+    Untold,
+    /// It found no message of its version.
+    OtherVersion,
+    /// It met a fault.
+    Met(ScriptFault),
+}
+
+impl ControlFault {
+    /// The name that programs read.
+    pub fn name(self) -> &'static str
+        ensures { result.now ≡ control_name self }
+    {
+        match self {
+            ControlFault::Untold | ControlFault::OtherVersion => "Control",
+            ControlFault::Met(fault) => fault.name(),
+        }
+    }
+
+    /// What is wrong, for people.
+    pub fn cause(self) -> &'static str {
+        match self {
+            ControlFault::Untold => {
+                "the server did not tell how it ended: it is done or it is not"
+            }
+            ControlFault::OtherVersion => {
+                "the server that has the file is of another version and did nothing"
+            }
+            ControlFault::Met(_) => {
+                "the server that has the file met this fault; what was told is done, and the next line may be"
+            }
+        }
+    }
+}
+
+/// The whole script of the input.
+fn whole_script<R: Source>(alloc: Global, source: &mut R) -> Result<Vec<u8>, ScriptFault>
+    requires { R.broken source.old ≡ false }
+    ensures { IfOk result (λ script. IfSome (R.left source.old) (λ input. script.items ≡ input)) }
+{
+    let script = read_script(alloc, source, MOST_SCRIPT)?;
+    if str::from_utf8(script.as_slice()).is_err() {
+        return Err(ScriptFault::NotText);
+    }
+    Ok(script)
+}
+
+/// The script that goes with an order, which is the whole input; nothing with any other.
+fn script_for<R: Source>(
+    alloc: Global,
+    order: &Order,
+    source: &mut R,
+) -> Result<Vec<u8>, ScriptFault>
+    requires { R.broken source.old ≡ false }
+    ensures reads { IfOk result (λ script. order.now ≡ Order.Script
+        → IfSome (R.left source.old) (λ input. script.items ≡ input)) }
+    ensures fails { IfErr result (λ fault. order.now ≡ Order.Script) }
+{
+    match order {
+        Order::Script => whole_script(alloc, source),
+        _ => Ok(Vec::new(alloc)),
+    }
+}
+
+/// The message of an order. None of one that is no server's to do.
+fn message_for(
+    alloc: Global,
+    words: &[String],
+    order: &Order,
+    script: &[u8],
+) -> Result<Option<Vec<u8>>, AllocError>
+    ensures { IfOk result (λ message. Asks (map string_bytes words.now) order.now script.now
+        (option_map (λ bytes. bytes.items) message)) }
+{
+    match order {
+        Order::Act(_) | Order::Get { .. } | Order::List(_) => {
+            Ok(Some(words_message(alloc, words)?))
+        }
+        Order::Script => Ok(Some(script_message(alloc, script)?)),
+        Order::Import { .. }
+        | Order::Init { .. }
+        | Order::Migrate { .. }
+        | Order::Answer
+        | Order::Serve { .. } => Ok(None),
+    }
+}
+
+/// Reads on to the end of an answer, and says whether that came.
+fn read_answer<R: Source>(source: &mut R, answer: &mut Vec<u8>) -> bool
+    requires { R.broken source.old ≡ false }
+    ensures { result ≡ true → IfSome (R.left source.old)
+        (λ input. answer.new.items ≡ answer.old.items ++ input) }
+{
+    let mut room = [0u8; PIECE];
+    'pieces: for _ in 0..u64::MAX {
+        match source.fill(&mut room) {
+            Ok(0) => return true,
+            Ok(count) => {
+                if answer.extend_from_slice(&room[..count]).is_err() {
+                    return false;
+                }
+            }
+            Err(_) => return false,
+        }
+    }
+    false
+}
+
+/// Sends a message, and gives what is answered, and whether that came to its end.
+fn ask(alloc: Global, stream: &UnixStream, message: &[u8]) -> (Vec<u8>, bool) {
+    // A message that does not go out whole is cut, and a server does nothing for it; what it says stands in its answer.
+    let _ = put_all(&mut Port::new(Steady::new(stream)), message);
+    let _ = stream.shutdown(Shutdown::Write);
+    let mut answer = Vec::new(alloc);
+    let is_whole = read_answer(&mut Port::new(Steady::new(stream)), &mut answer);
+    (answer, is_whole)
+}
+
+/// What of an answer is printed, and the word that tells its end: none where it was cut, and then its whole lines are printed.
+fn parts_of(answer: &[u8], is_whole: bool) -> (&[u8], Option<&[u8]>)
+    ensures { (result.0.now, option_map (λ word. word.now) result.1)
+        ≡ spec.parts_of answer.now is_whole }
+{
+    if !is_whole {
+        return (whole_lines(answer), None);
+    }
+    match cut(answer) {
+        Some(parts) => (parts.printed, Some(parts.end)),
+        None => (whole_lines(answer), None),
+    }
+}
+
+/// How a run of an order ends whose server tells this end.
+fn ended_as(order: &Order, told: Option<Result<End, ScriptFault>>) -> Result<Status, Failure>
+    ensures { result ≡ ends_as order.now told }
+{
+    match told {
+        Some(Ok(End::Done)) => Ok(Status::Done),
+        // A script is not refused: each of its lines is.
+        Some(Ok(End::Refused)) => match order {
+            Order::Script => Err(Failure::Control(ControlFault::Untold)),
+            _ => Ok(Status::Refused),
+        },
+        Some(Ok(End::Unknown)) => Err(Failure::Control(ControlFault::OtherVersion)),
+        Some(Err(fault)) => Err(Failure::Control(ControlFault::Met(fault))),
+        None => Err(Failure::Control(ControlFault::Untold)),
+    }
+}
+
+/// How a run of an order ends whose answer has this word for its end.
+fn ended(order: &Order, word: Option<&[u8]>) -> Result<Status, Failure>
+    ensures { EndsTold order.now (option_map (λ word. word.now) word.entry) result }
+{
+    match word {
+        Some(word) => ended_as(order, read_end(word)),
+        None => ended_as(order, None),
+    }
+}
+
+/// What standard output is when it takes no more.
+fn unwritten(order: &Order) -> Failure
+    ensures { result ≡ spec.unwritten order.now }
+{
+    match order {
+        Order::Script => Failure::Script(ScriptFault::Run(RunFault::Write)),
+        _ => Failure::Write,
+    }
+}
+
+/// Prints what an answer says was printed, and ends as it tells.
+fn tell_answer<W: Sink>(
+    order: &Order,
+    answer: &[u8],
+    is_whole: bool,
+    sink: &mut W,
+) -> Result<Status, Failure>
+    requires writer { W.broken sink.old ≡ false }
+    requires sent { may_be_sent order.now ≡ true }
+    ensures tells { Prints order.now (spec.parts_of answer.now is_whole)
+        (W.held sink.old) (W.held sink.new) result }
+    ensures ends { EndsSent order.now result }
+{
+    let (printed, word) = parts_of(answer, is_whole);
+    let status = ended(order, word);
+    match put_all(sink, printed) {
+        Ok(()) => status,
+        Err(_) => Err(unwritten(order)),
+    }
+}
+
+/// Has the server that has a file open do what is ordered. Where nobody answers the file is another program's, and nothing is
+/// done.
+pub fn run_beside<R: Source, W: Sink, E: Sink>(
+    rt: &HostRuntime,
+    words: &[String],
+    order: &Order,
+    file: &str,
+    streams: &mut Streams<R, W, E>,
+) -> Result<Status, Failure>
+    requires ready { AreUnbroken (R.broken streams.old.source) (W.broken streams.old.sink) }
+    ensures answered { IsAnswered order.now (W.held streams.old.sink) (W.held streams.new.sink)
+        result }
+    ensures ends { EndsSent order.now result }
+    ensures tells { TellsSome E.broken E.held streams.old.errors streams.new.errors }
+{
+    let script = script_for(rt.alloc(), order, &mut streams.source)?;
+    let Some(message) = message_for(rt.alloc(), words, order, script.as_slice())? else {
+        return Err(Failure::File(FileFault::Busy));
+    };
+    let Some(stream) = connect_socket(rt, file) else {
+        return Err(Failure::File(FileFault::Busy));
+    };
+    let (answer, is_whole) = ask(rt.alloc(), &stream, message.as_slice());
+    let result = tell_answer(order, answer.as_slice(), is_whole, &mut streams.sink);
+    explain(
+        rt.alloc(),
+        order,
+        result,
+        script.as_slice(),
+        answer.as_slice(),
+        &mut streams.errors,
+    );
+    result
+}

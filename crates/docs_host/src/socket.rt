@@ -1,0 +1,157 @@
+//! The control socket's file. Only the program that has the file of the records open makes or removes it.
+
+ghost use Rattle.std.specs.Prelude.{◌≡◌};
+ghost use Rattle.docs_host.specs.Failures.{socket_name};
+
+use std::alloc::{AllocError, Global};
+use std::fs::Permissions;
+use std::io::ErrorKind;
+use std::os::unix::fs::{FileTypeExt, PermissionsExt};
+use std::os::unix::net::{UnixListener, UnixStream};
+use std::{fs, io};
+
+/// The most bytes of a socket's path.
+const MOST_BYTES: usize = 107;
+
+/// Who may connect: the owner.
+const MODE: u32 = 0o600;
+
+/// How many connections are let go that came before the file was closed to others.
+const MOST_EARLY: u32 = 4096;
+
+/// Why a file has no control socket.
+#[derive(Clone, Copy, Debug, PartialEq, Eq)]
+pub enum SocketFault {
+    /// Its path has more than 107 bytes.
+    TooLong,
+    /// Something else stands there.
+    Taken,
+    /// The system makes none there.
+    Unbound,
+    /// Out of memory.
+    Memory,
+}
+
+impl SocketFault {
+    /// The name that programs read.
+    pub fn name(self) -> &'static str
+        ensures { result.now ≡ socket_name self }
+    {
+        match self {
+            SocketFault::TooLong | SocketFault::Taken | SocketFault::Unbound => "Bind",
+            SocketFault::Memory => "Memory",
+        }
+    }
+
+    /// What is wrong, as the end of a sentence that begins with the name of the file of the records.
+    pub fn cause(self) -> &'static str {
+        match self {
+            SocketFault::TooLong => {
+                "with .control behind it this path has more than 107 bytes, too many for its control socket; start the server in the file's folder, and name the file alone"
+            }
+            SocketFault::Taken => {
+                "what stands beside it, whose name ends in .control, is no socket, and was left as it is"
+            }
+            SocketFault::Unbound => {
+                "the system makes no control socket beside it, whose name would end in .control"
+            }
+            SocketFault::Memory => "memory is out",
+        }
+    }
+}
+
+impl From<AllocError> for SocketFault {
+    fn from(_refused: AllocError) -> SocketFault {
+        SocketFault::Memory
+    }
+}
+
+impl From<io::Error> for SocketFault {
+    fn from(error: io::Error) -> SocketFault {
+        match error.kind() {
+            ErrorKind::OutOfMemory => SocketFault::Memory,
+            _ => SocketFault::Unbound,
+        }
+    }
+}
+
+/// Where the control socket of a file of records stands: beside it, by the name by which the file is given.
+fn socket_path(alloc: Global, file: &str) -> Result<String, AllocError> {
+    format!(in alloc; "{file}.control")
+}
+
+/// Removes a socket: this program's own, or that of a server that was killed, since one that runs has the file open.
+/// Anything else stays.
+fn clear(rt: &HostRuntime, path: &str) -> Result<(), SocketFault> {
+    match fs::symlink_metadata(rt, path) {
+        Ok(found) => {
+            if !found.file_type().is_socket() {
+                return Err(SocketFault::Taken);
+            }
+            fs::remove_file(rt, path)?;
+            Ok(())
+        }
+        Err(error) => match error.kind() {
+            ErrorKind::NotFound => Ok(()),
+            _ => Err(SocketFault::from(error)),
+        },
+    }
+}
+
+/// Lets go what has connected so far: it may have come before the file was closed to others.
+fn let_go(listener: &UnixListener) -> Result<(), SocketFault> {
+    listener.set_nonblocking(true)?;
+    for _ in 0..MOST_EARLY {
+        match listener.accept() {
+            Ok(_) => {}
+            Err(error) => match error.kind() {
+                ErrorKind::WouldBlock => return Ok(()),
+                _ => return Err(SocketFault::from(error)),
+            },
+        }
+    }
+    Err(SocketFault::Unbound)
+}
+
+/// Closes a socket to all but its owner.
+fn close_to_others(
+    rt: &HostRuntime,
+    path: &str,
+    listener: &UnixListener,
+) -> Result<(), SocketFault> {
+    fs::set_permissions(rt, path, Permissions::from_mode(MODE))?;
+    let_go(listener)
+}
+
+/// Makes the control socket of a file that this program has open, for its owner alone. Its accepts do not wait.
+pub fn bind_socket(rt: &HostRuntime, file: &str) -> Result<UnixListener, SocketFault> {
+    let path = socket_path(rt.alloc(), file)?;
+    if path.len() > MOST_BYTES {
+        return Err(SocketFault::TooLong);
+    }
+    clear(rt, path.as_str())?;
+    let listener = UnixListener::bind(rt, path.as_str())?;
+    match close_to_others(rt, path.as_str(), &listener) {
+        Ok(()) => Ok(listener),
+        Err(fault) => {
+            let _ = clear(rt, path.as_str());
+            Err(fault)
+        }
+    }
+}
+
+/// Removes the control socket of a file that this program has open. One that stays is taken for that of a server that was killed.
+pub fn remove_socket(rt: &HostRuntime, file: &str) {
+    if let Ok(path) = socket_path(rt.alloc(), file) {
+        let _ = clear(rt, path.as_str());
+    }
+}
+
+/// A connection to the server that has a file open. None where nobody answers.
+pub fn connect_socket(rt: &HostRuntime, file: &str) -> Option<UnixStream> {
+    let path = socket_path(rt.alloc(), file).ok()?;
+    if path.len() > MOST_BYTES {
+        return None;
+    }
+    UnixStream::connect(rt, path.as_str()).ok()
+}

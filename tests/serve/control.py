@@ -1,0 +1,562 @@
+"""Commands and scripts beside a running server, through its control socket: the part `control` of tests/serve/run."""
+
+import importlib.machinery
+import importlib.util
+import os
+import resource
+import shutil
+import signal
+import socket
+import stat
+import subprocess
+import sys
+import tempfile
+import threading
+import time
+from pathlib import Path
+
+import host as hosts
+from host import ROOT, Server, command, get_bytes, make, read_reply, run
+
+HOST, KEY = "docs.test", "wkey-1"
+
+# How often a server is killed in a script, and the lines of each.
+KILLS, LINES = 8, 1500
+
+# Clients of each kind that wait at once.
+WAITING = 6
+
+# The most bytes of a socket's path.
+LONGEST = 107
+
+BUSY = "another program has it open"
+UNTOLD = "the server did not tell how it ended: it is done or it is not"
+OTHER_VERSION = "the server that has the file is of another version and did nothing"
+REDIRECT = "the kind, FROM, TO or status of the redirect is none, or they do not go together"
+MET = "the server that has the file met this fault; what was told is done, and the next line may be"
+
+
+def control(part):
+    scripts(part)
+    store = filled(part, "control.docs")
+    with part.serve(store, 1000000) as server:
+        words(part, store)
+        refused(part, store)
+        beside_readers(part, server, store)
+        messages(part, server, store)
+        turn_about(part, server, store)
+        deaf_client(part, server, store)
+        silent_client(part, server, store)
+    answers(part)
+    kills(part)
+    owners(part)
+    left_behind(part)
+    long_paths(part)
+    full_disk(part)
+
+
+def filled(part, name):
+    store = part.path(name)
+    make(part.program, store, f"new-project {HOST} en main public {KEY}", f"push {HOST} {KEY} k0 branch main")
+    return store
+
+
+def is_fault(part, what, ended, name, says, printed=""):
+    """Status 3, `fault NAME` on the first line of standard error, and a sentence on the second."""
+    lines = ended.stderr.splitlines()
+    good = len(lines) == 2 and lines[0] == f"fault {name}" and lines[1].endswith(says)
+    part.check(f"{what}: fault {name}, {says}", good and (ended.returncode, ended.stdout) == (3, printed), ended)
+
+
+def send(store, message):
+    """What is answered to the bytes of a message."""
+    with socket.socket(socket.AF_UNIX) as client:
+        client.settimeout(hosts.TIME_LIMIT)
+        client.connect(f"{store}.control")
+        try:
+            client.sendall(message)
+            client.shutdown(socket.SHUT_WR)
+            return read_all(client)
+        except ConnectionError:
+            return b""
+
+
+def words_message(*words):
+    return b"docs_host 1 words\n" + "\0".join(words).encode() + b"\xff"
+
+
+# scripts: what they print over a file they print through the socket
+
+
+def behaviour():
+    """tools/behaviour, which runs the cases of tests/scripts."""
+    loader = importlib.machinery.SourceFileLoader("behaviour", str(ROOT / "tools" / "behaviour"))
+    module = importlib.util.module_from_spec(importlib.util.spec_from_loader("behaviour", loader))
+    sys.modules["behaviour"] = module
+    loader.exec_module(module)
+    return module
+
+
+def as_beside(line):
+    """What standard error gets for this line of it where a server has the file: what is wrong with a redirect is not known."""
+    if b" of the redirect " not in line and b" redirect of the kind " not in line:
+        return line
+    return line[: line.index(b": ", len(b"docs_host: ")) + 2] + REDIRECT.encode() + b"\n"
+
+
+def scripts(part):
+    cases = behaviour()
+    done = 0
+    for path in sorted((ROOT / "tests" / "scripts").rglob("*.script")):
+        with tempfile.TemporaryDirectory() as room:
+            store = os.path.join(room, "records.db")
+            make(part.program, store)
+            with Server(part.program, store, 1, part.path("told")):
+                written, told, status = cases.run(part.program, path, room, ["--store", "records.db"])
+        wanted = b"".join(as_beside(line) for line in (cases.beside(path, ".err") or b"").splitlines(True))
+        wanted_status = int(cases.beside(path, ".status") or b"0")
+        faults = cases.compared(cases.beside(path, ".out"), wanted, wanted_status, written, told, status)
+        part.check(f"{cases.name_of(path)} through the socket", not faults, "\n".join(faults))
+        done += not faults
+    print(f"    {done} scripts through the socket", flush=True)
+
+
+# words: single commands and reads
+
+
+def words(part, store):
+    """Each command prints beside a server what it prints over a file of its own, and ends so."""
+    alone = filled(part, "alone.docs")
+    for asked, printed, status in (
+        (["push", HOST, KEY, "k1", "tag", "1.0.0"], "made 1.0.0 inactive shown public\n", 0),
+        (["push", HOST, KEY, "k1", "tag", "1.0.0"], "made 1.0.0 inactive shown public\n", 0),
+        (["push", HOST, "other", "k2", "tag", "2.0.0"], "refused 12 WrongKey\n", 1),
+        (["push", HOST, KEY, "k3", "branch", "a branch # of ours"], None, 0),
+        (["push", HOST, KEY, "k4", "branch", "älter"], None, None),
+        (["push", HOST, KEY, "k5", "tag", ""], None, 1),
+        (["push", HOST, KEY, "k6", "tag", "a\nb"], None, 1),
+        (["upload", HOST, KEY, "u1", "main", "en", "a b.html", "text/html", "<p>one\ntwo # three</p>\n"], None, 0),
+        (["upload", HOST, KEY, "u2", "main", "en", "empty.html", "text/html", ""], None, 0),
+        (["get", HOST, "/en/latest/a%20b.html"], None, 0),
+        (["get", HOST, "/"], "302 /en/latest/ 0\n", 0),
+        (["get", HOST, "x"], "bad target\n", 1),
+        (["get", "other.test", "/"], "404 - 14\n", 0),
+        (["add-redirect", HOST, "1", "exact", "301", "/old page", "/en/latest/new page"], None, None),
+        (["add-pass", HOST, "reader-7"], "ok\n", 0),
+        (["add-pass", HOST, "reader-7"], "refused 20 PassTaken\n", 1),
+        (["activate", HOST, "1.0.0"], None, 0),
+        (["upload", HOST, KEY, "u3", "1.0.0", "en", "index.html", "text/html", "private"], "stored 1\n", 0),
+        (["make-private", HOST, "1.0.0"], "ok\n", 0),
+        (["grant", HOST, "reader-7", "1.0.0"], "ok\n", 0),
+        (["get", HOST, "/en/1.0.0/", "--pass", "reader-7"], "200 - 7\n", 0),
+        (["get", HOST, "/en/1.0.0/"], "404 - 14\n", 0),
+        (["list-versions", HOST], None, 0),
+        (["list-passes", HOST], "listed 1\nreader-7\tnone\t1.0.0\n", 0),
+        (["list-rules", "other.test"], "refused 10 NoProject\n", 1),
+    ):
+        beside = run(part.program, *asked, "--store", store)
+        over = run(part.program, *asked, "--store", alone)
+        seen = (beside.stdout, beside.stderr, beside.returncode)
+        part.same(f"{asked} as over a file of its own", seen, (over.stdout, over.stderr, over.returncode))
+        if printed is not None:
+            part.same(f"{asked} prints", beside.stdout, printed)
+        if status is not None:
+            part.same(f"{asked} ends", beside.returncode, status)
+
+
+def refused(part, store):
+    """What is no server's to do is refused as before; a mistake in the words is one."""
+    redirects = part.path("redirects.csv")
+    Path(redirects).write_text("exact,301,no,/a,/b\n")
+    for asked in (
+        ["serve", "--store", store, "--count", "1"],
+        ["answer", "--store", store],
+        ["import", HOST, redirects, "--store", store],
+        ["init", store],
+        ["migrate", store],
+    ):
+        is_fault(part, f"{asked[0]} while serve runs", run(part.program, *asked), "Store", BUSY)
+    ended = run(part.program, "push", HOST, KEY, "k9", "twig", "x", "--store", store)
+    part.check("a mistake in the words", ended.returncode == 2 and ended.stdout == "" and ended.stderr, ended)
+    part.check("the socket stands after these", is_socket(store))
+
+
+def is_socket(store):
+    path = Path(f"{store}.control")
+    return path.is_socket() and not path.is_symlink()
+
+
+def beside_readers(part, server, store):
+    """Commands and a script of 200 lines while others read: all are answered."""
+    done, wrong, count = threading.Event(), [], [0]
+
+    def read():
+        while not done.is_set():
+            reply = server.get("/", HOST)
+            count[0] += 1
+            if not reply or reply[0] != 302:
+                wrong.append(reply)
+
+    readers = [threading.Thread(target=read) for _ in range(3)]
+    for reader in readers:
+        reader.start()
+    try:
+        part.same("add-pass beside readers", command(part.program, store, f"add-pass {HOST} reader-8"), "ok")
+        part.same("grant beside readers", command(part.program, store, f"grant {HOST} reader-8 1.0.0"), "ok")
+        lines = "".join(f"push {HOST} {KEY} b{number} tag 3.0.{number}\n" for number in range(200))
+        ended = run(part.program, "script", "--store", store, stdin=lines)
+        wanted = "".join(f"made 3.0.{number} inactive shown public\n" for number in range(200))
+        part.same("a script of 200 lines beside readers", (ended.stdout, ended.returncode), (wanted, 0))
+    finally:
+        done.set()
+        for reader in readers:
+            reader.join(hosts.TIME_LIMIT)
+    part.check(f"{count[0]} requests beside these", count[0] > 10 and not wrong, wrong[:3])
+
+
+# messages: what does not come whole does nothing
+
+
+def messages(part, server, store):
+    whole = words_message("push", HOST, KEY, "m0", "tag", "8.0.0", "--store", "elsewhere")
+    script = b"docs_host 1 script\n" + f"push {HOST} {KEY} m1 tag 8.1.0\n".encode()
+    seen = {send(store, whole[:size]) for size in range(len(whole))}
+    part.same("no front of a message does anything", seen, {b"end 2\n"})
+    for what, message in (
+        ("a script without its last byte", script),
+        ("another version", b"docs_host 2 words\nget\0docs.test\0/\xff"),
+        ("another kind", b"docs_host 1 lines\nget\xff"),
+        ("words that are no line", words_message("nothing")),
+        ("no text", b"docs_host 1 words\nget\0\xfe\xff"),
+        ("the last byte alone", b"\xff"),
+    ):
+        part.same(what, send(store, message), b"end 2\n")
+    long = b"docs_host 1 script\n" + b"#\n" * 524288
+    part.same("the longest script", send(store, long + b"\xff"), b"end 0\n")
+    part.same("a longer one", send(store, long + b"#\xff"), b"end 3 TooLong\n")
+    part.same("a message that is too long gets no answer", send(store, long + b"#" * 50 + b"\xff"), b"")
+    part.same("a script that is no text", send(store, b"docs_host 1 script\nget \xfe\n\xff"), b"end 3 NotText\n")
+    # (it would be `known` had one of these been done)
+    part.same("the whole message, whatever file it names", send(store, whole), b"made 8.0.0 inactive shown public\nend 0\n")
+    part.same("a refused one", send(store, words_message("push", HOST, "x", "k", "tag", "1", "--store", "f")), b"refused 12 WrongKey\nend 1\n")
+    part.same("a script", send(store, script + b"\xff"), b"made 8.1.0 inactive shown public\nend 0\n")
+    with socket.socket(socket.AF_UNIX) as client:
+        client.connect(f"{store}.control")
+        client.sendall(script[:30])
+    part.same("a client that leaves", server.get("/", HOST)[0], 302)
+
+
+def turn_about(part, server, store):
+    """Clients of both kinds that wait are answered in turn: each message stores a page anew, which each request reads."""
+    page = ["upload", HOST, KEY, "turn", "main", "en", "turn", "text/plain", "0", "--store", store]
+    part.same("a page", run(part.program, *page).returncode, 0)
+    server.process.send_signal(signal.SIGSTOP)
+    requests, sockets = [], []
+    try:
+        for _ in range(WAITING):
+            client = socket.create_connection(("127.0.0.1", server.port), timeout=hosts.TIME_LIMIT)
+            client.sendall(get_bytes("/en/main/turn", HOST))
+            requests.append(client)
+        for number in range(WAITING):
+            client = socket.socket(socket.AF_UNIX)
+            client.settimeout(hosts.TIME_LIMIT)
+            client.connect(f"{store}.control")
+            page[3], page[8] = f"turn{number}", f"{number + 1}"
+            client.sendall(words_message(*page))
+            client.shutdown(socket.SHUT_WR)
+            sockets.append(client)
+    finally:
+        server.process.send_signal(signal.SIGCONT)
+    seen = [int(read_reply(read_all(client))[1]) for client in requests]
+    done = {read_all(client).splitlines()[-1] for client in sockets}
+    # The one that is first may be of either kind.
+    wanted = [list(range(first, first + WAITING)) for first in (0, 1)]
+    part.check("requests and messages are answered turn about", seen in wanted and done == {b"end 0"}, (seen, done))
+
+
+def read_all(client):
+    """What comes until the server is done."""
+    pieces = []
+    with client:
+        while piece := client.recv(65536):
+            pieces.append(piece)
+    return b"".join(pieces)
+
+
+def deaf_client(part, server, store):
+    """A client whose output nobody takes has read its answer, and holds up nobody."""
+    lines = f"get {HOST} /\n" * 20000
+    with subprocess.Popen([part.program, "script", "--store", store], stdin=subprocess.PIPE, stdout=subprocess.PIPE) as client:
+        client.stdin.write(lines.encode())
+        client.stdin.close()
+        time.sleep(1)
+        begun = time.monotonic()
+        part.same("a request behind a client whose output nobody takes", server.get("/", HOST)[0], 302)
+        print(f"    it came {time.monotonic() - begun:.2f} seconds later", flush=True)
+        part.same("all of its output comes", client.stdout.read().count(b"302 /en/latest/ 0\n"), 20000)
+    part.same("and its status", client.returncode, 0)
+
+
+def silent_client(part, server, store):
+    with socket.socket(socket.AF_UNIX) as client:
+        client.connect(f"{store}.control")
+        begun = time.monotonic()
+        part.same("a request behind a client of the socket that says nothing", server.get("/", HOST)[0], 302)
+        part.check("it waits ten seconds", 9 < time.monotonic() - begun < 13, time.monotonic() - begun)
+    with socket.socket(socket.AF_UNIX) as client:
+        client.connect(f"{store}.control")
+        threading.Thread(target=drip, args=(client,), daemon=True).start()
+        begun = time.monotonic()
+        part.same("a request behind a client that sends a byte a second", server.get("/", HOST)[0], 302)
+        part.check("it waits a minute at most", time.monotonic() - begun < 65, time.monotonic() - begun)
+
+
+def drip(client):
+    try:
+        for byte in b"docs_host 1 script\n" + b"#" * 100:
+            client.sendall(bytes([byte]))
+            time.sleep(1)
+    except OSError:
+        pass
+
+
+# answers: what a client makes of them
+
+
+class Answering(threading.Thread):
+    """Another program behind the socket of a file: it takes one message and answers by these bytes."""
+
+    def __init__(self, path, answer):
+        super().__init__(daemon=True)
+        self.answer, self.message = answer, b""
+        self.listener = socket.socket(socket.AF_UNIX)
+        self.listener.bind(path)
+        self.listener.listen()
+        self.listener.settimeout(hosts.TIME_LIMIT)
+        self.start()
+
+    def run(self):
+        with self.listener:
+            connection, _ = self.listener.accept()
+            with connection:
+                while piece := connection.recv(65536):
+                    self.message += piece
+                connection.sendall(self.answer)
+
+
+def answers(part):
+    """The file is held by a run that has no socket; what stands behind one answers as no server should."""
+    store = filled(part, "held.docs")
+    place = f"{store}.control"
+    with subprocess.Popen([part.program, "script", "--store", store], stdin=subprocess.PIPE, stdout=subprocess.PIPE) as holder:
+        asked = ["get", HOST, "/", "--store", store]
+        until_held(part, asked)
+        is_fault(part, "nobody answers", run(part.program, *asked), "Store", BUSY)
+        listener = socket.socket(socket.AF_UNIX)
+        listener.bind(place)
+        listener.close()
+        is_fault(part, "a socket that nobody listens at", run(part.program, *asked), "Store", BUSY)
+        os.remove(place)
+        for answer, printed, name, says in (
+            (b"", "", "Control", UNTOLD),
+            (b"ok\nen", "ok\n", "Control", UNTOLD),
+            (b"ok\nend 0", "ok\n", "Control", UNTOLD),
+            (b"ok\nok\n", "ok\nok\n", "Control", UNTOLD),
+            (b"end 9\n", "", "Control", UNTOLD),
+            (b"end 3 Nothing\n", "", "Control", UNTOLD),
+            (b"end 2\n", "", "Control", OTHER_VERSION),
+            (b"ok\nend 3 Memory\n", "ok\n", "Memory", MET),
+        ):
+            is_fault(part, f"the answer {answer}", ask(part, place, asked, answer)[0], name, says, printed)
+        for answer, printed, status in ((b"ok\nend 0\n", "ok\n", 0), (b"no\nend 1\n", "no\n", 1), (b"end 0\n", "", 0)):
+            ended, message = ask(part, place, asked, answer)
+            part.same(f"the answer {answer}", (ended.stdout, ended.stderr, ended.returncode), (printed, "", status))
+            part.same("what was sent", message, words_message(*asked))
+        lines = "get docs.test /\n# and\n"
+        ended, message = ask(part, place, ["script", "--store", store], b"one\nend 0\n", lines)
+        part.same("a script that is done", (ended.stdout, ended.stderr, ended.returncode), ("one\n", "", 0))
+        part.same("what was sent of it", message, b"docs_host 1 script\n" + lines.encode() + b"\xff")
+        ended = ask(part, place, ["script", "--store", store], b"one\nend 1\n", lines)[0]
+        is_fault(part, "a script is not refused", ended, "Control", UNTOLD, "one\n")
+        holder.stdin.close()
+        holder.stdout.read()
+    part.same("the file is free again", run(part.program, *asked).returncode, 0)
+
+
+def until_held(part, asked):
+    """Waits until another run has the file."""
+    end = time.monotonic() + hosts.TIME_LIMIT
+    while run(part.program, *asked).returncode == 0 and time.monotonic() < end:
+        time.sleep(0.05)
+
+
+def ask(part, place, asked, answer, lines=""):
+    """How a run ends that gets this answer, and what it sent."""
+    other = Answering(place, answer)
+    ended = run(part.program, *asked, stdin=lines)
+    other.join(hosts.TIME_LIMIT)
+    os.remove(place)
+    return ended, other.message
+
+
+# kills: of a script all that was told is done
+
+
+def kills(part):
+    store = filled(part, "kills.docs")
+    lines = "".join(f"push {HOST} {KEY} s{number} tag 4.0.{number}\n" for number in range(LINES))
+    with part.serve(store) as server:
+        begun = time.monotonic()
+        ended = run(part.program, "script", "--store", store, stdin=lines.replace("4.0", "5.0").replace(" s", " w"))
+        window = time.monotonic() - begun
+        part.same("a script through the socket", (ended.stdout.count("made "), ended.returncode), (LINES, 0))
+    cut = 0
+    for number in range(KILLS):
+        store = filled(part, f"kills-{number}.docs")
+        with part.serve(store) as server:
+            with open(part.path("lines"), "w+") as source, open(part.path("printed"), "w+") as sink:
+                source.write(lines)
+                source.seek(0)
+                client = subprocess.Popen(
+                    [part.program, "script", "--store", store], stdin=source, stdout=sink, stderr=subprocess.PIPE, encoding="utf-8"
+                )
+                time.sleep(window * (number + 1) / (KILLS + 2))
+                server.kill()
+                said = client.communicate(timeout=hosts.TIME_LIMIT)[1]
+                sink.seek(0)
+                told = sink.read()
+        if client.returncode == 0:
+            continue
+        cut += 1
+        count = told.count("\n")
+        wanted = "".join(f"made 4.0.{it} inactive shown public\n" for it in range(count))
+        part.same(f"kill {number}: whole lines are told", told, wanted)
+        good = said.splitlines() == ["fault Control", f"docs_host: {UNTOLD}"] or (count == 0 and BUSY in said)
+        part.check(f"kill {number}: the fault", client.returncode == 3 and good, (client.returncode, said))
+        part.check(f"kill {number}: the socket stays", is_socket(store))
+        with part.serve(store) as server:
+            # (a version that is there is `known` to a push with another retry key)
+            ended = run(part.program, "script", "--store", store, stdin=lines.replace(" s", " r"))
+            there = ended.stdout.count("known 4.0.")
+            part.check(f"kill {number}: what was told is done, and one more may be", there in (count, count + 1), (count, there))
+            part.same(f"kill {number}: the script again", (ended.stdout.count("\n"), ended.returncode), (LINES, 0))
+    part.check("scripts were cut", cut, cut)
+    print(f"    {cut} of {KILLS} kills came in the middle of a script of {LINES} lines, {window:.2f} seconds", flush=True)
+
+
+# owners: who may connect
+
+
+def owners(part):
+    for mask in (0, 0o022, 0o077, 0o177):
+        store = filled(part, f"mask-{mask:o}.docs")
+        with part.serve(store, 10, before=lambda: os.umask(mask)):
+            mode = stat.S_IMODE(os.stat(f"{store}.control").st_mode)
+            part.same(f"the mode of the socket under the umask {mask:o}", oct(mode), "0o600")
+            part.same(f"a command under the umask {mask:o}", command(part.program, store, f"get {HOST} /"), "302 /en/latest/ 0")
+            another_user(part, store)
+
+
+def another_user(part, store):
+    if os.getuid() != 0 or not shutil.which("setpriv"):
+        part.skip("this user cannot be another one")
+        return
+    os.chmod(part.room, 0o755)
+    code = "import socket, sys; socket.socket(socket.AF_UNIX).connect(sys.argv[1])"
+    as_other = ["setpriv", "--reuid=65534", "--regid=65534", "--clear-groups"]
+    words = [*as_other, "/usr/bin/python3", "-c", code, f"{store}.control"]
+    if not os.access(words[4], os.X_OK):
+        part.skip("there is no /usr/bin/python3 for another user")
+        return
+    ended = subprocess.run(words, capture_output=True, encoding="utf-8", timeout=60)
+    part.check("another user does not connect", "PermissionError" in ended.stderr, ended)
+
+
+# left_behind: what stands where the socket belongs
+
+
+def left_behind(part):
+    store = filled(part, "left.docs")
+    place = Path(f"{store}.control")
+    with part.serve(store) as server:
+        part.check("a server makes its socket", is_socket(store))
+        server.kill()
+    part.check("a server that is killed leaves it", is_socket(store))
+    part.same("a command beside a socket that was left", command(part.program, store, f"get {HOST} /"), "302 /en/latest/ 0")
+    with part.serve(store, 2) as server:
+        part.same("the next server takes it over", command(part.program, store, f"get {HOST} /"), "302 /en/latest/ 0")
+        part.same("a request is the last of its count", server.get("/", HOST)[0], 302)
+        part.same("it ends", server.wait(), 0)
+    part.check("a server that ends removes it", not place.exists() and not place.is_symlink())
+    taken(part, store, place)
+    with socket.socket() as other:
+        other.bind(("127.0.0.1", 0))
+        other.listen()
+        ended = run(part.program, "serve", "--store", store, "--count", "1", "--port", str(other.getsockname()[1]))
+        is_fault(part, "a port that is taken", ended, "Bind", "the port is taken, or may not be used by this user")
+    part.check("and leaves no socket", not place.exists())
+
+
+def taken(part, store, place):
+    """Anything but a socket stays, and is a fault."""
+    other = Path(part.path("other"))
+    other.write_text("other\n")
+    says = "what stands beside it, whose name ends in .control, is no socket, and was left as it is"
+    for what, makes, leaves, removes in (
+        ("a file", lambda: place.write_text("text\n"), lambda: place.read_text() == "text\n", place.unlink),
+        ("a link", lambda: place.symlink_to(other), lambda: place.is_symlink() and other.read_text() == "other\n", place.unlink),
+        ("a link to nothing", lambda: place.symlink_to("none"), place.is_symlink, place.unlink),
+        ("a folder", place.mkdir, place.is_dir, place.rmdir),
+    ):
+        makes()
+        ended = run(part.program, "serve", "--store", store, "--count", "1")
+        is_fault(part, f"{what} where the socket belongs", ended, "Bind", says)
+        part.check(f"{what}: names the file", store in ended.stderr, ended.stderr)
+        part.check(f"{what} stays", leaves())
+        part.same(f"{what}: a command over the file", command(part.program, store, f"get {HOST} /"), "302 /en/latest/ 0")
+        removes()
+
+
+def long_paths(part):
+    """A path of 107 bytes is the longest that a socket has; from the file's folder it is its name alone."""
+    start = len(part.path("")) + 1
+    for length, is_good in ((LONGEST, True), (LONGEST + 1, False)):
+        store = filled(part, "x" * (length - len(".control") - start))
+        part.same("the length of its path", len(f"{store}.control"), length)
+        if is_good:
+            with part.serve(store, 5):
+                part.same("a command beside it", command(part.program, store, f"get {HOST} /"), "302 /en/latest/ 0")
+            continue
+        ended = run(part.program, "serve", "--store", store, "--count", "1")
+        lines = ended.stderr.splitlines()
+        good = ended.returncode == 3 and lines[0] == "fault Bind" and store in lines[1] and "107 bytes" in lines[1]
+        part.check("a path of a byte more", good, ended)
+        name = os.path.basename(store)
+        words = [part.program, "serve", "--store", name, "--count", "0"]
+        ended = subprocess.run(words, cwd=part.room, capture_output=True, encoding="utf-8", timeout=60)
+        part.same("by its name alone", ended.returncode, 0)
+
+
+# full_disk: the socket stays where the file is opened again
+
+
+def full_disk(part):
+    store = filled(part, "full.docs")
+
+    def limited():
+        signal.signal(signal.SIGXFSZ, signal.SIG_IGN)
+        resource.setrlimit(resource.RLIMIT_FSIZE, (1_000_000, 1_000_000))
+
+    with part.serve(store, before=limited) as server:
+        page = "x" * 20000
+        for number in range(100):
+            ended = run(part.program, "upload", HOST, KEY, f"u{number}", "main", "en", f"{number}", "text/plain", page, "--store", store)
+            if ended.returncode:
+                break
+        part.same("an upload through the socket that meets a full disk", ended.returncode, 1)
+        print(f"    {ended.stdout.strip()!r} after {number} uploads", flush=True)
+        part.same("a read after it", command(part.program, store, f"get {HOST} /"), "302 /en/latest/ 0")
+        part.same("a request after it", server.get("/", HOST)[0], 302)
+        told = server.told_at_last()
+        part.check("the file was opened again", f"the store failed; opening {store} again" in told, told)
+        part.check("the socket stands", is_socket(store))
