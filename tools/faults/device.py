@@ -52,7 +52,8 @@ def judge_script(script, ended, how, world):
 def judge_run(part, words, folder, ended, how, worlds):
     """Which rows a run has left, 'before' or 'after', and whether it does it then, once more."""
     before, after, whole = worlds
-    if ended.status not in ((KILLED, 0) if how == "kill" else (0, 3)) or not is_fault(ended.err):
+    is_refused = ended.status == 1 and ended.out.strip() in STORE_FAILED
+    if not (is_refused or ended.status in ((KILLED, 0) if how == "kill" else (0, 3))) or not is_fault(ended.err):
         return "- another end"
     if ended.status == 0 and ended.out != whole.out:
         return "- another answer"
