@@ -1,12 +1,16 @@
 """Files: each call that changes one goes wrong in turn, over a real file."""
 
 import collections
+import re
 
 from common import MOST_SHOWN, SCRIPTS, STORE, STORE_FAILED, Broken, Script, copy_store, make_base, make_old, new_folder, sentences
 
 # What happens at a call.
 HOW = ("kill", "once", "rest", "half")
 KILLED = -9
+
+# What a line prints that is refused by its words alone, and asks no file.
+ASKS_NOTHING = re.compile(rb"usage\n|bad target\n|refused ([1-9]|25) ")
 
 # What stands in the file that single runs begin from.
 PROJECT = (SCRIPTS / "versions.script").read_bytes()
@@ -36,7 +40,8 @@ def judge_script(script, ended, how, world):
     good = next((at for at, line in enumerate(told) if line.strip() in STORE_FAILED), len(told))
     if told[:good] != script.said[:good]:
         return "- other lines"
-    if any(line.strip() not in STORE_FAILED for line in told[good:]):
+    behind = zip(told[good:], script.said[good:])
+    if not all(line.strip() in STORE_FAILED or (line == said and ASKS_NOTHING.match(line)) for line, said in behind):
         return "- a line behind the fault that does not tell it"
     if ended.status not in ((KILLED,) if how == "kill" else (0, 3)) or not is_fault(ended.err):
         return "- another end"

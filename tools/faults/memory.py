@@ -245,12 +245,10 @@ def memory_of(part, path):
 
 
 def memory(part):
-    """A script each over memory, one over a file, requests over a file; with --all also files that are made, opened and imported to."""
+    """Scripts over memory, and requests over a file; with --all scripts over a file, too, and files that are made, opened and migrated."""
     for path in sorted(SCRIPTS.glob("*.script")):
         show(f"{path.stem}, over memory", sweep_script(part, path, None, {}))
-    with new_folder() as empty, new_folder() as made:
-        base = make_base(part, empty)
-        show("versions, over a file", sweep_script(part, SCRIPTS / "versions.script", base, {}))
+    with new_folder() as made:
         base = make_base(part, made, PROJECT)
         for name, data in (
             ("a push", push_request()),
@@ -268,9 +266,8 @@ def memory_at_length(part, base):
     for path in sorted(SCRIPTS.glob("*.script")):
         for times in ("1", "all"):
             show(f"{path.stem}, and again at {times}", sweep_script(part, path, None, {"COPIES_MORE": times}))
-        if path.stem != "versions":
-            with new_folder() as empty:
-                show(f"{path.stem}, over a file", sweep_script(part, path, make_base(part, empty), {}))
+        with new_folder() as empty:
+            show(f"{path.stem}, over a file", sweep_script(part, path, make_base(part, empty), {}))
     for name, words in (
         ("an opening", ["get", "docs.test", "/en/main/", "--store", STORE]),
         ("a command", ["push", "docs.test", "wkey-1", "k9", "tag", "2.0.0", "--store", STORE]),
