@@ -1,0 +1,280 @@
+"""Memory: each allocation of a run is refused in turn, in a copy of the program that goes on from there (faults.c)."""
+
+import collections
+import os
+import re
+import subprocess
+import tempfile
+from pathlib import Path
+from typing import NamedTuple
+
+from common import (
+    MOST_SHOWN,
+    NO_MEMORY,
+    ROOT,
+    SCRIPTS,
+    STORE,
+    STORE_FAILED,
+    Broken,
+    Ended,
+    Script,
+    Worlds,
+    copy_store,
+    make_base,
+    make_old,
+    new_folder,
+    sentences,
+)
+
+# What a run tells that ends as memory is out: the sentence names the file where it is one's.
+ENDED = re.compile(rb"fault Memory\ndocs_host: [^\n]*\n")
+
+# What is said of a line that found no memory.
+WITHOUT_MEMORY = re.compile(rb"memory")
+
+# The reply where memory is out.
+UNAVAILABLE = b"HTTP/1.1 503 Service Unavailable\r\n"
+NO_MORE = b"\r\n\r\n503 Service Unavailable\n"
+
+# What stands in the files that single runs begin from.
+PROJECT = (SCRIPTS / "versions.script").read_bytes()
+
+REQUESTS = ROOT / "tests" / "requests"
+
+
+class Copy(NamedTuple):
+    """What came of a copy, whose allocation of this number was refused."""
+
+    number: int
+    ended: Ended
+
+
+class Run(NamedTuple):
+    """Words and input of a run in a folder, and from when on allocations are refused."""
+
+    words: list
+    data: bytes
+    begin: str
+
+
+def copies(part, run, folder, more):
+    """What came of each copy of a run, while its files stand in the folder `copy`; and at last the run itself, under the number 0."""
+    told, tell = os.pipe()
+    wait, go = os.pipe()
+    variables = {"LD_PRELOAD": part.library, "COPIES": f"{tell},{wait}", "COPIES_FROM": run.begin, "STORE": STORE, **more}
+    with tempfile.TemporaryFile() as source, tempfile.TemporaryFile() as sink, tempfile.TemporaryFile() as errors:
+        source.write(run.data)
+        source.seek(0)
+        process = subprocess.Popen(
+            [part.program, *run.words], stdin=source, stdout=sink, stderr=errors, cwd=folder, env=variables, pass_fds=(tell, wait)
+        )
+        os.close(tell)
+        os.close(wait)
+        try:
+            with open(told, "rb") as lines:
+                while line := lines.readline():
+                    number, status, out, err = map(int, line.split())
+                    yield Copy(number, Ended(os.waitstatus_to_exitcode(status), lines.read(out), lines.read(err)))
+                    os.write(go, b".")
+            status = process.wait()
+        finally:
+            # (a process that ended is left as it is)
+            process.kill()
+            process.wait()
+            os.close(go)
+        sink.seek(0)
+        errors.seek(0)
+        yield Copy(0, Ended(status, sink.read(), errors.read()))
+
+
+# ---- scripts
+
+
+def is_told(err, reference):
+    """Whether the sentences are those of a run, or fewer where there was no memory for them, but for those of lines without memory."""
+    told, rest = sentences(err)
+    known = collections.Counter(sentences(reference.err)[0])
+    told = collections.Counter(it for it in told if not WITHOUT_MEMORY.search(it))
+    return not told - known, rest
+
+
+def judge_script(script, ended, world):
+    """What came of a copy of a script: 'passed', 'gave up', 'ended', 'shut'; or what is wrong, behind a '-'."""
+    whole = script.whole[0]
+    tells, rest = is_told(ended.err, whole)
+    if ended.status == 3 and ENDED.fullmatch(rest):
+        count = ended.out.count(b"\n")
+        worlds = [script.world_after(it) for it in (count, count + 1)]
+        return "ended" if whole.out.startswith(ended.out) and tells and world in worlds else "- ended otherwise"
+    if ended.status or rest:
+        return "- a status or a fault"
+    said = ended.out.splitlines(keepends=True)
+    short = [number for number, line in enumerate(said) if line.strip() in NO_MEMORY]
+    reference, left = script.without(short)
+    said = [line for number, line in enumerate(said) if number not in short]
+    if b"".join(said) != reference.out or world != left or not is_told(ended.err, reference)[0]:
+        return "- other lines or rows"
+    return "gave up" if short else "passed"
+
+
+def is_shut(script, ended):
+    """Whether the desk was closed at a line, as the tables could not be asked: all from there on tell a fault of the store."""
+    said = ended.out.splitlines()
+    good = next((at for at, line in enumerate(said) if line in STORE_FAILED), len(said))
+    return ended.status in (0, 3) and len(said) == len(script.lines) and all(line in STORE_FAILED for line in said[good:])
+
+
+def sweep_script(part, path, base, more):
+    script, worlds, counts, verdicts = Script(part, path, base), Worlds(part), collections.Counter(), {}
+    with new_folder() as folder:
+        if base:
+            copy_store(base, folder)
+        run = Run(script.words, script.data, "input")
+        for number, ended in copies(part, run, folder, more):
+            world = worlds.of(Path(folder, "copy") if number else folder) if base else None
+            key = ended, repr(world)
+            if key not in verdicts:
+                verdicts[key] = judge_script(script, ended, world)
+                if verdicts[key].startswith("-") and more and is_shut(script, ended):
+                    verdicts[key] = "shut"
+            note(part, f"{script.name}, call {number}", verdicts[key], ended, counts)
+    return counts
+
+
+# ---- requests and single runs
+
+
+def judge_request(ended, world, whole, before, after):
+    if ended == whole and world == after:
+        return "passed"
+    if world not in (before, after):
+        return "- other rows"
+    if ended.status == 3 and not ended.out and ENDED.fullmatch(ended.err):
+        return "ended"
+    is_503 = ended.out.startswith(UNAVAILABLE) and ended.out.endswith(NO_MORE) and ended.status == 0 and not ended.err
+    return "gave up" if is_503 else "- another reply"
+
+
+def judge_single(ended, world, whole, before, after):
+    if ended == whole and world == after:
+        return "passed"
+    if ended.status == 3 and ENDED.fullmatch(ended.err):
+        good = world in (before, after) and whole.out.startswith(ended.out)
+        return "ended" if good else "- ended with other rows"
+    good = ended.status == 1 and ended.out.strip() in NO_MEMORY and world == before
+    return "gave up" if good else "- another end"
+
+
+def sweep_run(part, name, run, base, judge, again=None):
+    """Refuses each allocation of a run over a file, and then, where `again` is told, runs it once more over what it left."""
+    worlds, counts, verdicts = Worlds(part), collections.Counter(), {}
+    with new_folder() as folder, new_folder() as plain:
+        for one in (folder, plain) if base else ():
+            copy_store(base, one)
+        before = worlds.of(plain)
+        whole = part.run(run.words, run.data, plain)
+        after = worlds.of(plain)
+        for number, ended in copies(part, run, folder, {}):
+            own = Path(folder, "copy") if number else folder
+            world = worlds.of(own)
+            key = ended, repr(world)
+            if key not in verdicts:
+                verdicts[key] = judge(ended, world, whole, before, after)
+                if again and ended.status == 3 and not again(part, own, run, whole, after):
+                    verdicts[key] = "- again it does not do it"
+            note(part, f"{name}, call {number}", verdicts[key], ended, counts)
+    return counts
+
+
+def is_done_again(part, folder, run, whole, after):
+    """Whether the run, once more, does what it did not do, or finds it done."""
+    with new_folder() as own:
+        copy_store(folder, own)
+        ended = part.run(run.words, run.data, own)
+        return (ended == whole or b"something in it already" in ended.err) and part.world(own) == after
+
+
+def judge_init(ended, world, whole, before, after):
+    if ended.status == 3 and ENDED.fullmatch(ended.err):
+        return "ended"
+    return "passed" if ended == whole and world == after else "- another end"
+
+
+# ---- what is swept
+
+
+def note(part, what, verdict, ended, counts):
+    is_good = not verdict.startswith("-")
+    counts["wrong" if not is_good else verdict] += 1
+    part.check(what, is_good, f"{verdict[2:]}: {ended}")
+    if part.failed > 10 * MOST_SHOWN:
+        raise Broken("too many are wrong")
+
+
+def show(name, counts):
+    print(f"  {name}: {sum(counts.values()):,}: " + ", ".join(f"{count:,} {what}" for what, count in sorted(counts.items())), flush=True)
+
+
+def upload_request():
+    body = b'{"key":"u9","language":"en","version":"main","pages":[{"path":"a.html","type":"text/html","text":"\\u0061\\n"},'
+    body += b'{"path":"b.bin","type":"image/png","base64":"AAECAw=="}]}'
+    head = b"POST /_/upload HTTP/1.1\r\nHost: docs.test\r\nDocs-Key: wkey-1\r\nContent-Length: %d\r\n\r\n"
+    return head % len(body) + body
+
+
+def push_request():
+    body = b'{"key":"k9","kind":"tag","ref":"2.0.0"}'
+    head = b"POST /_/push HTTP/1.1\r\nHost: docs.test\r\nDocs-Key: wkey-1\r\nContent-Length: %d\r\n\r\n"
+    return head % len(body) + body
+
+
+def get_request(target):
+    return f"GET {target} HTTP/1.1\r\nHost: docs.test\r\n\r\n".encode()
+
+
+def answers(target):
+    return Run(["answer", "--store", STORE], target, "input")
+
+
+def memory_of(part, path):
+    """A case of tests/ or examples/: a script over memory, or a request to the sample."""
+    if path.suffix == ".script":
+        show(path.stem, sweep_script(part, path, None, {}))
+    else:
+        show(path.stem, sweep_run(part, path.stem, Run(["answer"], path.read_bytes(), "input"), None, judge_request))
+
+
+def memory(part):
+    """Scripts over memory, and requests over a file; with --all scripts over a file, too, and files that are made, opened and migrated."""
+    for path in sorted(SCRIPTS.glob("*.script")):
+        show(f"{path.stem}, over memory", sweep_script(part, path, None, {}))
+    with new_folder() as made:
+        base = make_base(part, made, PROJECT)
+        for name, data in (
+            ("a push", push_request()),
+            ("an upload", upload_request()),
+            ("a page", get_request("/en/main/")),
+            ("the versions", get_request("/_/versions")),
+        ):
+            show(name, sweep_run(part, name, answers(data), base, judge_request))
+        if part.wants_all:
+            memory_at_length(part, base)
+
+
+def memory_at_length(part, base):
+    """All that takes minutes: each line twice refused, and runs from their first allocation on."""
+    for path in sorted(SCRIPTS.glob("*.script")):
+        for times in ("1", "all"):
+            show(f"{path.stem}, and again at {times}", sweep_script(part, path, None, {"COPIES_MORE": times}))
+        with new_folder() as empty:
+            show(f"{path.stem}, over a file", sweep_script(part, path, make_base(part, empty), {}))
+    for name, words in (
+        ("an opening", ["get", "docs.test", "/en/main/", "--store", STORE]),
+        ("a command", ["push", "docs.test", "wkey-1", "k9", "tag", "2.0.0", "--store", STORE]),
+    ):
+        show(name, sweep_run(part, name, Run(words, b"", "start"), base, judge_single, is_done_again))
+    with new_folder() as nothing, new_folder() as old:
+        run = Run(["migrate", STORE], b"", "start")
+        show("migrate", sweep_run(part, "migrate", run, make_old(old), judge_single, is_done_again))
+        run = Run(["init", STORE], b"", "start")
+        show("init", sweep_run(part, "init", run, nothing, judge_init, is_done_again))

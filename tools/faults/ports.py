@@ -1,0 +1,238 @@
+"""Ports: requests and scripts that come byte by byte, are cut, or whose reads and writes fail, at each place; and input without end."""
+
+import socket
+import struct
+import subprocess
+import tempfile
+import threading
+
+from common import SCRIPTS, STORE, TIME_LIMIT, Ended, Script, Worlds, copy_store, hosts, make_base, new_folder
+
+HOST, KEY = "docs.test", "wkey-1"
+
+# The most reads that are made.
+MOST_READS = 100_000
+
+# What has no end, here.
+MANY = 10_000_000
+
+PROJECT = f"""new-project {HOST} en main public {KEY}
+push {HOST} {KEY} k0 branch main
+upload {HOST} {KEY} u0 main en a text/plain a
+add-rule {HOST} 1 tag all activate
+"""
+
+
+def post(target, body, spaces=0):
+    """A request, with so many spaces behind its body's object."""
+    body = body.encode() + b" " * spaces
+    return f"POST {target} HTTP/1.1\r\nHost: {HOST}\r\nDocs-Key: {KEY}\r\nContent-Length: {len(body)}\r\n\r\n".encode() + body
+
+
+def push(spaces=0):
+    return post("/_/push", '{"key":"k1","kind":"tag","ref":"1.0.0"}', spaces)
+
+
+def upload():
+    page = '{"path":"b.html","type":"text/html","base64":"PGgxPg=="}'
+    return post("/_/upload", '{"key":"u1","language":"en","version":"main","pages":[%s]}' % page)
+
+
+def get():
+    return f"GET /en/main/a HTTP/1.1\r\nHost: {HOST}\r\n\r\n".encode()
+
+
+def feed(connection, data, piece):
+    """Sends the bytes, each piece as a packet of its own, which a read gets alone; as long as it is read."""
+    try:
+        for at in range(0, len(data), piece):
+            connection.send(data[at : at + piece])
+    except OSError:
+        pass
+    connection.close()
+
+
+def run(part, words, data, folder, piece=4096, fails=False, **environment):
+    """A run whose input comes in such pieces, and ends, or fails where it would end: a socket is closed with bytes unread."""
+    ours, theirs = socket.socketpair(socket.AF_UNIX, socket.SOCK_SEQPACKET)
+    if fails:
+        theirs.send(b"unread")
+    feeding = threading.Thread(target=feed, args=(ours, data, piece))
+    feeding.start()
+    preload = {"LD_PRELOAD": part.library, **environment} if environment else {}
+    with tempfile.TemporaryFile() as sink:
+        process = subprocess.Popen([part.program, *words], stdin=theirs, stdout=sink, stderr=subprocess.PIPE, cwd=folder, env=preload)
+        theirs.close()
+        try:
+            told = process.communicate(timeout=TIME_LIMIT)[1]
+        finally:
+            process.kill()
+            process.wait()
+        feeding.join()
+        sink.seek(0)
+        return Ended(process.returncode, sink.read(), told)
+
+
+def fault(err):
+    """The fault that is told last of all, but for its sentence."""
+    lines = err.splitlines()
+    return lines[-2] if len(lines) > 1 else b""
+
+
+class Desk:
+    """A file with a project, and runs over copies of it."""
+
+    def __init__(self, part, base, folder, words):
+        self.part, self.base, self.folder, self.words = part, base, folder, words
+        self.worlds = Worlds(part)
+        self.before = self.worlds.of(base)
+
+    def run(self, data, *more, **environment):
+        """A run over the file as it began: how it ended, and the rows that it leaves."""
+        copy_store(self.base, self.folder)
+        ended = run(self.part, self.words, data, self.folder, *more, **environment)
+        return ended, self.worlds.of(self.folder)
+
+
+# ---- requests
+
+
+def request(part, desk, name, data):
+    """A request in pieces, and at each place a cut, a read that fails, a write that fails, and one that takes nothing."""
+    whole, after = desk.run(data)
+    part.check(f"{name}: whole", whole.status == 0 and whole.out.startswith(b"HTTP/1.1 200 ") and not whole.err, whole)
+    for piece in (1, 2, 7, 64):
+        seen = desk.run(data, piece)
+        part.check(f"{name}: in pieces of {piece}", seen == (whole, after), seen)
+    for count in range(len(data)):
+        (ended, world) = desk.run(data[:count])
+        good = ended.status == 0 and ended.out.startswith(b"HTTP/1.1 400 ") and not ended.err
+        part.check(f"{name}: cut behind {count} bytes", good and world == desk.before, ended)
+        (ended, world) = desk.run(data[:count], 1, True)
+        good = ended.status == 4 and not ended.out and fault(ended.err) == b"fault Read"
+        part.check(f"{name}: a read fails behind {count} bytes", good and world == desk.before, ended)
+    writes(part, desk, name, data, whole, lambda _: [after], 4)
+
+
+def writes(part, desk, name, data, whole, worlds, status):
+    """A byte a write; and at each byte of the output a write that fails, and one that takes nothing. The rows are those that stand."""
+    seen = desk.run(data, PUT_MOST="1")
+    part.check(f"{name}: a byte a write", seen[0] == whole and seen[1] in worlds(whole.out), seen)
+    for count in range(len(whole.out)):
+        for what, variables in (("fails", {"PUT_ROOM": str(count)}), ("takes nothing", {"PUT_MOST": "1", "PUT_NONE": str(count + 1)})):
+            ended, world = desk.run(data, **variables)
+            good = ended.status == status and ended.out == whole.out[:count] and fault(ended.err) == b"fault Write"
+            part.check(f"{name}: a write {what} behind {count} bytes", good and world in worlds(ended.out), ended)
+
+
+def many_reads(part, desk):
+    """100,000 reads of a byte bring a request, and no more are made."""
+    whole, after = desk.run(push())
+    spaces = MOST_READS - len(push(MOST_READS // 2)) + MOST_READS // 2
+    seen = desk.run(push(spaces), 1)
+    part.check(f"{MOST_READS:,} reads", len(push(spaces)) == MOST_READS and seen == (whole, after), seen)
+    ended, world = desk.run(push(spaces + 1), 1)
+    good = ended.status == 4 and not ended.out and fault(ended.err) == b"fault TooManyTurns"
+    part.check("one more", good and world == desk.before, ended)
+
+
+def without_end(part, desk):
+    """Heads that go on and on are refused, and not read to their end."""
+    for what, data in (
+        ("a line", b"a" * MANY),
+        ("a target", b"GET /" + b"a" * MANY),
+        ("a value", b"GET / HTTP/1.1\r\nHost: " + b"a" * MANY),
+        ("lines", b"GET / HTTP/1.1\r\n" + b"A: b\r\n" * (MANY // 6)),
+        ("empty lines", b"\r\n" * (MANY // 2)),
+    ):
+        for piece in (65536, 7):
+            ended, world = desk.run(data, piece)
+            good = ended.status == 0 and ended.out.startswith(b"HTTP/1.1 431 ") and not ended.err and world == desk.before
+            part.check(f"{what} without end, in pieces of {piece}", good, ended)
+
+
+# ---- scripts
+
+
+def script(part, base, folder, path):
+    """A script over a file: at each place a read or a write that fails, and a write that takes nothing."""
+    lines = Script(part, path, base)
+    desk = Desk(part, base, folder, lines.words)
+    whole, name = lines.whole[0], lines.name
+    for piece in (1, 7):
+        seen = desk.run(lines.data, piece)
+        part.check(f"{name}: in pieces of {piece}", seen == lines.whole, seen)
+    for count in range(0, len(lines.data), 1 if part.wants_all else 7):
+        ended, world = desk.run(lines.data[:count], 7, True)
+        good = ended.status == 3 and not ended.out and fault(ended.err) == b"fault Read"
+        part.check(f"{name}: a read fails behind {count} bytes", good and world == desk.before, ended)
+
+    def worlds(out):
+        told = out.count(b"\n")
+        return [lines.world_after(it) for it in (told, told + 1)]
+
+    writes(part, desk, name, lines.data, whole, worlds, 3)
+
+
+def long_scripts(part, base, folder):
+    """99,999 reads of a byte bring a script, behind which one more finds its end; of 100,000 bytes no line runs."""
+    desk = Desk(part, base, folder, ["script", "--store", STORE])
+    first = f"push {HOST} {KEY} k1 tag 1.0.0\n".encode()
+    whole, after = desk.run(first)
+    for count, good in ((MOST_READS - 1, True), (MOST_READS, False)):
+        ended, world = desk.run(first + b"#" * (count - len(first)), 1)
+        if good:
+            is_right = (ended, world) == (whole, after) and after != desk.before
+        else:
+            is_right = ended.status == 3 and not ended.out and fault(ended.err) == b"fault TooManyTurns" and world == desk.before
+        part.check(f"a script of {count:,} reads", is_right, ended)
+
+
+# ---- connections
+
+
+def talk(port, data, piece, is_reset=False):
+    """What a server answers to bytes that come in such pieces, behind which the client ends its writing, or breaks the connection."""
+    with socket.create_connection(("127.0.0.1", port), timeout=TIME_LIMIT) as connection:
+        connection.setsockopt(socket.IPPROTO_TCP, socket.TCP_NODELAY, 1)
+        if is_reset:
+            connection.setsockopt(socket.SOL_SOCKET, socket.SO_LINGER, struct.pack("ii", 1, 0))
+        for at in range(0, len(data), piece):
+            connection.sendall(data[at : at + piece])
+        if is_reset:
+            return None
+        connection.shutdown(socket.SHUT_WR)
+        return b"".join(iter(lambda: connection.recv(65536), b""))
+
+
+def connections(part, base, folder):
+    """A server whose clients end or break the connection at each byte of a push makes no version; byte by byte it makes one."""
+    copy_store(base, folder)
+    whole = push()
+    with hosts.Server(part.program, f"{folder}/{STORE}", 1_000_000, f"{folder}/told") as server:
+        for count in range(len(whole)):
+            reply = talk(server.port, whole[:count], 64)
+            part.check(f"a connection that ends behind {count} bytes", reply.startswith(b"HTTP/1.1 400 "), reply)
+            talk(server.port, whole[:count], 64, True)
+        part.check("no version", hosts.versions(server, HOST) == {"main"}, hosts.versions(server, HOST))
+        reply = talk(server.port, whole, 1)
+        part.check("a request byte by byte", reply.startswith(b"HTTP/1.1 200 "), reply)
+        again = talk(server.port, whole, 4096)
+        part.check("and again", again == reply, again)
+        part.check("one version", hosts.versions(server, HOST) == {"main", "1.0.0"}, hosts.versions(server, HOST))
+        part.check("the server goes on", server.process.poll() is None)
+
+
+def ports(part):
+    """Requests and scripts over a file, and connections to a server."""
+    with new_folder() as made, new_folder() as empty, new_folder() as folder:
+        base = make_base(part, made, PROJECT.encode())
+        desk = Desk(part, base, folder, ["answer", "--store", STORE])
+        for name, data in (("a page", get()), ("a push", push()), ("an upload", upload())):
+            request(part, desk, name, data)
+            print(f"  {name}: {len(data)} bytes", flush=True)
+        many_reads(part, desk)
+        without_end(part, desk)
+        script(part, make_base(part, empty), folder, SCRIPTS / "properties.script")
+        long_scripts(part, base, folder)
+        connections(part, base, folder)

@@ -1,0 +1,120 @@
+"""All scripts of tests/scripts on one desk: first one after another, then line by line in turns; over memory, and over a file."""
+
+import collections
+import random
+import re
+
+from common import ROOT, STORE, Broken, make_base, new_folder, printing_lines, sentences
+
+FOLDER = ROOT / "tests" / "scripts"
+
+# The most bytes of a script.
+MOST_SCRIPT = 1_000_000
+
+# A host that a project may have.
+HOST = re.compile(rb"[a-z0-9]([a-z0-9.-]{0,251}[a-z0-9])?")
+
+# What follows a line's name: options, each of which may have its value behind it, and then the host.
+VALUED = (b"--pass", b"--until", b"--now")
+
+
+class Line:
+    """A line under a host of its own, what it prints, and where it is from."""
+
+    def __init__(self, text, printed, name):
+        self.text, self.printed, self.name = text, printed, name
+
+
+def host_at(words):
+    """The number of the word that is the line's host, where it has one that a project may have."""
+    at = 1
+    while at < len(words) and words[at].startswith(b"-"):
+        at += 2 if words[at] in VALUED else 1
+    return at if at < len(words) and HOST.fullmatch(words[at]) else None
+
+
+def under(line, name):
+    """The line, with a name of its script's own in its host: in front, or in place of its beginning where it would be too long."""
+    pieces = re.split(rb"([ \t\r\n]+)", line)
+    places = [at for at, piece in enumerate(pieces) if piece.strip(b" \t\r\n")]
+    at = host_at([pieces[place] for place in places])
+    if at is None:
+        return line
+    host = pieces[places[at]]
+    longer = name + b"." + host
+    pieces[places[at]] = longer if len(longer) <= 253 else longer[:253 - 10] + host[-10:]
+    return b"".join(pieces)
+
+
+def scripts():
+    """The scripts whose ports do not fail, each as its lines and what they print."""
+    for path in sorted(FOLDER.rglob("*.script")):
+        if path.with_suffix(".ports").exists() or path.with_suffix(".status").exists():
+            continue
+        lines, printed = printing_lines(path.read_bytes()), path.with_suffix(".out").read_bytes().splitlines(keepends=True)
+        if len(lines) != len(printed):
+            raise Broken(f"{path.name}: {len(lines)} lines, and {len(printed)} that are printed")
+        yield path.stem, lines, printed
+
+
+def told():
+    """The sentences that these scripts tell, without the numbers of their lines, and how often."""
+    paths = [path.with_suffix(".err") for path in sorted(FOLDER.rglob("*.script")) if not path.with_suffix(".ports").exists()]
+    paths = [path for path in paths if path.exists() and not path.with_suffix(".status").exists()]
+    return collections.Counter(it for path in paths for it in sentences(path.read_bytes())[0])
+
+
+def one_after_another(name):
+    for number, (stem, lines, printed) in enumerate(scripts()):
+        for line, out in zip(lines, printed):
+            yield Line(under(line, b"%s%d" % (name, number)), out, stem)
+
+
+def in_turns(name, seed):
+    """The lines of all scripts, the next one of a script that chance takes, weighted by how many it has left."""
+    chance = random.Random(seed)
+    rest = [list(reversed(list(zip(lines, printed)))) for _, lines, printed in scripts()]
+    stems = [stem for stem, _, _ in scripts()]
+    order = [number for number, lines in enumerate(rest) for _ in lines]
+    chance.shuffle(order)
+    for number in order:
+        line, out = rest[number].pop()
+        yield Line(under(line, b"%s%d" % (name, number)), out, stems[number])
+
+
+def in_scripts(lines):
+    """The lines in lists, each of which is a script of its own."""
+    script, length = [], 0
+    for line in lines:
+        if length + len(line.text) > MOST_SCRIPT:
+            yield script
+            script, length = [], 0
+        script.append(line)
+        length += len(line.text)
+    yield script
+
+
+def run(part, what, script, words, folder):
+    ended = part.run(words, b"".join(line.text for line in script), folder)
+    printed = ended.out.splitlines(keepends=True)
+    if ended.status or len(printed) != len(script):
+        part.check(what, False, f"status {ended.status}, {len(printed)} lines of {len(script)}: {ended.err[-300:]!r}")
+        return collections.Counter()
+    for line, out in zip(script, printed):
+        part.check(f"{what}, {line.name}: {line.text[:80]!r}", out == line.printed, f"{out!r}, and not {line.printed!r}")
+    return collections.Counter(sentences(ended.err)[0])
+
+
+def together(part):
+    """Each line prints what it prints alone."""
+    with new_folder() as folder:
+        make_base(part, folder)
+        # (a desk in memory ends with its script, so both turns are one list)
+        lines = [*one_after_another(b"a"), *in_turns(b"b", 1)]
+        wanted = told() + told()
+        for where, words in (("memory", ["script"]), ("a file", ["script", "--store", STORE])):
+            said = collections.Counter()
+            for number, script in enumerate(in_scripts(lines)):
+                said += run(part, f"over {where}, part {number + 1}", script, words, folder)
+            part.check(f"over {where}: the sentences", said == wanted, (said - wanted, wanted - said))
+            print(f"  over {where}: {len(lines):,} lines, {sum(said.values()):,} sentences", flush=True)
