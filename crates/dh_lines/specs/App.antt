@@ -93,6 +93,7 @@ import_app = form (codes "import") (codes "host" ∷ codes "list" ∷ [])
 abbrev pub list_app : Text → App
 list_app name = form name (codes "host" ∷ [])
 
+-- `list-pages HOST SLUG LANG`
 abbrev pub list_pages_app : App
 list_pages_app = form (codes "list-pages") (codes "host" ∷ codes "slug" ∷ codes "lang" ∷ [])
 

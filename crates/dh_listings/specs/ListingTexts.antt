@@ -87,7 +87,7 @@ version_words v =
     kind_word v.kind ++ 9 ∷ v.name ++ 9 ∷ v.slug ++ 9 ∷ active_word v.active
     ++ 9 ∷ hidden_word v.hidden ++ 9 ∷ private_word v.private
 
--- `PATH TYPE SIZE`, of the bytes of its body
+-- `PATH TYPE SIZE`: how many bytes its body has
 unfoldable pub page_words : Text → Text → ℕ → Text
 page_words path media size = path ++ 9 ∷ media ++ 9 ∷ decimal size
 
