@@ -64,8 +64,8 @@ impl<S: Alter> Model for Desk<S> {
         IsKept S.Store d.tables × AreCurrent S.Store d.tables d.replies };
 }
 
-/// Asks the store, after memory was out: what stands open is undone, and a transaction begins, which is left
-/// open. Out of memory is told where the store answers, and else its fault.
+/// Asks the store, after memory was out: what stands open is undone, and an empty transaction is committed, which takes
+/// no memory. Out of memory is told where the store answers, and else its fault.
 fn ask_store<S: Alter>(tables: &mut Tables<S>) -> Refusal
     ensures fault { IsFault result }
     ensures lasts { Lasts S.Store tables.old tables.new }
@@ -75,7 +75,7 @@ fn ask_store<S: Alter>(tables: &mut Tables<S>) -> Refusal
         → result ≡ Refusal.OutOfMemory → IsHonest S.Store tables.new }
 {
     let _undone = tables.back();
-    match tables.begin() {
+    match tables.ask() {
         Ok(()) => Refusal::OutOfMemory,
         Err(_) => Refusal::Store,
     }
