@@ -5,7 +5,7 @@ ghost use Rattle.dh_rows.specs.Calls.{KeepsCommitted, Lasts, LeavesNoMore, Leave
 ghost use Rattle.dh_transactions.specs.Crashes.{LeavesEither};
 ghost use Rattle.dh_records.specs.Constraints.{AreSound};
 ghost use Rattle.dh_records.specs.Lists.{base_of};
-ghost use Rattle.dh_renewal.specs.Filling.{IsLeft, LeavesDerived};
+ghost use Rattle.dh_renewal.specs.Filling.{Derives, IsLeft, LeavesDerived};
 ghost use Rattle.dh_schema.specs.Calling.{IsSettled};
 ghost use Rattle.dh_tables.specs.Going.{IsOver};
 ghost use Rattle.dh_transactions.specs.Steps.{Transacts};
@@ -79,6 +79,17 @@ fn ask_store<S: Alter>(tables: &mut Tables<S>) -> Refusal
         Ok(()) => Refusal::OutOfMemory,
         Err(_) => Refusal::Store,
     }
+}
+
+/// Asks the store for the first time, which takes a little memory, while any later question takes none; and makes the
+/// stored rows right.
+fn ask_and_derive<S: Alter>(tables: &mut Tables<S>, alloc: Global) -> Result<(), Refusal>
+    requires settled { IsHonest S.Store tables.old → IsSettled S.Store tables.old }
+    requires sound { IsHonest S.Store tables.old → AreSound (last_records S.Store tables.old) }
+    ensures { Derives S.Store tables.old tables.new result }
+{
+    tables.ask()?;
+    derive(tables, alloc)
 }
 
 /// Does a command on tables that may have a transaction open, which is undone first.
@@ -159,7 +170,7 @@ impl<S: Alter> Desk<S> {
         ensures stop { IfErr result (λ e. LeavesDerived S.Store tables e.1) }
     {
         let mut tables = tables;
-        match derive(&mut tables, alloc) {
+        match ask_and_derive(&mut tables, alloc) {
             Ok(()) => Desk::over(alloc, tables),
             Err(Refusal::OutOfMemory) => Err((Fault::Memory, tables)),
             Err(_) => Err((Fault::Store, tables)),
