@@ -38,14 +38,18 @@ Asks words order script (Some message) =
 
 -- ---- the answer
 
--- what of an answer is printed, and the word that tells its end; of one that was cut its whole lines are, and it has no such word
-abbrev pub parts_by : Text → Option (Text × Text) → Text × Option Text
-parts_by answer None = (whole_lines answer, None)
-parts_by answer (Some parts) = (parts.0, Some parts.1)
+-- the word that tells the end, where what was read came to its end
+abbrev pub word_told : Bool → Text → Option Text
+word_told true word = Some word
+word_told false word = None
+
+-- what of an answer is printed, and that word; of one that was cut its whole lines are, and it has no such word
+abbrev pub parts_by : Text → Bool → Option (Text × Text) → Text × Option Text
+parts_by answer is_whole None = (whole_lines answer, None)
+parts_by answer is_whole (Some parts) = (parts.0, word_told is_whole parts.1)
 
 abbrev pub parts_of : Text → Bool → Text × Option Text
-parts_of answer true = parts_by answer (cut answer)
-parts_of answer false = (whole_lines answer, None)
+parts_of answer is_whole = parts_by answer is_whole (cut answer)
 
 -- a script has no refusal of its own, and so a server that tells one tells no end of it
 abbrev pub refused_as : Order → Result Status Failure

@@ -112,16 +112,15 @@ fn message_for(
     }
 }
 
-/// What of an answer is printed, and the word that tells its end: none where it was cut, and then its whole lines are printed.
+/// What of an answer is printed, and the word that tells its end: none where it was cut, and then its whole lines are printed. One
+/// that did not come to its end tells none, though it looks so.
 fn parts_of(answer: &[u8], is_whole: bool) -> (&[u8], Option<&[u8]>)
     ensures { (result.0.now, option_map (λ word. word.now) result.1)
         ≡ spec.parts_of answer.now is_whole }
 {
-    if !is_whole {
-        return (whole_lines(answer), None);
-    }
     match cut(answer) {
-        Some(parts) => (parts.printed, Some(parts.end)),
+        Some(parts) if is_whole => (parts.printed, Some(parts.end)),
+        Some(parts) => (parts.printed, None),
         None => (whole_lines(answer), None),
     }
 }
