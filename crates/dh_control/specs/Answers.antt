@@ -79,7 +79,7 @@ TakesMessage moment left before after held now result =
     ((message : Text) × IfSome left (λ input. message ≡ input) × DoesMessage moment message before after held now result)
     ⊎ (IsUnread left result × (after ≡ before) × (now ≡ held))
 
--- and behind what that printed stands how it ended
+-- a message was taken so, and behind what that printed stands how it ended
 pub record AnswersMessage (moment : ℕ) (left : Option Text) (before after : World) (held now : Option Text) (result : Result End ScriptFault) : Type 0 where
   pub printed : Option Text
   pub ended : Result End ScriptFault

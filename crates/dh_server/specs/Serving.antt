@@ -78,7 +78,7 @@ abbrev pub messages_in : Option Came → ℕ
 messages_in None = 0
 messages_in (Some it) = if is_message it then 1 else 0
 
--- so many of them came, and as many were handed on, where both are counted
+-- so many connections of a control socket came, and as many were handed on, where both are counted
 abbrev pub HandsOn : Option ℕ → Option ℕ → Option ℕ → Option ℕ → Type 0
 HandsOn came more handed now = (count : ℕ) × Counts came more count × Counts handed now count
 
