@@ -1,5 +1,6 @@
 -- What connections do to the world, as steps of commands.
-use Rattle.std.proofs.Common.{◌≡◌, ◌⊎◌, ℕ, zero, suc, ◌+◌, ◌≤◌, min, List, Option, Some, None, inl, inr, arith, add-one, sym, subst}
+use Rattle.std.proofs.Common.{◌≡◌, ◌⊎◌, ℕ, zero, suc, ◌+◌, ◌≤◌, min, Bool, true, false, List, Option, Some, None, inl, inr, arith, add-one, sym, subst}
+use Rattle.std.specs.Prelude.{if◌then◌else◌}
 use Rattle.dh_wire.specs.declared.reply.Reply.{Reply}
 use Rattle.dh_requests.specs.declared.request.Request.{Request}
 use Rattle.dh_requests.specs.declared.request.Request.TheVariants as request
@@ -7,7 +8,8 @@ use Rattle.dh_world.specs.World.{World}
 use Rattle.dh_http.specs.Commands.{unavailable}
 use Rattle.dh_http.specs.Answers.{IsReplyTo, MayDo, AnswersSource}
 use Rattle.dh_ports.proofs.Taking.{counts_on, counts_from}
-use Rattle.dh_server.specs.Serving.{Turn, Talk, MayTurn, Serves, StepsOnce, Steps, ChangesNothing, PortSteps, Counts, HandsOn}
+use Rattle.dh_server.specs.Serving.{Turn, Talk, MayTurn, Serves, StepsOnce, Steps, ChangesNothing, PortSteps, Counts, HandsOn, is_message, messages_in}
+use Rattle.dh_server.specs.declared.listening.Came.{Came}
 
 may_do : (moment : ℕ) (before after : World) (request : Request) (reply : Reply) → IsReplyTo moment before after request reply → MayDo before after request
 may_do moment before after (request.Read host pass read head) reply is = is.0
@@ -39,6 +41,11 @@ turn_at IsMoment moment before after is (inr h) = inr (h.0, subst IsMoment (sym 
 capped_none : (cap n : ℕ) → min (n + 0) cap ≤ n
 capped_none cap n = omega arith
 
+pub may_turn_at : (IsMoment : ℕ → Type 0) (Does : ℕ → Talk → World → World → Type 0) (moment : ℕ) (before after : World)
+    → IsMoment moment → MayTurn (λ given. given ≡ moment) Does before after → MayTurn IsMoment Does before after
+may_turn_at IsMoment Does moment before after is (inl turn) = inl (turn_at IsMoment moment before after is turn)
+may_turn_at IsMoment Does moment before after is (inr h) = inr (h.0, subst IsMoment (sym h.1) is, h.2, h.3)
+
 pub counts_next : (a b c : Option ℕ) (n : ℕ) → Counts a b n → Counts b c 1 → Counts a c (n + 1)
 counts_next a b c n p q = (counts_on a b c n 1 (n + 1) p.0 q.0 (omega arith), counts_from a b c n 1 (n + 1) p.1 q.1 (omega arith))
 
@@ -47,12 +54,15 @@ counts_none : (a : Option ℕ) → Counts a a 0
 counts_none None = (tt, tt)
 counts_none (Some n) = (omega arith, capped_none _ n)
 
--- of each kind
+-- as many as came
 pub hands_none : (a b c : Option ℕ) → Counts a b 0 → HandsOn a b c c
 hands_none a b c p = (0, p, counts_none c)
 
-pub hands_one : (a b c d : Option ℕ) → Counts a b 1 → Counts c d 1 → HandsOn a b c d
-hands_one a b c d p q = (1, p, q)
+pub no_message : (a : Option ℕ) (came : Came) → is_message came ≡ false → Counts a a (messages_in (Some came))
+no_message a came is = subst (λ it. Counts a a (if it then 1 else 0)) (sym is) (counts_none a)
+
+pub one_message : (a b : Option ℕ) (came : Came) → is_message came ≡ true → Counts a b 1 → Counts a b (messages_in (Some came))
+one_message a b came is p = subst (λ it. Counts a b (if it then 1 else 0)) (sym is) p
 
 counts_more : (a b c : Option ℕ) (n m : ℕ) → Counts a b n → Counts b c m → Counts a c (n + m)
 counts_more a b c n m p q = (counts_on a b c n m (n + m) p.0 q.0 (omega arith), counts_from a b c n m (n + m) p.1 q.1 (omega arith))

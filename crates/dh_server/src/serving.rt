@@ -1,10 +1,10 @@
 //! Connections, one after another.
 
-ghost use Rattle.std.specs.Prelude.{◌≡◌, ◌≤◌, true, false, drop};
+ghost use Rattle.std.specs.Prelude.{◌≡◌, ◌≤◌, true, false, drop, Some};
 ghost use Rattle.std.specs.Io.KnownBytes.{append_known};
 ghost use Rattle.dh_http.specs.Desk.{Moves};
 ghost use Rattle.dh_http.specs.Answers as spec;
-ghost use Rattle.dh_server.specs.Serving.{Answers, Turn, Talk, MayTurn, Serves, GivenBy, ChangesNothing, Steps, Counts, HandsOn};
+ghost use Rattle.dh_server.specs.Serving.{Answers, Turn, Talk, MayTurn, Serves, GivenBy, ChangesNothing, Steps, Counts, HandsOn, messages_in};
 ghost use Rattle.dh_server.specs.Telling.{TellsSome};
 
 use crate::beginning::{Beginning, Heard};
@@ -128,6 +128,27 @@ fn answer_control<S: Alter, K: Control, T: Clock + Copy>(
     control.answer(alloc, desk, &mut source, &mut sink, now);
 }
 
+/// Answers a connection that came, at a moment.
+fn answer_came<S: Alter, K: Control, T: Clock + Copy, L: Sink>(
+    alloc: Global,
+    desk: &mut Desk<S>,
+    control: &mut K,
+    came: Came,
+    now: u64,
+    log: &Log<T>,
+    errors: &mut L,
+)
+    ensures hears { Counts (K.handed control.old) (K.handed control.new) (messages_in (Some came)) }
+    ensures turn { Moves S.Store desk.old desk.new (MayTurn (λ moment. moment ≡ now) K.does) }
+    ensures tells { TellsSome L.broken L.held errors.old errors.new }
+    ensures off { log.now.is_on ≡ false → errors.new ≡ errors.old }
+{
+    match came {
+        Came::Request(stream) => answer_stream(alloc, desk, &stream, now, log, errors),
+        Came::Message(stream) => answer_control(alloc, desk, control, &stream, now, log.clock()),
+    }
+}
+
 /// Answers the next connection, at the moment when it came.
 fn serve_next<S: Alter, N: Listen, K: Control, C: FnMut() -> u64, T: Clock + Copy, L: Sink>(
     alloc: Global,
@@ -150,10 +171,7 @@ fn serve_next<S: Alter, N: Listen, K: Control, C: FnMut() -> u64, T: Clock + Cop
     let came = listener.accept();
     let now = clock();
     match came {
-        Some(Came::Request(stream)) => answer_stream(alloc, desk, &stream, now, log, errors),
-        Some(Came::Message(stream)) => {
-            answer_control(alloc, desk, control, &stream, now, log.clock())
-        }
+        Some(came) => answer_came(alloc, desk, control, came, now, log, errors),
         None => log.tell(alloc, errors, None, &Entry::none(now), 0, None),
     }
 }
