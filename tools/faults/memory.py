@@ -11,7 +11,6 @@ from typing import NamedTuple
 from common import (
     MOST_SHOWN,
     NO_MEMORY,
-    ROOT,
     SCRIPTS,
     STORE,
     Broken,
@@ -37,8 +36,6 @@ NO_MORE = b"\r\n\r\n503 Service Unavailable\n"
 
 # What stands in the files that single runs begin from.
 PROJECT = (SCRIPTS / "versions.script").read_bytes()
-
-REQUESTS = ROOT / "tests" / "requests"
 
 # The script that the gate runs with two refusals in a row.
 TWICE = SCRIPTS / "versions.script"
