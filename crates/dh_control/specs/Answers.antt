@@ -69,15 +69,15 @@ HasLastLine held now ended result =
     ((result ≡ ended) × Appends held now (end_line ended)) ⊎ (result ≡ Err (Run Write))
 
 -- why a source was not read as a message, by what it had left
-abbrev pub IsUnread : Option Text → Result End ScriptFault → Type 0
-IsUnread left (Ok end) = ⊥
-IsUnread left (Err fault) = IfSome left (IsCauseOver most_message fault)
+abbrev pub IsMessageUnread : Option Text → Result End ScriptFault → Type 0
+IsMessageUnread left (Ok end) = ⊥
+IsMessageUnread left (Err fault) = IfSome left (IsCauseOver most_message fault)
 
 -- what a source had left was done as a message; or it was not read, and nothing was done or printed
 abbrev pub TakesMessage : ℕ → Option Text → World → World → Option Text → Option Text → Result End ScriptFault → Type 0
 TakesMessage moment left before after held now result =
     ((message : Text) × IfSome left (λ input. message ≡ input) × DoesMessage moment message before after held now result)
-    ⊎ (IsUnread left result × (after ≡ before) × (now ≡ held))
+    ⊎ (IsMessageUnread left result × (after ≡ before) × (now ≡ held))
 
 -- a message was taken so, and behind what that printed stands how it ended
 pub record AnswersMessage (moment : ℕ) (left : Option Text) (before after : World) (held now : Option Text) (result : Result End ScriptFault) : Type 0 where

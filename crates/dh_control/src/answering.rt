@@ -11,6 +11,7 @@ ghost use Rattle.dh_script.specs.Running.{RunsScript, stopped_by_writer};
 ghost use Rattle.dh_script.specs.Script.{is_unread};
 ghost use Rattle.dh_control.specs.Answers.{AnswersMessage, DoesBody, DoesMessage, DoesOne, DoesScript, DoesSent, DoesWords, HasLastLine, TakesMessage};
 ghost use Rattle.dh_control.specs.Ends.{end_line};
+ghost use Rattle.dh_control.specs.Messages.{most_reads, most_taken};
 
 use crate::end::{End, end_name, end_number, end_of};
 use crate::message::{MOST_BYTES, SCRIPT, WORDS, behind, body_of, words_of};
@@ -208,8 +209,8 @@ fn take_message<S: Alter, R: Source, W: Sink>(
         (W.held sink.old) (W.held sink.new) result) }
     ensures read_fault { R.broken source.new ≡ true → reader_failed result ≡ true }
     ensures broken { W.broken sink.new ≡ writer_failed result }
-    ensures taken { TookAtMost (R.left source.old) (R.left source.new) 1052736 }
-    ensures reads { CountsUpTo (R.fills source.old) (R.fills source.new) 100000 }
+    ensures taken { TookAtMost (R.left source.old) (R.left source.new) most_taken }
+    ensures reads { CountsUpTo (R.fills source.old) (R.fills source.new) most_reads }
 {
     match read_script(alloc, source, MOST_BYTES) {
         Ok(message) => do_message(alloc, desk, message.as_slice(), sink, now),
@@ -236,8 +237,8 @@ pub fn answer_message<S: Alter, R: Source, W: Sink>(
     ensures read_fault { R.broken source.new ≡ true
         → (reader_failed result || writer_failed result) ≡ true }
     ensures write_fault { W.broken sink.new ≡ writer_failed result }
-    ensures taken { TookAtMost (R.left source.old) (R.left source.new) 1052736 }
-    ensures reads { CountsUpTo (R.fills source.old) (R.fills source.new) 100000 }
+    ensures taken { TookAtMost (R.left source.old) (R.left source.new) most_taken }
+    ensures reads { CountsUpTo (R.fills source.old) (R.fills source.new) most_reads }
 {
     let ended = take_message(alloc, desk, source, sink, now);
     tell_end(sink, ended)

@@ -7,9 +7,9 @@ use Rattle.docs_host.specs.declared.sending.Answer.{Answer}
 use Rattle.docs_host.specs.declared.sending.Silence.{Silence}
 
 -- all of a message went out; or the sink failed, and a front of it did
-abbrev pub Sends : Option Text → Option Text → Bool → Text → Type 0
-Sends held now false message = Appends held now message
-Sends held now true message = (count : ℕ) × PutsFirst held now message count
+abbrev pub SendsMessage : Option Text → Option Text → Bool → Text → Type 0
+SendsMessage held now false message = Appends held now message
+SendsMessage held now true message = (count : ℕ) × PutsFirst held now message count
 
 -- a message to the server of a file, and what came back: bytes, and whether to their end; or nobody answered
 pub record Exchange : Type 0 where

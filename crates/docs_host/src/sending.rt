@@ -1,7 +1,7 @@
 //! A message to the server that has a file, and what it answers.
 
 ghost use Rattle.std.specs.Prelude.{◌≡◌, ◌++◌, true, false, List, Option, None, IfSome};
-ghost use Rattle.docs_host.specs.Exchanges.{Exchange, OneMore, Sends, exchange_of};
+ghost use Rattle.docs_host.specs.Exchanges.{Exchange, OneMore, SendsMessage, exchange_of};
 
 use crate::socket::connect_socket;
 use dh_ports::{Port, Sink, Source, put_all};
@@ -73,7 +73,7 @@ fn exchange<W: Sink, R: Source, F: FnOnce()>(
     requires writer { W.broken sink.old ≡ false }
     requires reader { R.broken source.old ≡ false }
     requires callable { F.IsAlwaysCallable end }
-    ensures sends { Sends (W.held sink.old) (W.held sink.new) (W.broken sink.new) message.now }
+    ensures sends { SendsMessage (W.held sink.old) (W.held sink.new) (W.broken sink.new) message.now }
     ensures hears { result.is_whole ≡ true
         → IfSome (R.left source.old) (λ input. result.bytes.items ≡ input) }
 {
