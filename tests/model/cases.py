@@ -29,20 +29,27 @@ class Left(Exception):
     """A case that the model leaves out, and why."""
 
 
+def read_case(path):
+    case = TOOL.read_case(path)
+    if case.input_fails or case.room is not None:
+        raise Left("readers and writers that fail")
+    return case
+
+
 def judge_script(path):
     """What is wrong with the model's answer to a script, as lines."""
-    written, fault, status = lines.run_script({}, path.read_bytes(), int(time.time()))
+    case = read_case(path)
+    written, fault, status = lines.run_script({}, case.data, int(time.time()))
     # (the model tells no sentences)
-    lines_told = (TOOL.beside(path, ".err") or b"").split(b"\n")
-    wanted_told = next((line for line in lines_told if line.startswith(b"fault ")), b"")
-    wanted_status = int(TOOL.beside(path, ".status") or b"0")
+    wanted_told = next((line for line in case.err.split(b"\n") if line.startswith(b"fault ")), b"")
     told = b"fault " + fault if fault else b""
-    return TOOL.compared(TOOL.beside(path, ".out"), wanted_told, wanted_status, written, told, status)
+    return TOOL.compared(case.out, wanted_told, case.status, written, told, status)
 
 
 def judge_request(path):
-    written = requests.answer(requests.sample(), path.read_bytes())
-    return TOOL.compared(TOOL.beside(path, ".out"), b"", 0, written, b"", 0)
+    case = read_case(path)
+    written = requests.answer(requests.sample(), case.data)
+    return TOOL.compared(case.out, b"", 0, written, b"", 0)
 
 
 def judge_row(world_of, row):
@@ -100,7 +107,7 @@ def run_command(files, words, script):
     return lines.line_text(files[words[-1]], [word.encode() for word in words[:-2]], 0, True) + b"\n"
 
 
-JUDGES = {".script": judge_script, ".http": judge_request, ".requests": judge_table, ".commands": judge_commands}
+JUDGES = {".lines": judge_script, ".http": judge_request, ".requests": judge_table, ".commands": judge_commands}
 
 
 def judge_all():
@@ -108,8 +115,6 @@ def judge_all():
     passed, failed, left = 0, 0, 0
     for path in (it for folder in FOLDERS for it in sorted(folder.rglob("*")) if it.suffix in JUDGES):
         try:
-            if TOOL.beside(path, ".ports"):
-                raise Left("readers and writers that fail")
             faults = JUDGES[path.suffix](path)
         except (Left, Unsaid) as why:
             print(f"{TOOL.name_of(path)}: left out: {why if isinstance(why, Left) else f'the expression {why}'}")
