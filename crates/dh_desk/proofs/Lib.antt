@@ -1,3 +1,4 @@
+pub mod Asking
 pub mod Moving
 pub mod Reading
 pub mod Veiling

@@ -5,7 +5,7 @@ ghost use Rattle.dh_rows.specs.Calls.{KeepsCommitted, Lasts, LeavesNoMore, Leave
 ghost use Rattle.dh_transactions.specs.Crashes.{LeavesEither};
 ghost use Rattle.dh_records.specs.Constraints.{AreSound};
 ghost use Rattle.dh_records.specs.Lists.{base_of};
-ghost use Rattle.dh_renewal.specs.Filling.{IsLeft, LeavesDerived};
+ghost use Rattle.dh_renewal.specs.Filling.{Derives, IsLeft, LeavesDerived};
 ghost use Rattle.dh_schema.specs.Calling.{IsSettled};
 ghost use Rattle.dh_tables.specs.Going.{IsOver};
 ghost use Rattle.dh_transactions.specs.Steps.{Transacts};
@@ -64,8 +64,8 @@ impl<S: Alter> Model for Desk<S> {
         IsKept S.Store d.tables × AreCurrent S.Store d.tables d.replies };
 }
 
-/// Asks the store, after memory was out: what stands open is undone, and a transaction begins, which is left
-/// open. Out of memory is told where the store answers, and else its fault.
+/// Asks the store, after memory was out: what stands open is undone, and an empty transaction is committed, which takes
+/// no memory. Out of memory is told where the store answers, and else its fault.
 fn ask_store<S: Alter>(tables: &mut Tables<S>) -> Refusal
     ensures fault { IsFault result }
     ensures lasts { Lasts S.Store tables.old tables.new }
@@ -75,10 +75,21 @@ fn ask_store<S: Alter>(tables: &mut Tables<S>) -> Refusal
         → result ≡ Refusal.OutOfMemory → IsHonest S.Store tables.new }
 {
     let _undone = tables.back();
-    match tables.begin() {
+    match tables.ask() {
         Ok(()) => Refusal::OutOfMemory,
         Err(_) => Refusal::Store,
     }
+}
+
+/// Asks the store for the first time, which takes a little memory, while any later question takes none; and makes the
+/// stored rows right.
+fn ask_and_derive<S: Alter>(tables: &mut Tables<S>, alloc: Global) -> Result<(), Refusal>
+    requires settled { IsHonest S.Store tables.old → IsSettled S.Store tables.old }
+    requires sound { IsHonest S.Store tables.old → AreSound (last_records S.Store tables.old) }
+    ensures { Derives S.Store tables.old tables.new result }
+{
+    tables.ask()?;
+    derive(tables, alloc)
 }
 
 /// Does a command on tables that may have a transaction open, which is undone first.
@@ -159,7 +170,7 @@ impl<S: Alter> Desk<S> {
         ensures stop { IfErr result (λ e. LeavesDerived S.Store tables e.1) }
     {
         let mut tables = tables;
-        match derive(&mut tables, alloc) {
+        match ask_and_derive(&mut tables, alloc) {
             Ok(()) => Desk::over(alloc, tables),
             Err(Refusal::OutOfMemory) => Err((Fault::Memory, tables)),
             Err(_) => Err((Fault::Store, tables)),

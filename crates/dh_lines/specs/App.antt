@@ -93,6 +93,10 @@ import_app = form (codes "import") (codes "host" ∷ codes "list" ∷ [])
 abbrev pub list_app : Text → App
 list_app name = form name (codes "host" ∷ [])
 
+-- `list-pages HOST SLUG LANG`
+abbrev pub list_pages_app : App
+list_pages_app = form (codes "list-pages") (codes "host" ∷ codes "slug" ∷ codes "lang" ∷ [])
+
 abbrev pub list_apps : List App
 list_apps =
     form (codes "list-projects") []
@@ -102,6 +106,7 @@ list_apps =
     ∷ list_app (codes "list-rules")
     ∷ list_app (codes "list-redirects")
     ∷ list_app (codes "list-passes")
+    ∷ list_pages_app
     ∷ []
 
 abbrev pub script_app : App

@@ -36,7 +36,7 @@ use Rattle.dh_world.specs.declared.command.CommandChange.TheVariants.{DropRule}
 use Rattle.dh_listings.specs.declared.words.ListWord.TheVariants.{Projects, OfProject}
 use Rattle.dh_listings.specs.declared.words.ProjectList.{ProjectList}
 use Rattle.dh_listings.specs.declared.words.ProjectList.TheVariants.{Langs, Versions, Defaults, Rules}
-use Rattle.dh_listings.specs.declared.words.ProjectList.TheVariants.{Redirects, Passes}
+use Rattle.dh_listings.specs.declared.words.ProjectList.TheVariants.{Redirects, Passes, Pages}
 use Rattle.dh_words.specs.Words.{is_plain, ArePlain}
 use Rattle.dh_lines.specs.App.{docs_app}
 use Rattle.dh_lines.specs.declared.lines.Line.{Line}
@@ -358,6 +358,13 @@ list_named name =
 abbrev pub list_in : ProjectList → List Row → Option Order
 list_in list rows = with_word (codes "host") rows (λ host. Some (order.List (OfProject host list)))
 
+-- `list-pages HOST SLUG LANG`
+abbrev pub list_pages_in : List Row → Option Order
+list_pages_in rows =
+    with_word (codes "host") rows (λ host.
+    with_word (codes "slug") rows (λ slug.
+    with_word (codes "lang") rows (λ lang. Some (order.List (OfProject host (Pages slug lang))))))
+
 -- what a word orders that lists this, or else a command of this name
 abbrev pub list_or_command : Option ProjectList → Text → List Row → Option Order
 list_or_command (Some list) name rows = list_in list rows
@@ -374,6 +381,7 @@ order_in name rows =
     else if bytes_eq name (codes "migrate") then migrate_in rows
     else if bytes_eq name (codes "serve") then serve_in rows
     else if bytes_eq name (codes "list-projects") then Some (order.List Projects)
+    else if bytes_eq name (codes "list-pages") then list_pages_in rows
     else list_or_command (list_named name) name rows
 
 -- the line of this order, over the store in this file

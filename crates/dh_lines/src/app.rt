@@ -151,7 +151,7 @@ fn bare_command<'a>(alloc: Global) -> Syntax<'a>
 }
 
 /// The lines of scripts, what lists, and what the program does with its input.
-const FORMS: [Form<'static>; 31] = [
+const FORMS: [Form<'static>; 32] = [
     Form {
         name: "new-project",
         about: "Makes a project with one language and no version",
@@ -373,6 +373,13 @@ const FORMS: [Form<'static>; 31] = [
         about: "Lists the passes of a project, with their ends and grants",
         example: "Example: docs_host list-passes docs.test --store docs.db",
         ids: &["host"],
+        more: &[],
+    },
+    Form {
+        name: "list-pages",
+        about: "Lists the pages of a version in a language, with their media types and sizes",
+        example: "Example: docs_host list-pages docs.test 1.0 en --store docs.db",
+        ids: &["host", "slug", "lang"],
         more: &[],
     },
     Form {

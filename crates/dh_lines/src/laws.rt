@@ -18,7 +18,7 @@ ghost use Rattle.dh_world.specs.declared.command.CommandChange.TheVariants.{SetD
 ghost use Rattle.dh_world.specs.declared.command.CommandChange.TheVariants.{DropPass, Grant};
 ghost use Rattle.dh_world.specs.declared.command.CommandChange.TheVariants.{Revoke, DropRedirect};
 ghost use Rattle.dh_world.specs.declared.command.CommandChange.TheVariants.{DropRule};
-ghost use Rattle.dh_listings.specs.declared.words.ListWord.TheVariants.{Projects};
+ghost use Rattle.dh_listings.specs.declared.words.ListWord.TheVariants.{Projects, OfProject};
 ghost use Rattle.dh_listings.specs.declared.words.ProjectList.TheVariants as lists;
 ghost use Rattle.dh_words.specs.Words.{is_plain, ArePlain, has_command};
 ghost use Rattle.dh_lines.specs.App.{docs_app};
@@ -160,6 +160,9 @@ pub fn list_lines()
     ensures rules { OrdersList (codes "list-rules") lists.Rules }
     ensures redirects { OrdersList (codes "list-redirects") lists.Redirects }
     ensures passes { OrdersList (codes "list-passes") lists.Passes }
+    ensures pages { (host slug lang : Text) → ArePlain (host ∷ slug ∷ lang ∷ [])
+        → Orders (codes "list-pages" ∷ host ∷ slug ∷ lang ∷ [])
+        (order.List (OfProject host (lists.Pages slug lang))) }
 {}
 
 /// What the program itself does with its input.

@@ -103,6 +103,7 @@ ghost use Rattle.dh_lines.specs.Lines.{drop_redirect_in, redirect_change_in, pat
 ghost use Rattle.dh_lines.specs.Lines.{rule_in, add_rule_in, drop_rule_in, rule_change_in};
 ghost use Rattle.dh_lines.specs.Lines.{command_in, get_in, init_in, count_in, port_in, serve_in};
 ghost use Rattle.dh_lines.specs.Lines.{list_in, list_named, list_or_command as spec_list_or_command};
+ghost use Rattle.dh_lines.specs.Lines.{list_pages_in};
 ghost use Rattle.dh_lines.specs.Lines.{order_in, named_line, line_with, line_in, Says, Matches};
 
 fn value<'a>(matches: &ArgMatches<'a>, id: &str) -> Option<&'a str>
@@ -622,6 +623,16 @@ fn list(alloc: Global, list: ProjectList, matches: &ArgMatches<'_>) -> Result<Or
     Ok(Order::List(ListWord::OfProject { host, list }))
 }
 
+fn list_pages(alloc: Global, matches: &ArgMatches<'_>) -> Result<Order, LineFault>
+    ensures { Says (list_pages_in (rows_of (found_of matches.now))) result }
+{
+    let host = word(alloc, matches, "host")?;
+    let slug = word(alloc, matches, "slug")?;
+    let lang = word(alloc, matches, "lang")?;
+    let list = ProjectList::Pages { slug, lang };
+    Ok(Order::List(ListWord::OfProject { host, list }))
+}
+
 /// A line that lists what a project has, or a command.
 fn list_or_command(alloc: Global, name: &str, matches: &ArgMatches<'_>) -> Result<Order, LineFault>
     ensures { Says (spec_list_or_command (list_named name.now) name.now
@@ -646,6 +657,7 @@ fn read_order(alloc: Global, name: &str, matches: &ArgMatches<'_>) -> Result<Ord
         "migrate" => migrate(alloc, matches),
         "serve" => serve(matches),
         "list-projects" => Ok(Order::List(ListWord::Projects)),
+        "list-pages" => list_pages(alloc, matches),
         _ => list_or_command(alloc, name, matches),
     }
 }

@@ -16,7 +16,7 @@ use Rattle.dh_rules.specs.declared.rule.Rule.{Rule}
 use Rattle.dh_redirects.specs.declared.redirect.RedirectKind.{RedirectKind}
 use Rattle.dh_redirects.specs.declared.redirect.RedirectKind.TheVariants.{Page, Exact, CleanToHtml, HtmlToClean}
 use Rattle.dh_redirects.specs.declared.redirect.Redirect.{Redirect}
-use Rattle.dh_world.specs.World.{Text, Project, World}
+use Rattle.dh_world.specs.World.{Text, Project, World, lies_under}
 use Rattle.dh_world.specs.Reads.{host_named}
 use Rattle.dh_listings.specs.declared.words.ListWord.{ListWord}
 use Rattle.dh_listings.specs.declared.words.ListWord.TheVariants.{Projects, OfProject}
@@ -87,6 +87,10 @@ version_words v =
     kind_word v.kind ++ 9 ∷ v.name ++ 9 ∷ v.slug ++ 9 ∷ active_word v.active
     ++ 9 ∷ hidden_word v.hidden ++ 9 ∷ private_word v.private
 
+-- `PATH TYPE SIZE`: how many bytes its body has
+unfoldable pub page_words : Text → Text → ℕ → Text
+page_words path media size = path ++ 9 ∷ media ++ 9 ∷ decimal size
+
 -- `PLACE branch|tag PATTERN ACTION`
 unfoldable pub rule_words : ℕ → Rule → Text
 rule_words place r =
@@ -133,8 +137,8 @@ granted_slugs p pass = map (λ e. e.0.1) (filter (λ e. bytes_eq e.0.0 pass) (en
 abbrev pub main_language : Project → Text
 main_language p = unwrap_or (slice_get p.languages 0) []
 
--- what a list of a project shows: languages and defaults in their order, rules and redirects by place, and else by slug
--- or pass
+-- what a list of a project shows: languages and defaults in their order, rules and redirects by place, and else by slug,
+-- pass or path
 abbrev pub rows_listed : Project → ProjectList → List Text
 rows_listed p part.Langs = p.languages
 rows_listed p part.Versions = map (λ e. version_words e.1) (entries p.versions)
@@ -142,6 +146,9 @@ rows_listed p part.Defaults = p.defaults
 rows_listed p part.Rules = placed_rows rule_words 1 p.rules
 rows_listed p part.Redirects = placed_rows redirect_words 1 p.redirects
 rows_listed p part.Passes = map (λ e. pass_words e.0 e.1 (granted_slugs p e.0)) (entries p.passes)
+rows_listed p (part.Pages slug lang) =
+    map (λ e. page_words e.0.1.1 e.1.media (length e.1.body))
+    (filter (λ e. lies_under slug (Some lang) e.0) (entries p.pages))
 
 -- the projects by their hosts
 abbrev pub project_rows : World → List Text

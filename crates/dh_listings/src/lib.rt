@@ -5,7 +5,7 @@ mod rows;
 mod words;
 
 pub use rows::{
-    append_grant, append_lang, append_name, append_pass, append_project, append_redirect,
-    append_rule, append_version, listed_head,
+    append_grant, append_lang, append_name, append_page, append_pass, append_project,
+    append_redirect, append_rule, append_version, listed_head,
 };
 pub use words::{ListWord, ProjectList};

@@ -3,7 +3,7 @@
 ghost use Rattle.std.specs.Prelude.{◌≡◌, ◌∷◌, ◌++◌, IfOk, OnOk, string_bytes};
 ghost use Rattle.dh_listings.specs.ListingTexts as spec;
 
-use dh_paths::{HostName, Lang, RefName, Slug, Token, all_no_control, encode_path};
+use dh_paths::{HostName, Lang, PagePath, RefName, Slug, Text, Token, all_no_control, encode_path};
 use dh_redirects::{Redirect, RedirectKind};
 use dh_rules::{Action, Rule};
 use dh_versions::{Kind, Version};
@@ -141,6 +141,21 @@ pub fn append_version(out: &mut String, version: &Version) -> Result<(), AllocEr
         out,
         "\n{kind}\t{name}\t{slug}\t{active}\t{hidden}\t{private}"
     )
+}
+
+/// A page, by its media type and how many bytes its body has.
+#[tactic(auto, unfolding(crate::specs::ListingTexts::page_words))]
+pub fn append_page(
+    out: &mut String,
+    path: &PagePath,
+    media: &Text,
+    size: usize,
+) -> Result<(), AllocError>
+    ensures { OnOk result (string_bytes out.new
+        ≡ string_bytes out.old ++ 10 ∷ spec.page_words path.now media.now size) }
+{
+    let (path, media) = (path.as_str(), media.as_str());
+    write!(out, "\n{path}\t{media}\t{size}")
 }
 
 /// A text as a word of a row: one with a control byte, which may be a tab or an LF, stands behind a mark with percent

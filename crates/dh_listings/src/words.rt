@@ -11,7 +11,7 @@ pub enum ListWord {
     OfProject { host: Text, list: ProjectList },
 }
 
-/// A list of one project.
+/// A list of one project. Of pages under what is no version's slug, or no language, there are none.
 #[derive(Drop)]
 pub enum ProjectList {
     Langs,
@@ -21,4 +21,6 @@ pub enum ProjectList {
     Redirects,
     /// Passes, each with what it is granted.
     Passes,
+    /// The pages of a version in a language.
+    Pages { slug: Text, lang: Text },
 }

@@ -1,25 +1,30 @@
 -- Lines of a script.
 use Rattle.std.proofs.Common.{◌≡◌, ℕ, inl, inr, Option, Some, None, Result, Ok, Err, IfOk, OnErr}
-use Rattle.std.proofs.Common.{Bool, sym, subst}
+use Rattle.std.proofs.Common.{Bool, sym, subst, true}
 use Rattle.std.proofs.lemmas.Result.{IfOk-weaker}
 use Rattle.dh_paths.specs.declared.target.Target.{Target}
 use Rattle.dh_reply.specs.Replies.{reply_to}
 use Rattle.dh_wire.specs.declared.reply.Reply.{Reply}
 use Rattle.dh_faults.specs.declared.fault.Fault.{Fault}
+use Rattle.dh_faults.specs.declared.fault.Fault.TheVariants.{Store, Memory}
+use Rattle.sqlite_trees.specs.declared.store.Store.{Ghosts}
 use Rattle.dh_world.specs.World.{Text, World}
 use Rattle.dh_world.specs.Seen.{seen}
 use Rattle.dh_world.specs.Reads.{host_named, caller_named}
+use Rattle.dh_world.specs.declared.answer.Answer.{Answer}
 use Rattle.dh_world.specs.declared.outcome.Outcome.{Outcome}
+use Rattle.dh_world.specs.declared.refusal.Refusal.{Refusal}
 use Rattle.dh_lines.specs.declared.lines.Line.{Line}
 use Rattle.dh_world.specs.declared.outcome.Outcome.TheVariants as outcomes
 use Rattle.dh_script.specs.Outcomes.{text_of_outcome, is_refusal}
-use Rattle.dh_script.specs.Reasons.{reason_of, Explains}
+use Rattle.dh_desk.specs.Desk.{Blames, Standing}
+use Rattle.dh_script.specs.Reasons.{reason_of, reason_of_list, BlamesStore, Explains}
 use Rattle.dh_script.specs.declared.reasons.Reason.{Reason}
 use Rattle.dh_listings.specs.ListingTexts.{listing_text}
 use Rattle.dh_listings.specs.declared.words.ListWord.{ListWord}
 use Rattle.dh_lines.specs.declared.lines.Order.{Order}
 use Rattle.dh_lines.specs.declared.lines.Order.TheVariants as order
-use Rattle.dh_script.specs.Script.{outcome_of_read, Tells, GetsAt, DoesOver, MayDo, MayDoOrder, MayDoSingle, ListsAt, TellsList}
+use Rattle.dh_script.specs.Script.{outcome_of, outcome_of_read, Tells, GetsAt, DoesOver, MayDo, MayDoOrder, MayDoSingle, ListsAt, TellsList}
 
 -- what is told of a read's outcome, whose reply is the definition's
 pub got : {P E : Type 0} (text_in : P → Text) (refused_in : P → Bool) (w : World) (named host : Text) (shown pass : Option Text) (moment : ℕ) (t : Target) (reply : Result Reply Fault) (outcome : Outcome) (result : Result P E)
@@ -43,6 +48,39 @@ explained (outcomes.Applied answer) text refused reason is told why = subst (λ 
 explained (outcomes.Refused refusal) text refused reason is told why = subst (λ (r : Option Reason). Explains r text refused) (sym why) (is, told)
 explained (outcomes.Replied reply) text refused reason is told why = subst (λ (r : Option Reason). Explains r text refused) (sym why) told
 explained (outcomes.Failed fault) text refused reason is told why = subst (λ (r : Option Reason). Explains r text refused) (sym why) (is, told)
+
+-- of which store that failed what is told
+module _ {S : Type 0} (g : Ghosts S) (old new : Standing S) where
+  read_blames : (reply : Result Reply Fault) → Blames g old.tables new.tables reply (old.closed ≡ true) → BlamesStore g old new (reason_of (outcome_of_read reply))
+  read_blames (Ok reply) told = tt
+  read_blames (Err Memory) told = tt
+  read_blames (Err Store) told = told
+
+  list_blames : (listed : Result (Option Text) Fault) → Blames g old.tables new.tables listed (old.closed ≡ true) → BlamesStore g old new (reason_of_list listed)
+  list_blames (Ok (Some text)) told = tt
+  list_blames (Ok None) told = tt
+  list_blames (Err Memory) told = tt
+  list_blames (Err Store) told = told
+
+  act_blames : (answer : Result Answer Refusal) → BlamesStore g old new (reason_of (outcome_of answer))
+  act_blames (Ok answer) = tt
+  act_blames (Err refusal) = tt
+
+  module _ {P E : Type 0} (reason : P → Option Reason) (result : Result P E) where
+    by_reason : (why : Option Reason) → BlamesStore g old new why → IfOk result (λ p. reason p ≡ why) → IfOk result (λ p. BlamesStore g old new (reason p))
+    by_reason why blames = IfOk-weaker result _ _ (λ p is. subst (BlamesStore g old new) (sym is) blames)
+
+    pub blamed_read : (reply : Result Reply Fault) (outcome : Outcome) → outcome ≡ outcome_of_read reply → Blames g old.tables new.tables reply (old.closed ≡ true)
+        → IfOk result (λ p. reason p ≡ reason_of outcome) → IfOk result (λ p. BlamesStore g old new (reason p))
+    blamed_read reply outcome is told = by_reason (reason_of outcome) (subst (λ o. BlamesStore g old new (reason_of o)) (sym is) (read_blames reply told))
+
+    pub blamed_list : (listed : Result (Option Text) Fault) → Blames g old.tables new.tables listed (old.closed ≡ true)
+        → IfOk result (λ p. reason p ≡ reason_of_list listed) → IfOk result (λ p. BlamesStore g old new (reason p))
+    blamed_list listed told = by_reason (reason_of_list listed) (list_blames listed told)
+
+    pub blamed_act : (answer : Result Answer Refusal) (outcome : Outcome) → outcome ≡ outcome_of answer
+        → IfOk result (λ p. reason p ≡ reason_of outcome) → IfOk result (λ p. BlamesStore g old new (reason p))
+    blamed_act answer outcome is = by_reason (reason_of outcome) (subst (λ o. BlamesStore g old new (reason_of o)) (sym is) (act_blames answer))
 
 -- a line that names no store may do what its order may
 pub may_line : (moment : ℕ) (before after : World) (line : Line) → line.store ≡ None → MayDoOrder moment before line.order after → MayDo moment before (Some line) after

@@ -1,8 +1,14 @@
 -- Why what a line asks for was not done.
-use Rattle.std.specs.Prelude.{◌≡◌, Bool, true, false, Option, Some, None, codes}
+use Rattle.std.specs.Prelude.{◌≡◌, ◌⊎◌, Bool, true, false, Option, Some, None, Result, Ok, Err, codes, ⊤}
+use Rattle.sqlite_trees.specs.declared.store.Store.{Ghosts}
+use Rattle.dh_rows.specs.Calls.{IsBlamed}
+use Rattle.dh_faults.specs.declared.fault.Fault.{Fault}
+use Rattle.dh_faults.specs.declared.fault.Fault.TheVariants.{Store}
+use Rattle.dh_desk.specs.Desk.{HasCleanDisk, Standing, state}
 use Rattle.dh_world.specs.World.{Text}
 use Rattle.dh_world.specs.declared.outcome.Outcome.{Outcome}
 use Rattle.dh_world.specs.declared.outcome.Outcome.TheVariants as outcome
+use Rattle.dh_world.specs.declared.refusal.Refusal.TheVariants.{NoProject}
 use Rattle.dh_script.specs.Outcomes.{text_of_refusal, text_of_fault}
 use Rattle.dh_script.specs.declared.reasons.Reason.{Reason}
 use Rattle.dh_script.specs.declared.reasons.Reason.TheVariants.{Refused, Failed, BadTarget, Usage}
@@ -13,6 +19,12 @@ reason_of (outcome.Applied answer) = None
 reason_of (outcome.Refused refusal) = Some (Refused refusal)
 reason_of (outcome.Replied reply) = None
 reason_of (outcome.Failed fault) = Some (Failed fault)
+
+-- why a list that is answered so is none
+abbrev pub reason_of_list : Result (Option Text) Fault → Option Reason
+reason_of_list (Ok (Some listed)) = None
+reason_of_list (Ok None) = Some (Refused NoProject)
+reason_of_list (Err fault) = Some (Failed fault)
 
 -- what a line prints that was refused for this
 abbrev pub text_of_reason : Reason → Text
@@ -25,3 +37,10 @@ text_of_reason Usage = codes "usage"
 abbrev pub Explains : Option Reason → Text → Bool → Type 0
 Explains None text refused = refused ≡ false
 Explains (Some reason) text refused = (text ≡ text_of_reason reason) × (refused ≡ true)
+
+-- A read or a list is told to have failed for the store only where the store counted a fault meanwhile, or was shut
+-- before, or a fault had closed the desk.
+abbrev pub BlamesStore : {S : Type 0} → Ghosts S → Standing S → Standing S → Option Reason → Type 0
+BlamesStore g old new (Some (Failed Store)) =
+    HasCleanDisk (state g new.tables) → IsBlamed g old.tables new.tables ⊎ (old.closed ≡ true)
+BlamesStore g old new reason = ⊤

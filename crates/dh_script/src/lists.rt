@@ -2,7 +2,7 @@
 
 ghost use Rattle.std.specs.Prelude.{◌≡◌, string_bytes, false, None, IfOk};
 ghost use Rattle.dh_desk.specs.Desk.{Moves};
-ghost use Rattle.dh_script.specs.Reasons.{Explains};
+ghost use Rattle.dh_script.specs.Reasons.{BlamesStore, Explains, reason_of_list};
 ghost use Rattle.dh_script.specs.Script.{ListsAt, TellsList};
 
 use crate::orders::{Printed, told};
@@ -31,6 +31,7 @@ fn listed(alloc: Global, text: &Text) -> Result<Printed, AllocError>
 fn told_list(alloc: Global, answer: &Found<Text>) -> Result<Printed, AllocError>
     ensures tells { IfOk result (λ p. TellsList answer.now (string_bytes p.text) p.refused) }
     ensures explains { IfOk result (λ p. Explains p.reason (string_bytes p.text) p.refused) }
+    ensures reason { IfOk result (λ p. p.reason ≡ reason_of_list answer.now) }
 {
     match answer {
         Ok(Some(text)) => listed(alloc, text),
@@ -49,6 +50,7 @@ pub fn list<S: Alter>(
         (λ before after. (after ≡ before) × IfOk result
         (λ p. ListsAt before word.now (string_bytes p.text) p.refused)) }
     ensures explains { IfOk result (λ p. Explains p.reason (string_bytes p.text) p.refused) }
+    ensures told { IfOk result (λ p. BlamesStore S.Store desk.old desk.new p.reason) }
 {
     let answer = desk.list(alloc, word);
     told_list(alloc, &answer)

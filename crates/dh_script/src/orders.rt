@@ -4,7 +4,7 @@ ghost use Rattle.std.specs.Prelude.{◌≡◌, true, Some, string_bytes, IfOk, O
 ghost use Rattle.std.specs.Option.{is_none};
 ghost use Rattle.dh_paths.specs.Targets.{target_of};
 ghost use Rattle.dh_desk.specs.Desk.{Moves};
-ghost use Rattle.dh_script.specs.Reasons.{Explains};
+ghost use Rattle.dh_script.specs.Reasons.{BlamesStore, Explains, reason_of as spec_reason};
 ghost use Rattle.dh_script.specs.Script.{Tells, GetsAt};
 ghost use Rattle.dh_script.specs.Script.{IsUsage, Performs, MayDoOrder};
 ghost use Rattle.dh_script.specs.Script.{PerformsSingle, MayDoSingle};
@@ -35,6 +35,7 @@ pub struct Printed {
 pub(crate) fn told(alloc: Global, outcome: &Outcome) -> Result<Printed, AllocError>
     ensures tells { IfOk result (λ p. Tells outcome.now (string_bytes p.text) p.refused) }
     ensures explains { IfOk result (λ p. Explains p.reason (string_bytes p.text) p.refused) }
+    ensures reason { IfOk result (λ p. p.reason ≡ spec_reason outcome.now) }
 {
     let text = outcome_text(alloc, outcome)?;
     let refused = is_refusal(outcome);
@@ -63,6 +64,7 @@ fn refusal(alloc: Global, text: &str, reason: Reason) -> Result<Printed, AllocEr
 pub fn usage(alloc: Global) -> Result<Printed, AllocError>
     ensures tells { IfOk result (λ p. IsUsage (string_bytes p.text) p.refused) }
     ensures explains { IfOk result (λ p. Explains p.reason (string_bytes p.text) p.refused) }
+    ensures reason { IfOk result (λ p. p.reason ≡ Some Reason.Usage) }
 {
     refusal(alloc, "usage", Reason::Usage)
 }
@@ -79,6 +81,7 @@ fn do_read<S: Alter>(
         (λ before after. (after ≡ before) × IfOk result
         (λ p. GetsAt before host.now pass.now moment (Some target) (string_bytes p.text) p.refused)) }
     ensures explains { IfOk result (λ p. Explains p.reason (string_bytes p.text) p.refused) }
+    ensures told { IfOk result (λ p. BlamesStore S.Store desk.old desk.new p.reason) }
 {
     let Target {
         host: _,
@@ -103,6 +106,7 @@ fn do_get<S: Alter>(
         (λ p. GetsAt before host.now pass.now moment (target_of target.now)
         (string_bytes p.text) p.refused)) }
     ensures explains { IfOk result (λ p. Explains p.reason (string_bytes p.text) p.refused) }
+    ensures told { IfOk result (λ p. BlamesStore S.Store desk.old desk.new p.reason) }
 {
     match Target::read(alloc, target.as_str().as_bytes()) {
         Ok(target) => do_read(alloc, desk, host, pass, moment, target),
@@ -136,6 +140,7 @@ pub fn perform<S: Alter>(
     ensures may { Moves S.Store desk.old desk.new
         (λ before after. OnErr result (MayDoOrder now before order.now after)) }
     ensures explains { IfOk result (λ p. Explains p.reason (string_bytes p.text) p.refused) }
+    ensures told { IfOk result (λ p. BlamesStore S.Store desk.old desk.new p.reason) }
 {
     match order {
         Order::Act(command) => told(alloc, &commanded(desk.apply(alloc, command))),
@@ -168,6 +173,7 @@ pub fn perform_single<S: Alter>(
     ensures may { Moves S.Store desk.old desk.new
         (λ before after. OnErr result (MayDoSingle now before order.now after)) }
     ensures explains { IfOk result (λ p. Explains p.reason (string_bytes p.text) p.refused) }
+    ensures told { IfOk result (λ p. BlamesStore S.Store desk.old desk.new p.reason) }
 {
     match order {
         Order::List(word) => list(alloc, desk, word),

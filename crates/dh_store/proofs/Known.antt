@@ -1,5 +1,5 @@
 -- What a read finds.
-use Rattle.std.proofs.Common.{◌≡◌, ℕ, Bool, Bor, List, [], ◌∷◌, map, Option, None, Some, Result, Ok, Err, IfOk, slice_get, length, refl, sym, subst, ap, ◌∙◌}
+use Rattle.std.proofs.Common.{◌≡◌, Bor, List, [], ◌∷◌, map, Option, None, Some, Result, Ok, Err, IfOk, slice_get, length, refl, sym, subst, ap, ◌∙◌}
 use Rattle.std.specs.Option.{option_copied}
 use Rattle.std.specs.Prelude.{is_some}
 use Rattle.std.proofs.lemmas.List.{length-map}

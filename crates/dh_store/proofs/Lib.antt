@@ -7,6 +7,7 @@ pub mod Statements
 pub mod GrantStatements
 pub mod WholeStatements
 pub mod Asking
+pub mod Idle
 pub mod Finding
 pub mod Known
 pub mod PickLemmas

@@ -89,6 +89,16 @@ page_is = (refl, refl)
 pub page_asked : (s : State) (host slug lang path : List ℕ) → AsksFor pages.encode IsPage (λ l. l.pages) (is_page host slug lang path) s page_text (Text host ∷ Text slug ∷ Text lang ∷ Text path ∷ [])
 page_asked s host slug lang path = asks of_pages s page_text _ _ _ _ page_is refl (is_page host slug lang path) (λ n x. rw (equal_text x.host host, equal_text x.slug slug, equal_text x.lang lang, equal_text x.path path) (four (bytes_eq x.host host) (bytes_eq x.slug slug) (bytes_eq x.lang lang) (bytes_eq x.path path))) (λ tree n x. refl) (λ x y. refl)
 
+abbrev pub pages_in_text : List ℕ
+pages_in_text = codes "SELECT host, slug, lang, path, media, body FROM page WHERE host = ?1 AND slug = ?2 AND lang = ?3 ORDER BY host, slug, lang, path"
+
+pages_in_is : (select_of page_table pages_in_text ≡ Some (0 ∷ 1 ∷ 2 ∷ 3 ∷ 4 ∷ 5 ∷ [], (0, 0) ∷ (1, 1) ∷ (2, 2) ∷ [], 0 ∷ 1 ∷ 2 ∷ 3 ∷ [])) × (parameters_in pages_in_text ≡ Some 3)
+unfolding everything
+pages_in_is = (refl, refl)
+
+pub pages_in_asked : (s : State) (host slug lang : List ℕ) → AsksFor pages.encode IsPage (λ l. l.pages) (is_page_in host slug lang) s pages_in_text (Text host ∷ Text slug ∷ Text lang ∷ [])
+pages_in_asked s host slug lang = asks of_pages s pages_in_text _ _ _ _ pages_in_is refl (is_page_in host slug lang) (λ n x. rw (equal_text x.host host, equal_text x.slug slug, equal_text x.lang lang) (three (bytes_eq x.host host) (bytes_eq x.slug slug) (bytes_eq x.lang lang))) (λ tree n x. refl) (λ x y. refl)
+
 abbrev pub used_text : List ℕ
 used_text = codes "SELECT host, slug, op, retry, answer FROM used WHERE host = ?1 AND slug = ?2 AND op = ?3 AND retry = ?4 ORDER BY host, slug, op, retry"
 

@@ -4,8 +4,8 @@ ghost use Rattle.std.specs.Prelude.{◌≡◌, ◌<◌, ◌^◌, true, false, no
 ghost use Rattle.std.specs.FinMap.{empty};
 ghost use Rattle.sqlite.specs.Held.{state};
 ghost use Rattle.sqlite.specs.Steps.{over_memory};
-ghost use Rattle.dh_rows.specs.Calls.{AreOurs, IsHonest, OnlyBegins, OnlyCommits, OnlyUndoes, Leaves, LeavesCommitted, seen, committed};
-ghost use Rattle.dh_schema.specs.Calling.{IsSettled, KeepsSchema};
+ghost use Rattle.dh_rows.specs.Calls.{AreOurs, IsHonest, OnlyBegins, OnlyCommits, OnlyUndoes, Leaves, LeavesCommitted, LeavesNoMore, seen, committed};
+ghost use Rattle.dh_schema.specs.Calling.{Asks, IsSettled, KeepsSchema};
 ghost use Rattle.dh_schema.specs.Making.{no_lists};
 ghost use Rattle.dh_schema.specs.Tables.{Holds, lists_of};
 ghost use Rattle.dh_records.specs.Lists as spec;
@@ -24,7 +24,7 @@ mod versions;
 mod whole;
 
 use dh_lookup::Fault;
-use dh_rows::{begin, commit, rollback};
+use dh_rows::{begin, commit, rollback, run};
 use dh_schema::make_tables;
 pub use listing::Listed;
 use sqlite::{Alter, Connection, MemStore};
@@ -82,6 +82,14 @@ impl<S: Alter> Tables<S> {
         rollback(&mut self.conn)
     }
 
+    /// Asks the store whether it still answers, by a text with no statement, which does nothing. A transaction stays open. Once one was answered, a later one takes no memory.
+    pub fn ask(&mut self) -> Result<(), Fault>
+        ensures asks { Asks S.Store self.old self.new result }
+        ensures quiet { LeavesNoMore S.Store self.old self.new }
+    {
+        run(&mut self.conn, "", &[])
+    }
+
     /// Whether no transaction is open.
     pub fn is_settled(&self) -> bool
         ensures value { result ≡ not self.now.in_transaction }
@@ -123,7 +131,10 @@ impl Tables<MemStore> {
     {
         let mut conn = Connection::open_in_memory(alloc)?;
         make_tables(&mut conn)?;
-        Ok(Tables { conn })
+        let mut tables = Tables { conn };
+        // A later one takes no memory.
+        tables.ask()?;
+        Ok(tables)
     }
 }
 

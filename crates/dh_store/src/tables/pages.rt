@@ -1,7 +1,7 @@
 //! The calls on pages.
 
-ghost use Rattle.std.specs.Prelude.{option_map, Some, None, find};
-ghost use Rattle.dh_schema.specs.Calling.{Reads, Writes};
+ghost use Rattle.std.specs.Prelude.{option_map, Some, None, filter, find};
+ghost use Rattle.dh_schema.specs.Calling.{Reads, ReadsAll, Writes};
 ghost use Rattle.dh_records.specs.Changes as change;
 ghost use Rattle.dh_records.specs.Lists as spec;
 
@@ -34,6 +34,24 @@ impl<S: Alter> Tables<S> {
             Ok(None) => Ok(None),
             Err(fault) => Err(fault),
         }
+    }
+
+    /// The pages of the version whose slug is this text, in the language that is this text, by path.
+    pub fn pages_in(
+        &mut self,
+        alloc: Global,
+        host: &HostName,
+        slug: &str,
+        lang: &str,
+    ) -> Result<Vec<PageRow>, Fault>
+        ensures { ReadsAll S.Store self.old self.new result
+            (λ l. filter (spec.is_page_in host.now slug.now lang.now) l.pages) }
+    {
+        self.all_records(
+            alloc,
+            "SELECT host, slug, lang, path, media, body FROM page WHERE host = ?1 AND slug = ?2 AND lang = ?3 ORDER BY host, slug, lang, path",
+            params![host.as_str(), slug, lang],
+        )
     }
 
     /// Adds a page, or puts it in place of the one with its path.

@@ -26,4 +26,7 @@ returns c = record {
   rules = list_line (codes "list-rules") Rules (λ host. (refl, λ file. refl));
   redirects = list_line (codes "list-redirects") Redirects (λ host. (refl, λ file. refl));
   passes = list_line (codes "list-passes") Passes (λ host. (refl, λ file. refl));
+  pages = λ host slug lang plain.
+      form_line (codes "list-pages") (chosen host ∷ chosen slug ∷ chosen lang ∷ []) _ plain
+      (refl, λ file. refl);
 }

@@ -1,6 +1,6 @@
 use Rattle.std.proofs.Common.{string_bytes}
 use Rattle.dh_desk.specs.Desk.{world}
-use Rattle.dh_script.proofs.ScriptLemmas.{list_told}
+use Rattle.dh_script.proofs.ScriptLemmas.{blamed_list, list_told}
 use Rattle.dh_script.proofs.lists.list.Goals as goal
 
 pub returns : goal.returns
@@ -14,4 +14,5 @@ returns g c = record {
     lasts = c.list-answer.ensures.lasts;
   };
   explains = c.told_list.ensures.explains;
+  told = blamed_list g.S.Store c.args.desk.now c.list-answer.new.self (λ p. p.reason) c.told_list.result c.list-answer.result c.list-answer.ensures.told c.told_list.ensures.reason;
 }

@@ -1,6 +1,6 @@
 use Rattle.std.proofs.Common.{string_bytes}
 use Rattle.dh_desk.specs.Desk.{world}
-use Rattle.dh_script.proofs.ScriptLemmas.{got}
+use Rattle.dh_script.proofs.ScriptLemmas.{blamed_read, got}
 use Rattle.dh_script.proofs.orders.do_read.Goals as goal
 
 pub returns : goal.returns
@@ -14,4 +14,6 @@ returns g c = record {
     lasts = c.read.ensures.lasts;
   };
   explains = c.told.ensures.explains;
+  told = blamed_read g.S.Store c.args.desk.now c.read.new.self (λ p. p.reason) c.told.result c.read.result c.read_out-outcome.result c.read_out-outcome.ensures
+      c.read.ensures.told c.told.ensures.reason;
 }
