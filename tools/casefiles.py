@@ -139,6 +139,7 @@ class Lines:
             self.begin([mark + rest + b"\n"], False)
         elif mark == b"! ":
             self.err += b"".join(b"docs_host: line %d: %s\n" % (it, rest) for it in self.numbers())
+            return self.prints
         elif mark == b"!!":
             self.err += rest.removeprefix(b" ") + b"\n"
         elif mark == b"= ":
