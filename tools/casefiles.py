@@ -111,7 +111,7 @@ class Lines:
             raise Wrong(f"{path.name}: its last line has no end")
         for number, line in enumerate(lines, 1):
             try:
-                is_read = self.take(line[:2], line[2:])
+                is_read = self.take(line)
             except ValueError:
                 is_read = False
             if not is_read:
@@ -121,8 +121,9 @@ class Lines:
         self.data += b"".join(texts)
         self.count, self.prints = len(texts), prints
 
-    def take(self, mark, rest):
+    def take(self, line):
         """Reads a line; whether it can be read. One with no mark is printed by the line above."""
+        mark, rest = line[:2].ljust(2), line[2:]
         if mark == b"$ ":
             self.begin([rest + b"\n"], True)
         elif mark == b"& ":
@@ -135,8 +136,8 @@ class Lines:
                 numbers = range(int(numbered[1]), int(numbered[2]) + 1)
                 self.begin([numbered[3].replace(b"%", b"%d" % it) + b"\n" for it in numbers], True)
             return bool(numbered)
-        elif mark[:1] == b"#" or not mark:
-            self.begin([mark + rest + b"\n"], False)
+        elif line.startswith(b"#") or not line:
+            self.begin([line + b"\n"], False)
         elif mark == b"! ":
             self.err += b"".join(b"docs_host: line %d: %s\n" % (it, rest) for it in self.numbers())
             return self.prints
@@ -147,7 +148,7 @@ class Lines:
         elif mark == b"@ ":
             self.ports.append(rest.decode())
         else:
-            self.out += ((rest if mark == b"> " else mark + rest) + b"\n") * self.count
+            self.out += ((rest if mark == b"> " else line) + b"\n") * self.count
             return self.prints
         return True
 
@@ -160,6 +161,42 @@ class Lines:
         input_fails, room = read_ports(self.name, self.ports)
         out = self.out if room is None else self.out[:room]
         return Case(WORDS[".lines"], self.data, input_fails, room, out, self.err, self.status)
+
+
+# ---- commands, one after another
+
+
+class Run:
+    """A line of a case of commands: a run of the program ('$'), a request over a file ('?'), or something done with a file ('@')."""
+
+    def __init__(self, number, mark, text):
+        self.number, self.mark, self.text = number, mark, text
+        # what a run gets on standard input, what it writes on both outputs, and its exit status
+        self.lines = {"<": [], ">": [], "!": [], "=": ["0"]}
+
+    def bytes_of(self, mark):
+        return "".join(f"{line}\n" for line in self.lines[mark]).encode()
+
+    @property
+    def status(self):
+        return int(self.lines["="][-1])
+
+
+def read_commands(path):
+    """The lines of a case NAME.commands, each run with what stands below it."""
+    runs = []
+    for number, line in enumerate(path.read_text().splitlines(), 1):
+        mark, rest = line[:2].ljust(2), line[2:]
+        if mark in ("$ ", "? ", "@ "):
+            runs.append(Run(number, mark[0], rest))
+        elif line and mark != "# ":
+            if not runs or runs[-1].mark != "$":
+                raise Wrong(f"{path.name}:{number}: {line}")
+            if mark in ("< ", "> ", "! ", "= "):
+                runs[-1].lines[mark[0]].append(rest)
+            else:
+                runs[-1].lines[">"].append(line)
+    return runs
 
 
 if __name__ == "__main__":

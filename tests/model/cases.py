@@ -65,33 +65,19 @@ def judge_table(path):
     return [fault for row in TOOL.read_table(path) for fault in judge_row(requests.sample, row)]
 
 
-def read_commands(path):
-    """The runs of a case of commands: the number of its line, its mark, its words, its input, what it prints."""
-    runs = []
-    for number, line in enumerate(path.read_text().splitlines(), 1):
-        mark, rest = line[:2], line[2:]
-        if mark in ("$ ", "? "):
-            runs.append((number, mark, rest, [], []))
-        elif mark == "< ":
-            runs[-1][3].append(rest)
-        elif mark in ("! ", "@ "):
-            raise Left("files and faults")
-        elif line and mark not in ("# ", "= "):
-            runs[-1][4].append(rest if mark == "> " else line)
-    return runs
-
-
 def judge_commands(path):
     """What is wrong with the model's answers to commands and requests over files, one after another."""
-    files, faults = {}, []
-    for number, mark, rest, input_lines, wanted in read_commands(path):
-        if mark == "$ ":
-            written = run_command(files, shlex.split(rest), "".join(f"{line}\n" for line in input_lines))
-            found = TOOL.difference("output", "\n".join(wanted).encode(), written.rstrip(b"\n"))
+    files, faults, runs = {}, [], TOOL.read_commands(path)
+    if any(run.mark == "@" or run.lines["!"] for run in runs):
+        raise Left("files and faults")
+    for run in runs:
+        if run.mark == "$":
+            written = run_command(files, shlex.split(run.text), run.bytes_of("<"))
+            found = TOOL.difference("output", run.bytes_of(">"), written)
         else:
-            name, _, request = rest.partition(" ")
-            found = judge_row(lambda: files[name], TOOL.read_row(path, number, request, {}))
-        faults += [f"{path.name}:{number}: {fault}" for fault in found]
+            name, _, request = run.text.partition(" ")
+            found = judge_row(lambda: files[name], TOOL.read_row(path, run.number, request, {}))
+        faults += [f"{path.name}:{run.number}: {fault}" for fault in found]
     return faults
 
 
@@ -103,7 +89,7 @@ def run_command(files, words, script):
     if words[-2:-1] != ["--store"]:
         raise Left("words of the program")
     if words[0] == "script":
-        return lines.run_script(files[words[-1]], script.encode())[0]
+        return lines.run_script(files[words[-1]], script)[0]
     return lines.line_text(files[words[-1]], [word.encode() for word in words[:-2]], 0, True) + b"\n"
 
 
