@@ -11,10 +11,8 @@ from typing import NamedTuple
 from common import (
     MOST_SHOWN,
     NO_MEMORY,
-    ROOT,
     SCRIPTS,
     STORE,
-    STORE_FAILED,
     Broken,
     Ended,
     Script,
@@ -39,7 +37,8 @@ NO_MORE = b"\r\n\r\n503 Service Unavailable\n"
 # What stands in the files that single runs begin from.
 PROJECT = (SCRIPTS / "versions.script").read_bytes()
 
-REQUESTS = ROOT / "tests" / "requests"
+# The script that the gate runs with two refusals in a row.
+TWICE = SCRIPTS / "versions.script"
 
 
 class Copy(NamedTuple):
@@ -99,7 +98,7 @@ def is_told(err, reference):
 
 
 def judge_script(script, ended, world):
-    """What came of a copy of a script: 'passed', 'gave up', 'ended', 'shut'; or what is wrong, behind a '-'."""
+    """What came of a copy of a script: 'passed', 'gave up', 'ended'; or what is wrong, behind a '-'."""
     whole = script.whole[0]
     tells, rest = is_told(ended.err, whole)
     if ended.status == 3 and ENDED.fullmatch(rest):
@@ -117,13 +116,6 @@ def judge_script(script, ended, world):
     return "gave up" if short else "passed"
 
 
-def is_shut(script, ended):
-    """Whether the desk was closed at a line, as the tables could not be asked: all from there on tell a fault of the store."""
-    said = ended.out.splitlines()
-    good = next((at for at, line in enumerate(said) if line in STORE_FAILED), len(said))
-    return ended.status in (0, 3) and len(said) == len(script.lines) and all(line in STORE_FAILED for line in said[good:])
-
-
 def sweep_script(part, path, base, more):
     script, worlds, counts, verdicts = Script(part, path, base), Worlds(part), collections.Counter(), {}
     with new_folder() as folder:
@@ -135,8 +127,6 @@ def sweep_script(part, path, base, more):
             key = ended, repr(world)
             if key not in verdicts:
                 verdicts[key] = judge_script(script, ended, world)
-                if verdicts[key].startswith("-") and more and is_shut(script, ended):
-                    verdicts[key] = "shut"
             note(part, f"{script.name}, call {number}", verdicts[key], ended, counts)
     return counts
 
@@ -245,9 +235,10 @@ def memory_of(part, path):
 
 
 def memory(part):
-    """Scripts over memory, and requests over a file; with --all scripts over a file, too, and files that are made, opened and migrated."""
+    """Scripts over memory, one with two refusals in a row, and requests over a file; with --all scripts over a file, too, and files that are made, opened and migrated."""
     for path in sorted(SCRIPTS.glob("*.script")):
         show(f"{path.stem}, over memory", sweep_script(part, path, None, {}))
+    show(f"{TWICE.stem}, and again", sweep_script(part, TWICE, None, {"COPIES_MORE": "1"}))
     with new_folder() as made:
         base = make_base(part, made, PROJECT)
         for name, data in (

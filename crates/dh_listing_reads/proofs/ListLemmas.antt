@@ -1,30 +1,32 @@
 -- Lists of sound records are those of the world that they spell.
-use Rattle.std.proofs.Common.{IfOk, Result, Ok, Err, ◌≡◌, ℕ, ◌+◌, Bool, true, false, cond, List, [], ◌∷◌, map, filter, length, Option, Some, None, T, refl, sym, ap, subst, ◌∙◌, true≢false}
+use Rattle.std.proofs.Common.{IfOk, Result, Ok, Err, ◌≡◌, ℕ, ◌+◌, Bool, true, false, ◌&&◌, cond, List, [], ◌∷◌, map, filter, length, Option, Some, None, T, refl, sym, ap, subst, ◌∙◌, true≢false}
 use Rattle.std.specs.Prelude.{option_map, is_some, find, unwrap_or}
 use Rattle.std.specs.List.{AllByRecursion, range_with_len}
 use Rattle.std.specs.Str.{bytes_eq}
 use Rattle.std.specs.FinMap.{entries, get, is_sorted}
 use Rattle.std.proofs.lemmas.Map.Lookups.{exact_bytes}
 use Rattle.std.proofs.lemmas.Slice.Eq.{bytes_eq-Decides}
-use Rattle.dh_world.specs.World.{Text, Project, text_cmp, held_cmp}
-use Rattle.dh_world.proofs.MapLemmas.{text_total, held_total, held_exact}
+use Rattle.dh_world.specs.World.{Text, PageKey, Project, text_cmp, page_cmp, held_cmp, lies_under}
+use Rattle.dh_world.proofs.MapLemmas.{text_total, page_total, page_exact, held_total, held_exact}
 use Rattle.dh_records.specs.Codings as coding
 use Rattle.dh_records.specs.Constraints.{AreSound, AreLanguages, AreRedirects, AreRules, has_project}
-use Rattle.dh_records.specs.Lists.{Lists, project_of, world_of, is_project, is_version_of, is_pass_of, is_rule_of, is_redirect_of, is_lang_of, is_pick_of}
+use Rattle.dh_records.specs.Lists.{Lists, project_of, world_of, is_project, is_version_of, is_page_in, is_pass_of, is_rule_of, is_redirect_of, is_lang_of, is_pick_of}
 use Rattle.dh_records.specs.declared.records.ProjectRow.{ProjectRow}
+use Rattle.dh_records.specs.declared.records.PageRow.{PageRow}
 use Rattle.dh_records.specs.declared.records.PassRow.{PassRow}
 use Rattle.dh_records.specs.declared.records.HeldRow.{HeldRow}
 use Rattle.dh_records.proofs.ConstraintLemmas.{of_project}
+use Rattle.dh_records.proofs.KeyLemmas.{page_place}
 use Rattle.dh_records.proofs.RecordLemmas.{found_passes}
 use Rattle.dh_records.proofs.SeenLemmas.{get_project}
 use Rattle.dh_records.proofs.SlugOrder.{host_rises}
 use Rattle.dh_view.specs.View.{row_of}
-use Rattle.dh_listings.specs.ListingTexts.{project_words, version_words, rule_words, redirect_words, pass_words, placed_rows, granted_slugs, main_language, rows_listed, project_rows, listed_text}
+use Rattle.dh_listings.specs.ListingTexts.{project_words, version_words, page_words, rule_words, redirect_words, pass_words, placed_rows, granted_slugs, main_language, rows_listed, project_rows, listed_text}
 use Rattle.dh_listings.specs.declared.words.ProjectList.{ProjectList}
-use Rattle.dh_listings.specs.declared.words.ProjectList.TheVariants.{Langs, Versions, Defaults, Rules, Redirects, Passes}
+use Rattle.dh_listings.specs.declared.words.ProjectList.TheVariants.{Langs, Versions, Defaults, Rules, Redirects, Passes, Pages}
 use Rattle.dh_listing_reads.specs.Listings.{ListsProject, ListsUnder}
 use Rattle.dh_listing_reads.specs.RecordRows as rows
-use Rattle.dh_listing_reads.proofs.OrderedRows.{entries_of, rising, hosts_rise, passes_rise, grants_rise}
+use Rattle.dh_listing_reads.proofs.OrderedRows.{entries_of, rising, hosts_rise, pages_rise, passes_rise, grants_rise}
 
 -- ---- lists
 
@@ -75,6 +77,35 @@ slugs_are pass (x ∷ xs) = go (bytes_eq x.pass pass) (slugs_are pass xs)
     go true more = ap (λ l. x.slug ∷ l) more
     go false more = more
 
+-- records of a host that lie under a version and a language
+module _ {V : Type 0} (value : PageRow → V) (row : PageKey × V → Text) (host slug lang : Text) where
+  abbrev page_entry : PageRow → PageKey × V
+  page_entry x = (page_place x, value x)
+
+  abbrev lies : PageKey × V → Bool
+  lies e = lies_under slug (Some lang) e.0
+
+  -- the entries that lie there, of a host's records
+  abbrev lying : List PageRow → List (PageKey × V)
+  lying own = filter lies (map page_entry own)
+
+  abbrev rows_of : List PageRow → List Text
+  rows_of found = map (λ x. row (page_entry x)) found
+
+  pages_under : (xs : List PageRow) → map row (lying (filter (λ x. bytes_eq x.host host) xs)) ≡ rows_of (filter (is_page_in host slug lang) xs)
+  pages_under [] = refl
+  pages_under (x ∷ xs) = by_host (filter (λ x. bytes_eq x.host host) xs) (filter (is_page_in host slug lang) xs) (bytes_eq x.host host) (pages_under xs)
+    where
+      by_place : (own found : List PageRow) (b : Bool) → map row (lying own) ≡ rows_of found
+          → map row (cond b (page_entry x ∷ lying own) (lying own)) ≡ rows_of (cond b (x ∷ found) found)
+      by_place own found true more = ap (λ rows. row (page_entry x) ∷ rows) more
+      by_place own found false more = more
+
+      by_host : (own found : List PageRow) (b : Bool) → map row (lying own) ≡ rows_of found
+          → map row (lying (cond b (x ∷ own) own)) ≡ rows_of (cond (b && bytes_eq x.slug slug && bytes_eq x.lang lang) (x ∷ found) found)
+      by_host own found true more = by_place own found (bytes_eq x.slug slug && bytes_eq x.lang lang) more
+      by_host own found false more = more
+
 -- ---- the lists of a project
 
 module _ (l : Lists) (host : Text) (sound : AreSound l) where
@@ -92,6 +123,13 @@ module _ (l : Lists) (host : Text) (sound : AreSound l) where
   versions_are =
       ap (map (λ e. version_words e.1)) (entries_of text_total exact_bytes _ (subst T (sym (host_rises host l.versions sound.order.versions)) tt))
       ∙ mapped (λ r. (r.version.slug, r.version)) (λ e. version_words e.1) _
+
+  pub pages_are : (slug lang : Text) → rows_listed p (Pages slug lang) ≡ map rows.of_page (filter (is_page_in host slug lang) l.pages)
+  unfolding project_of
+  pages_are slug lang =
+      ap (λ es. map (λ e. page_words e.0.1.1 e.1.media (length e.1.body)) (filter (λ e. lies_under slug (Some lang) e.0) es))
+      (entries_of page_total page_exact _ (rising page_cmp coding.pages.key page_place (λ x. x.page) (λ x. bytes_eq x.host host) (pages_rise host) l.pages sound.order.pages))
+      ∙ pages_under (λ x. x.page) (λ e. page_words e.0.1.1 e.1.media (length e.1.body)) host slug lang l.pages
 
   passes_in : entries p.passes ≡ map (λ x. (x.pass, x.until)) passes
   unfolding project_of
@@ -168,6 +206,7 @@ rows_same l r Defaults = refl
 rows_same l r Rules = refl
 rows_same l r Redirects = refl
 rows_same l r Passes = refl
+rows_same l r (Pages slug lang) = refl
 
 module _ (l : Lists) (host : Text) (list : ProjectList) where
   abbrev told : Project → Text

@@ -10,13 +10,15 @@ use Rattle.std.proofs.lemmas.Slice.Eq.{bytes_eq-Decides}
 use Rattle.sqlite_value.specs.Order.{Row}
 use Rattle.sqlite_value.proofs.OrderLemmas.{value_cmp-Text}
 use Rattle.dh_rows.specs.Keyed.{by_key}
-use Rattle.dh_world.specs.World.{Text, text_cmp, held_cmp}
+use Rattle.dh_world.specs.World.{Text, text_cmp, page_cmp, held_cmp}
 use Rattle.dh_world.proofs.MapLemmas.{text_total}
 use Rattle.dh_records.specs.Codings as coding
 use Rattle.dh_records.specs.Constraints.{InOrder}
 use Rattle.dh_records.specs.declared.records.ProjectRow.{ProjectRow}
+use Rattle.dh_records.specs.declared.records.PageRow.{PageRow}
 use Rattle.dh_records.specs.declared.records.PassRow.{PassRow}
 use Rattle.dh_records.specs.declared.records.HeldRow.{HeldRow}
+use Rattle.dh_records.proofs.KeyLemmas.{page_place}
 
 -- ---- a map of entries in order
 
@@ -66,6 +68,11 @@ less_two Less p e = tt
 less_two Equal p e = less_last p e
 less_two Greater p e = absurd (true≢false (sym (ap is_lt e)))
 
+less_three : (o p q : Ordering) → ordering_then o (ordering_then p (ordering_then q Equal)) ≡ Less → T (is_lt (ordering_then o (ordering_then p q)))
+less_three Less p q e = tt
+less_three Equal p q e = less_two p q e
+less_three Greater p q e = absurd (true≢false (sym (ap is_lt e)))
+
 -- two records of a host, by what stands behind it in their keys
 behind : (host x y : Text) (rest : Ordering) → bytes_eq x host ≡ true → bytes_eq y host ≡ true → ordering_then (text_cmp x y) rest ≡ Less → rest ≡ Less
 behind host x y rest own other less =
@@ -83,6 +90,12 @@ pass_key x y = rw (value_cmp-Text x.host y.host, value_cmp-Text x.pass y.pass) r
 
 pub passes_rise : (host : Text) (x y : PassRow) → bytes_eq x.host host ≡ true → bytes_eq y.host host ≡ true → by_key coding.passes.key x y ≡ Less → T (is_lt (text_cmp x.pass y.pass))
 passes_rise host x y own other less = less_last _ (behind host x.host y.host _ own other (sym (pass_key x y) ∙ less))
+
+page_key : (x y : PageRow) → by_key coding.pages.key x y ≡ ordering_then (text_cmp x.host y.host) (ordering_then (text_cmp x.slug y.slug) (ordering_then (text_cmp x.lang y.lang) (ordering_then (text_cmp x.path y.path) Equal)))
+page_key x y = rw (value_cmp-Text x.host y.host, value_cmp-Text x.slug y.slug, value_cmp-Text x.lang y.lang, value_cmp-Text x.path y.path) refl
+
+pub pages_rise : (host : Text) (x y : PageRow) → bytes_eq x.host host ≡ true → bytes_eq y.host host ≡ true → by_key coding.pages.key x y ≡ Less → T (is_lt (page_cmp (page_place x) (page_place y)))
+pages_rise host x y own other less = less_three (text_cmp x.slug y.slug) (text_cmp x.lang y.lang) (text_cmp x.path y.path) (behind host x.host y.host _ own other (sym (page_key x y) ∙ less))
 
 held_key : (x y : HeldRow) → by_key coding.held.key x y ≡ ordering_then (text_cmp x.host y.host) (ordering_then (text_cmp x.pass y.pass) (ordering_then (text_cmp x.slug y.slug) Equal))
 held_key x y = rw (value_cmp-Text x.host y.host, value_cmp-Text x.pass y.pass, value_cmp-Text x.slug y.slug) refl

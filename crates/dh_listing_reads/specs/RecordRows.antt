@@ -1,14 +1,18 @@
 -- The rows of records.
-use Rattle.std.specs.Prelude.{List, map, filter}
+use Rattle.std.specs.Prelude.{List, length, map, filter}
 use Rattle.std.specs.Str.{bytes_eq}
 use Rattle.dh_world.specs.World.{Text}
 use Rattle.dh_records.specs.declared.records.ProjectRow.{ProjectRow}
+use Rattle.dh_records.specs.declared.records.PageRow.{PageRow}
 use Rattle.dh_records.specs.declared.records.PassRow.{PassRow}
 use Rattle.dh_records.specs.declared.records.HeldRow.{HeldRow}
-use Rattle.dh_listings.specs.ListingTexts.{project_words, pass_words}
+use Rattle.dh_listings.specs.ListingTexts.{project_words, page_words, pass_words}
 
 abbrev pub of_project : ProjectRow → Text
 of_project r = project_words r.host r.main r.branch r.new_private
+
+abbrev pub of_page : PageRow → Text
+of_page r = page_words r.path r.page.media (length r.page.body)
 
 -- the slugs of those grants that are of the pass
 abbrev pub slugs_for : List HeldRow → Text → List Text

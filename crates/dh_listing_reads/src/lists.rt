@@ -70,6 +70,21 @@ fn list_passes<S: Alter>(tables: &mut Tables<S>, alloc: Global, host: &HostName)
     Ok(Some(passes_text(alloc, passes.as_slice(), grants.as_slice())?))
 }
 
+/// The pages are looked up with their bodies, which are let go with them.
+fn list_pages<S: Alter>(
+    tables: &mut Tables<S>,
+    alloc: Global,
+    host: &HostName,
+    slug: &Text,
+    lang: &Text,
+) -> Found<Text>
+    ensures { Obtains S.Store tables.old tables.new result
+        (ListsProject host.now (part.Pages slug.now lang.now)) }
+{
+    let rows = tables.pages_in(alloc, host, slug.as_str(), lang.as_str())?;
+    Ok(Some(records_text(alloc, rows.as_slice())?))
+}
+
 /// The text of a list of what stands under a host.
 fn list_project<S: Alter>(
     tables: &mut Tables<S>,
@@ -86,6 +101,7 @@ fn list_project<S: Alter>(
         ProjectList::Rules => list_rules(tables, alloc, host),
         ProjectList::Redirects => list_redirects(tables, alloc, host),
         ProjectList::Passes => list_passes(tables, alloc, host),
+        ProjectList::Pages { slug, lang } => list_pages(tables, alloc, host, slug, lang),
     }
 }
 

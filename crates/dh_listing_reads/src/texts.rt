@@ -1,15 +1,15 @@
 //! The text of some records, a row each.
 
-ghost use Rattle.std.specs.Prelude.{◌≡◌, ◌∷◌, ◌++◌, ℕ, List, IfOk, OnOk, map, string_bytes};
+ghost use Rattle.std.specs.Prelude.{◌≡◌, ◌∷◌, ◌++◌, ℕ, List, IfOk, OnOk, length, map, string_bytes};
 ghost use Rattle.dh_listings.specs.ListingTexts as spec;
 ghost use Rattle.dh_listing_reads.specs.RecordRows as rows;
 
 use dh_listings::{
-    append_lang, append_name, append_project, append_redirect, append_rule, append_version,
-    listed_head,
+    append_lang, append_name, append_page, append_project, append_redirect, append_rule,
+    append_version, listed_head,
 };
 use dh_paths::Text;
-use dh_tables::{LangRow, PickRow, ProjectRow, RedirectRow, RuleRow, VersionRow};
+use dh_tables::{LangRow, PageRow, PickRow, ProjectRow, RedirectRow, RuleRow, VersionRow};
 use std::alloc::{AllocError, Global};
 
 /// A record that is a row of a list.
@@ -51,6 +51,15 @@ impl RowText for VersionRow {
 
     fn put(&self, _alloc: Global, out: &mut String) -> Result<(), AllocError> {
         append_version(out, &self.version)
+    }
+}
+
+impl RowText for PageRow {
+    ghost shown = { rows.of_page };
+
+    fn put(&self, _alloc: Global, out: &mut String) -> Result<(), AllocError> {
+        let size = self.page.body.as_slice().len();
+        append_page(out, &self.path, &self.page.media, size)
     }
 }
 
