@@ -29,20 +29,27 @@ class Left(Exception):
     """A case that the model leaves out, and why."""
 
 
+def read_case(path):
+    case = TOOL.read_case(path)
+    if case.input_fails or case.room is not None:
+        raise Left("readers and writers that fail")
+    return case
+
+
 def judge_script(path):
     """What is wrong with the model's answer to a script, as lines."""
-    written, fault, status = lines.run_script({}, path.read_bytes(), int(time.time()))
+    case = read_case(path)
+    written, fault, status = lines.run_script({}, case.data, int(time.time()))
     # (the model tells no sentences)
-    lines_told = (TOOL.beside(path, ".err") or b"").split(b"\n")
-    wanted_told = next((line for line in lines_told if line.startswith(b"fault ")), b"")
-    wanted_status = int(TOOL.beside(path, ".status") or b"0")
+    wanted_told = next((line for line in case.err.split(b"\n") if line.startswith(b"fault ")), b"")
     told = b"fault " + fault if fault else b""
-    return TOOL.compared(TOOL.beside(path, ".out"), wanted_told, wanted_status, written, told, status)
+    return TOOL.compared(case.out, wanted_told, case.status, written, told, status)
 
 
 def judge_request(path):
-    written = requests.answer(requests.sample(), path.read_bytes())
-    return TOOL.compared(TOOL.beside(path, ".out"), b"", 0, written, b"", 0)
+    case = read_case(path)
+    written = requests.answer(requests.sample(), case.data)
+    return TOOL.compared(case.out, b"", 0, written, b"", 0)
 
 
 def judge_row(world_of, row):
@@ -58,33 +65,19 @@ def judge_table(path):
     return [fault for row in TOOL.read_table(path) for fault in judge_row(requests.sample, row)]
 
 
-def read_commands(path):
-    """The runs of a case of commands: the number of its line, its mark, its words, its input, what it prints."""
-    runs = []
-    for number, line in enumerate(path.read_text().splitlines(), 1):
-        mark, rest = line[:2], line[2:]
-        if mark in ("$ ", "? "):
-            runs.append((number, mark, rest, [], []))
-        elif mark == "< ":
-            runs[-1][3].append(rest)
-        elif mark in ("! ", "@ "):
-            raise Left("files and faults")
-        elif line and mark not in ("# ", "= "):
-            runs[-1][4].append(rest if mark == "> " else line)
-    return runs
-
-
 def judge_commands(path):
     """What is wrong with the model's answers to commands and requests over files, one after another."""
-    files, faults = {}, []
-    for number, mark, rest, input_lines, wanted in read_commands(path):
-        if mark == "$ ":
-            written = run_command(files, shlex.split(rest), "".join(f"{line}\n" for line in input_lines))
-            found = TOOL.difference("output", "\n".join(wanted).encode(), written.rstrip(b"\n"))
+    files, faults, runs = {}, [], TOOL.read_commands(path)
+    if any(run.mark == "@" or run.lines["!"] for run in runs):
+        raise Left("files and faults")
+    for run in runs:
+        if run.mark == "$":
+            written = run_command(files, shlex.split(run.text), run.bytes_of("<"))
+            found = TOOL.difference("output", run.bytes_of(">"), written)
         else:
-            name, _, request = rest.partition(" ")
-            found = judge_row(lambda: files[name], TOOL.read_row(path, number, request, {}))
-        faults += [f"{path.name}:{number}: {fault}" for fault in found]
+            name, _, request = run.text.partition(" ")
+            found = judge_row(lambda: files[name], TOOL.read_row(path, run.number, request, {}))
+        faults += [f"{path.name}:{run.number}: {fault}" for fault in found]
     return faults
 
 
@@ -96,11 +89,11 @@ def run_command(files, words, script):
     if words[-2:-1] != ["--store"]:
         raise Left("words of the program")
     if words[0] == "script":
-        return lines.run_script(files[words[-1]], script.encode())[0]
+        return lines.run_script(files[words[-1]], script)[0]
     return lines.line_text(files[words[-1]], [word.encode() for word in words[:-2]], 0, True) + b"\n"
 
 
-JUDGES = {".script": judge_script, ".http": judge_request, ".requests": judge_table, ".commands": judge_commands}
+JUDGES = {".lines": judge_script, ".http": judge_request, ".requests": judge_table, ".commands": judge_commands}
 
 
 def judge_all():
@@ -108,8 +101,6 @@ def judge_all():
     passed, failed, left = 0, 0, 0
     for path in (it for folder in FOLDERS for it in sorted(folder.rglob("*")) if it.suffix in JUDGES):
         try:
-            if TOOL.beside(path, ".ports"):
-                raise Left("readers and writers that fail")
             faults = JUDGES[path.suffix](path)
         except (Left, Unsaid) as why:
             print(f"{TOOL.name_of(path)}: left out: {why if isinstance(why, Left) else f'the expression {why}'}")

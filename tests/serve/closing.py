@@ -1,4 +1,6 @@
-"""How the server ends a connection, and what it does where the system gives it none: the part `closing` of tests/serve/run."""
+"""How the server ends a connection, and what it does where the system gives it none: the part `closing` of tests/serve/run.
+
+Whole replies reach clients that sent what nobody wants; what a silent client costs the next; the server waits for a descriptor."""
 
 import random
 import resource

@@ -114,15 +114,15 @@ def as_beside(line):
 def scripts(part):
     cases = behaviour()
     done = 0
-    for path in sorted((ROOT / "tests" / "scripts").rglob("*.script")):
+    for path in sorted((ROOT / "tests" / "scripts").rglob("*.lines")):
+        case = cases.read_case(path)
         with tempfile.TemporaryDirectory() as room:
             store = os.path.join(room, "records.db")
             make(part.program, store)
             with Server(part.program, store, 1, part.path("told")):
-                written, told, status = cases.run(part.program, path, room, ["--store", "records.db"])
-        wanted = b"".join(as_beside(line) for line in (cases.beside(path, ".err") or b"").splitlines(True))
-        wanted_status = int(cases.beside(path, ".status") or b"0")
-        faults = cases.compared(cases.beside(path, ".out"), wanted, wanted_status, written, told, status)
+                written, told, status = cases.run(part.program, case, room, ["--store", "records.db"])
+        wanted = b"".join(as_beside(line) for line in case.err.splitlines(True))
+        faults = cases.compared(case.out, wanted, case.status, written, told, status)
         part.check(f"{cases.name_of(path)} through the socket", not faults, "\n".join(faults))
         done += not faults
     print(f"    {done} scripts through the socket", flush=True)
@@ -160,6 +160,9 @@ def words(part, store):
         (["list-versions", HOST], None, 0),
         (["list-passes", HOST], "listed 1\nreader-7\tnone\t1.0.0\n", 0),
         (["list-rules", "other.test"], "refused 10 NoProject\n", 1),
+        (["list-pages", HOST, "main", "en"], None, 0),
+        (["list-pages", HOST, "1.0.0", "en"], "listed 1\nindex.html\ttext/html\t7\n", 0),
+        (["list-pages", HOST, "latest", "en"], "listed 0\n", 0),
     ):
         beside = run(part.program, *asked, "--store", store)
         over = run(part.program, *asked, "--store", alone)

@@ -1,4 +1,6 @@
-"""Damage that an opening does not see, and what is rescued of a damaged file: the part `damage` of tests/serve/run."""
+"""Damage that an opening does not see, and what is rescued of a damaged file: the part `damage` of tests/serve/run.
+
+A byte, a page of zeros, two pages exchanged, an older page: what is served then, and what `operations.md` gives back."""
 
 import shutil
 import subprocess

@@ -1,4 +1,6 @@
-"""What tools/publish stores and says, and what a browser finds then: the part `publish` of tests/serve/run."""
+"""What tools/publish stores and says, and what a browser finds then: the part `publish` of tests/serve/run.
+
+Sites that are stored, repeated, stopped, refused, changed; searches in two documentations; the steps of `publish.md`."""
 
 import importlib.machinery
 import importlib.util

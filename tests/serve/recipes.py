@@ -1,4 +1,6 @@
-"""The recipes of docs/recipes.md, run as they stand there: the part `recipes` of tests/serve/run."""
+"""The recipes of docs/recipes.md, run as they stand there: the part `recipes` of tests/serve/run.
+
+Rules and a job, cookies in nginx and Caddy, a menu, moves from elsewhere, held requests, copies of a held server, the unit."""
 
 import base64
 import json

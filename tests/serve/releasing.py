@@ -1,4 +1,6 @@
-"""The archive of tools/release, and how ./docs_host finds its program: the part `release` of tests/serve/run."""
+"""The archive of tools/release, and how ./docs_host finds its program: the part `release` of tests/serve/run.
+
+The archive runs with nothing beside it; a program counts as built only from the present text, by the same toolchain; refusals."""
 
 import hashlib
 import http.client

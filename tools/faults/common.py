@@ -14,9 +14,10 @@ from typing import NamedTuple
 HERE = Path(__file__).resolve().parent
 ROOT = HERE.parent.parent
 SCRIPTS = HERE / "scripts"
-sys.path.insert(0, str(ROOT / "tests" / "serve"))
+sys.path[:0] = [str(ROOT / "tests" / "serve"), str(ROOT / "tools")]
 
 import host as hosts  # noqa: E402
+from casefiles import WORDS, read_case  # noqa: E402, F401
 from host import Broken  # noqa: E402
 
 # Seconds for one run, and how many failures of a part are shown.
@@ -142,7 +143,7 @@ class Script:
 
     def __init__(self, part, path, base=None):
         self.part, self.base, self.name = part, base, path.stem
-        self.lines = printing_lines(path.read_bytes())
+        self.lines = printing_lines(read_case(path).data)
         self.words = ["script", "--store", STORE] if base else ["script"]
         self.known = {}
         self.whole = self.part_of(self.lines)

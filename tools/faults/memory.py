@@ -21,6 +21,7 @@ from common import (
     make_base,
     make_old,
     new_folder,
+    read_case,
     sentences,
 )
 
@@ -285,10 +286,11 @@ def answers(target):
 
 def memory_of(part, path):
     """A case of tests/ or examples/: a script over memory, or a request to the sample."""
-    if path.suffix == ".script":
+    case = read_case(path)
+    if case.word == "script":
         show(path.stem, sweep_script(part, path, None, {}))
     else:
-        show(path.stem, sweep_run(part, path.stem, Run(["answer"], path.read_bytes(), "input"), None, judge_request))
+        show(path.stem, sweep_run(part, path.stem, Run([case.word], case.data, "input"), None, judge_request))
 
 
 def memory(part):

@@ -4,7 +4,7 @@ import collections
 import random
 import re
 
-from common import ROOT, STORE, Broken, make_base, new_folder, printing_lines, sentences
+from common import ROOT, STORE, Broken, make_base, new_folder, printing_lines, read_case, sentences
 
 FOLDER = ROOT / "tests" / "scripts"
 
@@ -46,22 +46,26 @@ def under(line, name):
     return b"".join(pieces)
 
 
+def cases():
+    """The scripts that run to their end."""
+    for path in sorted(FOLDER.rglob("*.lines")):
+        case = read_case(path)
+        if not case.status:
+            yield path.stem, case
+
+
 def scripts():
-    """The scripts whose ports do not fail, each as its lines and what they print."""
-    for path in sorted(FOLDER.rglob("*.script")):
-        if path.with_suffix(".ports").exists() or path.with_suffix(".status").exists():
-            continue
-        lines, printed = printing_lines(path.read_bytes()), path.with_suffix(".out").read_bytes().splitlines(keepends=True)
+    """These, each as its lines and what they print."""
+    for stem, case in cases():
+        lines, printed = printing_lines(case.data), case.out.splitlines(keepends=True)
         if len(lines) != len(printed):
-            raise Broken(f"{path.name}: {len(lines)} lines, and {len(printed)} that are printed")
-        yield path.stem, lines, printed
+            raise Broken(f"{stem}: {len(lines)} lines, and {len(printed)} that are printed")
+        yield stem, lines, printed
 
 
 def told():
     """The sentences that these scripts tell, without the numbers of their lines, and how often."""
-    paths = [path.with_suffix(".err") for path in sorted(FOLDER.rglob("*.script")) if not path.with_suffix(".ports").exists()]
-    paths = [path for path in paths if path.exists() and not path.with_suffix(".status").exists()]
-    return collections.Counter(it for path in paths for it in sentences(path.read_bytes())[0])
+    return collections.Counter(it for _, case in cases() for it in sentences(case.err)[0])
 
 
 def one_after_another(name):
