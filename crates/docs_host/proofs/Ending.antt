@@ -106,7 +106,7 @@ some_answered IsMoment w v (inr it) = inr (it.0, tt, it.2, it.3, it.4, it.5)
 may_turn : (IsMoment : ℕ → Type 0) (Does : ℕ → Talk → World → World → Type 0) (w v : World)
     → MayTurn IsMoment Does w v → MayTurn (λ moment. ⊤) Does w v
 may_turn IsMoment Does w v (inl turn) = inl (some_answered IsMoment w v turn)
-may_turn IsMoment Does w v (inr (moment, is, did)) = inr (moment, tt, did)
+may_turn IsMoment Does w v (inr (moment, is, talk, did)) = inr (moment, tt, talk, did)
 
 pub any_moment : (IsMoment : ℕ → Type 0) (n : ℕ) (w v : World) → Serves IsMoment AnswersOne n w v → ServesBoth n w v
 any_moment IsMoment zero w v it = it

@@ -1,4 +1,3 @@
 pub mod Asking
 pub mod Ending
-pub mod Exchanging
 pub mod Telling
