@@ -58,8 +58,8 @@ LISTS = [
     ["list-pages", HOST, "main", "en"],
 ]
 
-# In the last so many allocations of a single run, and a few more, its file is open and has been judged.
-MOST_BEHIND = 400
+# A run on a host that has no project makes fewer allocations behind its opening.
+MOST_BEHIND = 50
 
 
 class Copy(NamedTuple):
@@ -224,11 +224,16 @@ def count_of(part, words, base):
 
 
 def behind_opening(part, words, base):
-    """A run whose memory is refused from when its file is open: on a host that has no project it ends there."""
-    every = count_of(part, words, base)
+    """A run whose memory is refused from the end of its opening on."""
     nothing = count_of(part, [NOWHERE if word == HOST else word for word in words], base)
-    part.check(f"{words[0]}: all behind the opening", every - nothing < MOST_BEHIND // 2, (every, nothing))
-    return Run(words, b"", str(every - MOST_BEHIND))
+    return Run(words, b"", str(nothing - MOST_BEHIND))
+
+
+def sweep_word(part, words, base):
+    """The first allocations that are refused are of the opening, which ends the run."""
+    counts = sweep_run(part, words[0], behind_opening(part, words, base), base, judge_single)
+    part.check(f"{words[0]}: from its opening on", counts["ended"] > 10, counts)
+    show(words[0], counts)
 
 
 def single_words(part):
@@ -236,12 +241,11 @@ def single_words(part):
     with new_folder() as made, new_folder() as own:
         base = make_base(part, made, LISTED)
         for words in LISTS:
-            run = behind_opening(part, [*words, "--store", STORE], base)
-            show(words[0], sweep_run(part, words[0], run, base, judge_single))
+            sweep_word(part, [*words, "--store", STORE], base)
         records = Path(own, "list.csv")
         records.write_text(RECORDS)
         words = ["import", HOST, str(records), "--store", STORE]
-        show("an import", sweep_run(part, "an import", behind_opening(part, words, base), base, judge_single))
+        sweep_word(part, words, base)
         begin = count_of(part, ["import", HOST, str(records) + "x", "--store", STORE], base) - 20
         end = count_of(part, ["import", HOST, str(records), "--store", "none.db"], base)
         run = Run(words, b"", str(begin), str(end))

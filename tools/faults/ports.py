@@ -243,9 +243,13 @@ def say(place, message, piece=4096, most=None):
         for at in range(0, len(message), piece):
             client.sendall(message[at : at + piece])
         client.shutdown(socket.SHUT_WR)
-        if most is not None:
-            return client.recv(most, socket.MSG_WAITALL) if most else b""
-        return b"".join(iter(lambda: client.recv(65536), b""))
+        said = b""
+        while most is None or len(said) < most:
+            piece = client.recv(65536 if most is None else most - len(said))
+            if not piece:
+                break
+            said += piece
+        return said
 
 
 def leave(place, message):
@@ -324,9 +328,12 @@ def messages(part, base, folder):
         beside.check("cannot write", ("SEND_ROOM", count), False, (b"fault Control",), b"", [beside.before])
     for count in range(len(answer)):
         told = b"".join(line for line in answer[:count].splitlines(True) if line.endswith(b"\n"))
-        worlds = [beside.script.world_after(told.count(b"\n") + more) for more in (0, 1)]
+        lines = told.count(b"\n")
+        worlds = [beside.script.world_after(lines + more) for more in (0, 1)]
         beside.check("cannot write", ("SEND_ROOM", count), True, (b"fault Control",), told, worlds)
-        beside.check("cannot read", ("RECV_ROOM", count), False, (b"fault Control",), told, [after])
+        # (the server does no further line whose reader is gone)
+        worlds = [beside.script.world_after(done) for done in range(max(lines, 1), len(beside.script.lines) + 1)]
+        beside.check("cannot read", ("RECV_ROOM", count), False, (b"fault Control",), told, worlds)
     print(f"  a message of {size} bytes, and its answer of {len(answer)}", flush=True)
 
 
