@@ -30,6 +30,12 @@ WAITING = 6
 LONGEST = 107
 
 BUSY = "another program has it open"
+NO_IMPORT = "an import is done by no server: stop the one that has the file, and run it again"
+TOO_LONG = "with .control behind it the path of this file has more than 107 bytes, too many for a control socket, so no server can be asked"
+WITHOUT = (
+    "with .control behind it this path has more than 107 bytes, too many for a control socket, so commands beside this server find the"
+    " file busy; start it in the file's folder, and name the file alone"
+)
 UNTOLD = "the server did not tell how it ended: it is done or it is not"
 OTHER_VERSION = "the server that has the file is of another version and did nothing"
 REDIRECT = "the kind, FROM, TO or status of the redirect is none, or they do not go together"
@@ -61,10 +67,11 @@ def filled(part, name):
     return store
 
 
-def is_fault(part, what, ended, name, says, printed=""):
-    """Status 3, `fault NAME` on the first line of standard error, and a sentence on the second."""
+def is_fault(part, what, ended, name, says, printed="", front=None):
+    """Status 3, and on standard error `fault NAME` and a sentence, behind this one where there is one."""
     lines = ended.stderr.splitlines()
-    good = len(lines) == 2 and lines[0] == f"fault {name}" and lines[1].endswith(says)
+    first = [] if front is None else [f"docs_host: {front}"]
+    good = len(lines) == len(first) + 2 and lines[:-1] == [*first, f"fault {name}"] and lines[-1].endswith(says)
     part.check(f"{what}: fault {name}, {says}", good and (ended.returncode, ended.stdout) == (3, printed), ended)
 
 
@@ -178,7 +185,8 @@ def refused(part, store):
         ["init", store],
         ["migrate", store],
     ):
-        is_fault(part, f"{asked[0]} while serve runs", run(part.program, *asked), "Store", BUSY)
+        front = NO_IMPORT if asked[0] == "import" else None
+        is_fault(part, f"{asked[0]} while serve runs", run(part.program, *asked), "Store", BUSY, front=front)
     ended = run(part.program, "push", HOST, KEY, "k9", "twig", "x", "--store", store)
     part.check("a mistake in the words", ended.returncode == 2 and ended.stdout == "" and ended.stderr, ended)
     part.check("the socket stands after these", is_socket(store))
@@ -237,7 +245,7 @@ def messages(part, server, store):
     long = b"docs_host 1 script\n" + b"#\n" * 524288
     part.same("the longest script", send(store, long + b"\xff"), b"end 0\n")
     part.same("a longer one", send(store, long + b"#\xff"), b"end 3 TooLong\n")
-    part.same("a message that is too long gets no answer", send(store, long + b"#" * 50 + b"\xff"), b"")
+    part.same("a message that is too long", send(store, long + b"#" * 50 + b"\xff"), b"end 3 TooLong\n")
     part.same("a script that is no text", send(store, b"docs_host 1 script\nget \xfe\n\xff"), b"end 3 NotText\n")
     # (it would be `known` had one of these been done)
     part.same("the whole message, whatever file it names", send(store, whole), b"made 8.0.0 inactive shown public\nend 0\n")
@@ -306,6 +314,7 @@ def silent_client(part, server, store):
         begun = time.monotonic()
         part.same("a request behind a client of the socket that says nothing", server.get("/", HOST)[0], 302)
         part.check("it waits ten seconds", 9 < time.monotonic() - begun < 13, time.monotonic() - begun)
+        part.same("the client is told", read_all(client), b"end 3 Read\n")
     with socket.socket(socket.AF_UNIX) as client:
         client.connect(f"{store}.control")
         threading.Thread(target=drip, args=(client,), daemon=True).start()
@@ -521,36 +530,59 @@ def taken(part, store, place):
 
 
 def long_paths(part):
-    """A path of 107 bytes is the longest that a socket has; from the file's folder it is its name alone."""
+    """A path of 107 bytes is the longest that a socket has. A file that would have a longer one is served without."""
     start = len(part.path("")) + 1
-    for length, is_good in ((LONGEST, True), (LONGEST + 1, False)):
+    for length in (LONGEST, LONGEST + 1):
         store = filled(part, "x" * (length - len(".control") - start))
         part.same("the length of its path", len(f"{store}.control"), length)
-        if is_good:
-            with part.serve(store, 5):
-                part.same("a command beside it", command(part.program, store, f"get {HOST} /"), "302 /en/latest/ 0")
+        if length > LONGEST:
+            without_socket(part, store)
             continue
-        ended = run(part.program, "serve", "--store", store, "--count", "1")
-        lines = ended.stderr.splitlines()
-        good = ended.returncode == 3 and lines[0] == "fault Bind" and store in lines[1] and "107 bytes" in lines[1]
-        part.check("a path of a byte more", good, ended)
-        name = os.path.basename(store)
-        words = [part.program, "serve", "--store", name, "--count", "0"]
+        with part.serve(store, 5):
+            part.same("a command beside it", command(part.program, store, f"get {HOST} /"), "302 /en/latest/ 0")
+
+
+def without_socket(part, store):
+    """The server says that it has none, and commands beside it say why nobody is asked; from the file's folder it has one."""
+    with part.serve(store, 2) as server:
+        told = [f"docs_host: {store}: {WITHOUT}", f"docs_host: serving {store}, projects: 1"]
+        part.same("a server without a socket says so", server.told_at_last().splitlines(), told)
+        part.check("no socket is made", not os.path.lexists(f"{store}.control"))
+        for asked, lines in ((["get", HOST, "/"], ""), (["list-projects"], ""), (["script"], f"get {HOST} /\n")):
+            ended = run(part.program, *asked, "--store", store, stdin=lines)
+            is_fault(part, f"{asked[0]} beside a server without a socket", ended, "Store", BUSY, front=TOO_LONG)
+        part.same("requests to it", [server.get("/", HOST)[0] for _ in range(2)], [302, 302])
+        part.same("it ends", server.wait(), 0)
+    part.same("a command behind it", command(part.program, store, f"get {HOST} /"), "302 /en/latest/ 0")
+    with part.serve(store, before=small_files) as server:
+        replies = []
+        while len(replies) < 100 and (not replies or replies[-1] == 200):
+            page = {"path": f"{len(replies)}", "type": "text/plain", "base64": "eHh4" * 6000}
+            value = {"key": f"u{len(replies)}", "language": "en", "version": "main", "pages": [page]}
+            replies.append(server.post("/_/upload", HOST, KEY, value)[0])
+        part.check("an upload to a full disk", replies[-1] == 503 and len(replies) > 1, replies)
+        part.same("a request after it", server.get("/", HOST)[0], 302)
+        part.check("no socket is made then", not os.path.lexists(f"{store}.control"))
+    name = os.path.basename(store)
+    with part.serve(name, before=lambda: os.chdir(part.room)):
+        part.check("from its folder it has a socket", is_socket(store))
+        words = [part.program, "get", HOST, "/", "--store", name]
         ended = subprocess.run(words, cwd=part.room, capture_output=True, encoding="utf-8", timeout=60)
-        part.same("by its name alone", ended.returncode, 0)
+        part.same("and commands there", (ended.stdout, ended.returncode), ("302 /en/latest/ 0\n", 0))
 
 
 # full_disk: the socket stays where the file is opened again
 
 
+def small_files():
+    """A disk that is full once a file has a megabyte."""
+    signal.signal(signal.SIGXFSZ, signal.SIG_IGN)
+    resource.setrlimit(resource.RLIMIT_FSIZE, (1_000_000, 1_000_000))
+
+
 def full_disk(part):
     store = filled(part, "full.docs")
-
-    def limited():
-        signal.signal(signal.SIGXFSZ, signal.SIG_IGN)
-        resource.setrlimit(resource.RLIMIT_FSIZE, (1_000_000, 1_000_000))
-
-    with part.serve(store, before=limited) as server:
+    with part.serve(store, before=small_files) as server:
         page = "x" * 20000
         for number in range(100):
             ended = run(part.program, "upload", HOST, KEY, f"u{number}", "main", "en", f"{number}", "text/plain", page, "--store", store)

@@ -4,9 +4,10 @@
  * Memory, each refusal in a copy of the program:
  *   COPIES=T,G     at each malloc and realloc the program forks. The copy finds no memory at that call, and runs on to its end. Then
  *                  what came of it is written to the descriptor T, a byte is waited for at G, and the program goes on, with memory
- *   COPIES_FROM=input   only from the first read of standard input on
+ *   COPIES_FROM=input   only from the first read of standard input on; COPIES_FROM=N: from the Nth call on; COPIES_TO=N: up to that
  *   COPIES_MORE=K  the copy finds none at its Kth call after that one either; COPIES_MORE=all: nor at any after it
  *   STORE=NAME     a file of the working folder, and its log NAME-wal: the copy works in a folder 'copy' on copies of both
+ *   MEMORY_COUNT=1 how many calls there were is told on standard error at the end
  *
  * Memory, in the program itself:
  *   RARE=N SEED=S  by chance one call of N finds none, from the first connection or the first read of standard input on
@@ -21,6 +22,10 @@
  *
  * Standard output:
  *   PUT_MOST=N     a write takes at most N bytes; PUT_NONE=K: the Kth takes none; PUT_ROOM=N: behind N bytes a write fails
+ *
+ * Sockets, all of them together:
+ *   SEND_MOST=N    a send takes at most N bytes; SEND_ROOM=N: behind N bytes a send fails
+ *   RECV_MOST=N    a recv gives at most N bytes; RECV_ROOM=N: behind N bytes a recv fails
  */
 typedef unsigned long size_t;
 typedef long ssize_t;
@@ -102,7 +107,7 @@ static int one_of(unsigned long many) {
 enum { UNKNOWN, NEVER, WAITING, ALWAYS };
 
 static int copies, tell_to, wait_for, in_copy, refuses_all;
-static unsigned long rare, counted, refused_again;
+static unsigned long rare, counted, refused_again, first_copy, last_copy;
 
 static void prepare(void) {
     const char *text = getenv("COPIES");
@@ -113,6 +118,8 @@ static void prepare(void) {
     tell_to = strtoul(text, &rest, 10);
     wait_for = strtoul(rest + 1, 0, 10);
     copies = is("COPIES_FROM", "input") ? WAITING : ALWAYS;
+    first_copy = number("COPIES_FROM");
+    last_copy = number("COPIES_TO");
 }
 
 static void write_all(int to, const char *bytes, ssize_t count) {
@@ -243,7 +250,7 @@ static int is_refused(void) {
     if (copies == UNKNOWN) prepare();
     counted++;
     if (in_copy) return refuses_all || counted == refused_again;
-    if (copies != ALWAYS) return 0;
+    if (copies != ALWAYS || counted < first_copy || (last_copy && counted > last_copy)) return 0;
     return rare ? one_of(rare) : becomes_copy();
 }
 
@@ -306,6 +313,50 @@ ssize_t write(int to, const void *bytes, size_t size) {
     if (is_bounded && size > left) size = left;
     count = __write(to, bytes, size);
     if (is_bounded && count > 0) left -= count;
+    return count;
+}
+
+/* Sockets. */
+
+/* Of which bytes, in all, some may still pass. */
+struct gate {
+    unsigned long most, left;
+    int is_set, is_bounded;
+};
+
+/* How many of so many bytes pass at once; below 0 where none do any more. */
+static ssize_t passing(struct gate *gate, const char *most, const char *room, size_t size) {
+    if (!gate->is_set) {
+        gate->is_set = 1;
+        gate->most = number(most);
+        gate->left = number(room);
+        gate->is_bounded = getenv(room) != 0;
+    }
+    if (gate->most && size > gate->most) size = gate->most;
+    if (!gate->is_bounded || !size) return size;
+    if (!gate->left) return fail(IO_ERROR);
+    return size > gate->left ? gate->left : size;
+}
+
+ssize_t send(int to, const void *bytes, size_t size, int flags) {
+    static ssize_t (*real)(int, const void *, size_t, int);
+    static struct gate gate;
+    ssize_t count = passing(&gate, "SEND_MOST", "SEND_ROOM", size);
+    if (!real) real = next("send");
+    if (count < 0) return count;
+    count = real(to, bytes, count, flags);
+    if (gate.is_bounded && count > 0) gate.left -= count;
+    return count;
+}
+
+ssize_t recv(int from, void *bytes, size_t size, int flags) {
+    static ssize_t (*real)(int, void *, size_t, int);
+    static struct gate gate;
+    ssize_t count = passing(&gate, "RECV_MOST", "RECV_ROOM", size);
+    if (!real) real = next("recv");
+    if (count < 0) return count;
+    count = real(from, bytes, count, flags);
+    if (gate.is_bounded && count > 0) gate.left -= count;
     return count;
 }
 
@@ -412,4 +463,5 @@ int fsync(int file) {
 __attribute__((destructor)) static void count_calls(void) {
     char line[64];
     if (getenv("CALL_COUNT")) __write(2, line, snprintf(line, sizeof line, "calls %lu\n", calls));
+    if (getenv("MEMORY_COUNT")) __write(2, line, snprintf(line, sizeof line, "allocations %lu\n", counted));
 }

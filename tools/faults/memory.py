@@ -41,6 +41,26 @@ PROJECT = (SCRIPTS / "versions.script").read_bytes()
 # The script that the gate runs with two refusals in a row.
 TWICE = SCRIPTS / "versions.script"
 
+# Some of all that is listed, and a list to import.
+HOST, NOWHERE = "docs.test", "none.test"
+LISTED = PROJECT + b"""new-project other.test en main public wkey-2
+push docs.test wkey-1 k2 tag 2.0.0
+upload docs.test wkey-1 k3 main en a.html text/html a
+add-rule docs.test 1 tag all activate
+add-redirect docs.test 1 exact 302 /a/* /en/latest/:splat
+add-pass docs.test reader-7
+grant docs.test reader-7 2.0.0
+"""
+RECORDS = "exact,301,no,/old/*,/en/latest/:splat\npage,302,yes,/install.html,/setup/install.html\n"
+LISTS = [
+    ["list-projects"],
+    *([f"list-{what}", HOST] for what in ("langs", "versions", "defaults", "rules", "redirects", "passes")),
+    ["list-pages", HOST, "main", "en"],
+]
+
+# In the last so many allocations of a single run, and a few more, its file is open and has been judged.
+MOST_BEHIND = 400
+
 
 class Copy(NamedTuple):
     """What came of a copy, whose allocation of this number was refused."""
@@ -50,18 +70,19 @@ class Copy(NamedTuple):
 
 
 class Run(NamedTuple):
-    """Words and input of a run in a folder, and from when on allocations are refused."""
+    """Words and input of a run in a folder, and from when on allocations are refused, and up to which."""
 
     words: list
     data: bytes
     begin: str
+    end: str = ""
 
 
 def copies(part, run, folder, more):
     """What came of each copy of a run, while its files stand in the folder `copy`; and at last the run itself, under the number 0."""
     told, tell = os.pipe()
     wait, go = os.pipe()
-    variables = {"LD_PRELOAD": part.library, "COPIES": f"{tell},{wait}", "COPIES_FROM": run.begin, "STORE": STORE, **more}
+    variables = {"LD_PRELOAD": part.library, "COPIES": f"{tell},{wait}", "COPIES_FROM": run.begin, "COPIES_TO": run.end, "STORE": STORE, **more}
     with tempfile.TemporaryFile() as source, tempfile.TemporaryFile() as sink, tempfile.TemporaryFile() as errors:
         source.write(run.data)
         source.seek(0)
@@ -191,6 +212,42 @@ def judge_init(ended, world, whole, before, after):
     return "passed" if ended == whole and world == after else "- another end"
 
 
+# ---- single words over a file that is open
+
+
+def count_of(part, words, base):
+    """How many allocations a run makes over a copy of a file."""
+    with new_folder() as folder:
+        copy_store(base, folder)
+        told = part.run(words, b"", folder, MEMORY_COUNT="1").err
+    return int(re.search(rb"^allocations (\d+)$", told, re.M)[1])
+
+
+def behind_opening(part, words, base):
+    """A run whose memory is refused from when its file is open: on a host that has no project it ends there."""
+    every = count_of(part, words, base)
+    nothing = count_of(part, [NOWHERE if word == HOST else word for word in words], base)
+    part.check(f"{words[0]}: all behind the opening", every - nothing < MOST_BEHIND // 2, (every, nothing))
+    return Run(words, b"", str(every - MOST_BEHIND))
+
+
+def single_words(part):
+    """Each word that lists, and an import, from when the file is open; and the list of the import while it is read."""
+    with new_folder() as made, new_folder() as own:
+        base = make_base(part, made, LISTED)
+        for words in LISTS:
+            run = behind_opening(part, [*words, "--store", STORE], base)
+            show(words[0], sweep_run(part, words[0], run, base, judge_single))
+        records = Path(own, "list.csv")
+        records.write_text(RECORDS)
+        words = ["import", HOST, str(records), "--store", STORE]
+        show("an import", sweep_run(part, "an import", behind_opening(part, words, base), base, judge_single))
+        begin = count_of(part, ["import", HOST, str(records) + "x", "--store", STORE], base) - 20
+        end = count_of(part, ["import", HOST, str(records), "--store", "none.db"], base)
+        run = Run(words, b"", str(begin), str(end))
+        show("its list", sweep_run(part, "its list", run, base, judge_single))
+
+
 # ---- what is swept
 
 
@@ -237,7 +294,7 @@ def memory_of(part, path):
 
 
 def memory(part):
-    """Scripts over memory, one with two refusals in a row, and requests over a file; with --all scripts over a file, too, and files that are made, opened and migrated."""
+    """Scripts over memory, one with two refusals in a row, and requests, lists and an import over a file; with --all scripts over a file, too, and files that are made, opened and migrated."""
     for path in sorted(SCRIPTS.glob("*.script")):
         show(f"{path.stem}, over memory", sweep_script(part, path, None, {}))
     show(f"{TWICE.stem}, and again", sweep_script(part, TWICE, None, {"COPIES_MORE": "1"}))
@@ -250,6 +307,7 @@ def memory(part):
             ("the versions", get_request("/_/versions")),
         ):
             show(name, sweep_run(part, name, answers(data), base, judge_request))
+        single_words(part)
         if part.wants_all:
             memory_at_length(part, base)
 

@@ -1,10 +1,11 @@
-"""Ports: requests and scripts that come byte by byte, are cut, or whose reads and writes fail, at each place; and input without end."""
+"""Ports: requests, scripts and messages that come byte by byte, are cut, or whose reads and writes fail, at each place; and input without end."""
 
 import socket
 import struct
 import subprocess
 import tempfile
 import threading
+from pathlib import Path
 
 from common import SCRIPTS, STORE, TIME_LIMIT, Ended, Script, Worlds, copy_store, hosts, make_base, new_folder
 
@@ -223,8 +224,114 @@ def connections(part, base, folder):
         part.check("the server goes on", server.process.poll() is None)
 
 
+# ---- messages
+
+
+def words_message(*words):
+    return b"docs_host 1 words\n" + "\0".join(words).encode() + b"\xff"
+
+
+def script_message(lines):
+    return b"docs_host 1 script\n" + lines + b"\xff"
+
+
+def say(place, message, piece=4096, most=None):
+    """What is answered to these bytes, which come in such pieces; a client that takes so many bytes of it takes no more."""
+    with socket.socket(socket.AF_UNIX) as client:
+        client.settimeout(TIME_LIMIT)
+        client.connect(place)
+        for at in range(0, len(message), piece):
+            client.sendall(message[at : at + piece])
+        client.shutdown(socket.SHUT_WR)
+        if most is not None:
+            return client.recv(most, socket.MSG_WAITALL) if most else b""
+        return b"".join(iter(lambda: client.recv(65536), b""))
+
+
+def leave(place, message):
+    """A client that goes behind these bytes."""
+    with socket.socket(socket.AF_UNIX) as client:
+        client.connect(place)
+        client.sendall(message)
+
+
+def tags(server):
+    return hosts.versions(server, HOST) - {"main"}
+
+
+def cut_messages(part, base, folder):
+    """A message that ends, or whose client goes, behind each of its bytes, does nothing; one whose client goes while it is answered is done."""
+    copy_store(base, folder)
+    whole, answer = words_message("push", HOST, KEY, "k1", "tag", "1.0.0"), b"made 1.0.0 active shown public\nend 0\n"
+    with hosts.Server(part.program, f"{folder}/{STORE}", 1_000_000, f"{folder}/told") as server:
+        place = f"{folder}/{STORE}.control"
+        for count in range(len(whole)):
+            said = say(place, whole[:count])
+            part.check(f"a message that ends behind {count} bytes", said == b"end 2\n", said)
+            leave(place, whole[:count])
+        part.check("no version", not tags(server), tags(server))
+        said = say(place, whole, 1)
+        part.check("a message byte by byte", said == answer, said)
+        for count in range(len(answer)):
+            said = say(place, words_message("push", HOST, KEY, f"r{count}", "tag", f"2.0.{count}"), most=count)
+            wanted = b"made 2.0.%d active shown public\nend 0\n" % count
+            part.check(f"a reader who goes behind {count} bytes", said == wanted[:count], said)
+        wanted = {"1.0.0", *(f"2.0.{count}" for count in range(len(answer)))}
+        part.check("each of these is done", tags(server) == wanted, tags(server) ^ wanted)
+        part.check("the server goes on", server.process.poll() is None)
+
+
+class Beside:
+    """A script, and runs of it beside a server that has the file."""
+
+    def __init__(self, part, base, folder, lines):
+        path = Path(folder, "lines.script")
+        path.write_bytes(lines)
+        self.part, self.base, self.folder = part, base, folder
+        self.script, self.worlds = Script(part, path, base), Worlds(part)
+        self.before = self.worlds.of(base)
+
+    def run(self, ours, theirs):
+        """A run whose calls are bounded so, beside a server whose calls are: how both end, and the rows that they leave."""
+        copy_store(self.base, self.folder)
+        more = {"LD_PRELOAD": self.part.library, **theirs} if theirs else {}
+        with hosts.Server(self.part.program, f"{self.folder}/{STORE}", 1, f"{self.folder}/told", more=more) as server:
+            ended = self.part.run(self.script.words, self.script.data, self.folder, **ours)
+            status = server.wait()
+        return ended, status, self.worlds.of(self.folder)
+
+    def check(self, what, variable, is_server, faults, out, worlds):
+        """With a call of one of the two that fails behind so many bytes the run ends with one of these faults."""
+        name, bytes_ = variable
+        mine = {name: str(bytes_)}
+        ended, status, world = self.run({}, mine) if is_server else self.run(mine, {})
+        told = fault(ended.err)
+        good = ended.status == 3 and ended.out == out and told in faults and status == 0 and world in worlds
+        self.part.check(f"{'the server' if is_server else 'the run'} {what} behind {bytes_} bytes", good, (ended, status))
+
+
+def messages(part, base, folder):
+    """A script beside a server: at each byte of its message and of its answer a call of one of both fails; a byte a call."""
+    beside = Beside(part, base, folder, f"push {HOST} {KEY} k1 tag 1.0.0\npush {HOST} {KEY} k2 tag 2.0.0\n".encode())
+    whole, after = beside.script.whole
+    answer, size = whole.out + b"end 0\n", len(script_message(beside.script.data))
+    for name in ("SEND_MOST", "RECV_MOST"):
+        for ours, theirs in (({name: "1"}, {}), ({}, {name: "1"})):
+            seen = beside.run(ours, theirs)
+            part.check(f"a byte a call: {ours or theirs}", seen == (whole, 0, after), seen)
+    for count in range(size):
+        beside.check("cannot read", ("RECV_ROOM", count), True, (b"fault Read", b"fault Control"), b"", [beside.before])
+        beside.check("cannot write", ("SEND_ROOM", count), False, (b"fault Control",), b"", [beside.before])
+    for count in range(len(answer)):
+        told = b"".join(line for line in answer[:count].splitlines(True) if line.endswith(b"\n"))
+        worlds = [beside.script.world_after(told.count(b"\n") + more) for more in (0, 1)]
+        beside.check("cannot write", ("SEND_ROOM", count), True, (b"fault Control",), told, worlds)
+        beside.check("cannot read", ("RECV_ROOM", count), False, (b"fault Control",), told, [after])
+    print(f"  a message of {size} bytes, and its answer of {len(answer)}", flush=True)
+
+
 def ports(part):
-    """Requests and scripts over a file, and connections to a server."""
+    """Requests and scripts over a file, and connections to a server and to its control socket."""
     with new_folder() as made, new_folder() as empty, new_folder() as folder:
         base = make_base(part, made, PROJECT.encode())
         desk = Desk(part, base, folder, ["answer", "--store", STORE])
@@ -236,3 +343,5 @@ def ports(part):
         script(part, make_base(part, empty), folder, SCRIPTS / "properties.script")
         long_scripts(part, base, folder)
         connections(part, base, folder)
+        cut_messages(part, base, folder)
+        messages(part, base, folder)

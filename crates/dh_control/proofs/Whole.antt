@@ -1,12 +1,12 @@
 -- What a message does, by what was read and by the script that is in it.
-use Rattle.std.proofs.Common.{◌≡◌, ℕ, true, Option, Some, None, Result, Ok, Err, IfSome, inl, refl, subst}
+use Rattle.std.proofs.Common.{◌≡◌, ◌∙◌, ℕ, true, ◌||◌, Option, Some, None, Result, Ok, Err, IfSome, inl, inr, refl, ap, subst}
 use Rattle.dh_lines.specs.declared.lines.Line.{Line}
-use Rattle.dh_script.specs.Reading.{IsScript}
+use Rattle.dh_script.specs.Reading.{IsScript, reader_failed, writer_failed}
 use Rattle.dh_script.specs.Running.{RunsScript}
 use Rattle.dh_script.specs.Script.{is_unread}
 use Rattle.dh_script.specs.declared.fault.ScriptFault.{ScriptFault}
 use Rattle.dh_world.specs.World.{Text, World}
-use Rattle.dh_control.specs.Answers.{AnswersWhole, DoesMessage, DoesScript, DoesWords, HasLastLine}
+use Rattle.dh_control.specs.Answers.{AnswersMessage, DoesMessage, DoesScript, DoesWords, HasLastLine, TakesMessage}
 use Rattle.dh_control.specs.declared.end.End.{End}
 use Rattle.dh_control.specs.declared.end.End.TheVariants.{Done}
 
@@ -33,15 +33,23 @@ pub nothing_done : {E : Type 0} (moment : ℕ) (before : World) (line : Option L
 nothing_done moment before None held now fault = refl
 nothing_done moment before (Some line) held now fault = inl refl
 
--- the message that was read was done, and its end was told
-module _ (moment : ℕ) (left held printed now : Option Text) (before after : World) where
-  pub whole_answer : (message sent : Text) (ended result : Result End ScriptFault) → IfSome left (λ input. message ≡ input) → sent ≡ message
-      → DoesMessage moment sent before after held printed ended → HasLastLine printed now ended result → AnswersWhole moment left before after held now result
-  whole_answer message sent ended result read same does tells = record {
-    message = message;
-    read = read;
-    printed = printed;
-    ended = ended;
-    does = subst (λ m. DoesMessage moment m before after held printed ended) same does;
-    tells = tells;
-  }
+-- the message that was read was done
+pub message_taken : (moment : ℕ) (left held now : Option Text) (before after : World) (message sent : Text) (ended : Result End ScriptFault)
+    → IfSome left (λ input. message ≡ input) → sent ≡ message
+    → DoesMessage moment sent before after held now ended → TakesMessage moment left before after held now ended
+message_taken moment left held now before after message sent ended read same does =
+    inl (message, read, subst (λ m. DoesMessage moment m before after held now ended) same does)
+
+-- and its end was told
+module _ (held now : Option Text) (ended result : Result End ScriptFault) (tells : HasLastLine held now ended result) where
+  pub end_told : (moment : ℕ) (left first : Option Text) (before after : World)
+      → TakesMessage moment left before after first held ended → AnswersMessage moment left before after first now result
+  end_told moment left first before after takes = record { printed = held; ended = ended; takes = takes; tells = tells }
+
+  fault_told : HasLastLine held now ended result → reader_failed ended ≡ true → (reader_failed result || writer_failed result) ≡ true
+  fault_told (inl told) is = ap (λ r. reader_failed r || writer_failed r) told.0 ∙ ap (λ b. b || writer_failed ended) is
+  fault_told (inr lost) is = ap (λ r. reader_failed r || writer_failed r) lost
+
+  -- a fault of the reader is told, unless the writer failed, too
+  pub reader_told : reader_failed ended ≡ true → (reader_failed result || writer_failed result) ≡ true
+  reader_told = fault_told tells

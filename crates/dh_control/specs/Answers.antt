@@ -1,19 +1,19 @@
 -- What a message does to the world, and what is written for it.
-use Rattle.std.specs.Prelude.{◌≡◌, ◌⊎◌, ℕ, Bool, true, false, List, [], ◌∷◌, ◌++◌, Option, Some, None, Result, Ok, Err, IfSome, OnOk, is_err}
+use Rattle.std.specs.Prelude.{◌≡◌, ◌⊎◌, ℕ, Bool, true, false, List, [], ◌∷◌, ◌++◌, Option, Some, None, Result, Ok, Err, IfSome, OnOk}
 use Rattle.std.specs.Io.KnownBytes.{Appends}
 use Rattle.std.specs.List.{All, slice_split}
 use Rattle.std.specs.Str.{IsUtf8}
 use Rattle.dh_lines.specs.Lines.{line_in}
 use Rattle.dh_lines.specs.declared.lines.Line.{Line}
 use Rattle.dh_lines.specs.declared.lines.Order.{Order}
-use Rattle.dh_script.specs.Reading.{IsScript}
+use Rattle.dh_script.specs.Reading.{IsCauseOver, IsScript}
 use Rattle.dh_script.specs.Running.{RunsScript}
 use Rattle.dh_script.specs.Script.{PerformsSingle, MayDoSingle, is_unread}
 use Rattle.dh_script.specs.declared.fault.RunFault.TheVariants.{Write}
 use Rattle.dh_script.specs.declared.fault.ScriptFault.{ScriptFault}
 use Rattle.dh_script.specs.declared.fault.ScriptFault.TheVariants.{Run}
 use Rattle.dh_world.specs.World.{Text, World}
-use Rattle.dh_control.specs.Messages.{is_nul, body_of, behind, words_mark, script_mark, words_message, script_message}
+use Rattle.dh_control.specs.Messages.{most_message, is_nul, body_of, behind, words_mark, script_mark, words_message, script_message}
 use Rattle.dh_control.specs.Ends.{end_of, end_line}
 use Rattle.dh_control.specs.declared.end.End.{End}
 use Rattle.dh_control.specs.declared.end.End.TheVariants.{Unknown}
@@ -68,20 +68,23 @@ abbrev pub HasLastLine : Option Text → Option Text → Result End ScriptFault 
 HasLastLine held now ended result =
     ((result ≡ ended) × Appends held now (end_line ended)) ⊎ (result ≡ Err (Run Write))
 
--- the message of a source was done, and its end was told
-pub record AnswersWhole (moment : ℕ) (left : Option Text) (before after : World) (held now : Option Text) (result : Result End ScriptFault) : Type 0 where
-  pub message : Text
-  pub read : IfSome left (λ input. message ≡ input)
+-- why a source was not read as a message, by what it had left
+abbrev pub IsMessageUnread : Option Text → Result End ScriptFault → Type 0
+IsMessageUnread left (Ok end) = ⊥
+IsMessageUnread left (Err fault) = IfSome left (IsCauseOver most_message fault)
+
+-- what a source had left was done as a message; or it was not read, and nothing was done or printed
+abbrev pub TakesMessage : ℕ → Option Text → World → World → Option Text → Option Text → Result End ScriptFault → Type 0
+TakesMessage moment left before after held now result =
+    ((message : Text) × IfSome left (λ input. message ≡ input) × DoesMessage moment message before after held now result)
+    ⊎ (IsMessageUnread left result × (after ≡ before) × (now ≡ held))
+
+-- a message was taken so, and behind what that printed stands how it ended
+pub record AnswersMessage (moment : ℕ) (left : Option Text) (before after : World) (held now : Option Text) (result : Result End ScriptFault) : Type 0 where
   pub printed : Option Text
   pub ended : Result End ScriptFault
-  pub does : DoesMessage moment message before after held printed ended
+  pub takes : TakesMessage moment left before after held printed ended
   pub tells : HasLastLine printed now ended result
-
--- it was, or it could not be read, and nothing was done or written
-abbrev pub AnswersMessage : ℕ → Option Text → World → World → Option Text → Option Text → Result End ScriptFault → Type 0
-AnswersMessage moment left before after held now result =
-    AnswersWhole moment left before after held now result
-    ⊎ ((is_err result ≡ true) × (after ≡ before) × (now ≡ held))
 
 -- ---- both ends of a message
 

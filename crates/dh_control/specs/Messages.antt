@@ -8,6 +8,13 @@ use Rattle.dh_world.specs.World.{Text}
 abbrev pub most_message : ℕ
 most_message = 1048640
 
+-- the most reads of one, and the most bytes that these take
+abbrev pub most_reads : ℕ
+most_reads = 100000
+
+abbrev pub most_taken : ℕ
+most_taken = 1052736
+
 -- the byte that ends a message; it stands in no text
 abbrev pub last_byte : ℕ
 last_byte = 255

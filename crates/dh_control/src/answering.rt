@@ -1,6 +1,6 @@
 //! One message: read, done and answered.
 
-ghost use Rattle.std.specs.Prelude.{◌≡◌, true, false, is_err, map, string_bytes, Some, OnOk};
+ghost use Rattle.std.specs.Prelude.{◌≡◌, ◌||◌, true, false, is_err, map, string_bytes, Some, OnOk};
 ghost use Rattle.std.specs.Io.KnownBytes.{Appends};
 ghost use Rattle.dh_desk.specs.Desk.{Moves};
 ghost use Rattle.dh_lines.specs.Lines.{line_in};
@@ -9,8 +9,9 @@ ghost use Rattle.dh_ports.specs.Reading.{TookAtMost};
 ghost use Rattle.dh_script.specs.Reading.{IsScript, reader_failed, writer_failed};
 ghost use Rattle.dh_script.specs.Running.{RunsScript, stopped_by_writer};
 ghost use Rattle.dh_script.specs.Script.{is_unread};
-ghost use Rattle.dh_control.specs.Answers.{AnswersMessage, DoesBody, DoesMessage, DoesOne, DoesScript, DoesSent, DoesWords, HasLastLine};
+ghost use Rattle.dh_control.specs.Answers.{AnswersMessage, DoesBody, DoesMessage, DoesOne, DoesScript, DoesSent, DoesWords, HasLastLine, TakesMessage};
 ghost use Rattle.dh_control.specs.Ends.{end_line};
+ghost use Rattle.dh_control.specs.Messages.{most_reads, most_taken};
 
 use crate::end::{End, end_name, end_number, end_of};
 use crate::message::{MOST_BYTES, SCRIPT, WORDS, behind, body_of, words_of};
@@ -193,9 +194,34 @@ fn tell_end<W: Sink>(sink: &mut W, ended: Result<End, ScriptFault>) -> Result<En
     }
 }
 
+/// Reads one message, does what it asks for, and writes what that prints.
+fn take_message<S: Alter, R: Source, W: Sink>(
+    alloc: Global,
+    desk: &mut Desk<S>,
+    source: &mut R,
+    sink: &mut W,
+    now: u64,
+) -> Result<End, ScriptFault>
+    requires reader { R.broken source.old ≡ false }
+    requires writer { W.broken sink.old ≡ false }
+    ensures takes { Moves S.Store desk.old desk.new (λ before after.
+        TakesMessage now (R.left source.old) before after
+        (W.held sink.old) (W.held sink.new) result) }
+    ensures read_fault { R.broken source.new ≡ true → reader_failed result ≡ true }
+    ensures broken { W.broken sink.new ≡ writer_failed result }
+    ensures taken { TookAtMost (R.left source.old) (R.left source.new) most_taken }
+    ensures reads { CountsUpTo (R.fills source.old) (R.fills source.new) most_reads }
+{
+    match read_script(alloc, source, MOST_BYTES) {
+        Ok(message) => do_message(alloc, desk, message.as_slice(), sink, now),
+        Err(fault) => Err(fault),
+    }
+}
+
 /// Reads one message, does what it asks for at a moment, in seconds since 1970, and writes what that prints; and behind it how
 /// it ended: `end 0`, or `end 1` where its one order was refused, `end 2` where it is no message of this version, and `end 3`
-/// with the name of a fault. What an answer without such a line asked for was done, in whole or in part, or was not.
+/// with the name of a fault, which may be that it was not read. What an answer without such a line asked for was done, in whole
+/// or in part, or was not.
 pub fn answer_message<S: Alter, R: Source, W: Sink>(
     alloc: Global,
     desk: &mut Desk<S>,
@@ -208,12 +234,12 @@ pub fn answer_message<S: Alter, R: Source, W: Sink>(
     ensures answers { Moves S.Store desk.old desk.new (λ before after.
         AnswersMessage now (R.left source.old) before after
         (W.held sink.old) (W.held sink.new) result) }
-    ensures read_fault { R.broken source.new ≡ true → reader_failed result ≡ true }
+    ensures read_fault { R.broken source.new ≡ true
+        → (reader_failed result || writer_failed result) ≡ true }
     ensures write_fault { W.broken sink.new ≡ writer_failed result }
-    ensures taken { TookAtMost (R.left source.old) (R.left source.new) 1052736 }
-    ensures reads { CountsUpTo (R.fills source.old) (R.fills source.new) 100000 }
+    ensures taken { TookAtMost (R.left source.old) (R.left source.new) most_taken }
+    ensures reads { CountsUpTo (R.fills source.old) (R.fills source.new) most_reads }
 {
-    let message = read_script(alloc, source, MOST_BYTES)?;
-    let ended = do_message(alloc, desk, message.as_slice(), sink, now);
+    let ended = take_message(alloc, desk, source, sink, now);
     tell_end(sink, ended)
 }

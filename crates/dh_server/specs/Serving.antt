@@ -1,5 +1,5 @@
 -- What a server does to the world, one connection after another.
-use Rattle.std.specs.Prelude.{◌≡◌, ◌⊎◌, ℕ, zero, suc, List, Option, Result, Ok, Err}
+use Rattle.std.specs.Prelude.{◌≡◌, ◌⊎◌, ℕ, zero, suc, Bool, true, false, if◌then◌else◌, List, Option, Some, None, Result, Ok, Err}
 use Rattle.std.specs.Io.KnownBytes.{Appends}
 use Rattle.dh_ports.specs.Ports.{CountsUpTo, CountsAtLeast}
 use Rattle.dh_world.specs.World.{World}
@@ -8,6 +8,8 @@ use Rattle.dh_http.specs.Answers.{AnswersSource, MayApply}
 use Rattle.dh_http.specs.declared.fault.Done.{Done}
 use Rattle.dh_http.specs.declared.fault.EngineFault.{EngineFault}
 use Rattle.dh_http.specs.declared.fault.EngineFault.TheVariants as fault
+use Rattle.dh_server.specs.declared.listening.Came.{Came}
+use Rattle.dh_server.specs.declared.listening.Came.TheVariants as came
 
 -- the request of a source was answered at a moment, and all of the answer stands behind what the sink held; or the answer was
 -- made and not all of it went out; or no whole request was read, and nothing was done
@@ -34,13 +36,27 @@ AnswersSome IsMoment before after =
 abbrev pub Turn : (ℕ → Type 0) → World → World → Type 0
 Turn IsMoment before after = (after ≡ before) ⊎ AnswersSome IsMoment before after
 
+-- what passed over a connection: what it had left to read, what it held before it was answered and after it, and whether its
+-- writing has failed
+pub record Talk : Type 0 where
+  pub left : Option (List ℕ)
+  pub held : Option (List ℕ)
+  pub now : Option (List ℕ)
+  pub has_failed : Bool
+
+abbrev pub talk_of : Option (List ℕ) → Option (List ℕ) → Option (List ℕ) → Bool → Talk
+talk_of left held now has_failed =
+    record { left = left; held = held; now = now; has_failed = has_failed }
+
 -- one connection of either kind, at such a moment: of the port; or of a control socket, which does what `Does` says
-abbrev pub MayTurn : (ℕ → Type 0) → (ℕ → World → World → Type 0) → World → World → Type 0
+abbrev pub MayTurn : (ℕ → Type 0) → (ℕ → Talk → World → World → Type 0) → World → World → Type 0
 MayTurn IsMoment Does before after =
-    Turn IsMoment before after ⊎ ((moment : ℕ) × IsMoment moment × Does moment before after)
+    Turn IsMoment before after
+    ⊎ ((moment : ℕ) × IsMoment moment × (talk : Talk) × Does moment talk before after)
 
 -- so many connections, one after another
-abbrev pub Serves : (ℕ → Type 0) → (ℕ → World → World → Type 0) → ℕ → World → World → Type 0
+abbrev pub Serves
+    : (ℕ → Type 0) → (ℕ → Talk → World → World → Type 0) → ℕ → World → World → Type 0
 Serves IsMoment Does zero before after = after ≡ before
 Serves IsMoment Does (suc count) before after =
     (between : World) × Serves IsMoment Does count before between × MayTurn IsMoment Does between after
@@ -52,6 +68,19 @@ GivenBy {C} gives moment = (clock : C) × gives clock moment
 -- it was asked so many times, where that is counted
 abbrev pub Counts : Option ℕ → Option ℕ → ℕ → Type 0
 Counts old new n = CountsUpTo old new n × CountsAtLeast old new n
+
+-- how many connections of a control socket came
+abbrev pub is_message : Came → Bool
+is_message (came.Message stream) = true
+is_message (came.Request stream) = false
+
+abbrev pub messages_in : Option Came → ℕ
+messages_in None = 0
+messages_in (Some it) = if is_message it then 1 else 0
+
+-- so many connections of a control socket came, and as many were handed on, where both are counted
+abbrev pub HandsOn : Option ℕ → Option ℕ → Option ℕ → Option ℕ → Type 0
+HandsOn came more handed now = (count : ℕ) × Counts came more count × Counts handed now count
 
 -- the world stayed, or one command was done, refused or set aside
 abbrev pub StepsOnce : World → World → Type 0
@@ -65,10 +94,11 @@ Steps (suc count) before after =
     (between : World) × Steps count before between × StepsOnce between after
 
 -- a control socket over which no world is changed
-abbrev pub ChangesNothing : (ℕ → World → World → Type 0) → Type 0
-ChangesNothing Does = (moment : ℕ) (before after : World) → Does moment before after → after ≡ before
+abbrev pub ChangesNothing : (ℕ → Talk → World → World → Type 0) → Type 0
+ChangesNothing Does =
+    (moment : ℕ) (talk : Talk) (before after : World) → Does moment talk before after → after ≡ before
 
 -- beside such a socket so many connections are so many steps
-abbrev pub PortSteps : (ℕ → Type 0) → (ℕ → World → World → Type 0) → Type 0
+abbrev pub PortSteps : (ℕ → Type 0) → (ℕ → Talk → World → World → Type 0) → Type 0
 PortSteps IsMoment Does =
     ChangesNothing Does → (count : ℕ) (before after : World) → Serves IsMoment Does count before after → Steps count before after

@@ -1,22 +1,37 @@
 //! What is done with the connections of a control socket.
 
-ghost use Rattle.std.specs.Prelude.{◌≡◌, ℕ};
+ghost use Rattle.std.specs.Prelude.{◌≡◌, ℕ, Option, None, false};
 ghost use Rattle.dh_http.specs.Desk.{Moves};
+ghost use Rattle.dh_server.specs.Serving.{Counts, Talk, talk_of};
 ghost use Rattle.dh_world.specs.World.{World};
 
 use dh_http::Desk;
+use dh_ports::{Sink, Source};
 use sqlite::Alter;
 use std::alloc::Global;
-use std::os::unix::net::UnixStream;
 
 /// What is done with a connection of a control socket: orders come over it that the rights of its file let in.
 pub trait Control {
-    // What it may do to the world at a moment.
-    ghost does: { ℕ → World → World → Type 0 };
+    // What it does at a moment to the world, by what passes over the connection.
+    ghost does: { ℕ → Talk → World → World → Type 0 };
+
+    // How many connections it was handed, where it counts. A count stays at 2^64 - 1.
+    ghost handed: { Self → Option ℕ };
 
     /// Does what a connection asks for at a moment, in seconds since 1970, and answers it.
-    fn answer<S: Alter>(&mut self, alloc: Global, desk: &mut Desk<S>, stream: &UnixStream, now: u64)
-        ensures { Moves S.Store desk.old desk.new (does now) };
+    fn answer<S: Alter, R: Source, W: Sink>(
+        &mut self,
+        alloc: Global,
+        desk: &mut Desk<S>,
+        source: &mut R,
+        sink: &mut W,
+        now: u64,
+    )
+        requires reader { R.broken source.old ≡ false }
+        requires writer { W.broken sink.old ≡ false }
+        ensures moves { Moves S.Store desk.old desk.new (does now
+            (talk_of (R.left source.old) (W.held sink.old) (W.held sink.new) (W.broken sink.new))) }
+        ensures counts { Counts (handed self.old) (handed self.new) 1 };
 }
 
 /// Where there is no socket: nothing is done.
@@ -24,13 +39,16 @@ pub trait Control {
 pub struct NoControl;
 
 impl Control for NoControl {
-    ghost does = { λ _ before after. after ≡ before };
+    ghost does = { λ _ _ before after. after ≡ before };
 
-    fn answer<S: Alter>(
+    ghost handed = { λ _. None };
+
+    fn answer<S: Alter, R: Source, W: Sink>(
         &mut self,
         _alloc: Global,
         _desk: &mut Desk<S>,
-        _stream: &UnixStream,
+        _source: &mut R,
+        _sink: &mut W,
         _now: u64,
     ) {}
 }

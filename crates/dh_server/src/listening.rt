@@ -1,7 +1,8 @@
 //! Where connections come from.
 
 ghost use Rattle.std.specs.Prelude.{◌≡◌, ℕ, Option, Some};
-ghost use Rattle.dh_server.specs.Serving.{Counts};
+ghost use Rattle.dh_server.specs.Serving as spec;
+ghost use Rattle.dh_server.specs.Serving.{Counts, messages_in};
 
 use crate::stream::{accept_message, accept_request, limited, pause, ready};
 use std::io;
@@ -20,14 +21,30 @@ pub enum Came {
     Message(UnixStream),
 }
 
+impl Came {
+    /// Whether it came to the control socket.
+    fn is_message(&self) -> bool
+        ensures { result ≡ spec.is_message self.now }
+    {
+        match self {
+            Came::Message(_) => true,
+            Came::Request(_) => false,
+        }
+    }
+}
+
 /// Where connections come from.
 pub trait Listen {
     // How often it was asked for one, where it counts. A count stays at 2^64 - 1.
     ghost asked: { Self → Option ℕ };
 
+    // How many it gave that came to the control socket, where it counts. A count stays at 2^64 - 1.
+    ghost messages: { Self → Option ℕ };
+
     /// The next connection, which it waits for. None where there was none to be had, or it was lost before it could be answered.
     fn accept(&mut self) -> Option<Came>
-        ensures { Counts (asked self.old) (asked self.new) 1 };
+        ensures asks { Counts (asked self.old) (asked self.new) 1 }
+        ensures gives { Counts (messages self.old) (messages self.new) (messages_in result) };
 }
 
 /// The connections that come in at a port, and at a control socket where there is one: now from the one and now from the other
@@ -39,6 +56,7 @@ pub struct Listening<'a> {
     /// Whether the port was tried last.
     socket_first: bool,
     asked: u64,
+    messages: u64,
 }
 
 impl<'a> Listening<'a> {
@@ -49,6 +67,7 @@ impl<'a> Listening<'a> {
             socket: None,
             socket_first: true,
             asked: 0,
+            messages: 0,
         }
     }
 
@@ -64,12 +83,14 @@ impl<'a> Listening<'a> {
             socket: Some(socket),
             socket_first: true,
             asked: 0,
+            messages: 0,
         })
     }
 
     /// Waits for a connection of either, and accepts it: from the socket, unless that was tried last and the port has one, too.
     fn accept_either(&mut self, socket: &UnixListener) -> Option<Came>
-        ensures { self.new.asked ≡ self.old.asked }
+        ensures asked { self.new.asked ≡ self.old.asked }
+        ensures messages { self.new.messages ≡ self.old.messages }
     {
         let (has_request, has_message) = ready(self.port, socket);
         let is_message = has_message && (self.socket_first || !has_request);
@@ -83,7 +104,8 @@ impl<'a> Listening<'a> {
 
     /// One accept.
     fn accept_once(&mut self) -> Option<Came>
-        ensures { self.new.asked ≡ self.old.asked }
+        ensures asked { self.new.asked ≡ self.old.asked }
+        ensures messages { self.new.messages ≡ self.old.messages }
     {
         match self.socket {
             Some(socket) => self.accept_either(socket),
@@ -94,7 +116,8 @@ impl<'a> Listening<'a> {
     /// The next connection. An accept that failed is tried again after a pause, for a second: the system may have been out of
     /// descriptors, and then each further one fails at once.
     fn next_came(&mut self) -> Option<Came>
-        ensures { self.new.asked ≡ self.old.asked }
+        ensures asked { self.new.asked ≡ self.old.asked }
+        ensures messages { self.new.messages ≡ self.old.messages }
     {
         for _ in 0..MOST_TRIES {
             match self.accept_once() {
@@ -109,9 +132,14 @@ impl<'a> Listening<'a> {
 impl<'a> Listen for Listening<'a> {
     ghost asked = { λ listening. Some listening.asked };
 
+    ghost messages = { λ listening. Some listening.messages };
+
     fn accept(&mut self) -> Option<Came> {
         self.asked = self.asked.saturating_add(1);
-        let came = self.next_came()?;
-        limited(came)
+        let came = limited(self.next_came()?)?;
+        if came.is_message() {
+            self.messages = self.messages.saturating_add(1);
+        }
+        Some(came)
     }
 }

@@ -1,10 +1,10 @@
 //! Connections, one after another.
 
-ghost use Rattle.std.specs.Prelude.{◌≡◌, ◌≤◌, true, false, drop};
+ghost use Rattle.std.specs.Prelude.{◌≡◌, ◌≤◌, true, false, drop, Some};
 ghost use Rattle.std.specs.Io.KnownBytes.{append_known};
 ghost use Rattle.dh_http.specs.Desk.{Moves};
 ghost use Rattle.dh_http.specs.Answers as spec;
-ghost use Rattle.dh_server.specs.Serving.{Answers, Turn, MayTurn, Serves, GivenBy, ChangesNothing, Steps, Counts};
+ghost use Rattle.dh_server.specs.Serving.{Answers, Turn, Talk, MayTurn, Serves, GivenBy, ChangesNothing, Steps, Counts, HandsOn, messages_in};
 ghost use Rattle.dh_server.specs.Telling.{TellsSome};
 
 use crate::beginning::{Beginning, Heard};
@@ -22,6 +22,7 @@ use dh_ports::{Port, Sink, Source};
 use sqlite::Alter;
 use std::alloc::Global;
 use std::net::TcpStream;
+use std::os::unix::net::UnixStream;
 use std::time::Clock;
 
 /// How many seconds reading and writing may take.
@@ -108,6 +109,46 @@ fn answer_stream<S: Alter, T: Clock + Copy, L: Sink>(
     }
 }
 
+/// Has what comes over a connection of the control socket done and answered, at a moment. What it asks for may take longer than
+/// it may take to come.
+fn answer_control<S: Alter, K: Control, T: Clock + Copy>(
+    alloc: Global,
+    desk: &mut Desk<S>,
+    control: &mut K,
+    stream: &UnixStream,
+    now: u64,
+    clock: T,
+)
+    ensures moves { Moves S.Store desk.old desk.new
+        (λ before after. (talk : Talk) × K.does now talk before after) }
+    ensures counts { Counts (K.handed control.old) (K.handed control.new) 1 }
+{
+    let mut source = Timed::new(clock, MOST_SECONDS, Port::new(Steady::new(stream)));
+    let mut sink = Port::new(Steady::new(stream));
+    control.answer(alloc, desk, &mut source, &mut sink, now);
+}
+
+/// Answers a connection that came, at a moment.
+fn answer_came<S: Alter, K: Control, T: Clock + Copy, L: Sink>(
+    alloc: Global,
+    desk: &mut Desk<S>,
+    control: &mut K,
+    came: Came,
+    now: u64,
+    log: &Log<T>,
+    errors: &mut L,
+)
+    ensures hears { Counts (K.handed control.old) (K.handed control.new) (messages_in (Some came)) }
+    ensures turn { Moves S.Store desk.old desk.new (MayTurn (λ moment. moment ≡ now) K.does) }
+    ensures tells { TellsSome L.broken L.held errors.old errors.new }
+    ensures off { log.now.is_on ≡ false → errors.new ≡ errors.old }
+{
+    match came {
+        Came::Request(stream) => answer_stream(alloc, desk, &stream, now, log, errors),
+        Came::Message(stream) => answer_control(alloc, desk, control, &stream, now, log.clock()),
+    }
+}
+
 /// Answers the next connection, at the moment when it came.
 fn serve_next<S: Alter, N: Listen, K: Control, C: FnMut() -> u64, T: Clock + Copy, L: Sink>(
     alloc: Global,
@@ -121,6 +162,8 @@ fn serve_next<S: Alter, N: Listen, K: Control, C: FnMut() -> u64, T: Clock + Cop
     requires { C.IsAlwaysCallable clock.old }
     ensures asks { Counts (N.asked listener.old) (N.asked listener.new) 1 }
     ensures callable { C.IsAlwaysCallable clock.new }
+    ensures hears { HandsOn (N.messages listener.old) (N.messages listener.new)
+        (K.handed control.old) (K.handed control.new) }
     ensures turn { Moves S.Store desk.old desk.new (MayTurn (GivenBy C.post) K.does) }
     ensures tells { TellsSome L.broken L.held errors.old errors.new }
     ensures off { log.now.is_on ≡ false → errors.new ≡ errors.old }
@@ -128,8 +171,7 @@ fn serve_next<S: Alter, N: Listen, K: Control, C: FnMut() -> u64, T: Clock + Cop
     let came = listener.accept();
     let now = clock();
     match came {
-        Some(Came::Request(stream)) => answer_stream(alloc, desk, &stream, now, log, errors),
-        Some(Came::Message(stream)) => control.answer(alloc, desk, &stream, now),
+        Some(came) => answer_came(alloc, desk, control, came, now, log, errors),
         None => log.tell(alloc, errors, None, &Entry::none(now), 0, None),
     }
 }
@@ -153,6 +195,8 @@ pub fn serve_on<S: Alter, N: Listen, K: Control, C: FnMut() -> u64, T: Clock + C
     ensures few { result ≤ count }
     ensures all { desk.new.closed ≡ false → result ≡ count }
     ensures shut { desk.old.closed ≡ true → result ≡ 0 }
+    ensures hears { HandsOn (N.messages listener.old) (N.messages listener.new)
+        (K.handed control.old) (K.handed control.new) }
     ensures serves { Moves S.Store desk.old desk.new (Serves (GivenBy C.post) K.does result) }
     ensures steps { ChangesNothing K.does → Moves S.Store desk.old desk.new (Steps result) }
     ensures tells { TellsSome L.broken L.held errors.old errors.new }

@@ -14,7 +14,7 @@ use Rattle.dh_http.specs.Answers.{AnswersSource, Writes}
 use Rattle.dh_http.specs.declared.fault.EngineFault.{EngineFault}
 use Rattle.dh_faults.specs.declared.fault.Fault.{Fault}
 use Rattle.dh_faults.specs.declared.fault.Fault.TheVariants as lookup
-use Rattle.dh_server.specs.Serving.{MayTurn, Serves, Turn}
+use Rattle.dh_server.specs.Serving.{MayTurn, Serves, Talk, Turn}
 use Rattle.dh_world.specs.World.{Text, World}
 use Rattle.dh_world.specs.declared.command.Command.{Command}
 use Rattle.dh_world.specs.declared.command.CommandChange.TheVariants.{ImportRedirects}
@@ -31,7 +31,7 @@ use Rattle.docs_host.specs.Ends.{Ended, EndsError, EndsHelp, EndsScript, EndsChe
 use Rattle.docs_host.specs.Ends.{is_fault, status_after, may_end_order, may_end_single, asks_help, asks_version, line_asked, line_run}
 use Rattle.docs_host.specs.Failing.{may_fail, IsDoneOr, is_of_output, is_of_init, is_of_list, is_of_script, is_of_command, is_of_opened, is_of_order, is_of_sent, may_be_sent, is_of_checked, is_of_file, is_of_memory}
 use Rattle.docs_host.specs.Failures.{failure_of}
-use Rattle.docs_host.specs.Orders.{OrdersList, RunsRequest, DoesSome, ServesBoth, bad_record, has_bad_target, import_order}
+use Rattle.docs_host.specs.Orders.{OrdersList, RunsRequest, AnswersOne, ServesBoth, bad_record, has_bad_target, import_order}
 use Rattle.docs_host.specs.declared.beside.ControlFault.{ControlFault}
 use Rattle.docs_host.specs.declared.failure.Failure.{Failure}
 use Rattle.docs_host.specs.declared.failure.Failure.TheVariants.{File, List as OfList, Store, Memory, Bind, Socket, Control, Write, Script, Request}
@@ -103,15 +103,15 @@ some_answered : (IsMoment : ℕ → Type 0) (w v : World) → Turn IsMoment w v 
 some_answered IsMoment w v (inl same) = inl same
 some_answered IsMoment w v (inr it) = inr (it.0, tt, it.2, it.3, it.4, it.5)
 
-may_turn : (IsMoment : ℕ → Type 0) (Does : ℕ → World → World → Type 0) (w v : World)
+may_turn : (IsMoment : ℕ → Type 0) (Does : ℕ → Talk → World → World → Type 0) (w v : World)
     → MayTurn IsMoment Does w v → MayTurn (λ moment. ⊤) Does w v
 may_turn IsMoment Does w v (inl turn) = inl (some_answered IsMoment w v turn)
-may_turn IsMoment Does w v (inr (moment, is, did)) = inr (moment, tt, did)
+may_turn IsMoment Does w v (inr (moment, is, talk, did)) = inr (moment, tt, talk, did)
 
-pub any_moment : (IsMoment : ℕ → Type 0) (n : ℕ) (w v : World) → Serves IsMoment DoesSome n w v → ServesBoth n w v
+pub any_moment : (IsMoment : ℕ → Type 0) (n : ℕ) (w v : World) → Serves IsMoment AnswersOne n w v → ServesBoth n w v
 any_moment IsMoment zero w v it = it
 any_moment IsMoment (suc n) w v it =
-    (it.0, any_moment IsMoment n w it.0 it.1, may_turn IsMoment DoesSome it.0 v it.2)
+    (it.0, any_moment IsMoment n w it.0 it.1, may_turn IsMoment AnswersOne it.0 v it.2)
 
 -- the engine's fault is that of the run
 pub request_failed

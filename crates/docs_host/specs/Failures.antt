@@ -35,7 +35,6 @@ list_name list.Unread = codes "Read"
 list_name list.TooLong = codes "TooLong"
 
 abbrev pub socket_name : SocketFault → Text
-socket_name socket.TooLong = codes "Bind"
 socket_name socket.Taken = codes "Bind"
 socket_name socket.Unbound = codes "Bind"
 socket_name socket.Memory = codes "Memory"

@@ -1,4 +1,5 @@
 pub mod Ends
+pub mod Exchanges
 pub mod Failing
 pub mod Failures
 pub mod Orders

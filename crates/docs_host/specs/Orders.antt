@@ -10,12 +10,13 @@ use Rattle.dh_lines.specs.declared.lines.Order.TheVariants as order
 use Rattle.dh_lists.specs.Lists.{ReadsList}
 use Rattle.dh_lists.specs.declared.lists.ListFault.{ListFault}
 use Rattle.dh_paths.specs.Targets.{target_of}
+use Rattle.dh_script.specs.Reading.{writer_failed}
 use Rattle.dh_script.specs.Running.{RunsScript}
 use Rattle.dh_script.specs.Script.{PerformsSingle}
 use Rattle.dh_control.specs.Answers.{AnswersMessage}
 use Rattle.dh_control.specs.declared.end.End.{End}
 use Rattle.dh_script.specs.declared.fault.ScriptFault.{ScriptFault}
-use Rattle.dh_server.specs.Serving.{Serves}
+use Rattle.dh_server.specs.Serving.{Serves, Talk}
 use Rattle.dh_redirects.specs.declared.redirect.Redirect.{Redirect}
 use Rattle.dh_world.specs.World.{Text, World}
 use Rattle.dh_world.specs.declared.command.CommandChange.TheVariants.{ImportRedirects}
@@ -70,16 +71,18 @@ RunsRequest moment before after left held now (Err (Request fault)) =
     Writes (AnswersSource moment left before after) held now (Err fault)
 RunsRequest moment before after left held now (Err failure) = ⊥
 
--- what a control socket has done at a moment: some message was done and answered, or it could not be read, and nothing was done
-abbrev pub DoesSome : ℕ → World → World → Type 0
-DoesSome moment before after =
-    (left : Option Text) × (held : Option Text) × (now : Option Text) × (result : Result End ScriptFault)
-    × AnswersMessage moment left before after held now result
+-- the message of a connection was done and answered, or it was not read, and that was told; where its last line is lost, the
+-- writing has failed
+abbrev pub AnswersOne : ℕ → Talk → World → World → Type 0
+AnswersOne moment talk before after =
+    (result : Result End ScriptFault)
+    × AnswersMessage moment talk.left before after talk.held talk.now result
+    × (talk.has_failed ≡ writer_failed result)
 
 -- so many connections, one after another, each at some moment: of the port, with one request; or of the control socket, with one
 -- message
 abbrev pub ServesBoth : ℕ → World → World → Type 0
-ServesBoth = Serves (λ moment. ⊤) DoesSome
+ServesBoth = Serves (λ moment. ⊤) AnswersOne
 
 -- an order was run: the lines of a script, whole or in part; a request, which was answered, wholly or
 -- in part; so many connections, each with one request or one message; or a single command, read or list

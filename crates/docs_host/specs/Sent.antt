@@ -1,8 +1,9 @@
 -- What a server is asked for that has the file, and how a run ends by its answer.
-use Rattle.std.specs.Prelude.{◌≡◌, ◌⊎◌, ℕ, Bool, true, false, IsTrue, List, Option, Some, None, Result, Ok, Err, is_err}
+use Rattle.std.specs.Prelude.{◌≡◌, ◌⊎◌, ℕ, Bool, true, false, IsTrue, List, Option, Some, None, Result, Ok, Err, IfSome, is_err}
 use Rattle.std.specs.Io.KnownBytes.{Appends}
 use Rattle.dh_ports.specs.Ports.{PutsFirst}
 use Rattle.dh_world.specs.World.{Text}
+use Rattle.dh_files.specs.declared.fault.FileFault.TheVariants.{Busy}
 use Rattle.dh_lines.specs.declared.lines.Order.{Order}
 use Rattle.dh_lines.specs.declared.lines.Order.TheVariants as order
 use Rattle.dh_script.specs.declared.fault.RunFault.TheVariants as run
@@ -14,10 +15,11 @@ use Rattle.dh_control.specs.Messages.{script_message, words_message}
 use Rattle.dh_control.specs.declared.end.End.{End}
 use Rattle.dh_control.specs.declared.end.End.TheVariants as end
 use Rattle.docs_host.specs.Ends.{Ended, may_end_order}
+use Rattle.docs_host.specs.Exchanges.{Exchange, OneMore}
 use Rattle.docs_host.specs.Failing.{is_of_sent, may_be_sent}
 use Rattle.docs_host.specs.declared.beside.ControlFault.TheVariants.{Untold, OtherVersion, Met}
 use Rattle.docs_host.specs.declared.failure.Failure.{Failure}
-use Rattle.docs_host.specs.declared.failure.Failure.TheVariants.{Control, Script, Write}
+use Rattle.docs_host.specs.declared.failure.Failure.TheVariants.{Control, File, Script, Write}
 use Rattle.docs_host.specs.declared.failure.Status.{Status}
 use Rattle.docs_host.specs.declared.failure.Status.TheVariants.{Done, Refused}
 
@@ -36,14 +38,18 @@ Asks words order script (Some message) =
 
 -- ---- the answer
 
--- what of an answer is printed, and the word that tells its end; of one that was cut its whole lines are, and it has no such word
-abbrev pub parts_by : Text → Option (Text × Text) → Text × Option Text
-parts_by answer None = (whole_lines answer, None)
-parts_by answer (Some parts) = (parts.0, Some parts.1)
+-- the word that tells the end, where what was read came to its end
+abbrev pub word_told : Bool → Text → Option Text
+word_told true word = Some word
+word_told false word = None
+
+-- what of an answer is printed, and that word; of one that was cut its whole lines are, and it has no such word
+abbrev pub parts_by : Text → Bool → Option (Text × Text) → Text × Option Text
+parts_by answer is_whole None = (whole_lines answer, None)
+parts_by answer is_whole (Some parts) = (parts.0, word_told is_whole parts.1)
 
 abbrev pub parts_of : Text → Bool → Text × Option Text
-parts_of answer true = parts_by answer (cut answer)
-parts_of answer false = (whole_lines answer, None)
+parts_of answer is_whole = parts_by answer is_whole (cut answer)
 
 -- a script has no refusal of its own, and so a server that tells one tells no end of it
 abbrev pub refused_as : Order → Result Status Failure
@@ -79,8 +85,26 @@ Prints order parts held now result =
 abbrev pub EndsSent : Order → Result Status Failure → Type 0
 EndsSent order = Ended (λ status. IsTrue (may_end_order order status)) (is_of_sent order)
 
--- a server answered, which was printed so; or none was asked or none answered, and nothing was printed
-abbrev pub IsAnswered : Order → Option Text → Option Text → Result Status Failure → Type 0
-IsAnswered order held now result =
-    ((answer : Text) × (is_whole : Bool) × Prints order (parts_of answer is_whole) held now result)
-    ⊎ ((is_err result ≡ true) × (now ≡ held))
+-- what came back was printed so; where nobody answered the file is another program's, and nothing was printed
+abbrev pub PrintsAnswer : Order → Option (Text × Bool) → Option Text → Option Text → Result Status Failure → Type 0
+PrintsAnswer order None held now result = (result ≡ Err (File Busy)) × (now ≡ held)
+PrintsAnswer order (Some answer) held now result =
+    Prints order (parts_of answer.0 answer.1) held now result
+
+-- the message of what is ordered was sent to the server of the file, with the whole input where that is a script, and what came
+-- back was printed
+pub record SendsOrder (sent more : Option (List Exchange)) (words : List Text) (ordered : Order) (file : Text) (left held now : Option Text) (result : Result Status Failure) : Type 0 where
+  pub script : Text
+  pub answer : Option (Text × Bool)
+  pub may : may_be_sent ordered ≡ true
+  pub read : ordered ≡ order.Script → IfSome left (λ input. script ≡ input)
+  pub told : OneMore sent more (record { file = file; message = message_of words ordered script; answer = answer })
+  pub prints : PrintsAnswer ordered answer held now result
+
+-- or no server was asked, and nothing was printed
+abbrev pub AsksServer
+    : Option (List Exchange) → Option (List Exchange) → List Text → Order → Text → Option Text → Option Text → Option Text
+    → Result Status Failure → Type 0
+AsksServer sent more words ordered file left held now result =
+    SendsOrder sent more words ordered file left held now result
+    ⊎ ((is_err result ≡ true) × (more ≡ sent) × (now ≡ held))

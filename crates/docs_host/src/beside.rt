@@ -1,32 +1,26 @@
 //! Runs over a file that a server has open: the server does what is ordered, and the run ends as it tells.
 
-ghost use Rattle.std.specs.Prelude.{◌≡◌, ◌++◌, true, false, map, string_bytes, option_map, IfErr, IfOk, IfSome};
+ghost use Rattle.std.specs.Prelude.{◌≡◌, true, false, map, string_bytes, option_map, IfErr, IfOk, IfSome};
 ghost use Rattle.dh_server.specs.Telling.{TellsSome};
 ghost use Rattle.docs_host.specs.Failing.{may_be_sent};
 ghost use Rattle.docs_host.specs.Failures.{control_name};
 ghost use Rattle.docs_host.specs.Orders.{AreUnbroken};
 ghost use Rattle.docs_host.specs.Sent as spec;
-ghost use Rattle.docs_host.specs.Sent.{Asks, EndsSent, EndsTold, IsAnswered, Prints, ends_as};
+ghost use Rattle.docs_host.specs.Sent.{Asks, AsksServer, EndsSent, EndsTold, Prints, ends_as};
 
 use crate::explaining::explain;
-use crate::failure::{Failure, Status};
-use crate::socket::connect_socket;
+use crate::failure::{Failure, Status, tell_sentence};
+use crate::sending::{Ask, Silence};
 use crate::streams::Streams;
 use dh_control::{End, cut, read_end, script_message, whole_lines, words_message};
 use dh_files::FileFault;
 use dh_lines::Order;
-use dh_ports::{Port, Sink, Source, put_all};
+use dh_ports::{Sink, Source, put_all};
 use dh_script::{RunFault, ScriptFault, read_script};
-use dh_server::Steady;
 use std::alloc::{AllocError, Global};
-use std::net::Shutdown;
-use std::os::unix::net::UnixStream;
 
 /// The most bytes of a script.
 const MOST_SCRIPT: usize = 1_048_576;
-
-/// How many bytes of an answer one read asks for.
-const PIECE: usize = 16_384;
 
 /// Why a server did not do what it was asked, or may not have.
 #[derive(Clone, Copy, Debug, PartialEq, Eq)]
@@ -118,47 +112,15 @@ fn message_for(
     }
 }
 
-/// Reads on to the end of an answer, and says whether that came.
-fn read_answer<R: Source>(source: &mut R, answer: &mut Vec<u8>) -> bool
-    requires { R.broken source.old ≡ false }
-    ensures { result ≡ true → IfSome (R.left source.old)
-        (λ input. answer.new.items ≡ answer.old.items ++ input) }
-{
-    let mut room = [0u8; PIECE];
-    'pieces: for _ in 0..u64::MAX {
-        match source.fill(&mut room) {
-            Ok(0) => return true,
-            Ok(count) => {
-                if answer.extend_from_slice(&room[..count]).is_err() {
-                    return false;
-                }
-            }
-            Err(_) => return false,
-        }
-    }
-    false
-}
-
-/// Sends a message, and gives what is answered, and whether that came to its end.
-fn ask(alloc: Global, stream: &UnixStream, message: &[u8]) -> (Vec<u8>, bool) {
-    // A message that does not go out whole is cut, and a server does nothing for it; what it says stands in its answer.
-    let _ = put_all(&mut Port::new(Steady::new(stream)), message);
-    let _ = stream.shutdown(Shutdown::Write);
-    let mut answer = Vec::new(alloc);
-    let is_whole = read_answer(&mut Port::new(Steady::new(stream)), &mut answer);
-    (answer, is_whole)
-}
-
-/// What of an answer is printed, and the word that tells its end: none where it was cut, and then its whole lines are printed.
+/// What of an answer is printed, and the word that tells its end: none where it was cut, and then its whole lines are printed. One
+/// that did not come to its end tells none, though it looks so.
 fn parts_of(answer: &[u8], is_whole: bool) -> (&[u8], Option<&[u8]>)
     ensures { (result.0.now, option_map (λ word. word.now) result.1)
         ≡ spec.parts_of answer.now is_whole }
 {
-    if !is_whole {
-        return (whole_lines(answer), None);
-    }
     match cut(answer) {
-        Some(parts) => (parts.printed, Some(parts.end)),
+        Some(parts) if is_whole => (parts.printed, Some(parts.end)),
+        Some(parts) => (parts.printed, None),
         None => (whole_lines(answer), None),
     }
 }
@@ -221,37 +183,57 @@ fn tell_answer<W: Sink>(
     }
 }
 
+/// Says why no server could be asked, where that is known.
+fn tell_silence<E: Sink>(silence: Silence, errors: &mut E)
+    ensures { TellsSome E.broken E.held errors.old errors.new }
+{
+    match silence {
+        Silence::TooLong => tell_sentence(
+            errors,
+            "with .control behind it the path of this file has more than 107 bytes, too many for a control socket, so no server can be asked",
+        ),
+        Silence::Nobody => {}
+    }
+}
+
 /// Has the server that has a file open do what is ordered. Where nobody answers the file is another program's, and nothing is
 /// done.
-pub fn run_beside<R: Source, W: Sink, E: Sink>(
-    rt: &HostRuntime,
+pub fn run_beside<A: Ask, R: Source, W: Sink, E: Sink>(
+    alloc: Global,
+    asker: &mut A,
     words: &[String],
     order: &Order,
     file: &str,
     streams: &mut Streams<R, W, E>,
 ) -> Result<Status, Failure>
     requires ready { AreUnbroken (R.broken streams.old.source) (W.broken streams.old.sink) }
-    ensures answered { IsAnswered order.now (W.held streams.old.sink) (W.held streams.new.sink)
-        result }
+    ensures asks { AsksServer (A.sent asker.old) (A.sent asker.new)
+        (map string_bytes words.now) order.now file.now
+        (R.left streams.old.source) (W.held streams.old.sink) (W.held streams.new.sink) result }
     ensures ends { EndsSent order.now result }
     ensures tells { TellsSome E.broken E.held streams.old.errors streams.new.errors }
 {
-    let script = script_for(rt.alloc(), order, &mut streams.source)?;
-    let Some(message) = message_for(rt.alloc(), words, order, script.as_slice())? else {
+    let script = script_for(alloc, order, &mut streams.source)?;
+    let Some(message) = message_for(alloc, words, order, script.as_slice())? else {
         return Err(Failure::File(FileFault::Busy));
     };
-    let Some(stream) = connect_socket(rt, file) else {
-        return Err(Failure::File(FileFault::Busy));
-    };
-    let (answer, is_whole) = ask(rt.alloc(), &stream, message.as_slice());
-    let result = tell_answer(order, answer.as_slice(), is_whole, &mut streams.sink);
-    explain(
-        rt.alloc(),
-        order,
-        result,
-        script.as_slice(),
-        answer.as_slice(),
-        &mut streams.errors,
-    );
-    result
+    match asker.ask(alloc, file, message.as_slice()) {
+        Ok(answer) => {
+            let told = answer.bytes.as_slice();
+            let result = tell_answer(order, told, answer.is_whole, &mut streams.sink);
+            explain(
+                alloc,
+                order,
+                result,
+                script.as_slice(),
+                told,
+                &mut streams.errors,
+            );
+            result
+        }
+        Err(silence) => {
+            tell_silence(silence, &mut streams.errors);
+            Err(Failure::File(FileFault::Busy))
+        }
+    }
 }

@@ -8,6 +8,7 @@ mod failure;
 mod lists;
 mod orders;
 mod program;
+mod sending;
 mod serving;
 mod socket;
 mod streams;

@@ -13,9 +13,10 @@ ghost use Rattle.docs_host.specs.Telling.{TellsEnd};
 ghost use Rattle.docs_host.specs.Telling as telling;
 
 use crate::beside::run_beside;
-use crate::failure::{Failure, Status, tell, tell_reason, tell_usage};
+use crate::failure::{Failure, Status, tell, tell_reason, tell_sentence, tell_usage};
 use crate::lists::{ListFile, order_in, read_list_file, refuse_record};
 use crate::orders::{run_lines, run_order, say};
+use crate::sending::Sockets;
 use crate::serving::{Served, serve_rest};
 use crate::streams::Streams;
 use crate::usage::{tell_help, tell_mistake, tell_version};
@@ -69,7 +70,20 @@ fn run_opened<S: Start, R: Source, W: Sink, E: Sink>(
     Ok(status)
 }
 
-/// Does what is ordered over the records of a file that no other program has.
+/// Says what an import wants of a file that another program has.
+fn tell_held<E: Sink>(fault: FileFault, errors: &mut E)
+    ensures { TellsSome E.broken E.held errors.old errors.new }
+{
+    match fault {
+        FileFault::Busy => tell_sentence(
+            errors,
+            "an import is done by no server: stop the one that has the file, and run it again",
+        ),
+        _ => {}
+    }
+}
+
+/// Imports what is ordered over the records of a file, which no other program may have.
 fn run_alone<S: Start, R: Source, W: Sink, E: Sink>(
     rt: &HostRuntime,
     start: S,
@@ -83,8 +97,13 @@ fn run_alone<S: Start, R: Source, W: Sink, E: Sink>(
         (is_of_opened order.now) result }
     ensures tells { TellsSome E.broken E.held streams.old.errors streams.new.errors }
 {
-    let opened = open_desk(rt, file, start)?;
-    run_opened(rt, opened, order, file, streams, now)
+    match open_desk(rt, file, start) {
+        Ok(opened) => run_opened(rt, opened, order, file, streams, now),
+        Err(fault) => {
+            tell_held(fault, &mut streams.errors);
+            Err(Failure::File(fault))
+        }
+    }
 }
 
 /// Does what is ordered over the records of a file; where a server has it, that is asked to.
@@ -109,7 +128,14 @@ fn run_over<S: Start, R: Source, W: Sink, E: Sink>(
     }
     match open_desk(rt, file, start) {
         Ok(opened) => run_opened(rt, opened, order, file, streams, now),
-        Err(FileFault::Busy) => run_beside(rt, words, order, file, streams),
+        Err(FileFault::Busy) => run_beside(
+            rt.alloc(),
+            &mut Sockets { rt },
+            words,
+            order,
+            file,
+            streams,
+        ),
         Err(fault) => Err(Failure::File(fault)),
     }
 }

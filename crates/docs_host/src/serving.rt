@@ -1,36 +1,34 @@
 //! The server.
 
-ghost use Rattle.std.specs.Prelude.{◌≡◌, ◌≤◌, ◌-◌, true, false, unwrap_or, IfErr, IfOk, OnOk, OnErr, IsTrue, MatchOption};
+ghost use Rattle.std.specs.Prelude.{◌≡◌, ◌≤◌, ◌-◌, true, false, unwrap_or, IfErr, IfOk, OnOk, OnErr, IsTrue, MatchOption, Some};
 ghost use Rattle.dh_http.specs.Desk.{Moves};
 ghost use Rattle.dh_server.specs.Serving.{Counts};
 ghost use Rattle.dh_server.specs.Telling.{TellsSome};
 ghost use Rattle.docs_host.specs.Failing.{IsDoneOr, is_of_init, is_of_server, may_fail};
-ghost use Rattle.docs_host.specs.Orders.{DoesSome, ServesBoth};
+ghost use Rattle.docs_host.specs.Orders.{AnswersOne, ServesBoth};
 
 use crate::clock::seconds;
 use crate::failure::{Failure, Status, put};
 use crate::orders::say;
-use crate::socket::{bind_socket, remove_socket};
+use crate::socket::{SocketFault, bind_socket, remove_socket};
 use crate::streams::Streams;
 use dh_control::answer_message;
 use dh_files::{FileFault, close_desk, open_desk};
 use dh_http::Desk;
-use dh_ports::{Port, Sink, Source};
-use dh_server::{Control, Listen, Listening, Log, Steady, Timed, serve_on};
+use dh_ports::{Sink, Source};
+use dh_server::{Control, Listen, Listening, Log, serve_on};
 use sqlite::Alter;
 use sqlite_disk::Unknown;
 use std::alloc::Global;
+use std::io;
 use std::net::{SocketAddr, TcpListener};
-use std::os::unix::net::{UnixListener, UnixStream};
-
-/// How many seconds a message may take to come. What it asks for has no such limit: a script runs to its end.
-const MOST_SECONDS: u64 = 60;
+use std::os::unix::net::UnixListener;
 
 /// What a fault of the store left to serve, over the same port and socket.
 #[derive(Drop)]
 pub struct Rest {
     listener: TcpListener,
-    socket: UnixListener,
+    socket: Option<UnixListener>,
     /// How many connections are still to be answered.
     count: u32,
     /// Whether each is told.
@@ -82,41 +80,29 @@ fn tell_again<E: Sink>(alloc: Global, file: &str, errors: &mut E)
     }
 }
 
-/// Does what a message asks for, and answers it.
-fn answer_some<S: Alter, R: Source, W: Sink>(
-    alloc: Global,
-    desk: &mut Desk<S>,
-    source: &mut R,
-    sink: &mut W,
-    now: u64,
-)
-    requires reader { R.broken source.old ≡ false }
-    requires writer { W.broken sink.old ≡ false }
-    ensures { Moves S.Store desk.old desk.new (DoesSome now) }
-{
-    // What came of it is told to the client, where it is there to be told.
-    let _ = answer_message(alloc, desk, source, sink, now);
-}
-
 /// What comes in at the control socket: messages.
 #[derive(Drop)]
-struct Messages<'a> {
-    clock: &'a HostRuntime,
+struct Messages {
+    /// How many came; it stays at 2^64 - 1.
+    count: u64,
 }
 
-impl<'a> Control for Messages<'a> {
-    ghost does = { DoesSome };
+impl Control for Messages {
+    ghost does = { AnswersOne };
 
-    fn answer<S: Alter>(
+    ghost handed = { λ messages. Some messages.count };
+
+    fn answer<S: Alter, R: Source, W: Sink>(
         &mut self,
         alloc: Global,
         desk: &mut Desk<S>,
-        stream: &UnixStream,
+        source: &mut R,
+        sink: &mut W,
         now: u64,
     ) {
-        let mut source = Timed::new(self.clock, MOST_SECONDS, Port::new(Steady::new(stream)));
-        let mut sink = Port::new(Steady::new(stream));
-        answer_some(alloc, desk, &mut source, &mut sink, now);
+        self.count = self.count.saturating_add(1);
+        // What came of it is told to the client, where it is there to be told.
+        let _ = answer_message(alloc, desk, source, sink, now);
     }
 }
 
@@ -142,7 +128,7 @@ fn serve_desk<S: Alter, N: Listen, E: Sink>(
         rt.alloc(),
         desk,
         listening,
-        &mut Messages { clock: rt },
+        &mut Messages { count: 0 },
         &mut clock,
         count,
         &log,
@@ -154,13 +140,24 @@ fn serve_desk<S: Alter, N: Listen, E: Sink>(
     None
 }
 
+/// What comes in at a port, and at a control socket where there is one.
+fn listening_at<'a>(
+    port: &'a TcpListener,
+    socket: Option<&'a UnixListener>,
+) -> io::Result<Listening<'a>> {
+    match socket {
+        Some(socket) => Listening::with_socket(port, socket),
+        None => Ok(Listening::new(port)),
+    }
+}
+
 /// Answers so many connections at a port and at a socket. Where a fault of the store closes the desk, what is left of
 /// them is for `serve_rest`.
 fn serve_at<S: Alter, R: Source, W: Sink, E: Sink>(
     rt: &HostRuntime,
     desk: &mut Desk<S>,
     served: &mut Served<'_>,
-    socket: UnixListener,
+    socket: Option<UnixListener>,
     count: u32,
     port: u16,
     log: bool,
@@ -183,7 +180,7 @@ fn serve_at<S: Alter, R: Source, W: Sink, E: Sink>(
         served.projects,
         &mut streams.errors,
     );
-    let Ok(mut listening) = Listening::with_socket(&listener, &socket) else {
+    let Ok(mut listening) = listening_at(&listener, socket.as_ref()) else {
         return Err(Failure::Bind);
     };
     match serve_desk(rt, desk, &mut listening, count, log, &mut streams.errors) {
@@ -200,8 +197,34 @@ fn serve_at<S: Alter, R: Source, W: Sink, E: Sink>(
     Ok(Status::Done)
 }
 
+/// Says that a file is served without a control socket, unless memory is out.
+fn tell_without_socket<E: Sink>(alloc: Global, file: &str, errors: &mut E)
+    ensures { TellsSome E.broken E.held errors.old errors.new }
+{
+    if let Ok(line) = format!(in alloc;
+        "docs_host: {file}: with .control behind it this path has more than 107 bytes, too many for a control socket, so commands beside this server find the file busy; start it in the file's folder, and name the file alone\n"
+    ) {
+        put(errors, line.as_str());
+    }
+}
+
+/// Makes the control socket of a file, or says that it has none.
+fn open_socket<E: Sink>(
+    rt: &HostRuntime,
+    file: &str,
+    errors: &mut E,
+) -> Result<Option<UnixListener>, SocketFault>
+    ensures { TellsSome E.broken E.held errors.old errors.new }
+{
+    let socket = bind_socket(rt, file)?;
+    if socket.is_none() {
+        tell_without_socket(rt.alloc(), file, errors);
+    }
+    Ok(socket)
+}
+
 /// Answers so many connections: of a port, one request each, which the log tells to standard error; and of the control
-/// socket beside the file, one message each. Where a fault of the store closes the desk, what is left of them is for
+/// socket beside the file, where it may have one, one message each. Where a fault of the store closes the desk, what is left of them is for
 /// `serve_rest`, and the socket stays; else it is removed.
 pub fn serve<S: Alter, R: Source, W: Sink, E: Sink>(
     rt: &HostRuntime,
@@ -220,7 +243,7 @@ pub fn serve<S: Alter, R: Source, W: Sink, E: Sink>(
         × Moves S.Store desk.old desk.new (ServesBoth (count - rest.count)))) }
     ensures tells { TellsSome E.broken E.held streams.old.errors streams.new.errors }
 {
-    let socket = bind_socket(rt, served.file)?;
+    let socket = open_socket(rt, served.file, &mut streams.errors)?;
     let ended = serve_at(rt, desk, served, socket, count, port, log, streams);
     if served.rest.is_none() {
         remove_socket(rt, served.file);
@@ -301,7 +324,7 @@ pub fn serve_rest<E: Sink>(
     ensures tells { TellsSome E.broken E.held errors.old errors.new }
 {
     // (both were made so before, and stay so)
-    let Ok(mut listening) = Listening::with_socket(&rest.listener, &rest.socket) else {
+    let Ok(mut listening) = listening_at(&rest.listener, rest.socket.as_ref()) else {
         return Err(Failure::File(FileFault::Failed));
     };
     serve_left(rt, file, &mut listening, rest.count, rest.log, errors)

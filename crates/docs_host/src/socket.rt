@@ -3,6 +3,7 @@
 ghost use Rattle.std.specs.Prelude.{◌≡◌};
 ghost use Rattle.docs_host.specs.Failures.{socket_name};
 
+use crate::sending::Silence;
 use std::alloc::{AllocError, Global};
 use std::fs::Permissions;
 use std::io::ErrorKind;
@@ -19,11 +20,9 @@ const MODE: u32 = 0o600;
 /// How many connections are let go that came before the file was closed to others.
 const MOST_EARLY: u32 = 4096;
 
-/// Why a file has no control socket.
+/// Why a file has no control socket that should have one.
 #[derive(Clone, Copy, Debug, PartialEq, Eq)]
 pub enum SocketFault {
-    /// Its path has more than 107 bytes.
-    TooLong,
     /// Something else stands there.
     Taken,
     /// The system makes none there.
@@ -38,7 +37,7 @@ impl SocketFault {
         ensures { result.now ≡ socket_name self }
     {
         match self {
-            SocketFault::TooLong | SocketFault::Taken | SocketFault::Unbound => "Bind",
+            SocketFault::Taken | SocketFault::Unbound => "Bind",
             SocketFault::Memory => "Memory",
         }
     }
@@ -46,9 +45,6 @@ impl SocketFault {
     /// What is wrong, as the end of a sentence that begins with the name of the file of the records.
     pub fn cause(self) -> &'static str {
         match self {
-            SocketFault::TooLong => {
-                "with .control behind it this path has more than 107 bytes, too many for its control socket; start the server in the file's folder, and name the file alone"
-            }
             SocketFault::Taken => {
                 "what stands beside it, whose name ends in .control, is no socket, and was left as it is"
             }
@@ -75,9 +71,14 @@ impl From<io::Error> for SocketFault {
     }
 }
 
-/// Where the control socket of a file of records stands: beside it, by the name by which the file is given.
-fn socket_path(alloc: Global, file: &str) -> Result<String, AllocError> {
-    format!(in alloc; "{file}.control")
+/// Where the control socket of a file of records stands: beside it, by the name by which the file is given. None where that path
+/// has too many bytes for a socket.
+fn socket_path(alloc: Global, file: &str) -> Result<Option<String>, AllocError> {
+    let path = format!(in alloc; "{file}.control")?;
+    if path.len() > MOST_BYTES {
+        return Ok(None);
+    }
+    Ok(Some(path))
 }
 
 /// Removes a socket: this program's own, or that of a server that was killed, since one that runs has the file open.
@@ -123,16 +124,16 @@ fn close_to_others(
     let_go(listener)
 }
 
-/// Makes the control socket of a file that this program has open, for its owner alone. Its accepts do not wait.
-pub fn bind_socket(rt: &HostRuntime, file: &str) -> Result<UnixListener, SocketFault> {
-    let path = socket_path(rt.alloc(), file)?;
-    if path.len() > MOST_BYTES {
-        return Err(SocketFault::TooLong);
-    }
+/// Makes the control socket of a file that this program has open, for its owner alone. Its accepts do not wait. None where its path
+/// would have too many bytes.
+pub fn bind_socket(rt: &HostRuntime, file: &str) -> Result<Option<UnixListener>, SocketFault> {
+    let Some(path) = socket_path(rt.alloc(), file)? else {
+        return Ok(None);
+    };
     clear(rt, path.as_str())?;
     let listener = UnixListener::bind(rt, path.as_str())?;
     match close_to_others(rt, path.as_str(), &listener) {
-        Ok(()) => Ok(listener),
+        Ok(()) => Ok(Some(listener)),
         Err(fault) => {
             let _ = clear(rt, path.as_str());
             Err(fault)
@@ -142,16 +143,19 @@ pub fn bind_socket(rt: &HostRuntime, file: &str) -> Result<UnixListener, SocketF
 
 /// Removes the control socket of a file that this program has open. One that stays is taken for that of a server that was killed.
 pub fn remove_socket(rt: &HostRuntime, file: &str) {
-    if let Ok(path) = socket_path(rt.alloc(), file) {
+    if let Ok(Some(path)) = socket_path(rt.alloc(), file) {
         let _ = clear(rt, path.as_str());
     }
 }
 
-/// A connection to the server that has a file open. None where nobody answers.
-pub fn connect_socket(rt: &HostRuntime, file: &str) -> Option<UnixStream> {
-    let path = socket_path(rt.alloc(), file).ok()?;
-    if path.len() > MOST_BYTES {
-        return None;
+/// A connection to the server that has a file open.
+pub fn connect_socket(rt: &HostRuntime, file: &str) -> Result<UnixStream, Silence> {
+    match socket_path(rt.alloc(), file) {
+        Ok(Some(path)) => match UnixStream::connect(rt, path.as_str()) {
+            Ok(stream) => Ok(stream),
+            Err(_) => Err(Silence::Nobody),
+        },
+        Ok(None) => Err(Silence::TooLong),
+        Err(_) => Err(Silence::Nobody),
     }
-    UnixStream::connect(rt, path.as_str()).ok()
 }

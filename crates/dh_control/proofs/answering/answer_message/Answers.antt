@@ -1,14 +1,14 @@
-use Rattle.std.proofs.Common.{inl, inr, refl, rules}
-use Rattle.dh_desk.proofs.Moving.{Moves-refl, Moves-weaker}
-use Rattle.dh_control.proofs.Whole.{whole_answer}
+use Rattle.dh_desk.proofs.Moving.{Moves-weaker}
+use Rattle.dh_control.proofs.Whole.{end_told, reader_told}
 use Rattle.dh_control.proofs.answering.answer_message.Goals as goal
-
-pub returns-in_err-message-clause-answers : goal.returns-in_err-message-clause-answers
-returns-in_err-message-clause-answers g c = Moves-refl (λ w. inr (search rules, refl, refl))
 
 pub returns-clause-answers : goal.returns-clause-answers
 returns-clause-answers g c =
-    Moves-weaker c.do_message-ended.ensures.does
-    (λ u v does. inl (whole_answer c.args.now (g.R.Source.left c.args.source.now) (g.W.Sink.held c.args.sink.now) (g.W.Sink.held c.do_message-ended.new.sink) (g.W.Sink.held c.tell_end.new.sink) u v
-    c.in_ok-message.message.items c.as_slice.result.now c.do_message-ended.result c.tell_end.result
-    c.in_ok-message.ensures.whole c.as_slice.ensures.value does c.tell_end.ensures.tells))
+    Moves-weaker c.take_message-ended.ensures.takes
+    (end_told (g.W.Sink.held c.take_message-ended.new.sink) (g.W.Sink.held c.tell_end.new.sink) c.take_message-ended.result c.tell_end.result c.tell_end.ensures.tells
+    c.args.now (g.R.Source.left c.args.source.now) (g.W.Sink.held c.args.sink.now))
+
+pub returns-clause-read_fault : goal.returns-clause-read_fault
+returns-clause-read_fault g c =
+    λ broken. reader_told (g.W.Sink.held c.take_message-ended.new.sink) (g.W.Sink.held c.tell_end.new.sink) c.take_message-ended.result c.tell_end.result c.tell_end.ensures.tells
+    (c.take_message-ended.ensures.read_fault broken)

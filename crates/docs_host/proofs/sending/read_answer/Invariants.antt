@@ -1,7 +1,7 @@
 use Rattle.std.proofs.Common.{◌≡◌, false, ◌++◌}
 use Rattle.std.specs.Io.KnownBytes.{Consumes}
 use Rattle.dh_world.specs.World.{Text}
-use Rattle.docs_host.proofs.beside.read_answer.Given as goal
+use Rattle.docs_host.proofs.sending.read_answer.Given as goal
 
 abbrev pub invariant-pieces : goal.invariant-pieces
 invariant-pieces g l = record {

@@ -1,0 +1,19 @@
+use Rattle.std.proofs.Common.{ap, inl, inr, refl}
+use Rattle.dh_http.proofs.Moving.{Moves-weaker}
+use Rattle.dh_server.specs.Serving.{is_message}
+use Rattle.dh_server.proofs.Stepping.{no_message, one_message}
+use Rattle.dh_server.proofs.serving.answer_came.Goals as goal
+
+pub returns-in-Request-clause-hears : goal.returns-in-Request-clause-hears
+returns-in-Request-clause-hears g c = no_message (g.K.Control.handed c.args.control.now) c.args.came (ap is_message c.in-Request.is)
+
+pub returns-in-Message-clause-hears : goal.returns-in-Message-clause-hears
+returns-in-Message-clause-hears g c =
+    one_message (g.K.Control.handed c.args.control.now) (g.K.Control.handed c.answer_control.new.control) c.args.came (ap is_message c.in-Message.is)
+    c.answer_control.ensures.counts
+
+pub returns-in-Request-clause-turn : goal.returns-in-Request-clause-turn
+returns-in-Request-clause-turn g c = Moves-weaker c.answer_stream.ensures.turn (λ u v turn. inl turn)
+
+pub returns-in-Message-clause-turn : goal.returns-in-Message-clause-turn
+returns-in-Message-clause-turn g c = Moves-weaker c.answer_control.ensures.moves (λ u v does. inr (c.args.now, refl, does.0, does.1))
