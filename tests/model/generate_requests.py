@@ -1,14 +1,15 @@
-"""Requests and lists of old redirects by a seed, beside a model's world as the lines of scripts are."""
+"""Requests, lists of old redirects and words that list by a seed, beside a model's world as the lines of scripts are."""
 
 import base64
 import json
 
 import generate
+import listings
 import pools
 
 
 class Asker(generate.Maker):
-    """Makes requests and lists over a world that it only looks at."""
+    """Makes requests, lists and words that list over a world that it only looks at."""
 
     # ---- lists of old redirects
 
@@ -51,6 +52,16 @@ class Asker(generate.Maker):
 
     def csv_line(self, fields):
         return b",".join(b'"' + it.replace(b'"', b'""') + b'"' if self.often(0.2) else it for it in fields)
+
+    # ---- words that list
+
+    def lists(self):
+        """The words of all lists of a file, each of a project that is there at most times, and of some of its pages."""
+        words = [[b"list-projects"]]
+        for name in listings.LISTS:
+            words.append([name, self.word("host")])
+        pages = words.pop()
+        return words + [[*pages, self.word("slug", "upload"), self.word("lang")] for _ in range(3)]
 
     # ---- requests
 

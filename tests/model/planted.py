@@ -3,6 +3,7 @@
 import contextlib
 from dataclasses import replace
 
+import listings
 import lists
 import redirects
 import replies
@@ -115,8 +116,17 @@ def from_old_without_rest(redirect):
     return redirect
 
 
+def pages_of_all_languages(project, slug, lang):
+    return [row for spoken in project.languages for row in PAGES_UNDER(project, slug, spoken)]
+
+
+def private_when_new(host, project):
+    return [*PROJECT_ROW(host, project)[:3], b"public"]
+
+
 AFTER_RULES, FIRST_RESULT, ROBOTS = versions.after_rules, redirects.first_result, replies.robots
 VERSIONS_LISTED, REPLY_BYTES = replies.versions_listed, replies.reply_bytes
+PAGES_UNDER, PROJECT_ROW = listings.pages_under, listings.project_row
 
 # What is wrong, the module or table, the name in it, what stands there instead.
 PLANTED = [
@@ -143,6 +153,8 @@ PLANTED = [
     ("a reply to HEAD has its body", replies, "reply_bytes", body_always),
     ("each refusal is 400", replies, "status_of", refused_is_bad_request),
     ("$rest is a text as any", redirects, "from_old", from_old_without_rest),
+    ("the pages of all languages are listed", listings, "pages_under", pages_of_all_languages),
+    ("each project is listed as public", listings, "project_row", private_when_new),
 ]
 
 

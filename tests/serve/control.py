@@ -153,6 +153,9 @@ def words(part, store):
         (["list-versions", HOST], None, 0),
         (["list-passes", HOST], "listed 1\nreader-7\tnone\t1.0.0\n", 0),
         (["list-rules", "other.test"], "refused 10 NoProject\n", 1),
+        (["list-pages", HOST, "main", "en"], None, 0),
+        (["list-pages", HOST, "1.0.0", "en"], "listed 1\nindex.html\ttext/html\t7\n", 0),
+        (["list-pages", HOST, "latest", "en"], "listed 0\n", 0),
     ):
         beside = run(part.program, *asked, "--store", store)
         over = run(part.program, *asked, "--store", alone)

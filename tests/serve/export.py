@@ -219,6 +219,10 @@ def writes(part, store, folder):
     bodies = {body for pages in PAGES.values() for _, body in pages.values()}
     part.same("a file for each body", len(list((folder / "pages").iterdir())), len(bodies))
     is_same(part, "an export once more", store, folder)
+    deep = Path(part.path("deep")) / ("d" * 100)
+    deep.mkdir(parents=True)
+    ends(part, "an export into a folder with a long path", exported(part, store, deep / "folder"), 0)
+    part.same("it is the same", files_of(deep / "folder"), files_of(folder))
     named = Path(part.path("named"))
     words = [EXPORT, HOST, named, "--store", store]
     subprocess.run(words, env={**os.environ, "DOCS_HOST": part.program}, capture_output=True, timeout=hosts.TIME_LIMIT)
@@ -298,6 +302,12 @@ for word; do case $word in --store=*) printf '%0100d' 1 > "${{word#--store=}}-wa
 exit $status
 """
 
+# The program, of whose lists of pages one is changed.
+LIAR = """#!/bin/sh
+case "$*" in "list-pages "*"{words}") {program} "$@" | sed '{change}'; exit;; esac
+exec {program} "$@"
+"""
+
 
 def no_exports(part, store, folder):
     absent, none = part.path("absent.docs"), Path(part.path("none"))
@@ -319,6 +329,17 @@ def no_exports(part, store, folder):
     ended = tool(part, EXPORT, HOST, none, "--store", store, program=writer)
     refused("a file that another program writes", ended, 3, f"{store}-wal has changes that are not in the file yet")
     os.remove(f"{store}-wal")
+    liar = Path(part.path("liar"))
+    for what, words, change in (
+        ("another size", f"{HOST} 2.0.0 pt-br", "s/1$/2/"),
+        ("another type", f"{HOST} 2.0.0 pt-br", "s/plain/html/"),
+        ("a page more", f"{HOST} v1.0.0 de", "s/^listed 0$/listed 1\\na\\ttext\\/html\\t1/"),
+        ("no page", f"{HOST} v1.0.0 en", "s/^listed 1$/listed 0/; 2d"),
+    ):
+        liar.write_text(LIAR.format(program=part.program, words=words, change=change))
+        liar.chmod(0o755)
+        ended = tool(part, EXPORT, HOST, none, "--store", store, program=liar)
+        refused(f"the program lists {what}", ended, 3, "this Python reads other pages than the program lists")
     Path(f"{none}.part").mkdir()
     ends(part, "no export: what a killed run has left", exported(part, store, none), 2, "none.part is there already")
     Path(f"{none}.part").rmdir()

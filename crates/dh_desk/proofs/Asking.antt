@@ -1,5 +1,7 @@
 -- A question that is asked before the stored rows are made right.
 use Rattle.std.proofs.Common.{◌≡◌, ◌∙◌, inl, inr, ap, sym, subst, Result, Ok, Err, OnOk, OnErr}
+use Rattle.std.specs.Result.{IsErrAnd}
+use Rattle.std.proofs.lemmas.Result.{err_from_is_err_and}
 use Rattle.sqlite_trees.specs.declared.store.Store.{Ghosts}
 use Rattle.sqlite.specs.Effect.{Database}
 use Rattle.sqlite.specs.Held.{Held, state}
@@ -21,16 +23,19 @@ on_err : {T E P Q : Type 0} (r : Result T E) → (P → Q) → OnErr r P → OnE
 on_err (Ok x) f p = tt
 on_err (Err e) f p = f p
 
-module _ {S : Type 0} (g : Ghosts S) (old mid new : Held S) where
+module _ {S : Type 0} (g : Ghosts S) (old mid : Held S) where
   -- where it is refused, nothing was done
-  pub unasked : {fault : Fault} (refusal : Refusal) {v : Result (Unit {0}) Fault} → v ≡ Err fault → Asks g old mid v → LeavesNoMore g old mid → Derives g old mid (Err refusal)
-  unasked refusal is asks quiet = record {
-    lasts = asks.goes.lasts;
-    done = λ _. tt;
-    kept = λ honest. ap lists_of (asks.goes.kept honest);
-    crash = λ _ clean db may. inl (quiet clean db may);
-  }
+  pub unasked : {asked : Result (Unit {0}) Fault} (P : Refusal → Type 0) (result : Result (Unit {0}) Refusal) → IsErrAnd result P → Asks g old mid asked → LeavesNoMore g old mid → Derives g old mid result
+  unasked P result is asks quiet =
+      let at = err_from_is_err_and result is in
+      subst (Derives g old mid) (sym at.1) (record {
+        lasts = asks.goes.lasts;
+        done = λ _. tt;
+        kept = λ honest. ap lists_of (asks.goes.kept honest);
+        crash = λ _ clean db may. inl (quiet clean db may);
+      })
 
+module _ {S : Type 0} (g : Ghosts S) (old mid new : Held S) where
   -- where it is answered, what follows starts from what was
   pub asked : {v : Unit {0}} (result : Result (Unit {0}) Refusal) → Asks g old mid (Ok v) → LeavesNoMore g old mid → Derives g mid new result → Derives g old new result
   asked result asks quiet derives = record {

@@ -53,13 +53,13 @@ explained (outcomes.Failed fault) text refused reason is told why = subst (λ (r
 module _ {S : Type 0} (g : Ghosts S) (old new : Standing S) where
   read_blames : (reply : Result Reply Fault) → Blames g old.tables new.tables reply (old.closed ≡ true) → BlamesStore g old new (reason_of (outcome_of_read reply))
   read_blames (Ok reply) told = tt
-  read_blames (Err Memory) told = tt
+  read_blames (Err Memory) told = told
   read_blames (Err Store) told = told
 
   list_blames : (listed : Result (Option Text) Fault) → Blames g old.tables new.tables listed (old.closed ≡ true) → BlamesStore g old new (reason_of_list listed)
   list_blames (Ok (Some text)) told = tt
   list_blames (Ok None) told = tt
-  list_blames (Err Memory) told = tt
+  list_blames (Err Memory) told = told
   list_blames (Err Store) told = told
 
   act_blames : (answer : Result Answer Refusal) → BlamesStore g old new (reason_of (outcome_of answer))

@@ -1,10 +1,8 @@
 -- Why what a line asks for was not done.
-use Rattle.std.specs.Prelude.{◌≡◌, ◌⊎◌, Bool, true, false, Option, Some, None, Result, Ok, Err, codes, ⊤}
+use Rattle.std.specs.Prelude.{◌≡◌, Bool, true, false, Option, Some, None, Result, Ok, Err, codes, ⊤}
 use Rattle.sqlite_trees.specs.declared.store.Store.{Ghosts}
-use Rattle.dh_rows.specs.Calls.{IsBlamed}
 use Rattle.dh_faults.specs.declared.fault.Fault.{Fault}
-use Rattle.dh_faults.specs.declared.fault.Fault.TheVariants.{Store}
-use Rattle.dh_desk.specs.Desk.{HasCleanDisk, Standing, state}
+use Rattle.dh_desk.specs.Desk.{Blames, Standing}
 use Rattle.dh_world.specs.World.{Text}
 use Rattle.dh_world.specs.declared.outcome.Outcome.{Outcome}
 use Rattle.dh_world.specs.declared.outcome.Outcome.TheVariants as outcome
@@ -41,6 +39,6 @@ Explains (Some reason) text refused = (text ≡ text_of_reason reason) × (refus
 -- A read or a list is told to have failed for the store only where the store counted a fault meanwhile, or was shut
 -- before, or a fault had closed the desk.
 abbrev pub BlamesStore : {S : Type 0} → Ghosts S → Standing S → Standing S → Option Reason → Type 0
-BlamesStore g old new (Some (Failed Store)) =
-    HasCleanDisk (state g new.tables) → IsBlamed g old.tables new.tables ⊎ (old.closed ≡ true)
+BlamesStore g old new (Some (Failed fault)) =
+    Blames g {T = Unit {0}} old.tables new.tables (Err fault) (old.closed ≡ true)
 BlamesStore g old new reason = ⊤
