@@ -12,7 +12,7 @@ use Rattle.dh_world.specs.Visibility.{may_see}
 use Rattle.dh_world.specs.Changes.{with_version}
 use Rattle.dh_world.specs.Seen.{default_of}
 use Rattle.dh_classes.specs.Classes.{class_holds, versions_for}
-use Rattle.dh_aliases.specs.Tops.{Versions, AreNamed, IsTop, IsStable, stable_in}
+use Rattle.dh_aliases.specs.Tops.{Versions, AreNamed, IsTop, IsTopIfAny, stable_in}
 use Rattle.dh_aliases.specs.Names.{names_of, slug_of_branch, latest_in, names_in}
 use Rattle.dh_aliases.proofs.TopLemmas.{stable_is_one, stable_is_top}
 use Rattle.dh_aliases.proofs.PassLemmas.{seen_at, seen_named, names_by_key}
@@ -49,7 +49,7 @@ module _ (m n : Versions) (alike : AreAlike m n) where
     unbeaten = λ k x e. let found = partner k x e in same_above x found.0 w top.version found.2 same ∙ top.unbeaten k found.0 found.1;
   }
 
-  stable_stays : (o : Option Text) → IsStable m o → IsStable n o
+  stable_stays : (o : Option Text) → IsTopIfAny m o → IsTopIfAny n o
   stable_stays None none = λ k w e. let found = partner k w e in same_release w found.0 found.2 ∙ none k found.0 found.1
   stable_stays (Some t) top = go (get n t) refl (alike t ∙ ap (option_map bared) top.stands)
     where

@@ -8,7 +8,7 @@ use Rattle.dh_versions.specs.Aliases.{is_release, is_above}
 use Rattle.dh_world.specs.World.{Text, Project}
 use Rattle.dh_world.specs.Visibility.{may_see}
 use Rattle.dh_classes.specs.Classes.{class_holds, sees, versions_for}
-use Rattle.dh_aliases.specs.Tops.{Versions, AreNamed, IsTop, IsStable, stable_in, stable_version, IsMember, stable_among, IsBeside, Decides, AreThePrivate, with_top}
+use Rattle.dh_aliases.specs.Tops.{Versions, AreNamed, IsTop, IsTopIfAny, stable_in, stable_version, IsMember, stable_among, IsBeside, DecidesStable, AreThePrivate, with_top}
 use Rattle.dh_aliases.specs.Names.{names_of, names_in}
 use Rattle.dh_aliases.proofs.AboveLemmas.{not_above_itself}
 use Rattle.dh_aliases.proofs.MemberLemmas.{first_or_later, later_in}
@@ -99,7 +99,7 @@ module _ (p : Project) (pass : Text) where
     itself : (o : Option Version) (w : Version) → is_release w ≡ true → IsMember vs w → IsBeside (with_top o vs) w
     itself o w release at = record { other = w; member = among o w at; release = release; not_below = not_above_itself w }
 
-    with_none : IsStable bare None → Decides whole vs
+    with_none : IsTopIfAny bare None → DecidesStable whole vs
     with_none none = record {
       members = private.members;
       covers = λ s w stands release. elim (bare_or_private s w stands) [
@@ -108,7 +108,7 @@ module _ (p : Project) (pass : Text) where
       ];
     }
 
-    with_some : (t : Text) → IsTop bare t → (v : Version) → get bare t ≡ Some v → Decides whole (v ∷ vs)
+    with_some : (t : Text) → IsTop bare t → (v : Version) → get bare t ≡ Some v → DecidesStable whole (v ∷ vs)
     with_some t top v stands = record {
       members = λ u at. elim (first_or_later v u vs at) [
         | inl first ↦ ap (λ (x : Version). get whole x.slug) first ∙ ap (get whole) (seen_named p None named t v stands).0 ∙ wider t v stands ∙ ap Some (sym first)
@@ -126,11 +126,11 @@ module _ (p : Project) (pass : Text) where
         is_release_v : is_release v ≡ true
         is_release_v = ap (λ (x : Version). is_release x) same ∙ top.release
 
-    short_list : (o : Option Text) → IsStable bare o → Decides whole (with_top (option_and_then (get bare) o) vs)
+    short_list : (o : Option Text) → IsTopIfAny bare o → DecidesStable whole (with_top (option_and_then (get bare) o) vs)
     short_list None none = with_none none
     short_list (Some t) top = go (get bare t) refl
       where
-        go : (o : Option Version) → get bare t ≡ o → Decides whole (with_top o vs)
+        go : (o : Option Version) → get bare t ≡ o → DecidesStable whole (with_top o vs)
         go (Some v) stands = with_some t top v stands
         go None none = absurd (not_there (sym none ∙ top.stands))
           where

@@ -15,7 +15,7 @@ use Rattle.dh_world.specs.Changes.{with_version}
 use Rattle.dh_world.specs.Seen.{is_alias, default_of}
 use Rattle.dh_world.proofs.MapLemmas.{tied_text, text_total}
 use Rattle.dh_classes.specs.Classes.{class_holds, sees, versions_for}
-use Rattle.dh_aliases.specs.Tops.{Versions, IsNamed, AreNamed, IsTop, IsStable, stable_in}
+use Rattle.dh_aliases.specs.Tops.{Versions, IsNamed, AreNamed, IsTop, IsTopIfAny, stable_in}
 use Rattle.dh_aliases.specs.declared.names.Names.{Names}
 use Rattle.dh_aliases.specs.Names.{names_of, slug_of_branch, latest_in, stands_in}
 use Rattle.dh_aliases.specs.Puts.{IsNew, IsNotAbove, IsAboveStable}
@@ -174,7 +174,7 @@ module _ (p : Project) (class : Option Text) (s : Text) (v : Version) where
     -- ---- a version that is no release, or not above one
 
     module _ (low : (is_release v ≡ false) ⊎ IsNotAbove p class v) where
-      none_stays : IsStable before None → IsStable after None
+      none_stays : IsTopIfAny before None → IsTopIfAny after None
       none_stays none k w e = ⊎_elim (λ new. ap (λ (u : Version). is_release u) new ∙ ⊎_elim (λ plain. plain) (λ under. absurd (true≢false (sym under.release ∙ none under.slug under.other under.stands))) low) (none k w) (new_or_old k w e)
 
       top_stays : (t : Text) → IsTop before t → IsTop after t
@@ -189,7 +189,7 @@ module _ (p : Project) (class : Option Text) (s : Text) (v : Version) where
           under_top = ⊎_elim (λ plain. other_is_not_above v top.version plain)
               (λ under. not_above_by v under.other top.version under.release under.not_below (top.unbeaten under.slug under.other under.stands)) low
 
-      stable_stays : (o : Option Text) → IsStable before o → IsStable after o
+      stable_stays : (o : Option Text) → IsTopIfAny before o → IsTopIfAny after o
       stable_stays None none = none_stays none
       stable_stays (Some t) top = top_stays t top
 
@@ -207,7 +207,7 @@ module _ (p : Project) (class : Option Text) (s : Text) (v : Version) where
       was_stable = sym (stable_name p class) ∙ over.stable
 
       old_top : IsTop before over.slug
-      old_top = subst (IsStable before) was_stable (stable_is_top before before_named)
+      old_top = subst (IsTopIfAny before) was_stable (stable_is_top before before_named)
 
       over_top : is_above v old_top.version ≡ true
       over_top =

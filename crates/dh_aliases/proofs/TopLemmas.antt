@@ -6,14 +6,14 @@ use Rattle.std.specs.FinMap.{get, values}
 use Rattle.dh_versions.specs.declared.version.Version.{Version}
 use Rattle.dh_versions.specs.Aliases.{is_release, is_above, stable_of}
 use Rattle.dh_world.specs.World.{Text}
-use Rattle.dh_aliases.specs.Tops.{Versions, AreNamed, IsTop, IsStable, stable_in, IsMember, stable_among, Decides}
+use Rattle.dh_aliases.specs.Tops.{Versions, AreNamed, IsTop, IsTopIfAny, stable_in, IsMember, stable_among, DecidesStable}
 use Rattle.dh_aliases.proofs.AboveLemmas.{not_above_itself, other_is_not_above, not_above_by, not_above_higher, same_slug}
 use Rattle.dh_aliases.proofs.MemberLemmas.{in_none, first_or_later, later_in, each_fails, all_fail, at_position, found_passes, none_found, mapped_at}
 use Rattle.dh_aliases.proofs.SlugLemmas.{stands_member, member_stands, keys_are_slugs}
 
 -- ---- one alone is stable
 
-pub stable_is_one : (m : Versions) (a b : Option Text) → AreNamed m → IsStable m a → IsStable m b → a ≡ b
+pub stable_is_one : (m : Versions) (a b : Option Text) → AreNamed m → IsTopIfAny m a → IsTopIfAny m b → a ≡ b
 stable_is_one m None None named p q = refl
 stable_is_one m None (Some t) named p q = absurd (true≢false (sym q.release ∙ p t q.version q.stands))
 stable_is_one m (Some s) None named p q = absurd (true≢false (sym p.release ∙ q s p.version p.stands))
@@ -73,7 +73,7 @@ both true true e = absurd (true≢false (sym e))
 both true false e = (refl, refl)
 both false b e = absurd (true≢false (sym e))
 
-module _ (m : Versions) (vs : List Version) (it : Decides m vs) where
+module _ (m : Versions) (vs : List Version) (it : DecidesStable m vs) where
   -- the test of `stable_of`
   abbrev is_first : Version → Bool
   is_first v = is_release v && not (list_any (λ w. is_above w v) vs)
@@ -94,7 +94,7 @@ module _ (m : Versions) (vs : List Version) (it : Decides m vs) where
           let beside = it.covers s w stands release in
           not_above_by w beside.other v beside.release beside.not_below (each_fails (λ u. is_above u v) vs none beside.other beside.member)
 
-  no_release : find is_first vs ≡ None → IsStable m None
+  no_release : find is_first vs ≡ None → IsTopIfAny m None
   no_release none s w stands = go (is_release w) refl
     where
       best_passes : Best vs → ⊥
@@ -108,16 +108,16 @@ module _ (m : Versions) (vs : List Version) (it : Decides m vs) where
           let beside = it.covers s w stands release in
           absurd (⊎_elim (λ others. true≢false (sym beside.release ∙ others beside.other beside.member)) best_passes (best_of vs))
 
-  pub decided : IsStable m (stable_among vs)
-  decided = subst (λ o. IsStable m (option_map (λ (v : Version). v.slug) o)) (sym (at_position is_first vs)) (go (find is_first vs) refl)
+  pub decided : IsTopIfAny m (stable_among vs)
+  decided = subst (λ o. IsTopIfAny m (option_map (λ (v : Version). v.slug) o)) (sym (at_position is_first vs)) (go (find is_first vs) refl)
     where
-      go : (o : Option Version) → find is_first vs ≡ o → IsStable m (option_map (λ (v : Version). v.slug) o)
+      go : (o : Option Version) → find is_first vs ≡ o → IsTopIfAny m (option_map (λ (v : Version). v.slug) o)
       go (Some v) found = the_top v found
       go None none = no_release none
 
 -- ---- the definition
 
-all_decide : (m : Versions) → AreNamed m → Decides m (values m)
+all_decide : (m : Versions) → AreNamed m → DecidesStable m (values m)
 all_decide m named = record {
   members = member_stands m named;
   covers = λ s w stands release. record { other = w; member = stands_member m s w stands; release = release; not_below = not_above_itself w };
@@ -127,8 +127,8 @@ pub among_all : (m : Versions) → AreNamed m → stable_in m ≡ stable_among (
 among_all m named =
     ap (λ ks. option_and_then (slice_get ks) (stable_of (values m))) (keys_are_slugs m named) ∙ mapped_at (λ (v : Version). v.slug) (values m) (stable_of (values m))
 
-pub stable_is_top : (m : Versions) → AreNamed m → IsStable m (stable_in m)
-stable_is_top m named = subst (IsStable m) (sym (among_all m named)) (decided m (values m) (all_decide m named))
+pub stable_is_top : (m : Versions) → AreNamed m → IsTopIfAny m (stable_in m)
+stable_is_top m named = subst (IsTopIfAny m) (sym (among_all m named)) (decided m (values m) (all_decide m named))
 
-pub list_decides : (m : Versions) (vs : List Version) → AreNamed m → Decides m vs → stable_in m ≡ stable_among vs
+pub list_decides : (m : Versions) (vs : List Version) → AreNamed m → DecidesStable m vs → stable_in m ≡ stable_among vs
 list_decides m vs named it = stable_is_one m (stable_in m) (stable_among vs) named (stable_is_top m named) (decided m vs it)

@@ -26,9 +26,9 @@ pub record IsTop (m : Versions) (slug : Text) : Type 0 where
   pub unbeaten : (s : Text) (w : Version) → get m s ≡ Some w → is_above w version ≡ false
 
 -- this is the top, or none of these is a release
-abbrev pub IsStable : Versions → Option Text → Type 0
-IsStable m (Some slug) = IsTop m slug
-IsStable m None = (s : Text) (w : Version) → get m s ≡ Some w → is_release w ≡ false
+abbrev pub IsTopIfAny : Versions → Option Text → Type 0
+IsTopIfAny m (Some slug) = IsTop m slug
+IsTopIfAny m None = (s : Text) (w : Version) → get m s ≡ Some w → is_release w ≡ false
 
 -- the slug that `stable` stands for among these
 abbrev pub stable_in : Versions → Option Text
@@ -57,7 +57,7 @@ pub record IsBeside (vs : List Version) (w : Version) : Type 0 where
 
 -- A list that decides which is stable: its members are of these, and it has beside each release of these one that
 -- this is not above.
-pub record Decides (m : Versions) (vs : List Version) : Type 0 where
+pub record DecidesStable (m : Versions) (vs : List Version) : Type 0 where
   pub members : (v : Version) → IsMember vs v → get m v.slug ≡ Some v
   pub covers : (s : Text) (w : Version) → get m s ≡ Some w → is_release w ≡ true → IsBeside vs w
 

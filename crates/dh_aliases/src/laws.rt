@@ -3,25 +3,25 @@ ghost use Rattle.std.specs.Prelude.{◌≡◌, true, List, Option, Some, None};
 ghost use Rattle.dh_versions.specs.declared.version.Version.{Version};
 ghost use Rattle.dh_world.specs.World.{Text, Project};
 ghost use Rattle.dh_classes.specs.Classes.{class_holds, sees, versions_for};
-ghost use Rattle.dh_aliases.specs.Tops.{Versions, AreNamed, IsStable, stable_in, stable_among, stable_version, Decides, AreThePrivate, with_top};
+ghost use Rattle.dh_aliases.specs.Tops.{Versions, AreNamed, IsTopIfAny, stable_in, stable_among, stable_version, DecidesStable, AreThePrivate, with_top};
 ghost use Rattle.dh_aliases.specs.Names.{names_of, names_in};
 ghost use Rattle.dh_aliases.specs.Puts.{UnseenPut, HiddenPut, QuietPut, RaisedPut};
 
 /// `stable` stands for a release that none is above, or there is no release.
 pub fn stable_is_top()
-    ensures { (m : Versions) → AreNamed m → IsStable m (stable_in m) }
+    ensures { (m : Versions) → AreNamed m → IsTopIfAny m (stable_in m) }
 {}
 
 /// There is one such answer.
 pub fn stable_is_one()
     ensures { (m : Versions) (a b : Option Text)
-        → AreNamed m → IsStable m a → IsStable m b → a ≡ b }
+        → AreNamed m → IsTopIfAny m a → IsTopIfAny m b → a ≡ b }
 {}
 
 /// A list of some versions decides which of all is stable, where it has beside each release one that this is
 /// not above.
 pub fn list_decides()
-    ensures { (m : Versions) (vs : List Version) → AreNamed m → Decides m vs
+    ensures { (m : Versions) (vs : List Version) → AreNamed m → DecidesStable m vs
         → stable_in m ≡ stable_among vs }
 {}
 

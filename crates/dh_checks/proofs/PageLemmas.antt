@@ -4,7 +4,7 @@ use Rattle.std.proofs.lemmas.Bool.Decides.{nat_tests}
 use Rattle.dh_world.specs.declared.pages.UploadedPage.{UploadedPage}
 use Rattle.dh_world.specs.declared.refusal.Refusal.{Refusal}
 use Rattle.dh_world.specs.declared.refusal.Refusal.TheVariants.{BadPage}
-use Rattle.dh_world.specs.CheckResults.{Checks}
+use Rattle.dh_world.specs.CheckResults.{ChecksForWrong}
 use Rattle.dh_world.specs.Refusals.{unless, or_else}
 use Rattle.dh_world.specs.WrongTexts.{is_content, have_contents, is_count, bad_page, bad_pages}
 use Rattle.dh_checks.specs.Commands.{AreRightPages, bad_upload}
@@ -34,7 +34,7 @@ module _ {V : Type 0} (items_of : V → List UploadedPage) (xs : List UploadedPa
   wrong_is : bad_upload xs ≡ or_else (bad_pages [] xs) None
   wrong_is = ap (λ b. or_else (unless b BadPage) (or_else (bad_pages [] xs) None)) counted
 
-  by_result : (r : Result V Refusal) → Checks (bad_pages [] xs) (λ v. items_of v ≡ xs) r → Checks (bad_upload xs) (λ v. AreRightPages xs (items_of v)) r
+  by_result : (r : Result V Refusal) → ChecksForWrong (bad_pages [] xs) (λ v. items_of v ≡ xs) r → ChecksForWrong (bad_upload xs) (λ v. AreRightPages xs (items_of v)) r
   by_result (Ok v) h = (
     wrong_is ∙ ap (λ o. or_else o None) h.0,
     (h.1, subst (λ l. length l ≤ 256) (sym h.1) few, subst (λ l. IsTrue (have_contents l)) (sym h.1) (right_contents [] xs h.0)),
@@ -42,5 +42,5 @@ module _ {V : Type 0} (items_of : V → List UploadedPage) (xs : List UploadedPa
   by_result (Err e) (inl wrong) = inl (wrong_is ∙ ap (λ o. or_else o None) wrong)
   by_result (Err e) (inr memory) = inr memory
 
-  pub all_checked : (pages : List UploadedPage) (r : Result V Refusal) → xs ≡ pages → Checks (bad_pages [] xs) (λ v. items_of v ≡ xs) r → Checks (bad_upload pages) (λ v. AreRightPages pages (items_of v)) r
-  all_checked pages r same h = subst (λ ys. Checks (bad_upload ys) (λ v. AreRightPages ys (items_of v)) r) same (by_result r h)
+  pub all_checked : (pages : List UploadedPage) (r : Result V Refusal) → xs ≡ pages → ChecksForWrong (bad_pages [] xs) (λ v. items_of v ≡ xs) r → ChecksForWrong (bad_upload pages) (λ v. AreRightPages pages (items_of v)) r
+  all_checked pages r same h = subst (λ ys. ChecksForWrong (bad_upload ys) (λ v. AreRightPages ys (items_of v)) r) same (by_result r h)

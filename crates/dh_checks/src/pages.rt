@@ -1,7 +1,7 @@
 //! The checks of the pages of an upload.
 ghost use Rattle.std.specs.Prelude.{◌≡◌, ◌⊎◌, [], ◌∷◌, ◌++◌, OnOk, IfErr, IsTrue};
 ghost use Rattle.dh_texts.specs.Texts.{is_page_path};
-ghost use Rattle.dh_world.specs.CheckResults.{Reads, Checks};
+ghost use Rattle.dh_world.specs.CheckResults.{ReadsText, ChecksForWrong};
 ghost use Rattle.dh_world.specs.WrongTexts.{has_path, bad_page, bad_pages};
 ghost use Rattle.dh_checks.specs.Commands.{AreRightPages, bad_upload};
 
@@ -20,7 +20,7 @@ fn stands_in(path: &Text, pages: &[UploadedPage]) -> bool
 }
 
 fn path_in(alloc: Global, text: &Text) -> Result<PagePath, Refusal>
-    ensures reads { Reads is_page_path Refusal.BadPath text.now result }
+    ensures reads { ReadsText is_page_path Refusal.BadPath text.now result }
     ensures memory { IfErr result (λ e. (e ≡ Refusal.BadPath) ⊎ IsTrue (is_page_path text.now)) }
 {
     Ok(PagePath::parse(alloc, text.as_str())?)
@@ -32,7 +32,7 @@ fn check_page<'c>(
     before: &[UploadedPage],
     page: &'c UploadedPage,
 ) -> Result<CheckedPage<'c>, Refusal>
-    ensures { Checks (bad_page before.now page.now) (λ checked. checked ≡ page.now) result }
+    ensures { ChecksForWrong (bad_page before.now page.now) (λ checked. checked ≡ page.now) result }
 {
     let path = path_in(alloc, &page.path)?;
     if !is_content(page.media.as_str(), page.body.as_slice()) {
@@ -53,7 +53,8 @@ fn add<'c>(pages: &mut Vec<CheckedPage<'c>>, page: CheckedPage<'c>) -> Result<()
 
 /// Each page, after those before it.
 fn check_each<'c>(alloc: Global, pages: &'c [UploadedPage]) -> Result<Vec<CheckedPage<'c>>, Refusal>
-    ensures { Checks (bad_pages [] pages.now) (λ checked. checked.items ≡ pages.now) result }
+    ensures { ChecksForWrong (bad_pages [] pages.now) (λ checked. checked.items ≡ pages.now)
+        result }
 {
     let mut checked = Vec::new(alloc);
     for (i, page) in pages.iter().enumerate() {
@@ -64,7 +65,8 @@ fn check_each<'c>(alloc: Global, pages: &'c [UploadedPage]) -> Result<Vec<Checke
 
 /// How many pages there are, and then each.
 pub fn check_pages<'c>(alloc: Global, pages: &'c Pages) -> Result<Vec<CheckedPage<'c>>, Refusal>
-    ensures { Checks (bad_upload pages.now) (λ found. AreRightPages pages.now found.items) result }
+    ensures { ChecksForWrong (bad_upload pages.now) (λ found. AreRightPages pages.now found.items)
+        result }
 {
     let pages = pages.as_slice();
     if pages.len() > MOST_PAGES {

@@ -4,7 +4,7 @@ ghost use Rattle.dh_texts.specs.Texts.{is_token};
 ghost use Rattle.dh_texts.specs.SlugOfName.{slug_from, slug_text};
 ghost use Rattle.dh_rules.specs.Patterns.{IsCustom};
 ghost use Rattle.dh_rules.specs.Rules.{is_allowed};
-ghost use Rattle.dh_world.specs.CheckResults.{Checks, ChecksOr, Reads, refusal_of};
+ghost use Rattle.dh_world.specs.CheckResults.{ChecksForWrong, ChecksOr, ReadsText, refusal_of};
 ghost use Rattle.dh_redirects.specs.Redirects.{first_fault};
 ghost use Rattle.dh_world.specs.WrongTexts.{bad_name, bad_rule, bad_redirect, bad_redirects, bad_until};
 
@@ -17,14 +17,14 @@ use std::alloc::Global;
 
 /// The text as one of a kind.
 pub fn text_in<K: Kind>(alloc: Global, text: &Text) -> Result<Checked<K>, Refusal>
-    ensures reads { Reads K.test (refusal_of K.refusal) text.now result }
+    ensures reads { ReadsText K.test (refusal_of K.refusal) text.now result }
     ensures memory { IfErr result (λ e. (e ≡ refusal_of K.refusal) ⊎ IsTrue (K.test text.now)) }
 {
     Ok(Checked::parse(alloc, text.as_str())?)
 }
 
 pub fn retry_key_in(alloc: Global, text: &Text) -> Result<Token, Refusal>
-    ensures reads { Reads is_token Refusal.BadKey text.now result }
+    ensures reads { ReadsText is_token Refusal.BadKey text.now result }
     ensures memory { IfErr result (λ e. (e ≡ Refusal.BadKey) ⊎ IsTrue (is_token text.now)) }
 {
     match Token::parse(alloc, text.as_str()) {
@@ -36,7 +36,8 @@ pub fn retry_key_in(alloc: Global, text: &Text) -> Result<Token, Refusal>
 
 /// The slug of a branch or tag.
 pub fn slug_in_name(alloc: Global, name: &RefName) -> Result<Slug, Refusal>
-    ensures checks { Checks (bad_name name.now) (λ slug. slug_from name.now ≡ Some slug) result }
+    ensures checks { ChecksForWrong (bad_name name.now) (λ slug. slug_from name.now ≡ Some slug)
+        result }
     ensures memory { IfErr result
         (λ e. (bad_name name.now ≡ Some e) ⊎ (0 < length (slug_text name.now))) }
 {
@@ -58,7 +59,7 @@ pub fn rule_in(alloc: Global, rule: &Rule) -> Result<Rule, Refusal>
 
 /// A redirect that passes its check.
 pub fn redirect_in(alloc: Global, redirect: &Redirect) -> Result<Redirect, Refusal>
-    ensures checks { Checks (bad_redirect redirect.now)
+    ensures checks { ChecksForWrong (bad_redirect redirect.now)
         (λ r. (r ≡ redirect.now) × (first_fault r ≡ None)) result }
     ensures memory { IfErr result
         (λ e. (bad_redirect redirect.now ≡ Some e) ⊎ (first_fault redirect.now ≡ None)) }
@@ -71,7 +72,7 @@ pub fn redirect_in(alloc: Global, redirect: &Redirect) -> Result<Redirect, Refus
 
 /// The redirects of a list, where each passes its check; or the refusal of the first that does not.
 pub fn check_redirects(list: &[Redirect]) -> Result<&[Redirect], Refusal>
-    ensures checks { Checks (bad_redirects list.now)
+    ensures checks { ChecksForWrong (bad_redirects list.now)
         (λ all. (all.now ≡ list.now) × (bad_redirects all.now ≡ None)) result }
     ensures told { IfErr result (λ e. bad_redirects list.now ≡ Some e) }
 {
@@ -85,7 +86,7 @@ pub fn check_redirects(list: &[Redirect]) -> Result<&[Redirect], Refusal>
 
 /// When a pass ends, if it does.
 pub fn until_in(until: Option<u64>) -> Result<Option<PassEnd>, Refusal>
-    ensures checks { Checks (bad_until until) (λ end. end ≡ until) result }
+    ensures checks { ChecksForWrong (bad_until until) (λ end. end ≡ until) result }
     ensures told { IfErr result (λ e. bad_until until ≡ Some e) }
 {
     match until {

@@ -12,7 +12,7 @@ use Rattle.dh_world.specs.World.{Text, text_cmp, held_cmp, Project}
 use Rattle.dh_world.specs.Visibility.{may_see}
 use Rattle.dh_world.proofs.MapLemmas.{text_total, tied_text, held_total, tied_held, found_in}
 use Rattle.dh_classes.specs.Classes.{class_holds, sees, versions_for}
-use Rattle.dh_aliases.specs.Tops.{Versions, AreNamed, IsStable, IsTop, stable_in, stable_version, IsMember}
+use Rattle.dh_aliases.specs.Tops.{Versions, AreNamed, IsTopIfAny, IsTop, stable_in, stable_version, IsMember}
 use Rattle.dh_aliases.proofs.MemberLemmas.{mapped_get}
 use Rattle.dh_aliases.proofs.SlugLemmas.{found_at_key, key_found}
 use Rattle.dh_aliases.proofs.TopLemmas.{stable_is_one, stable_is_top}
@@ -21,7 +21,7 @@ use Rattle.dh_records.specs.declared.records.VersionRow.{VersionRow}
 use Rattle.dh_records.specs.declared.records.HeldRow.{HeldRow}
 use Rattle.dh_records.specs.declared.records.PickRow.{PickRow}
 use Rattle.dh_class_names.specs.Rows.{version_under, is_granted, seen_under}
-use Rattle.dh_class_names.specs.Highest.{IsHighest, IsHighestOf, IsPublic, IsOpened, IsSeenWith}
+use Rattle.dh_class_names.specs.Highest.{IsHighest, IsHighestOf, IsPublic, IsOpenedByGrant, IsSeenWith}
 use Rattle.dh_class_names.specs.ClassNames.{AreRowsOf, grants_of}
 use Rattle.dh_class_names.proofs.HighestLemmas.{same_highest}
 
@@ -102,20 +102,20 @@ module _ (p : Project) (branch : Text) (rows : List VersionRow) (held : List Hel
 
   -- ---- the sets of versions are what the classes see
 
-  abbrev Sees : Option Text → Version → Type 0
-  Sees class w = get (versions_for p class) w.slug ≡ Some w
+  abbrev ClassSees : Option Text → Version → Type 0
+  ClassSees class w = get (versions_for p class) w.slug ≡ Some w
 
   may_be_seen : (b : Bool) (w : Version) → cond b (Some w) None ≡ Some w → b ≡ true
   may_be_seen true w e = refl
   may_be_seen false w e = absurd cc
 
   -- the class may see a version that it sees
-  seen_may : (class : Option Text) (w : Version) → Sees class w → may_see w (class_holds p class w.slug) ≡ true
+  seen_may : (class : Option Text) (w : Version) → ClassSees class w → may_see w (class_holds p class w.slug) ≡ true
   seen_may class w sees =
       may_be_seen (may_see w (class_holds p class w.slug)) w
       (ap (λ o. cond (option_map_or (λ v. may_see v (class_holds p class w.slug)) o false) o None) (sym (is_there p class w.slug w sees)) ∙ sym (seen_at p class w.slug) ∙ sees)
 
-  may_seen : (class : Option Text) (w : Version) → get p.versions w.slug ≡ Some w → may_see w (class_holds p class w.slug) ≡ true → Sees class w
+  may_seen : (class : Option Text) (w : Version) → get p.versions w.slug ≡ Some w → may_see w (class_holds p class w.slug) ≡ true → ClassSees class w
   may_seen class w there may =
       seen_at p class w.slug
       ∙ ap (λ o. cond (option_map_or (λ v. may_see v (class_holds p class w.slug)) o false) o None) there
@@ -124,21 +124,21 @@ module _ (p : Project) (branch : Text) (rows : List VersionRow) (held : List Hel
   sorted : T (is_sorted text_cmp (map entry_in rows))
   sorted = subst T (sym it.rise) tt
 
-  public_seen : (w : Version) → IsPublic rows w → Sees None w
+  public_seen : (w : Version) → IsPublic rows w → ClassSees None w
   public_seen w public =
       let at : slice_get (map (λ (v : Version). (v.slug, v)) (map (λ (r : VersionRow). r.version) rows)) public.among.0 ≡ Some (w.slug, w) =
       mapped_get (λ (v : Version). (v.slug, v)) (map (λ (r : VersionRow). r.version) rows) public.among.0 ∙ ap (option_map (λ (v : Version). (v.slug, v))) public.among.1 in
       let entry_at : slice_get (map entry_in rows) public.among.0 ≡ Some (w.slug, w) = ap (λ (es : List Entry). slice_get es public.among.0) (entries_of rows) ∙ at in
       may_seen None w (stands_at w.slug ∙ found_at_key (map entry_in rows) sorted (w.slug, w) (public.among.0, entry_at)) public.seen
 
-  seen_public : (w : Version) → Sees None w → IsPublic rows w
+  seen_public : (w : Version) → ClassSees None w → IsPublic rows w
   seen_public w sees = record {
     among = subst (λ vs. IsMember vs w) (values_of rows) (key_found w.slug (map entry_in rows) w (sym (stands_at w.slug) ∙ is_there p None w.slug w sees));
     seen = seen_may None w sees;
   }
 
   module _ (pass : Text) where
-    opened_seen : (w : Version) → IsOpened rows (grants_of pass held) w → Sees (Some pass) w
+    opened_seen : (w : Version) → IsOpenedByGrant rows (grants_of pass held) w → ClassSees (Some pass) w
     opened_seen w opened =
         let there : get p.versions opened.grant.slug ≡ Some w = version_at opened.grant.slug ∙ opened.stands in
         let own : w.slug ≡ opened.grant.slug = (it.named opened.grant.slug w there).0 in
@@ -147,10 +147,10 @@ module _ (p : Project) (branch : Text) (rows : List VersionRow) (held : List Hel
         may_seen (Some pass) w (ap (get p.versions) own ∙ there)
         (ap (may_see w) (holds_is (Some pass) w.slug ∙ granted) ∙ ap (λ b. b && (not w.private || true)) opened.active ∙ or-true (not w.private))
 
-    with_seen : (w : Version) → IsSeenWith rows (grants_of pass held) w → Sees (Some pass) w
+    with_seen : (w : Version) → IsSeenWith rows (grants_of pass held) w → ClassSees (Some pass) w
     with_seen w seen = ⊎_elim (λ public. wider p pass w.slug w (public_seen w public)) (λ opened. opened_seen w opened) seen
 
-    seen_with : (w : Version) → Sees (Some pass) w → IsSeenWith rows (grants_of pass held) w
+    seen_with : (w : Version) → ClassSees (Some pass) w → IsSeenWith rows (grants_of pass held) w
     seen_with w sees = ⊎_elim (λ bare. inl (seen_public w bare)) (λ private. inr (opened private)) (bare_or_private p pass w.slug w sees)
       where
         parts : (active private holds : Bool) → private ≡ true → (active && (not private || holds)) ≡ true → (active ≡ true) × (holds ≡ true)
@@ -158,7 +158,7 @@ module _ (p : Project) (branch : Text) (rows : List VersionRow) (held : List Hel
         parts true false holds is e = absurd (true≢false (sym is))
         parts false private holds is e = absurd (true≢false (sym e))
 
-        opened : w.private ≡ true → IsOpened rows (grants_of pass held) w
+        opened : w.private ≡ true → IsOpenedByGrant rows (grants_of pass held) w
         opened private =
             let both = parts w.active w.private (class_holds p (Some pass) w.slug) private (seen_may (Some pass) w sees) in
             let found = one_of (λ x. bytes_eq x.slug w.slug) (grants_of pass held) (sym (holds_is (Some pass) w.slug) ∙ both.1) in record {
@@ -170,7 +170,7 @@ module _ (p : Project) (branch : Text) (rows : List VersionRow) (held : List Hel
 
   -- ---- the highest of what a class sees is its stable version
 
-  highest_is_stable : (class : Option Text) (o : Option Version) → IsHighest (Sees class) o → stable_in (versions_for p class) ≡ option_map (λ (v : Version). v.slug) o
+  highest_is_stable : (class : Option Text) (o : Option Version) → IsHighest (ClassSees class) o → stable_in (versions_for p class) ≡ option_map (λ (v : Version). v.slug) o
   highest_is_stable class o highest = stable_is_one m (stable_in m) _ named (stable_is_top m named) (go o highest)
     where
       m : Versions
@@ -179,10 +179,10 @@ module _ (p : Project) (branch : Text) (rows : List VersionRow) (held : List Hel
       named : AreNamed (versions_for p class)
       named = seen_named p class it.named
 
-      own : (s : Text) (w : Version) → get (versions_for p class) s ≡ Some w → Sees class w
+      own : (s : Text) (w : Version) → get (versions_for p class) s ≡ Some w → ClassSees class w
       own s w stands = ap (get (versions_for p class)) (named s w stands).0 ∙ stands
 
-      go : (o : Option Version) → IsHighest (Sees class) o → IsStable (versions_for p class) (option_map (λ (v : Version). v.slug) o)
+      go : (o : Option Version) → IsHighest (ClassSees class) o → IsTopIfAny (versions_for p class) (option_map (λ (v : Version). v.slug) o)
       go None none = λ s w stands. none w (own s w stands)
       go (Some v) top = record {
         version = v;
@@ -192,10 +192,10 @@ module _ (p : Project) (branch : Text) (rows : List VersionRow) (held : List Hel
       }
 
   pub public_stable : (o : Option Version) → IsHighest (IsPublic rows) o → stable_in (versions_for p None) ≡ option_map (λ (v : Version). v.slug) o
-  public_stable o highest = highest_is_stable None o (same_highest (IsPublic rows) (Sees None) public_seen seen_public o highest)
+  public_stable o highest = highest_is_stable None o (same_highest (IsPublic rows) (ClassSees None) public_seen seen_public o highest)
 
   pub pass_stable : (pass : Text) (o : Option Version) → IsHighest (IsSeenWith rows (grants_of pass held)) o → stable_in (versions_for p (Some pass)) ≡ option_map (λ (v : Version). v.slug) o
-  pass_stable pass o highest = highest_is_stable (Some pass) o (same_highest (IsSeenWith rows (grants_of pass held)) (Sees (Some pass)) (with_seen pass) (seen_with pass) o highest)
+  pass_stable pass o highest = highest_is_stable (Some pass) o (same_highest (IsSeenWith rows (grants_of pass held)) (ClassSees (Some pass)) (with_seen pass) (seen_with pass) o highest)
 
   -- and the stable version without a pass is the highest of what all callers see
   pub stable_is_public : IsHighest (IsPublic rows) (stable_version (versions_for p None))
@@ -207,7 +207,7 @@ module _ (p : Project) (branch : Text) (rows : List VersionRow) (held : List Hel
       named : AreNamed (versions_for p None)
       named = seen_named p None it.named
 
-      own : (s : Text) (w : Version) → get (versions_for p None) s ≡ Some w → Sees None w
+      own : (s : Text) (w : Version) → get (versions_for p None) s ≡ Some w → ClassSees None w
       own s w stands = ap (get (versions_for p None)) (named s w stands).0 ∙ stands
 
       top_is : (s : Text) (top : IsTop (versions_for p None) s) → IsHighestOf (IsPublic rows) top.version
@@ -217,6 +217,6 @@ module _ (p : Project) (branch : Text) (rows : List VersionRow) (held : List Hel
         unbeaten = λ w public. top.unbeaten w.slug w (public_seen w public);
       }
 
-      go : (o : Option Text) → IsStable (versions_for p None) o → IsHighest (IsPublic rows) (option_and_then (get (versions_for p None)) o)
+      go : (o : Option Text) → IsTopIfAny (versions_for p None) o → IsHighest (IsPublic rows) (option_and_then (get (versions_for p None)) o)
       go None none = λ w public. none w.slug w (public_seen w public)
       go (Some s) top = subst (IsHighest (IsPublic rows)) (sym top.stands) (top_is s top)

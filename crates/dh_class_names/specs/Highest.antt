@@ -44,7 +44,8 @@ pub record IsPublic (rows : List VersionRow) (w : Version) : Type 0 where
   pub seen : may_see w false ≡ true
 
 -- seen by who has one of these grants
-pub record IsOpened (rows : List VersionRow) (grants : List HeldRow) (w : Version) : Type 0 where
+pub record IsOpenedByGrant (rows : List VersionRow) (grants : List HeldRow)
+    (w : Version) : Type 0 where
   pub grant : HeldRow
   pub among : IsMember grants grant
   pub stands : version_under rows grant.slug ≡ Some w
@@ -52,4 +53,4 @@ pub record IsOpened (rows : List VersionRow) (grants : List HeldRow) (w : Versio
 
 -- seen by who has these grants
 abbrev pub IsSeenWith : List VersionRow → List HeldRow → Version → Type 0
-IsSeenWith rows grants w = IsPublic rows w ⊎ IsOpened rows grants w
+IsSeenWith rows grants w = IsPublic rows w ⊎ IsOpenedByGrant rows grants w

@@ -11,12 +11,12 @@ use Rattle.dh_world.specs.World.{Text, Project}
 use Rattle.dh_world.specs.declared.answer.Answer.TheVariants.{Done}
 use Rattle.dh_world.specs.declared.refusal.Refusal.TheVariants.{Inactive}
 use Rattle.dh_plans.specs.Edits.{IsNewFront}
-use Rattle.dh_plans.specs.Knowing.{Knows}
+use Rattle.dh_plans.specs.Knowing.{KnowsProject}
 use Rattle.dh_plans.specs.Plans.{wrong_default, wrong_default_version}
 use Rattle.dh_checks.specs.declared.checking.CheckedChange.TheVariants as change
 use Rattle.dh_plans.specs.declared.facts.Facts.{Facts}
 
-module _ (name : Text) (f : Facts) (p : Project) (k : Knows (change.SetDefault name) f p) where
+module _ (name : Text) (f : Facts) (p : Project) (k : KnowsProject (change.SetDefault name) f p) where
   accepted : Change
   accepted = Ok (with_default name p, Done)
 

@@ -17,8 +17,8 @@ use Rattle.dh_world.specs.declared.refusal.Refusal.{Refusal}
 use Rattle.dh_world.specs.declared.refusal.Refusal.TheVariants.{OutOfMemory, TooMany, BadRedirect as Refused}
 use Rattle.dh_checks.specs.declared.checked.CheckedImport.{CheckedImport}
 use Rattle.dh_checks.specs.declared.checking.CheckedChange.TheVariants as change
-use Rattle.dh_plans.specs.Edits.{MayRunOut, Plans}
-use Rattle.dh_plans.specs.Knowing.{Knows}
+use Rattle.dh_plans.specs.Edits.{MayRunOut, PlansChange}
+use Rattle.dh_plans.specs.Knowing.{KnowsProject}
 use Rattle.dh_plans.specs.Plans.{plan_imported}
 use Rattle.dh_plans.specs.declared.facts.Facts.{Facts}
 use Rattle.dh_commands.specs.Lists.{TakesIn}
@@ -60,7 +60,7 @@ all_good (x ∷ xs) there right good =
 not_few : (n : ℕ) → 100 < n → nat_le n 100 ≡ false
 not_few n many = elim (leb_tells n 100) [ inl low ↦ absurd (let few = low.1 in omega (arith, few, many)) | inr high ↦ high.0 ]
 
-module _ (f : Facts) (p : Project) (x : CheckedImport) (k : Knows (change.ImportRedirects x) f p) where
+module _ (f : Facts) (p : Project) (x : CheckedImport) (k : KnowsProject (change.ImportRedirects x) f p) where
   abbrev list : List Redirect
   list = x.redirects.now
 
@@ -70,7 +70,7 @@ module _ (f : Facts) (p : Project) (x : CheckedImport) (k : Knows (change.Import
 
   -- the redirects of the list that are not there were added
   pub taken_in : (all : List Redirect) (count : ℕ) → with_new list f.redirects.items ≡ all → length all ≤ 100 → count ≡ length all - length f.redirects.items
-      → Plans p (import_redirects list p) (Ok (plan_imported all count))
+      → PlansChange p (import_redirects list p) (Ok (plan_imported all count))
   taken_in all count is few counted = (
     by_found ∙ ap (λ rs. imported rs p) is
         ∙ ap (λ b. cond b (Ok (with_redirects p all, Added (length all - length p.redirects))) (Err TooMany)) (le-leb (length all) 100 few)
@@ -79,7 +79,7 @@ module _ (f : Facts) (p : Project) (x : CheckedImport) (k : Knows (change.Import
   )
 
   -- they are too many, or memory ran out
-  pub not_taken_in : (e : Refusal) → TakesIn list f.redirects.items (Err e) → Plans p (import_redirects list p) (Err e)
+  pub not_taken_in : (e : Refusal) → TakesIn list f.redirects.items (Err e) → PlansChange p (import_redirects list p) (Err e)
   not_taken_in e (inl out) = inl (out, by_count (nat_le (length (with_new list p.redirects)) 100))
     where
       by_count : (few : Bool) → MayRunOut (cond few (Ok (with_redirects p (with_new list p.redirects), Added (length (with_new list p.redirects) - length p.redirects))) (Err TooMany))

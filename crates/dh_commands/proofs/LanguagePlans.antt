@@ -8,13 +8,13 @@ use Rattle.dh_world.specs.Changes.{Change, add_lang}
 use Rattle.dh_world.specs.World.{Text, Project}
 use Rattle.dh_world.specs.declared.answer.Answer.TheVariants.{Done}
 use Rattle.dh_world.specs.declared.refusal.Refusal.TheVariants.{LangTaken, TooMany}
-use Rattle.dh_plans.specs.Edits.{Plans}
-use Rattle.dh_plans.specs.Knowing.{Knows}
+use Rattle.dh_plans.specs.Edits.{PlansChange}
+use Rattle.dh_plans.specs.Knowing.{KnowsProject}
 use Rattle.dh_checks.specs.declared.checking.CheckedChange.TheVariants as change
 use Rattle.dh_plans.specs.declared.edits.Edit.TheVariants.{AddLang}
 use Rattle.dh_plans.specs.declared.facts.Facts.{Facts}
 
-module _ (lang : Text) (f : Facts) (p : Project) (k : Knows (change.AddLang lang) f p) where
+module _ (lang : Text) (f : Facts) (p : Project) (k : KnowsProject (change.AddLang lang) f p) where
   -- by whether the language is there, and whether there is room
   abbrev decided : Bool → Bool → Change
   decided there room = cond there (Err LangTaken) (cond room (Ok (record p { languages = p.languages ++ lang ∷ [] }, Done)) (Err TooMany))
@@ -31,7 +31,7 @@ module _ (lang : Text) (f : Facts) (p : Project) (k : Knows (change.AddLang lang
     pub full : 30 ≤ length f.languages.items → add_lang lang p ≡ Err TooMany
     full many = decided_is false false new (le-ltb _ _ many)
 
-    pub adds : (place : ℕ) → length f.languages.items < 30 → place ≡ length f.languages.items + 1 → Plans p (add_lang lang p) (Ok (record { edits = AddLang lang place ∷ []; answer = Done }))
+    pub adds : (place : ℕ) → length f.languages.items < 30 → place ≡ length f.languages.items + 1 → PlansChange p (add_lang lang p) (Ok (record { edits = AddLang lang place ∷ []; answer = Done }))
     adds place few is = (
       decided_is false true new (lt-ltb _ _ few),
       ((ap (list_any (λ l. bytes_eq l lang)) k.answers.languages ∙ new, is ∙ ap (λ ls. length ls + 1) (sym k.answers.languages), omega (arith, few, is)), tt),

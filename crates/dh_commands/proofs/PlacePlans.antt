@@ -14,8 +14,8 @@ use Rattle.dh_world.specs.World.{Project}
 use Rattle.dh_world.specs.declared.answer.Answer.TheVariants.{Done}
 use Rattle.dh_world.specs.declared.refusal.Refusal.{Refusal}
 use Rattle.dh_world.specs.declared.refusal.Refusal.TheVariants.{BadPlace, TooMany}
-use Rattle.dh_plans.specs.Edits.{Plans}
-use Rattle.dh_plans.specs.Knowing.{Knows}
+use Rattle.dh_plans.specs.Edits.{PlansChange}
+use Rattle.dh_plans.specs.Knowing.{KnowsProject}
 use Rattle.dh_plans.specs.Planned.{planned}
 use Rattle.dh_checks.specs.declared.checking.CheckedChange.TheVariants as change
 use Rattle.dh_checks.specs.declared.checked.CheckedRedirect.{CheckedRedirect}
@@ -95,29 +95,29 @@ abbrev pub IsGoodRedirect : Redirect → Type 0
 IsGoodRedirect r = first_fault r ≡ None
 
 module _ (f : Facts) (p : Project) where
-  pub rule_added : (x : CheckedRule) → Knows (change.AddRule x) f p → (set : List Rule) → added 50 x.place x.rule f.rules.items ≡ Ok set
-      → Plans p (set_to (with_rules p) (added 50 x.place x.rule p.rules)) (Ok (planned (SetRules set ∷ []) Done))
+  pub rule_added : (x : CheckedRule) → KnowsProject (change.AddRule x) f p → (set : List Rule) → added 50 x.place x.rule f.rules.items ≡ Ok set
+      → PlansChange p (set_to (with_rules p) (added 50 x.place x.rule p.rules)) (Ok (planned (SetRules set ∷ []) Done))
   rule_added x k set is = (
     set_found (with_rules p) (added 50 x.place x.rule) p.rules f.rules.items (Ok set) k.answers.rules is,
     (may_add 50 IsGoodRule x.place f.rules.items k.answers.good_rules x.rule x.good set is, tt),
   )
 
-  pub rule_dropped : (place : ℕ) → Knows (change.DropRule place) f p → (set : List Rule) → dropped place f.rules.items ≡ Ok set
-      → Plans p (set_to (with_rules p) (dropped place p.rules)) (Ok (planned (SetRules set ∷ []) Done))
+  pub rule_dropped : (place : ℕ) → KnowsProject (change.DropRule place) f p → (set : List Rule) → dropped place f.rules.items ≡ Ok set
+      → PlansChange p (set_to (with_rules p) (dropped place p.rules)) (Ok (planned (SetRules set ∷ []) Done))
   rule_dropped place k set is = (
     set_found (with_rules p) (dropped place) p.rules f.rules.items (Ok set) k.answers.rules is,
     (may_drop 50 IsGoodRule place f.rules.items k.answers.good_rules k.answers.few_rules set is, tt),
   )
 
-  pub redirect_added : (x : CheckedRedirect) → Knows (change.AddRedirect x) f p → (set : List Redirect) → added 100 x.place x.redirect f.redirects.items ≡ Ok set
-      → Plans p (set_to (with_redirects p) (added 100 x.place x.redirect p.redirects)) (Ok (planned (SetRedirects set ∷ []) Done))
+  pub redirect_added : (x : CheckedRedirect) → KnowsProject (change.AddRedirect x) f p → (set : List Redirect) → added 100 x.place x.redirect f.redirects.items ≡ Ok set
+      → PlansChange p (set_to (with_redirects p) (added 100 x.place x.redirect p.redirects)) (Ok (planned (SetRedirects set ∷ []) Done))
   redirect_added x k set is = (
     set_found (with_redirects p) (added 100 x.place x.redirect) p.redirects f.redirects.items (Ok set) k.answers.redirects is,
     (may_add 100 IsGoodRedirect x.place f.redirects.items k.answers.good_redirects x.redirect x.good set is, tt),
   )
 
-  pub redirect_dropped : (place : ℕ) → Knows (change.DropRedirect place) f p → (set : List Redirect) → dropped place f.redirects.items ≡ Ok set
-      → Plans p (set_to (with_redirects p) (dropped place p.redirects)) (Ok (planned (SetRedirects set ∷ []) Done))
+  pub redirect_dropped : (place : ℕ) → KnowsProject (change.DropRedirect place) f p → (set : List Redirect) → dropped place f.redirects.items ≡ Ok set
+      → PlansChange p (set_to (with_redirects p) (dropped place p.redirects)) (Ok (planned (SetRedirects set ∷ []) Done))
   redirect_dropped place k set is = (
     set_found (with_redirects p) (dropped place) p.redirects f.redirects.items (Ok set) k.answers.redirects is,
     (may_drop 100 IsGoodRedirect place f.redirects.items k.answers.good_redirects k.answers.few_redirects set is, tt),

@@ -14,8 +14,8 @@ use Rattle.dh_world.specs.declared.answer.Answer.{Answer}
 use Rattle.dh_world.specs.declared.answer.Answer.TheVariants.{Stored}
 use Rattle.dh_world.specs.declared.pages.UploadedPage.{UploadedPage}
 use Rattle.dh_world.specs.declared.refusal.Refusal.TheVariants.{WrongKey, NoVersion, Inactive, NoLang}
-use Rattle.dh_plans.specs.Edits.{edited, all_edited, is_active, MayEditAll, Plans}
-use Rattle.dh_plans.specs.Knowing.{Answers, Knows}
+use Rattle.dh_plans.specs.Edits.{edited, all_edited, is_active, MayEditAll, PlansChange}
+use Rattle.dh_plans.specs.Knowing.{AnswersAsked, KnowsProject}
 use Rattle.dh_plans.specs.Plans.{pages_put, pages_cleared, upload_answered, plan_stored}
 use Rattle.dh_plans.specs.Asking.{asked_by}
 use Rattle.dh_checks.specs.declared.checking.CheckedChange.TheVariants as change
@@ -48,8 +48,8 @@ module _ (slug lang : Text) where
 
 -- ---- by what was found
 
-module _ (x : CheckedUpload) (f : Facts) (p : Project) (k : Knows (change.Upload x) f p) (right : bytes_eq x.wkey f.settings.wkey ≡ true) where
-  found : Answers (asked_by (change.Upload x)) f p
+module _ (x : CheckedUpload) (f : Facts) (p : Project) (k : KnowsProject (change.Upload x) f p) (right : bytes_eq x.wkey f.settings.wkey ≡ true) where
+  found : AnswersAsked (asked_by (change.Upload x)) f p
   found = answered (change.Upload x) f p k right
 
   abbrev asked_for : Change
@@ -65,7 +65,7 @@ module _ (x : CheckedUpload) (f : Facts) (p : Project) (k : Knows (change.Upload
       ∙ ap (λ b. decided b (get p.used (upload_key x.slug x.key)) (get p.versions x.slug)) right
       ∙ ap (λ o. decided true o (get p.versions x.slug)) found.first_answer ∙ ap (decided true f.first_answer) found.version
 
-  pub again : (a : Answer) → f.first_answer ≡ Some a → Plans p asked_for (Ok (record { edits = []; answer = a }))
+  pub again : (a : Answer) → f.first_answer ≡ Some a → PlansChange p asked_for (Ok (record { edits = []; answer = a }))
   again a e = (uploaded_is ∙ ap (λ o. decided true o f.version) e, tt)
 
   module _ (unused : f.first_answer ≡ None) where
@@ -95,7 +95,7 @@ module _ (x : CheckedUpload) (f : Facts) (p : Project) (k : Knows (change.Upload
         pub unspoken : list_any (λ l. bytes_eq l x.lang) f.languages.items ≡ false → asked_for ≡ Err NoLang
         unspoken none = spoken_by false none
 
-        pub stores : list_any (λ l. bytes_eq l x.lang) f.languages.items ≡ true → Plans p asked_for (Ok (plan_stored x))
+        pub stores : list_any (λ l. bytes_eq l x.lang) f.languages.items ≡ true → PlansChange p asked_for (Ok (plan_stored x))
         stores spoken =
             let clear : List Edit = pages_cleared x.replace x.slug x.lang in
             let put : List Edit = pages_put x.slug x.lang x.pages.items in

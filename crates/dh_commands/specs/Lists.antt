@@ -6,9 +6,9 @@ use Rattle.dh_world.specs.declared.refusal.Refusal.{Refusal}
 use Rattle.dh_world.specs.declared.refusal.Refusal.TheVariants.{OutOfMemory, TooMany}
 
 -- what is said of it; where it is refused, memory is not told in its place
-abbrev pub Comes : {X : Type 0} → Result (List X) Refusal → Result (List X) Refusal → Type 0
-Comes said (Ok xs) = said ≡ Ok xs
-Comes said (Err e) = ((e ≡ OutOfMemory) × IsOk said) ⊎ (said ≡ Err e)
+abbrev pub ComesAsSaid : {X : Type 0} → Result (List X) Refusal → Result (List X) Refusal → Type 0
+ComesAsSaid said (Ok xs) = said ≡ Ok xs
+ComesAsSaid said (Err e) = ((e ≡ OutOfMemory) × IsOk said) ⊎ (said ≡ Err e)
 
 -- the redirects of a list that are not there stand behind those that are, unless they are too many; at most 100 come in
 abbrev pub TakesIn : List Redirect → List Redirect → Result (List Redirect) Refusal → Type 0

@@ -1,5 +1,5 @@
 //! What each command does with what was found of its project.
-ghost use Rattle.dh_plans.specs.Knowing.{Decides};
+ghost use Rattle.dh_plans.specs.Knowing.{DecidesChange};
 
 use crate::defaults::set_default;
 use crate::passes::{add_pass, drop_pass, grant, revoke};
@@ -20,7 +20,7 @@ fn decide_by<'c>(
     change: CheckedChange<'c>,
     facts: &mut Facts,
 ) -> Result<Plan<'c>, Refusal>
-    ensures { Decides change.entry facts.old result }
+    ensures { DecidesChange change.entry facts.old result }
 {
     match change {
         CheckedChange::NewProject(_project) => Err(Refusal::ProjectTaken),
@@ -52,7 +52,7 @@ pub fn decide<'c>(
     change: CheckedChange<'c>,
     facts: Facts,
 ) -> Result<Plan<'c>, Refusal>
-    ensures { Decides change.entry facts result }
+    ensures { DecidesChange change.entry facts result }
 {
     let mut facts = facts;
     decide_by(alloc, change, &mut facts)

@@ -1,6 +1,6 @@
 //! What `/` leads to: the defaults.
 ghost use Rattle.std.specs.Prelude.{◌≡◌};
-ghost use Rattle.dh_plans.specs.Knowing.{Decides};
+ghost use Rattle.dh_plans.specs.Knowing.{DecidesChange};
 ghost use Rattle.dh_plans.specs.Plans.{wrong_default};
 
 use dh_checks::CheckedChange;
@@ -31,7 +31,7 @@ fn wrong_name(name: &Slug, version: &Option<Version>) -> Option<Refusal>
 
 /// Puts a name to the front of the defaults.
 pub fn set_default<'c>(alloc: Global, name: Slug, facts: &mut Facts) -> Result<Plan<'c>, Refusal>
-    ensures { Decides (CheckedChange.SetDefault name) facts.old result }
+    ensures { DecidesChange (CheckedChange.SetDefault name) facts.old result }
 {
     if let Some(refusal) = wrong_name(&name, &facts.version) {
         return Err(refusal);

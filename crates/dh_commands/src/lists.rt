@@ -1,6 +1,6 @@
 //! Lists in order, whose places count from 1.
 ghost use Rattle.std.specs.Prelude.{◌≡◌, ◌≤◌, ◌+◌, IsTrue, IfOk, length};
-ghost use Rattle.dh_commands.specs.Lists.{Comes};
+ghost use Rattle.dh_commands.specs.Lists.{ComesAsSaid};
 ghost use Rattle.dh_world.specs.Changes as spec;
 
 use dh_lookup::Items;
@@ -46,7 +46,7 @@ pub fn add_at<T: Drop>(
     entry: T,
     list: &mut Vec<T>,
 ) -> Result<Items<T>, Refusal>
-    ensures { Comes (spec.added most place entry list.old.items) result }
+    ensures { ComesAsSaid (spec.added most place entry list.old.items) result }
 {
     if !is_place(place, list.len() + 1) {
         return Err(Refusal::BadPlace);
@@ -59,7 +59,7 @@ pub fn add_at<T: Drop>(
 
 /// Removes the one at a place of a list. The list is used up.
 pub fn drop_at<T: Drop>(alloc: Global, place: u32, list: &mut Vec<T>) -> Result<Items<T>, Refusal>
-    ensures { Comes (spec.dropped place list.old.items) result }
+    ensures { ComesAsSaid (spec.dropped place list.old.items) result }
 {
     if !is_place(place, list.len()) {
         return Err(Refusal::BadPlace);

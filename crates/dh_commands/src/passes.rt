@@ -1,6 +1,6 @@
 //! Passes, and the versions that they hold.
 ghost use Rattle.std.specs.Prelude.{◌≡◌};
-ghost use Rattle.dh_plans.specs.Knowing.{Decides};
+ghost use Rattle.dh_plans.specs.Knowing.{DecidesChange};
 ghost use Rattle.dh_plans.specs.Plans.{missing_for_grant};
 
 use dh_checks::CheckedChange;
@@ -19,7 +19,7 @@ pub fn add_pass<'c>(
     until: Option<PassEnd>,
     facts: &Facts,
 ) -> Result<Plan<'c>, Refusal>
-    ensures { Decides (CheckedChange.AddPass pass until) facts.now result }
+    ensures { DecidesChange (CheckedChange.AddPass pass until) facts.now result }
 {
     if facts.has_pass {
         return Err(Refusal::PassTaken);
@@ -32,7 +32,7 @@ pub fn add_pass<'c>(
 
 /// Removes a pass that is there, with its grants.
 pub fn drop_pass<'c>(alloc: Global, pass: Token, facts: &Facts) -> Result<Plan<'c>, Refusal>
-    ensures { Decides (CheckedChange.DropPass pass) facts.now result }
+    ensures { DecidesChange (CheckedChange.DropPass pass) facts.now result }
 {
     if !facts.has_pass {
         return Err(Refusal::NoPass);
@@ -55,7 +55,7 @@ fn missing(facts: &Facts) -> Option<Refusal>
 
 /// Adds a grant, where its version and its pass are there.
 pub fn grant<'c>(alloc: Global, pass: Token, slug: Slug, facts: &Facts) -> Result<Plan<'c>, Refusal>
-    ensures { Decides (CheckedChange.Grant pass slug) facts.now result }
+    ensures { DecidesChange (CheckedChange.Grant pass slug) facts.now result }
 {
     if let Some(refusal) = missing(facts) {
         return Err(refusal);
@@ -70,7 +70,7 @@ pub fn revoke<'c>(
     slug: Slug,
     facts: &Facts,
 ) -> Result<Plan<'c>, Refusal>
-    ensures { Decides (CheckedChange.Revoke pass slug) facts.now result }
+    ensures { DecidesChange (CheckedChange.Revoke pass slug) facts.now result }
 {
     if let Some(refusal) = missing(facts) {
         return Err(refusal);

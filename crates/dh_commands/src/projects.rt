@@ -2,10 +2,10 @@
 ghost use Rattle.std.specs.Prelude.{◌≡◌, ◌∷◌, []};
 ghost use Rattle.std.specs.List.{list_any};
 ghost use Rattle.std.specs.Str.{bytes_eq};
-ghost use Rattle.dh_plans.specs.Edits.{Makes};
-ghost use Rattle.dh_plans.specs.Knowing.{Decides};
+ghost use Rattle.dh_plans.specs.Edits.{IsPlan};
+ghost use Rattle.dh_plans.specs.Knowing.{DecidesChange};
 ghost use Rattle.dh_plans.specs.Planned.{planned};
-ghost use Rattle.dh_plans.specs.Plans.{Opens};
+ghost use Rattle.dh_plans.specs.Plans.{OpensProject};
 
 use dh_checks::{CheckedChange, NewProject};
 use dh_paths::Lang;
@@ -18,7 +18,7 @@ const MOST_LANGUAGES: usize = 30;
 
 /// The project that a command makes where its host has none.
 pub fn open(change: CheckedChange<'_>) -> Result<NewProject, Refusal>
-    ensures { Opens change.entry result }
+    ensures { OpensProject change.entry result }
 {
     match change {
         CheckedChange::NewProject(project) => Ok(project),
@@ -35,14 +35,14 @@ pub fn is_among(languages: &[Lang], lang: &Lang) -> bool
 
 /// The plan by which a language takes a place.
 fn append_lang<'c>(alloc: Global, lang: Lang, place: u32) -> Result<Plan<'c>, Refusal>
-    ensures { Makes (planned (Edit.AddLang lang place ∷ []) Answer.Done) result }
+    ensures { IsPlan (planned (Edit.AddLang lang place ∷ []) Answer.Done) result }
 {
     Ok(Plan::one(alloc, Edit::AddLang { lang, place }, Answer::Done)?)
 }
 
 /// Adds a language after the others, where it is not there and there is room.
 pub fn add_lang<'c>(alloc: Global, lang: Lang, facts: &Facts) -> Result<Plan<'c>, Refusal>
-    ensures { Decides (CheckedChange.AddLang lang) facts.now result }
+    ensures { DecidesChange (CheckedChange.AddLang lang) facts.now result }
 {
     let languages = facts.languages.as_slice();
     if is_among(languages, &lang) {

@@ -2,8 +2,8 @@
 ghost use Rattle.std.specs.Prelude.{◌≡◌, ◌∷◌, [], ◌++◌, OnOk};
 ghost use Rattle.std.specs.List.{list_any};
 ghost use Rattle.dh_commands.specs.Lists.{TakesIn};
-ghost use Rattle.dh_plans.specs.Edits.{Makes};
-ghost use Rattle.dh_plans.specs.Knowing.{Decides};
+ghost use Rattle.dh_plans.specs.Edits.{IsPlan};
+ghost use Rattle.dh_plans.specs.Knowing.{DecidesChange};
 ghost use Rattle.dh_plans.specs.Plans.{plan_imported};
 ghost use Rattle.dh_redirects.specs.Redirects.{same_redirect};
 
@@ -24,7 +24,7 @@ pub fn add_redirect<'c>(
     added: CheckedRedirect,
     facts: &mut Facts,
 ) -> Result<Plan<'c>, Refusal>
-    ensures { Decides (CheckedChange.AddRedirect added) facts.old result }
+    ensures { DecidesChange (CheckedChange.AddRedirect added) facts.old result }
 {
     let CheckedRedirect { place, redirect } = added;
     let redirects = add_at(alloc, MOST_REDIRECTS, place, redirect, &mut facts.redirects)?;
@@ -33,7 +33,7 @@ pub fn add_redirect<'c>(
 
 /// Removes the redirect at a place of the list.
 pub fn drop_redirect<'c>(alloc: Global, place: u32, facts: &mut Facts) -> Result<Plan<'c>, Refusal>
-    ensures { Decides (CheckedChange.DropRedirect place) facts.old result }
+    ensures { DecidesChange (CheckedChange.DropRedirect place) facts.old result }
 {
     let redirects = drop_at(alloc, place, &mut facts.redirects)?;
     Ok(Plan::one(alloc, Edit::SetRedirects(redirects), Answer::Done)?)
@@ -84,7 +84,7 @@ fn set_imported<'c>(
     redirects: Items<Redirect>,
     count: u32,
 ) -> Result<Plan<'c>, Refusal>
-    ensures { Makes (plan_imported redirects count) result }
+    ensures { IsPlan (plan_imported redirects count) result }
 {
     Ok(Plan::one(
         alloc,
@@ -99,7 +99,7 @@ pub fn import_redirects<'c>(
     import: CheckedImport<'c>,
     facts: &mut Facts,
 ) -> Result<Plan<'c>, Refusal>
-    ensures { Decides (CheckedChange.ImportRedirects import.entry) facts.old result }
+    ensures { DecidesChange (CheckedChange.ImportRedirects import.entry) facts.old result }
 {
     let there = take_list(alloc, &mut facts.redirects);
     let before = there.len();

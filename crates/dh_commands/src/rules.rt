@@ -1,5 +1,5 @@
 //! Automation rules.
-ghost use Rattle.dh_plans.specs.Knowing.{Decides};
+ghost use Rattle.dh_plans.specs.Knowing.{DecidesChange};
 
 use crate::lists::{add_at, drop_at};
 use dh_checks::{CheckedChange, CheckedRule};
@@ -16,7 +16,7 @@ pub fn add_rule<'c>(
     added: CheckedRule,
     facts: &mut Facts,
 ) -> Result<Plan<'c>, Refusal>
-    ensures { Decides (CheckedChange.AddRule added) facts.old result }
+    ensures { DecidesChange (CheckedChange.AddRule added) facts.old result }
 {
     let CheckedRule { place, rule } = added;
     let rules = add_at(alloc, MOST_RULES, place, rule, &mut facts.rules)?;
@@ -25,7 +25,7 @@ pub fn add_rule<'c>(
 
 /// Removes the rule at a place of the list.
 pub fn drop_rule<'c>(alloc: Global, place: u32, facts: &mut Facts) -> Result<Plan<'c>, Refusal>
-    ensures { Decides (CheckedChange.DropRule place) facts.old result }
+    ensures { DecidesChange (CheckedChange.DropRule place) facts.old result }
 {
     let rules = drop_at(alloc, place, &mut facts.rules)?;
     Ok(Plan::one(alloc, Edit::SetRules(rules), Answer::Done)?)

@@ -1,7 +1,7 @@
 //! Uploads of pages.
 ghost use Rattle.std.specs.Prelude.{◌≡◌, ◌++◌, IfOk, OnOk};
-ghost use Rattle.dh_plans.specs.Edits.{Makes};
-ghost use Rattle.dh_plans.specs.Knowing.{Decides};
+ghost use Rattle.dh_plans.specs.Edits.{IsPlan};
+ghost use Rattle.dh_plans.specs.Knowing.{DecidesChange};
 ghost use Rattle.dh_plans.specs.Plans.{pages_put, plan_stored};
 
 use crate::projects::is_among;
@@ -67,7 +67,7 @@ fn store<'c>(alloc: Global, upload: CheckedUpload<'c>) -> Result<Plan<'c>, Alloc
 
 /// The same, or the refusal of an upload for want of memory.
 fn store_or_refuse<'c>(alloc: Global, upload: CheckedUpload<'c>) -> Result<Plan<'c>, Refusal>
-    ensures { Makes (plan_stored upload.entry) result }
+    ensures { IsPlan (plan_stored upload.entry) result }
 {
     Ok(store(alloc, upload)?)
 }
@@ -79,7 +79,7 @@ pub fn upload<'c>(
     upload: CheckedUpload<'c>,
     facts: &mut Facts,
 ) -> Result<Plan<'c>, Refusal>
-    ensures { Decides (CheckedChange.Upload upload.entry) facts.old result }
+    ensures { DecidesChange (CheckedChange.Upload upload.entry) facts.old result }
 {
     if !is_write_key(&facts.settings, &upload.wkey) {
         return Err(Refusal::WrongKey);

@@ -1,5 +1,5 @@
 //! A version that is removed.
-ghost use Rattle.dh_plans.specs.Knowing.{Decides};
+ghost use Rattle.dh_plans.specs.Knowing.{DecidesChange};
 
 use dh_checks::CheckedChange;
 use dh_lookup::Items;
@@ -10,7 +10,7 @@ use std::alloc::Global;
 
 /// Removes the version that was found, and its name among the defaults.
 pub fn remove_version<'c>(alloc: Global, slug: Slug, facts: &mut Facts) -> Result<Plan<'c>, Refusal>
-    ensures { Decides (CheckedChange.Gone slug) facts.old result }
+    ensures { DecidesChange (CheckedChange.Gone slug) facts.old result }
 {
     if facts.version.is_none() {
         return Err(Refusal::NoVersion);

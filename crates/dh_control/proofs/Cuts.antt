@@ -69,13 +69,13 @@ cut_line printed line word are open_ told =
     ∙ ap (λ (rest : Text). option_map (λ w. (printed, w)) (behind (codes "end ") rest)) (drop_at printed line (length printed) refl)
     ∙ ap (option_map (λ w. (printed, w))) told
 
-abbrev Tells : Result End ScriptFault → Type 0
-Tells ended =
+abbrev EndIsTold : Result End ScriptFault → Type 0
+EndIsTold ended =
     (end_line ended ≡ codes "end " ++ end_word ended ++ 10 ∷ [])
     × (whole_lines (codes "end " ++ end_word ended) ≡ [])
     × (behind (codes "end ") (codes "end " ++ end_word ended) ≡ Some (end_word ended))
 
-tells : (ended : Result End ScriptFault) → Tells ended
+tells : (ended : Result End ScriptFault) → EndIsTold ended
 tells (Ok Done) = (refl, refl, refl)
 tells (Ok Refused) = (refl, refl, refl)
 tells (Ok Unknown) = (refl, refl, refl)

@@ -2,7 +2,7 @@
 
 ghost use Rattle.std.specs.Prelude.{◌≡◌, ◌||◌, true, false, is_err, map, string_bytes, Some, OnOk};
 ghost use Rattle.std.specs.Io.KnownBytes.{Appends};
-ghost use Rattle.dh_desk.specs.Desk.{Moves};
+ghost use Rattle.dh_desk.specs.Desk.{WorldGoesBy};
 ghost use Rattle.dh_lines.specs.Lines.{line_in};
 ghost use Rattle.dh_ports.specs.Ports.{CountsUpTo};
 ghost use Rattle.dh_ports.specs.Reading.{TookAtMost};
@@ -32,7 +32,7 @@ fn do_order<S: Alter, W: Sink>(
 ) -> Result<End, RunFault>
     requires { W.broken sink.old ≡ false }
     ensures broken { W.broken sink.new ≡ stopped_by_writer result }
-    ensures does { Moves S.Store desk.old desk.new (λ before after.
+    ensures does { WorldGoesBy S.Store desk.old desk.new (λ before after.
         DoesOne now before order.now after (W.held sink.old) (W.held sink.new) result) }
 {
     let printed = perform_single(alloc, desk, order, now)?;
@@ -52,7 +52,7 @@ fn do_words<S: Alter, W: Sink>(
 ) -> Result<End, RunFault>
     requires { W.broken sink.old ≡ false }
     ensures broken { W.broken sink.new ≡ stopped_by_writer result }
-    ensures does { Moves S.Store desk.old desk.new (λ before after.
+    ensures does { WorldGoesBy S.Store desk.old desk.new (λ before after.
         DoesWords now before (line_in (map string_bytes words.now)) after
         (W.held sink.old) (W.held sink.new) result) }
 {
@@ -73,7 +73,7 @@ fn do_sent<S: Alter, W: Sink>(
 ) -> Result<End, ScriptFault>
     requires { W.broken sink.old ≡ false }
     ensures broken { W.broken sink.new ≡ writer_failed result }
-    ensures does { Moves S.Store desk.old desk.new (λ before after.
+    ensures does { WorldGoesBy S.Store desk.old desk.new (λ before after.
         DoesSent now sent.now before after (W.held sink.old) (W.held sink.new) result) }
 {
     let Ok(text) = str::from_utf8(sent) else {
@@ -93,7 +93,7 @@ fn run_bytes<S: Alter, W: Sink>(
 ) -> Result<(), ScriptFault>
     requires { W.broken sink.old ≡ false }
     ensures broken { W.broken sink.new ≡ writer_failed result }
-    ensures ran { Moves S.Store desk.old desk.new (λ before after.
+    ensures ran { WorldGoesBy S.Store desk.old desk.new (λ before after.
         RunsScript now (Some script.now) before after (W.held sink.old) (W.held sink.new) result) }
     ensures whole { OnOk result (IsScript script.now) }
     ensures unread { is_unread result ≡ true
@@ -119,7 +119,7 @@ fn do_script<S: Alter, W: Sink>(
 ) -> Result<End, ScriptFault>
     requires { W.broken sink.old ≡ false }
     ensures broken { W.broken sink.new ≡ writer_failed result }
-    ensures does { Moves S.Store desk.old desk.new (λ before after.
+    ensures does { WorldGoesBy S.Store desk.old desk.new (λ before after.
         DoesScript now script.now before after (W.held sink.old) (W.held sink.new) result) }
 {
     match run_bytes(alloc, desk, script, sink, now) {
@@ -138,7 +138,7 @@ fn do_body<S: Alter, W: Sink>(
 ) -> Result<End, ScriptFault>
     requires { W.broken sink.old ≡ false }
     ensures broken { W.broken sink.new ≡ writer_failed result }
-    ensures does { Moves S.Store desk.old desk.new (λ before after.
+    ensures does { WorldGoesBy S.Store desk.old desk.new (λ before after.
         DoesBody now (Some body.now) before after (W.held sink.old) (W.held sink.new) result) }
 {
     if let Some(sent) = behind(WORDS, body) {
@@ -160,7 +160,7 @@ fn do_message<S: Alter, W: Sink>(
 ) -> Result<End, ScriptFault>
     requires { W.broken sink.old ≡ false }
     ensures broken { W.broken sink.new ≡ writer_failed result }
-    ensures does { Moves S.Store desk.old desk.new (λ before after.
+    ensures does { WorldGoesBy S.Store desk.old desk.new (λ before after.
         DoesMessage now message.now before after (W.held sink.old) (W.held sink.new) result) }
 {
     match body_of(message) {
@@ -204,7 +204,7 @@ fn take_message<S: Alter, R: Source, W: Sink>(
 ) -> Result<End, ScriptFault>
     requires reader { R.broken source.old ≡ false }
     requires writer { W.broken sink.old ≡ false }
-    ensures takes { Moves S.Store desk.old desk.new (λ before after.
+    ensures takes { WorldGoesBy S.Store desk.old desk.new (λ before after.
         TakesMessage now (R.left source.old) before after
         (W.held sink.old) (W.held sink.new) result) }
     ensures read_fault { R.broken source.new ≡ true → reader_failed result ≡ true }
@@ -231,7 +231,7 @@ pub fn answer_message<S: Alter, R: Source, W: Sink>(
 ) -> Result<End, ScriptFault>
     requires reader { R.broken source.old ≡ false }
     requires writer { W.broken sink.old ≡ false }
-    ensures answers { Moves S.Store desk.old desk.new (λ before after.
+    ensures answers { WorldGoesBy S.Store desk.old desk.new (λ before after.
         AnswersMessage now (R.left source.old) before after
         (W.held sink.old) (W.held sink.new) result) }
     ensures read_fault { R.broken source.new ≡ true

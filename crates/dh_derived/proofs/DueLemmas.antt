@@ -15,7 +15,7 @@ use Rattle.dh_plans.specs.declared.edits.Edit.TheVariants.{AddLang, PutVersion, 
 use Rattle.dh_records.proofs.Keys.{turned}
 use Rattle.dh_records.specs.declared.records.AliasName.{AliasName}
 use Rattle.dh_derived.specs.Rightness.{has_class, named, due_in}
-use Rattle.dh_derived.specs.Renewals.{is_covered, Covers, by_edit, FitsEdit}
+use Rattle.dh_derived.specs.Renewals.{is_covered, CoversChange, by_edit, FitsEdit}
 use Rattle.dh_derived.specs.declared.renewals.Renewal.{Renewal}
 use Rattle.dh_derived.specs.declared.renewals.Renewal.TheVariants.{Nothing, Routes, Class, Aliases}
 
@@ -43,7 +43,7 @@ covered_as (Class pass) p q class name has = refl
 covered_as Aliases p q class name has = has
 
 -- the aliases of all classes, where the classes stay
-pub aliases_cover : (p q : Project) → ((class : Option Text) → has_class q class ≡ has_class p class) → q.redirects ≡ p.redirects → Covers Aliases p q
+pub aliases_cover : (p q : Project) → ((class : Option Text) → has_class q class ≡ has_class p class) → q.redirects ≡ p.redirects → CoversChange Aliases p q
 aliases_cover p q has redirects = record {
   names = λ class name out. none_due q class name out ∙ sym (none_due p class name (sym (has class) ∙ out));
   redirects = λ _. redirects;
@@ -54,7 +54,7 @@ pub class_covers
     : (p : Project) (passes : FinMap text_cmp (Option ℕ)) (held : FinSet held_cmp) (pass : Text)
     → ((c : Text) → bytes_eq pass c ≡ false → contains_key passes c ≡ contains_key p.passes c)
     → ((c slug : Text) → bytes_eq pass c ≡ false → contains_key held (c, slug) ≡ contains_key p.held (c, slug))
-    → Covers (Class pass) p (record p { passes = passes; held = held })
+    → CoversChange (Class pass) p (record p { passes = passes; held = held })
 class_covers p passes held pass same_passes same_held = record { names = names; redirects = λ _. refl }
   where
     q : Project
@@ -90,7 +90,7 @@ module _ (p : Project) (pass : Text) where
 
 -- what names ask for stays
 unasked : (p q : Project) → ((class : Option Text) → has_class q class ≡ has_class p class) → q.versions ≡ p.versions → q.branch ≡ p.branch → q.defaults ≡ p.defaults
-    → ((class : Option Text) (slug : Text) → class_holds q class slug ≡ class_holds p class slug) → q.redirects ≡ p.redirects → Covers Nothing p q
+    → ((class : Option Text) (slug : Text) → class_holds q class slug ≡ class_holds p class slug) → q.redirects ≡ p.redirects → CoversChange Nothing p q
 unasked p q has versions branch defaults held redirects = record {
   names = λ class name _. same_due p q class (has class) versions branch defaults (held class) name;
   redirects = λ _. redirects;

@@ -14,14 +14,14 @@ use Rattle.dh_world.specs.Seen.{is_alias}
 use Rattle.dh_world.specs.Visibility.{may_see}
 use Rattle.dh_world.specs.World.{Text, Project}
 use Rattle.dh_classes.specs.Classes.{class_holds, sees, versions_for}
-use Rattle.dh_aliases.specs.Tops.{IsStable, stable_in, stable_version}
+use Rattle.dh_aliases.specs.Tops.{IsTopIfAny, stable_in, stable_version}
 use Rattle.dh_aliases.specs.Names.{names_of, is_of_branch}
 use Rattle.dh_aliases.specs.Puts.{IsNew, IsNotAbove}
 use Rattle.dh_aliases.proofs.HiddenLemmas.{hidden_put}
 use Rattle.dh_aliases.proofs.PassLemmas.{seen_at, is_there, seen_named, passes_see_more}
 use Rattle.dh_aliases.proofs.PutLemmas.{there, unseen_put, quiet_put}
 use Rattle.dh_aliases.proofs.TopLemmas.{stable_is_top}
-use Rattle.dh_derived.specs.Renewals.{Covers, IsCoherent, is_low}
+use Rattle.dh_derived.specs.Renewals.{CoversChange, IsCoherent, is_low}
 use Rattle.dh_derived.specs.declared.renewals.Renewal.{Renewal}
 use Rattle.dh_derived.specs.declared.renewals.Renewal.TheVariants.{Nothing, Aliases}
 use Rattle.dh_derived.proofs.DueLemmas.{due_by, same_due, covered_as, aliases_cover}
@@ -53,13 +53,13 @@ module _ (p : Project) (v : Version) where
   abbrev put : Project
   put = with_version p v.slug v
 
-  same_names_cover : ((class : Option Text) → names_of put class ≡ names_of p class) → Covers Nothing p put
+  same_names_cover : ((class : Option Text) → names_of put class ≡ names_of p class) → CoversChange Nothing p put
   same_names_cover same = record { names = λ class name _. due_by p put class refl (same class) name; redirects = λ _. refl }
 
-  pub put_covered : Covers Aliases p put
+  pub put_covered : CoversChange Aliases p put
   put_covered = aliases_cover p put (λ _. refl) refl
 
-  pub put_is_bare : (r : Renewal) → Covers r p put → Covers r p (without_pages v.slug put)
+  pub put_is_bare : (r : Renewal) → CoversChange r p put → CoversChange r p (without_pages v.slug put)
   put_is_bare r it = record {
     names = λ class name out.
         same_due put (without_pages v.slug put) class refl refl refl refl (λ _. refl) name
@@ -73,13 +73,13 @@ module _ (p : Project) (v : Version) where
   module _ (is : IsCoherent p) where
     -- it stands in place of another
 
-    pub never_seen : (was : Version) → get p.versions v.slug ≡ Some was → was.active ≡ false → v.active ≡ false → Covers Nothing p put
+    pub never_seen : (was : Version) → get p.versions v.slug ≡ Some was → was.active ≡ false → v.active ≡ false → CoversChange Nothing p put
     never_seen was found was_off off = same_names_cover (λ class.
         unseen_put p class v.slug v
         (sees_as p class v.slug (Some was) found ∙ unseen_by was (class_holds p class v.slug) was_off)
         (sees_put class ∙ unseen_by v (class_holds p class v.slug) off))
 
-    pub hiding : (was : Version) → get p.versions v.slug ≡ Some was → v ≡ record was { slug = v.slug; hidden = v.hidden } → Covers Nothing p put
+    pub hiding : (was : Version) → get p.versions v.slug ≡ Some was → v ≡ record was { slug = v.slug; hidden = v.hidden } → CoversChange Nothing p put
     hiding was found alike = same_names_cover (λ class.
         ap (λ u. names_of (with_version p v.slug u) class) (alike ∙ ap (λ s. record was { slug = s; hidden = v.hidden }) (sym (is.named v.slug was found).0))
         ∙ hidden_put p class v.slug was v.hidden found is.named)
@@ -98,7 +98,7 @@ module _ (p : Project) (v : Version) where
           go false e = refl
           go true e = absurd (true≢false (sym (is.granted c v.slug e) ∙ ap is_some free))
 
-      pub unseen_new : may_see v false ≡ false → Covers Nothing p put
+      pub unseen_new : may_see v false ≡ false → CoversChange Nothing p put
       unseen_new unseen = same_names_cover (λ class.
           unseen_put p class v.slug v (unseen_before class) (sees_put class ∙ ap (may_see v) (not_held class) ∙ unseen))
 
@@ -141,7 +141,7 @@ module _ (p : Project) (v : Version) where
               go true seen f = refl
               go false seen f = absurd cc
 
-          under : (u : Version) → is_above v u ≡ false → (class : Option Text) (o : Option Text) → IsStable (versions_for p None) o → option_and_then (get (versions_for p None)) o ≡ Some u → IsNotAbove p class v
+          under : (u : Version) → is_above v u ≡ false → (class : Option Text) (o : Option Text) → IsTopIfAny (versions_for p None) o → option_and_then (get (versions_for p None)) o ≡ Some u → IsNotAbove p class v
           under u low class None stable e = absurd cc
           under u low class (Some t) top e =
               let found : Some u ≡ Some top.version = sym e ∙ top.stands in
@@ -153,7 +153,7 @@ module _ (p : Project) (v : Version) where
                 not_below = low;
               }
 
-          pub quiet : (stable : Option Version) → stable_version (versions_for p None) ≡ stable → is_low v stable ≡ true → Covers Nothing p put
+          pub quiet : (stable : Option Version) → stable_version (versions_for p None) ≡ stable → is_low v stable ≡ true → CoversChange Nothing p put
           quiet None e low = same_names_cover (λ class. quiet_put p class v.slug v is.named (is_new class) (inl (flagged (is_release v) low)))
           quiet (Some u) e low = same_names_cover (λ class.
               quiet_put p class v.slug v is.named (is_new class)

@@ -7,10 +7,10 @@ use Rattle.dh_world.specs.World.{Text, Project}
 use Rattle.dh_world.proofs.MapLemmas.{text_total, tied_text}
 use Rattle.dh_records.specs.Lists.{Lists, world_of, is_alias_at, is_route_in, placed, route_row}
 use Rattle.dh_derived.specs.Rightness.{AreRight, class_in, due_at, route_of, routes_due}
-use Rattle.dh_derived.specs.Renewals.{Covers, AreRightBut}
+use Rattle.dh_derived.specs.Renewals.{CoversChange, AreRightBut}
 use Rattle.dh_derived.specs.declared.renewals.Renewal.{Renewal}
 
-module _ (r : Renewal) (l next : Lists) (host : Text) (was is : Project) (right : AreRight l) (found : get (world_of l) host ≡ Some was) (world_is : world_of next ≡ insert (world_of l) host is) (aliases : next.aliases ≡ l.aliases) (routes : next.routes ≡ l.routes) (it : Covers r was is) where
+module _ (r : Renewal) (l next : Lists) (host : Text) (was is : Project) (right : AreRight l) (found : get (world_of l) host ≡ Some was) (world_is : world_of next ≡ insert (world_of l) host is) (aliases : next.aliases ≡ l.aliases) (routes : next.routes ≡ l.routes) (it : CoversChange r was is) where
   elsewhere : (other : Text) → bytes_eq host other ≡ false → get (world_of l) other ≡ get (world_of next) other
   elsewhere other apart = sym (ap (λ w. get w other) world_is ∙ get-insert text_total (world_of l) host is other ∙ ap (λ b. cond b (Some is) (get (world_of l) other)) (tied_text other host ∙ apart))
 

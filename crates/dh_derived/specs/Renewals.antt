@@ -36,7 +36,7 @@ are_routes_covered Routes = true
 are_routes_covered _ = false
 
 -- What a renewal does not cover is due after a change of the project as it was before.
-pub record Covers (r : Renewal) (was is : Project) : Type 0 where
+pub record CoversChange (r : Renewal) (was is : Project) : Type 0 where
   pub names : (class : Option Text) (name : AliasName) → is_covered r is class name ≡ false → due_in is class name ≡ due_in was class name
   pub redirects : are_routes_covered r ≡ false → is.redirects ≡ was.redirects
 
@@ -64,13 +64,13 @@ by_edit _ = Nothing
 
 -- after the edit of any project that may be edited so, this is to be made right
 abbrev pub FitsEdit : Edit → Renewal → Type 0
-FitsEdit e r = (p : Project) → IsCoherent p → MayEdit e p → Covers r p (edited e p)
+FitsEdit e r = (p : Project) → IsCoherent p → MayEdit e p → CoversChange r p (edited e p)
 
 -- after a version is put in place of another
 abbrev pub FitsReplaced : Version → Version → Renewal → Type 0
 FitsReplaced was v r =
     (p : Project) → IsCoherent p → get p.versions v.slug ≡ Some was
-    → Covers r p (with_version p v.slug v)
+    → CoversChange r p (with_version p v.slug v)
 
 -- the version is no release, or not above this one
 abbrev pub is_low : Version → Option Version → Bool
@@ -83,7 +83,7 @@ abbrev pub FitsAdded : Version → Text → Option Version → Renewal → Type 
 FitsAdded v branch stable r =
     (p : Project) → IsCoherent p → slug_from v.name ≡ Some v.slug → get p.versions v.slug ≡ None
     → p.branch ≡ branch → stable_version (versions_for p None) ≡ stable
-    → Covers r p (with_version p v.slug v)
+    → CoversChange r p (with_version p v.slug v)
 
 -- ---- laws
 
@@ -104,11 +104,11 @@ abbrev pub RightButCovered : Type 0
 RightButCovered =
     (r : Renewal) (l next : Lists) (host : Text) (was is : Project)
     → AreRight l → get (world_of l) host ≡ Some was → world_of next ≡ insert (world_of l) host is
-    → next.aliases ≡ l.aliases → next.routes ≡ l.routes → Covers r was is
+    → next.aliases ≡ l.aliases → next.routes ≡ l.routes → CoversChange r was is
     → AreRightBut r next host is
 
 -- what holds after a version is put holds where its pages go with it
 abbrev pub PutIsBare : Type 0
 PutIsBare =
     (r : Renewal) (p : Project) (v : Version)
-    → Covers r p (with_version p v.slug v) → Covers r p (without_pages v.slug (with_version p v.slug v))
+    → CoversChange r p (with_version p v.slug v) → CoversChange r p (without_pages v.slug (with_version p v.slug v))

@@ -7,11 +7,11 @@ use Rattle.sqlite.specs.Effect.{Database}
 use Rattle.sqlite.specs.Held.{Held, state}
 use Rattle.dh_faults.specs.declared.fault.Fault.{Fault}
 use Rattle.dh_rows.specs.Calls.{IsHonest, LeavesNoMore}
-use Rattle.dh_schema.specs.Calling.{Asks}
+use Rattle.dh_schema.specs.Calling.{LooksAtLists}
 use Rattle.dh_schema.specs.InTurn.{lasts_on}
 use Rattle.dh_schema.specs.Tables.{lists_of}
 use Rattle.dh_records.specs.Lists.{Lists}
-use Rattle.dh_renewal.specs.Filling.{Derives, IsDerived, IsLeft}
+use Rattle.dh_renewal.specs.Filling.{DerivesRows, IsDerived, IsLeft}
 use Rattle.dh_tables.specs.Going.{last_records}
 use Rattle.dh_world.specs.declared.refusal.Refusal.{Refusal}
 
@@ -25,10 +25,10 @@ on_err (Err e) f p = f p
 
 module _ {S : Type 0} (g : Ghosts S) (old mid : Held S) where
   -- where it is refused, nothing was done
-  pub unasked : {asked : Result (Unit {0}) Fault} (P : Refusal → Type 0) (result : Result (Unit {0}) Refusal) → IsErrAnd result P → Asks g old mid asked → LeavesNoMore g old mid → Derives g old mid result
+  pub unasked : {asked : Result (Unit {0}) Fault} (P : Refusal → Type 0) (result : Result (Unit {0}) Refusal) → IsErrAnd result P → LooksAtLists g old mid asked → LeavesNoMore g old mid → DerivesRows g old mid result
   unasked P result is asks quiet =
       let at = err_from_is_err_and result is in
-      subst (Derives g old mid) (sym at.1) (record {
+      subst (DerivesRows g old mid) (sym at.1) (record {
         lasts = asks.goes.lasts;
         done = λ _. tt;
         kept = λ honest. ap lists_of (asks.goes.kept honest);
@@ -37,7 +37,7 @@ module _ {S : Type 0} (g : Ghosts S) (old mid : Held S) where
 
 module _ {S : Type 0} (g : Ghosts S) (old mid new : Held S) where
   -- where it is answered, what follows starts from what was
-  pub asked : {v : Unit {0}} (result : Result (Unit {0}) Refusal) → Asks g old mid (Ok v) → LeavesNoMore g old mid → Derives g mid new result → Derives g old new result
+  pub asked : {v : Unit {0}} (result : Result (Unit {0}) Refusal) → LooksAtLists g old mid (Ok v) → LeavesNoMore g old mid → DerivesRows g mid new result → DerivesRows g old new result
   asked result asks quiet derives = record {
     lasts = lasts_on asks.goes.lasts derives.lasts;
     done = λ clean.

@@ -18,9 +18,9 @@ use Rattle.dh_histories.specs.declared.call.Call.TheVariants.{Act, Ask}
 use Rattle.dh_histories.specs.CallsDone.{IsCallDone, AreCallsDone, outcome_of, outcome_of_read, calls_left, outcomes_left}
 use Rattle.dh_histories.specs.Runs.{reply_in}
 use Rattle.dh_histories.proofs.CallLemmas.{run_before, done_is_run}
-use Rattle.dh_desk.specs.Desk.{HasCleanDisk, IsHonest, Lasts, Moves, Standing, state, world}
+use Rattle.dh_desk.specs.Desk.{HasCleanDisk, IsHonest, KeepsFaults, WorldGoesBy, Standing, state, world}
 use Rattle.dh_desk.specs.DeskRuns.{DoesCall, DoesCalls, DoesWhileOpen, IsRunTo, IsDeskRun, is_applied, is_faulted, unanswered}
-use Rattle.dh_desk.proofs.Moving.{Moves-refl, Moves-trans}
+use Rattle.dh_desk.proofs.Moving.{WorldGoesBy-refl, WorldGoesBy-trans}
 
 -- ---- one call
 
@@ -64,10 +64,10 @@ none_applied (Act c ∷ calls) (suc n) answer e = none_applied calls n answer e
 none_applied (Ask host pass moment asked ∷ calls) (suc n) answer e = none_applied calls n answer e
 
 module _ {S : Type 0} (g : Ghosts S) where
-  does_moves : (a c : Standing S) (calls : List Call) (outcomes : List Outcome) → DoesCalls g a calls c outcomes → Moves g a c (λ before after. AreCallsDone before calls after outcomes)
-  does_moves a c [] outcomes (same, none) = subst (λ x. Moves g a x (λ before after. AreCallsDone before [] after outcomes)) (sym same) (Moves-refl (λ w. (refl, none)))
+  does_moves : (a c : Standing S) (calls : List Call) (outcomes : List Outcome) → DoesCalls g a calls c outcomes → WorldGoesBy g a c (λ before after. AreCallsDone before calls after outcomes)
+  does_moves a c [] outcomes (same, none) = subst (λ x. WorldGoesBy g a x (λ before after. AreCallsDone before [] after outcomes)) (sym same) (WorldGoesBy-refl (λ w. (refl, none)))
   does_moves a c (call ∷ calls) outcomes (between, outcome, more, first, rest, parts) =
-      Moves-trans first.moves (does_moves between c calls more rest) (λ u v w did others. (v, outcome, more, did, others, parts))
+      WorldGoesBy-trans first.moves (does_moves between c calls more rest) (λ u v w did others. (v, outcome, more, did, others, parts))
 
   -- one call more
   does_and_one : (a b c : Standing S) (calls : List Call) (outcomes : List Outcome) (call : Call) (outcome : Outcome)
@@ -94,7 +94,7 @@ module _ {S : Type 0} (g : Ghosts S) where
   -- one call more, by whether the desk is open before it and after
   pub open_and_one
       : (a b c : Standing S) (calls : List Call) (outcomes : List Outcome) (call : Call) (outcome : Outcome) → DoesWhileOpen g a b calls outcomes
-      → Moves g b c (λ before after. IsCallDone before call after outcome)
+      → WorldGoesBy g b c (λ before after. IsCallDone before call after outcome)
       → (HasCleanDisk (state g c.tables) → is_applied outcome ≡ true → IsHonest g c.tables)
       → (b.closed ≡ true → (outcome ≡ unanswered call) × (c ≡ b)) → (c.closed ≡ true → outcome ≡ unanswered call) → (c.closed ≡ false → is_faulted outcome ≡ false)
       → DoesWhileOpen g a c (calls ++ call ∷ []) (outcomes ++ outcome ∷ [])
@@ -139,7 +139,7 @@ module _ {S : Type 0} (g : Ghosts S) where
   record UpTo (a : Standing S) (calls : List Call) (outcomes : List Outcome) : Type 0 where
     at : Standing S
     honest : IsHonest g at.tables
-    lasts : Lasts g a.tables at.tables
+    lasts : KeepsFaults g a.tables at.tables
     done : AreCallsDone (world g a) calls (world g at) outcomes
 
   up_to : (a c : Standing S) (done rest : List Call) (told : List Outcome) → DoesCalls g a done c told → HasCleanDisk (state g c.tables) → (n : ℕ) (answer : Answer)

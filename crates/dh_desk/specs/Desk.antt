@@ -4,7 +4,7 @@ use Rattle.std.specs.Coded.{Coded, code_by, coded×, coded_bool, coded_ℕ}
 use Rattle.sqlite_trees.specs.declared.store.Store.{Ghosts}
 use Rattle.sqlite.specs.Held.{Held, held_code}
 use Rattle.dh_records.specs.Lists.{world_of}
-use Rattle.dh_replies.specs.Kept.{AreRight}
+use Rattle.dh_replies.specs.Kept.{AreRepliesRight}
 use Rattle.dh_replies.specs.declared.replies.Replies.{Replies}
 use Rattle.dh_tables.specs.Going.{records}
 use Rattle.dh_world.specs.World.{Text, World}
@@ -17,8 +17,8 @@ use Rattle.dh_world.specs.declared.refusal.Refusal.TheVariants.{Store, OutOfMemo
 pub use Rattle.dh_histories.specs.Runs.{reply_in}
 pub use Rattle.sqlite.specs.Held.{state}
 pub use Rattle.sqlite.specs.State.{HasCleanDisk}
-pub use Rattle.dh_rows.specs.Calls.{IsHonest, IsRefused, Lasts}
-pub use Rattle.dh_schema.specs.Calling.{Blames}
+pub use Rattle.dh_rows.specs.Calls.{IsHonest, IsRefused, KeepsFaults}
+pub use Rattle.dh_schema.specs.Calling.{StoreFaultHasCause}
 pub use Rattle.dh_schema.specs.Tables.{lists_of}
 pub use Rattle.dh_tables.specs.Going.{last_records}
 pub use Rattle.dh_transactions.specs.Steps.{AreConsistent}
@@ -55,8 +55,8 @@ module _ {S : Type 0} (g : Ghosts S) where
 
   -- What every call leaves. Where the store is honest, the worlds before and after stand so to each
   -- other.
-  pub record Moves (old new : Standing S) (Relates : World → World → Type 0) : Type 0 where
-    pub lasts : Lasts g old.tables new.tables
+  pub record WorldGoesBy (old new : Standing S) (Relates : World → World → Type 0) : Type 0 where
+    pub lasts : KeepsFaults g old.tables new.tables
     pub moves : IsHonest g new.tables → Relates (world old) (world new)
 
   -- while the store is honest, what is committed is sound, and its stored rows are right
@@ -65,7 +65,7 @@ module _ {S : Type 0} (g : Ghosts S) where
 
   -- while the store is honest, each reply that is kept is that of the world
   abbrev pub AreCurrent : Held S → Replies → Type 0
-  AreCurrent h kept = IsHonest g h → AreRight (world_of (last_records g h)) kept.entries
+  AreCurrent h kept = IsHonest g h → AreRepliesRight (world_of (last_records g h)) kept.entries
 
   -- out of memory is told of an open store alone
   abbrev pub TellsMemory : Held S → Result Answer Refusal → Type 0

@@ -11,7 +11,7 @@ use Rattle.dh_histories.specs.declared.call.Call.{Call}
 use Rattle.dh_histories.specs.declared.call.Call.TheVariants.{Act, Ask}
 use Rattle.dh_histories.specs.CallsDone.{IsCallDone, calls_left, outcomes_left}
 use Rattle.dh_histories.specs.Runs.{run}
-use Rattle.dh_desk.specs.Desk.{HasCleanDisk, IsHonest, Lasts, Moves, Standing, state, world}
+use Rattle.dh_desk.specs.Desk.{HasCleanDisk, IsHonest, KeepsFaults, WorldGoesBy, Standing, state, world}
 
 -- what comes of a call of a closed desk
 abbrev pub unanswered : Call → Outcome
@@ -33,7 +33,7 @@ module _ {S : Type 0} (g : Ghosts S) where
   -- What one call does that leaves the desk open, and what comes of it. While the disk returns what was
   -- written, an honest store alone accepts a command.
   pub record DoesCall (old new : Standing S) (call : Call) (outcome : Outcome) : Type 0 where
-    pub moves : Moves g old new (λ before after. IsCallDone before call after outcome)
+    pub moves : WorldGoesBy g old new (λ before after. IsCallDone before call after outcome)
     pub live : HasCleanDisk (state g new.tables) → is_applied outcome ≡ true → IsHonest g new.tables
     pub unfaulted : is_faulted outcome ≡ false
 
@@ -57,7 +57,7 @@ module _ {S : Type 0} (g : Ghosts S) where
     pub calls_are : calls ≡ done ++ rest
     pub outcomes_are : outcomes ≡ told ++ map unanswered rest
     pub does : DoesCalls old done between told
-    pub lasts : Lasts g between.tables new.tables
+    pub lasts : KeepsFaults g between.tables new.tables
     pub ends : ((rest ≡ []) × (new ≡ between)) ⊎ (new.closed ≡ true)
 
   -- without what is set aside these calls are a run from the world of this desk on, which ends in this world

@@ -1,7 +1,7 @@
 //! Lists of calls.
 ghost use Rattle.std.specs.Prelude.{◌≡◌, true, false, length, option_map, IfOk, OnErr};
 ghost use Rattle.dh_histories.specs.CallsDone.{AreCallsDone, IsCallDone, outcome_of, outcome_of_read};
-ghost use Rattle.dh_desk.specs.Desk.{HasCleanDisk, IsHonest, Moves, state};
+ghost use Rattle.dh_desk.specs.Desk.{HasCleanDisk, IsHonest, WorldGoesBy, state};
 ghost use Rattle.dh_desk.specs.DeskRuns.{DoesWhileOpen, is_applied, is_faulted, unanswered};
 
 use crate::desk::Desk;
@@ -45,7 +45,7 @@ pub fn pass_text(pass: &Option<Text>) -> Option<&str>
 impl<S: Alter> Desk<S> {
     /// Does one call, and tells what came of it.
     fn call(&mut self, alloc: Global, call: &Call) -> Outcome
-        ensures done { Moves S.Store self.old self.new
+        ensures done { WorldGoesBy S.Store self.old self.new
             (λ before after. IsCallDone before call.now after result) }
         ensures live { HasCleanDisk (state S.Store self.new.tables)
             → is_applied result ≡ true → IsHonest S.Store self.new.tables }
@@ -69,7 +69,7 @@ impl<S: Alter> Desk<S> {
     /// memory is told there alone, and then nothing was done. Where a call is answered by a fault of the store
     /// each later one is too.
     pub fn run(&mut self, alloc: Global, calls: &[Call]) -> Result<Vec<Outcome>, AllocError>
-        ensures ran { Moves S.Store self.old self.new (λ before after. IfOk result
+        ensures ran { WorldGoesBy S.Store self.old self.new (λ before after. IfOk result
             (λ outcomes. AreCallsDone before calls.now after outcomes.items)) }
         ensures until { IfOk result
             (λ outcomes. DoesWhileOpen S.Store self.old self.new calls.now outcomes.items) }

@@ -3,7 +3,7 @@ ghost use Rattle.std.specs.Prelude.{◌≡◌, false};
 ghost use Rattle.std.specs.Option.{option_map_or};
 ghost use Rattle.dh_classes.specs.Replies.{IsOfClass};
 ghost use Rattle.dh_records.specs.Lists.{world_of};
-ghost use Rattle.dh_view.specs.View.{Obtains};
+ghost use Rattle.dh_view.specs.View.{LearnsInTurn};
 ghost use Rattle.dh_world.specs.Visibility as visibility;
 
 use dh_faults::Found;
@@ -41,7 +41,7 @@ pub fn class_in<S: Alter>(
     host: &HostName,
     caller: Caller,
 ) -> Found<Token>
-    ensures { Obtains S.Store tables.old tables.new result
+    ensures { LearnsInTurn S.Store tables.old tables.new result
         (λ l class. IsOfClass (world_of l) host.now caller class) }
 {
     let Caller { pass, moment } = caller;

@@ -1,18 +1,18 @@
 //! The desk and its two calls.
 ghost use Rattle.std.specs.Prelude.{◌≡◌, ◌≤◌, ◌⊎◌, true, false, Err, IfOk, IfErr, OnOk, OnErr};
 ghost use Rattle.std.specs.Option.{option_map};
-ghost use Rattle.dh_rows.specs.Calls.{KeepsCommitted, Lasts, LeavesNoMore, LeavesCommitted};
+ghost use Rattle.dh_rows.specs.Calls.{KeepsCommitted, KeepsFaults, LeavesNoMore, LeavesCommitted};
 ghost use Rattle.dh_transactions.specs.Crashes.{LeavesEither};
 ghost use Rattle.dh_records.specs.Constraints.{AreSound};
 ghost use Rattle.dh_records.specs.Lists.{base_of};
-ghost use Rattle.dh_renewal.specs.Filling.{Derives, IsLeft, LeavesDerived};
+ghost use Rattle.dh_renewal.specs.Filling.{DerivesRows, IsLeft, LeavesDerived};
 ghost use Rattle.dh_schema.specs.Calling.{IsSettled};
 ghost use Rattle.dh_tables.specs.Going.{IsOver};
-ghost use Rattle.dh_transactions.specs.Steps.{Transacts};
+ghost use Rattle.dh_transactions.specs.Steps.{IsOneTransaction};
 ghost use Rattle.dh_world.specs.CheckResults.{IsFault};
 ghost use Rattle.dh_world.specs.Reads as spec;
 ghost use Rattle.dh_world.specs.Step.{IsStep};
-ghost use Rattle.dh_desk.specs.Desk.{Blames, HasCleanDisk, IsHonest, IsRefused, last_records, lists_of};
+ghost use Rattle.dh_desk.specs.Desk.{StoreFaultHasCause, HasCleanDisk, IsHonest, IsRefused, last_records, lists_of};
 ghost use Rattle.dh_faults.specs.declared.fault.Fault.TheVariants as fault;
 ghost use Rattle.dh_replies.specs.declared.replies.TheConstants.{MOST_REPLIES};
 ghost use Rattle.dh_desk.specs.Desk.{IsKept, TellsMemory, is_fault, reply_in, state, veil_of, world};
@@ -68,7 +68,7 @@ impl<S: Alter> Model for Desk<S> {
 /// no memory. Out of memory is told where the store answers, and else its fault.
 fn ask_store<S: Alter>(tables: &mut Tables<S>) -> Refusal
     ensures fault { IsFault result }
-    ensures lasts { Lasts S.Store tables.old tables.new }
+    ensures lasts { KeepsFaults S.Store tables.old tables.new }
     ensures kept { KeepsCommitted S.Store tables.old tables.new }
     ensures quiet { LeavesNoMore S.Store tables.old tables.new }
     ensures open { HasCleanDisk (state S.Store tables.new)
@@ -86,7 +86,7 @@ fn ask_store<S: Alter>(tables: &mut Tables<S>) -> Refusal
 fn ask_and_derive<S: Alter>(tables: &mut Tables<S>, alloc: Global) -> Result<(), Refusal>
     requires settled { IsHonest S.Store tables.old → IsSettled S.Store tables.old }
     requires sound { IsHonest S.Store tables.old → AreSound (last_records S.Store tables.old) }
-    ensures { Derives S.Store tables.old tables.new result }
+    ensures { DerivesRows S.Store tables.old tables.new result }
 {
     tables.ask()?;
     derive(tables, alloc)
@@ -99,7 +99,7 @@ fn act<S: Alter>(
     command: &Command,
 ) -> Result<Answer, Refusal>
     requires { IsKept S.Store tables.old }
-    ensures { Transacts S.Store tables.old tables.new command.now result }
+    ensures { IsOneTransaction S.Store tables.old tables.new command.now result }
 {
     tables.back()?;
     run(tables, alloc, command)
@@ -112,7 +112,7 @@ fn apply<S: Alter>(
     command: &Command,
 ) -> Result<Answer, Refusal>
     requires { IsKept S.Store tables.old }
-    ensures transacts { Transacts S.Store tables.old tables.new command.now result }
+    ensures transacts { IsOneTransaction S.Store tables.old tables.new command.now result }
     ensures open { TellsMemory S.Store tables.new result }
 {
     match act(tables, alloc, command) {
@@ -225,7 +225,7 @@ impl<S: Alter> Desk<S> {
         ensures closed { self.old.closed ≡ true
             → (result ≡ Err Refusal.Store) × (self.new ≡ self.old) }
         ensures closes { self.new.closed ≡ is_fault result }
-        ensures lasts { Lasts S.Store self.old.tables self.new.tables }
+        ensures lasts { KeepsFaults S.Store self.old.tables self.new.tables }
         ensures empties { OnOk result (self.new.cached ≡ 0) }
         ensures keeps { OnErr result (self.new.cached ≡ self.old.cached) }
     {
@@ -264,7 +264,7 @@ impl<S: Alter> Desk<S> {
             → world S.Store self.new ≡ world S.Store self.old }
         ensures rests { IsHonest S.Store self.new.tables
             → IsRefused S.Store lists_of self.old.tables self.new.tables }
-        ensures told { Blames S.Store self.old.tables self.new.tables result
+        ensures told { StoreFaultHasCause S.Store self.old.tables self.new.tables result
             (self.old.closed ≡ true) }
         ensures outside { IsHonest S.Store self.new.tables
             → OnOk result (self.new.tables.in_transaction ≡ false) }
@@ -273,7 +273,7 @@ impl<S: Alter> Desk<S> {
         ensures closed { self.old.closed ≡ true
             → (result ≡ Err Fault.Store) × (self.new ≡ self.old) }
         ensures closes { self.new.closed ≡ spec.is_unanswered result }
-        ensures lasts { Lasts S.Store self.old.tables self.new.tables }
+        ensures lasts { KeepsFaults S.Store self.old.tables self.new.tables }
     {
         if self.closed {
             return Err(Fault::Store);

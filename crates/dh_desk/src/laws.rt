@@ -6,7 +6,7 @@ ghost use Rattle.dh_faults.specs.Faults.{OnStore};
 ghost use Rattle.dh_reply.specs.Replies.{reply_to};
 ghost use Rattle.dh_wire.specs.declared.reply.Reply.{Reply};
 ghost use Rattle.dh_faults.specs.declared.fault.Fault.{Fault};
-ghost use Rattle.dh_schema.specs.Calling.{Blames};
+ghost use Rattle.dh_schema.specs.Calling.{StoreFaultHasCause};
 ghost use Rattle.dh_world.specs.declared.caller.Caller.{Caller};
 ghost use Rattle.dh_world.specs.World.{Text, World};
 ghost use Rattle.dh_world.specs.Seen.{seen, veil};
@@ -29,7 +29,7 @@ pub fn veiled_reply()
 /// Over a store in memory only a closed desk answers a read the fault `Store`.
 pub fn memory_answers()
     ensures { (old new : Standing MemStore) (read : Result Reply Fault)
-        → Blames over_memory old.tables new.tables read (old.closed ≡ true)
+        → StoreFaultHasCause over_memory old.tables new.tables read (old.closed ≡ true)
         → OnStore read (old.closed ≡ true) }
 {}
 

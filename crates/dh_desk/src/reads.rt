@@ -4,14 +4,14 @@ ghost use Rattle.std.specs.Option.{option_map};
 ghost use Rattle.dh_faults.specs.Faults.{OnStore};
 ghost use Rattle.dh_reply.specs.Replies.{reply_to};
 ghost use Rattle.dh_classes.specs.Replies.{reply_for};
-ghost use Rattle.dh_replies.specs.Kept.{AreRight, question_for};
+ghost use Rattle.dh_replies.specs.Kept.{AreRepliesRight, question_for};
 ghost use Rattle.dh_records.specs.Lists.{world_of};
 ghost use Rattle.dh_schema.specs.Calling.{HasRecords, IsSettled};
-ghost use Rattle.dh_desk.specs.Desk.{AreConsistent, AreCurrent, Blames, IsHonest, IsKept, IsRefused, Lasts};
+ghost use Rattle.dh_desk.specs.Desk.{AreConsistent, AreCurrent, StoreFaultHasCause, IsHonest, IsKept, IsRefused, KeepsFaults};
 ghost use Rattle.dh_desk.specs.Desk.{last_records, lists_of};
 ghost use Rattle.dh_desk.specs.Desk.{reply_in, veil_of, world_seen};
 ghost use Rattle.dh_view.specs.Remembered.{IsClassed};
-ghost use Rattle.dh_view.specs.View.{Fails, Looks, shown};
+ghost use Rattle.dh_view.specs.View.{FailsWithCause, LeavesUnmoved, shown};
 ghost use Rattle.dh_world.specs.Reads.{host_named, caller_named};
 ghost use Rattle.dh_world.specs.Seen.{seen};
 
@@ -64,8 +64,8 @@ fn look<S: Alter>(
 ) -> Result<Reply, Fault>
     requires consistent { HasRecords S.Store tables.old AreConsistent }
     requires is_classed { IsClassed S.Store tables.old host caller }
-    ensures looks { Looks S.Store tables.old tables.new }
-    ensures told { OnStore result (Fails S.Store tables.old tables.new) }
+    ensures looks { LeavesUnmoved S.Store tables.old tables.new }
+    ensures told { OnStore result (FailsWithCause S.Store tables.old tables.new) }
     ensures value { IsHonest S.Store tables.new
         → IfOk result (λ r. r
         ≡ reply_to (shown S.Store tables.old host caller) read.now.path read.now.query) }
@@ -88,11 +88,11 @@ fn reply_to_class<S: Alter>(
 ) -> Result<Reply, Fault>
     requires consistent { HasRecords S.Store tables.old AreConsistent }
     requires is_classed { IsClassed S.Store tables.old (Some host) caller }
-    ensures looks { Looks S.Store tables.old tables.new }
-    ensures told { OnStore result (Fails S.Store tables.old tables.new) }
+    ensures looks { LeavesUnmoved S.Store tables.old tables.new }
+    ensures told { OnStore result (FailsWithCause S.Store tables.old tables.new) }
     ensures right { let w = world_seen S.Store tables.old in
         IsHonest S.Store tables.new
-        → AreRight w replies.old.entries → AreRight w replies.new.entries
+        → AreRepliesRight w replies.old.entries → AreRepliesRight w replies.new.entries
         × IfOk result (λ r. r ≡ reply_for w (question_for host caller.pass asked.now)) }
 {
     let Ok(key) = Key::new(alloc, &host, &caller.pass, asked) else {
@@ -118,11 +118,11 @@ fn reply_by_class<S: Alter>(
 ) -> Result<Reply, Fault>
     requires settled { IsHonest S.Store tables.old → IsSettled S.Store tables.old }
     requires consistent { HasRecords S.Store tables.old AreConsistent }
-    ensures looks { Looks S.Store tables.old tables.new }
-    ensures told { OnStore result (Fails S.Store tables.old tables.new) }
+    ensures looks { LeavesUnmoved S.Store tables.old tables.new }
+    ensures told { OnStore result (FailsWithCause S.Store tables.old tables.new) }
     ensures right { let w = world_seen S.Store tables.old in
         IsHonest S.Store tables.new
-        → AreRight w replies.old.entries → AreRight w replies.new.entries
+        → AreRepliesRight w replies.old.entries → AreRepliesRight w replies.new.entries
         × IfOk result (λ r. r ≡ reply_to (seen w host caller) asked.now.path asked.now.query) }
 {
     match host {
@@ -164,9 +164,9 @@ pub fn read<S: Alter>(
         → last_records S.Store tables.new ≡ last_records S.Store tables.old }
     ensures rests { IsHonest S.Store tables.new
         → IsRefused S.Store lists_of tables.old tables.new }
-    ensures told { Blames S.Store tables.old tables.new result ⊥ }
+    ensures told { StoreFaultHasCause S.Store tables.old tables.new result ⊥ }
     ensures outside { IsHonest S.Store tables.new → OnOk result (tables.new.in_transaction ≡ false) }
-    ensures lasts { Lasts S.Store tables.old tables.new }
+    ensures lasts { KeepsFaults S.Store tables.old tables.new }
 {
     let host = text_in(alloc, host)?;
     let caller = caller_in(alloc, pass, moment)?;

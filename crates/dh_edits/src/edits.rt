@@ -4,7 +4,7 @@ ghost use Rattle.std.specs.List.{IsDistinct};
 ghost use Rattle.std.specs.Str.{bytes_eq};
 ghost use Rattle.dh_rows.specs.Calls.{IsHonest};
 ghost use Rattle.dh_records.specs.Changes as change;
-ghost use Rattle.dh_tables.specs.Going.{HasRecords, IsWithin, Makes};
+ghost use Rattle.dh_tables.specs.Going.{HasRecords, IsWithin, ChangesRecords};
 ghost use Rattle.dh_row_edits.specs.RowEdits.{RowsMay, rows_edited, version_row};
 
 use dh_checks::CheckedPage;
@@ -25,7 +25,7 @@ fn add_lang<S: Alter>(
     place: u32,
 ) -> Result<(), Refusal>
     requires may { HasRecords S.Store tables.old (RowsMay host.now (Edit.AddLang lang place)) }
-    ensures makes { Makes S.Store tables.old tables.new result
+    ensures makes { ChangesRecords S.Store tables.old tables.new result
         (rows_edited host.now (Edit.AddLang lang place)) }
 {
     let row = LangRow {
@@ -42,7 +42,7 @@ fn put_version<S: Alter>(
     host: &HostName,
     version: Version,
 ) -> Result<(), Refusal>
-    ensures makes { Makes S.Store tables.old tables.new result
+    ensures makes { ChangesRecords S.Store tables.old tables.new result
         (change.put_version (version_row host.now version)) }
 {
     let row = VersionRow {
@@ -58,7 +58,7 @@ fn put_without_pages<S: Alter>(
     host: &HostName,
     version: Version,
 ) -> Result<(), Refusal>
-    ensures makes { Makes S.Store tables.old tables.new result
+    ensures makes { ChangesRecords S.Store tables.old tables.new result
         (rows_edited host.now (Edit.PutWithoutPages version)) }
 {
     tables.drop_pages(host, &version.slug, None)?;
@@ -71,7 +71,7 @@ fn remove_granted<S: Alter>(
     host: &HostName,
     slug: &Slug,
 ) -> Result<(), Refusal>
-    ensures makes { Makes S.Store tables.old tables.new result
+    ensures makes { ChangesRecords S.Store tables.old tables.new result
         (λ l. change.drop_version host.now slug.now (change.drop_grants_of host.now slug.now l)) }
 {
     tables.drop_grants_of(host, slug)?;
@@ -84,7 +84,7 @@ fn remove_filled<S: Alter>(
     host: &HostName,
     slug: &Slug,
 ) -> Result<(), Refusal>
-    ensures makes { Makes S.Store tables.old tables.new result
+    ensures makes { ChangesRecords S.Store tables.old tables.new result
         (λ l. change.drop_version host.now slug.now (change.drop_grants_of host.now slug.now
         (change.drop_pages host.now slug.now None l))) }
 {
@@ -100,7 +100,7 @@ fn remove_version<S: Alter>(
 ) -> Result<(), Refusal>
     requires within { IsWithin S.Store tables.old }
     requires apart { IsHonest S.Store tables.old → IsDistinct bytes_eq defaults.now }
-    ensures makes { Makes S.Store tables.old tables.new result
+    ensures makes { ChangesRecords S.Store tables.old tables.new result
         (λ l. change.drop_version host.now slug.now (change.drop_grants_of host.now slug.now
         (change.drop_pages host.now slug.now None (change.set_picks host.now defaults.now l)))) }
 {
@@ -127,7 +127,7 @@ fn put_page<S: Alter>(
     lang: Lang,
     page: CheckedPage<'_>,
 ) -> Result<(), Refusal>
-    ensures makes { Makes S.Store tables.old tables.new result
+    ensures makes { ChangesRecords S.Store tables.old tables.new result
         (rows_edited host.now (Edit.PutPage slug lang page.entry)) }
 {
     let stored = page_in(alloc, &page)?;
@@ -147,7 +147,7 @@ fn remove_pages<S: Alter>(
     slug: &Slug,
     lang: &Lang,
 ) -> Result<(), Refusal>
-    ensures makes { Makes S.Store tables.old tables.new result
+    ensures makes { ChangesRecords S.Store tables.old tables.new result
         (rows_edited host.now (Edit.RemovePages slug.now lang.now)) }
 {
     Ok(tables.drop_pages(host, slug, Some(lang))?)
@@ -160,7 +160,7 @@ fn set_defaults<S: Alter>(
 ) -> Result<(), Refusal>
     requires within { IsWithin S.Store tables.old }
     requires apart { IsHonest S.Store tables.old → IsDistinct bytes_eq names.now }
-    ensures makes { Makes S.Store tables.old tables.new result
+    ensures makes { ChangesRecords S.Store tables.old tables.new result
         (change.set_picks host.now names.now) }
 {
     Ok(tables.set_picks(host, names)?)
@@ -174,7 +174,7 @@ fn add_pass<S: Alter>(
     until: Option<PassEnd>,
 ) -> Result<(), Refusal>
     requires may { HasRecords S.Store tables.old (RowsMay host.now (Edit.AddPass pass until)) }
-    ensures makes { Makes S.Store tables.old tables.new result
+    ensures makes { ChangesRecords S.Store tables.old tables.new result
         (rows_edited host.now (Edit.AddPass pass until)) }
 {
     let row = PassRow {
@@ -190,7 +190,7 @@ fn remove_pass<S: Alter>(
     host: &HostName,
     pass: &Token,
 ) -> Result<(), Refusal>
-    ensures makes { Makes S.Store tables.old tables.new result
+    ensures makes { ChangesRecords S.Store tables.old tables.new result
         (rows_edited host.now (Edit.RemovePass pass.now)) }
 {
     tables.drop_grants_by(host, pass)?;
@@ -204,7 +204,7 @@ fn grant<S: Alter>(
     pass: Token,
     slug: Slug,
 ) -> Result<(), Refusal>
-    ensures makes { Makes S.Store tables.old tables.new result
+    ensures makes { ChangesRecords S.Store tables.old tables.new result
         (rows_edited host.now (Edit.Grant pass slug)) }
 {
     let row = HeldRow {
@@ -221,7 +221,7 @@ fn revoke<S: Alter>(
     pass: &Token,
     slug: &Slug,
 ) -> Result<(), Refusal>
-    ensures makes { Makes S.Store tables.old tables.new result
+    ensures makes { ChangesRecords S.Store tables.old tables.new result
         (rows_edited host.now (Edit.Revoke pass.now slug.now)) }
 {
     Ok(tables.revoke(host, pass, slug)?)
@@ -234,7 +234,7 @@ fn put_answer<S: Alter>(
     first: FirstAnswer,
 ) -> Result<(), Refusal>
     requires may { HasRecords S.Store tables.old (RowsMay host.now (Edit.PutAnswer first)) }
-    ensures makes { Makes S.Store tables.old tables.new result
+    ensures makes { ChangesRecords S.Store tables.old tables.new result
         (rows_edited host.now (Edit.PutAnswer first)) }
 {
     let FirstAnswer {
@@ -255,7 +255,7 @@ pub fn make_edit<S: Alter>(
 ) -> Result<(), Refusal>
     requires within { IsWithin S.Store tables.old }
     requires may { HasRecords S.Store tables.old (RowsMay host.now edit) }
-    ensures makes { Makes S.Store tables.old tables.new result
+    ensures makes { ChangesRecords S.Store tables.old tables.new result
         (rows_edited host.now edit.entry) }
 {
     match edit {

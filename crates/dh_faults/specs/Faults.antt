@@ -16,6 +16,6 @@ OnStore (Err Memory) P = ⊤
 OnStore (Err Store) P = P
 
 -- the value is given, and only where there is one memory can be short
-abbrev pub Gives : {T E : Type 0} → Option T → Result (Option T) E → Type 0
-Gives value (Ok given) = given ≡ value
-Gives value (Err fault) = IsSome value
+abbrev pub GivesMaybe : {T E : Type 0} → Option T → Result (Option T) E → Type 0
+GivesMaybe value (Ok given) = given ≡ value
+GivesMaybe value (Err fault) = IsSome value

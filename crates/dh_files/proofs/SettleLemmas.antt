@@ -14,19 +14,19 @@ use Rattle.dh_faults.specs.declared.fault.Fault.TheVariants as below
 use Rattle.dh_opening.specs.declared.fault.TablesFault.{TablesFault}
 use Rattle.dh_opening.specs.declared.fault.TablesFault.TheVariants as tables
 use Rattle.dh_files.specs.Faults.{fault_of}
-use Rattle.dh_files.specs.Settling.{IsServed, Settles}
+use Rattle.dh_files.specs.Settling.{IsServed, IsSettledBy}
 use Rattle.dh_files.specs.declared.fault.FileFault.{FileFault}
 use Rattle.dh_files.specs.declared.fault.FileFault.TheVariants as file
 
 module _ {S : Type 0} (g : Ghosts S) (R : Database → Database → Type 0) (conn looked over new : Held S) where
   pub settled_after
       : new ≡ over → (IsHonest g looked → IsHonest g conn × ((state g looked).now ≡ (state g conn).now)) → (HasCleanDisk (state g over) → IsHonest g looked × IsHonest g over × (over.in_transaction ≡ false))
-      → (HasCleanDisk (state g over) → R (state g looked).now (state g over).committed) → HasCleanDisk (state g new) → Settles g R conn new
+      → (HasCleanDisk (state g over) → R (state g looked).now (state g over).committed) → HasCleanDisk (state g new) → IsSettledBy g R conn new
   settled_after is same opened brought clean =
       let here = subst (λ (h : Held S). HasCleanDisk (state g h)) is clean in
       let it = opened here in
       let was = same it.0 in
-      subst (Settles g R conn) (sym is) (record { was = was.0; honest = it.1; outside = it.2; last = subst (λ (db : Database). R db (state g over).committed) was.1 (brought here) })
+      subst (IsSettledBy g R conn) (sym is) (record { was = was.0; honest = it.1; outside = it.2; last = subst (λ (db : Database). R db (state g over).committed) was.1 (brought here) })
 
 -- tables that were opened, and whose stored rows were made right
 pub served_after
@@ -35,7 +35,7 @@ pub served_after
     → (HasCleanDisk (state g mid) → IsHonest g looked × IsHonest g mid × (mid.in_transaction ≡ false))
     → (HasCleanDisk (state g mid) → IsOpened (state g looked).now (state g mid).committed)
     → (HasCleanDisk (state g mid) → AreInOrder (committed g lists_of mid) × KeepsConstraints (committed g lists_of mid))
-    → (HasCleanDisk (state g new) → IsLeft g mid new) → HasCleanDisk (state g new) → Settles g IsServed conn new
+    → (HasCleanDisk (state g new) → IsLeft g mid new) → HasCleanDisk (state g new) → IsSettledBy g IsServed conn new
 served_after g conn looked mid new same opened brought sound left clean =
     let it = left clean in
     let here = it.was.0 in

@@ -6,12 +6,12 @@ use Rattle.sqlite.specs.Held.{Held, state}
 use Rattle.dh_rows.specs.Calls.{IsHonest}
 use Rattle.dh_records.specs.Constraints.{KeepsConstraints}
 use Rattle.dh_records.specs.Lists.{base_of}
-use Rattle.dh_schema.specs.Tables.{Holds, lists_of}
+use Rattle.dh_schema.specs.Tables.{HoldsTables, lists_of}
 use Rattle.dh_derived.specs.Rightness.{AreRight}
 use Rattle.dh_opening.specs.Opening.{IsOurs}
 
 -- The store is honest and was, no transaction is open, and what is committed came of what was seen, by R.
-pub record Settles {S : Type 0} (g : Ghosts S) (R : Database → Database → Type 0) (old new : Held S) : Type 0 where
+pub record IsSettledBy {S : Type 0} (g : Ghosts S) (R : Database → Database → Type 0) (old new : Held S) : Type 0 where
   pub was : IsHonest g old
   pub honest : IsHonest g new
   pub outside : new.in_transaction ≡ false
@@ -20,7 +20,7 @@ pub record Settles {S : Type 0} (g : Ghosts S) (R : Database → Database → Ty
 -- Tables that were ours, with their records, and with derived ones that are what these say.
 pub record IsServed (before after : Database) : Type 0 where
   pub ours : IsOurs before
-  pub holds : Holds after
+  pub holds : HoldsTables after
   pub keeps : KeepsConstraints (lists_of after)
   pub base : base_of (lists_of after) ≡ base_of (lists_of before)
   pub right : AreRight (lists_of after)

@@ -6,7 +6,7 @@ ghost use Rattle.sqlite.specs.State.{HasCleanDisk};
 ghost use Rattle.dh_rows.specs.Calls.{IsHonest};
 ghost use Rattle.dh_schema.specs.Making.{IsMade};
 ghost use Rattle.dh_opening.specs.Migrating.{IsMigrated};
-ghost use Rattle.dh_files.specs.Settling.{IsServed, Settles};
+ghost use Rattle.dh_files.specs.Settling.{IsServed, IsSettledBy};
 
 use crate::fault::FileFault;
 use crate::looking::{Found, cause_of, look, make};
@@ -39,7 +39,7 @@ fn close<S: Start>(conn: FileConnection<S>) -> Result<(), FileFault> {
 /// Makes the tables in a database that has none at all.
 fn make_tables<S: Alter + Drop>(conn: Connection<S>) -> Result<Connection<S>, FileFault>
     ensures made { IfOk result (λ c. IsHonest S.Store conn → HasCleanDisk (state S.Store c)
-        → Settles S.Store (λ _ after. IsMade after) conn c) }
+        → IsSettledBy S.Store (λ _ after. IsMade after) conn c) }
     ensures bare { IfOk result (λ c. ((state S.Store conn).now.schema.tables ≡ [])
         × ((state S.Store conn).now.schema.views ≡ [])) }
     ensures current { IfErr result (λ e. e ≢ FileFault.OldSchema) }
@@ -97,7 +97,7 @@ fn open_tables<S: Alter + Drop>(
 ) -> Result<(Desk<S>, i64), FileFault>
     requires { conn.in_transaction ≡ false }
     ensures opened { IfOk result (λ p. HasCleanDisk (state S.Store p.0.tables)
-        → Settles S.Store IsServed conn p.0.tables) }
+        → IsSettledBy S.Store IsServed conn p.0.tables) }
 {
     let mut conn = conn;
     let projects = count_projects(&mut conn);
@@ -145,7 +145,7 @@ fn migrate_tables<S: Alter + Drop>(
 ) -> Result<Connection<S>, FileFault>
     requires { conn.in_transaction ≡ false }
     ensures migrated { IfOk result (λ c. HasCleanDisk (state S.Store c)
-        → Settles S.Store IsMigrated conn c) }
+        → IsSettledBy S.Store IsMigrated conn c) }
     ensures current { IfErr result (λ e. e ≢ FileFault.OldSchema) }
 {
     match dh_opening::migrate(alloc, conn) {

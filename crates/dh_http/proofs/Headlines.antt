@@ -10,12 +10,12 @@ use Rattle.dh_world.specs.World.{World}
 use Rattle.dh_http.specs.declared.fault.Done.{Done}
 use Rattle.dh_http.specs.declared.fault.EngineFault.{EngineFault}
 use Rattle.dh_http.specs.Commands.{unavailable}
-use Rattle.dh_http.specs.Answers.{IsReplyTo, MayDo, IsWritten, AnswersRequest, AnswersSource, Writes}
+use Rattle.dh_http.specs.Answers.{IsReplyTo, MayDoRequest, IsWritten, AnswersRequest, AnswersSource, WritesAnswer}
 use Rattle.dh_http.specs.Headline.{read_bytes, IsUnavailable, AnswersRead, Headline}
 
 -- the bytes that answer a read request
 read_answered : (moment : ℕ) (before after : World) (host pass : Option (List ℕ)) (read : Read) (head : Bool) (status : ℕ) (text : List ℕ) (reply : Reply)
-    → IsReplyTo moment before after (request.Read host pass read head) reply ⊎ ((reply ≡ unavailable) × MayDo before after (request.Read host pass read head))
+    → IsReplyTo moment before after (request.Read host pass read head) reply ⊎ ((reply ≡ unavailable) × MayDoRequest before after (request.Read host pass read head))
     → IsWritten reply head status text
     → (text ≡ read_bytes moment before host pass read head) ⊎ IsUnavailable text
 read_answered moment before after host pass read head status text reply (inl is) written =
@@ -32,7 +32,7 @@ input_answered moment before after input status text (inl a) host pass read head
     read_answered moment before after host pass read head status text b.0 b.1 b.2
 input_answered moment before after input status text (inr un) host pass read head is = inr (false, un.1.text_is)
 
-pub headline_of : (moment : ℕ) (before after : World) (left held now : Option (List ℕ)) (result : Result Done EngineFault) → Writes (AnswersSource moment left before after) held now result → Headline moment before left held now result
+pub headline_of : (moment : ℕ) (before after : World) (left held now : Option (List ℕ)) (result : Result Done EngineFault) → WritesAnswer (AnswersSource moment left before after) held now result → Headline moment before left held now result
 headline_of moment before after left held now (Err e) w = tt
 headline_of moment before after None held now (Ok done) w = tt
 headline_of moment before after (Some input) held now (Ok done) w =

@@ -9,10 +9,10 @@ use Rattle.dh_http.specs.declared.fault.Done.{Done}
 use Rattle.dh_http.specs.declared.fault.EngineFault.{EngineFault}
 use Rattle.dh_http.specs.declared.fault.EngineFault.TheVariants as fault
 use Rattle.dh_http.specs.Commands.{unavailable}
-use Rattle.dh_http.specs.Answers.{IsWritten, AnswersRequest, AnswersSource, Writes, IsRefusal, AsksInVain}
+use Rattle.dh_http.specs.Answers.{IsWritten, AnswersRequest, AnswersSource, WritesAnswer, IsRefusal, AsksInVain}
 
 -- what is written of one kind is of another
-pub writes_as : (P Q : ℕ → List ℕ → Type 0) (held now : Option (List ℕ)) (r : Result Done EngineFault) → ((s : ℕ) (t : List ℕ) → P s t → Q s t) → Writes P held now r → Writes Q held now r
+pub writes_as : (P Q : ℕ → List ℕ → Type 0) (held now : Option (List ℕ)) (r : Result Done EngineFault) → ((s : ℕ) (t : List ℕ) → P s t → Q s t) → WritesAnswer P held now r → WritesAnswer Q held now r
 writes_as P Q held now (Ok done) h w = (w.0, h done.status w.0 w.1, w.2)
 writes_as P Q held now (Err (fault.Write n)) h w = (w.0, w.1, h w.0 w.1 w.2, w.3)
 writes_as P Q held now (Err fault.Read) h w = w
@@ -22,7 +22,7 @@ answers_source : (moment : ℕ) (before after : World) (left : Option (List ℕ)
 answers_source moment before after left request is s t a = inl (request, is, a)
 
 -- the answer to the request that the input is
-pub request_answered : (moment : ℕ) (before after : World) (left held now : Option (List ℕ)) (request : Request) (r : Result Done EngineFault) → IfSome left (λ input. IsRequest input request) → Writes (AnswersRequest moment before after request) held now r → Writes (AnswersSource moment left before after) held now r
+pub request_answered : (moment : ℕ) (before after : World) (left held now : Option (List ℕ)) (request : Request) (r : Result Done EngineFault) → IfSome left (λ input. IsRequest input request) → WritesAnswer (AnswersRequest moment before after request) held now r → WritesAnswer (AnswersSource moment left before after) held now r
 request_answered moment before after left held now request r is w =
     writes_as (AnswersRequest moment before after request) (AnswersSource moment left before after) held now r (answers_source moment before after left request is) w
 
@@ -30,7 +30,7 @@ unread : (moment : ℕ) (world : World) (left : Option (List ℕ)) (s : ℕ) (t 
 unread moment world left s t w = inr (refl, w)
 
 -- the 503 where memory ran out while the request was read
-pub unread_answered : (moment : ℕ) (world : World) (left held now : Option (List ℕ)) (r : Result Done EngineFault) → Writes (IsWritten unavailable false) held now r → Writes (AnswersSource moment left world world) held now r
+pub unread_answered : (moment : ℕ) (world : World) (left held now : Option (List ℕ)) (r : Result Done EngineFault) → WritesAnswer (IsWritten unavailable false) held now r → WritesAnswer (AnswersSource moment left world world) held now r
 unread_answered moment world left held now r w =
     writes_as (IsWritten unavailable false) (AnswersSource moment left world world) held now r (unread moment world left) w
 

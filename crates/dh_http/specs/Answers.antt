@@ -49,15 +49,15 @@ MayApply before after command =
     (outcome : Result Answer Refusal) × IsStep before after command outcome
 
 -- what a request does that gets no reply of its own: a command is done or not
-abbrev pub MayDo : World → World → Request → Type 0
-MayDo before after (request.Read host pass read head) = after ≡ before
-MayDo before after (request.Apply command) = MayApply before after command
-MayDo before after (request.Refused status allow head) = after ≡ before
+abbrev pub MayDoRequest : World → World → Request → Type 0
+MayDoRequest before after (request.Read host pass read head) = after ≡ before
+MayDoRequest before after (request.Apply command) = MayApply before after command
+MayDoRequest before after (request.Refused status allow head) = after ≡ before
 
 -- the reply to a request, where one was made
-abbrev pub Makes : ℕ → World → World → Request → Option Reply → Type 0
-Makes moment before after request (Some reply) = IsReplyTo moment before after request reply
-Makes moment before after request None = MayDo before after request
+abbrev pub MakesReply : ℕ → World → World → Request → Option Reply → Type 0
+MakesReply moment before after request (Some reply) = IsReplyTo moment before after request reply
+MakesReply moment before after request None = MayDoRequest before after request
 
 -- the reply's body is left out
 abbrev pub is_bodiless : Request → Bool
@@ -75,7 +75,7 @@ abbrev pub AnswersRequest : ℕ → World → World → Request → ℕ → List
 AnswersRequest moment before after request status text =
     (reply : Reply)
     × (IsReplyTo moment before after request reply
-    ⊎ ((reply ≡ unavailable) × MayDo before after request))
+    ⊎ ((reply ≡ unavailable) × MayDoRequest before after request))
     × IsWritten reply (is_bodiless request) status text
 
 -- the same for a source: of the request that it holds, and of some request where it does not tell its bytes; or a 503 before
@@ -88,14 +88,14 @@ AnswersSource moment left before after status text =
     ⊎ ((after ≡ before) × IsWritten unavailable false status text)
 
 -- a whole answer was written, and its status told; or exactly its first n bytes, where the writer failed; or nothing
-abbrev pub Writes
+abbrev pub WritesAnswer
     : (ℕ → List ℕ → Type 0) → Option (List ℕ) → Option (List ℕ) → Result Done EngineFault → Type 0
-Writes IsAnswer held now (Ok done) =
+WritesAnswer IsAnswer held now (Ok done) =
     (text : List ℕ) × IsAnswer done.status text × Appends held now text
-Writes IsAnswer held now (Err (fault.Write n)) =
+WritesAnswer IsAnswer held now (Err (fault.Write n)) =
     (status : ℕ) × (text : List ℕ) × IsAnswer status text × PutsFirst held now text n
-Writes IsAnswer held now (Err fault.Read) = now ≡ held
-Writes IsAnswer held now (Err fault.TooManyTurns) = now ≡ held
+WritesAnswer IsAnswer held now (Err fault.Read) = now ≡ held
+WritesAnswer IsAnswer held now (Err fault.TooManyTurns) = now ≡ held
 
 -- the answer is that the reader failed
 abbrev pub reader_failed : Result Done EngineFault → Bool

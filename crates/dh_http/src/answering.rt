@@ -7,7 +7,7 @@ ghost use Rattle.dh_requests.specs.Takes.{TookAtLeast};
 ghost use Rattle.dh_requests.specs.declared.request.Request.{Request};
 ghost use Rattle.dh_wire.specs.Wire.{head_of};
 ghost use Rattle.dh_rows.specs.Calls.{IsHonest};
-ghost use Rattle.dh_desk.specs.Desk.{world, Moves};
+ghost use Rattle.dh_desk.specs.Desk.{world, WorldGoesBy};
 ghost use Rattle.dh_http.specs.Answers as spec;
 ghost use Rattle.dh_http.specs.Headline.{Headline};
 
@@ -33,7 +33,7 @@ fn read_reply<S: Alter>(
     read: &Read,
     moment: u64,
 ) -> Option<Reply>
-    ensures reads { Moves S.Store desk.old desk.new
+    ensures reads { WorldGoesBy S.Store desk.old desk.new
         (λ before after. (after ≡ before) × IfSome result
         (λ r. r ≡ spec.read_reply moment before host.now pass.now read.now)) }
 {
@@ -43,8 +43,8 @@ fn read_reply<S: Alter>(
 
 /// Does a command, and gives its reply, unless memory is out.
 fn apply_reply<S: Alter>(alloc: Global, desk: &mut Desk<S>, command: &Command) -> Option<Reply>
-    ensures makes { (moment : ℕ) → Moves S.Store desk.old desk.new
-        (λ before after. spec.Makes moment before after (Request.Apply command.now) result) }
+    ensures makes { (moment : ℕ) → WorldGoesBy S.Store desk.old desk.new
+        (λ before after. spec.MakesReply moment before after (Request.Apply command.now) result) }
 {
     command_reply(alloc, desk.apply(alloc, command)).ok()
 }
@@ -57,8 +57,8 @@ fn request_reply<S: Alter>(
     request: &Request,
     moment: u64,
 ) -> Option<Reply>
-    ensures makes { Moves S.Store desk.old desk.new
-        (λ before after. spec.Makes moment before after request.now result) }
+    ensures makes { WorldGoesBy S.Store desk.old desk.new
+        (λ before after. spec.MakesReply moment before after request.now result) }
     ensures refused { spec.IsRefusal request.now → desk.new ≡ desk.old }
 {
     match request {
@@ -91,8 +91,8 @@ fn make_answer<S: Alter>(
     request: &Request,
     moment: u64,
 ) -> Option<(Reply, Vec<u8>)>
-    ensures makes { Moves S.Store desk.old desk.new
-        (λ before after. spec.Makes moment before after request.now
+    ensures makes { WorldGoesBy S.Store desk.old desk.new
+        (λ before after. spec.MakesReply moment before after request.now
         (option_map (λ made. made.0) result)) }
     ensures head { IfSome result (λ made. made.1.items ≡ head_of made.0) }
     ensures refused { spec.IsRefusal request.now → desk.new ≡ desk.old }
@@ -111,8 +111,8 @@ fn answer_request<S: Alter, W: Sink>(
     moment: u64,
 ) -> Result<Done, EngineFault>
     requires { W.broken sink.old ≡ false }
-    ensures writes { Moves S.Store desk.old desk.new
-        (λ before after. spec.Writes (spec.AnswersRequest moment before after request.now)
+    ensures writes { WorldGoesBy S.Store desk.old desk.new
+        (λ before after. spec.WritesAnswer (spec.AnswersRequest moment before after request.now)
         (W.held sink.old) (W.held sink.new) result) }
     ensures refused { spec.IsRefusal request.now → desk.new ≡ desk.old }
     ensures writer_fault { W.broken sink.new ≡ spec.writer_failed result }
@@ -138,8 +138,8 @@ pub fn answer<S: Alter, R: Source, W: Sink>(
 ) -> Result<Done, EngineFault>
     requires reader { R.broken source.old ≡ false }
     requires writer { W.broken sink.old ≡ false }
-    ensures answers { Moves S.Store desk.old desk.new
-        (λ before after. spec.Writes (spec.AnswersSource now (R.left source.old) before after)
+    ensures answers { WorldGoesBy S.Store desk.old desk.new
+        (λ before after. spec.WritesAnswer (spec.AnswersSource now (R.left source.old) before after)
         (W.held sink.old) (W.held sink.new) result) }
     ensures headline { IsHonest S.Store desk.new.tables → Headline now
         (world S.Store desk.old) (R.left source.old) (W.held sink.old) (W.held sink.new) result }

@@ -3,7 +3,7 @@
 ghost use Rattle.std.specs.Prelude.{◌≡◌, false};
 ghost use Rattle.dh_wire.specs.Wire.{head_of};
 ghost use Rattle.dh_http.specs.Commands.{unavailable};
-ghost use Rattle.dh_http.specs.Answers.{IsWritten, Writes, is_unread, writer_failed};
+ghost use Rattle.dh_http.specs.Answers.{IsWritten, WritesAnswer, is_unread, writer_failed};
 
 use crate::fault::{Done, EngineFault};
 use dh_ports::{Sink, put_all, put_both};
@@ -18,7 +18,7 @@ pub fn send_reply<W: Sink>(
 ) -> Result<Done, EngineFault>
     requires fine { W.broken sink.old ≡ false }
     requires head { head.now ≡ head_of reply.now }
-    ensures writes { Writes (IsWritten reply.now bodiless)
+    ensures writes { WritesAnswer (IsWritten reply.now bodiless)
         (W.held sink.old) (W.held sink.new) result }
     ensures writer_fault { W.broken sink.new ≡ writer_failed result }
     ensures read { is_unread result ≡ false }
@@ -35,7 +35,7 @@ pub fn send_reply<W: Sink>(
 /// Writes the constant 503, which takes no memory.
 pub fn answer_unavailable<W: Sink>(sink: &mut W, bodiless: bool) -> Result<Done, EngineFault>
     requires { W.broken sink.old ≡ false }
-    ensures writes { Writes (IsWritten unavailable bodiless)
+    ensures writes { WritesAnswer (IsWritten unavailable bodiless)
         (W.held sink.old) (W.held sink.new) result }
     ensures writer_fault { W.broken sink.new ≡ writer_failed result }
     ensures read { is_unread result ≡ false }

@@ -25,7 +25,7 @@ use Rattle.dh_words.proofs.FormLemmas.{form_matches, form_fails, stray_fails}
 use Rattle.dh_lines.specs.App.{docs_app, bare_app, with_store}
 use Rattle.dh_lines.specs.Lines.{line_in, as_line, asking, named_line, line_with, unless_faulty}
 use Rattle.dh_lines.specs.Lines.{change_in, access_in, redirect_change_in, rule_change_in}
-use Rattle.dh_lines.specs.Lines.{Orders, OrdersOnVersion, OrdersRedirectBy}
+use Rattle.dh_lines.specs.Lines.{OrdersLine, OrdersOnVersion, OrdersRedirectBy}
 use Rattle.dh_lines.specs.Lines.{OrdersRuleOf, OrdersRule}
 use Rattle.dh_redirects.specs.Redirects.{redirect_kind_of, redirect_status_of}
 use Rattle.dh_lines.specs.Lines.{redirect_of, place_of}
@@ -117,7 +117,7 @@ fits_more (chosen text ∷ ts) more first second = (first.0, fits_more ts more f
 
 -- the words of a form order what they read as
 pub read_line : (name : Text) (ts : List Token) (found : Option Order) (order : Order) → Fits ts
-    → ReadsAs name ts found → found ≡ Some order → Orders (name ∷ map text_of ts) order
+    → ReadsAs name ts found → found ≡ Some order → OrdersLine (name ∷ map text_of ts) order
 read_line name ts found order fits reads is = (
   words_line name ts fits _ reads.0 ∙ ap (option_map (as_line None)) is,
   λ file plain.
@@ -129,7 +129,7 @@ read_line name ts found order fits reads is = (
 )
 
 pub form_line : (name : Text) (ts : List Token) (order : Order) → Fits ts
-    → ReadsAs name ts (Some order) → Orders (name ∷ map text_of ts) order
+    → ReadsAs name ts (Some order) → OrdersLine (name ∷ map text_of ts) order
 form_line name ts order fits reads = read_line name ts (Some order) order fits reads refl
 
 -- what a command orders, by the change that its words read as
@@ -150,7 +150,7 @@ pub place_line : (name : Text) (change : ℕ → CommandChange)
     (acting host (option_map change (place_of place))))
     → (host place_word : Text) (place : ℕ) → ArePlain (host ∷ place_word ∷ [])
     → place_of place_word ≡ Some place
-    → Orders (name ∷ host ∷ place_word ∷ []) (Act (asking host (change place)))
+    → OrdersLine (name ∷ host ∷ place_word ∷ []) (Act (asking host (change place)))
 place_line name change reads host place_word place plain is_place =
     read_line name (chosen host ∷ chosen place_word ∷ []) _ _ plain (reads host place_word)
     (ap (λ p. acting host (option_map change p)) is_place)

@@ -22,7 +22,7 @@ use Rattle.clap.specs.declared.parser.matches.ArgMatches.TheViews.{out-SubComman
 use Rattle.clap.specs.declared.parser.matches.SubCommand.{SubCommand}
 use Rattle.clap.proofs.OnLiterals.{clap_on_literals}
 use Rattle.dh_lines.specs.App.{docs_app}
-use Rattle.dh_lines.specs.Lines.{Matches, Says, named_line, line_with, unless_faulty, line_in}
+use Rattle.dh_lines.specs.Lines.{MatchesWords, ReadsOrUsage, named_line, line_with, unless_faulty, line_in}
 use Rattle.dh_lines.specs.declared.lines.Line.{Line}
 use Rattle.dh_lines.specs.declared.lines.LineFault.{LineFault}
 use Rattle.dh_lines.specs.declared.lines.LineFault.TheVariants.{Usage, Memory}
@@ -46,7 +46,7 @@ pub matched : (old new : Command) (words : List Text) (m : ArgMatches) → Stand
     → (is_broken old ≡ true → is_broken new ≡ true) → (is_broken new ≡ true → ⊥)
     → HasMatchesOf (app_of old) words m
     → (is_simple_and_free (app_of old) ≡ true → fault_of (app_of old) words ≡ [])
-    → Matches words (Ok m)
+    → MatchesWords words (Ok m)
 matched old new words m (inl broken) stays fails has faultless = absurd (fails (stays broken))
 matched old new words m (inr stands) stays fails has faultless =
     let same = agrees docs_app (app_of old) steady stands in
@@ -56,7 +56,7 @@ pub unmatched : (old new : Command) (words : List Text) (e : Error) → StandsFo
     → (is_broken old ≡ true → is_broken new ≡ true)
     → (is_broken new ≡ true → kind_of e ≡ OutOfMemory)
     → (is_simple_and_free (app_of old) ≡ true → HasKind (fault_of (app_of old) words) e)
-    → (kind_of e ≡ OutOfMemory → ⊥) → Matches words (Err Usage)
+    → (kind_of e ≡ OutOfMemory → ⊥) → MatchesWords words (Err Usage)
 unmatched old new words e (inl broken) stays fails kinds other =
     absurd (other (fails (stays broken)))
 unmatched old new words e (inr stands) stays fails kinds other = λ none.
@@ -82,7 +82,7 @@ faulty words some = by_faults (fault_of docs_app words) some
     by_faults (fault ∷ faults) some = refl
 
 -- the line is that of the matches
-matched_line : (words : List Text) (m : ArgMatches) → Matches words (Ok m)
+matched_line : (words : List Text) (m : ArgMatches) → MatchesWords words (Ok m)
     → line_in words ≡ line_with (subcommand_rows_of m)
 unfolding line_in
 matched_line words m h =
@@ -90,30 +90,30 @@ matched_line words m h =
     ap (λ (faults : Kinds). unless_faulty faults found) h.0 ∙ ap line_with (sym h.1)
 
 pub line_read : (words : List Text) (m : ArgMatches) (r : Result Line LineFault)
-    → Matches words (Ok m) → Says (line_with (subcommand_rows_of m)) r → Says (line_in words) r
+    → MatchesWords words (Ok m) → ReadsOrUsage (line_with (subcommand_rows_of m)) r → ReadsOrUsage (line_in words) r
 line_read words m r h says =
-    subst (λ (l : Option Line). Says l r) (sym (matched_line words m h)) says
+    subst (λ (l : Option Line). ReadsOrUsage l r) (sym (matched_line words m h)) says
 
 -- the line of the subcommand that was found
 pub subcommand_found : {Z : Type 0} (o : Option (Box SubCommand Z)) (name : Text) (rows : List Row)
     (r : Result Line LineFault)
     → Some name ≡ option_map (λ b. (out-SubCommand (box_value b)).name.now) o
     → Some rows ≡ option_map (λ p. p.1) (subcommand_rows o)
-    → Says (named_line name rows) r → Says (line_with (subcommand_rows o)) r
+    → ReadsOrUsage (named_line name rows) r → ReadsOrUsage (line_with (subcommand_rows o)) r
 subcommand_found None name rows r is_name is_rows says = let no : ⊥ = cc in absurd no
 subcommand_found (Some b) name rows r is_name is_rows says =
     let same_name = ap (λ (o : Option Text). unwrap_or o name) is_name in
     let same_rows = ap (λ (o : Option (List Row)). unwrap_or o rows) is_rows in
-    subst (λ (l : Option Line). Says l r) (ap₂ named_line same_name same_rows) says
+    subst (λ (l : Option Line). ReadsOrUsage l r) (ap₂ named_line same_name same_rows) says
 
-unmatched_line : (words : List Text) (e : LineFault) → Matches words (Err e)
-    → Says (line_in words) (Err e)
+unmatched_line : (words : List Text) (e : LineFault) → MatchesWords words (Err e)
+    → ReadsOrUsage (line_in words) (Err e)
 unmatched_line words Usage h = faulty words h
 unmatched_line words Memory h = tt
 
 -- the fault of `clap` is the answer
 pub no_matches : (words : List Text) (e : LineFault) (r : Result Line LineFault)
-    → IsErrAnd r (λ x. x ≡ e) → Matches words (Err e) → Says (line_in words) r
+    → IsErrAnd r (λ x. x ≡ e) → MatchesWords words (Err e) → ReadsOrUsage (line_in words) r
 no_matches words e r is h =
     let at = err_from_is_err_and r is in
-    subst (Says (line_in words)) (sym (at.1 ∙ ap Err at.2)) (unmatched_line words e h)
+    subst (ReadsOrUsage (line_in words)) (sym (at.1 ∙ ap Err at.2)) (unmatched_line words e h)

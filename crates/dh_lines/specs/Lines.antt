@@ -408,39 +408,39 @@ line_in words =
 
 -- the definition's value is answered; a fault of usage comes only where it has none, and out of
 -- memory anywhere
-abbrev pub Says : {A : Type 0} → Option A → Result A LineFault → Type 0
-Says spec (Ok value) = spec ≡ Some value
-Says spec (Err Usage) = spec ≡ None
-Says spec (Err Memory) = ⊤
+abbrev pub ReadsOrUsage : {A : Type 0} → Option A → Result A LineFault → Type 0
+ReadsOrUsage spec (Ok value) = spec ≡ Some value
+ReadsOrUsage spec (Err Usage) = spec ≡ None
+ReadsOrUsage spec (Err Memory) = ⊤
 
 -- the matches that `clap` defines for the words, where it finds no fault with them
-abbrev pub Matches : List Text → Result ArgMatches LineFault → Type 0
-Matches words (Ok matches) =
+abbrev pub MatchesWords : List Text → Result ArgMatches LineFault → Type 0
+MatchesWords words (Ok matches) =
     (fault_of docs_app words ≡ []) × (subcommand_rows_of matches ≡ subcommand_of docs_app words)
-Matches words (Err Usage) = fault_of docs_app words ≢ []
-Matches words (Err Memory) = ⊤
+MatchesWords words (Err Usage) = fault_of docs_app words ≢ []
+MatchesWords words (Err Memory) = ⊤
 
 -- the words are the line that orders this and names no store; with `--store FILE` behind them they
 -- are the line that orders the same over the store in FILE, where FILE is plain
-abbrev pub Orders : List Text → Order → Type 0
-Orders words order = (line_in words ≡ Some (as_line None order))
+abbrev pub OrdersLine : List Text → Order → Type 0
+OrdersLine words order = (line_in words ≡ Some (as_line None order))
     × ((file : Text) → is_plain file ≡ true
     → line_in (words ++ codes "--store" ∷ file ∷ []) ≡ Some (as_line (Some file) order))
 
 -- `NAME HOST SLUG` orders this change, where the words that the caller chooses are plain
 abbrev pub OrdersOnVersion : Text → (Text → CommandChange) → Type 0
 OrdersOnVersion name change = (host slug : Text) → ArePlain (host ∷ slug ∷ [])
-    → Orders (name ∷ host ∷ slug ∷ []) (Act (asking host (change slug)))
+    → OrdersLine (name ∷ host ∷ slug ∷ []) (Act (asking host (change slug)))
 
 -- and so `NAME HOST PASS`
 abbrev pub OrdersOnPass : Text → (Text → CommandChange) → Type 0
 OrdersOnPass name change = (host pass : Text) → ArePlain (host ∷ pass ∷ [])
-    → Orders (name ∷ host ∷ pass ∷ []) (Act (asking host (change pass)))
+    → OrdersLine (name ∷ host ∷ pass ∷ []) (Act (asking host (change pass)))
 
 -- and `NAME HOST PASS SLUG`
 abbrev pub OrdersOnGrant : Text → (Text → Text → CommandChange) → Type 0
 OrdersOnGrant name change = (host pass slug : Text) → ArePlain (host ∷ pass ∷ slug ∷ [])
-    → Orders (name ∷ host ∷ pass ∷ slug ∷ []) (Act (asking host (change pass slug)))
+    → OrdersLine (name ∷ host ∷ pass ∷ slug ∷ []) (Act (asking host (change pass slug)))
 
 -- `add-redirect HOST PLACE KIND STATUS FROM TO ..` orders a redirect of this kind, where the words
 -- that the caller chooses are plain, and PLACE and STATUS are digits of these numbers
@@ -449,7 +449,7 @@ OrdersRedirectBy more force word kind =
     (host place_word status_word source target : Text) (place status : ℕ)
     → ArePlain (host ∷ place_word ∷ status_word ∷ source ∷ target ∷ [])
     → place_of place_word ≡ Some place → redirect_status_of status_word ≡ Some status
-    → Orders (codes "add-redirect" ∷ host ∷ place_word ∷ word ∷ status_word ∷ source ∷ target
+    → OrdersLine (codes "add-redirect" ∷ host ∷ place_word ∷ word ∷ status_word ∷ source ∷ target
     ∷ more)
     (Act (asking host (AddRedirect place (redirect_of kind status source target force))))
 
@@ -467,7 +467,7 @@ abbrev pub OrdersRuleOf : Text → Kind → Text → Action → Type 0
 OrdersRuleOf kind_word kind action_word action =
     (host place_word : Text) (place : ℕ) (pattern : Pattern) → ArePlain (host ∷ place_word ∷ [])
     → place_of place_word ≡ Some place
-    → Orders (codes "add-rule" ∷ host ∷ place_word ∷ kind_word ∷ pattern_text pattern
+    → OrdersLine (codes "add-rule" ∷ host ∷ place_word ∷ kind_word ∷ pattern_text pattern
     ∷ action_word ∷ [])
     (Act (asking host (AddRule place (rule_of kind pattern action))))
 
@@ -479,7 +479,7 @@ OrdersRule word action =
 -- `NAME HOST` lists this, where HOST is plain
 abbrev pub OrdersList : Text → ProjectList → Type 0
 OrdersList name list = (host : Text) → is_plain host ≡ true
-    → Orders (name ∷ host ∷ []) (order.List (OfProject host list))
+    → OrdersLine (name ∷ host ∷ []) (order.List (OfProject host list))
 
 -- `serve --store FILE --count N` and these words serve N connections at this port over the store in
 -- FILE, where FILE and N are plain, and N is digits of this number

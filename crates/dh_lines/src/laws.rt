@@ -22,7 +22,7 @@ ghost use Rattle.dh_listings.specs.declared.words.ListWord.TheVariants.{Projects
 ghost use Rattle.dh_listings.specs.declared.words.ProjectList.TheVariants as lists;
 ghost use Rattle.dh_words.specs.Words.{is_plain, ArePlain, has_command};
 ghost use Rattle.dh_lines.specs.App.{docs_app};
-ghost use Rattle.dh_lines.specs.Lines.{line_in, asking, Orders, OrdersOnVersion, OrdersOnPass};
+ghost use Rattle.dh_lines.specs.Lines.{line_in, asking, OrdersLine, OrdersOnVersion, OrdersOnPass};
 ghost use Rattle.dh_lines.specs.Lines.{OrdersOnGrant, OrdersRedirect, OrdersForced, OrdersRule};
 ghost use Rattle.dh_lines.specs.Lines.{OrdersList};
 ghost use Rattle.dh_lines.specs.Lines.{place_of, moment_of, as_line, ServesAt, ServesAtPort};
@@ -34,19 +34,19 @@ ghost use Rattle.dh_lines.specs.declared.lines.Order.TheVariants as order;
 pub fn project_lines()
     ensures new_public { (host lang branch wkey : Text)
         → ArePlain (host ∷ lang ∷ branch ∷ wkey ∷ [])
-        → Orders (codes "new-project" ∷ host ∷ lang ∷ branch ∷ codes "public" ∷ wkey ∷ [])
+        → OrdersLine (codes "new-project" ∷ host ∷ lang ∷ branch ∷ codes "public" ∷ wkey ∷ [])
         (Act (asking host (NewProject lang branch false wkey))) }
     ensures new_private { (host lang branch wkey : Text)
         → ArePlain (host ∷ lang ∷ branch ∷ wkey ∷ [])
-        → Orders (codes "new-project" ∷ host ∷ lang ∷ branch ∷ codes "private" ∷ wkey ∷ [])
+        → OrdersLine (codes "new-project" ∷ host ∷ lang ∷ branch ∷ codes "private" ∷ wkey ∷ [])
         (Act (asking host (NewProject lang branch true wkey))) }
     ensures add_lang { (host lang : Text) → ArePlain (host ∷ lang ∷ [])
-        → Orders (codes "add-lang" ∷ host ∷ lang ∷ []) (Act (asking host (AddLang lang))) }
+        → OrdersLine (codes "add-lang" ∷ host ∷ lang ∷ []) (Act (asking host (AddLang lang))) }
     ensures push_branch { (host wkey key name : Text) → ArePlain (host ∷ wkey ∷ key ∷ name ∷ [])
-        → Orders (codes "push" ∷ host ∷ wkey ∷ key ∷ codes "branch" ∷ name ∷ [])
+        → OrdersLine (codes "push" ∷ host ∷ wkey ∷ key ∷ codes "branch" ∷ name ∷ [])
         (Act (asking host (Push wkey key Branch name))) }
     ensures push_tag { (host wkey key name : Text) → ArePlain (host ∷ wkey ∷ key ∷ name ∷ [])
-        → Orders (codes "push" ∷ host ∷ wkey ∷ key ∷ codes "tag" ∷ name ∷ [])
+        → OrdersLine (codes "push" ∷ host ∷ wkey ∷ key ∷ codes "tag" ∷ name ∷ [])
         (Act (asking host (Push wkey key Tag name))) }
 {}
 
@@ -54,18 +54,18 @@ pub fn project_lines()
 pub fn upload_lines()
     ensures upload { (host wkey key slug lang path media body : Text)
         → ArePlain (host ∷ wkey ∷ key ∷ slug ∷ lang ∷ path ∷ media ∷ body ∷ [])
-        → Orders (codes "upload" ∷ host ∷ wkey ∷ key ∷ slug ∷ lang ∷ path ∷ media ∷ body ∷ [])
+        → OrdersLine (codes "upload" ∷ host ∷ wkey ∷ key ∷ slug ∷ lang ∷ path ∷ media ∷ body ∷ [])
         (Act (asking host (Upload wkey key slug lang false
         (record { path = path; media = media; body = body } ∷ [])))) }
     ensures replace { (host wkey key slug lang path media body : Text)
         → ArePlain (host ∷ wkey ∷ key ∷ slug ∷ lang ∷ path ∷ media ∷ body ∷ [])
-        → Orders (codes "upload" ∷ host ∷ wkey ∷ key ∷ slug ∷ lang ∷ path ∷ media ∷ body
+        → OrdersLine (codes "upload" ∷ host ∷ wkey ∷ key ∷ slug ∷ lang ∷ path ∷ media ∷ body
         ∷ codes "--replace" ∷ [])
         (Act (asking host (Upload wkey key slug lang true
         (record { path = path; media = media; body = body } ∷ [])))) }
     ensures replace_first { (host wkey key slug lang path media body : Text)
         → ArePlain (host ∷ wkey ∷ key ∷ slug ∷ lang ∷ path ∷ media ∷ body ∷ [])
-        → Orders (codes "upload" ∷ codes "--replace" ∷ host ∷ wkey ∷ key ∷ slug ∷ lang ∷ path
+        → OrdersLine (codes "upload" ∷ codes "--replace" ∷ host ∷ wkey ∷ key ∷ slug ∷ lang ∷ path
         ∷ media ∷ body ∷ [])
         (Act (asking host (Upload wkey key slug lang true
         (record { path = path; media = media; body = body } ∷ [])))) }
@@ -88,7 +88,7 @@ pub fn pass_lines()
     ensures add_pass { OrdersOnPass (codes "add-pass") (λ pass. AddPass pass None) }
     ensures add_until { (host pass until : Text) (moment : ℕ) → ArePlain (host ∷ pass ∷ until ∷ [])
         → moment_of until ≡ Some moment
-        → Orders (codes "add-pass" ∷ host ∷ pass ∷ codes "--until" ∷ until ∷ [])
+        → OrdersLine (codes "add-pass" ∷ host ∷ pass ∷ codes "--until" ∷ until ∷ [])
         (Act (asking host (AddPass pass (Some moment)))) }
     ensures drop_pass { OrdersOnPass (codes "drop-pass") DropPass }
     ensures grant { OrdersOnGrant (codes "grant") Grant }
@@ -107,7 +107,7 @@ pub fn redirect_lines()
     ensures forced_html_to_clean { OrdersForced (codes "html-to-clean") HtmlToClean }
     ensures drop_redirect { (host place_word : Text) (place : ℕ) → ArePlain (host ∷ place_word ∷ [])
         → place_of place_word ≡ Some place
-        → Orders (codes "drop-redirect" ∷ host ∷ place_word ∷ [])
+        → OrdersLine (codes "drop-redirect" ∷ host ∷ place_word ∷ [])
         (Act (asking host (DropRedirect place))) }
 {}
 
@@ -120,7 +120,7 @@ pub fn rule_lines()
     ensures default { OrdersRule (codes "default") action.Default }
     ensures drop_rule { (host place_word : Text) (place : ℕ) → ArePlain (host ∷ place_word ∷ [])
         → place_of place_word ≡ Some place
-        → Orders (codes "drop-rule" ∷ host ∷ place_word ∷ [])
+        → OrdersLine (codes "drop-rule" ∷ host ∷ place_word ∷ [])
         (Act (asking host (DropRule place))) }
 {}
 
@@ -128,32 +128,33 @@ pub fn rule_lines()
 /// read, and without it.
 pub fn get_lines()
     ensures get { (host target : Text) → ArePlain (host ∷ target ∷ [])
-        → Orders (codes "get" ∷ host ∷ target ∷ []) (Get host target None None) }
+        → OrdersLine (codes "get" ∷ host ∷ target ∷ []) (Get host target None None) }
     ensures pass { (host target pass : Text) → ArePlain (host ∷ target ∷ pass ∷ [])
-        → Orders (codes "get" ∷ host ∷ target ∷ codes "--pass" ∷ pass ∷ [])
+        → OrdersLine (codes "get" ∷ host ∷ target ∷ codes "--pass" ∷ pass ∷ [])
         (Get host target (Some pass) None) }
     ensures pass_first { (pass host target : Text) → ArePlain (pass ∷ host ∷ target ∷ [])
-        → Orders (codes "get" ∷ codes "--pass" ∷ pass ∷ host ∷ target ∷ [])
+        → OrdersLine (codes "get" ∷ codes "--pass" ∷ pass ∷ host ∷ target ∷ [])
         (Get host target (Some pass) None) }
     ensures moment { (host target now : Text) (moment : ℕ) → ArePlain (host ∷ target ∷ now ∷ [])
         → moment_of now ≡ Some moment
-        → Orders (codes "get" ∷ host ∷ target ∷ codes "--now" ∷ now ∷ [])
+        → OrdersLine (codes "get" ∷ host ∷ target ∷ codes "--now" ∷ now ∷ [])
         (Get host target None (Some moment)) }
     ensures both { (host target pass now : Text) (moment : ℕ)
         → ArePlain (host ∷ target ∷ pass ∷ now ∷ []) → moment_of now ≡ Some moment
-        → Orders (codes "get" ∷ host ∷ target ∷ codes "--pass" ∷ pass ∷ codes "--now" ∷ now ∷ [])
+        → OrdersLine
+        (codes "get" ∷ host ∷ target ∷ codes "--pass" ∷ pass ∷ codes "--now" ∷ now ∷ [])
         (Get host target (Some pass) (Some moment)) }
 {}
 
 /// The line that imports a list.
 pub fn import_lines()
     ensures { (host list : Text) → ArePlain (host ∷ list ∷ [])
-        → Orders (codes "import" ∷ host ∷ list ∷ []) (Import host list) }
+        → OrdersLine (codes "import" ∷ host ∷ list ∷ []) (Import host list) }
 {}
 
 /// The lines that list the projects, and what one of them has.
 pub fn list_lines()
-    ensures projects { Orders (codes "list-projects" ∷ []) (order.List Projects) }
+    ensures projects { OrdersLine (codes "list-projects" ∷ []) (order.List Projects) }
     ensures langs { OrdersList (codes "list-langs") lists.Langs }
     ensures versions { OrdersList (codes "list-versions") lists.Versions }
     ensures defaults { OrdersList (codes "list-defaults") lists.Defaults }
@@ -161,14 +162,14 @@ pub fn list_lines()
     ensures redirects { OrdersList (codes "list-redirects") lists.Redirects }
     ensures passes { OrdersList (codes "list-passes") lists.Passes }
     ensures pages { (host slug lang : Text) → ArePlain (host ∷ slug ∷ lang ∷ [])
-        → Orders (codes "list-pages" ∷ host ∷ slug ∷ lang ∷ [])
+        → OrdersLine (codes "list-pages" ∷ host ∷ slug ∷ lang ∷ [])
         (order.List (OfProject host (lists.Pages slug lang))) }
 {}
 
 /// What the program itself does with its input.
 pub fn program_lines()
-    ensures script { Orders (codes "script" ∷ []) Script }
-    ensures answer { Orders (codes "answer" ∷ []) Answer }
+    ensures script { OrdersLine (codes "script" ∷ []) Script }
+    ensures answer { OrdersLine (codes "answer" ∷ []) Answer }
 {}
 
 /// The words that make a store, and those that migrate one, which name no other.

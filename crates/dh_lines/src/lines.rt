@@ -104,7 +104,7 @@ ghost use Rattle.dh_lines.specs.Lines.{rule_in, add_rule_in, drop_rule_in, rule_
 ghost use Rattle.dh_lines.specs.Lines.{command_in, get_in, init_in, count_in, port_in, serve_in};
 ghost use Rattle.dh_lines.specs.Lines.{list_in, list_named, list_or_command as spec_list_or_command};
 ghost use Rattle.dh_lines.specs.Lines.{list_pages_in};
-ghost use Rattle.dh_lines.specs.Lines.{order_in, named_line, line_with, line_in, Says, Matches};
+ghost use Rattle.dh_lines.specs.Lines.{order_in, named_line, line_with, line_in, ReadsOrUsage, MatchesWords};
 
 fn value<'a>(matches: &ArgMatches<'a>, id: &str) -> Option<&'a str>
     ensures { option_map (λ s. s.now) result ≡ first_of id.now (rows_of (found_of matches.now)) }
@@ -114,7 +114,7 @@ fn value<'a>(matches: &ArgMatches<'a>, id: &str) -> Option<&'a str>
 
 /// A word that has to be there.
 fn word(alloc: Global, matches: &ArgMatches<'_>, id: &str) -> Result<Text, LineFault>
-    ensures { Says (first_of id.now (rows_of (found_of matches.now))) result }
+    ensures { ReadsOrUsage (first_of id.now (rows_of (found_of matches.now))) result }
 {
     match value(matches, id) {
         Some(text) => Ok(Text::copy_of(alloc, text)?),
@@ -124,7 +124,7 @@ fn word(alloc: Global, matches: &ArgMatches<'_>, id: &str) -> Result<Text, LineF
 
 /// The bytes of a word that has to be there.
 fn word_bytes(alloc: Global, matches: &ArgMatches<'_>, id: &str) -> Result<Bytes, LineFault>
-    ensures { Says (first_of id.now (rows_of (found_of matches.now))) result }
+    ensures { ReadsOrUsage (first_of id.now (rows_of (found_of matches.now))) result }
 {
     match value(matches, id) {
         Some(text) => Ok(Bytes::copy_of(alloc, text.as_bytes())?),
@@ -177,7 +177,7 @@ fn read_kind(text: &str) -> Option<Kind>
 }
 
 fn read_pattern(alloc: Global, text: &str) -> Result<Pattern, LineFault>
-    ensures { Says (pattern_of text.now) result }
+    ensures { ReadsOrUsage (pattern_of text.now) result }
 {
     match Pattern::read(alloc, text)? {
         Some(pattern) => Ok(pattern),
@@ -231,7 +231,8 @@ fn text_meant(word: &str) -> &str
 
 /// The text that a word stands for which has to be there.
 fn meant(alloc: Global, matches: &ArgMatches<'_>, id: &str) -> Result<Text, LineFault>
-    ensures { Says (option_map meant_by (first_of id.now (rows_of (found_of matches.now)))) result }
+    ensures { ReadsOrUsage (option_map meant_by (first_of id.now (rows_of (found_of matches.now))))
+        result }
 {
     match value(matches, id) {
         Some(text) => Ok(Text::copy_of(alloc, text_meant(text))?),
@@ -240,7 +241,7 @@ fn meant(alloc: Global, matches: &ArgMatches<'_>, id: &str) -> Result<Text, Line
 }
 
 fn new_project(alloc: Global, matches: &ArgMatches<'_>) -> Result<CommandChange, LineFault>
-    ensures { Says (new_project_in (rows_of (found_of matches.now))) result }
+    ensures { ReadsOrUsage (new_project_in (rows_of (found_of matches.now))) result }
 {
     let lang = word(alloc, matches, "lang")?;
     let branch = word(alloc, matches, "branch")?;
@@ -258,14 +259,14 @@ fn new_project(alloc: Global, matches: &ArgMatches<'_>) -> Result<CommandChange,
 }
 
 fn add_lang(alloc: Global, matches: &ArgMatches<'_>) -> Result<CommandChange, LineFault>
-    ensures { Says (add_lang_in (rows_of (found_of matches.now))) result }
+    ensures { ReadsOrUsage (add_lang_in (rows_of (found_of matches.now))) result }
 {
     let lang = word(alloc, matches, "lang")?;
     Ok(CommandChange::AddLang { lang })
 }
 
 fn push(alloc: Global, matches: &ArgMatches<'_>) -> Result<CommandChange, LineFault>
-    ensures { Says (push_in (rows_of (found_of matches.now))) result }
+    ensures { ReadsOrUsage (push_in (rows_of (found_of matches.now))) result }
 {
     let wkey = word(alloc, matches, "wkey")?;
     let key = word(alloc, matches, "key")?;
@@ -291,7 +292,7 @@ fn one_page(alloc: Global, path: Text, media: Text, body: Bytes) -> Result<Pages
 }
 
 fn upload(alloc: Global, matches: &ArgMatches<'_>) -> Result<CommandChange, LineFault>
-    ensures { Says (upload_in (rows_of (found_of matches.now))) result }
+    ensures { ReadsOrUsage (upload_in (rows_of (found_of matches.now))) result }
 {
     let wkey = word(alloc, matches, "wkey")?;
     let key = word(alloc, matches, "key")?;
@@ -328,7 +329,7 @@ fn named_on(name: &str, slug: Text) -> Option<CommandChange>
 }
 
 fn version(alloc: Global, name: &str, matches: &ArgMatches<'_>) -> Result<CommandChange, LineFault>
-    ensures { Says (version_in name.now (rows_of (found_of matches.now))) result }
+    ensures { ReadsOrUsage (version_in name.now (rows_of (found_of matches.now))) result }
 {
     let slug = word(alloc, matches, "slug")?;
     match named_on(name, slug) {
@@ -339,7 +340,7 @@ fn version(alloc: Global, name: &str, matches: &ArgMatches<'_>) -> Result<Comman
 
 /// The moment that an option gives, or none where it is left out.
 fn moment(matches: &ArgMatches<'_>, id: &str) -> Result<Option<u64>, LineFault>
-    ensures { Says (moment_in id.now (rows_of (found_of matches.now))) result }
+    ensures { ReadsOrUsage (moment_in id.now (rows_of (found_of matches.now))) result }
 {
     let Some(text) = value(matches, id) else {
         return Ok(None);
@@ -351,7 +352,7 @@ fn moment(matches: &ArgMatches<'_>, id: &str) -> Result<Option<u64>, LineFault>
 }
 
 fn add_pass(alloc: Global, matches: &ArgMatches<'_>) -> Result<CommandChange, LineFault>
-    ensures { Says (add_pass_in (rows_of (found_of matches.now))) result }
+    ensures { ReadsOrUsage (add_pass_in (rows_of (found_of matches.now))) result }
 {
     let pass = word(alloc, matches, "pass")?;
     let until = moment(matches, "until")?;
@@ -359,14 +360,14 @@ fn add_pass(alloc: Global, matches: &ArgMatches<'_>) -> Result<CommandChange, Li
 }
 
 fn drop_pass(alloc: Global, matches: &ArgMatches<'_>) -> Result<CommandChange, LineFault>
-    ensures { Says (drop_pass_in (rows_of (found_of matches.now))) result }
+    ensures { ReadsOrUsage (drop_pass_in (rows_of (found_of matches.now))) result }
 {
     let pass = word(alloc, matches, "pass")?;
     Ok(CommandChange::DropPass { pass })
 }
 
 fn grant(alloc: Global, matches: &ArgMatches<'_>) -> Result<CommandChange, LineFault>
-    ensures { Says (grant_in (rows_of (found_of matches.now))) result }
+    ensures { ReadsOrUsage (grant_in (rows_of (found_of matches.now))) result }
 {
     let pass = word(alloc, matches, "pass")?;
     let slug = word(alloc, matches, "slug")?;
@@ -374,7 +375,7 @@ fn grant(alloc: Global, matches: &ArgMatches<'_>) -> Result<CommandChange, LineF
 }
 
 fn revoke(alloc: Global, matches: &ArgMatches<'_>) -> Result<CommandChange, LineFault>
-    ensures { Says (revoke_in (rows_of (found_of matches.now))) result }
+    ensures { ReadsOrUsage (revoke_in (rows_of (found_of matches.now))) result }
 {
     let pass = word(alloc, matches, "pass")?;
     let slug = word(alloc, matches, "slug")?;
@@ -382,7 +383,7 @@ fn revoke(alloc: Global, matches: &ArgMatches<'_>) -> Result<CommandChange, Line
 }
 
 fn place(alloc: Global, matches: &ArgMatches<'_>) -> Result<u32, LineFault>
-    ensures { Says (place_in (rows_of (found_of matches.now))) result }
+    ensures { ReadsOrUsage (place_in (rows_of (found_of matches.now))) result }
 {
     let place_word = word(alloc, matches, "place")?;
     match read_u32(place_word.as_str()) {
@@ -392,7 +393,7 @@ fn place(alloc: Global, matches: &ArgMatches<'_>) -> Result<u32, LineFault>
 }
 
 fn redirect(alloc: Global, matches: &ArgMatches<'_>) -> Result<Redirect, LineFault>
-    ensures { Says (redirect_in (rows_of (found_of matches.now))) result }
+    ensures { ReadsOrUsage (redirect_in (rows_of (found_of matches.now))) result }
 {
     let kind_word = word(alloc, matches, "redirect-kind")?;
     let status_word = word(alloc, matches, "status")?;
@@ -414,7 +415,7 @@ fn redirect(alloc: Global, matches: &ArgMatches<'_>) -> Result<Redirect, LineFau
 }
 
 fn add_redirect(alloc: Global, matches: &ArgMatches<'_>) -> Result<CommandChange, LineFault>
-    ensures { Says (add_redirect_in (rows_of (found_of matches.now))) result }
+    ensures { ReadsOrUsage (add_redirect_in (rows_of (found_of matches.now))) result }
 {
     let place = place(alloc, matches)?;
     let redirect = redirect(alloc, matches)?;
@@ -422,14 +423,14 @@ fn add_redirect(alloc: Global, matches: &ArgMatches<'_>) -> Result<CommandChange
 }
 
 fn drop_redirect(alloc: Global, matches: &ArgMatches<'_>) -> Result<CommandChange, LineFault>
-    ensures { Says (drop_redirect_in (rows_of (found_of matches.now))) result }
+    ensures { ReadsOrUsage (drop_redirect_in (rows_of (found_of matches.now))) result }
 {
     let place = place(alloc, matches)?;
     Ok(CommandChange::DropRedirect { place })
 }
 
 fn rule(alloc: Global, matches: &ArgMatches<'_>) -> Result<Rule, LineFault>
-    ensures { Says (rule_in (rows_of (found_of matches.now))) result }
+    ensures { ReadsOrUsage (rule_in (rows_of (found_of matches.now))) result }
 {
     let kind_word = word(alloc, matches, "kind")?;
     let pattern_word = word(alloc, matches, "pattern")?;
@@ -449,7 +450,7 @@ fn rule(alloc: Global, matches: &ArgMatches<'_>) -> Result<Rule, LineFault>
 }
 
 fn add_rule(alloc: Global, matches: &ArgMatches<'_>) -> Result<CommandChange, LineFault>
-    ensures { Says (add_rule_in (rows_of (found_of matches.now))) result }
+    ensures { ReadsOrUsage (add_rule_in (rows_of (found_of matches.now))) result }
 {
     let place = place(alloc, matches)?;
     let rule = rule(alloc, matches)?;
@@ -457,14 +458,14 @@ fn add_rule(alloc: Global, matches: &ArgMatches<'_>) -> Result<CommandChange, Li
 }
 
 fn drop_rule(alloc: Global, matches: &ArgMatches<'_>) -> Result<CommandChange, LineFault>
-    ensures { Says (drop_rule_in (rows_of (found_of matches.now))) result }
+    ensures { ReadsOrUsage (drop_rule_in (rows_of (found_of matches.now))) result }
 {
     let place = place(alloc, matches)?;
     Ok(CommandChange::DropRule { place })
 }
 
 fn get(alloc: Global, matches: &ArgMatches<'_>) -> Result<Order, LineFault>
-    ensures { Says (get_in (rows_of (found_of matches.now))) result }
+    ensures { ReadsOrUsage (get_in (rows_of (found_of matches.now))) result }
 {
     let host = word(alloc, matches, "host")?;
     let target = word(alloc, matches, "target")?;
@@ -479,7 +480,7 @@ fn get(alloc: Global, matches: &ArgMatches<'_>) -> Result<Order, LineFault>
 }
 
 fn import(alloc: Global, matches: &ArgMatches<'_>) -> Result<Order, LineFault>
-    ensures { Says (import_in (rows_of (found_of matches.now))) result }
+    ensures { ReadsOrUsage (import_in (rows_of (found_of matches.now))) result }
 {
     let host = word(alloc, matches, "host")?;
     let list = word(alloc, matches, "list")?;
@@ -487,14 +488,14 @@ fn import(alloc: Global, matches: &ArgMatches<'_>) -> Result<Order, LineFault>
 }
 
 fn init(alloc: Global, matches: &ArgMatches<'_>) -> Result<Order, LineFault>
-    ensures { Says (init_in (rows_of (found_of matches.now))) result }
+    ensures { ReadsOrUsage (init_in (rows_of (found_of matches.now))) result }
 {
     let file = word(alloc, matches, "file")?;
     Ok(Order::Init { file })
 }
 
 fn migrate(alloc: Global, matches: &ArgMatches<'_>) -> Result<Order, LineFault>
-    ensures { Says (migrate_in (rows_of (found_of matches.now))) result }
+    ensures { ReadsOrUsage (migrate_in (rows_of (found_of matches.now))) result }
 {
     let file = word(alloc, matches, "file")?;
     Ok(Order::Migrate { file })
@@ -520,7 +521,7 @@ fn port(matches: &ArgMatches<'_>) -> Option<u16>
 }
 
 fn serve(matches: &ArgMatches<'_>) -> Result<Order, LineFault>
-    ensures { Says (serve_in (rows_of (found_of matches.now))) result }
+    ensures { ReadsOrUsage (serve_in (rows_of (found_of matches.now))) result }
 {
     let Some(count) = count(matches) else {
         return Err(LineFault::Usage);
@@ -539,7 +540,7 @@ fn rule_line(
     name: &str,
     matches: &ArgMatches<'_>,
 ) -> Result<CommandChange, LineFault>
-    ensures { Says (rule_change_in name.now (rows_of (found_of matches.now))) result }
+    ensures { ReadsOrUsage (rule_change_in name.now (rows_of (found_of matches.now))) result }
 {
     match name {
         "add-rule" => add_rule(alloc, matches),
@@ -555,7 +556,7 @@ fn redirect_line(
     name: &str,
     matches: &ArgMatches<'_>,
 ) -> Result<CommandChange, LineFault>
-    ensures { Says (redirect_change_in name.now (rows_of (found_of matches.now))) result }
+    ensures { ReadsOrUsage (redirect_change_in name.now (rows_of (found_of matches.now))) result }
 {
     match name {
         "add-redirect" => add_redirect(alloc, matches),
@@ -567,7 +568,7 @@ fn redirect_line(
 /// A line on a pass, on redirects, on rules, or on one version.
 #[tactic(auto, unfolding(crate::specs::Lines::access_in))]
 fn access(alloc: Global, name: &str, matches: &ArgMatches<'_>) -> Result<CommandChange, LineFault>
-    ensures { Says (access_in name.now (rows_of (found_of matches.now))) result }
+    ensures { ReadsOrUsage (access_in name.now (rows_of (found_of matches.now))) result }
 {
     match name {
         "add-pass" => add_pass(alloc, matches),
@@ -581,7 +582,7 @@ fn access(alloc: Global, name: &str, matches: &ArgMatches<'_>) -> Result<Command
 /// The change of a line that is a command.
 #[tactic(auto, unfolding(crate::specs::Lines::change_in))]
 fn change(alloc: Global, name: &str, matches: &ArgMatches<'_>) -> Result<CommandChange, LineFault>
-    ensures { Says (change_in name.now (rows_of (found_of matches.now))) result }
+    ensures { ReadsOrUsage (change_in name.now (rows_of (found_of matches.now))) result }
 {
     match name {
         "new-project" => new_project(alloc, matches),
@@ -594,7 +595,7 @@ fn change(alloc: Global, name: &str, matches: &ArgMatches<'_>) -> Result<Command
 
 /// A line that is a command: each names its host.
 fn command(alloc: Global, name: &str, matches: &ArgMatches<'_>) -> Result<Command, LineFault>
-    ensures { Says (command_in name.now (rows_of (found_of matches.now))) result }
+    ensures { ReadsOrUsage (command_in name.now (rows_of (found_of matches.now))) result }
 {
     let host = word(alloc, matches, "host")?;
     let change = change(alloc, name, matches)?;
@@ -617,14 +618,14 @@ fn project_list(name: &str) -> Option<ProjectList>
 }
 
 fn list(alloc: Global, list: ProjectList, matches: &ArgMatches<'_>) -> Result<Order, LineFault>
-    ensures { Says (list_in list (rows_of (found_of matches.now))) result }
+    ensures { ReadsOrUsage (list_in list (rows_of (found_of matches.now))) result }
 {
     let host = word(alloc, matches, "host")?;
     Ok(Order::List(ListWord::OfProject { host, list }))
 }
 
 fn list_pages(alloc: Global, matches: &ArgMatches<'_>) -> Result<Order, LineFault>
-    ensures { Says (list_pages_in (rows_of (found_of matches.now))) result }
+    ensures { ReadsOrUsage (list_pages_in (rows_of (found_of matches.now))) result }
 {
     let host = word(alloc, matches, "host")?;
     let slug = word(alloc, matches, "slug")?;
@@ -635,7 +636,7 @@ fn list_pages(alloc: Global, matches: &ArgMatches<'_>) -> Result<Order, LineFaul
 
 /// A line that lists what a project has, or a command.
 fn list_or_command(alloc: Global, name: &str, matches: &ArgMatches<'_>) -> Result<Order, LineFault>
-    ensures { Says (spec_list_or_command (list_named name.now) name.now
+    ensures { ReadsOrUsage (spec_list_or_command (list_named name.now) name.now
         (rows_of (found_of matches.now))) result }
 {
     match project_list(name) {
@@ -646,7 +647,7 @@ fn list_or_command(alloc: Global, name: &str, matches: &ArgMatches<'_>) -> Resul
 
 /// What a line of this name orders.
 fn read_order(alloc: Global, name: &str, matches: &ArgMatches<'_>) -> Result<Order, LineFault>
-    ensures { Says (order_in name.now (rows_of (found_of matches.now))) result }
+    ensures { ReadsOrUsage (order_in name.now (rows_of (found_of matches.now))) result }
 {
     match name {
         "get" => get(alloc, matches),
@@ -664,7 +665,7 @@ fn read_order(alloc: Global, name: &str, matches: &ArgMatches<'_>) -> Result<Ord
 
 /// The line of this name.
 fn read_named(alloc: Global, name: &str, matches: &ArgMatches<'_>) -> Result<Line, LineFault>
-    ensures { Says (named_line name.now (rows_of (found_of matches.now))) result }
+    ensures { ReadsOrUsage (named_line name.now (rows_of (found_of matches.now))) result }
 {
     let store = option_value(alloc, matches, "store")?;
     let order = read_order(alloc, name, matches)?;
@@ -672,7 +673,7 @@ fn read_named(alloc: Global, name: &str, matches: &ArgMatches<'_>) -> Result<Lin
 }
 
 fn read_line(alloc: Global, matches: &ArgMatches<'_>) -> Result<Line, LineFault>
-    ensures { Says (line_with (subcommand_rows_of matches.now)) result }
+    ensures { ReadsOrUsage (line_with (subcommand_rows_of matches.now)) result }
 {
     match matches.subcommand() {
         Some((name, words)) => read_named(alloc, name, words),
@@ -686,7 +687,7 @@ fn read_words<'a>(
     words: &'a [String],
 ) -> Result<ArgMatches<'a>, LineFault>
     requires { StandsFor docs_app program.old }
-    ensures matches { Matches (map string_bytes words.now) result }
+    ensures matches { MatchesWords (map string_bytes words.now) result }
     ensures stands { StandsFor docs_app program.new }
 {
     let error = match program.try_get_matches_from_mut(words) {
@@ -709,7 +710,7 @@ pub fn line_by<'a>(
     words: &'a [String],
 ) -> Result<Line, LineFault>
     requires { StandsFor docs_app program.old }
-    ensures says { Says (line_in (map string_bytes words.now)) result }
+    ensures says { ReadsOrUsage (line_in (map string_bytes words.now)) result }
     ensures stands { StandsFor docs_app program.new }
 {
     let matches = read_words(program, words)?;
@@ -721,7 +722,7 @@ pub fn line_by<'a>(
 ///
 /// `Usage`: the words are no line, or ask for help. `Memory`: an allocation was refused.
 pub fn line_of(alloc: Global, words: &[String]) -> Result<Line, LineFault>
-    ensures { Says (line_in (map string_bytes words.now)) result }
+    ensures { ReadsOrUsage (line_in (map string_bytes words.now)) result }
 {
     let mut program = docs_command(alloc)?;
     line_by(alloc, &mut program, words)

@@ -6,7 +6,7 @@ ghost use Rattle.dh_listings.specs.ListingTexts as spec;
 ghost use Rattle.dh_listings.specs.declared.words.ListWord.TheVariants as word;
 ghost use Rattle.dh_listings.specs.declared.words.ProjectList.TheVariants as part;
 ghost use Rattle.dh_listing_reads.specs.Listings.{ListsProject, ListsUnder, ListsWorld};
-ghost use Rattle.dh_view.specs.View.{Obtains};
+ghost use Rattle.dh_view.specs.View.{LearnsInTurn};
 ghost use Rattle.dh_world.specs.Reads.{host_named};
 
 use crate::passes::passes_text;
@@ -24,7 +24,7 @@ fn list_rows<S: Alter, R: Listed + RowText + Drop>(
     alloc: Global,
     host: &HostName,
 ) -> Found<Text>
-    ensures { Obtains S.Store tables.old tables.new result (λ l text. text
+    ensures { LearnsInTurn S.Store tables.old tables.new result (λ l text. text
         ≡ Some (spec.listed_text (map R.shown (filter (R.is_of host.now) (R.all l))))) }
 {
     let rows = R::rows(tables, alloc, host)?;
@@ -32,38 +32,42 @@ fn list_rows<S: Alter, R: Listed + RowText + Drop>(
 }
 
 fn list_langs<S: Alter>(tables: &mut Tables<S>, alloc: Global, host: &HostName) -> Found<Text>
-    ensures { Obtains S.Store tables.old tables.new result (ListsProject host.now part.Langs) }
+    ensures { LearnsInTurn S.Store tables.old tables.new result (ListsProject host.now part.Langs) }
 {
     list_rows::<S, LangRow>(tables, alloc, host)
 }
 
 fn list_defaults<S: Alter>(tables: &mut Tables<S>, alloc: Global, host: &HostName) -> Found<Text>
-    ensures { Obtains S.Store tables.old tables.new result (ListsProject host.now part.Defaults) }
+    ensures { LearnsInTurn S.Store tables.old tables.new result
+        (ListsProject host.now part.Defaults) }
 {
     list_rows::<S, PickRow>(tables, alloc, host)
 }
 
 fn list_rules<S: Alter>(tables: &mut Tables<S>, alloc: Global, host: &HostName) -> Found<Text>
-    ensures { Obtains S.Store tables.old tables.new result (ListsProject host.now part.Rules) }
+    ensures { LearnsInTurn S.Store tables.old tables.new result (ListsProject host.now part.Rules) }
 {
     list_rows::<S, RuleRow>(tables, alloc, host)
 }
 
 fn list_redirects<S: Alter>(tables: &mut Tables<S>, alloc: Global, host: &HostName) -> Found<Text>
-    ensures { Obtains S.Store tables.old tables.new result (ListsProject host.now part.Redirects) }
+    ensures { LearnsInTurn S.Store tables.old tables.new result
+        (ListsProject host.now part.Redirects) }
 {
     list_rows::<S, RedirectRow>(tables, alloc, host)
 }
 
 fn list_versions<S: Alter>(tables: &mut Tables<S>, alloc: Global, host: &HostName) -> Found<Text>
-    ensures { Obtains S.Store tables.old tables.new result (ListsProject host.now part.Versions) }
+    ensures { LearnsInTurn S.Store tables.old tables.new result
+        (ListsProject host.now part.Versions) }
 {
     let rows = tables.versions(alloc, host)?;
     Ok(Some(records_text(alloc, rows.as_slice())?))
 }
 
 fn list_passes<S: Alter>(tables: &mut Tables<S>, alloc: Global, host: &HostName) -> Found<Text>
-    ensures { Obtains S.Store tables.old tables.new result (ListsProject host.now part.Passes) }
+    ensures { LearnsInTurn S.Store tables.old tables.new result
+        (ListsProject host.now part.Passes) }
 {
     let passes = PassRow::rows(tables, alloc, host)?;
     let grants = HeldRow::rows(tables, alloc, host)?;
@@ -78,7 +82,7 @@ fn list_pages<S: Alter>(
     slug: &Text,
     lang: &Text,
 ) -> Found<Text>
-    ensures { Obtains S.Store tables.old tables.new result
+    ensures { LearnsInTurn S.Store tables.old tables.new result
         (ListsProject host.now (part.Pages slug.now lang.now)) }
 {
     let rows = tables.pages_in(alloc, host, slug.as_str(), lang.as_str())?;
@@ -92,7 +96,7 @@ fn list_project<S: Alter>(
     host: &HostName,
     list: &ProjectList,
 ) -> Found<Text>
-    ensures { Obtains S.Store tables.old tables.new result (ListsProject host.now list.now) }
+    ensures { LearnsInTurn S.Store tables.old tables.new result (ListsProject host.now list.now) }
 {
     match list {
         ProjectList::Langs => list_langs(tables, alloc, host),
@@ -106,7 +110,7 @@ fn list_project<S: Alter>(
 }
 
 fn list_projects<S: Alter>(tables: &mut Tables<S>, alloc: Global) -> Found<Text>
-    ensures { Obtains S.Store tables.old tables.new result (ListsWorld word.Projects) }
+    ensures { LearnsInTurn S.Store tables.old tables.new result (ListsWorld word.Projects) }
 {
     let rows = tables.all_projects(alloc)?;
     Ok(Some(records_text(alloc, rows.as_slice())?))
@@ -131,7 +135,8 @@ fn list_under<S: Alter>(
     host: &HostName,
     list: &ProjectList,
 ) -> Found<Text>
-    ensures { Obtains S.Store tables.old tables.new result (ListsUnder (Some host.now) list.now) }
+    ensures { LearnsInTurn S.Store tables.old tables.new result
+        (ListsUnder (Some host.now) list.now) }
 {
     let there = tables.has_project(host)?;
     if there {
@@ -148,7 +153,7 @@ fn list_named<S: Alter>(
     host: &Text,
     list: &ProjectList,
 ) -> Found<Text>
-    ensures { Obtains S.Store tables.old tables.new result
+    ensures { LearnsInTurn S.Store tables.old tables.new result
         (ListsUnder (host_named host.now) list.now) }
 {
     let found = host_in(alloc, host)?;
@@ -160,7 +165,7 @@ fn list_named<S: Alter>(
 
 /// What a list word prints, without the end of its last line; none, where there is no project.
 pub fn listing_in<S: Alter>(tables: &mut Tables<S>, alloc: Global, word: &ListWord) -> Found<Text>
-    ensures { Obtains S.Store tables.old tables.new result (ListsWorld word.now) }
+    ensures { LearnsInTurn S.Store tables.old tables.new result (ListsWorld word.now) }
 {
     match word {
         ListWord::Projects => list_projects(tables, alloc),

@@ -9,7 +9,7 @@ use Rattle.std.proofs.lemmas.List.{length-map}
 use Rattle.std.proofs.lemmas.Slice.Eq.{bytes_eq-Decides}
 use Rattle.sqlite_keyed.proofs.ListLemmas.{all-filter, all_map}
 use Rattle.dh_plans.specs.Asking.{asked}
-use Rattle.dh_plans.specs.Knowing.{Answers}
+use Rattle.dh_plans.specs.Knowing.{AnswersAsked}
 use Rattle.dh_plans.specs.Questions.{seen_questions}
 use Rattle.dh_checks.specs.declared.checking.CheckedChange.{CheckedChange}
 use Rattle.dh_plans.specs.declared.facts.Facts.{Facts}
@@ -32,7 +32,7 @@ use Rattle.dh_records.specs.declared.records.VersionRow.{VersionRow}
 use Rattle.dh_checks.specs.declared.checked.ProjectSettings.{ProjectSettings}
 use Rattle.dh_looks.specs.declared.looks.FoundAt.{FoundAt}
 use Rattle.dh_looks.specs.declared.looks.FoundLists.{FoundLists}
-use Rattle.dh_looks.specs.Finding.{OfProject, IsVersion, AreListed, AreRules, AreRedirects, FindsSettings, FindsAt, FindsLists, FindsFacts, asked_key}
+use Rattle.dh_looks.specs.Finding.{OfProject, IsVersionAsked, AreListed, AreRulesAsked, AreRedirectsAsked, FindsSettings, FindsAt, FindsLists, FindsFacts, asked_key}
 use Rattle.dh_records.specs.Constraints.{AreSound}
 use Rattle.dh_world.specs.World.{Text, Project}
 
@@ -80,7 +80,7 @@ module _ (host : Text) (lists : Lists) where
   pub version_here
       : (slug : Text) (o : Option VersionRow) → AreSound lists
       → o ≡ find (is_version host slug) lists.versions
-      → OfProject host (IsVersion (Some slug) (option_map (λ r. r.version) o)) lists
+      → OfProject host (IsVersionAsked (Some slug) (option_map (λ r. r.version) o)) lists
   version_here slug o sound e p was = record {
     is = version_in lists host p was slug ∙ ap (option_map (λ r. r.version)) (sym e);
     named = named o (sym e);
@@ -113,7 +113,7 @@ module _ (host : Text) (lists : Lists) where
     rules_here
         : (ask : Bool) (rules : List Rule)
         → rules ≡ cond ask (map (λ r. r.rule) (filter (is_rule_of host) lists.rules)) []
-        → AreRules ask rules p
+        → AreRulesAsked ask rules p
     rules_here ask found e =
         listed (λ r. r.rule) 50 (λ r. IsTrue (is_allowed r.pattern)) p.rules (filter (is_rule_of host) lists.rules) (rules_in lists host p was) few_rules
         (all-filter _ (is_rule_of host) lists.rules sound.constraints.texts.allowed) ask found e
@@ -121,7 +121,7 @@ module _ (host : Text) (lists : Lists) where
     redirects_here
         : (ask : Bool) (redirects : List Redirect)
         → redirects ≡ cond ask (map (λ r. r.redirect) (filter (is_redirect_of host) lists.redirects)) []
-        → AreRedirects ask redirects p
+        → AreRedirectsAsked ask redirects p
     redirects_here ask found e =
         listed (λ r. r.redirect) 100 (λ r. first_fault r ≡ None) p.redirects (filter (is_redirect_of host) lists.redirects) (redirects_in lists host p was) few_redirects
         (all-filter _ (is_redirect_of host) lists.redirects sound.constraints.records.good) ask found e
@@ -132,7 +132,7 @@ module _ (host : Text) (lists : Lists) where
 pub found_at
     : (host : Text) (lists l1 l2 l3 : Lists) (q : Questions) (f : FoundAt)
     → l1 ≡ lists → l2 ≡ l1 → l3 ≡ l2 → AreSound lists
-    → (AreSound lists → OfProject host (IsVersion (option_map (λ s. s.now) q.version) f.version) lists)
+    → (AreSound lists → OfProject host (IsVersionAsked (option_map (λ s. s.now) q.version) f.version) lists)
     → OfProject host (λ p. option_and_then (get p.used) (asked_key q.retry_key) ≡ f.first_answer) l1
     → OfProject host (λ p. option_map_or (contains_key p.passes) (option_map (λ t. t.now) q.pass) false ≡ f.has_pass) l2
     → (AreSound l3 → OfProject host (λ p. cond q.pass_count (len p.passes) 0 ≡ f.pass_count) l3)
@@ -175,7 +175,7 @@ facts_of s a b = record {
 
 answered
     : (q : Questions) (s : ProjectSettings) (a : FoundAt) (b : FoundLists) (p : Project) → FindsAt q a p → FindsLists q b p
-    → Answers (seen_questions q) (facts_of s a b) p
+    → AnswersAsked (seen_questions q) (facts_of s a b) p
 answered q s a b p at in_lists = record {
   version = at.version.is;
   named = at.version.named;
@@ -208,7 +208,7 @@ facts_here host change lists l0 l1 q s a b e0 n1 sound found asks at in_lists =
       was,
       record {
         settings = found.2;
-        answers = subst (λ x. Answers x (facts_of s a b) p) asks
+        answers = subst (λ x. AnswersAsked x (facts_of s a b) p) asks
             (answered q s a b p
             (at (subst AreSound (sym e0) sound) p (here host lists l0 e0 p was))
             (in_lists (subst AreSound (sym e1) sound) p (here host lists l1 e1 p was)));

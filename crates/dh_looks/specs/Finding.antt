@@ -9,7 +9,7 @@ use Rattle.dh_rules.specs.declared.rule.Rule.{Rule}
 use Rattle.dh_redirects.specs.Redirects.{first_fault}
 use Rattle.dh_redirects.specs.declared.redirect.Redirect.{Redirect}
 use Rattle.dh_versions.specs.declared.version.Version.{Version}
-use Rattle.dh_plans.specs.Knowing.{HasSettings, Knows}
+use Rattle.dh_plans.specs.Knowing.{HasSettings, KnowsProject}
 use Rattle.dh_checks.specs.declared.checking.CheckedChange.{CheckedChange}
 use Rattle.dh_plans.specs.declared.facts.Facts.{Facts}
 use Rattle.dh_checks.specs.declared.checked.ProjectSettings.{ProjectSettings}
@@ -29,7 +29,8 @@ abbrev pub OfProject : Text → (Project → Type 0) → Lists → Type 0
 OfProject host P l = (p : Project) → get (world_of l) host ≡ Some p → P p
 
 -- the version with the slug, where one is asked for, whose slug comes from its name
-pub record IsVersion (slug : Option Text) (version : Option Version) (p : Project) : Type 0 where
+pub record IsVersionAsked (slug : Option Text) (version : Option Version)
+    (p : Project) : Type 0 where
   pub is : option_and_then (get p.versions) slug ≡ version
   pub named : IfSome version (λ v. (Some v.slug ≡ slug) × (slug_from v.name ≡ Some v.slug))
 
@@ -40,16 +41,17 @@ pub record AreListed {X : Type 0} (ask : Bool) (most : ℕ) (IsGood : X → Type
   pub good : AllByRecursion IsGood found
 
 -- the rules
-abbrev pub AreRules : Bool → List Rule → Project → Type 0
-AreRules ask rules p = AreListed ask 50 (λ r. IsTrue (is_allowed r.pattern)) p.rules rules
+abbrev pub AreRulesAsked : Bool → List Rule → Project → Type 0
+AreRulesAsked ask rules p = AreListed ask 50 (λ r. IsTrue (is_allowed r.pattern)) p.rules rules
 
 -- the redirects
-abbrev pub AreRedirects : Bool → List Redirect → Project → Type 0
-AreRedirects ask redirects p = AreListed ask 100 (λ r. first_fault r ≡ None) p.redirects redirects
+abbrev pub AreRedirectsAsked : Bool → List Redirect → Project → Type 0
+AreRedirectsAsked ask redirects p =
+    AreListed ask 100 (λ r. first_fault r ≡ None) p.redirects redirects
 
 -- the version, the first answer and the passes, as far as they are asked for
 pub record FindsAt (q : Questions) (f : FoundAt) (p : Project) : Type 0 where
-  pub version : IsVersion (option_map (λ s. s.now) q.version) f.version p
+  pub version : IsVersionAsked (option_map (λ s. s.now) q.version) f.version p
   pub first_answer : option_and_then (get p.used) (asked_key q.retry_key) ≡ f.first_answer
   pub has_pass : option_map_or (contains_key p.passes) (option_map (λ t. t.now) q.pass) false ≡ f.has_pass
   pub pass_count : (if q.pass_count then len p.passes else 0) ≡ f.pass_count
@@ -58,8 +60,8 @@ pub record FindsAt (q : Questions) (f : FoundAt) (p : Project) : Type 0 where
 pub record FindsLists (q : Questions) (f : FoundLists) (p : Project) : Type 0 where
   pub languages : (if q.languages then p.languages else []) ≡ f.languages.items
   pub defaults : (if q.defaults then p.defaults else []) ≡ f.defaults.items
-  pub rules : AreRules q.rules f.rules.items p
-  pub redirects : AreRedirects q.redirects f.redirects.items p
+  pub rules : AreRulesAsked q.rules f.rules.items p
+  pub redirects : AreRedirectsAsked q.redirects f.redirects.items p
 
 -- the settings of the project, or that there is none
 abbrev pub FindsSettings : Text → Lists → Option ProjectSettings → Type 0
@@ -71,4 +73,4 @@ FindsSettings host l (Some s) =
 abbrev pub FindsFacts : Text → CheckedChange → Lists → Option Facts → Type 0
 FindsFacts host change l None = get (world_of l) host ≡ None
 FindsFacts host change l (Some f) =
-    (p : Project) × (get (world_of l) host ≡ Some p) × Knows change f p
+    (p : Project) × (get (world_of l) host ≡ Some p) × KnowsProject change f p

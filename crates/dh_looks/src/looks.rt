@@ -2,10 +2,10 @@
 ghost use Rattle.std.specs.Prelude.{◌≡◌, false, [], map, filter, option_map, if◌then◌else◌};
 ghost use Rattle.std.specs.Option.{option_and_then, option_map_or};
 ghost use Rattle.std.specs.FinMap.{get, contains_key, len};
-ghost use Rattle.dh_looks.specs.Finding.{OfProject, IsVersion};
+ghost use Rattle.dh_looks.specs.Finding.{OfProject, IsVersionAsked};
 ghost use Rattle.dh_looks.specs.Finding.{FindsSettings, FindsAt, FindsLists, FindsFacts, asked_key};
-ghost use Rattle.dh_schema.specs.Calling.{Learns};
-ghost use Rattle.dh_tables.specs.Going.{Asks};
+ghost use Rattle.dh_schema.specs.Calling.{AnswersBy};
+ghost use Rattle.dh_tables.specs.Going.{LooksAtRecords};
 ghost use Rattle.dh_records.specs.Constraints.{AreSound};
 
 use dh_checks::{CheckedChange, ProjectSettings};
@@ -24,8 +24,8 @@ fn settings_of<S: Alter>(
     alloc: Global,
     host: &HostName,
 ) -> Result<Option<ProjectSettings>, Refusal>
-    ensures asks { Asks S.Store tables.old tables.new result }
-    ensures value { Learns S.Store tables.old tables.new result (FindsSettings host.now) }
+    ensures asks { LooksAtRecords S.Store tables.old tables.new result }
+    ensures value { AnswersBy S.Store tables.old tables.new result (FindsSettings host.now) }
 {
     let Some(row) = tables.project(alloc, host)? else {
         return Ok(None);
@@ -49,9 +49,9 @@ fn version_for<S: Alter>(
     host: &HostName,
     slug: Option<&Slug>,
 ) -> Result<Option<Version>, Refusal>
-    ensures asks { Asks S.Store tables.old tables.new result }
-    ensures value { Learns S.Store tables.old tables.new result (λ l version. AreSound l
-        → OfProject host.now (IsVersion (option_map (λ s. s.now) slug.entry) version) l) }
+    ensures asks { LooksAtRecords S.Store tables.old tables.new result }
+    ensures value { AnswersBy S.Store tables.old tables.new result (λ l version. AreSound l
+        → OfProject host.now (IsVersionAsked (option_map (λ s. s.now) slug.entry) version) l) }
 {
     let Some(slug) = slug else {
         return Ok(None);
@@ -68,8 +68,8 @@ fn first_answer_for<S: Alter>(
     host: &HostName,
     retry_key: Option<RetryKey<'_>>,
 ) -> Result<Option<Answer>, Refusal>
-    ensures asks { Asks S.Store tables.old tables.new result }
-    ensures value { Learns S.Store tables.old tables.new result (λ l answer. OfProject host.now
+    ensures asks { LooksAtRecords S.Store tables.old tables.new result }
+    ensures value { AnswersBy S.Store tables.old tables.new result (λ l answer. OfProject host.now
         (λ p. option_and_then (get p.used) (asked_key retry_key.entry) ≡ answer) l) }
 {
     match retry_key {
@@ -85,8 +85,8 @@ fn list_for<S: Alter, R: Listed>(
     host: &HostName,
     ask: bool,
 ) -> Result<Vec<R::Item>, Refusal>
-    ensures asks { Asks S.Store tables.old tables.new result }
-    ensures value { Learns S.Store tables.old tables.new result (λ l items.
+    ensures asks { LooksAtRecords S.Store tables.old tables.new result }
+    ensures value { AnswersBy S.Store tables.old tables.new result (λ l items.
         items.items ≡ (if ask then map R.item (filter (R.is_of host.now) (R.all l)) else [])) }
 {
     if ask {
@@ -102,8 +102,8 @@ fn has_pass<S: Alter>(
     host: &HostName,
     pass: Option<&Token>,
 ) -> Result<bool, Refusal>
-    ensures asks { Asks S.Store tables.old tables.new result }
-    ensures value { Learns S.Store tables.old tables.new result (λ l has. OfProject host.now
+    ensures asks { LooksAtRecords S.Store tables.old tables.new result }
+    ensures value { AnswersBy S.Store tables.old tables.new result (λ l has. OfProject host.now
         (λ p. option_map_or (contains_key p.passes) (option_map (λ t. t.now) pass.entry) false ≡ has)
         l) }
 {
@@ -119,8 +119,8 @@ fn pass_count<S: Alter>(
     host: &HostName,
     ask: bool,
 ) -> Result<usize, Refusal>
-    ensures asks { Asks S.Store tables.old tables.new result }
-    ensures value { Learns S.Store tables.old tables.new result (λ l count. AreSound l
+    ensures asks { LooksAtRecords S.Store tables.old tables.new result }
+    ensures value { AnswersBy S.Store tables.old tables.new result (λ l count. AreSound l
         → OfProject host.now (λ p. (if ask then len p.passes else 0) ≡ count) l) }
 {
     if ask {
@@ -145,8 +145,8 @@ fn look_at<S: Alter>(
     host: &HostName,
     questions: &Questions<'_>,
 ) -> Result<FoundAt, Refusal>
-    ensures asks { Asks S.Store tables.old tables.new result }
-    ensures value { Learns S.Store tables.old tables.new result
+    ensures asks { LooksAtRecords S.Store tables.old tables.new result }
+    ensures value { AnswersBy S.Store tables.old tables.new result
         (λ l found. AreSound l → OfProject host.now (FindsAt questions.now found) l) }
 {
     let version = version_for(tables, alloc, host, questions.version)?;
@@ -176,8 +176,8 @@ fn look_lists<S: Alter>(
     host: &HostName,
     questions: &Questions<'_>,
 ) -> Result<FoundLists, Refusal>
-    ensures asks { Asks S.Store tables.old tables.new result }
-    ensures value { Learns S.Store tables.old tables.new result
+    ensures asks { LooksAtRecords S.Store tables.old tables.new result }
+    ensures value { AnswersBy S.Store tables.old tables.new result
         (λ l found. AreSound l → OfProject host.now (FindsLists questions.now found) l) }
 {
     let languages = list_for::<S, LangRow>(tables, alloc, host, questions.languages)?;
@@ -199,8 +199,8 @@ pub fn look<S: Alter>(
     host: &HostName,
     change: &CheckedChange<'_>,
 ) -> Result<Option<Facts>, Refusal>
-    ensures asks { Asks S.Store tables.old tables.new result }
-    ensures value { Learns S.Store tables.old tables.new result
+    ensures asks { LooksAtRecords S.Store tables.old tables.new result }
+    ensures value { AnswersBy S.Store tables.old tables.new result
         (λ l facts. AreSound l → FindsFacts host.now change.now l facts) }
 {
     let Some(settings) = settings_of(tables, alloc, host)? else {

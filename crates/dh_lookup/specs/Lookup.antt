@@ -20,7 +20,7 @@ pub record Meaning (L : Type 0) : Type 1 where
 
 module _ {L T : Type 0} (m : Meaning L) (old new : L) (result : Result T Fault) where
   -- One call, or several in turn.
-  pub record Asks : Type 0 where
+  pub record IsLook : Type 0 where
     -- whatever was answered
     pub leads : m.leads old new
     -- what was doubted stays doubted
@@ -33,21 +33,21 @@ module _ {L T : Type 0} (m : Meaning L) (old new : L) (result : Result T Fault) 
     pub kept : m.doubt new ≡ 0 → UnlessStore result (m.content new ≡ m.content old)
 
   -- While nothing is doubted, an answer is this of the content.
-  abbrev pub Tells : (Option SeenProject → T) → Type 0
-  Tells value = m.doubt new ≡ 0 → IfOk result (λ told. told ≡ value (m.content old))
+  abbrev pub AnswersFor : (Option SeenProject → T) → Type 0
+  AnswersFor value = m.doubt new ≡ 0 → IfOk result (λ told. told ≡ value (m.content old))
 
   -- the same, where there is a project
-  abbrev pub TellsOf : (SeenProject → T) → Type 0
-  TellsOf value =
+  abbrev pub AnswersForProject : (SeenProject → T) → Type 0
+  AnswersForProject value =
       m.doubt new ≡ 0 → IfOk result (λ told. IfSome (m.content old) (λ p. told ≡ value p))
 
 module _ {L U : Type 0} (m : Meaning L) (old new : L) where
   -- the same of what a project may have, none where there is no project
-  abbrev pub TellsMaybe : Result (Option U) Fault → (SeenProject → Option U) → Type 0
-  TellsMaybe result value =
+  abbrev pub AnswersMaybe : Result (Option U) Fault → (SeenProject → Option U) → Type 0
+  AnswersMaybe result value =
       m.doubt new ≡ 0 → IfOk result (λ found. found ≡ option_and_then value (m.content old))
 
   -- the same of a list, empty where there is no project
-  abbrev pub TellsAll : {Z : Type 0} → Result (Vec U Z) Fault → (SeenProject → List U) → Type 0
-  TellsAll result value =
+  abbrev pub AnswersAll : {Z : Type 0} → Result (Vec U Z) Fault → (SeenProject → List U) → Type 0
+  AnswersAll result value =
       m.doubt new ≡ 0 → IfOk result (λ list. list.items ≡ option_map_or value (m.content old) [])

@@ -1,7 +1,7 @@
 //! What replies are made from.
 
 ghost use Rattle.std.specs.Prelude.{is_some};
-ghost use Rattle.dh_lookup.specs.Lookup.{Asks, Meaning, Tells, TellsAll, TellsMaybe};
+ghost use Rattle.dh_lookup.specs.Lookup.{IsLook, Meaning, AnswersFor, AnswersAll, AnswersMaybe};
 ghost use Rattle.dh_lookup.specs.SeenProject.{resolved, page_at, forced_result, not_found_result};
 
 use crate::found::{Named, Page};
@@ -18,46 +18,46 @@ pub trait Lookup {
 
     /// Whether there is a project.
     fn known(&mut self) -> Result<bool, Fault>
-        ensures asks { Asks meaning self.old self.new result }
-        ensures value { Tells meaning self.old self.new result is_some };
+        ensures asks { IsLook meaning self.old self.new result }
+        ensures value { AnswersFor meaning self.old self.new result is_some };
 
     /// The version that the name stands for.
     fn name(&mut self, alloc: Global, name: &str) -> Found<Named>
-        ensures asks { Asks meaning self.old self.new result }
-        ensures value { TellsMaybe meaning self.old self.new result (λ p. resolved p name.now) };
+        ensures asks { IsLook meaning self.old self.new result }
+        ensures value { AnswersMaybe meaning self.old self.new result (λ p. resolved p name.now) };
 
     /// The name that `/` leads to.
     fn default(&mut self, alloc: Global) -> Found<Text>
-        ensures asks { Asks meaning self.old self.new result }
-        ensures value { TellsMaybe meaning self.old self.new result (λ p. p.default) };
+        ensures asks { IsLook meaning self.old self.new result }
+        ensures value { AnswersMaybe meaning self.old self.new result (λ p. p.default) };
 
     /// The languages, the main one first; none where there is no project.
     fn langs(&mut self, alloc: Global) -> Result<Vec<Lang>, Fault>
-        ensures asks { Asks meaning self.old self.new result }
-        ensures value { TellsAll meaning self.old self.new result (λ p. p.langs) };
+        ensures asks { IsLook meaning self.old self.new result }
+        ensures value { AnswersAll meaning self.old self.new result (λ p. p.langs) };
 
     /// The page at a path of a version in a language.
     fn page(&mut self, alloc: Global, lang: &Lang, slug: &Slug, path: &str) -> Found<Page>
-        ensures asks { Asks meaning self.old self.new result }
-        ensures value { TellsMaybe meaning self.old self.new result
+        ensures asks { IsLook meaning self.old self.new result }
+        ensures value { AnswersMaybe meaning self.old self.new result
             (λ p. page_at p lang.now slug.now path.now) };
 
     /// Where the first redirect with force leads that has a result.
     fn forced_redirect(&mut self, alloc: Global, asked: &Asked) -> Found<Location>
-        ensures asks { Asks meaning self.old self.new result }
-        ensures value { TellsMaybe meaning self.old self.new result
+        ensures asks { IsLook meaning self.old self.new result }
+        ensures value { AnswersMaybe meaning self.old self.new result
             (λ p. forced_result p asked.now) };
 
     /// Where the first redirect leads that has a result, with force or without.
     fn not_found_redirect(&mut self, alloc: Global, asked: &Asked) -> Found<Location>
-        ensures asks { Asks meaning self.old self.new result }
-        ensures value { TellsMaybe meaning self.old self.new result
+        ensures asks { IsLook meaning self.old self.new result }
+        ensures value { AnswersMaybe meaning self.old self.new result
             (λ p. not_found_result p asked.now) };
 
     /// The visible versions, hidden ones too, by slug; none where there is no project.
     fn listing(&mut self, alloc: Global) -> Result<Vec<Version>, Fault>
-        ensures asks { Asks meaning self.old self.new result }
-        ensures value { TellsAll meaning self.old self.new result (λ p. p.versions) };
+        ensures asks { IsLook meaning self.old self.new result }
+        ensures value { AnswersAll meaning self.old self.new result (λ p. p.versions) };
 
     ghost leads_at: { (a : Self) → meaning.leads a a };
 

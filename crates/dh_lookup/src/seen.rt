@@ -6,7 +6,7 @@ ghost use Rattle.std.specs.List.{find, list_any};
 ghost use Rattle.std.specs.Str.{bytes_eq};
 ghost use Rattle.std.proofs.Common.{◌∙◌, refl};
 ghost use Rattle.dh_redirects.specs.Locations.{asks_memory};
-ghost use Rattle.dh_faults.specs.Faults.{Gives};
+ghost use Rattle.dh_faults.specs.Faults.{GivesMaybe};
 ghost use Rattle.dh_redirects.specs.FirstResult as choice;
 ghost use Rattle.dh_lookup.specs.SeenProject as spec;
 ghost use Rattle.dh_lookup.specs.SeenProject.{alias_of, resolved, stands_at, page_at};
@@ -65,7 +65,7 @@ fn copy_all<T: Copied + Drop>(alloc: Global, items: &[T]) -> Result<Vec<T>, Allo
 }
 
 fn copy_text(alloc: Global, text: &Option<Text>) -> Result<Option<Text>, AllocError>
-    ensures { Gives text.now result }
+    ensures { GivesMaybe text.now result }
 {
     match text {
         Some(text) => Ok(Some(Text::copy_of(alloc, text.as_str())?)),
@@ -101,7 +101,7 @@ fn find_page<'a>(
 }
 
 fn alias_to(alloc: Global, slug: &Option<Slug>) -> Result<Option<Named>, AllocError>
-    ensures { Gives (spec.alias_to slug.now) result }
+    ensures { GivesMaybe (spec.alias_to slug.now) result }
 {
     match slug {
         Some(slug) => Ok(Some(Named {
@@ -113,7 +113,7 @@ fn alias_to(alloc: Global, slug: &Option<Slug>) -> Result<Option<Named>, AllocEr
 }
 
 fn find_alias(alloc: Global, project: &SeenProject, name: &str) -> Result<Option<Named>, AllocError>
-    ensures { Gives (alias_of project.now name.now) result }
+    ensures { GivesMaybe (alias_of project.now name.now) result }
 {
     match name {
         "latest" => alias_to(alloc, &project.latest),
@@ -124,7 +124,7 @@ fn find_alias(alloc: Global, project: &SeenProject, name: &str) -> Result<Option
 
 #[tactic(auto, unfolding(crate::specs::SeenProject::resolved))]
 fn find_name(alloc: Global, project: &SeenProject, name: &str) -> Result<Option<Named>, AllocError>
-    ensures { Gives (resolved project.now name.now) result }
+    ensures { GivesMaybe (resolved project.now name.now) result }
 {
     match find_version(project.versions.as_slice(), name) {
         Some(version) => Ok(Some(Named {
@@ -143,7 +143,7 @@ fn page_of(
     slug: &Slug,
     path: &str,
 ) -> Result<Option<Page>, AllocError>
-    ensures { Gives (page_at project.now lang.now slug.now path.now) result }
+    ensures { GivesMaybe (page_at project.now lang.now slug.now path.now) result }
 {
     match find_page(project.pages.as_slice(), lang, slug, path) {
         Some(stored) => Ok(Some(copy_page(alloc, &stored.page)?)),

@@ -10,9 +10,9 @@ use Rattle.sqlite.specs.Held.{Held, state}
 use Rattle.sqlite.specs.State.{HasCleanDisk}
 use Rattle.sqlite_trees.specs.declared.store.Store.{Ghosts}
 use Rattle.dh_faults.specs.declared.fault.Fault.{Fault}
-use Rattle.dh_rows.specs.Calls.{IsHonest, GoesWithin}
+use Rattle.dh_rows.specs.Calls.{IsHonest, MakesNoCommitInside}
 use Rattle.dh_rows.specs.Keyed.{same_value}
-use Rattle.dh_rows.specs.Places.{IsFree, IsUnshared, IsUnmentioned, ArePlaced, Stands, Keeps, records_of, rows_of, tree_of}
+use Rattle.dh_rows.specs.Places.{IsFree, IsUnshared, IsUnmentioned, ArePlaced, StandsInSchema, KeepsTable, records_of, rows_of, tree_of}
 use Rattle.dh_rows.specs.Shapes.{IsLone}
 use Rattle.dh_records.specs.Codings as coding
 use Rattle.dh_records.specs.declared.records.PassRow.{PassRow}
@@ -28,18 +28,18 @@ pub record CanConvert (schema : Schema) : Type 0 where
 -- Schema 1, as far as it changes: the table of passes stands, can be dropped, and the number is 1.
 pub record IsConvertible (db : Database) : Type 0 where
   pub sound : IsDatabase db
-  pub passes : Stands db.schema old_pass_table
+  pub passes : StandsInSchema db.schema old_pass_table
   pub lone : IsLone db.schema (tree_of db.schema (codes "pass")) (codes "pass")
   pub unmentioned : IsUnmentioned db.schema (codes "pass")
   pub can : CanConvert db.schema
-  pub meta : Keeps meta_table Rattle.dh_schema.specs.Tables.meta db
+  pub meta : KeepsTable meta_table Rattle.dh_schema.specs.Tables.meta db
   pub number : records_of Rattle.dh_schema.specs.Tables.meta (codes "meta") db ≡ 1 ∷ []
 
 -- each table of ours but the one of this name stands as it did
 abbrev pub SparesOthers : List ℕ → Database → Database → Type 0
 SparesOthers name before after =
-    (u : Table) → Stands before.schema u → same_name u.name name ≡ false
-    → Stands after.schema u × (rows_of after u.name ≡ rows_of before u.name)
+    (u : Table) → StandsInSchema before.schema u → same_name u.name name ≡ false
+    → StandsInSchema after.schema u × (rows_of after u.name ≡ rows_of before u.name)
 
 -- where the tables of derived records can be added, they can be added still
 abbrev pub StaysAddable : Database → Database → Type 0
@@ -56,7 +56,7 @@ pub record IsGone (before db : Database) : Type 0 where
 
 -- a new one has these passes
 pub record HasPasses (rows : List PassRow) (before db : Database) : Type 0 where
-  pub keeps : Keeps pass_table coding.passes db
+  pub keeps : KeepsTable pass_table coding.passes db
   pub passes : records_of coding.passes (codes "pass") db ≡ rows
   pub others : SparesOthers (codes "pass") before db
   pub addable : StaysAddable before db
@@ -67,18 +67,18 @@ is_one n = same_value (Int (pos n)) (Int (pos 1))
 
 -- Schema 2: it has these passes, and all else is as it was.
 pub record IsConverted (rows : List PassRow) (before db : Database) : Type 0 where
-  pub keeps : Keeps pass_table coding.passes db
+  pub keeps : KeepsTable pass_table coding.passes db
   pub passes : records_of coding.passes (codes "pass") db ≡ rows
-  pub meta : Keeps meta_table Rattle.dh_schema.specs.Tables.meta db
+  pub meta : KeepsTable meta_table Rattle.dh_schema.specs.Tables.meta db
   pub number : records_of Rattle.dh_schema.specs.Tables.meta (codes "meta") db ≡ 2 ∷ []
   pub others
-      : (u : Table) → Stands before.schema u → same_name u.name (codes "pass") ≡ false → same_name u.name (codes "meta") ≡ false
-      → Stands db.schema u × (rows_of db u.name ≡ rows_of before u.name)
+      : (u : Table) → StandsInSchema before.schema u → same_name u.name (codes "pass") ≡ false → same_name u.name (codes "meta") ≡ false
+      → StandsInSchema db.schema u × (rows_of db u.name ≡ rows_of before u.name)
   pub addable : StaysAddable before db
 
 -- What statements in turn leave, or none: answered, a transaction stays as it was, and P is true of what is seen.
-pub record Carries {S : Type 0} (g : Ghosts S) (old new : Held S) (result : Result (Unit {0}) Fault) (P : Database → Type 0) : Type 0 where
-  pub goes : GoesWithin g old new
+pub record CarriesTo {S : Type 0} (g : Ghosts S) (old new : Held S) (result : Result (Unit {0}) Fault) (P : Database → Type 0) : Type 0 where
+  pub goes : MakesNoCommitInside g old new
   pub made
       : IsHonest g old → HasCleanDisk (state g new)
       → OnOk result (IsHonest g new × (new.in_transaction ≡ old.in_transaction) × P (state g new).now)

@@ -8,7 +8,7 @@ use Rattle.dh_rows.specs.Keyed.{Coding}
 use Rattle.dh_rows.specs.Places.{records_of, keyed_table}
 use Rattle.dh_records.specs.Codings.{text_in}
 use Rattle.dh_records.specs.Lists.{Lists, base_of}
-use Rattle.dh_records.specs.Typed.{Passes}
+use Rattle.dh_records.specs.Typed.{PassesTest}
 use Rattle.dh_records.specs.declared.records.PassRow.{PassRow}
 use Rattle.dh_schema.specs.Tables.{text, lists_of}
 use Rattle.dh_migrating.specs.declared.old_pass.OldPassRow.{OldPassRow}
@@ -26,8 +26,8 @@ old_passes = record {
 
 -- it can be read again
 pub record IsOldPass (x : OldPassRow) : Type 0 where
-  pub host : Passes is_host_name x.host
-  pub pass : Passes is_token x.pass
+  pub host : PassesTest is_host_name x.host
+  pub pass : PassesTest is_token x.pass
 
 -- the same pass in schema 2
 abbrev pub without_end : OldPassRow → PassRow

@@ -5,12 +5,12 @@ ghost use Rattle.sqlite.specs.Effect.{Database};
 ghost use Rattle.sqlite.specs.Held.{state};
 ghost use Rattle.dh_rows.specs.Calls.{IsHonest};
 ghost use Rattle.dh_rows.specs.Keyed.{IsFreeKey, added};
-ghost use Rattle.dh_rows.specs.Places.{Keeps, records_of};
-ghost use Rattle.dh_rows.proofs.Effects.{Turns};
+ghost use Rattle.dh_rows.specs.Places.{KeepsTable, records_of};
+ghost use Rattle.dh_rows.proofs.Effects.{TurnsTable};
 ghost use Rattle.dh_records.specs.Codings.{passes};
 ghost use Rattle.dh_records.specs.Constraints.{InOrder};
 ghost use Rattle.dh_schema.specs.Tables.{meta, meta_table, pass_table};
-ghost use Rattle.dh_migrating.specs.Converting.{CanConvert, Carries, HasPasses, IsConverted, IsConvertible, IsGone, is_one};
+ghost use Rattle.dh_migrating.specs.Converting.{CanConvert, CarriesTo, HasPasses, IsConverted, IsConvertible, IsGone, is_one};
 
 use dh_lookup::Fault;
 use dh_records::PassRow;
@@ -30,7 +30,7 @@ pub fn can_convert(schema: &Schema) -> bool
 /// Drops the table of passes.
 fn drop_old<S: Alter>(conn: &mut Connection<S>) -> Result<(), Fault>
     requires { IsHonest S.Store conn.old → IsConvertible (state S.Store conn.old).now }
-    ensures carries { Carries S.Store conn.old conn.new result
+    ensures carries { CarriesTo S.Store conn.old conn.new result
         (IsGone (state S.Store conn.old).now) }
 {
     change(conn, "DROP TABLE pass", &[])
@@ -40,7 +40,7 @@ fn drop_old<S: Alter>(conn: &mut Connection<S>) -> Result<(), Fault>
 fn make_new<S: Alter>(conn: &mut Connection<S>) -> Result<(), Fault>
     requires { IsHonest S.Store conn.old → (before : Database)
         × IsGone before (state S.Store conn.old).now }
-    ensures carries { Carries S.Store conn.old conn.new result
+    ensures carries { CarriesTo S.Store conn.old conn.new result
         (HasPasses [] (state S.Store conn.old).now) }
 {
     change(
@@ -53,11 +53,11 @@ fn make_new<S: Alter>(conn: &mut Connection<S>) -> Result<(), Fault>
 /// Writes a pass.
 fn write_one<S: Alter>(conn: &mut Connection<S>, row: &PassRow) -> Result<(), Fault>
     requires keeps { IsHonest S.Store conn.old
-        → Keeps pass_table passes (state S.Store conn.old).now
+        → KeepsTable pass_table passes (state S.Store conn.old).now
         × IsFreeKey passes.key row.now
         (records_of passes pass_table.name (state S.Store conn.old).now) }
-    ensures carries { Carries S.Store conn.old conn.new result
-        (Turns pass_table passes (added passes.key row.now) (state S.Store conn.old).now) }
+    ensures carries { CarriesTo S.Store conn.old conn.new result
+        (TurnsTable pass_table passes (added passes.key row.now) (state S.Store conn.old).now) }
 {
     change(conn, "INSERT INTO pass VALUES (?1, ?2, ?3)", &row.values())
 }
@@ -67,7 +67,7 @@ fn write_each<S: Alter>(conn: &mut Connection<S>, rows: &[PassRow]) -> Result<()
     requires order { InOrder passes.key rows.now }
     requires none { IsHonest S.Store conn.old → (before : Database)
         × HasPasses [] before (state S.Store conn.old).now }
-    ensures carries { Carries S.Store conn.old conn.new result
+    ensures carries { CarriesTo S.Store conn.old conn.new result
         (HasPasses rows.now (state S.Store conn.old).now) }
 {
     for row in rows {
@@ -78,19 +78,19 @@ fn write_each<S: Alter>(conn: &mut Connection<S>, rows: &[PassRow]) -> Result<()
 
 /// Takes the number of schema 1 away.
 fn unnumber<S: Alter>(conn: &mut Connection<S>) -> Result<(), Fault>
-    requires { IsHonest S.Store conn.old → Keeps meta_table meta (state S.Store conn.old).now }
-    ensures carries { Carries S.Store conn.old conn.new result
-        (Turns meta_table meta (filter (λ n. not (is_one n))) (state S.Store conn.old).now) }
+    requires { IsHonest S.Store conn.old → KeepsTable meta_table meta (state S.Store conn.old).now }
+    ensures carries { CarriesTo S.Store conn.old conn.new result
+        (TurnsTable meta_table meta (filter (λ n. not (is_one n))) (state S.Store conn.old).now) }
 {
     change(conn, "DELETE FROM meta WHERE schema = ?1", params![1i64])
 }
 
 /// Writes that of schema 2.
 fn number<S: Alter>(conn: &mut Connection<S>) -> Result<(), Fault>
-    requires { IsHonest S.Store conn.old → Keeps meta_table meta (state S.Store conn.old).now
+    requires { IsHonest S.Store conn.old → KeepsTable meta_table meta (state S.Store conn.old).now
         × (records_of meta meta_table.name (state S.Store conn.old).now ≡ []) }
-    ensures carries { Carries S.Store conn.old conn.new result
-        (Turns meta_table meta (added meta.key 2) (state S.Store conn.old).now) }
+    ensures carries { CarriesTo S.Store conn.old conn.new result
+        (TurnsTable meta_table meta (added meta.key 2) (state S.Store conn.old).now) }
 {
     change(conn, "INSERT INTO meta VALUES (?1)", params![2i64])
 }
@@ -99,7 +99,7 @@ fn number<S: Alter>(conn: &mut Connection<S>) -> Result<(), Fault>
 pub fn convert<S: Alter>(conn: &mut Connection<S>, rows: &[PassRow]) -> Result<(), Fault>
     requires order { InOrder passes.key rows.now }
     requires old { IsHonest S.Store conn.old → IsConvertible (state S.Store conn.old).now }
-    ensures carries { Carries S.Store conn.old conn.new result
+    ensures carries { CarriesTo S.Store conn.old conn.new result
         (IsConverted rows.now (state S.Store conn.old).now) }
 {
     drop_old(conn)?;

@@ -7,25 +7,25 @@ use Rattle.sqlite.specs.State.{HasCleanDisk}
 use Rattle.dh_faults.specs.declared.fault.Fault.{Fault}
 use Rattle.dh_faults.specs.declared.fault.Fault.TheVariants as fault
 use Rattle.dh_faults.specs.Faults.{OnStore}
-use Rattle.dh_rows.specs.Calls.{GoesWithin, IsBlamed, IsHonest, IsRefused, Keep, Lasts, LeavesNoMore, LeavesSeen, OnlyBegins, OnlyCommits, Shows, whole}
+use Rattle.dh_rows.specs.Calls.{MakesNoCommitInside, IsBlamed, IsHonest, IsRefused, Keep, KeepsFaults, LeavesNoMore, LeavesSeen, OnlyBegins, OnlyCommits, ShowsHonestly, whole}
 use Rattle.dh_records.specs.Constraints.{AreInOrder, KeepsConstraints}
 use Rattle.dh_schema.specs.InTurn.{blamed_before, lasts_none, lasts_on}
 use Rattle.dh_schema.specs.Making.{CanAdd}
-use Rattle.dh_schema.specs.Tables.{Holds, lists_of}
-use Rattle.dh_migrating.specs.Converting.{Carries}
+use Rattle.dh_schema.specs.Tables.{HoldsTables, lists_of}
+use Rattle.dh_migrating.specs.Converting.{CarriesTo}
 use Rattle.dh_store.proofs.OrderLemmas.{in_order}
 use Rattle.dh_opening.specs.declared.fault.TablesFault.{TablesFault}
 use Rattle.dh_opening.specs.declared.fault.TablesFault.TheVariants.{NotOurs, OldSchema, Failed}
-use Rattle.dh_opening.specs.Opening.{IsKnown, IsNumbered, IsOurs, OnFailed, OnNotOurs, OnOldSchema, Opens}
-use Rattle.dh_opening.specs.Filling.{Brings, IsAtRest, IsFilled, IsNothingAdded, IsOpened, LacksDerived, LeavesBrought, OpensTables}
+use Rattle.dh_opening.specs.Opening.{IsOursOrOld, IsNumbered, IsOurs, OnFailed, OnNotOurs, OnOldSchema, JudgesTables}
+use Rattle.dh_opening.specs.Filling.{BringsBy, IsAtRest, IsFilled, IsNothingAdded, IsOpened, LacksDerived, LeavesBrought, OpensTables}
 use Rattle.dh_opening.proofs.FillLemmas.{ours_brought}
 use Rattle.dh_opening.proofs.Looks.{on_failed}
 
 -- ---- in a transaction of its own
 
-module _ {S : Type 0} {g : Ghosts S} (R : Database → Database → Type 0) {a b c d : Held S} (begins : OnlyBegins g whole a b (Ok tt)) (goes : GoesWithin g b c)
+module _ {S : Type 0} {g : Ghosts S} (R : Database → Database → Type 0) {a b c d : Held S} (begins : OnlyBegins g whole a b (Ok tt)) (goes : MakesNoCommitInside g b c)
     (made : IsHonest g b → HasCleanDisk (state g c) → IsHonest g c × (c.in_transaction ≡ b.in_transaction) × R (state g b).now (state g c).now) {r : Result (Unit {0}) Fault} (commits : OnlyCommits g whole c d r) where
-  begun : HasCleanDisk (state g d) → Shows g whole a b (state g a).now (state g a).committed true
+  begun : HasCleanDisk (state g d) → ShowsHonestly g whole a b (state g a).now (state g a).committed true
   begun clean = begins.begun.done (goes.lasts.clean (commits.lasts.clean clean))
 
   made_then : HasCleanDisk (state g d) → IsHonest g c × (c.in_transaction ≡ b.in_transaction) × R (state g b).now (state g c).now
@@ -34,7 +34,7 @@ module _ {S : Type 0} {g : Ghosts S} (R : Database → Database → Type 0) {a b
   pub transaction_within : HasCleanDisk (state g d) → c.in_transaction ≡ true
   transaction_within clean = (made_then clean).1 ∙ (begun clean).mode
 
-  pub transaction_lasts : Lasts g a d
+  pub transaction_lasts : KeepsFaults g a d
   transaction_lasts = lasts_on (lasts_on begins.goes.lasts goes.lasts) commits.lasts
 
   pub transaction_leaves : LeavesSeen g c d → LeavesBrought g a d R
@@ -58,7 +58,7 @@ module _ {S : Type 0} {g : Ghosts S} (R : Database → Database → Type 0) {a b
       last (inl same) = same.last_is
       last (inr undone) = undone.last_is
 
-  pub transaction_done : HasCleanDisk (state g d) → Shows g whole c d (state g c).now (state g c).now false → IsAtRest g d × R (state g a).now (state g d).now
+  pub transaction_done : HasCleanDisk (state g d) → ShowsHonestly g whole c d (state g c).now (state g c).now false → IsAtRest g d × R (state g a).now (state g d).now
   transaction_done clean ended = (
     record { honest = (clean, ended.is_open); outside = ended.mode; settled = ended.now_is ∙ sym ended.last_is },
     subst (λ (was : Database). R was (state g d).now) (begun clean).now_is (subst (λ (db : Database). R (state g b).now db) (sym ended.now_is) (made_then clean).2),
@@ -66,7 +66,7 @@ module _ {S : Type 0} {g : Ghosts S} (R : Database → Database → Type 0) {a b
 
 -- tables that were found ours before the begin, to which those of derived records are added
 pub opens_filled
-    : {S : Type 0} {g : Ghosts S} {a b c : Held S} → OnlyBegins g whole a b (Ok tt) → (IsHonest g a → IsOurs (state g a).now) → Carries g b c (Ok tt) (IsFilled (state g b).now)
+    : {S : Type 0} {g : Ghosts S} {a b c : Held S} → OnlyBegins g whole a b (Ok tt) → (IsHonest g a → IsOurs (state g a).now) → CarriesTo g b c (Ok tt) (IsFilled (state g b).now)
     → IsHonest g b → HasCleanDisk (state g c) → IsHonest g c × (c.in_transaction ≡ b.in_transaction) × IsOpened (state g b).now (state g c).now
 opens_filled {g = g} {b = b} {c = c} begins ours it honest clean =
     let begun = begins.begun.done honest.0 in
@@ -129,7 +129,7 @@ never_old T (Err f) e is it = go f (subst (λ (x : TablesFault). OnOldSchema {T 
 module _ {S : Type 0} {g : Ghosts S} where
   pub brings_as
       : {a b : Held S} {R Q : Database → Database → Type 0} {N M F G : Type 0} (r : Result (Unit {0}) TablesFault) → ((before after : Database) → R before after → Q before after) → (N → M) → (F → G)
-      → Brings g a b r R N F → Brings g a b r Q M G
+      → BringsBy g a b r R N F → BringsBy g a b r Q M G
   brings_as {a} {b} {R} {Q} r more less excuse it = record {
     lasts = it.lasts;
     done = λ honest clean. done r (it.done honest clean);
@@ -149,7 +149,7 @@ module _ {S : Type 0} {g : Ghosts S} where
 
   -- nothing is done, of tables that need nothing
   pub brings_nothing
-      : {h : Held S} {R : Database → Database → Type 0} {N F : Type 0} → (IsHonest g h → R (state g h).now (state g h).now) → (HasCleanDisk (state g h) → IsAtRest g h) → Brings g h h (Ok tt) R N F
+      : {h : Held S} {R : Database → Database → Type 0} {N F : Type 0} → (IsHonest g h → R (state g h).now (state g h).now) → (HasCleanDisk (state g h) → IsAtRest g h) → BringsBy g h h (Ok tt) R N F
   brings_nothing {h} same rests = record {
     lasts = lasts_none h;
     done = λ honest clean. (rests clean, same honest);
@@ -163,7 +163,7 @@ module _ {S : Type 0} {g : Ghosts S} where
   -- a refusal of a look
   refused_brings
       : {a b : Held S} {T : Type 0} {P : Database → T → Type 0} {N : Database → Type 0} (M : Database → Type 0) {R : Database → Database → Type 0} {F : Type 0} (e : TablesFault) → (N (state g a).now → M (state g a).now)
-      → Opens g a b {T = T} (Err e) P N → Brings g a b (Err e) R (M (state g a).now) F
+      → JudgesTables g a b {T = T} (Err e) P N → BringsBy g a b (Err e) R (M (state g a).now) F
   refused_brings {a} {b} {T} {P} {N} M {F = F} e less it = record {
     lasts = it.goes.lasts;
     done = λ honest clean. tt;
@@ -181,14 +181,14 @@ module _ {S : Type 0} {g : Ghosts S} where
 
   pub handed_brings
       : {a b : Held S} {T : Type 0} {P : Database → T → Type 0} {N : Database → Type 0} (M : Database → Type 0) {R : Database → Database → Type 0} {F : Type 0} (r : Result (Unit {0}) TablesFault) (e : TablesFault) → IsErrAnd r (λ f. f ≡ e)
-      → (N (state g a).now → M (state g a).now) → Opens g a b {T = T} (Err e) P N → Brings g a b r R (M (state g a).now) F
+      → (N (state g a).now → M (state g a).now) → JudgesTables g a b {T = T} (Err e) P N → BringsBy g a b r R (M (state g a).now) F
   handed_brings M (Ok u) e is less it = absurd is
-  handed_brings {a} {b} M {R = R} {F = F} (Err f) e is less it = subst (λ (x : TablesFault). Brings g a b (Err x) R (M (state g a).now) F) (sym is) (refused_brings M e less it)
+  handed_brings {a} {b} M {R = R} {F = F} (Err f) e is less it = subst (λ (x : TablesFault). BringsBy g a b (Err x) R (M (state g a).now) F) (sym is) (refused_brings M e less it)
 
   -- what comes after a look that was answered
   pub then_brings
-      : {a b c : Held S} {T : Type 0} {P : Database → T → Type 0} {N : Database → Type 0} (M F : Database → Type 0) {R : Database → Database → Type 0} (x : T) (r : Result (Unit {0}) TablesFault) → Opens g a b (Ok x) P N
-      → Brings g b c r R (M (state g b).now) (F (state g b).now) → Brings g a c r R (M (state g a).now) (F (state g a).now)
+      : {a b c : Held S} {T : Type 0} {P : Database → T → Type 0} {N : Database → Type 0} (M F : Database → Type 0) {R : Database → Database → Type 0} (x : T) (r : Result (Unit {0}) TablesFault) → JudgesTables g a b (Ok x) P N
+      → BringsBy g b c r R (M (state g b).now) (F (state g b).now) → BringsBy g a c r R (M (state g a).now) (F (state g a).now)
   then_brings {a} {b} {c} M F {R = R} x r first next = record {
     lasts = lasts_on first.goes.lasts next.lasts;
     done = λ honest clean.
@@ -224,9 +224,9 @@ module _ {S : Type 0} {g : Ghosts S} where
   -- ---- tables that are opened
 
   -- what a look finds of tables that were ours, for what comes after it
-  module _ {a b : Held S} {N : Database → Type 0} (known : Bool) (first : Opens g a b (Ok known) (λ db is. IsKnown is db) N) where
+  module _ {a b : Held S} {N : Database → Type 0} (known : Bool) (first : JudgesTables g a b (Ok known) (λ db is. IsOursOrOld is db) N) where
     pub ours_then : known ≡ true → IsHonest g b → IsOurs (state g b).now
-    ours_then is honest = subst IsOurs (sym (first.same honest.0).now_is) (subst (λ k. IsKnown k (state g a).now) is (first.found honest.0).1)
+    ours_then is honest = subst IsOurs (sym (first.same honest.0).now_is) (subst (λ k. IsOursOrOld k (state g a).now) is (first.found honest.0).1)
 
     pub rests_then : a.in_transaction ≡ false → (IsTrue (state g a).is_open → (state g a).now ≡ (state g a).committed) → HasCleanDisk (state g b) → IsAtRest g b
     rests_then outside settled clean =
@@ -235,7 +235,7 @@ module _ {S : Type 0} {g : Ghosts S} where
 
   pub refused_opens
       : {a b : Held S} {T : Type 0} {P : Database → T → Type 0} (r : Result (Unit {0}) TablesFault) (e : TablesFault) → IsErrAnd r (λ f. f ≡ e)
-      → Opens g a b {T = T} (Err e) P (λ db. ¬ IsOurs db × ¬ IsNumbered db 1) → OpensTables g a b r
+      → JudgesTables g a b {T = T} (Err e) P (λ db. ¬ IsOurs db × ¬ IsNumbered db 1) → OpensTables g a b r
   refused_opens (Ok u) e is it = absurd is
   refused_opens {a} {b} {T} (Err f) e is it = subst (λ (x : TablesFault). OpensTables g a b (Err x)) (sym is) (record {
     brings = refused_brings (λ db. ¬ IsOurs db × ¬ IsNumbered db 1) e (λ none. none) it;
@@ -250,7 +250,7 @@ module _ {S : Type 0} {g : Ghosts S} where
 
   -- tables of schema 1
   pub old_opens
-      : {a b : Held S} {N : Database → Type 0} (known : Bool) → known ≡ false → Opens g a b (Ok known) (λ db is. IsKnown is db) N → OpensTables g a b (Err OldSchema)
+      : {a b : Held S} {N : Database → Type 0} (known : Bool) → known ≡ false → JudgesTables g a b (Ok known) (λ db is. IsOursOrOld is db) N → OpensTables g a b (Err OldSchema)
   old_opens {a} {b} known is it = record {
     brings = record {
       lasts = it.goes.lasts;
@@ -261,13 +261,13 @@ module _ {S : Type 0} {g : Ghosts S} where
       told = λ clean. tt;
       crash = λ honest clean db may. inl (it.goes.quiet honest clean db may);
     };
-    numbered = λ clean. subst (λ k. IsKnown k (state g a).now) is (it.found clean).1;
+    numbered = λ clean. subst (λ k. IsOursOrOld k (state g a).now) is (it.found clean).1;
     quiet = λ _ honest. it.goes.quiet honest;
   }
 
   -- tables that were found ours, to which those of derived records are added
   pub then_opens
-      : {a b c : Held S} {N : Database → Type 0} (known : Bool) (r : Result (Unit {0}) TablesFault) → Opens g a b (Ok known) (λ db is. IsKnown is db) N → Brings g b c r IsOpened ⊥ (LacksDerived (state g b).now) → OnOldSchema r ⊥
+      : {a b c : Held S} {N : Database → Type 0} (known : Bool) (r : Result (Unit {0}) TablesFault) → JudgesTables g a b (Ok known) (λ db is. IsOursOrOld is db) N → BringsBy g b c r IsOpened ⊥ (LacksDerived (state g b).now) → OnOldSchema r ⊥
       → (IsHonest g b → ¬ CanAdd (state g b).now.schema → (c ≡ b) × OnErr r ⊥) → OpensTables g a c r
   then_opens {a} {b} {c} known r first next current none = record {
     brings = then_brings (λ db. ¬ IsOurs db × ¬ IsNumbered db 1) LacksDerived known r first (brings_as r (λ before after it. it) (λ never. absurd never) (λ lacks. lacks) next);
@@ -298,7 +298,7 @@ module _ {S : Type 0} {g : Ghosts S} where
 
 -- ---- a connection whose limit on steps was cleared before
 
-module _ {S : Type 0} {g : Ghosts S} {old new : Held S} {R : Database → Database → Type 0} {N F : Type 0} (it : Brings g old new (Ok tt) R N F) (clean : HasCleanDisk (state g new)) where
+module _ {S : Type 0} {g : Ghosts S} {old new : Held S} {R : Database → Database → Type 0} {N F : Type 0} (it : BringsBy g old new (Ok tt) R N F) (clean : HasCleanDisk (state g new)) where
   rests : IsAtRest g new × R (state g old).now (state g new).now
   rests = it.done (it.was clean) clean
 
@@ -315,14 +315,14 @@ module _ {S : Type 0} {g : Ghosts S} {old new : Held S} {R : Database → Databa
     pub is_committed : R (state g conn).now (state g new).committed
     is_committed = subst (λ (db : Database). R (state g conn).now db) rests.0.settled is_brought
 
-    module _ (holds : Holds (state g new).now) where
+    module _ (holds : HoldsTables (state g new).now) where
       pub are_sound : KeepsConstraints (lists_of (state g new).now) → AreInOrder (lists_of (state g new).committed) × KeepsConstraints (lists_of (state g new).committed)
       are_sound keep = subst (λ (db : Database). AreInOrder (lists_of db) × KeepsConstraints (lists_of db)) rests.0.settled (in_order (state g new).now holds, keep)
 
-      pub keeps : Keep Holds (state g new)
+      pub keeps : Keep HoldsTables (state g new)
       keeps = record {
         now = holds;
-        last = subst Holds rests.0.settled holds;
+        last = subst HoldsTables rests.0.settled holds;
         steady = ap (λ (db : Database). db.schema) rests.0.settled;
         settled = λ _. rests.0.settled;
         unlimited = it.lasts.limit ∙ ap (λ (h : Held S). h.step_limit) cleared;

@@ -11,7 +11,7 @@ use Rattle.sqlite.specs.Held.{Held, state}
 use Rattle.dh_faults.specs.declared.fault.Fault.{Fault}
 use Rattle.dh_rows.specs.Calls.{IsHonest}
 use Rattle.dh_rows.specs.Keyed.{Coding, IsTableOf, records}
-use Rattle.dh_rows.specs.Places.{Keeps, Stands, records_of, rows_of}
+use Rattle.dh_rows.specs.Places.{KeepsTable, StandsInSchema, records_of, rows_of}
 use Rattle.dh_records.specs.Codings as coding
 use Rattle.dh_records.specs.Constraints.{KeepsConstraints}
 use Rattle.dh_records.specs.Lists.{Lists, base_of}
@@ -19,10 +19,10 @@ use Rattle.dh_records.specs.Typed.{IsProject, IsLanguage, IsVersion, IsPage, IsU
 use Rattle.dh_records.specs.declared.records.AliasRow.{AliasRow}
 use Rattle.dh_records.specs.declared.records.RouteRow.{RouteRow}
 use Rattle.dh_records.proofs.BaseLemmas.{constraints_of_base}
-use Rattle.dh_schema.specs.Making.{CanAdd, Builds, GoesOn, IsAdded, SparesAll, added_tables, derived_tables}
-use Rattle.dh_schema.specs.Tables.{Holds, lists_of, meta, meta_table, alias_table, route_table, project_table, lang_table, version_table, page_table, used_table, pick_table, pass_table, holds_table, rule_table, redirect_table}
+use Rattle.dh_schema.specs.Making.{CanAdd, BuildsTables, GoesOn, IsAdded, SparesAll, added_tables, derived_tables}
+use Rattle.dh_schema.specs.Tables.{HoldsTables, lists_of, meta, meta_table, alias_table, route_table, project_table, lang_table, version_table, page_table, used_table, pick_table, pass_table, holds_table, rule_table, redirect_table}
 use Rattle.dh_schema.specs.InTurn.{goes_anywhere, goes_none}
-use Rattle.dh_migrating.specs.Converting.{Carries, IsConverted}
+use Rattle.dh_migrating.specs.Converting.{CarriesTo, IsConverted}
 use Rattle.dh_migrating.proofs.StepLemmas.{carried_as}
 use Rattle.dh_migrating.specs.OldPasses.{IsOldPass, old_lists_of, without_end}
 use Rattle.dh_opening.specs.Opening.{HasDerived, IsOurs, MayDerive, StandFor, other_tables}
@@ -31,7 +31,7 @@ use Rattle.dh_opening.specs.Migrating.{IsOld}
 
 -- the table stands, and its rows stand for these records
 abbrev pub Has : {X : Type 0} → Table → Coding X → (X → Type 0) → Database → List X → Type 0
-Has t c P db xs = Stands db.schema t × StandFor c P t.name db xs
+Has t c P db xs = StandsInSchema db.schema t × StandFor c P t.name db xs
 
 -- each of our tables of records does, and that of the number
 pub record HasAll (db : Database) (l : Lists) : Type 0 where
@@ -80,7 +80,7 @@ filled_spares db after (inr still) = subst (SparesAll db) (sym still.1) (spares_
 -- ---- all tables
 
 module _ {X : Type 0} {t : Table} {c : Coding X} {P : X → Type 0} {db : Database} {xs : List X} (it : Has t c P db xs) where
-  keeps : Keeps t c db
+  keeps : KeepsTable t c db
   keeps = record { stands = it.0; rows = it.1.rows }
 
   typed : AllByRecursion P (records_of c t.name db)
@@ -88,7 +88,7 @@ module _ {X : Type 0} {t : Table} {c : Coding X} {P : X → Type 0} {db : Databa
 
 module _ (db : Database) (l : Lists) (it : HasAll db l) (names : List AliasRow) (ways : List RouteRow)
     (alias : Has alias_table coding.aliases IsAlias db names) (route : Has route_table coding.routes IsRoute db ways) where
-  hold : Holds db
+  hold : HoldsTables db
   hold = record {
     meta = keeps it.number;
     number = it.number.1.records;
@@ -139,23 +139,23 @@ module _ (db : Database) (l : Lists) (it : HasAll db l) (names : List AliasRow) 
 -- ---- the tables of derived records
 
 -- a table that stands leaves no place for it to be added
-stands_or_adds : (db : Database) → Stands db.schema alias_table → ¬ CanAdd db.schema
+stands_or_adds : (db : Database) → StandsInSchema db.schema alias_table → ¬ CanAdd db.schema
 stands_or_adds db stands can = let named = stands.has.named in let none = can.0.0.0.tables in absurd (cc)
 
 -- Where a database had them they stand with what they had, or else they can be added.
-abbrev pub Derives : Database → Database → Type 0
-Derives before db =
+abbrev pub DerivesOrCanAdd : Database → Database → Type 0
+DerivesOrCanAdd before db =
     (HasDerived before × Has alias_table coding.aliases IsAlias db (lists_of before).aliases × Has route_table coding.routes IsRoute db (lists_of before).routes)
     ⊎ (CanAdd before.schema × CanAdd db.schema)
 
-pub derives : (db : Database) → MayDerive db → Derives db db
+pub derives : (db : Database) → MayDerive db → DerivesOrCanAdd db db
 derives db (inl has) = inl (has, (has.alone.0.stands, has.aliases), (has.alone.1.0.stands, has.routes))
 derives db (inr can) = inr (can, can)
 
 none : {X : Type 0} (c : Coding X) → IsTableOf c []
 none c = record { coded = tt; apart = tt; keyed = tt }
 
-bare : {X : Type 0} (t : Table) (c : Coding X) (P : X → Type 0) (db : Database) → Stands db.schema t × (rows_of db t.name ≡ []) → Has t c P db []
+bare : {X : Type 0} (t : Table) (c : Coding X) (P : X → Type 0) (db : Database) → StandsInSchema db.schema t × (rows_of db t.name ≡ []) → Has t c P db []
 bare t c P db it = (it.0, record { rows = subst (IsTableOf c) (sym it.1) (none c); records = ap (records c) it.1; typed = tt })
 
 -- what they have then
@@ -166,7 +166,7 @@ record Got (before after : Database) : Type 0 where
   route : Has route_table coding.routes IsRoute after ways
   own : (HasDerived before × (names ≡ (lists_of before).aliases) × (ways ≡ (lists_of before).routes)) ⊎ (CanAdd before.schema × (names ≡ []) × (ways ≡ []))
 
-got : (before db after : Database) → Derives before db → IsFilled db after → Got before after
+got : (before db after : Database) → DerivesOrCanAdd before db → IsFilled db after → Got before after
 got before db after (inl it) (inl added) = absurd (stands_or_adds db it.1.0 added.0)
 got before db after (inl it) (inr still) = record {
   names = (lists_of before).aliases;
@@ -193,7 +193,7 @@ own_are before after it = go it.own
 
 -- ---- what is brought about
 
-brought : (before db after : Database) (l : Lists) → base_of l ≡ l → HasAll db l → KeepsConstraints l → Derives before db → IsFilled db after → IsBrought l before after
+brought : (before db after : Database) (l : Lists) → base_of l ≡ l → HasAll db l → KeepsConstraints l → DerivesOrCanAdd before db → IsFilled db after → IsBrought l before after
 brought before db after l plain has kept derives filled =
     let it = got before db after derives filled in
     let all = all_on db after (filled_spares db after filled) l has in
@@ -271,7 +271,7 @@ module _ (before between : Database) (old : IsOld before) (it : IsConverted (old
         redirects = kept redirect_table coding.redirects IsRedirect _ are_apart.1.0 (alone.1.1.0.stands, s.redirects);
       }
 
-  old_derives : MayDerive before → Derives before between
+  old_derives : MayDerive before → DerivesOrCanAdd before between
   old_derives (inl has) = inl (has, kept alias_table coding.aliases IsAlias _ derived_apart.0 (has.alone.0.stands, has.aliases), kept route_table coding.routes IsRoute _ derived_apart.1.0 (has.alone.1.0.stands, has.routes))
   old_derives (inr can) = inr (can, it.addable can)
 
@@ -281,15 +281,15 @@ module _ (before between : Database) (old : IsOld before) (it : IsConverted (old
 -- ---- what adding leaves
 
 module _ {S : Type 0} {g : Ghosts S} where
-  carried_built : {old new : Held S} {r : Result (Unit {0}) Fault} {P : Database → Type 0} → Builds g old new r P → Carries g old new r P
+  carried_built : {old new : Held S} {r : Result (Unit {0}) Fault} {P : Database → Type 0} → BuildsTables g old new r P → CarriesTo g old new r P
   carried_built {old} {new} {r} {P} it = record { goes = it.goes; made = λ honest clean. go r (it.made honest clean) }
     where
       go : (r : Result (Unit {0}) Fault) → OnOk r (GoesOn g old new × P (state g new).now) → OnOk r (IsHonest g new × (new.in_transaction ≡ old.in_transaction) × P (state g new).now)
       go (Ok u) h = (h.0.honest, h.0.mode, h.1)
       go (Err e) h = tt
 
-  pub filled_built : {old new : Held S} {r : Result (Unit {0}) Fault} → CanAdd (state g old).now.schema → Builds g old new r (IsAdded added_tables [] (state g old).now) → Carries g old new r (IsFilled (state g old).now)
+  pub filled_built : {old new : Held S} {r : Result (Unit {0}) Fault} → CanAdd (state g old).now.schema → BuildsTables g old new r (IsAdded added_tables [] (state g old).now) → CarriesTo g old new r (IsFilled (state g old).now)
   filled_built can it = carried_as (λ honest db added. inl (can, added)) (carried_built it)
 
-  pub filled_nothing : (h : Held S) → ¬ CanAdd (state g h).now.schema → Carries g h h (Ok tt) (IsFilled (state g h).now)
+  pub filled_nothing : (h : Held S) → ¬ CanAdd (state g h).now.schema → CarriesTo g h h (Ok tt) (IsFilled (state g h).now)
   filled_nothing h cannot = record { goes = goes_anywhere (goes_none h); made = λ honest clean. (honest, refl, inr (cannot, refl)) }

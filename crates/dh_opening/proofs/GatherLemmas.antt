@@ -19,7 +19,7 @@ use Rattle.dh_rows.proofs.Calls.{answered_looks, back_clean, lasts, leaves_no_mo
 use Rattle.dh_opening.specs.declared.fault.TablesFault.{TablesFault}
 use Rattle.dh_opening.specs.declared.fault.TablesFault.TheVariants.{Failed}
 use Rattle.dh_opening.specs.Gathering.{HasTaken, TakesNext}
-use Rattle.dh_opening.specs.Opening.{Answers, IsWhole, Opens}
+use Rattle.dh_opening.specs.Opening.{AnswersQuery, IsWhole, JudgesTables}
 use Rattle.dh_opening.proofs.Looks.{handed, opens_both, out_of_memory, refused_as, then_ok}
 
 pub refused_is : {T E P : Type 0} (r : Result T E) (e : E) → r ≡ Err e → OnErr r P → P
@@ -32,7 +32,7 @@ module _ {S : Type 0} (g : Ghosts S) (a b : Held S) where
     was_honest : HasCleanDisk (state g b) → IsHonest g a
     was_honest clean = (back_clean g a b P survives clean, (same clean).0.was_open)
 
-    pub unchanged_opens : {T : Type 0} {Q : Database → T → Type 0} {N : Database → Type 0} (x : T) → (IsHonest g a → Q (state g a).now x) → Opens g a b (Ok x) Q N
+    pub unchanged_opens : {T : Type 0} {Q : Database → T → Type 0} {N : Database → Type 0} (x : T) → (IsHonest g a → Q (state g a).now x) → JudgesTables g a b (Ok x) Q N
     unchanged_opens x found = record {
       goes = record { lasts = lasts g a b P survives (λ honest. was_honest honest.0); kept = λ honest. (same honest.0).0.committed_is; quiet = λ honest. leaves_no_more g a b P survives (never honest) };
       same = λ clean. let it = (same clean).0 in record { was_honest = was_honest clean; is_open = it.is_open; now_is = it.now_is; last_is = it.committed_is; mode = it.mode };
@@ -65,12 +65,12 @@ module _ {S : Type 0} (g : Ghosts S) (a b : Held S) where
       never honest db = never_commits sql [] (state g a) db (look honest).plain
 
       -- a query that is refused
-      pub failed_opens : {T : Type 0} {Q : Database → T → Type 0} {N : Database → Type 0} (e : Error) (fault : Fault) → fault ≡ fault_of e → (HasCleanDisk (state g b) → FailsToQuery sql [] (state g a) (state g b) e) → Opens g a b {T = T} (Err (Failed fault)) Q N
+      pub failed_opens : {T : Type 0} {Q : Database → T → Type 0} {N : Database → Type 0} (e : Error) (fault : Fault) → fault ≡ fault_of e → (HasCleanDisk (state g b) → FailsToQuery sql [] (state g a) (state g b) e) → JudgesTables g a b {T = T} (Err (Failed fault)) Q N
       failed_opens e fault is why =
           refused_as sql (Unit {0}) fault (refused_looks g a b sql [] survives look e why) (λ clean. query_blames g a b sql [] (back_clean g a b _ survives) look clean e fault is (why clean)) whole
 
       -- a query that has given all its rows
-      pub all_opens : (given : List Row) → (HasCleanDisk (state g b) → Shown sql [] (state g a) (state g b) given) → Opens g a b (Ok false) (λ db more. more ≡ false → Answers db sql given) (λ _. ⊥)
+      pub all_opens : (given : List Row) → (HasCleanDisk (state g b) → Shown sql [] (state g a) (state g b) given) → JudgesTables g a b (Ok false) (λ db more. more ≡ false → AnswersQuery db sql given) (λ _. ⊥)
       all_opens given shown =
           let looks : OnlyLooks g a b {T = Bool} {E = Fault} (Ok false) = answered_looks g a b sql [] survives look given shown in
           record {
@@ -94,7 +94,7 @@ module _ {S : Type 0} (g : Ghosts S) (a b : Held S) where
         plainly : HasCleanDisk (state g b) → HasGiven g sql [] b [] × IsUnchanged (state g a) (state g b)
         plainly clean = begun_plain g sql [] a b (look (begun_honest clean)).plain (begun clean)
 
-        pub begins_opens : Opens g a b {T = Unit {0}} (Ok tt) (λ _ _. Unit {0}) (λ _. ⊥)
+        pub begins_opens : JudgesTables g a b {T = Unit {0}} (Ok tt) (λ _ _. Unit {0}) (λ _. ⊥)
         begins_opens = unchanged_opens _ survives never (λ clean. (plainly clean).1) tt (λ _. tt)
 
         pub begins_taken : HasTaken g sql b []
@@ -109,7 +109,7 @@ module _ {S : Type 0} (g : Ghosts S) (a b : Held S) where
     next_back = back_clean g a b _ survives
 
     module _ (same : HasCleanDisk (state g b) → IsUnchanged (state g a) (state g b)) where
-      pub next_opens : {T : Type 0} {Q : Database → T → Type 0} {N : Database → Type 0} (x : T) → Q (state g a).now x → Opens g a b (Ok x) Q N
+      pub next_opens : {T : Type 0} {Q : Database → T → Type 0} {N : Database → Type 0} (x : T) → Q (state g a).now x → JudgesTables g a b (Ok x) Q N
       next_opens x found = unchanged_opens _ survives (λ _ db it. it) same x (λ _. found)
 
       pub next_taken : (row : Row) → (HasCleanDisk (state g b) → HasGiven g sql [] b (given ++ row ∷ [])) → HasTaken g sql b (given ++ row ∷ [])
@@ -146,15 +146,15 @@ module _ {S G : Type 0} (g : Ghosts S) (a b : Held S) (sql : List ℕ) (Took : G
 
 -- ---- all rows
 
-module _ {S G : Type 0} (g : Ghosts S) (a b c : Held S) (sql : List ℕ) (Took : G → List Row → Type 0) (before after : G) (given : List Row) (taken : HasTaken g sql b given) (first : Opens g a b {T = Unit {0}} (Ok tt) (λ _ _. Unit {0}) (λ _. ⊥)) where
+module _ {S G : Type 0} (g : Ghosts S) (a b c : Held S) (sql : List ℕ) (Took : G → List Row → Type 0) (before after : G) (given : List Row) (taken : HasTaken g sql b given) (first : JudgesTables g a b {T = Unit {0}} (Ok tt) (λ _ _. Unit {0}) (λ _. ⊥)) where
   -- they are all
-  pub gathered : Took before given → TakesNext g sql Took b c before after (Ok false) → Opens g a c {T = Unit {0}} (Ok tt) (λ db _. (rows : List Row) × Answers db sql rows × Took after rows) (λ _. ⊥)
+  pub gathered : Took before given → TakesNext g sql Took b c before after (Ok false) → JudgesTables g a c {T = Unit {0}} (Ok tt) (λ db _. (rows : List Row) × AnswersQuery db sql rows × Took after rows) (λ _. ⊥)
   gathered took next = then_ok false (opens_both tt (Ok false) first (next.opens given taken)) tt (λ honest it. (given, it.1 refl, next.on given taken took))
 
   -- there is one more
-  pub gathers_on : TakesNext g sql Took b c before after (Ok true) → Opens g a c {T = Unit {0}} (Ok tt) (λ _ _. Unit {0}) (λ _. ⊥)
+  pub gathers_on : TakesNext g sql Took b c before after (Ok true) → JudgesTables g a c {T = Unit {0}} (Ok tt) (λ _ _. Unit {0}) (λ _. ⊥)
   gathers_on next = then_ok true (opens_both tt (Ok true) first (next.opens given taken)) tt (λ honest it. tt)
 
   -- there is a fault
-  pub gather_failed : {T : Type 0} {Q : Database → T → Type 0} (r : Result T TablesFault) (fault : TablesFault) → IsErrAnd r (λ f. f ≡ fault) → TakesNext g sql Took b c before after (Err fault) → Opens g a c r Q (λ _. ⊥)
+  pub gather_failed : {T : Type 0} {Q : Database → T → Type 0} (r : Result T TablesFault) (fault : TablesFault) → IsErrAnd r (λ f. f ≡ fault) → TakesNext g sql Took b c before after (Err fault) → JudgesTables g a c r Q (λ _. ⊥)
   gather_failed r fault is next = handed r fault is (λ it. it.1) (opens_both tt (Err fault) first (next.opens given taken))

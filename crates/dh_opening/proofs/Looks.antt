@@ -9,13 +9,13 @@ use Rattle.sqlite.specs.Held.{Held, state}
 use Rattle.sqlite.specs.State.{State, HasCleanDisk}
 use Rattle.dh_faults.specs.declared.fault.Fault.{Fault}
 use Rattle.dh_faults.specs.declared.fault.Fault.TheVariants as fault
-use Rattle.dh_rows.specs.Calls.{AreRows, Blames, Finds, IsHonest, IsUnfit, OnlyLooks}
+use Rattle.dh_rows.specs.Calls.{AreRows, StoreFaultHasCause, FindsSuch, IsHonest, IsUnfit, OnlyLooks}
 use Rattle.dh_rows.specs.Shapes.{StandsAlone}
 use Rattle.sqlite_schema.specs.declared.schema.Table.{Table}
 use Rattle.dh_schema.specs.InTurn.{blamed_before, goes_none, goes_on, same_none, same_on, refused_on}
 use Rattle.dh_opening.specs.declared.fault.TablesFault.{TablesFault}
 use Rattle.dh_opening.specs.declared.fault.TablesFault.TheVariants.{NotOurs, OldSchema, Failed}
-use Rattle.dh_opening.specs.Opening.{Answers, AreLaid, IsWhole, OnNotOurs, OnFailed, Opens}
+use Rattle.dh_opening.specs.Opening.{AnswersQuery, AreLaid, IsWhole, OnNotOurs, OnFailed, JudgesTables}
 
 on_ok : {T A B : Type 0} (r : Result T TablesFault) → (A → B) → OnOk r A → OnOk r B
 on_ok (Ok x) f a = f a
@@ -47,7 +47,7 @@ module _ {S : Type 0} {g : Ghosts S} where
   pub opens_as
       : {a b : Held S} {T : Type 0} {P Q : Database → T → Type 0} {N M : Database → Type 0} (r : Result T TablesFault)
       → (IsHonest g a → (x : T) → P (state g a).now x → Q (state g a).now x) → (N (state g a).now → M (state g a).now)
-      → Opens g a b r P N → Opens g a b r Q M
+      → JudgesTables g a b r P N → JudgesTables g a b r Q M
   opens_as r more less it = record {
     goes = it.goes;
     same = it.same;
@@ -59,7 +59,7 @@ module _ {S : Type 0} {g : Ghosts S} where
   }
 
   -- a database that is not ours, without a look
-  pub refused_at_once : {h : Held S} {T : Type 0} {P : Database → T → Type 0} {N : Database → Type 0} → N (state g h).now → Opens g h h {T = T} (Err NotOurs) P N
+  pub refused_at_once : {h : Held S} {T : Type 0} {P : Database → T → Type 0} {N : Database → Type 0} → N (state g h).now → JudgesTables g h h {T = T} (Err NotOurs) P N
   refused_at_once {h} none = record {
     goes = goes_none h;
     same = λ clean. tt;
@@ -71,7 +71,7 @@ module _ {S : Type 0} {g : Ghosts S} where
   }
 
   -- a database that is found so, without a look
-  pub found_at_once : {h : Held S} {T : Type 0} {P : Database → T → Type 0} {N : Database → Type 0} (x : T) → (HasCleanDisk (state g h) → IsHonest g h) → P (state g h).now x → Opens g h h (Ok x) P N
+  pub found_at_once : {h : Held S} {T : Type 0} {P : Database → T → Type 0} {N : Database → Type 0} (x : T) → (HasCleanDisk (state g h) → IsHonest g h) → P (state g h).now x → JudgesTables g h h (Ok x) P N
   found_at_once {h} x live found = record {
     goes = goes_none h;
     same = λ clean. same_none h (live clean);
@@ -85,16 +85,16 @@ module _ {S : Type 0} {g : Ghosts S} where
   -- a refusal that is handed on
   pub handed_on
       : {a b : Held S} {T U : Type 0} {P : Database → T → Type 0} {Q : Database → U → Type 0} {N : Database → Type 0} (e : TablesFault)
-      → Opens g a b {T = T} (Err e) P N → Opens g a b {T = U} (Err e) Q N
+      → JudgesTables g a b {T = T} (Err e) P N → JudgesTables g a b {T = U} (Err e) Q N
   handed_on NotOurs it = record { goes = it.goes; same = λ clean. tt; err = it.err; found = λ clean. tt; ours = it.ours; current = tt; told = λ clean. tt }
   handed_on OldSchema it = absurd it.current
   handed_on (Failed fault.Store) it = record { goes = it.goes; same = λ clean. tt; err = it.err; found = λ clean. tt; ours = λ clean. tt; current = tt; told = it.told }
   handed_on (Failed fault.Memory) it = record { goes = it.goes; same = λ clean. tt; err = it.err; found = λ clean. tt; ours = λ clean. tt; current = tt; told = λ clean. tt }
 
   module _ {a b c : Held S} {T U : Type 0} {P : Database → T → Type 0} {N : Database → Type 0} {Q : Database → U → Type 0} {M : Database → Type 0} (x : T) (r : Result U TablesFault)
-      (first : Opens g a b (Ok x) P N) (next : Opens g b c r Q M) where
+      (first : JudgesTables g a b (Ok x) P N) (next : JudgesTables g b c r Q M) where
     -- what comes after an answered look, of which the first holds too
-    pub opens_both : Opens g a c r (λ db u. P db x × Q db u) (λ db. P db x × M db)
+    pub opens_both : JudgesTables g a c r (λ db u. P db x × Q db u) (λ db. P db x × M db)
     opens_both = record {
       goes = goes_on first.goes (λ honest clean. (clean, (first.same clean).is_open)) next.goes;
       same = λ clean. on_ok r (same_on (first.same (back clean))) (next.same clean);
@@ -112,11 +112,11 @@ module _ {S : Type 0} {g : Ghosts S} where
         now clean = (first.same (back clean)).now_is
 
     -- where this is nothing to a refusal
-    pub opens_on : Opens g a c r (λ db u. P db x × Q db u) M
+    pub opens_on : JudgesTables g a c r (λ db u. P db x × Q db u) M
     opens_on = opens_as r (λ honest u both. both) (λ both. both.1) opens_both
 
   -- an answered look leaves tables laid
-  pub laid_on : {tables : List Table} {a b : Held S} {T : Type 0} {P : Database → T → Type 0} {N : Database → Type 0} (x : T) → Opens g a b (Ok x) P N → (IsHonest g a → AreLaid tables (state g a)) → IsHonest g b → AreLaid tables (state g b)
+  pub laid_on : {tables : List Table} {a b : Held S} {T : Type 0} {P : Database → T → Type 0} {N : Database → Type 0} (x : T) → JudgesTables g a b (Ok x) P N → (IsHonest g a → AreLaid tables (state g a)) → IsHonest g b → AreLaid tables (state g b)
   laid_on {tables} {a} {b} x it laid honest =
       let was = laid (it.goes.lasts.was honest) in
       let same = sym (it.same honest.0).now_is in
@@ -133,21 +133,21 @@ some_laid {s = s} pick laid = record { sound = laid.sound; alone = pick (StandsA
 -- ---- a refusal that `?` hands on
 
 module _ {S : Type 0} {g : Ghosts S} {a b : Held S} {T U : Type 0} {P : Database → T → Type 0} {N : Database → Type 0} {Q : Database → U → Type 0} {M : Database → Type 0} where
-  pub handed : (r : Result U TablesFault) (fault : TablesFault) → IsErrAnd r (λ f. f ≡ fault) → (N (state g a).now → M (state g a).now) → Opens g a b {T = T} (Err fault) P N → Opens g a b r Q M
+  pub handed : (r : Result U TablesFault) (fault : TablesFault) → IsErrAnd r (λ f. f ≡ fault) → (N (state g a).now → M (state g a).now) → JudgesTables g a b {T = T} (Err fault) P N → JudgesTables g a b r Q M
   handed (Ok u) fault is less it = absurd (is)
-  handed (Err f) fault is less it = opens_as (Err f) (λ honest u q. q) less (subst (λ (e : TablesFault). Opens g a b {T = U} (Err e) Q N) (sym is) (handed_on fault it))
+  handed (Err f) fault is less it = opens_as (Err f) (λ honest u q. q) less (subst (λ (e : TablesFault). JudgesTables g a b {T = U} (Err e) Q N) (sym is) (handed_on fault it))
 
   -- memory that ran out behind an answered look
-  pub out_of_memory : (r : Result U TablesFault) → IsErrAnd r (λ f. f ≡ Failed fault.Memory) → (x : T) → Opens g a b (Ok x) P N → Opens g a b r Q M
+  pub out_of_memory : (r : Result U TablesFault) → IsErrAnd r (λ f. f ≡ Failed fault.Memory) → (x : T) → JudgesTables g a b (Ok x) P N → JudgesTables g a b r Q M
   out_of_memory (Ok u) is x it = absurd (is)
   out_of_memory (Err f) is x it =
-      subst (λ (e : TablesFault). Opens g a b {T = U} (Err e) Q M) (sym is)
+      subst (λ (e : TablesFault). JudgesTables g a b {T = U} (Err e) Q M) (sym is)
       (record { goes = it.goes; same = λ clean. tt; err = λ honest. inl (it.same honest.0); found = λ clean. tt; ours = λ clean. tt; current = tt; told = λ clean. tt })
 
 -- ---- an answer that is decided on
 
-module _ {S : Type 0} {g : Ghosts S} {a b : Held S} {T U : Type 0} {P : Database → T → Type 0} {N : Database → Type 0} {Q : Database → U → Type 0} {M : Database → Type 0} (x : T) (it : Opens g a b (Ok x) P N) where
-  pub then_ok : (u : U) → (IsHonest g a → P (state g a).now x → Q (state g a).now u) → Opens g a b (Ok u) Q M
+module _ {S : Type 0} {g : Ghosts S} {a b : Held S} {T U : Type 0} {P : Database → T → Type 0} {N : Database → Type 0} {Q : Database → U → Type 0} {M : Database → Type 0} (x : T) (it : JudgesTables g a b (Ok x) P N) where
+  pub then_ok : (u : U) → (IsHonest g a → P (state g a).now x → Q (state g a).now u) → JudgesTables g a b (Ok u) Q M
   then_ok u more = record {
     goes = it.goes;
     same = it.same;
@@ -158,7 +158,7 @@ module _ {S : Type 0} {g : Ghosts S} {a b : Held S} {T U : Type 0} {P : Database
     told = λ clean. tt;
   }
 
-  pub then_not_ours : (IsHonest g a → P (state g a).now x → M (state g a).now) → Opens g a b {T = U} (Err NotOurs) Q M
+  pub then_not_ours : (IsHonest g a → P (state g a).now x → M (state g a).now) → JudgesTables g a b {T = U} (Err NotOurs) Q M
   then_not_ours less = record {
     goes = it.goes;
     same = λ clean. tt;
@@ -172,7 +172,7 @@ module _ {S : Type 0} {g : Ghosts S} {a b : Held S} {T U : Type 0} {P : Database
 -- the same of an answer of which more is known than the database tells
 pub opens_with
     : {S : Type 0} {g : Ghosts S} {a b : Held S} {T : Type 0} {P Q : Database → T → Type 0} {N M : Database → Type 0} {E : T → Type 0} (r : Result T TablesFault)
-    → IfOk r E → ((x : T) → E x → IsHonest g a → P (state g a).now x → Q (state g a).now x) → (N (state g a).now → M (state g a).now) → Opens g a b r P N → Opens g a b r Q M
+    → IfOk r E → ((x : T) → E x → IsHonest g a → P (state g a).now x → Q (state g a).now x) → (N (state g a).now → M (state g a).now) → JudgesTables g a b r P N → JudgesTables g a b r Q M
 opens_with (Ok x) known more less it = then_ok x it x (more x known)
 opens_with {Q = Q} (Err fault) known more less it = opens_as {P = Q} {Q = Q} (Err fault) (λ honest x q. q) less (handed_on fault it)
 
@@ -181,14 +181,14 @@ opens_with {Q = Q} (Err fault) known more less it = opens_as {P = Q} {Q = Q} (Er
 module _ {S : Type 0} {g : Ghosts S} {a b : Held S} (sql : List ℕ) where
   -- one that was answered
   pub answered_as
-      : {Z : Type 0} (rows : Vec Row Z) → OnlyLooks g a b {E = Fault} (Ok rows) → Finds g a b {E = Fault} (Ok rows) (λ v. AreRows (state g a) sql [] v.items)
-      → Opens g a b (Ok rows) (λ db v. Answers db sql v.items) (λ _. ⊥)
+      : {Z : Type 0} (rows : Vec Row Z) → OnlyLooks g a b {E = Fault} (Ok rows) → FindsSuch g a b {E = Fault} (Ok rows) (λ v. AreRows (state g a) sql [] v.items)
+      → JudgesTables g a b (Ok rows) (λ db v. AnswersQuery db sql v.items) (λ _. ⊥)
   answered_as rows look found = record { goes = look.goes; same = look.same; err = λ honest. tt; found = found; ours = λ clean. tt; current = tt; told = λ clean. tt }
 
   -- one that was refused, though it fits
   pub refused_as
-      : (T : Type 0) {U : Type 0} {P : Database → U → Type 0} {N : Database → Type 0} (e : Fault) → OnlyLooks g a b {T = T} {E = Fault} (Err e) → Blames g {T = T} a b (Err e) (IsUnfit (state g a) sql [])
-      → (IsHonest g a → IsWhole (state g a) sql) → Opens g a b {T = U} (Err (Failed e)) P N
+      : (T : Type 0) {U : Type 0} {P : Database → U → Type 0} {N : Database → Type 0} (e : Fault) → OnlyLooks g a b {T = T} {E = Fault} (Err e) → StoreFaultHasCause g {T = T} a b (Err e) (IsUnfit (state g a) sql [])
+      → (IsHonest g a → IsWhole (state g a) sql) → JudgesTables g a b {T = U} (Err (Failed e)) P N
   refused_as T fault.Memory look blamed whole = record { goes = look.goes; same = λ clean. tt; err = look.err; found = λ clean. tt; ours = λ clean. tt; current = tt; told = λ clean. tt }
   refused_as T fault.Store look blamed whole = record {
     goes = look.goes;

@@ -12,12 +12,12 @@ use Rattle.dh_records.specs.Codings as coding
 use Rattle.dh_records.specs.Constraints.{InOrder, KeepsConstraints}
 use Rattle.dh_records.specs.Lists.{Lists, base_of}
 use Rattle.dh_records.specs.declared.records.PassRow.{PassRow}
-use Rattle.dh_schema.specs.Tables.{Holds, lists_of}
+use Rattle.dh_schema.specs.Tables.{HoldsTables, lists_of}
 use Rattle.dh_migrating.proofs.StepLemmas.{carried_as, carried_on}
-use Rattle.dh_migrating.specs.Converting.{Carries, IsConvertible, IsConverted}
+use Rattle.dh_migrating.specs.Converting.{CarriesTo, IsConvertible, IsConverted}
 use Rattle.dh_migrating.specs.OldPasses.{IsOldPass, old_lists_of, old_passes, without_end}
 use Rattle.dh_migrating.specs.declared.old_pass.OldPassRow.{OldPassRow}
-use Rattle.dh_opening.specs.Opening.{AreKeptIn, IsNumbered, IsOurs, MayDerive, StandFor, Opens}
+use Rattle.dh_opening.specs.Opening.{AreKeptIn, IsNumbered, IsOurs, MayDerive, StandFor, JudgesTables}
 use Rattle.dh_opening.specs.Filling.{IsFilled}
 use Rattle.dh_opening.specs.Migrating.{AreOldIn, IsMigrated, IsOld, IsShown}
 use Rattle.dh_opening.proofs.FillLemmas.{old_brought}
@@ -72,17 +72,17 @@ module _ (db : Database) (rows : List OldPassRow) (l : Lists) (pass : StandFor o
   )
 
 -- what converting and adding make of a database in turn
-abbrev pub Becomes : List PassRow → Database → Database → Type 0
-Becomes rows before after = (between : Database) × IsConverted rows before between × IsFilled between after
+abbrev pub BecomesMigrated : List PassRow → Database → Database → Type 0
+BecomesMigrated rows before after = (between : Database) × IsConverted rows before between × IsFilled between after
 
-pub migrated : (before after : Database) → IsOld before → Becomes (old_lists_of before).passes before after → IsMigrated before after
+pub migrated : (before after : Database) → IsOld before → BecomesMigrated (old_lists_of before).passes before after → IsMigrated before after
 migrated before after old it = inr (old, old_brought before it.0 old it.1 after it.2)
 
 -- ---- making it so
 
-module _ {S : Type 0} {g : Ghosts S} {a b : Held S} {T : Type 0} {P : Database → T → Type 0} {N : Database → Type 0} (x : T) (first : Opens g a b (Ok x) P N) where
+module _ {S : Type 0} {g : Ghosts S} {a b : Held S} {T : Type 0} {P : Database → T → Type 0} {N : Database → Type 0} (x : T) (first : JudgesTables g a b (Ok x) P N) where
   -- a look carries what it finds
-  carried_look : Carries g a b (Ok tt) (λ db. db ≡ (state g a).now)
+  carried_look : CarriesTo g a b (Ok tt) (λ db. db ≡ (state g a).now)
   carried_look = record { goes = goes_anywhere first.goes; made = λ honest clean. let same = first.same clean in ((clean, same.is_open), same.mode, same.now_is) }
 
   module _ (passes : List PassRow) (told : P (state g a).now x → IsDatabase (state g a).now × (IsNumbered (state g a).now 1 → IsOld (state g a).now × (passes ≡ (old_lists_of (state g a).now).passes))) (number : IsHonest g a → IsNumbered (state g a).now 1) where
@@ -95,19 +95,19 @@ module _ {S : Type 0} {g : Ghosts S} {a b : Held S} {T : Type 0} {P : Database �
     pub convertible_then : IsHonest g b → IsConvertible (state g b).now
     convertible_then honest = let it = found_now honest.0 in subst IsConvertible (sym (first.same honest.0).now_is) (convertible (state g a).now it.0 it.1.0)
 
-    pub migrated_then : {c : Held S} {r : Result (Unit {0}) Fault} (rows : List PassRow) → rows ≡ passes → Carries g b c r (Becomes rows (state g b).now) → Carries g a c r (IsMigrated (state g a).now)
+    pub migrated_then : {c : Held S} {r : Result (Unit {0}) Fault} (rows : List PassRow) → rows ≡ passes → CarriesTo g b c r (BecomesMigrated rows (state g b).now) → CarriesTo g a c r (IsMigrated (state g a).now)
     migrated_then rows is it =
         carried_on carried_look
         (carried_as
         (λ honest db became.
         let old = (found_now honest.0).1 in
         migrated (state g a).now db old.0
-        (subst (λ (xs : List PassRow). Becomes xs (state g a).now db) (is ∙ old.1) (subst (λ (was : Database). Becomes rows was db) (first.same honest.0).now_is became)))
+        (subst (λ (xs : List PassRow). BecomesMigrated xs (state g a).now db) (is ∙ old.1) (subst (λ (was : Database). BecomesMigrated rows was db) (first.same honest.0).now_is became)))
         it)
 
 -- ---- what migrated tables are
 
-pub migrated_holds : (before after : Database) → IsMigrated before after → Holds after × KeepsConstraints (lists_of after)
+pub migrated_holds : (before after : Database) → IsMigrated before after → HoldsTables after × KeepsConstraints (lists_of after)
 migrated_holds before after (inl ours) = (ours.1.holds, ours.1.keeps)
 migrated_holds before after (inr old) = (old.1.holds, old.1.keeps)
 

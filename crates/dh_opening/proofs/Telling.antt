@@ -5,12 +5,12 @@ use Rattle.sqlite_schema.specs.declared.schema.Table.{Table}
 use Rattle.sqlite.specs.State.{State}
 use Rattle.dh_rows.specs.Keyed.{Coding}
 use Rattle.dh_rows.specs.Shapes.{StandsAlone}
-use Rattle.dh_rows.specs.Whole.{Spells}
-use Rattle.dh_rows.proofs.Whole.{AreTextsOf, IsCodingOf, Asks, asks_ids, asks_all, spelled, spells}
-use Rattle.dh_opening.specs.Opening.{Answers, AreLaid, AreTold, IsWhole, StandFor}
+use Rattle.dh_rows.specs.Whole.{SpellsRecords}
+use Rattle.dh_rows.proofs.Whole.{AreTextsOf, IsCodingOf, SuitsSelect, asks_ids, asks_all, spelled, spells}
+use Rattle.dh_opening.specs.Opening.{AnswersQuery, AreLaid, AreTold, IsWhole, StandFor}
 
 -- a query that only a limit on steps refuses is refused by none
-as_whole : (s : State) (text : List ℕ) → s.step_limit ≡ None → Asks s text → IsWhole s text
+as_whole : (s : State) (text : List ℕ) → s.step_limit ≡ None → SuitsSelect s text → IsWhole s text
 as_whole s text unlimited it = record { look = it.look; fits = λ unfit. never s.step_limit unlimited (it.fits unfit) }
   where
     never : (o : Option ℕ) → o ≡ None → IsSome o → ⊥
@@ -27,7 +27,7 @@ module _ {t : Table} {ids rows order : List ℕ} (reads : AreTextsOf t ids rows 
   pub whole_rows : IsWhole s rows
   whole_rows = as_whole s rows laid.unlimited (asks_all reads s stands.stands)
 
-  module _ {X : Type 0} {c : Coding X} (typed : X → Type 0) (suits : IsCodingOf t c order) (first second : List Row) (first_are : Answers s.now ids first) (second_are : Answers s.now rows second) where
+  module _ {X : Type 0} {c : Coding X} (typed : X → Type 0) (suits : IsCodingOf t c order) (first second : List Row) (first_are : AnswersQuery s.now ids first) (second_are : AnswersQuery s.now rows second) where
     -- what is told is what it has
     pub stand_for : (xs : List X) → AreTold c typed first second xs → StandFor c typed t.name s.now xs
     stand_for xs told =
@@ -36,7 +36,7 @@ module _ {t : Table} {ids rows order : List ℕ} (reads : AreTextsOf t ids rows 
 
     -- what it has is told
     pub told_of : (xs : List X) → StandFor c typed t.name s.now xs → AreTold c typed first second xs
-    told_of xs it = record { spells = subst (Spells c first second) it.records (spells reads s stands.stands suits first second first_are second_are it.rows); typed = it.typed }
+    told_of xs it = record { spells = subst (SpellsRecords c first second) it.records (spells reads s stands.stands suits first second first_are second_are it.rows); typed = it.typed }
 
     pub stand_for_none : ((xs : List X) → ¬ AreTold c typed first second xs) → (xs : List X) → ¬ StandFor c typed t.name s.now xs
     stand_for_none none xs it = none xs (told_of xs it)

@@ -20,7 +20,7 @@ use Rattle.dh_rows.specs.Whole.{AreRowids}
 use Rattle.dh_schema.specs.Tables.{page_table}
 use Rattle.dh_opening.proofs.Telling.{stand_for, told_of}
 use Rattle.dh_opening.specs.declared.thin_pages.ThinPages.{ThinPages}
-use Rattle.dh_opening.specs.Opening.{Answers, AreKept, AreLaid, IsKeptAs}
+use Rattle.dh_opening.specs.Opening.{AnswersQuery, AreKept, AreLaid, IsKeptAs}
 use Rattle.dh_opening.specs.Readings.{page_ids, page_reads, page_rows, page_suits}
 use Rattle.dh_opening.specs.Rows.{part}
 use Rattle.dh_opening.specs.ThinPages.{AreFitPages, AreThinIn, FindsNext, HasFound, HasPages, IsFit, IsNewest, IsNext, KeepsFit, TookPages, thin, thinned, with_bodies}
@@ -224,7 +224,7 @@ module _ {db : Database} {records : Records} (it : AreThinIn db records) where
 
 -- ---- from what two queries of the table answer
 
-module _ (s : State) (laid : AreLaid (page_table ∷ []) s) (ids rows : List Row) (ids_are : Answers s.now page_ids ids) (rows_are : Answers s.now page_rows rows) where
+module _ (s : State) (laid : AreLaid (page_table ∷ []) s) (ids rows : List Row) (ids_are : AnswersQuery s.now page_ids ids) (rows_are : AnswersQuery s.now page_rows rows) where
   pub pages_found : AreRowids ids → (all : List PageRow) → AreFitPages rows all → HasPages s.now all
   pages_found rise all it = record {
     stand = stand_for page_reads s laid IsPage page_suits ids rows ids_are rows_are all (record { spells = record { ids_are = rise; rows_are = it.kept.are; rise = it.kept.rise }; typed = it.kept.typed });

@@ -4,11 +4,11 @@ use Rattle.sqlite_trees.specs.declared.store.Store.{Ghosts}
 use Rattle.sqlite.specs.Effect.{Database}
 use Rattle.sqlite.specs.Held.{Held, state}
 use Rattle.sqlite.specs.State.{HasCleanDisk}
-use Rattle.dh_rows.specs.Calls.{IsBlamed, IsHonest, Lasts, LeavesNoMore, LeavesTrees}
+use Rattle.dh_rows.specs.Calls.{IsBlamed, IsHonest, KeepsFaults, LeavesNoMore, LeavesTrees}
 use Rattle.dh_records.specs.Constraints.{KeepsConstraints}
 use Rattle.dh_records.specs.Lists.{Lists, base_of}
 use Rattle.dh_schema.specs.Making.{CanAdd, IsAdded, added_tables}
-use Rattle.dh_schema.specs.Tables.{Holds, lists_of}
+use Rattle.dh_schema.specs.Tables.{HoldsTables, lists_of}
 use Rattle.dh_opening.specs.declared.fault.TablesFault.{TablesFault}
 use Rattle.dh_opening.specs.declared.fault.TablesFault.TheVariants.{NotOurs, OldSchema, Failed}
 use Rattle.dh_opening.specs.Opening.{HasDerived, IsNumbered, IsOurs, OnFailed, OnNotOurs, OnOldSchema}
@@ -26,7 +26,7 @@ KeepsDerived before lists =
 
 -- Our tables with these records, which keep the constraints, beside the derived ones that were there.
 pub record IsBrought (lists : Lists) (before after : Database) : Type 0 where
-  pub holds : Holds after
+  pub holds : HoldsTables after
   pub keeps : KeepsConstraints (lists_of after)
   pub base : base_of (lists_of after) ≡ lists
   pub derived : KeepsDerived before (lists_of after)
@@ -69,8 +69,8 @@ module _ {S : Type 0} (g : Ghosts S) where
 
     -- What changes leave that bring a database to another, in a transaction of their own. Where the tables are told not
     -- to be ours, N; and F, where what changes them may be refused at any store.
-    pub record Brings (result : Result (Unit {0}) TablesFault) (R : Database → Database → Type 0) (N F : Type 0) : Type 0 where
-      pub lasts : Lasts g old new
+    pub record BringsBy (result : Result (Unit {0}) TablesFault) (R : Database → Database → Type 0) (N F : Type 0) : Type 0 where
+      pub lasts : KeepsFaults g old new
       pub done
           : IsHonest g old → HasCleanDisk (state g new)
           → OnOk result (IsAtRest new × R (state g old).now (state g new).now)
@@ -85,7 +85,7 @@ module _ {S : Type 0} (g : Ghosts S) where
     -- What opening tables leaves, those of derived records being added where they are missing.
     pub record OpensTables (result : Result (Unit {0}) TablesFault) : Type 0 where
       pub brings
-          : Brings result IsOpened (¬ IsOurs (state g old).now × ¬ IsNumbered (state g old).now 1)
+          : BringsBy result IsOpened (¬ IsOurs (state g old).now × ¬ IsNumbered (state g old).now 1)
           (LacksDerived (state g old).now)
       pub numbered : HasCleanDisk (state g new) → OnOldSchema result (IsNumbered (state g old).now 1)
       -- where nothing is added a crash leaves nothing more

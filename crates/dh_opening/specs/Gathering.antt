@@ -7,7 +7,7 @@ use Rattle.sqlite.specs.Held.{Held, state}
 use Rattle.sqlite.specs.State.{HasCleanDisk}
 use Rattle.dh_rows.specs.Calls.{IsHonest}
 use Rattle.dh_opening.specs.declared.fault.TablesFault.{TablesFault}
-use Rattle.dh_opening.specs.Opening.{Answers, IsWhole, Opens}
+use Rattle.dh_opening.specs.Opening.{AnswersQuery, IsWhole, JudgesTables}
 
 module _ {S : Type 0} (g : Ghosts S) (sql : List ℕ) where
   -- the connection runs the query, which has given these rows
@@ -25,5 +25,6 @@ module _ {S : Type 0} (g : Ghosts S) (sql : List ℕ) where
     pub record TakesNext (result : Result Bool TablesFault) : Type 0 where
       pub opens
           : (given : List Row) → HasTaken old given
-          → Opens g old new result (λ db more. more ≡ false → Answers db sql given) (λ _. ⊥)
+          → JudgesTables g old new result (λ db more. more ≡ false → AnswersQuery db sql given)
+          (λ _. ⊥)
       pub on : (given : List Row) → HasTaken old given → Took before given → IfOk result (TakesOn given)

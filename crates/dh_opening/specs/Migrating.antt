@@ -13,7 +13,7 @@ use Rattle.dh_migrating.specs.Converting.{CanConvert}
 use Rattle.dh_migrating.specs.OldPasses.{old_pass_table, old_passes, old_lists_of, IsOldPass}
 use Rattle.dh_opening.specs.declared.fault.TablesFault.{TablesFault}
 use Rattle.dh_opening.specs.Opening.{AreKeptIn, IsNumbered, IsOurs, MayDerive, OnOldSchema, StandFor, other_tables}
-use Rattle.dh_opening.specs.Filling.{Brings, IsBrought, IsOpened, KeepsDerived, LacksDerived, LeavesBrought}
+use Rattle.dh_opening.specs.Filling.{BringsBy, IsBrought, IsOpened, KeepsDerived, LacksDerived, LeavesBrought}
 
 -- The table of passes as schema 1 made it and our other tables stand alone, and the first can be dropped.
 pub record AreOldIn (schema : Schema) : Type 0 where
@@ -51,8 +51,8 @@ module _ {S : Type 0} (g : Ghosts S) (old new : Held S) where
   LeavesMigrated = LeavesBrought g old new IsMigrated
 
   -- What migrating leaves.
-  pub record Migrates (result : Result (Unit {0}) TablesFault) : Type 0 where
+  pub record MigratesTables (result : Result (Unit {0}) TablesFault) : Type 0 where
     pub brings
-        : Brings g old new result IsMigrated (¬ IsOurs (state g old).now × ¬ IsOld (state g old).now)
+        : BringsBy g old new result IsMigrated (¬ IsOurs (state g old).now × ¬ IsOld (state g old).now)
         (IsBehind (state g old).now)
     pub current : OnOldSchema result ⊥

@@ -9,11 +9,11 @@ use Rattle.sqlite.specs.Effect.{Database, IsDatabase, Reads}
 use Rattle.sqlite.specs.Held.{Held, state}
 use Rattle.sqlite.specs.Listing.{understood}
 use Rattle.sqlite.specs.State.{State, HasCleanDisk}
-use Rattle.dh_rows.specs.Calls.{Goes, Stays, Refuses, IsBlamed, IsHonest, IsPlainLook, IsUnfit, command_of, whole}
+use Rattle.dh_rows.specs.Calls.{MakesNoCommit, LeavesAllAsItWas, RefusalUndoes, IsBlamed, IsHonest, IsPlainLook, IsUnfit, command_of, whole}
 use Rattle.dh_rows.specs.Keyed.{Coding, IsTableOf, by_key}
 use Rattle.dh_rows.specs.Places.{records_of, rows_of}
 use Rattle.dh_rows.specs.Shapes.{StandsAlone}
-use Rattle.dh_rows.specs.Whole.{Spells}
+use Rattle.dh_rows.specs.Whole.{SpellsRecords}
 use Rattle.dh_records.specs.Codings as coding
 use Rattle.dh_records.specs.Constraints.{KeepsConstraints}
 use Rattle.dh_records.specs.Lists.{Lists, base_of}
@@ -41,7 +41,7 @@ module _ {X : Type 0} (c : Coding X) (IsTyped : X → Type 0) where
 
   -- Two queries of a table tell these records, which can be read again.
   pub record AreTold (ids rows : List Row) (xs : List X) : Type 0 where
-    pub spells : Spells c ids rows xs
+    pub spells : SpellsRecords c ids rows xs
     pub typed : AllByRecursion IsTyped xs
 
   -- The rows of the table of this name stand for these records.
@@ -99,9 +99,9 @@ pub record IsOurs (db : Database) : Type 0 where
   pub derived : MayDerive db
 
 -- What is known of a database whose number is that of this program, or else of schema 1.
-abbrev pub IsKnown : Bool → Database → Type 0
-IsKnown true db = IsOurs db
-IsKnown false db = IsNumbered db 1
+abbrev pub IsOursOrOld : Bool → Database → Type 0
+IsOursOrOld true db = IsOurs db
+IsOursOrOld false db = IsNumbered db 1
 
 -- Tables stand alone in a sound database, and no statement's steps are limited.
 pub record AreLaid (tables : List Table) (s : State) : Type 0 where
@@ -110,8 +110,8 @@ pub record AreLaid (tables : List Table) (s : State) : Type 0 where
   pub unlimited : s.step_limit ≡ None
 
 -- the rows are what the query answers
-abbrev pub Answers : Database → List ℕ → List Row → Type 0
-Answers db sql rows = Reads (command_of (understood db.schema sql)) db [] rows
+abbrev pub AnswersQuery : Database → List ℕ → List Row → Type 0
+AnswersQuery db sql rows = Reads (command_of (understood db.schema sql)) db [] rows
 
 -- a query of all rows of a table, which is refused for no reason of its own
 pub record IsWhole (s : State) (sql : List ℕ) : Type 0 where
@@ -137,11 +137,11 @@ OnFailed _ P = ⊤
 
 module _ {S : Type 0} (g : Ghosts S) (old new : Held S) {T : Type 0} (result : Result T TablesFault) where
   -- What a look at the database leaves: an answer has P, and one that is not ours has N.
-  pub record Opens (P : Database → T → Type 0) (N : Database → Type 0) : Type 0 where
+  pub record JudgesTables (P : Database → T → Type 0) (N : Database → Type 0) : Type 0 where
     -- nothing is committed, and a crash leaves nothing more
-    pub goes : Goes g old new
-    pub same : Stays g whole old new result
-    pub err : Refuses g whole old new result
+    pub goes : MakesNoCommit g old new
+    pub same : LeavesAllAsItWas g whole old new result
+    pub err : RefusalUndoes g whole old new result
     pub found : HasCleanDisk (state g new) → IfOk result (λ x. IsHonest g old × P (state g old).now x)
     pub ours : HasCleanDisk (state g new) → OnNotOurs result (N (state g old).now)
     -- it does not say that the tables are of schema 1

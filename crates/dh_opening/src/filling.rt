@@ -3,11 +3,11 @@
 ghost use Rattle.std.specs.Prelude.{◌≡◌, OnErr, OnOk};
 ghost use Rattle.sqlite.specs.Held.{state};
 ghost use Rattle.sqlite.specs.State.{HasCleanDisk};
-ghost use Rattle.dh_rows.specs.Calls.{IsHonest, Lasts};
+ghost use Rattle.dh_rows.specs.Calls.{IsHonest, KeepsFaults};
 ghost use Rattle.dh_schema.specs.Making.{CanAdd};
-ghost use Rattle.dh_migrating.specs.Converting.{Carries};
+ghost use Rattle.dh_migrating.specs.Converting.{CarriesTo};
 ghost use Rattle.dh_opening.specs.Opening.{IsOurs, OnNotOurs, OnOldSchema};
-ghost use Rattle.dh_opening.specs.Filling.{Brings, IsAtRest, IsFilled, IsOpened, LacksDerived, LeavesOpened};
+ghost use Rattle.dh_opening.specs.Filling.{BringsBy, IsAtRest, IsFilled, IsOpened, LacksDerived, LeavesOpened};
 
 use crate::fault::TablesFault;
 use dh_lookup::Fault;
@@ -17,7 +17,7 @@ use sqlite::{Alter, Connection};
 
 /// Adds the tables of derived records where they are missing, with no record in them. A caller puts it into a transaction.
 pub(crate) fn fill<S: Alter>(conn: &mut Connection<S>) -> Result<(), Fault>
-    ensures carries { Carries S.Store conn.old conn.new result
+    ensures carries { CarriesTo S.Store conn.old conn.new result
         (IsFilled (state S.Store conn.old).now) }
 {
     if can_add(conn.schema()) {
@@ -30,7 +30,7 @@ pub(crate) fn fill<S: Alter>(conn: &mut Connection<S>) -> Result<(), Fault>
 /// The same in a transaction of its own, of tables that were found ours. A connection that is refused may still be in it.
 fn fill_at_once<S: Alter>(conn: &mut Connection<S>) -> Result<(), TablesFault>
     requires ours { IsHonest S.Store conn.old → IsOurs (state S.Store conn.old).now }
-    ensures lasts { Lasts S.Store conn.old conn.new }
+    ensures lasts { KeepsFaults S.Store conn.old conn.new }
     ensures done { IsHonest S.Store conn.old → HasCleanDisk (state S.Store conn.new)
         → OnOk result (IsAtRest S.Store conn.new
         × IsOpened (state S.Store conn.old).now (state S.Store conn.new).now) }
@@ -51,7 +51,7 @@ fn fill_at_once<S: Alter>(conn: &mut Connection<S>) -> Result<(), TablesFault>
 pub(crate) fn complete<S: Alter>(conn: &mut Connection<S>) -> Result<(), TablesFault>
     requires rests { HasCleanDisk (state S.Store conn.old) → IsAtRest S.Store conn.old }
     requires ours { IsHonest S.Store conn.old → IsOurs (state S.Store conn.old).now }
-    ensures brings { Brings S.Store conn.old conn.new result IsOpened ⊥
+    ensures brings { BringsBy S.Store conn.old conn.new result IsOpened ⊥
         (LacksDerived (state S.Store conn.old).now) }
     ensures current { OnOldSchema result ⊥ }
     ensures none { IsHonest S.Store conn.old → ¬ CanAdd (state S.Store conn.old).now.schema

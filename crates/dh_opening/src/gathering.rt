@@ -5,7 +5,7 @@ ghost use Rattle.sqlite_value.specs.Order.{Row as Values};
 ghost use Rattle.sqlite.specs.Held.{state};
 ghost use Rattle.dh_rows.specs.Calls.{IsHonest};
 ghost use Rattle.dh_opening.specs.Gathering.{TakesNext};
-ghost use Rattle.dh_opening.specs.Opening.{Answers, IsWhole, Opens};
+ghost use Rattle.dh_opening.specs.Opening.{AnswersQuery, IsWhole, JudgesTables};
 
 use crate::fault::TablesFault;
 use dh_lookup::Fault;
@@ -55,8 +55,8 @@ pub fn gather<S: Alter, G: Taker>(
 ) -> Result<(), TablesFault>
     requires whole { IsHonest S.Store conn.old → IsWhole (state S.Store conn.old) sql.now }
     requires start { G.Taker.took taker.old [] }
-    ensures opens { Opens S.Store conn.old conn.new result
-        (λ db _. (rows : List Values) × Answers db sql.now rows × G.Taker.took taker.new rows)
+    ensures opens { JudgesTables S.Store conn.old conn.new result
+        (λ db _. (rows : List Values) × AnswersQuery db sql.now rows × G.Taker.took taker.new rows)
         (λ _. ⊥) }
     ensures took { OnOk result ((rows : List Values) × G.Taker.took taker.new rows) }
 {

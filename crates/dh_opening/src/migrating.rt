@@ -4,19 +4,19 @@ ghost use Rattle.std.specs.Prelude.{◌≡◌, ◌≢◌, ◌⊎◌, false, List
 ghost use Rattle.sqlite.specs.Effect.{Database, IsDatabase};
 ghost use Rattle.sqlite.specs.Held.{state};
 ghost use Rattle.sqlite.specs.State.{HasCleanDisk};
-ghost use Rattle.dh_rows.specs.Calls.{GoesWithin, IsBlamed, IsHonest, Lasts, LeavesCommitted, committed, seen};
+ghost use Rattle.dh_rows.specs.Calls.{MakesNoCommitInside, IsBlamed, IsHonest, KeepsFaults, LeavesCommitted, committed, seen};
 ghost use Rattle.dh_records.specs.Codings.{passes};
 ghost use Rattle.dh_records.specs.Constraints.{AreInOrder, InOrder, KeepsConstraints};
 ghost use Rattle.dh_schema.specs.Making.{CommitsNothing};
 ghost use Rattle.dh_schema.specs.Tables.{lists_of};
 ghost use Rattle.dh_constraints.specs.Lists.{lists_in};
-ghost use Rattle.dh_migrating.specs.Converting.{Carries, IsConverted, IsConvertible};
+ghost use Rattle.dh_migrating.specs.Converting.{CarriesTo, IsConverted, IsConvertible};
 ghost use Rattle.dh_migrating.specs.OldPasses.{old_lists_of};
-ghost use Rattle.dh_opening.specs.Opening.{IsNumbered, IsOurs, OnFailed, OnNotOurs, OnOldSchema, Opens};
+ghost use Rattle.dh_opening.specs.Opening.{IsNumbered, IsOurs, OnFailed, OnNotOurs, OnOldSchema, JudgesTables};
 ghost use Rattle.dh_opening.specs.Filling.{IsAtRest, IsFilled};
 ghost use Rattle.dh_records.specs.declared.records.PageRow.{PageRow};
 ghost use Rattle.dh_opening.specs.ThinPages.{with_bodies};
-ghost use Rattle.dh_opening.specs.Migrating.{IsBehind, IsMigrated, IsOld, IsShown, LeavesMigrated, Migrates};
+ghost use Rattle.dh_opening.specs.Migrating.{IsBehind, IsMigrated, IsOld, IsShown, LeavesMigrated, MigratesTables};
 
 use crate::fault::TablesFault;
 use crate::filling::{complete, fill};
@@ -35,7 +35,7 @@ use std::alloc::Global;
 /// The records of tables of schema 1, each pass without an end, where they are ours.
 fn old_records<S: Alter>(conn: &mut Connection<S>, alloc: Global) -> Result<Records, TablesFault>
     requires unlimited { conn.old.step_limit ≡ None }
-    ensures opens { Opens S.Store conn.old conn.new result
+    ensures opens { JudgesTables S.Store conn.old conn.new result
         (λ db records. IsDatabase db × (IsNumbered db 1
         → IsOld db × ((pages : List PageRow) × (with_bodies pages (lists_in records) ≡ old_lists_of db))))
         (λ db. ¬ IsOld db) }
@@ -54,7 +54,7 @@ fn old_records<S: Alter>(conn: &mut Connection<S>, alloc: Global) -> Result<Reco
 fn convert_and_fill<S: Alter>(conn: &mut Connection<S>, rows: &[PassRow]) -> Result<(), Fault>
     requires order { InOrder passes.key rows.now }
     requires old { IsHonest S.Store conn.old → IsConvertible (state S.Store conn.old).now }
-    ensures carries { Carries S.Store conn.old conn.new result (λ after. (between : Database)
+    ensures carries { CarriesTo S.Store conn.old conn.new result (λ after. (between : Database)
         × IsConverted rows.now (state S.Store conn.old).now between × IsFilled between after) }
 {
     convert(conn, rows)?;
@@ -65,7 +65,7 @@ fn convert_and_fill<S: Alter>(conn: &mut Connection<S>, rows: &[PassRow]) -> Res
 fn convert_tables<S: Alter>(conn: &mut Connection<S>, alloc: Global) -> Result<(), TablesFault>
     requires unlimited { conn.old.step_limit ≡ None }
     requires number { IsHonest S.Store conn.old → IsNumbered (state S.Store conn.old).now 1 }
-    ensures goes { GoesWithin S.Store conn.old conn.new }
+    ensures goes { MakesNoCommitInside S.Store conn.old conn.new }
     ensures made { IsHonest S.Store conn.old → HasCleanDisk (state S.Store conn.new)
         → OnOk result (IsHonest S.Store conn.new
         × (conn.new.in_transaction ≡ conn.old.in_transaction)
@@ -88,7 +88,7 @@ fn migrate_tables<S: Alter>(conn: &mut Connection<S>, alloc: Global) -> Result<(
     requires outside { HasCleanDisk (state S.Store conn.old) → conn.old.in_transaction ≡ false }
     requires unlimited { conn.old.step_limit ≡ None }
     requires number { IsHonest S.Store conn.old → IsNumbered (state S.Store conn.old).now 1 }
-    ensures lasts { Lasts S.Store conn.old conn.new }
+    ensures lasts { KeepsFaults S.Store conn.old conn.new }
     ensures done { IsHonest S.Store conn.old → HasCleanDisk (state S.Store conn.new)
         → OnOk result (IsAtRest S.Store conn.new
         × IsMigrated (state S.Store conn.old).now (state S.Store conn.new).now) }
@@ -116,7 +116,7 @@ fn update<S: Alter>(conn: &mut Connection<S>, alloc: Global) -> Result<(), Table
     requires unlimited { conn.old.step_limit ≡ None }
     requires settled { IsTrue (state S.Store conn.old).is_open
         → (state S.Store conn.old).now ≡ (state S.Store conn.old).committed }
-    ensures migrates { Migrates S.Store conn.old conn.new result }
+    ensures migrates { MigratesTables S.Store conn.old conn.new result }
 {
     if is_current(conn, alloc)? {
         complete(conn)

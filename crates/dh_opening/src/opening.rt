@@ -8,9 +8,9 @@ ghost use Rattle.dh_records.specs.Codings as coding;
 ghost use Rattle.dh_records.specs.Constraints.{AreInOrder, InOrder, KeepsConstraints};
 ghost use Rattle.dh_records.specs.Lists.{Lists, base_of};
 ghost use Rattle.dh_schema.specs.Making.{CanAdd, CanMake, CommitsNothing, IsMade, no_lists};
-ghost use Rattle.dh_schema.specs.Tables.{Holds, lists_of};
+ghost use Rattle.dh_schema.specs.Tables.{HoldsTables, lists_of};
 ghost use Rattle.dh_constraints.specs.Lists.{lists_in};
-ghost use Rattle.dh_opening.specs.Opening.{AreKeptIn, AreLaid, IsKnown, IsNumbered, IsOurs, MayDerive, Opens, other_tables};
+ghost use Rattle.dh_opening.specs.Opening.{AreKeptIn, AreLaid, IsOursOrOld, IsNumbered, IsOurs, MayDerive, JudgesTables, other_tables};
 ghost use Rattle.dh_opening.specs.ThinPages.{AreKeptWhole};
 ghost use Rattle.dh_opening.specs.Filling.{AddsNothing, IsOpened, KeepsDerived, LacksDerived, LeavesOpened, OpensTables};
 
@@ -35,7 +35,7 @@ pub(crate) fn kept_records<S: Alter>(
 ) -> Result<Records, TablesFault>
     requires laid { IsHonest S.Store conn.old → AreLaid other_tables (state S.Store conn.old) }
     requires order { InOrder coding.passes.key passes.items }
-    ensures opens { Opens S.Store conn.old conn.new result
+    ensures opens { JudgesTables S.Store conn.old conn.new result
         (λ db records. AreKeptWhole db records)
         (λ db. (l : Lists) → l.passes ≡ passes.items → ¬ AreKeptIn db l) }
     ensures passes { IfOk result (λ records. (lists_in records).passes ≡ passes.items) }
@@ -55,7 +55,7 @@ pub(crate) fn check_derived<S: Alter>(
 ) -> Result<(), TablesFault>
     requires unlimited { conn.old.step_limit ≡ None }
     requires live { HasCleanDisk (state S.Store conn.old) → IsHonest S.Store conn.old }
-    ensures opens { Opens S.Store conn.old conn.new result
+    ensures opens { JudgesTables S.Store conn.old conn.new result
         (λ db _. MayDerive db) (λ db. ¬ MayDerive db) }
 {
     let schema = conn.schema();
@@ -72,7 +72,7 @@ pub(crate) fn check_derived<S: Alter>(
 /// Whether tables of schema 2 are ours.
 fn check_tables<S: Alter>(conn: &mut Connection<S>, alloc: Global) -> Result<(), TablesFault>
     requires unlimited { conn.old.step_limit ≡ None }
-    ensures opens { Opens S.Store conn.old conn.new result
+    ensures opens { JudgesTables S.Store conn.old conn.new result
         (λ db _. IsNumbered db 2 → IsOurs db) (λ db. ¬ IsOurs db) }
 {
     if !are_ours(conn.schema()) {
@@ -91,8 +91,8 @@ pub(crate) fn is_current<S: Alter>(
     alloc: Global,
 ) -> Result<bool, TablesFault>
     requires unlimited { conn.old.step_limit ≡ None }
-    ensures opens { Opens S.Store conn.old conn.new result
-        (λ db is_current. IsKnown is_current db) (λ db. ¬ IsOurs db × ¬ IsNumbered db 1) }
+    ensures opens { JudgesTables S.Store conn.old conn.new result
+        (λ db is_current. IsOursOrOld is_current db) (λ db. ¬ IsOurs db × ¬ IsNumbered db 1) }
 {
     match number_of(conn, alloc)? {
         1 => Ok(false),
@@ -147,7 +147,7 @@ pub(crate) fn show_settled<S: Alter>(conn: &Connection<S>)
 
 /// Tables that were found ours, or brought up: `open` and `migrate` end in it.
 pub(crate) fn finish<S: Alter>(conn: Connection<S>) -> Tables<S>
-    requires ours { AreOurs Holds (state S.Store conn) }
+    requires ours { AreOurs HoldsTables (state S.Store conn) }
     ensures { result ≡ conn }
 {
     Tables::over(conn)

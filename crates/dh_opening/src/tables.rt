@@ -10,7 +10,7 @@ ghost use Rattle.dh_constraints.specs.Lists.{lists_in};
 ghost use Rattle.std.specs.List.{AllByRecursion};
 ghost use Rattle.dh_schema.specs.Tables.{page_table};
 ghost use Rattle.dh_opening.specs.ThinPages.{AreThinIn, HasPages, HasThin, IsFit};
-ghost use Rattle.dh_opening.specs.Opening.{Answers, AreLaid, AreSpelled, AreTold, IsNumbered, IsWhole, Opens, StandFor, other_tables};
+ghost use Rattle.dh_opening.specs.Opening.{AnswersQuery, AreLaid, AreSpelled, AreTold, IsNumbered, IsWhole, JudgesTables, StandFor, other_tables};
 
 use crate::fault::TablesFault;
 use crate::gathering::gather;
@@ -27,8 +27,8 @@ use std::alloc::{AllocError, Global};
 /// All rows that a query answers.
 fn select<S: Alter>(conn: &mut Connection<S>, sql: &str) -> Result<Vec<Row>, TablesFault>
     requires whole { IsHonest S.Store conn.old → IsWhole (state S.Store conn.old) sql.now }
-    ensures opens { Opens S.Store conn.old conn.new result
-        (λ db rows. Answers db sql.now rows.items) (λ _. ⊥) }
+    ensures opens { JudgesTables S.Store conn.old conn.new result
+        (λ db rows. AnswersQuery db sql.now rows.items) (λ _. ⊥) }
 {
     match dh_rows::select(conn, sql, &[]) {
         Ok(rows) => Ok(rows),
@@ -61,7 +61,7 @@ pub fn read_table<S: Alter, R: Kept>(
 ) -> Result<Vec<R>, TablesFault>
     requires laid { IsHonest S.Store conn.old
         → AreLaid (R.Kept.table ∷ []) (state S.Store conn.old) }
-    ensures opens { Opens S.Store conn.old conn.new result
+    ensures opens { JudgesTables S.Store conn.old conn.new result
         (λ db v. StandFor R.Record.coding R.Record.typed R.Kept.table.name db v.items)
         (λ db. (xs : List R)
         → ¬ StandFor R.Record.coding R.Record.typed R.Kept.table.name db xs) }
@@ -82,7 +82,7 @@ pub fn read_two<S: Alter, A: Kept, B: Kept>(
 ) -> Result<(Vec<A>, Vec<B>), TablesFault>
     requires laid { IsHonest S.Store conn.old
         → AreLaid (A.Kept.table ∷ B.Kept.table ∷ []) (state S.Store conn.old) }
-    ensures opens { Opens S.Store conn.old conn.new result
+    ensures opens { JudgesTables S.Store conn.old conn.new result
         (λ db v. StandFor A.Record.coding A.Record.typed A.Kept.table.name db v.0.items
         × StandFor B.Record.coding B.Record.typed B.Kept.table.name db v.1.items)
         (λ db. (xs : List A) (ys : List B)
@@ -102,7 +102,7 @@ fn read_pages<S: Alter>(
     alloc: Global,
 ) -> Result<Vec<PageRow>, TablesFault>
     requires laid { IsHonest S.Store conn.old → AreLaid (page_table ∷ []) (state S.Store conn.old) }
-    ensures opens { Opens S.Store conn.old conn.new result
+    ensures opens { JudgesTables S.Store conn.old conn.new result
         (λ db v. HasThin db v.items) (λ db. (xs : List PageRow) → ¬ HasPages db xs) }
     ensures order { IfOk result (λ v. InOrder coding.pages.key v.items) }
 {
@@ -121,7 +121,7 @@ fn read_pages<S: Alter>(
 /// The number of the schema.
 pub fn number_of<S: Alter>(conn: &mut Connection<S>, alloc: Global) -> Result<u32, TablesFault>
     requires unlimited { conn.old.step_limit ≡ None }
-    ensures opens { Opens S.Store conn.old conn.new result
+    ensures opens { JudgesTables S.Store conn.old conn.new result
         IsNumbered (λ db. (number : ℕ) → ¬ IsNumbered db number) }
 {
     if !has_number(conn.schema()) {
@@ -142,7 +142,7 @@ pub fn all_records<S: Alter>(
 ) -> Result<Records, TablesFault>
     requires laid { IsHonest S.Store conn.old → AreLaid other_tables (state S.Store conn.old) }
     requires order { InOrder coding.passes.key passes.items }
-    ensures opens { Opens S.Store conn.old conn.new result
+    ensures opens { JudgesTables S.Store conn.old conn.new result
         (λ db records. AreThinIn db records)
         (λ db. (l : Lists) → AllByRecursion IsFit l.pages → ¬ AreSpelled db l) }
     ensures passes { IfOk result (λ records. (lists_in records).passes ≡ passes.items) }

@@ -9,9 +9,9 @@ use Rattle.dh_texts.specs.Bytes.{open_bracket, close_bracket}
 use Rattle.dh_paths.specs.Targets.{is_name_byte, is_address_byte, bracketed_len, name_len, is_port, host_named, host_of}
 use Rattle.dh_paths.specs.Forms.{IsPlainName, IsBracketed, IsNameAndPort, IsHostPart}
 use Rattle.dh_paths.proofs.HostLemmas.{host_of-some}
-use Rattle.dh_paths.proofs.PartLemmas.{first, second, Stops, prefix_len-seam, front_passes}
+use Rattle.dh_paths.proofs.PartLemmas.{first, second, StopsAtOnce, prefix_len-seam, front_passes}
 
-port_stops : (port : List ℕ) → is_port port ≡ true → Stops is_name_byte port
+port_stops : (port : List ℕ) → is_port port ≡ true → StopsAtOnce is_name_byte port
 port_stops [] h = tt
 port_stops (b ∷ digits) h =
     let begins : b ≡ 58 = (Decides-eqb b 58).0 (first _ _ h) in

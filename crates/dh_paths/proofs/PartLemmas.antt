@@ -11,11 +11,11 @@ first true b h = refl
 first false b h = h
 
 -- the text ends, or its first byte fails
-abbrev pub Stops : (ℕ → Bool) → List ℕ → Type 0
-Stops test [] = Unit {0}
-Stops test (b ∷ bs) = test b ≡ false
+abbrev pub StopsAtOnce : (ℕ → Bool) → List ℕ → Type 0
+StopsAtOnce test [] = Unit {0}
+StopsAtOnce test (b ∷ bs) = test b ≡ false
 
-pub prefix_len-seam : (test : ℕ → Bool) (front back : List ℕ) → list_all test front ≡ true → Stops test back → prefix_len test (front ++ back) ≡ length front
+pub prefix_len-seam : (test : ℕ → Bool) (front back : List ℕ) → list_all test front ≡ true → StopsAtOnce test back → prefix_len test (front ++ back) ≡ length front
 prefix_len-seam test [] [] all stops = refl
 prefix_len-seam test [] (b ∷ bs) all stops = rw stops refl
 prefix_len-seam test (b ∷ bs) back all stops =
@@ -30,10 +30,10 @@ front_passes test (b ∷ bs) =
       | false ↦ λ _. refl
     ] refl
 
-pub back_stops : (test : ℕ → Bool) (text : List ℕ) → Stops test (drop (prefix_len test text) text)
+pub back_stops : (test : ℕ → Bool) (text : List ℕ) → StopsAtOnce test (drop (prefix_len test text) text)
 back_stops test [] = tt
 back_stops test (b ∷ bs) =
-    elim (test b) as (λ v. test b ≡ v → Stops test (drop (cond v (1 + prefix_len test bs) 0) (b ∷ bs))) [
+    elim (test b) as (λ v. test b ≡ v → StopsAtOnce test (drop (cond v (1 + prefix_len test bs) 0) (b ∷ bs))) [
       | true ↦ λ here. let one : 1 + prefix_len test bs ≡ suc (prefix_len test bs) = omega arith in rw one (back_stops test bs)
       | false ↦ λ here. here
     ] refl

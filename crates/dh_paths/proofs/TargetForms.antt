@@ -13,7 +13,7 @@ use Rattle.dh_texts.specs.Texts.{first_byte}
 use Rattle.dh_paths.specs.Targets.{is_target_byte, is_question, query_of, path_of, target_at, after_scheme, authority_len, rooted, host_of, begins_with_host_part, absolute_of, target_of}
 use Rattle.dh_paths.specs.Forms.{query_text, IsPathAndQuery, IsOriginForm, IsScheme, IsAuthority, IsRootedOrEmpty, IsAbsoluteForm, IsTarget}
 use Rattle.dh_paths.specs.declared.target.Target.{Target}
-use Rattle.dh_paths.proofs.PartLemmas.{first, second, Stops, prefix_len-seam, front_passes, back_stops}
+use Rattle.dh_paths.proofs.PartLemmas.{first, second, StopsAtOnce, prefix_len-seam, front_passes, back_stops}
 
 not_false : (b : Bool) → not b ≡ false → b ≡ true
 not_false true h = refl
@@ -31,7 +31,7 @@ cut_path raw query plain =
     let len : prefix_len is_path_byte (raw ++ query_text query) ≡ length raw = prefix_len-seam is_path_byte raw (query_text query) plain (ends query) in
     ap (λ n. take n (raw ++ query_text query)) len ∙ take_at raw (query_text query) (length raw) refl
   where
-    ends : (q : Option (List ℕ)) → Stops is_path_byte (query_text q)
+    ends : (q : Option (List ℕ)) → StopsAtOnce is_path_byte (query_text q)
     ends None = tt
     ends (Some text) = refl
 
@@ -60,7 +60,7 @@ path_and_query text = (whole (drop (prefix_len is_path_byte text) text) refl (ba
     marked : (b : ℕ) → is_path_byte b ≡ false → b ≡ question
     marked b h = (Decides-eqb b question).0 (not_false (b == question) h)
 
-    whole : (rest : List ℕ) → drop (prefix_len is_path_byte text) text ≡ rest → Stops is_path_byte rest → text ≡ before_first is_question text ++ query_text (query_of text)
+    whole : (rest : List ℕ) → drop (prefix_len is_path_byte text) text ≡ rest → StopsAtOnce is_path_byte rest → text ≡ before_first is_question text ++ query_text (query_of text)
     whole [] cut stops = same None (sym (take-append-drop (prefix_len is_path_byte text) text) ∙ ap (λ ys. before_first is_question text ++ ys) cut)
     whole (b ∷ bs) cut stops =
         same (Some bs) (sym (take-append-drop (prefix_len is_path_byte text) text) ∙ ap (λ ys. before_first is_question text ++ ys) cut ∙ ap (λ x. before_first is_question text ++ x ∷ bs) (marked b stops))
@@ -108,7 +108,7 @@ rooted_plain : (raw : List ℕ) → list_all is_path_byte raw ≡ true → list_
 rooted_plain [] all = refl
 rooted_plain (b ∷ bs) all = elim (b == slash) as (λ v. list_all is_path_byte (cond v (b ∷ bs) (slash ∷ b ∷ bs)) ≡ true) [ true ↦ all | false ↦ all ]
 
-rooted_raw : (rest : List ℕ) → Stops is_host_byte rest → IsRootedOrEmpty (before_first is_question rest)
+rooted_raw : (rest : List ℕ) → StopsAtOnce is_host_byte rest → IsRootedOrEmpty (before_first is_question rest)
 rooted_raw [] stops = inl refl
 rooted_raw (b ∷ bs) stops =
     elim (b == slash) as (λ v. (b == slash) ≡ v → not (v || b == question) ≡ false → IsRootedOrEmpty (before_first is_question (b ∷ bs))) [
@@ -116,7 +116,7 @@ rooted_raw (b ∷ bs) stops =
       | false ↦ λ _ h. let marks : b ≡ 63 = (Decides-eqb b 63).0 (not_false (b == question) h) in inl (rw marks refl)
     ] refl stops
 
-host_ends : (raw : List ℕ) (query : Option (List ℕ)) → IsRootedOrEmpty raw → Stops is_host_byte (raw ++ query_text query)
+host_ends : (raw : List ℕ) (query : Option (List ℕ)) → IsRootedOrEmpty raw → StopsAtOnce is_host_byte (raw ++ query_text query)
 host_ends [] None h = tt
 host_ends [] (Some text) h = refl
 host_ends (b ∷ bs) query h = elim h as (λ _. is_host_byte b ≡ false) [
@@ -214,7 +214,7 @@ absolute_parts text scheme rest target cut of_scheme h =
 absolute_read : (host raw rest : List ℕ) (target : Target) → IsAuthority host → IsPathAndQuery rest raw target.query → IsRootedOrEmpty raw → path_of (rooted raw) ≡ Some target.path → target.host ≡ Some host → absolute_of (host ++ rest) ≡ Some target
 unfolding absolute_of
 absolute_read host raw rest target of_host parts begun path named =
-    let stops = subst (λ (ys : List ℕ). Stops is_host_byte ys) (sym parts.0) (host_ends raw target.query begun) in
+    let stops = subst (λ (ys : List ℕ). StopsAtOnce is_host_byte ys) (sym parts.0) (host_ends raw target.query begun) in
     let len : authority_len (host ++ rest) ≡ length host = prefix_len-seam is_host_byte host rest of_host.2 stops in
     let front : take (authority_len (host ++ rest)) (host ++ rest) ≡ host = ap (λ n. take n (host ++ rest)) len ∙ take_at host rest (length host) refl in
     let back : drop (authority_len (host ++ rest)) (host ++ rest) ≡ rest = ap (λ n. drop n (host ++ rest)) len ∙ drop_at host rest (length host) refl in

@@ -3,7 +3,7 @@
 ghost use Rattle.std.specs.Prelude.{◌≡◌, ◌≤◌, ◌<◌, IfOk, Err, IsTrue, is_some, length, map};
 ghost use Rattle.std.specs.Char.{to_ascii_lowercase};
 ghost use Rattle.std.specs.List.{list_all, prefix_len};
-ghost use Rattle.dh_texts.specs.Texts.{is_digit, Answers};
+ghost use Rattle.dh_texts.specs.Texts.{is_digit, AnswersDefined};
 ghost use Rattle.dh_paths.specs.Targets.{is_name_byte, is_address_byte, bracketed_len, name_len, is_port, host_named, host_of, NamesSome};
 
 use dh_texts::{HostName, TextFault};
@@ -82,7 +82,7 @@ fn lowercase(alloc: Global, name: &[u8]) -> Result<Vec<u8>, AllocError>
 }
 
 fn named(alloc: Global, name: &[u8]) -> Result<Option<HostName>, TextFault>
-    ensures { Answers (Some (host_named name.now)) TextFault.BadHost result }
+    ensures { AnswersDefined (Some (host_named name.now)) TextFault.BadHost result }
 {
     let lowered = lowercase(alloc, name)?;
     let Ok(text) = str::from_utf8(lowered.as_slice()) else {
@@ -100,7 +100,7 @@ fn named(alloc: Global, name: &[u8]) -> Result<Option<HostName>, TextFault>
 ///
 /// What is no host part is refused by `BadHost`.
 pub fn host_name(alloc: Global, text: &str) -> Result<Option<HostName>, TextFault>
-    ensures host { Answers (host_of text.now) TextFault.BadHost result }
+    ensures host { AnswersDefined (host_of text.now) TextFault.BadHost result }
     ensures memory { result ≡ Err TextFault.Memory → NamesSome text.now }
 {
     host_part(alloc, text.as_bytes())
@@ -108,7 +108,7 @@ pub fn host_name(alloc: Global, text: &str) -> Result<Option<HostName>, TextFaul
 
 /// The same of bytes that may be no text, as the value of a `Host` line.
 pub fn host_part(alloc: Global, bytes: &[u8]) -> Result<Option<HostName>, TextFault>
-    ensures host { Answers (host_of bytes.now) TextFault.BadHost result }
+    ensures host { AnswersDefined (host_of bytes.now) TextFault.BadHost result }
     ensures memory { result ≡ Err TextFault.Memory → NamesSome bytes.now }
 {
     if bytes.is_empty() {

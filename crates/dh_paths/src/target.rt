@@ -5,7 +5,7 @@ ghost use Rattle.std.specs.List.{list_all, prefix_len, position, before_first};
 ghost use Rattle.std.specs.Option.{option_copied, option_map};
 ghost use Rattle.std.specs.Str.{IsAscii, str_eq_ignore_ascii_case};
 ghost use Rattle.dh_texts.specs.Bytes.{slash};
-ghost use Rattle.dh_texts.specs.Texts.{Answers};
+ghost use Rattle.dh_texts.specs.Texts.{AnswersDefined};
 
 use crate::host::host_name;
 use dh_texts::{Text, TextFault, all_no_control};
@@ -60,7 +60,7 @@ fn at_question(bytes: &[u8]) -> (&[u8], Option<&[u8]>)
 }
 
 fn decoded(alloc: Global, raw: &[u8]) -> Result<Text, TextFault>
-    ensures { Answers (path_of raw.now) TextFault.BadTarget result }
+    ensures { AnswersDefined (path_of raw.now) TextFault.BadTarget result }
 {
     let path = match percent_decode(raw).decode_utf8(alloc) {
         Ok(path) => path.into_owned(alloc)?,
@@ -87,7 +87,7 @@ fn query_text(alloc: Global, query: Option<&[u8]>) -> Result<Option<Text>, Alloc
 #[tactic(auto, unfolding(crate::specs::Targets::target_at))]
 fn at_host(alloc: Global, host: Option<Text>, text: &[u8]) -> Result<Target, TextFault>
     requires { IsAscii text.now }
-    ensures { Answers (target_at host text.now) TextFault.BadTarget result }
+    ensures { AnswersDefined (target_at host text.now) TextFault.BadTarget result }
 {
     let (raw, query) = at_question(text);
     let path = decoded(alloc, raw)?;
@@ -147,7 +147,7 @@ fn behind_slash(alloc: Global, text: &[u8]) -> Result<Vec<u8>, AllocError>
 /// The target whose path and query are these, where the path may lack its slash.
 fn rooted_at(alloc: Global, host: Text, rest: &[u8]) -> Result<Target, TextFault>
     requires { IsAscii rest.now }
-    ensures { Answers (target_at (Some host) (rooted rest.now)) TextFault.BadTarget result }
+    ensures { AnswersDefined (target_at (Some host) (rooted rest.now)) TextFault.BadTarget result }
 {
     if rest.first() == Some(&b'/') {
         return at_host(alloc, Some(host), rest);
@@ -157,7 +157,7 @@ fn rooted_at(alloc: Global, host: Text, rest: &[u8]) -> Result<Target, TextFault
 }
 
 fn host_part(alloc: Global, text: &str) -> Result<bool, TextFault>
-    ensures host { Answers (Some (is_some (host_of text.now))) TextFault.BadTarget result }
+    ensures host { AnswersDefined (Some (is_some (host_of text.now))) TextFault.BadTarget result }
     ensures memory { result ≡ Err TextFault.Memory → IsTrue (is_some (host_of text.now)) }
 {
     match host_name(alloc, text) {
@@ -171,7 +171,7 @@ fn host_part(alloc: Global, text: &str) -> Result<bool, TextFault>
 #[tactic(auto, unfolding(crate::specs::Targets::absolute_of))]
 fn absolute(alloc: Global, text: &[u8]) -> Result<Target, TextFault>
     requires { IsAscii text.now }
-    ensures target { Answers (absolute_of text.now) TextFault.BadTarget result }
+    ensures target { AnswersDefined (absolute_of text.now) TextFault.BadTarget result }
     ensures memory { result ≡ Err TextFault.Memory → IsTrue (begins_with_host_part text.now) }
 {
     let len = authority(text);
@@ -193,7 +193,7 @@ impl Target {
     /// UTF-8 or has a control byte, any other form.
     #[tactic(auto, unfolding(crate::specs::Targets::target_of))]
     pub fn read(alloc: Global, bytes: &[u8]) -> Result<Target, TextFault>
-        ensures target { Answers (target_of bytes.now) TextFault.BadTarget result }
+        ensures target { AnswersDefined (target_of bytes.now) TextFault.BadTarget result }
         ensures memory { result ≡ Err TextFault.Memory → IsTrue (has_form bytes.now) }
     {
         if !all_target(bytes) {

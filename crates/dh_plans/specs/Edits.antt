@@ -81,11 +81,11 @@ MayRunOut (Err TooMany) = ⊤
 MayRunOut (Err refusal) = ⊥
 
 -- a plan that is the change of this project, or the change's refusal, or out of memory
-abbrev pub Plans : Project → Change → Result Planned Refusal → Type 0
-Plans p change (Ok plan) = (change ≡ Ok (all_edited plan.edits p, plan.answer)) × MayEditAll plan.edits p
-Plans p change (Err e) = ((e ≡ OutOfMemory) × MayRunOut change) ⊎ (change ≡ Err e)
+abbrev pub PlansChange : Project → Change → Result Planned Refusal → Type 0
+PlansChange p change (Ok plan) = (change ≡ Ok (all_edited plan.edits p, plan.answer)) × MayEditAll plan.edits p
+PlansChange p change (Err e) = ((e ≡ OutOfMemory) × MayRunOut change) ⊎ (change ≡ Err e)
 
 -- this plan, unless out of memory
-abbrev pub Makes : Planned → Result Planned Refusal → Type 0
-Makes planned (Ok plan) = plan ≡ planned
-Makes planned (Err e) = e ≡ OutOfMemory
+abbrev pub IsPlan : Planned → Result Planned Refusal → Type 0
+IsPlan planned (Ok plan) = plan ≡ planned
+IsPlan planned (Err e) = e ≡ OutOfMemory

@@ -12,7 +12,7 @@ use Rattle.dh_world.specs.World.{Project}
 use Rattle.dh_world.specs.declared.refusal.Refusal.{Refusal}
 use Rattle.dh_checks.specs.Commands.{change_of}
 use Rattle.dh_plans.specs.Asking.{asked}
-use Rattle.dh_plans.specs.Edits.{Plans}
+use Rattle.dh_plans.specs.Edits.{PlansChange}
 use Rattle.dh_plans.specs.Planned.{Planned}
 use Rattle.dh_plans.specs.Questions.{Asked}
 use Rattle.dh_checks.specs.declared.checking.CheckedChange.{CheckedChange}
@@ -26,7 +26,7 @@ pub record HasSettings (p : Project) (s : ProjectSettings) : Type 0 where
   pub wkey : p.wkey ≡ s.wkey
 
 -- the answers to these questions are this project's; what is not asked is empty
-pub record Answers (q : Asked) (f : Facts) (p : Project) : Type 0 where
+pub record AnswersAsked (q : Asked) (f : Facts) (p : Project) : Type 0 where
   pub version : option_and_then (get p.versions) q.version ≡ f.version
   -- the version has the slug that was asked for, which comes from its name
   pub named : IfSome f.version (λ v. (Some v.slug ≡ q.version) × (slug_from v.name ≡ Some v.slug))
@@ -45,11 +45,12 @@ pub record Answers (q : Asked) (f : Facts) (p : Project) : Type 0 where
   pub pass_count : (if q.pass_count then len p.passes else 0) ≡ f.pass_count
 
 -- the facts are this project's, as far as the command asks for them
-pub record Knows (c : CheckedChange) (f : Facts) (p : Project) : Type 0 where
+pub record KnowsProject (c : CheckedChange) (f : Facts) (p : Project) : Type 0 where
   pub settings : HasSettings p f.settings
-  pub answers : Answers (asked c f.settings) f p
+  pub answers : AnswersAsked (asked c f.settings) f p
 
 -- A plan is that of the change, for each project that has these facts; a refusal is the change's, or of a custom pattern, which `regex` may refuse.
-abbrev pub Decides : CheckedChange → Facts → Result Planned Refusal → Type 0
-Decides c f (Ok plan) = (p : Project) → Knows c f p → Plans p (change (change_of c) p) (Ok plan)
-Decides c f (Err e) = (p : Project) → Knows c f p → Plans p (change (change_of c) p) (Err e) ⊎ PushRefused (change_of c) p e
+abbrev pub DecidesChange : CheckedChange → Facts → Result Planned Refusal → Type 0
+DecidesChange c f (Ok plan) =
+    (p : Project) → KnowsProject c f p → PlansChange p (change (change_of c) p) (Ok plan)
+DecidesChange c f (Err e) = (p : Project) → KnowsProject c f p → PlansChange p (change (change_of c) p) (Err e) ⊎ PushRefused (change_of c) p e

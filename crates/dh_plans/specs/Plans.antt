@@ -31,9 +31,9 @@ use Rattle.dh_checks.specs.declared.checked.ProjectSettings.{ProjectSettings}
 -- ---- where the host has no project
 
 -- the project that the command makes there, or its refusal
-abbrev pub Opens : CheckedChange → Result NewProject Refusal → Type 0
-Opens c (Ok x) = opened (change_of c) ≡ Ok (new_project x.lang x.settings.branch x.settings.new_private x.settings.wkey, Done)
-Opens c (Err e) = opened (change_of c) ≡ Err e
+abbrev pub OpensProject : CheckedChange → Result NewProject Refusal → Type 0
+OpensProject c (Ok x) = opened (change_of c) ≡ Ok (new_project x.lang x.settings.branch x.settings.new_private x.settings.wkey, Done)
+OpensProject c (Err e) = opened (change_of c) ≡ Err e
 
 -- ---- pushes
 
@@ -49,9 +49,9 @@ pushed_fresh s x = record {
 }
 
 -- the rules have run; or at a place stands a custom pattern of the kind, and that place is told
-abbrev pub Runs : List Rule → Fresh → Result Fresh Refusal → Type 0
-Runs rules x (Ok after) = after ≡ after_rules rules x
-Runs rules x (Err e) = (e ≡ OutOfMemory) ⊎ ((place : ℕ) × IsCustomAt rules x.kind place × (e ≡ PatternRefused place))
+abbrev pub RunsRules : List Rule → Fresh → Result Fresh Refusal → Type 0
+RunsRules rules x (Ok after) = after ≡ after_rules rules x
+RunsRules rules x (Err e) = (e ≡ OutOfMemory) ⊎ ((place : ℕ) × IsCustomAt rules x.kind place × (e ≡ PatternRefused place))
 
 -- where a rule chose the version, its slug is the first default
 abbrev pub chosen_put : Bool → Text → List Text → List Edit
@@ -71,7 +71,7 @@ plan_made x defaults after =
 -- the plan of what the rules make of it, unless they cannot run
 abbrev pub MakesNew : ProjectSettings → CheckedPush → List Rule → List Text → Result Planned Refusal → Type 0
 MakesNew s x rules defaults (Ok plan) = plan ≡ plan_made x defaults (after_rules rules (pushed_fresh s x))
-MakesNew s x rules defaults (Err e) = Runs rules (pushed_fresh s x) (Err e)
+MakesNew s x rules defaults (Err e) = RunsRules rules (pushed_fresh s x) (Err e)
 
 abbrev pub plan_known : CheckedPush → Planned
 plan_known x = record { edits = push_answered x (Known x.slug) ∷ []; answer = Known x.slug }

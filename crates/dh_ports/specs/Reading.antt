@@ -36,9 +36,10 @@ most_lost TooManyTurns = 0
 most_lost Memory = 4096
 
 -- one read; where it stopped, the bytes that were there stay, and no others came
-abbrev pub Adds : Option (List ℕ) → Option (List ℕ) → List ℕ → List ℕ → Result Bool Stop → Type 0
-Adds old new before after (Ok came) = AddsSome old new before after came
-Adds old new before after (Err stop) = (after ≡ before) × TookAtMost old new (most_lost stop)
+abbrev pub AddsOneRead
+    : Option (List ℕ) → Option (List ℕ) → List ℕ → List ℕ → Result Bool Stop → Type 0
+AddsOneRead old new before after (Ok came) = AddsSome old new before after came
+AddsOneRead old new before after (Err stop) = (after ≡ before) × TookAtMost old new (most_lost stop)
 
 -- so many reads brought these bytes, and no more may be made: each brought a byte at least
 pub record IsFull (reads : ℕ) (bytes : List ℕ) : Type 0 where

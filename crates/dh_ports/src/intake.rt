@@ -2,7 +2,7 @@
 
 ghost use Rattle.std.specs.Prelude.{◌≡◌, ◌+◌, ◌-◌, ◌≤◌, false, [], min, vec_len, IfOk, OnOk, IsErrOf, if◌then◌else◌};
 ghost use Rattle.dh_ports.specs.Ports.{CountsUpTo, CountsAtLeast};
-ghost use Rattle.dh_ports.specs.Reading.{reader_failed, Adds, IsFull};
+ghost use Rattle.dh_ports.specs.Reading.{reader_failed, AddsOneRead, IsFull};
 
 use crate::source::Source;
 use crate::stop::Stop;
@@ -39,7 +39,7 @@ impl Intake {
     /// source no more. The bytes from before stay in any case.
     pub fn more<R: Source>(&mut self, source: &mut R) -> Result<bool, Stop>
         requires { R.broken source.old ≡ false }
-        ensures adds { Adds (R.left source.old) (R.left source.new)
+        ensures adds { AddsOneRead (R.left source.old) (R.left source.new)
             self.old.bytes.items self.new.bytes.items result }
         ensures broken { R.broken source.new ≡ reader_failed result }
         ensures spent { IfOk result (λ came.

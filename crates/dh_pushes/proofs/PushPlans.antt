@@ -19,8 +19,8 @@ use Rattle.dh_world.specs.declared.answer.Answer.TheVariants.{Known}
 use Rattle.dh_world.specs.declared.refusal.Refusal.{Refusal}
 use Rattle.dh_world.specs.declared.refusal.Refusal.TheVariants.{WrongKey, SlugTaken, PatternRefused}
 use Rattle.dh_world.specs.Step.{RunsCustomRule}
-use Rattle.dh_plans.specs.Edits.{MayEditAll, all_edited, Plans}
-use Rattle.dh_plans.specs.Knowing.{Answers, Knows, Decides}
+use Rattle.dh_plans.specs.Edits.{MayEditAll, all_edited, PlansChange}
+use Rattle.dh_plans.specs.Knowing.{AnswersAsked, KnowsProject, DecidesChange}
 use Rattle.dh_plans.specs.Planned.{Planned}
 use Rattle.dh_plans.specs.Plans.{pushed_fresh, MakesNew, chosen_put, push_answered, plan_made, plan_known}
 use Rattle.dh_plans.specs.Asking.{asked_by}
@@ -47,8 +47,8 @@ or_true false = refl
 put_there : (p : Project) (slug : Text) (v : Version) → contains_key (insert p.versions slug v) slug ≡ true
 put_there p slug v = ap is_some (get-insert text_total p.versions slug v slug ∙ ap (λ b. cond b (Some v) (get p.versions slug)) (tied_text slug slug ∙ (bytes_eq-Decides slug slug).1 refl))
 
-module _ (x : CheckedPush) (f : Facts) (p : Project) (k : Knows (change.Push x) f p) (right : bytes_eq x.wkey f.settings.wkey ≡ true) where
-  found : Answers (asked_by (change.Push x)) f p
+module _ (x : CheckedPush) (f : Facts) (p : Project) (k : KnowsProject (change.Push x) f p) (right : bytes_eq x.wkey f.settings.wkey ≡ true) where
+  found : AnswersAsked (asked_by (change.Push x)) f p
   found = answered (change.Push x) f p k right
 
   slug_is : slug_text x.name ≡ x.slug
@@ -65,7 +65,7 @@ module _ (x : CheckedPush) (f : Facts) (p : Project) (k : Knows (change.Push x) 
       ∙ ap (λ s. decided true (get p.used (push_key s x.key)) (get p.versions s)) slug_is
       ∙ ap (λ o. decided true o (get p.versions x.slug)) found.first_answer ∙ ap (decided true f.first_answer) found.version
 
-  pub again : (a : Answer) → f.first_answer ≡ Some a → Plans p (push x.wkey x.key x.kind x.name p) (Ok (record { edits = []; answer = a }))
+  pub again : (a : Answer) → f.first_answer ≡ Some a → PlansChange p (push x.wkey x.key x.kind x.name p) (Ok (record { edits = []; answer = a }))
   again a e = (pushed_is ∙ ap (λ o. decided true o f.version) e, tt)
 
   module _ (unused : f.first_answer ≡ None) where
@@ -117,16 +117,16 @@ module _ (x : CheckedPush) (f : Facts) (p : Project) (k : Knows (change.Push x) 
         )
         may_choose false = ((free, (named_slug x.name x.slug x.named).1, refl, refl), tt)
 
-        plan_is : Plans p (by_fresh y) (Ok (plan_made x p.defaults y))
+        plan_is : PlansChange p (by_fresh y) (Ok (plan_made x p.defaults y))
         plan_is = (
           same y.chosen,
           ((ap slug_from named ∙ x.named, λ _. ap (λ o. option_map_or (λ (z : Version). z.active) o false) (found.version ∙ none)), may_choose y.chosen),
         )
 
-      makes : Plans p (push x.wkey x.key x.kind x.name p) (Ok (plan_made x f.defaults.items after))
+      makes : PlansChange p (push x.wkey x.key x.kind x.name p) (Ok (plan_made x f.defaults.items after))
       makes =
           let it = plan_is after refl in
-          subst (λ ds. Plans p (push x.wkey x.key x.kind x.name p) (Ok (plan_made x ds after))) found.defaults (made_is ∙ it.0, it.1)
+          subst (λ ds. PlansChange p (push x.wkey x.key x.kind x.name p) (Ok (plan_made x ds after))) found.defaults (made_is ∙ it.0, it.1)
 
       -- the rules run, and at this place stands a custom one of the kind
       stops : (place : ℕ) → IsCustomAt f.rules.items x.kind place → (e : Refusal) → e ≡ PatternRefused place → RunsCustomRule p x.wkey x.key x.kind x.name e
@@ -147,7 +147,7 @@ module _ (x : CheckedPush) (f : Facts) (p : Project) (k : Knows (change.Push x) 
       pub taken : (same_kind v.kind x.kind && bytes_eq v.name x.name) ≡ false → push x.wkey x.key x.kind x.name p ≡ Err SlugTaken
       taken other = at_found (Some v) there ∙ ap compared other
 
-      pub knows : (same_kind v.kind x.kind && bytes_eq v.name x.name) ≡ true → Plans p (push x.wkey x.key x.kind x.name p) (Ok (plan_known x))
+      pub knows : (same_kind v.kind x.kind && bytes_eq v.name x.name) ≡ true → PlansChange p (push x.wkey x.key x.kind x.name p) (Ok (plan_known x))
       knows same =
           let slug_here : v.slug ≡ x.slug = same_slug v.slug x.slug (is_asked _ f p found v there).0 in (
             at_found (Some v) there ∙ ap compared same ∙ ap (λ s. keep (push_key s x.key) (Known v.slug) p) slug_is ∙ ap (λ s. keep (push_key x.slug x.key) (Known s) p) slug_here,
@@ -156,7 +156,7 @@ module _ (x : CheckedPush) (f : Facts) (p : Project) (k : Knows (change.Push x) 
 
 -- what is made of a new branch or tag is what is decided
 pub decides_new : (x : CheckedPush) (f : Facts) → bytes_eq x.wkey f.settings.wkey ≡ true → f.first_answer ≡ None → f.version ≡ None
-    → (r : Result Planned Refusal) → MakesNew f.settings x f.rules.items f.defaults.items r → Decides (change.Push x) f r
-decides_new x f right unused none (Ok plan) is = λ p k. subst (λ y. Plans p (push x.wkey x.key x.kind x.name p) (Ok y)) (sym is) (makes x f p k right unused none)
+    → (r : Result Planned Refusal) → MakesNew f.settings x f.rules.items f.defaults.items r → DecidesChange (change.Push x) f r
+decides_new x f right unused none (Ok plan) is = λ p k. subst (λ y. PlansChange p (push x.wkey x.key x.kind x.name p) (Ok y)) (sym is) (makes x f p k right unused none)
 decides_new x f right unused none (Err e) (inl is) = λ p k. inl (plans_by p _ (plan_made x f.defaults.items (after_rules f.rules.items (pushed_fresh f.settings x))) (Err e) is (makes x f p k right unused none))
 decides_new x f right unused none (Err e) (inr (place, custom, is)) = λ p k. inr (stops x f p k right unused none place custom e is)

@@ -2,8 +2,8 @@
 ghost use Rattle.std.specs.Prelude.{◌≡◌};
 ghost use Rattle.dh_world.specs.Changes.{with_property};
 ghost use Rattle.dh_world.specs.World.{Text};
-ghost use Rattle.dh_plans.specs.Edits.{Makes};
-ghost use Rattle.dh_plans.specs.Knowing.{Decides};
+ghost use Rattle.dh_plans.specs.Edits.{IsPlan};
+ghost use Rattle.dh_plans.specs.Knowing.{DecidesChange};
 ghost use Rattle.dh_plans.specs.Plans.{plan_deactivated};
 
 use dh_checks::CheckedChange;
@@ -31,7 +31,8 @@ pub fn set_property<'c>(
     property: Property,
     facts: &mut Facts,
 ) -> Result<Plan<'c>, Refusal>
-    ensures { (slug : Text) → Decides (CheckedChange.SetProperty slug property) facts.old result }
+    ensures { (slug : Text)
+        → DecidesChange (CheckedChange.SetProperty slug property) facts.old result }
 {
     match facts.version.take() {
         None => Err(Refusal::NoVersion),
@@ -44,7 +45,7 @@ pub fn set_property<'c>(
 
 /// The version is inactive, and its pages are gone.
 fn put_inactive<'c>(alloc: Global, version: Version) -> Result<Plan<'c>, Refusal>
-    ensures { Makes (plan_deactivated version) result }
+    ensures { IsPlan (plan_deactivated version) result }
 {
     let mut version = version;
     version.active = false;
@@ -53,7 +54,7 @@ fn put_inactive<'c>(alloc: Global, version: Version) -> Result<Plan<'c>, Refusal
 
 /// Deactivates the version that was found, and removes its pages.
 pub fn deactivate<'c>(alloc: Global, facts: &mut Facts) -> Result<Plan<'c>, Refusal>
-    ensures { (slug : Text) → Decides (CheckedChange.Deactivate slug) facts.old result }
+    ensures { (slug : Text) → DecidesChange (CheckedChange.Deactivate slug) facts.old result }
 {
     match facts.version.take() {
         None => Err(Refusal::NoVersion),

@@ -5,9 +5,9 @@ ghost use Rattle.dh_world.specs.Answers.{json_of};
 ghost use Rattle.dh_versions.specs.Kinds.{same_kind};
 ghost use Rattle.dh_world.specs.Changes as spec;
 ghost use Rattle.dh_world.specs.Changes.{made};
-ghost use Rattle.dh_plans.specs.Edits.{Makes};
-ghost use Rattle.dh_plans.specs.Knowing.{Decides};
-ghost use Rattle.dh_plans.specs.Plans.{pushed_fresh, Runs, MakesNew, chosen_put};
+ghost use Rattle.dh_plans.specs.Edits.{IsPlan};
+ghost use Rattle.dh_plans.specs.Knowing.{DecidesChange};
+ghost use Rattle.dh_plans.specs.Plans.{pushed_fresh, RunsRules, MakesNew, chosen_put};
 ghost use Rattle.dh_plans.specs.Plans.{push_answered, plan_made, plan_known};
 
 use dh_checks::{CheckedChange, CheckedPush, ProjectSettings};
@@ -63,7 +63,7 @@ fn pattern_refused(place: usize) -> Refusal
 
 /// What the rules make of a fresh version.
 fn run_rules(alloc: Global, rules: &[Rule], fresh: Fresh) -> Result<Fresh, Refusal>
-    ensures { Runs rules.now fresh result }
+    ensures { RunsRules rules.now fresh result }
 {
     let mut fresh = fresh;
     match apply(alloc, rules, &mut fresh) {
@@ -189,7 +189,7 @@ fn make_new<'c>(
 
 /// The branch or tag is known.
 fn know<'c>(alloc: Global, push: &CheckedPush) -> Result<Plan<'c>, Refusal>
-    ensures { Makes (plan_known push.now) result }
+    ensures { IsPlan (plan_known push.now) result }
 {
     let answer = known_answer(alloc, push)?;
     let first = answer_first(alloc, push, known_answer(alloc, push)?)?;
@@ -199,7 +199,7 @@ fn know<'c>(alloc: Global, push: &CheckedPush) -> Result<Plan<'c>, Refusal>
 /// A push: a retry key that was used gives its first answer; a branch or tag is known, or makes a
 /// version, over which the rules run, unless another has taken its slug.
 pub fn push<'c>(alloc: Global, push: CheckedPush, facts: &mut Facts) -> Result<Plan<'c>, Refusal>
-    ensures { Decides (CheckedChange.Push push) facts.old result }
+    ensures { DecidesChange (CheckedChange.Push push) facts.old result }
 {
     if !is_write_key(&facts.settings, &push.wkey) {
         return Err(Refusal::WrongKey);

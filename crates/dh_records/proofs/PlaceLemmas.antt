@@ -92,11 +92,11 @@ module _ {X : Type 0} (host_of : X → List ℕ) (place_of : X → ℕ) where
       (λ y own. ap not (elsewhere host_of place_of row y (ap (λ h. bytes_eq h (host_of row)) ((bytes_eq-Decides (host_of y) name).0 own) ∙ turned name (host_of row) ∙ apart))) rows
 
   -- the places count from a number on
-  abbrev Counts : ℕ → List X → Type 0
-  Counts a rows = map place_of rows ≡ range_with_len a (length rows)
+  abbrev CountsFrom : ℕ → List X → Type 0
+  CountsFrom a rows = map place_of rows ≡ range_with_len a (length rows)
 
   -- and so none is before it
-  none_before : (a : ℕ) (ys : List X) → Counts a ys → AllByRecursion (λ r. a ≤ place_of r) ys
+  none_before : (a : ℕ) (ys : List X) → CountsFrom a ys → AllByRecursion (λ r. a ≤ place_of r) ys
   none_before a [] count = tt
   none_before a (y ∷ ys) count =
       let here = parts (place_of y) a (map place_of ys) (range_with_len (a + 1) (length ys)) count in
@@ -148,7 +148,7 @@ module _ {X : Type 0} (host_of : X → List ℕ) (place_of : X → ℕ) where
     all_set P Q each vs rows new old = all_put_all P Q each 1 vs _ new (all-filter P (λ r. not (is_behind (length vs) r)) rows old)
 
     module _ (hosts : (n : ℕ) (v : V) → host_of (row n v) ≡ host) (places : (n : ℕ) (v : V) → place_of (row n v) ≡ n) where
-      places_placed : (n : ℕ) (vs : List V) → Counts n (placed row n vs)
+      places_placed : (n : ℕ) (vs : List V) → CountsFrom n (placed row n vs)
       places_placed n [] = refl
       places_placed n (v ∷ vs) = let more = places_placed (n + 1) vs in λ i. places n v i ∷ more i
 
@@ -218,7 +218,7 @@ module _ {X : Type 0} (host_of : X → List ℕ) (place_of : X → ℕ) where
               let beyond : place_of x < place_of y = (start y is).beyond apart in
               record { own = is.own; low = omega arith; high = omega arith }
 
-      set_here : (vs : List V) (rows : List X) → InOrder key rows → Counts 1 (filter (is_own host) rows) → filter (is_own host) (set_all vs rows) ≡ placed row 1 vs
+      set_here : (vs : List V) (rows : List X) → InOrder key rows → CountsFrom 1 (filter (is_own host) rows) → filter (is_own host) (set_all vs rows) ≡ placed row 1 vs
       set_here vs rows up count =
           filter_put_all 1 vs (filter kept rows) (filtered_in_order key kept rows up)
           ∙ ap (put_all key (placed row 1 vs)) (commuted (is_own host) kept rows)

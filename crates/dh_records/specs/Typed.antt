@@ -69,76 +69,76 @@ pub record ReadsAs (test : List ℕ → Bool) (row : Row) (at : ℕ) (result : R
 -- ---- records
 
 -- a text in UTF-8 that passes the test of its type
-abbrev pub Passes : (List ℕ → Bool) → List ℕ → Type 0
-Passes test t = IsUtf8 t × IsTrue (test t)
+abbrev pub PassesTest : (List ℕ → Bool) → List ℕ → Type 0
+PassesTest test t = IsUtf8 t × IsTrue (test t)
 
 pub record IsProject (x : ProjectRow) : Type 0 where
-  pub host : Passes is_host_name x.host
-  pub main : Passes is_lang x.main
-  pub branch : Passes is_ref_name x.branch
-  pub wkey : Passes is_token x.wkey
+  pub host : PassesTest is_host_name x.host
+  pub main : PassesTest is_lang x.main
+  pub branch : PassesTest is_ref_name x.branch
+  pub wkey : PassesTest is_token x.wkey
 
 pub record IsLanguage (x : LangRow) : Type 0 where
-  pub host : Passes is_host_name x.host
-  pub lang : Passes is_lang x.lang
+  pub host : PassesTest is_host_name x.host
+  pub lang : PassesTest is_lang x.lang
   pub place : x.place < 2 ^ 32
 
 pub record IsVersion (x : VersionRow) : Type 0 where
-  pub host : Passes is_host_name x.host
-  pub slug : Passes is_slug x.version.slug
-  pub name : Passes is_ref_name x.version.name
+  pub host : PassesTest is_host_name x.host
+  pub slug : PassesTest is_slug x.version.slug
+  pub name : PassesTest is_ref_name x.version.name
 
 pub record IsPage (x : PageRow) : Type 0 where
-  pub host : Passes is_host_name x.host
-  pub slug : Passes is_slug x.slug
-  pub lang : Passes is_lang x.lang
-  pub path : Passes is_page_path x.path
+  pub host : PassesTest is_host_name x.host
+  pub slug : PassesTest is_slug x.slug
+  pub lang : PassesTest is_lang x.lang
+  pub path : PassesTest is_page_path x.path
   pub media : IsUtf8 x.page.media
 
 -- the text is that of an answer
-abbrev pub Tells : List ℕ → Type 0
-Tells text = (a : Answer) × IsAnswer a × (json_of a ≡ Some text)
+abbrev pub TellsAnswer : List ℕ → Type 0
+TellsAnswer text = (a : Answer) × IsAnswer a × (json_of a ≡ Some text)
 
 pub record IsUsed (x : UsedRow) : Type 0 where
-  pub host : Passes is_host_name x.host
-  pub slug : Passes is_slug x.slug
-  pub retry : Passes is_token x.retry
+  pub host : PassesTest is_host_name x.host
+  pub slug : PassesTest is_slug x.slug
+  pub retry : PassesTest is_token x.retry
   pub answer : IsUtf8 x.answer
-  pub tells : Tells x.answer
+  pub tells : TellsAnswer x.answer
 
 pub record IsPick (x : PickRow) : Type 0 where
-  pub host : Passes is_host_name x.host
-  pub name : Passes is_slug x.name
+  pub host : PassesTest is_host_name x.host
+  pub name : PassesTest is_slug x.name
 
 pub record IsPass (x : PassRow) : Type 0 where
-  pub host : Passes is_host_name x.host
-  pub pass : Passes is_token x.pass
+  pub host : PassesTest is_host_name x.host
+  pub pass : PassesTest is_token x.pass
   pub until : IfSome x.until (λ end. end < 2 ^ 63)
 
 pub record IsHeld (x : HeldRow) : Type 0 where
-  pub host : Passes is_host_name x.host
-  pub pass : Passes is_token x.pass
-  pub slug : Passes is_slug x.slug
+  pub host : PassesTest is_host_name x.host
+  pub pass : PassesTest is_token x.pass
+  pub slug : PassesTest is_slug x.slug
 
 pub record IsRule (x : RuleRow) : Type 0 where
-  pub host : Passes is_host_name x.host
+  pub host : PassesTest is_host_name x.host
   pub place : x.place < 2 ^ 32
   pub pattern : IsUtf8 (pattern_text x.rule.pattern)
 
 pub record IsRedirect (x : RedirectRow) : Type 0 where
-  pub host : Passes is_host_name x.host
+  pub host : PassesTest is_host_name x.host
   pub place : x.place < 2 ^ 32
   pub status : x.redirect.status < 2 ^ 16
   pub source : IsUtf8 x.redirect.source
   pub target : IsUtf8 x.redirect.target
 
 pub record IsAlias (x : AliasRow) : Type 0 where
-  pub host : Passes is_host_name x.host
+  pub host : PassesTest is_host_name x.host
   pub class : IsUtf8 x.class
-  pub slug : Passes is_slug x.slug
+  pub slug : PassesTest is_slug x.slug
 
 pub record IsRoute (x : RouteRow) : Type 0 where
-  pub host : Passes is_host_name x.host
+  pub host : PassesTest is_host_name x.host
   pub seg : IsUtf8 x.route.seg
   pub place : x.place < 2 ^ 32
 

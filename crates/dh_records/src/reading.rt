@@ -47,7 +47,7 @@ fn fault_of_text(fault: TextFault) -> Fault
 pub fn kept_answer(alloc: Global, text: &str) -> Found<Answer>
     ensures told { IfOk result (λ o. o ≡ answer_of text.now) }
     ensures some { IfOk result (λ o. IsSome o) }
-    ensures refused { OnStore result (¬ typed.Tells text.now) }
+    ensures refused { OnStore result (¬ typed.TellsAnswer text.now) }
 {
     match Answer::read(alloc, text) {
         Ok(Some(answer)) => Ok(Some(answer)),

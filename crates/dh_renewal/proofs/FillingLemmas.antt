@@ -12,11 +12,11 @@ use Rattle.sqlite_trees.specs.declared.store.Store.{Ghosts}
 use Rattle.sqlite.specs.Effect.{Database}
 use Rattle.sqlite.specs.Held.{Held, state}
 use Rattle.sqlite.specs.State.{HasCleanDisk}
-use Rattle.dh_rows.specs.Calls.{AreOurs, GoesWithin, IsHonest, KeepsCommitted, Lasts, Leaves, LeavesNoMore, OnlyBegins, OnlyCommits, OnlyUndoes, Shows, committed, seen}
+use Rattle.dh_rows.specs.Calls.{AreOurs, MakesNoCommitInside, IsHonest, KeepsCommitted, KeepsFaults, CrashLeaves, LeavesNoMore, OnlyBegins, OnlyCommits, OnlyUndoes, ShowsHonestly, committed, seen}
 use Rattle.dh_schema.specs.Calling.{IsSettled}
 use Rattle.dh_schema.specs.InTurn.{lasts_on}
-use Rattle.dh_schema.specs.Tables.{Holds, lists_of}
-use Rattle.dh_tables.specs.Going.{Sees, last_records, records}
+use Rattle.dh_schema.specs.Tables.{HoldsTables, lists_of}
+use Rattle.dh_tables.specs.Going.{NowShowsRecords, last_records, records}
 use Rattle.dh_world.specs.World.{Text, Project}
 use Rattle.dh_records.specs.Constraints.{AreSound}
 use Rattle.dh_records.specs.Lists.{Lists, base_of, world_of, project_of, is_alias_at, is_project, is_route_in}
@@ -25,7 +25,7 @@ use Rattle.dh_records.proofs.SeenLemmas.{get_project}
 use Rattle.dh_schema.specs.Making.{no_lists}
 use Rattle.dh_derived.specs.Consistent.{AreConsistent}
 use Rattle.dh_derived.specs.Rightness.{due_at, routes_due, AreRight, AreRightAt}
-use Rattle.dh_renewal.specs.Filling.{Derives, IsDerived, IsReady}
+use Rattle.dh_renewal.specs.Filling.{DerivesRows, IsDerived, HasRowsRight}
 use Rattle.dh_renewal.specs.Renewing.{RightOf}
 use Rattle.dh_renewal.proofs.SameBase.{same_world}
 
@@ -116,9 +116,9 @@ same_step xs ys i x same here there =
 
 module _
     {S : Type 0} (g : Ghosts S) (old begun worked : Held S) (settled : IsHonest g old → IsSettled g old)
-    {u : Unit {0}} (begins : OnlyBegins g lists_of old begun (Ok u)) (goes : GoesWithin g begun worked) (sees : Sees g begun worked (records g worked))
+    {u : Unit {0}} (begins : OnlyBegins g lists_of old begun (Ok u)) (goes : MakesNoCommitInside g begun worked) (sees : NowShowsRecords g begun worked (records g worked))
     (made : IsHonest g worked → IsDerived (records g begun) (records g worked)) where
-  began : HasCleanDisk (state g worked) → Shows g lists_of old begun (seen g lists_of old) (committed g lists_of old) true
+  began : HasCleanDisk (state g worked) → ShowsHonestly g lists_of old begun (seen g lists_of old) (committed g lists_of old) true
   began clean = begins.begun.done (goes.lasts.clean clean)
 
   honest_then : HasCleanDisk (state g worked) → IsHonest g worked
@@ -132,7 +132,7 @@ module _
         right = subst AreRight (sym is) (made honest).right;
       }
 
-  pub worked_lasts : Lasts g old worked
+  pub worked_lasts : KeepsFaults g old worked
   worked_lasts = lasts_on begins.goes.lasts goes.lasts
 
   pub worked_kept : KeepsCommitted g old worked
@@ -144,14 +144,14 @@ module _
       let b = began clean in
       begins.quiet back db (goes.quiet b.mode (back, b.is_open) clean db may)
 
-  pub worked_ready : HasCleanDisk (state g worked) → IsReady g old worked
+  pub worked_ready : HasCleanDisk (state g worked) → HasRowsRight g old worked
   worked_ready clean =
       let honest = honest_then clean in record { was = (began clean).was_honest; honest = honest; derived = derived_as honest (records g worked) refl }
 
   -- where nothing has changed it is undone, and another begins
   pub undone_ready
       : (same : IsHonest g worked → records g worked ≡ records g begun) (back again : Held S) {v w : Unit {0}}
-      → OnlyUndoes g lists_of worked back (Ok v) → OnlyBegins g lists_of back again (Ok w) → HasCleanDisk (state g again) → IsReady g old again
+      → OnlyUndoes g lists_of worked back (Ok v) → OnlyBegins g lists_of back again (Ok w) → HasCleanDisk (state g again) → HasRowsRight g old again
   undone_ready same back again undoes begins2 clean =
       let d = begins2.begun.done clean in
       let u = undoes.undone.done d.was_honest in
@@ -166,9 +166,9 @@ module _
 -- what is ready is committed
 pub derives_all
     : {S : Type 0} (g : Ghosts S) (old worked new : Held S) {v : Unit {0}}
-    → Lasts g old worked → KeepsCommitted g old worked → LeavesNoMore g old worked → (HasCleanDisk (state g worked) → IsReady g old worked)
-    → OnlyCommits g lists_of worked new (Ok v) → Leaves g lists_of worked new (λ l. l ≡ seen g lists_of worked) → AreOurs Holds (state g new)
-    → Derives g old new (Ok tt)
+    → KeepsFaults g old worked → KeepsCommitted g old worked → LeavesNoMore g old worked → (HasCleanDisk (state g worked) → HasRowsRight g old worked)
+    → OnlyCommits g lists_of worked new (Ok v) → CrashLeaves g lists_of worked new (λ l. l ≡ seen g lists_of worked) → AreOurs HoldsTables (state g new)
+    → DerivesRows g old new (Ok tt)
 derives_all g old worked new lasts kept quiet ready commits crash ours = record {
   lasts = lasts_on lasts commits.lasts;
   done = λ clean.

@@ -9,7 +9,7 @@ use Rattle.dh_world.specs.Visibility.{may_see}
 use Rattle.dh_world.specs.World.{Text, Project}
 use Rattle.dh_world.specs.declared.refusal.Refusal.{Refusal}
 use Rattle.dh_classes.specs.Classes.{versions_for}
-use Rattle.dh_aliases.specs.Tops.{IsStable as IsTopOrNone, stable_in, stable_version}
+use Rattle.dh_aliases.specs.Tops.{IsTopIfAny as IsTopOrNone, stable_in, stable_version}
 use Rattle.dh_aliases.proofs.NameLemmas.{stable_name}
 use Rattle.dh_aliases.proofs.PassLemmas.{is_there, seen_named}
 use Rattle.dh_aliases.proofs.TopLemmas.{stable_is_top}

@@ -22,7 +22,7 @@ use Rattle.dh_records.specs.declared.records.HeldRow.{HeldRow}
 use Rattle.dh_records.specs.declared.records.PickRow.{PickRow}
 use Rattle.dh_records.specs.declared.records.VersionRow.{VersionRow}
 use Rattle.dh_records.proofs.WorldLemmas.{has_pass_in}
-use Rattle.dh_tables.specs.Going.{HasRecords, Makes, records}
+use Rattle.dh_tables.specs.Going.{HasRecords, ChangesRecords, records}
 use Rattle.dh_derived.specs.Rightness.{AreRight, AreRightAt}
 use Rattle.dh_derived.specs.Renewed.{set_names, set_classes, classes_at, names_due, no_names, renew_routes, renewed, renewed_at, host_renewed, host_renewed_at}
 use Rattle.dh_derived.specs.declared.renewals.Renewal.{Renewal}
@@ -123,7 +123,7 @@ module _ (host : Text) (l : Lists) where
 
 module _ {S : Type 0} (g : Ghosts S) (a c : Held S) (host : Text) where
   pub right_after
-      : {T : Type 0} (r : Renewal) (result : Result T Refusal) → Makes g a c result (renewed_at r host) → HasRecords g a (λ l. InOrder coding.routes.key l.routes)
+      : {T : Type 0} (r : Renewal) (result : Result T Refusal) → ChangesRecords g a c result (renewed_at r host) → HasRecords g a (λ l. InOrder coding.routes.key l.routes)
       → HasRecords g a (LacksRenewal r host) → OnOk result (HasRecords g c AreRight)
   right_after r (Err e) it up lacks = tt
   right_after r (Ok x) it up lacks = λ honest.
@@ -150,7 +150,7 @@ module _ {S : Type 0} (g : Ghosts S) (a c : Held S) (host : Text) where
       }
 
   pub host_right_after
-      : {T : Type 0} (result : Result T Refusal) → Makes g a c result (host_renewed_at host) → HasRecords g a (λ l. InOrder coding.routes.key l.routes)
+      : {T : Type 0} (result : Result T Refusal) → ChangesRecords g a c result (host_renewed_at host) → HasRecords g a (λ l. InOrder coding.routes.key l.routes)
       → OnOk result (IsHonest g c → RightOf host (records g a) (records g c))
   host_right_after (Err e) it up = tt
   host_right_after (Ok x) it up = λ honest.

@@ -2,10 +2,10 @@
 use Rattle.std.proofs.Common.{◌≡◌, Result, Ok, Err, OnOk, IfErr, ap, ◌∙◌}
 use Rattle.sqlite_trees.specs.declared.store.Store.{Ghosts}
 use Rattle.sqlite.specs.Held.{Held}
-use Rattle.dh_rows.specs.Calls.{Goes, IsHonest}
+use Rattle.dh_rows.specs.Calls.{MakesNoCommit, IsHonest}
 use Rattle.dh_records.specs.Lists.{Lists}
 use Rattle.dh_schema.specs.InTurn.{goes_anywhere, goes_on}
-use Rattle.dh_tables.specs.Going.{Asks, Makes, Sees, records}
+use Rattle.dh_tables.specs.Going.{LooksAtRecords, ChangesRecords, NowShowsRecords, records}
 use Rattle.dh_tables.proofs.Together.{goes_within_on}
 use Rattle.dh_world.specs.CheckResults.{IsFault}
 use Rattle.dh_world.specs.declared.refusal.Refusal.{Refusal}
@@ -14,15 +14,15 @@ module _ {S : Type 0} (g : Ghosts S) where
   -- changes after looks
   pub looked
       : {T : Type 0} (a b c : Held S) (r : Result T Refusal) (next change : Lists → Lists)
-      → Goes g a b → Sees g a b (records g a) → Makes g b c r next → (IsHonest g b → next (records g a) ≡ change (records g a))
-      → Makes g a c r change
+      → MakesNoCommit g a b → NowShowsRecords g a b (records g a) → ChangesRecords g b c r next → (IsHonest g b → next (records g a) ≡ change (records g a))
+      → ChangesRecords g a c r change
   looked a b c r next change goes sees it same = record {
     goes = goes_within_on (goes_anywhere goes) sees.live sees.mode it.goes;
     sees = both r it.sees;
     err = it.err;
   }
     where
-      both : {T : Type 0} (r : Result T Refusal) → OnOk r (Sees g b c (next (records g b))) → OnOk r (Sees g a c (change (records g a)))
+      both : {T : Type 0} (r : Result T Refusal) → OnOk r (NowShowsRecords g b c (next (records g b))) → OnOk r (NowShowsRecords g a c (change (records g a)))
       both (Ok x) after = record {
         live = λ honest clean. after.live (sees.live honest (it.goes.lasts.clean clean)) clean;
         now_is = λ honest.
@@ -34,7 +34,7 @@ module _ {S : Type 0} (g : Ghosts S) where
 
   -- two looks that were answered
   pub looks_on
-      : (a b c : Held S) → Sees g a b (records g a) → Goes g b c → Sees g b c (records g b) → Sees g a c (records g a)
+      : (a b c : Held S) → NowShowsRecords g a b (records g a) → MakesNoCommit g b c → NowShowsRecords g b c (records g b) → NowShowsRecords g a c (records g a)
   looks_on a b c sees then seen = record {
     live = λ honest clean. seen.live (sees.live honest (then.lasts.clean clean)) clean;
     now_is = λ honest. seen.now_is honest ∙ sees.now_is (then.lasts.was honest);
@@ -43,23 +43,23 @@ module _ {S : Type 0} (g : Ghosts S) where
 
   -- and then one that may be refused
   pub asks_then
-      : {T : Type 0} (a b c : Held S) (r : Result T Refusal) → Goes g a b → Sees g a b (records g a) → Asks g b c r → Asks g a c r
+      : {T : Type 0} (a b c : Held S) (r : Result T Refusal) → MakesNoCommit g a b → NowShowsRecords g a b (records g a) → LooksAtRecords g b c r → LooksAtRecords g a c r
   asks_then a b c r goes sees it = record { goes = goes_on goes sees.live it.goes; looks = both r it.looks; err = it.err }
     where
-      both : {T : Type 0} (r : Result T Refusal) → OnOk r (Sees g b c (records g b)) → OnOk r (Sees g a c (records g a))
+      both : {T : Type 0} (r : Result T Refusal) → OnOk r (NowShowsRecords g b c (records g b)) → OnOk r (NowShowsRecords g a c (records g a))
       both (Ok x) seen = looks_on a b c sees it.goes seen
       both (Err e) none = tt
 
   -- two looks, and then what is made of them
   pub asks_on
       : {T : Type 0} (a b c : Held S) (r : Result T Refusal)
-      → Goes g a b → Sees g a b (records g a) → Goes g b c → Sees g b c (records g b) → IfErr r IsFault → Asks g a c r
+      → MakesNoCommit g a b → NowShowsRecords g a b (records g a) → MakesNoCommit g b c → NowShowsRecords g b c (records g b) → IfErr r IsFault → LooksAtRecords g a c r
   asks_on a b c r first sees then seen err = record {
     goes = goes_on first sees.live then;
     looks = both r;
     err = err;
   }
     where
-      both : {T : Type 0} (r : Result T Refusal) → OnOk r (Sees g a c (records g a))
+      both : {T : Type 0} (r : Result T Refusal) → OnOk r (NowShowsRecords g a c (records g a))
       both (Ok x) = looks_on a b c sees then seen
       both (Err e) = tt

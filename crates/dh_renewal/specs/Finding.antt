@@ -16,7 +16,7 @@ use Rattle.dh_records.specs.Lists.{Lists, world_of}
 use Rattle.dh_records.specs.declared.records.AliasName.TheVariants.{Stable}
 use Rattle.dh_records.specs.declared.records.HeldRow.{HeldRow}
 use Rattle.dh_derived.specs.Rightness.{AreRightAt, kept_at}
-use Rattle.dh_derived.specs.Renewals.{Covers}
+use Rattle.dh_derived.specs.Renewals.{CoversChange}
 use Rattle.dh_derived.specs.declared.renewals.Renewal.{Renewal}
 use Rattle.dh_renewal.specs.ByKey.{versions_at}
 
@@ -43,13 +43,13 @@ IsStableWith host grants l o = OfKeptProject host (λ p. IsHighest (IsSeenWith (
 -- the renewal covers what changes once the version is put
 abbrev pub CoversPut : Text → Version → Lists → Renewal → Type 0
 CoversPut host v l r =
-    OfRightProject host (λ p. slug_from v.name ≡ Some v.slug → Covers r p (with_version p v.slug v)) l
+    OfRightProject host (λ p. slug_from v.name ≡ Some v.slug → CoversChange r p (with_version p v.slug v)) l
 
 -- the same, where its slug is free
 abbrev pub CoversNew : Text → Version → Lists → Renewal → Type 0
 CoversNew host v l r =
-    OfRightProject host (λ p. slug_from v.name ≡ Some v.slug → get p.versions v.slug ≡ None → Covers r p (with_version p v.slug v)) l
+    OfRightProject host (λ p. slug_from v.name ≡ Some v.slug → get p.versions v.slug ≡ None → CoversChange r p (with_version p v.slug v)) l
 
 -- once the edit is made that may be made
 abbrev pub CoversEdit : Text → Edit → Lists → Renewal → Type 0
-CoversEdit host e l r = OfRightProject host (λ p. MayEdit e p → Covers r p (edited e p)) l
+CoversEdit host e l r = OfRightProject host (λ p. MayEdit e p → CoversChange r p (edited e p)) l

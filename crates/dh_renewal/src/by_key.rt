@@ -1,8 +1,8 @@
 //! The names of who has some grants, by keys: the versions that are looked up are few, however many there are.
 
 ghost use Rattle.std.specs.Prelude.{◌≡◌, [], map, option_map};
-ghost use Rattle.dh_schema.specs.Calling.{Learns};
-ghost use Rattle.dh_tables.specs.Going.{Asks};
+ghost use Rattle.dh_schema.specs.Calling.{AnswersBy};
+ghost use Rattle.dh_tables.specs.Going.{LooksAtRecords};
 ghost use Rattle.dh_world.specs.Seen.{default_of};
 ghost use Rattle.dh_class_names.specs.Rows.{latest_by, names_by, seen_under, stands_by};
 ghost use Rattle.dh_renewal.specs.ByKey.{defaults_at, versions_at};
@@ -25,8 +25,8 @@ fn seen_version<S: Alter>(
     grants: &[HeldRow],
     slug: &str,
 ) -> Result<Option<Version>, Refusal>
-    ensures asks { Asks S.Store tables.old tables.new result }
-    ensures value { Learns S.Store tables.old tables.new result
+    ensures asks { LooksAtRecords S.Store tables.old tables.new result }
+    ensures value { AnswersBy S.Store tables.old tables.new result
         (λ l seen. seen ≡ seen_under (versions_at host.now l) grants.now slug.now) }
 {
     match tables.version(alloc, host, slug)? {
@@ -49,8 +49,8 @@ fn latest_with<S: Alter>(
     branch: &RefName,
     grants: &[HeldRow],
 ) -> Result<Option<Slug>, Refusal>
-    ensures asks { Asks S.Store tables.old tables.new result }
-    ensures value { Learns S.Store tables.old tables.new result
+    ensures asks { LooksAtRecords S.Store tables.old tables.new result }
+    ensures value { AnswersBy S.Store tables.old tables.new result
         (λ l slug. slug ≡ latest_by (versions_at host.now l) grants.now branch.now) }
 {
     let Some(slug) = branch_slug(alloc, branch)? else {
@@ -76,8 +76,8 @@ fn stands<S: Alter>(
     stable: bool,
     name: &str,
 ) -> Result<bool, Refusal>
-    ensures asks { Asks S.Store tables.old tables.new result }
-    ensures value { Learns S.Store tables.old tables.new result
+    ensures asks { LooksAtRecords S.Store tables.old tables.new result }
+    ensures value { AnswersBy S.Store tables.old tables.new result
         (λ l yes. yes ≡ stands_by (versions_at host.now l) grants.now latest stable name.now) }
 {
     let seen = seen_version(tables, alloc, host, grants, name)?;
@@ -93,8 +93,8 @@ fn default_alias<S: Alter>(
     latest: bool,
     stable: bool,
 ) -> Result<Option<Slug>, Refusal>
-    ensures asks { Asks S.Store tables.old tables.new result }
-    ensures value { Learns S.Store tables.old tables.new result (λ l name. name
+    ensures asks { LooksAtRecords S.Store tables.old tables.new result }
+    ensures value { AnswersBy S.Store tables.old tables.new result (λ l name. name
         ≡ default_of (stands_by (versions_at host.now l) grants.now latest stable) []) }
 {
     if stands(tables, alloc, host, grants, latest, stable, "latest")? {
@@ -116,8 +116,8 @@ fn default_with<S: Alter>(
     latest: bool,
     stable: bool,
 ) -> Result<Option<Slug>, Refusal>
-    ensures asks { Asks S.Store tables.old tables.new result }
-    ensures value { Learns S.Store tables.old tables.new result (λ l name. name
+    ensures asks { LooksAtRecords S.Store tables.old tables.new result }
+    ensures value { AnswersBy S.Store tables.old tables.new result (λ l name. name
         ≡ default_of (stands_by (versions_at host.now l) grants.now latest stable)
         (map (λ d. d.name) picks.now)) }
 {
@@ -146,8 +146,8 @@ fn default_name<S: Alter>(
     latest: bool,
     stable: bool,
 ) -> Result<Option<Slug>, Refusal>
-    ensures asks { Asks S.Store tables.old tables.new result }
-    ensures value { Learns S.Store tables.old tables.new result (λ l name. name
+    ensures asks { LooksAtRecords S.Store tables.old tables.new result }
+    ensures value { AnswersBy S.Store tables.old tables.new result (λ l name. name
         ≡ default_of (stands_by (versions_at host.now l) grants.now latest stable)
         (defaults_at host.now l)) }
 {
@@ -172,8 +172,8 @@ pub fn names_with_grants<S: Alter>(
     grants: &[HeldRow],
     stable: Option<Version>,
 ) -> Result<Names, Refusal>
-    ensures asks { Asks S.Store tables.old tables.new result }
-    ensures value { Learns S.Store tables.old tables.new result (λ l names. names
+    ensures asks { LooksAtRecords S.Store tables.old tables.new result }
+    ensures value { AnswersBy S.Store tables.old tables.new result (λ l names. names
         ≡ names_by (versions_at host.now l) grants.now branch.now (defaults_at host.now l)
         (option_map (λ v. v.slug) stable)) }
 {

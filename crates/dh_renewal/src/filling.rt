@@ -3,13 +3,13 @@
 ghost use Rattle.std.specs.Prelude.{◌≡◌, false, IfErr, IfOk, IsTrue, OnOk};
 ghost use Rattle.sqlite.specs.Held.{state};
 ghost use Rattle.sqlite.specs.State.{HasCleanDisk};
-ghost use Rattle.dh_rows.specs.Calls.{GoesWithin, IsHonest, KeepsCommitted, Lasts, LeavesNoMore};
-ghost use Rattle.dh_schema.specs.Calling.{IsSettled, Learns};
-ghost use Rattle.dh_tables.specs.Going.{Asks, HasRecords, IsWithin, Makes, Sees, last_records, records};
+ghost use Rattle.dh_rows.specs.Calls.{MakesNoCommitInside, IsHonest, KeepsCommitted, KeepsFaults, LeavesNoMore};
+ghost use Rattle.dh_schema.specs.Calling.{IsSettled, AnswersBy};
+ghost use Rattle.dh_tables.specs.Going.{LooksAtRecords, HasRecords, IsWithin, ChangesRecords, NowShowsRecords, last_records, records};
 ghost use Rattle.dh_records.specs.Constraints.{AreSound};
 ghost use Rattle.dh_records.specs.Lists.{base_of};
 ghost use Rattle.dh_world.specs.CheckResults.{IsFault};
-ghost use Rattle.dh_renewal.specs.Filling.{Derives, AreDerivedRows, IsDerived, IsReady};
+ghost use Rattle.dh_renewal.specs.Filling.{DerivesRows, AreDerivedRows, IsDerived, HasRowsRight};
 
 use crate::renewing::renew_host;
 use dh_records::{AliasRow, Record, RouteRow};
@@ -73,8 +73,8 @@ struct Rows {
 }
 
 fn derived_rows<S: Alter>(tables: &mut Tables<S>, alloc: Global) -> Result<Rows, Refusal>
-    ensures asks { Asks S.Store tables.old tables.new result }
-    ensures value { Learns S.Store tables.old tables.new result
+    ensures asks { LooksAtRecords S.Store tables.old tables.new result }
+    ensures value { AnswersBy S.Store tables.old tables.new result
         (λ l rows. AreDerivedRows l rows.aliases.items rows.routes.items) }
 {
     let aliases = tables.all_aliases(alloc)?;
@@ -83,8 +83,8 @@ fn derived_rows<S: Alter>(tables: &mut Tables<S>, alloc: Global) -> Result<Rows,
 }
 
 fn projects_of<S: Alter>(tables: &mut Tables<S>, alloc: Global) -> Result<Vec<ProjectRow>, Refusal>
-    ensures asks { Asks S.Store tables.old tables.new result }
-    ensures value { Learns S.Store tables.old tables.new result
+    ensures asks { LooksAtRecords S.Store tables.old tables.new result }
+    ensures value { AnswersBy S.Store tables.old tables.new result
         (λ l rows. rows.items ≡ l.projects) }
 {
     Ok(tables.all_projects(alloc)?)
@@ -93,7 +93,7 @@ fn projects_of<S: Alter>(tables: &mut Tables<S>, alloc: Global) -> Result<Vec<Pr
 /// Removes all derived records.
 fn clear<S: Alter>(tables: &mut Tables<S>) -> Result<(), Refusal>
     requires within { IsWithin S.Store tables.old }
-    ensures makes { Makes S.Store tables.old tables.new result base_of }
+    ensures makes { ChangesRecords S.Store tables.old tables.new result base_of }
 {
     tables.clear_aliases()?;
     Ok(tables.clear_routes()?)
@@ -109,8 +109,9 @@ fn renew_projects<S: Alter>(
     requires sound { HasRecords S.Store tables.old AreSound }
     requires none { HasRecords S.Store tables.old (λ l. base_of l ≡ l) }
     requires all { HasRecords S.Store tables.old (λ l. projects.items ≡ l.projects) }
-    ensures goes { GoesWithin S.Store tables.old tables.new }
-    ensures sees { OnOk result (Sees S.Store tables.old tables.new (records S.Store tables.new)) }
+    ensures goes { MakesNoCommitInside S.Store tables.old tables.new }
+    ensures sees { OnOk result
+        (NowShowsRecords S.Store tables.old tables.new (records S.Store tables.new)) }
     ensures made { IsHonest S.Store tables.new
         → OnOk result (IsDerived (records S.Store tables.old) (records S.Store tables.new)) }
     ensures err { IfErr result IsFault }
@@ -125,8 +126,9 @@ fn renew_projects<S: Alter>(
 fn renew_all<S: Alter>(tables: &mut Tables<S>, alloc: Global) -> Result<(), Refusal>
     requires within { IsWithin S.Store tables.old }
     requires sound { HasRecords S.Store tables.old AreSound }
-    ensures goes { GoesWithin S.Store tables.old tables.new }
-    ensures sees { OnOk result (Sees S.Store tables.old tables.new (records S.Store tables.new)) }
+    ensures goes { MakesNoCommitInside S.Store tables.old tables.new }
+    ensures sees { OnOk result
+        (NowShowsRecords S.Store tables.old tables.new (records S.Store tables.new)) }
     ensures made { IsHonest S.Store tables.new
         → OnOk result (IsDerived (records S.Store tables.old) (records S.Store tables.new)) }
     ensures err { IfErr result IsFault }
@@ -140,8 +142,9 @@ fn renew_all<S: Alter>(tables: &mut Tables<S>, alloc: Global) -> Result<(), Refu
 fn renew_and_compare<S: Alter>(tables: &mut Tables<S>, alloc: Global) -> Result<bool, Refusal>
     requires within { IsWithin S.Store tables.old }
     requires sound { HasRecords S.Store tables.old AreSound }
-    ensures goes { GoesWithin S.Store tables.old tables.new }
-    ensures sees { OnOk result (Sees S.Store tables.old tables.new (records S.Store tables.new)) }
+    ensures goes { MakesNoCommitInside S.Store tables.old tables.new }
+    ensures sees { OnOk result
+        (NowShowsRecords S.Store tables.old tables.new (records S.Store tables.new)) }
     ensures made { IsHonest S.Store tables.new
         → OnOk result (IsDerived (records S.Store tables.old) (records S.Store tables.new)) }
     ensures same { IsHonest S.Store tables.new → IfOk result (λ differ.
@@ -161,11 +164,11 @@ fn renew_and_compare<S: Alter>(tables: &mut Tables<S>, alloc: Global) -> Result<
 fn prepare<S: Alter>(tables: &mut Tables<S>, alloc: Global) -> Result<(), Refusal>
     requires settled { IsHonest S.Store tables.old → IsSettled S.Store tables.old }
     requires sound { IsHonest S.Store tables.old → AreSound (last_records S.Store tables.old) }
-    ensures lasts { Lasts S.Store tables.old tables.new }
+    ensures lasts { KeepsFaults S.Store tables.old tables.new }
     ensures kept { KeepsCommitted S.Store tables.old tables.new }
     ensures quiet { LeavesNoMore S.Store tables.old tables.new }
     ensures ready { OnOk result (HasCleanDisk (state S.Store tables.new)
-        → IsReady S.Store tables.old tables.new) }
+        → HasRowsRight S.Store tables.old tables.new) }
 {
     tables.begin()?;
     if !renew_and_compare(tables, alloc)? {
@@ -180,7 +183,7 @@ fn prepare<S: Alter>(tables: &mut Tables<S>, alloc: Global) -> Result<(), Refusa
 pub fn derive<S: Alter>(tables: &mut Tables<S>, alloc: Global) -> Result<(), Refusal>
     requires settled { IsHonest S.Store tables.old → IsSettled S.Store tables.old }
     requires sound { IsHonest S.Store tables.old → AreSound (last_records S.Store tables.old) }
-    ensures { Derives S.Store tables.old tables.new result }
+    ensures { DerivesRows S.Store tables.old tables.new result }
 {
     prepare(tables, alloc)?;
     tables.commit()?;

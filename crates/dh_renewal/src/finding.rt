@@ -1,8 +1,8 @@
 //! Which rows an edit leaves to be made right, by what is looked up of the project before it.
 
 ghost use Rattle.std.specs.Prelude.{IfErr, IfOk};
-ghost use Rattle.dh_schema.specs.Calling.{Learns};
-ghost use Rattle.dh_tables.specs.Going.{Asks};
+ghost use Rattle.dh_schema.specs.Calling.{AnswersBy};
+ghost use Rattle.dh_tables.specs.Going.{LooksAtRecords};
 ghost use Rattle.dh_world.specs.CheckResults.{IsFault};
 ghost use Rattle.dh_derived.specs.Renewals.{FitsAdded};
 ghost use Rattle.dh_renewal.specs.Finding.{CoversEdit, CoversNew, CoversPut};
@@ -37,8 +37,9 @@ fn renewal_of_new<S: Alter>(
     host: &HostName,
     version: &Version,
 ) -> Result<Renewal, Refusal>
-    ensures asks { Asks S.Store tables.old tables.new result }
-    ensures value { Learns S.Store tables.old tables.new result (CoversNew host.now version.now) }
+    ensures asks { LooksAtRecords S.Store tables.old tables.new result }
+    ensures value { AnswersBy S.Store tables.old tables.new result
+        (CoversNew host.now version.now) }
 {
     if !is_seen_by_all(version) {
         return Ok(Renewal::Nothing);
@@ -57,8 +58,9 @@ fn renewal_of_put<S: Alter>(
     host: &HostName,
     version: &Version,
 ) -> Result<Renewal, Refusal>
-    ensures asks { Asks S.Store tables.old tables.new result }
-    ensures value { Learns S.Store tables.old tables.new result (CoversPut host.now version.now) }
+    ensures asks { LooksAtRecords S.Store tables.old tables.new result }
+    ensures value { AnswersBy S.Store tables.old tables.new result
+        (CoversPut host.now version.now) }
 {
     match version_under(tables, alloc, host, &version.slug)? {
         Some(was) => Ok(renewal_of_replaced(&was, version)),
@@ -75,8 +77,8 @@ pub fn renewal_for<S: Alter>(
     host: &HostName,
     edit: &Edit<'_>,
 ) -> Result<Renewal, Refusal>
-    ensures asks { Asks S.Store tables.old tables.new result }
-    ensures value { Learns S.Store tables.old tables.new result (CoversEdit host.now edit.now) }
+    ensures asks { LooksAtRecords S.Store tables.old tables.new result }
+    ensures value { AnswersBy S.Store tables.old tables.new result (CoversEdit host.now edit.now) }
 {
     match edit {
         Edit::PutVersion(version) => renewal_of_put(tables, alloc, host, version),

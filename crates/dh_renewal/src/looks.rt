@@ -1,8 +1,8 @@
 //! What is looked up of a project.
 
 ghost use Rattle.std.specs.Prelude.{◌≡◌, filter, find, option_map};
-ghost use Rattle.dh_schema.specs.Calling.{Learns};
-ghost use Rattle.dh_tables.specs.Going.{Asks};
+ghost use Rattle.dh_schema.specs.Calling.{AnswersBy};
+ghost use Rattle.dh_tables.specs.Going.{LooksAtRecords};
 ghost use Rattle.dh_records.specs.Lists as lists;
 ghost use Rattle.dh_derived.specs.Rightness.{kept_at};
 ghost use Rattle.dh_renewal.specs.Renewing.{FindsBranch};
@@ -21,8 +21,8 @@ pub fn branch_of<S: Alter>(
     alloc: Global,
     host: &HostName,
 ) -> Result<Option<RefName>, Refusal>
-    ensures asks { Asks S.Store tables.old tables.new result }
-    ensures value { Learns S.Store tables.old tables.new result (FindsBranch host.now) }
+    ensures asks { LooksAtRecords S.Store tables.old tables.new result }
+    ensures value { AnswersBy S.Store tables.old tables.new result (FindsBranch host.now) }
 {
     match tables.project(alloc, host)? {
         Some(row) => Ok(Some(row.branch)),
@@ -36,8 +36,8 @@ pub fn version_under<S: Alter>(
     host: &HostName,
     slug: &Slug,
 ) -> Result<Option<Version>, Refusal>
-    ensures asks { Asks S.Store tables.old tables.new result }
-    ensures value { Learns S.Store tables.old tables.new result (λ l version. version
+    ensures asks { LooksAtRecords S.Store tables.old tables.new result }
+    ensures value { AnswersBy S.Store tables.old tables.new result (λ l version. version
         ≡ option_map (λ r. r.version) (find (lists.is_version host.now slug.now) l.versions)) }
 {
     match tables.version(alloc, host, slug.as_str())? {
@@ -54,8 +54,8 @@ pub fn kept_alias<S: Alter>(
     class: &str,
     name: AliasName,
 ) -> Result<Option<Slug>, Refusal>
-    ensures asks { Asks S.Store tables.old tables.new result }
-    ensures value { Learns S.Store tables.old tables.new result
+    ensures asks { LooksAtRecords S.Store tables.old tables.new result }
+    ensures value { AnswersBy S.Store tables.old tables.new result
         (λ l slug. slug ≡ kept_at l host.now class.now name) }
 {
     match tables.alias(alloc, host, class, name)? {
@@ -70,8 +70,8 @@ pub fn pass_of<S: Alter>(
     host: &HostName,
     pass: &Token,
 ) -> Result<Option<PassRow>, Refusal>
-    ensures asks { Asks S.Store tables.old tables.new result }
-    ensures value { Learns S.Store tables.old tables.new result
+    ensures asks { LooksAtRecords S.Store tables.old tables.new result }
+    ensures value { AnswersBy S.Store tables.old tables.new result
         (λ l row. row ≡ find (lists.is_pass host.now pass.now) l.passes) }
 {
     Ok(tables.pass(alloc, host, pass)?)
@@ -84,8 +84,8 @@ pub fn grants_of<S: Alter>(
     host: &HostName,
     pass: &Token,
 ) -> Result<Vec<HeldRow>, Refusal>
-    ensures asks { Asks S.Store tables.old tables.new result }
-    ensures value { Learns S.Store tables.old tables.new result
+    ensures asks { LooksAtRecords S.Store tables.old tables.new result }
+    ensures value { AnswersBy S.Store tables.old tables.new result
         (λ l rows. rows.items ≡ filter (lists.is_held_by host.now pass.now) l.held) }
 {
     Ok(tables.held_by(alloc, host, pass)?)
@@ -97,8 +97,8 @@ pub fn versions_of<S: Alter>(
     alloc: Global,
     host: &HostName,
 ) -> Result<Vec<VersionRow>, Refusal>
-    ensures asks { Asks S.Store tables.old tables.new result }
-    ensures value { Learns S.Store tables.old tables.new result
+    ensures asks { LooksAtRecords S.Store tables.old tables.new result }
+    ensures value { AnswersBy S.Store tables.old tables.new result
         (λ l rows. rows.items ≡ filter (lists.is_version_of host.now) l.versions) }
 {
     Ok(tables.versions(alloc, host)?)
@@ -110,8 +110,8 @@ pub fn rows_of<S: Alter, R: Listed>(
     alloc: Global,
     host: &HostName,
 ) -> Result<Vec<R>, Refusal>
-    ensures asks { Asks S.Store tables.old tables.new result }
-    ensures value { Learns S.Store tables.old tables.new result
+    ensures asks { LooksAtRecords S.Store tables.old tables.new result }
+    ensures value { AnswersBy S.Store tables.old tables.new result
         (λ l rows. rows.items ≡ filter (R.is_of host.now) (R.all l)) }
 {
     Ok(R::rows(tables, alloc, host)?)

@@ -1,8 +1,8 @@
 //! What the names of a project are, by its records.
 
 ghost use Rattle.std.specs.Prelude.{◌≡◌, Some, map};
-ghost use Rattle.dh_schema.specs.Calling.{Learns};
-ghost use Rattle.dh_tables.specs.Going.{Asks};
+ghost use Rattle.dh_schema.specs.Calling.{AnswersBy};
+ghost use Rattle.dh_tables.specs.Going.{LooksAtRecords};
 ghost use Rattle.dh_records.specs.Constraints.{AreSound};
 ghost use Rattle.dh_class_names.specs.ClassNames.{class_names, classes_of};
 ghost use Rattle.dh_derived.specs.Renewed as renewed;
@@ -29,8 +29,8 @@ fn names_with<S: Alter>(
     branch: &RefName,
     passes: &[PassRow],
 ) -> Result<Vec<ClassNames>, Refusal>
-    ensures asks { Asks S.Store tables.old tables.new result }
-    ensures value { Learns S.Store tables.old tables.new result (λ l all. AreSound l
+    ensures asks { LooksAtRecords S.Store tables.old tables.new result }
+    ensures value { AnswersBy S.Store tables.old tables.new result (λ l all. AreSound l
         → OfBranch host.now branch.now
         (λ p. all.items ≡ map (class_names p) (classes_of passes.now)) l) }
 {
@@ -54,8 +54,8 @@ pub fn names_of_all<S: Alter>(
     host: &HostName,
     branch: &RefName,
 ) -> Result<Vec<ClassNames>, Refusal>
-    ensures asks { Asks S.Store tables.old tables.new result }
-    ensures value { Learns S.Store tables.old tables.new result (λ l all. AreSound l
+    ensures asks { LooksAtRecords S.Store tables.old tables.new result }
+    ensures value { AnswersBy S.Store tables.old tables.new result (λ l all. AreSound l
         → OfBranch host.now branch.now
         (λ p. all.items ≡ map (class_names p) (classes_at host.now l)) l) }
 {
@@ -81,8 +81,8 @@ fn names_of_grants<S: Alter>(
     branch: &RefName,
     grants: &[HeldRow],
 ) -> Result<Names, Refusal>
-    ensures asks { Asks S.Store tables.old tables.new result }
-    ensures value { Learns S.Store tables.old tables.new result (λ l names. AreSound l
+    ensures asks { LooksAtRecords S.Store tables.old tables.new result }
+    ensures value { AnswersBy S.Store tables.old tables.new result (λ l names. AreSound l
         → OfBranch host.now branch.now (λ p. IsStableKept host.now l p
         → IsOfGrants host.now grants.now l p names) l) }
 {
@@ -99,8 +99,8 @@ pub fn names_of_pass<S: Alter>(
     branch: &RefName,
     pass: &Token,
 ) -> Result<Names, Refusal>
-    ensures asks { Asks S.Store tables.old tables.new result }
-    ensures value { Learns S.Store tables.old tables.new result (λ l names. AreSound l
+    ensures asks { LooksAtRecords S.Store tables.old tables.new result }
+    ensures value { AnswersBy S.Store tables.old tables.new result (λ l names. AreSound l
         → OfBranch host.now branch.now (λ p. IsStableKept host.now l p
         → names ≡ renewed.names_due p (Some pass.now)) l) }
 {

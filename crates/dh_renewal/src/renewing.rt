@@ -2,7 +2,7 @@
 
 ghost use Rattle.std.specs.Prelude.{◌≡◌, OnOk};
 ghost use Rattle.dh_rows.specs.Calls.{IsHonest};
-ghost use Rattle.dh_tables.specs.Going.{HasRecords, IsWithin, Makes, records};
+ghost use Rattle.dh_tables.specs.Going.{HasRecords, IsWithin, ChangesRecords, records};
 ghost use Rattle.dh_records.specs.Changes as change;
 ghost use Rattle.dh_records.specs.Constraints.{AreSound};
 ghost use Rattle.dh_derived.specs.Rightness.{AreRight};
@@ -32,7 +32,7 @@ fn renew_class<S: Alter>(
     requires sound { HasRecords S.Store tables.old AreSound }
     requires branch { HasRecords S.Store tables.old (HasBranch host.now branch.now) }
     requires lacks { HasRecords S.Store tables.old (LacksRenewal (Renewal.Class pass.now) host.now) }
-    ensures makes { Makes S.Store tables.old tables.new result
+    ensures makes { ChangesRecords S.Store tables.old tables.new result
         (renewed.renewed_at (Renewal.Class pass.now) host.now) }
 {
     let names = names_of_pass(tables, alloc, host, branch, pass)?;
@@ -48,7 +48,7 @@ fn renew_classes<S: Alter>(
     requires within { IsWithin S.Store tables.old }
     requires sound { HasRecords S.Store tables.old AreSound }
     requires branch { HasRecords S.Store tables.old (HasBranch host.now branch.now) }
-    ensures makes { Makes S.Store tables.old tables.new result
+    ensures makes { ChangesRecords S.Store tables.old tables.new result
         (renewed.renewed_at Renewal.Aliases host.now) }
 {
     let all = names_of_all(tables, alloc, host, branch)?;
@@ -66,7 +66,7 @@ fn renew_of<S: Alter>(
     requires sound { HasRecords S.Store tables.old AreSound }
     requires branch { HasRecords S.Store tables.old (HasBranch host.now branch.now) }
     requires lacks { HasRecords S.Store tables.old (LacksRenewal renewal.now host.now) }
-    ensures makes { Makes S.Store tables.old tables.new result
+    ensures makes { ChangesRecords S.Store tables.old tables.new result
         (renewed.renewed_at renewal.now host.now) }
 {
     match renewal {
@@ -86,7 +86,7 @@ fn renew_within<S: Alter>(
     requires within { IsWithin S.Store tables.old }
     requires sound { HasRecords S.Store tables.old AreSound }
     requires lacks { HasRecords S.Store tables.old (LacksRenewal renewal.now host.now) }
-    ensures makes { Makes S.Store tables.old tables.new result
+    ensures makes { ChangesRecords S.Store tables.old tables.new result
         (renewed.renewed_at renewal.now host.now) }
 {
     if let Renewal::Nothing = renewal {
@@ -109,7 +109,7 @@ pub fn renew<S: Alter>(
     requires within { IsWithin S.Store tables.old }
     requires sound { HasRecords S.Store tables.old AreSound }
     requires lacks { HasRecords S.Store tables.old (LacksRenewal renewal.now host.now) }
-    ensures makes { Makes S.Store tables.old tables.new result
+    ensures makes { ChangesRecords S.Store tables.old tables.new result
         (renewed.renewed_at renewal.now host.now) }
     ensures right { OnOk result (HasRecords S.Store tables.new AreRight) }
 {
@@ -124,7 +124,8 @@ fn set_host<S: Alter>(
     all: Vec<ClassNames>,
 ) -> Result<(), Refusal>
     requires within { IsWithin S.Store tables.old }
-    ensures makes { Makes S.Store tables.old tables.new result (λ l. renewed.renew_routes host.now
+    ensures makes { ChangesRecords S.Store tables.old tables.new result
+        (λ l. renewed.renew_routes host.now
         (set_all host.now all.items (change.drop_aliases host.now l))) }
 {
     tables.drop_aliases(host)?;
@@ -141,7 +142,7 @@ fn renew_host_of<S: Alter>(
     requires within { IsWithin S.Store tables.old }
     requires sound { HasRecords S.Store tables.old AreSound }
     requires branch { HasRecords S.Store tables.old (HasBranch host.now branch.now) }
-    ensures makes { Makes S.Store tables.old tables.new result
+    ensures makes { ChangesRecords S.Store tables.old tables.new result
         (renewed.host_renewed_at host.now) }
 {
     let all = names_of_all(tables, alloc, host, branch)?;
@@ -155,7 +156,7 @@ fn renew_host_within<S: Alter>(
 ) -> Result<(), Refusal>
     requires within { IsWithin S.Store tables.old }
     requires sound { HasRecords S.Store tables.old AreSound }
-    ensures makes { Makes S.Store tables.old tables.new result
+    ensures makes { ChangesRecords S.Store tables.old tables.new result
         (renewed.host_renewed_at host.now) }
 {
     match branch_of(tables, alloc, host)? {
@@ -173,7 +174,7 @@ pub fn renew_host<S: Alter>(
 ) -> Result<(), Refusal>
     requires within { IsWithin S.Store tables.old }
     requires sound { HasRecords S.Store tables.old AreSound }
-    ensures makes { Makes S.Store tables.old tables.new result
+    ensures makes { ChangesRecords S.Store tables.old tables.new result
         (renewed.host_renewed_at host.now) }
     ensures right { OnOk result (IsHonest S.Store tables.new
         → RightOf host.now (records S.Store tables.old) (records S.Store tables.new)) }

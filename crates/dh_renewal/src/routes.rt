@@ -1,8 +1,8 @@
 //! The routes of redirects, set in their table.
 
 ghost use Rattle.std.specs.Prelude.{◌≡◌, IfOk, map};
-ghost use Rattle.dh_schema.specs.Calling.{Learns};
-ghost use Rattle.dh_tables.specs.Going.{Asks, IsWithin, Makes};
+ghost use Rattle.dh_schema.specs.Calling.{AnswersBy};
+ghost use Rattle.dh_tables.specs.Going.{LooksAtRecords, IsWithin, ChangesRecords};
 ghost use Rattle.dh_records.specs.Changes as change;
 ghost use Rattle.dh_derived.specs.Rightness as rightness;
 ghost use Rattle.dh_derived.specs.Renewed as renewed;
@@ -41,8 +41,8 @@ fn routes_for<S: Alter>(
     alloc: Global,
     host: &HostName,
 ) -> Result<Vec<Route>, Refusal>
-    ensures asks { Asks S.Store tables.old tables.new result }
-    ensures value { Learns S.Store tables.old tables.new result
+    ensures asks { LooksAtRecords S.Store tables.old tables.new result }
+    ensures value { AnswersBy S.Store tables.old tables.new result
         (λ l routes. routes.items ≡ renewed.routes_for host.now l) }
 {
     let redirects = tables.list::<RedirectRow>(alloc, host)?;
@@ -55,7 +55,7 @@ fn set_routes<S: Alter>(
     routes: &[Route],
 ) -> Result<(), Refusal>
     requires within { IsWithin S.Store tables.old }
-    ensures makes { Makes S.Store tables.old tables.new result
+    ensures makes { ChangesRecords S.Store tables.old tables.new result
         (change.set_routes host.now routes.now) }
 {
     Ok(tables.set_routes(host, routes)?)
@@ -68,7 +68,8 @@ pub fn renew_routes<S: Alter>(
     host: &HostName,
 ) -> Result<(), Refusal>
     requires within { IsWithin S.Store tables.old }
-    ensures makes { Makes S.Store tables.old tables.new result (renewed.renew_routes host.now) }
+    ensures makes { ChangesRecords S.Store tables.old tables.new result
+        (renewed.renew_routes host.now) }
 {
     let routes = routes_for(tables, alloc, host)?;
     set_routes(tables, host, routes.as_slice())

@@ -1,7 +1,7 @@
 //! The names of classes, set in the table of aliases.
 
 ghost use Rattle.std.specs.Prelude.{◌≡◌, Some};
-ghost use Rattle.dh_tables.specs.Going.{IsWithin, Makes};
+ghost use Rattle.dh_tables.specs.Going.{IsWithin, ChangesRecords};
 ghost use Rattle.dh_derived.specs.Renewed as renewed;
 ghost use Rattle.dh_renewal.specs.Renewing as spec;
 
@@ -22,7 +22,7 @@ fn put_alias<S: Alter>(
     name: AliasName,
     slug: Slug,
 ) -> Result<(), Refusal>
-    ensures makes { Makes S.Store tables.old tables.new result
+    ensures makes { ChangesRecords S.Store tables.old tables.new result
         (renewed.set_alias host.now class.now name (Some slug)) }
 {
     let row = AliasRow {
@@ -42,7 +42,7 @@ fn set_alias<S: Alter>(
     name: AliasName,
     slug: Option<Slug>,
 ) -> Result<(), Refusal>
-    ensures makes { Makes S.Store tables.old tables.new result
+    ensures makes { ChangesRecords S.Store tables.old tables.new result
         (renewed.set_alias host.now class.now name slug) }
 {
     match slug {
@@ -60,7 +60,7 @@ pub fn set_names<S: Alter>(
     names: Names,
 ) -> Result<(), Refusal>
     requires within { IsWithin S.Store tables.old }
-    ensures makes { Makes S.Store tables.old tables.new result
+    ensures makes { ChangesRecords S.Store tables.old tables.new result
         (renewed.set_names host.now class.now names) }
 {
     let Names {
@@ -80,7 +80,8 @@ fn set_class<S: Alter>(
     names: ClassNames,
 ) -> Result<(), Refusal>
     requires within { IsWithin S.Store tables.old }
-    ensures makes { Makes S.Store tables.old tables.new result (spec.set_class host.now names) }
+    ensures makes { ChangesRecords S.Store tables.old tables.new result
+        (spec.set_class host.now names) }
 {
     let ClassNames { class, names } = names;
     set_names(tables, alloc, host, class_text(class.as_ref()), names)
@@ -94,7 +95,8 @@ pub fn set_all<S: Alter>(
     mut all: Vec<ClassNames>,
 ) -> Result<(), Refusal>
     requires within { IsWithin S.Store tables.old }
-    ensures makes { Makes S.Store tables.old tables.new result (spec.set_all host.now all.items) }
+    ensures makes { ChangesRecords S.Store tables.old tables.new result
+        (spec.set_all host.now all.items) }
 {
     while let Some(names) = all.pop() {
         set_class(tables, alloc, host, names)?;

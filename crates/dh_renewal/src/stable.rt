@@ -1,7 +1,7 @@
 //! The version that `stable` stands for, by keys.
 
-ghost use Rattle.dh_schema.specs.Calling.{Learns};
-ghost use Rattle.dh_tables.specs.Going.{Asks};
+ghost use Rattle.dh_schema.specs.Calling.{AnswersBy};
+ghost use Rattle.dh_tables.specs.Going.{LooksAtRecords};
 ghost use Rattle.dh_class_names.specs.Highest.{IsHighest, IsPublic, IsSeenWith};
 ghost use Rattle.dh_renewal.specs.ByKey.{versions_at};
 ghost use Rattle.dh_renewal.specs.Finding.{IsStable, IsStableWith};
@@ -22,8 +22,8 @@ pub fn stable_version<S: Alter>(
     alloc: Global,
     host: &HostName,
 ) -> Result<Option<Version>, Refusal>
-    ensures asks { Asks S.Store tables.old tables.new result }
-    ensures value { Learns S.Store tables.old tables.new result (IsStable host.now) }
+    ensures asks { LooksAtRecords S.Store tables.old tables.new result }
+    ensures value { AnswersBy S.Store tables.old tables.new result (IsStable host.now) }
 {
     let Some(slug) = kept_alias(tables, alloc, host, "", AliasName::Stable)? else {
         return Ok(None);
@@ -39,8 +39,8 @@ fn highest_with<S: Alter>(
     grants: &[HeldRow],
     public: Option<Version>,
 ) -> Result<Option<Version>, Refusal>
-    ensures asks { Asks S.Store tables.old tables.new result }
-    ensures value { Learns S.Store tables.old tables.new result (λ l o.
+    ensures asks { LooksAtRecords S.Store tables.old tables.new result }
+    ensures value { AnswersBy S.Store tables.old tables.new result (λ l o.
         IsHighest (IsPublic (versions_at host.now l)) public
         → IsHighest (IsSeenWith (versions_at host.now l) grants.now) o) }
 {
@@ -59,8 +59,9 @@ pub fn stable_with<S: Alter>(
     host: &HostName,
     grants: &[HeldRow],
 ) -> Result<Option<Version>, Refusal>
-    ensures asks { Asks S.Store tables.old tables.new result }
-    ensures value { Learns S.Store tables.old tables.new result (IsStableWith host.now grants.now) }
+    ensures asks { LooksAtRecords S.Store tables.old tables.new result }
+    ensures value { AnswersBy S.Store tables.old tables.new result
+        (IsStableWith host.now grants.now) }
 {
     let public = stable_version(tables, alloc, host)?;
     highest_with(tables, alloc, host, grants, public)

@@ -22,6 +22,6 @@ question_of key = record {
 }
 
 -- each reply that is kept is that of the world to its question
-abbrev pub AreRight : World → LruCache Key Reply → Type 0
-AreRight w kept =
+abbrev pub AreRepliesRight : World → LruCache Key Reply → Type 0
+AreRepliesRight w kept =
     (e : Key × Reply) → Contains kept.entries e → e.1 ≡ reply_for w (question_of e.0)

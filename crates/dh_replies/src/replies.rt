@@ -2,7 +2,7 @@
 ghost use Rattle.std.specs.Prelude.{◌≡◌, ◌<◌, ◌≤◌, [], length, IfOk, IfSome};
 ghost use Rattle.dh_world.specs.World.{World};
 ghost use Rattle.dh_classes.specs.Replies.{reply_for};
-ghost use Rattle.dh_replies.specs.Kept.{AreRight, question_of};
+ghost use Rattle.dh_replies.specs.Kept.{AreRepliesRight, question_of};
 ghost use Rattle.dh_replies.specs.declared.replies.TheConstants.{MOST_BODY, MOST_REPLIES};
 
 use crate::copies::copied;
@@ -57,7 +57,8 @@ impl Replies {
 
     /// A copy of the reply that is kept under a key. There is none either where memory is out for the copy.
     pub fn find(&mut self, alloc: Global, key: &Key) -> Option<Reply>
-        ensures { (w : World) → AreRight w self.old.entries → AreRight w self.new.entries
+        ensures { (w : World) → AreRepliesRight w self.old.entries
+            → AreRepliesRight w self.new.entries
             × IfSome result (λ r. r ≡ reply_for w (question_of key.now)) }
     {
         let Some(found) = self.entries.peek(key) else {
@@ -72,8 +73,8 @@ impl Replies {
 
     /// Keeps a copy of a reply under a key, unless the body is too large or memory is out.
     pub fn keep(&mut self, alloc: Global, key: Key, reply: &Reply)
-        ensures right { (w : World) → AreRight w self.old.entries
-            → reply.now ≡ reply_for w (question_of key) → AreRight w self.new.entries }
+        ensures right { (w : World) → AreRepliesRight w self.old.entries
+            → reply.now ≡ reply_for w (question_of key) → AreRepliesRight w self.new.entries }
         ensures large { MOST_BODY < length reply.now.body → self.new ≡ self.old }
     {
         if reply.body.as_slice().len() > MOST_BODY {

@@ -1,7 +1,7 @@
 //! Addresses `/language/name/..` of a project.
 
 ghost use Rattle.std.specs.Prelude.{◌≡◌};
-ghost use Rattle.dh_faults.specs.Faults.{Gives};
+ghost use Rattle.dh_faults.specs.Faults.{GivesMaybe};
 ghost use Rattle.dh_reply.specs.Replies.{known_lang, slug_named, good_of};
 
 use dh_lookup::Named;
@@ -21,7 +21,7 @@ pub struct GoodAddress {
 
 /// The name, where it has the form of a slug; no other name stands for a version.
 pub fn slug_of(alloc: Global, name: &str) -> Result<Option<Slug>, AllocError>
-    ensures { Gives (slug_named name.now) result }
+    ensures { GivesMaybe (slug_named name.now) result }
 {
     match Slug::parse(alloc, name) {
         Ok(slug) => Ok(Some(slug)),

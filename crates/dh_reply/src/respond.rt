@@ -1,7 +1,7 @@
 //! The reply to a read: each case of the table is a function of its own.
 
 ghost use Rattle.dh_paths.specs.Places.{place};
-ghost use Rattle.dh_lookup.specs.Lookup.{Asks, Tells, TellsMaybe, TellsOf};
+ghost use Rattle.dh_lookup.specs.Lookup.{IsLook, AnswersFor, AnswersMaybe, AnswersForProject};
 ghost use Rattle.dh_reply.specs.Replies as spec;
 
 use crate::address::{GoodAddress, good_address, slug_of, take_lang};
@@ -17,8 +17,8 @@ use std::alloc::Global;
 /// To the file in the default version, where there is a default.
 #[tactic(auto, unfolding(crate::specs::Replies::home_to))]
 fn home<L: Lookup>(alloc: Global, lookup: &mut L, file: &str, query: &Option<Text>) -> Found<Reply>
-    ensures asks { Asks L.meaning lookup.old lookup.new result }
-    ensures value { TellsMaybe L.meaning lookup.old lookup.new result
+    ensures asks { IsLook L.meaning lookup.old lookup.new result }
+    ensures value { AnswersMaybe L.meaning lookup.old lookup.new result
         (λ p. spec.home_to p file.now query.now) }
 {
     let langs = lookup.langs(alloc)?;
@@ -38,8 +38,8 @@ fn home<L: Lookup>(alloc: Global, lookup: &mut L, file: &str, query: &Option<Tex
 /// The good address with that language and name, if it is one.
 #[tactic(auto, unfolding(crate::specs::Replies::good))]
 fn find_good<L: Lookup>(alloc: Global, lookup: &mut L, lang: &str, name: &str) -> Found<GoodAddress>
-    ensures asks { Asks L.meaning lookup.old lookup.new result }
-    ensures value { TellsMaybe L.meaning lookup.old lookup.new result
+    ensures asks { IsLook L.meaning lookup.old lookup.new result }
+    ensures value { AnswersMaybe L.meaning lookup.old lookup.new result
         (λ p. spec.good p lang.now name.now) }
 {
     let Some(name) = slug_of(alloc, name)? else {
@@ -52,8 +52,8 @@ fn find_good<L: Lookup>(alloc: Global, lookup: &mut L, lang: &str, name: &str) -
 
 /// The good address at a place, if there is one.
 fn good_at<L: Lookup>(alloc: Global, lookup: &mut L, asked: &Split) -> Found<GoodAddress>
-    ensures asks { Asks L.meaning lookup.old lookup.new result }
-    ensures value { TellsMaybe L.meaning lookup.old lookup.new result
+    ensures asks { IsLook L.meaning lookup.old lookup.new result }
+    ensures value { AnswersMaybe L.meaning lookup.old lookup.new result
         (λ p. spec.good_at p (place asked.now)) }
 {
     match asked {
@@ -65,8 +65,8 @@ fn good_at<L: Lookup>(alloc: Global, lookup: &mut L, asked: &Split) -> Found<Goo
 
 /// The page that a file of a version stands for.
 fn page_found<L: Lookup>(alloc: Global, lookup: &mut L, at: &GoodAddress, file: &str) -> Found<Page>
-    ensures asks { Asks L.meaning lookup.old lookup.new result }
-    ensures value { TellsMaybe L.meaning lookup.old lookup.new result
+    ensures asks { IsLook L.meaning lookup.old lookup.new result }
+    ensures value { AnswersMaybe L.meaning lookup.old lookup.new result
         (λ p. spec.page_found p at.now file.now) }
 {
     let file = make_indexed(alloc, file)?;
@@ -75,8 +75,8 @@ fn page_found<L: Lookup>(alloc: Global, lookup: &mut L, at: &GoodAddress, file: 
 
 /// The page of the folder that a file of a version names.
 fn in_folder<L: Lookup>(alloc: Global, lookup: &mut L, at: &GoodAddress, file: &str) -> Found<Page>
-    ensures asks { Asks L.meaning lookup.old lookup.new result }
-    ensures value { TellsMaybe L.meaning lookup.old lookup.new result
+    ensures asks { IsLook L.meaning lookup.old lookup.new result }
+    ensures value { AnswersMaybe L.meaning lookup.old lookup.new result
         (λ p. spec.folder_found p at.now file.now) }
 {
     let file = joined(alloc, file, "/index.html")?;
@@ -91,8 +91,8 @@ fn file_served<L: Lookup>(
     file: &str,
     read: &Read,
 ) -> Found<Reply>
-    ensures asks { Asks L.meaning lookup.old lookup.new result }
-    ensures value { TellsMaybe L.meaning lookup.old lookup.new result
+    ensures asks { IsLook L.meaning lookup.old lookup.new result }
+    ensures value { AnswersMaybe L.meaning lookup.old lookup.new result
         (λ p. spec.file_served p at.now file.now read.now.path read.now.query) }
 {
     if let Some(page) = page_found(alloc, lookup, at, file)? {
@@ -112,8 +112,8 @@ fn served<L: Lookup>(
     own: &Option<GoodAddress>,
     read: &Read,
 ) -> Found<Reply>
-    ensures asks { Asks L.meaning lookup.old lookup.new result }
-    ensures value { TellsOf L.meaning lookup.old lookup.new result
+    ensures asks { IsLook L.meaning lookup.old lookup.new result }
+    ensures value { AnswersForProject L.meaning lookup.old lookup.new result
         (λ p. spec.served p (place asked.now) own.now read.now.path read.now.query) }
 {
     match (asked, own) {
@@ -129,8 +129,8 @@ fn served<L: Lookup>(
 
 /// 404 with the page of a version in a language, where it has one.
 fn not_found<L: Lookup>(alloc: Global, lookup: &mut L, lang: &Lang, slug: &Slug) -> Found<Reply>
-    ensures asks { Asks L.meaning lookup.old lookup.new result }
-    ensures value { TellsMaybe L.meaning lookup.old lookup.new result
+    ensures asks { IsLook L.meaning lookup.old lookup.new result }
+    ensures value { AnswersMaybe L.meaning lookup.old lookup.new result
         (λ p. spec.not_found p lang.now slug.now) }
 {
     let page = lookup.page(alloc, lang, slug, "404.html")?;
@@ -143,8 +143,8 @@ fn own_not_found<L: Lookup>(
     lookup: &mut L,
     own: &Option<GoodAddress>,
 ) -> Found<Reply>
-    ensures asks { Asks L.meaning lookup.old lookup.new result }
-    ensures value { TellsMaybe L.meaning lookup.old lookup.new result
+    ensures asks { IsLook L.meaning lookup.old lookup.new result }
+    ensures value { AnswersMaybe L.meaning lookup.old lookup.new result
         (λ p. spec.own_not_found p own.now) }
 {
     match own {
@@ -155,8 +155,8 @@ fn own_not_found<L: Lookup>(
 
 /// The version that `/` leads to.
 fn default_version<L: Lookup>(alloc: Global, lookup: &mut L) -> Found<Named>
-    ensures asks { Asks L.meaning lookup.old lookup.new result }
-    ensures value { TellsMaybe L.meaning lookup.old lookup.new result spec.default_version }
+    ensures asks { IsLook L.meaning lookup.old lookup.new result }
+    ensures value { AnswersMaybe L.meaning lookup.old lookup.new result spec.default_version }
 {
     match lookup.default(alloc)? {
         Some(name) => lookup.name(alloc, name.as_str()),
@@ -167,8 +167,8 @@ fn default_version<L: Lookup>(alloc: Global, lookup: &mut L) -> Found<Named>
 /// The same of the default version in the main language.
 #[tactic(auto, unfolding(crate::specs::Replies::default_not_found))]
 fn default_not_found<L: Lookup>(alloc: Global, lookup: &mut L) -> Found<Reply>
-    ensures asks { Asks L.meaning lookup.old lookup.new result }
-    ensures value { TellsMaybe L.meaning lookup.old lookup.new result spec.default_not_found }
+    ensures asks { IsLook L.meaning lookup.old lookup.new result }
+    ensures value { AnswersMaybe L.meaning lookup.old lookup.new result spec.default_not_found }
 {
     let Some(named) = default_version(alloc, lookup)? else {
         return Ok(None);
@@ -186,8 +186,8 @@ fn nothing_served<L: Lookup>(
     lookup: &mut L,
     own: &Option<GoodAddress>,
 ) -> Result<Reply, Fault>
-    ensures asks { Asks L.meaning lookup.old lookup.new result }
-    ensures value { TellsOf L.meaning lookup.old lookup.new result
+    ensures asks { IsLook L.meaning lookup.old lookup.new result }
+    ensures value { AnswersForProject L.meaning lookup.old lookup.new result
         (λ p. spec.nothing_served p own.now) }
 {
     if let Some(reply) = own_not_found(alloc, lookup, own)? {
@@ -201,8 +201,8 @@ fn nothing_served<L: Lookup>(
 
 /// Where a redirect with force leads.
 fn forced_away<L: Lookup>(alloc: Global, lookup: &mut L, asked: &Asked) -> Found<Reply>
-    ensures asks { Asks L.meaning lookup.old lookup.new result }
-    ensures value { TellsMaybe L.meaning lookup.old lookup.new result
+    ensures asks { IsLook L.meaning lookup.old lookup.new result }
+    ensures value { AnswersMaybe L.meaning lookup.old lookup.new result
         (λ p. spec.forced_away p asked.now) }
 {
     let location = lookup.forced_redirect(alloc, asked)?;
@@ -211,8 +211,8 @@ fn forced_away<L: Lookup>(alloc: Global, lookup: &mut L, asked: &Asked) -> Found
 
 /// Where any redirect leads.
 fn led_away<L: Lookup>(alloc: Global, lookup: &mut L, asked: &Asked) -> Found<Reply>
-    ensures asks { Asks L.meaning lookup.old lookup.new result }
-    ensures value { TellsMaybe L.meaning lookup.old lookup.new result
+    ensures asks { IsLook L.meaning lookup.old lookup.new result }
+    ensures value { AnswersMaybe L.meaning lookup.old lookup.new result
         (λ p. spec.led_away p asked.now) }
 {
     let location = lookup.not_found_redirect(alloc, asked)?;
@@ -228,8 +228,8 @@ fn found<L: Lookup>(
     away: &Asked,
     read: &Read,
 ) -> Found<Reply>
-    ensures asks { Asks L.meaning lookup.old lookup.new result }
-    ensures value { TellsOf L.meaning lookup.old lookup.new result
+    ensures asks { IsLook L.meaning lookup.old lookup.new result }
+    ensures value { AnswersForProject L.meaning lookup.old lookup.new result
         (λ p. spec.found p (place asked.now) own.now away.now read.now.path read.now.query) }
 {
     if let Some(reply) = forced_away(alloc, lookup, away)? {
@@ -249,8 +249,8 @@ fn reply_at<L: Lookup>(
     own: &Option<GoodAddress>,
     read: &Read,
 ) -> Result<Reply, Fault>
-    ensures asks { Asks L.meaning lookup.old lookup.new result }
-    ensures value { TellsOf L.meaning lookup.old lookup.new result
+    ensures asks { IsLook L.meaning lookup.old lookup.new result }
+    ensures value { AnswersForProject L.meaning lookup.old lookup.new result
         (λ p. spec.reply_at p (place asked.now) own.now read.now.path read.now.query) }
 {
     let away = asked_of(alloc, asked, own, read)?;
@@ -267,8 +267,8 @@ fn place_reply<L: Lookup>(
     asked: &Split,
     read: &Read,
 ) -> Result<Reply, Fault>
-    ensures asks { Asks L.meaning lookup.old lookup.new result }
-    ensures value { TellsOf L.meaning lookup.old lookup.new result
+    ensures asks { IsLook L.meaning lookup.old lookup.new result }
+    ensures value { AnswersForProject L.meaning lookup.old lookup.new result
         (λ p. spec.place_reply p (place asked.now) read.now.path read.now.query) }
 {
     let own = good_at(alloc, lookup, asked)?;
@@ -282,8 +282,8 @@ fn project_reply<L: Lookup>(
     asked: &Split,
     read: &Read,
 ) -> Result<Reply, Fault>
-    ensures asks { Asks L.meaning lookup.old lookup.new result }
-    ensures value { TellsOf L.meaning lookup.old lookup.new result
+    ensures asks { IsLook L.meaning lookup.old lookup.new result }
+    ensures value { AnswersForProject L.meaning lookup.old lookup.new result
         (λ p. spec.project_reply p (place asked.now) read.now.path read.now.query) }
 {
     match asked {
@@ -295,8 +295,8 @@ fn project_reply<L: Lookup>(
 
 /// The reply to a read of what the lookup contains.
 pub fn reply<L: Lookup>(alloc: Global, lookup: &mut L, read: &Read) -> Result<Reply, Fault>
-    ensures asks { Asks L.meaning lookup.old lookup.new result }
-    ensures value { Tells L.meaning lookup.old lookup.new result
+    ensures asks { IsLook L.meaning lookup.old lookup.new result }
+    ensures value { AnswersFor L.meaning lookup.old lookup.new result
         (λ content. spec.reply_to content read.now.path read.now.query) }
 {
     if !lookup.known()? {

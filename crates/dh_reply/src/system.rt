@@ -2,7 +2,7 @@
 
 ghost use Rattle.std.specs.Prelude.{◌≡◌, false, IfOk, IfSome};
 ghost use Rattle.std.specs.Option.{option_map_or};
-ghost use Rattle.dh_lookup.specs.Lookup.{Asks, Tells, TellsAll, TellsOf};
+ghost use Rattle.dh_lookup.specs.Lookup.{IsLook, AnswersFor, AnswersAll, AnswersForProject};
 ghost use Rattle.dh_reply.specs.System as spec;
 
 use crate::listing::{names_where, versions_reply};
@@ -15,7 +15,7 @@ use std::alloc::Global;
 
 /// The languages, and the visible versions.
 fn listed<L: Lookup>(alloc: Global, lookup: &mut L) -> Result<(Vec<Lang>, Vec<Version>), Fault>
-    ensures asks { Asks L.meaning lookup.old lookup.new result }
+    ensures asks { IsLook L.meaning lookup.old lookup.new result }
     ensures value { L.meaning.doubt lookup.new ≡ 0 → IfOk result
         (λ told. IfSome (L.meaning.content lookup.old)
         (λ p. (told.0.items ≡ p.langs) × (told.1.items ≡ p.versions))) }
@@ -27,8 +27,8 @@ fn listed<L: Lookup>(alloc: Global, lookup: &mut L) -> Result<(Vec<Lang>, Vec<Ve
 
 /// `/robots.txt`.
 pub fn robots<L: Lookup>(alloc: Global, lookup: &mut L) -> Result<Reply, Fault>
-    ensures asks { Asks L.meaning lookup.old lookup.new result }
-    ensures value { TellsOf L.meaning lookup.old lookup.new result spec.robots }
+    ensures asks { IsLook L.meaning lookup.old lookup.new result }
+    ensures value { AnswersForProject L.meaning lookup.old lookup.new result spec.robots }
 {
     let (langs, versions) = listed(alloc, lookup)?;
     let text = robots_text(alloc, &langs, &versions)?;
@@ -37,8 +37,8 @@ pub fn robots<L: Lookup>(alloc: Global, lookup: &mut L) -> Result<Reply, Fault>
 
 /// Whether the name stands for an alias, and not for a version of that slug.
 fn stands_for_alias<L: Lookup>(alloc: Global, lookup: &mut L, name: &str) -> Result<bool, Fault>
-    ensures asks { Asks L.meaning lookup.old lookup.new result }
-    ensures value { Tells L.meaning lookup.old lookup.new result
+    ensures asks { IsLook L.meaning lookup.old lookup.new result }
+    ensures value { AnswersFor L.meaning lookup.old lookup.new result
         (λ content. option_map_or (λ p. spec.stands_for_alias p name.now) content false) }
 {
     match lookup.name(alloc, name)? {
@@ -49,8 +49,8 @@ fn stands_for_alias<L: Lookup>(alloc: Global, lookup: &mut L, name: &str) -> Res
 
 /// Those of `latest` and `stable` that stand for an alias.
 fn aliases<L: Lookup>(alloc: Global, lookup: &mut L) -> Result<Vec<Text>, Fault>
-    ensures asks { Asks L.meaning lookup.old lookup.new result }
-    ensures value { TellsAll L.meaning lookup.old lookup.new result spec.aliases }
+    ensures asks { IsLook L.meaning lookup.old lookup.new result }
+    ensures value { AnswersAll L.meaning lookup.old lookup.new result spec.aliases }
 {
     let latest = stands_for_alias(alloc, lookup, "latest")?;
     let stable = stands_for_alias(alloc, lookup, "stable")?;
@@ -59,8 +59,8 @@ fn aliases<L: Lookup>(alloc: Global, lookup: &mut L) -> Result<Vec<Text>, Fault>
 
 /// `/_/versions`.
 fn versions<L: Lookup>(alloc: Global, lookup: &mut L) -> Result<Reply, Fault>
-    ensures asks { Asks L.meaning lookup.old lookup.new result }
-    ensures value { TellsOf L.meaning lookup.old lookup.new result spec.versions }
+    ensures asks { IsLook L.meaning lookup.old lookup.new result }
+    ensures value { AnswersForProject L.meaning lookup.old lookup.new result spec.versions }
 {
     let aliases = aliases(alloc, lookup)?;
     let default = lookup.default(alloc)?;
@@ -70,8 +70,9 @@ fn versions<L: Lookup>(alloc: Global, lookup: &mut L) -> Result<Reply, Fault>
 
 /// `/_/name`: there is nothing but `versions`.
 pub fn system<L: Lookup>(alloc: Global, lookup: &mut L, name: &str) -> Result<Reply, Fault>
-    ensures asks { Asks L.meaning lookup.old lookup.new result }
-    ensures value { TellsOf L.meaning lookup.old lookup.new result (λ p. spec.system p name.now) }
+    ensures asks { IsLook L.meaning lookup.old lookup.new result }
+    ensures value { AnswersForProject L.meaning lookup.old lookup.new result
+        (λ p. spec.system p name.now) }
 {
     if name == "versions" {
         versions(alloc, lookup)

@@ -6,14 +6,14 @@ use Rattle.std.specs.Io.KnownBytes.{Consumes}
 use Rattle.dh_ports.specs.declared.stop.Stop.{Stop}
 use Rattle.dh_ports.specs.declared.stop.Stop.TheVariants.{Read, TooManyTurns, Memory}
 use Rattle.dh_ports.specs.Ports.{CountsAtLeast}
-use Rattle.dh_ports.specs.Reading.{reader_failed, TookAtMost, Adds, AddsSome, most_lost}
+use Rattle.dh_ports.specs.Reading.{reader_failed, TookAtMost, AddsOneRead, AddsSome, most_lost}
 use Rattle.dh_requests.specs.declared.asked.Asked.TheVariants.{Command}
 use Rattle.dh_requests.specs.declared.asked.Posted.{Posted}
 use Rattle.dh_requests.specs.declared.head_end.HeadEnd.{HeadEnd}
 use Rattle.dh_requests.specs.declared.head_end.HeadEnd.TheVariants.{At, TooLarge, CutShort}
 use Rattle.dh_requests.specs.HeadEnd.{HeadSize, head_end_in, head_end_of, OpenHead, most_spent}
 use Rattle.dh_requests.specs.Scan.{end_from, at_first}
-use Rattle.dh_requests.specs.Request.{AsksFor}
+use Rattle.dh_requests.specs.Request.{HeadAsksFor}
 use Rattle.dh_requests.specs.Takes.{AddsBytes, AddsNear, AddsPiece, FillsUpTo, TookWhile, TookAtLeast, most_missed}
 use Rattle.dh_requests.specs.Needs.{OpenBody, IsNeeded, StaysNeeded}
 use Rattle.dh_requests.proofs.Ends.{window, end_stays, head_end_of-search}
@@ -41,7 +41,7 @@ fills_stop A old mid new before bytes count stop h lt k few =
 -- ---- a read of a piece, which brings fewer bytes than are missing and 4,096
 
 -- a read of at most 4,096 bytes is one
-pub more_is_piece : (old new : Option (List ℕ)) (before after : List ℕ) (missing : ℕ) (r : Result Bool Stop) → 0 < missing → Adds old new before after r → AddsPiece missing old new before after r
+pub more_is_piece : (old new : Option (List ℕ)) (before after : List ℕ) (missing : ℕ) (r : Result Bool Stop) → 0 < missing → AddsOneRead old new before after r → AddsPiece missing old new before after r
 more_is_piece old new before after missing (Ok came) some h = (h.0, h.1, h.2, h.3, omega (arith, h.4))
 more_is_piece old new before after missing (Err Read) some h = h
 more_is_piece old new before after missing (Err TooManyTurns) some h = h
@@ -109,16 +109,16 @@ pub head_needed : (old new : Option (List ℕ)) (most : ℕ) → TookWhile OpenH
 head_needed old new most n = (n.0, n.1, inl n.2, n.3, n.4)
 
 -- the body was open before the last read
-open_body : (bytes part : List ℕ) (start : ℕ) (posted : Posted) → At start ≡ head_end_of bytes → start ≤ length bytes → AsksFor (take start bytes) (Command posted) → length bytes + length part < start + posted.length → OpenBody (bytes ++ part)
+open_body : (bytes part : List ℕ) (start : ℕ) (posted : Posted) → At start ≡ head_end_of bytes → start ≤ length bytes → HeadAsksFor (take start bytes) (Command posted) → length bytes + length part < start + posted.length → OpenBody (bytes ++ part)
 open_body bytes part start posted e le asks lt = record {
   size = start;
   posted = posted;
   ends = end_kept bytes part start e;
-  asks = subst (λ w. AsksFor w (Command posted)) (sym (take-append-le start bytes part le)) asks;
+  asks = subst (λ w. HeadAsksFor w (Command posted)) (sym (take-append-le start bytes part le)) asks;
   short = omega (arith, length-append bytes part, lt);
 }
 
-body_needed : (old now new : Option (List ℕ)) (bytes : List ℕ) (start most : ℕ) (posted : Posted) → At start ≡ head_end_of bytes → start ≤ length bytes → AsksFor (take start bytes) (Command posted) → Consumes old now bytes → TookWhile (λ part. length bytes + length part < start + posted.length) now new most → IsNeeded old new most
+body_needed : (old now new : Option (List ℕ)) (bytes : List ℕ) (start most : ℕ) (posted : Posted) → At start ≡ head_end_of bytes → start ≤ length bytes → HeadAsksFor (take start bytes) (Command posted) → Consumes old now bytes → TookWhile (λ part. length bytes + length part < start + posted.length) now new most → IsNeeded old new most
 body_needed old now new bytes start most posted e le asks taken h = (
   bytes ++ h.0,
   h.1,
@@ -131,7 +131,7 @@ unread_needed : (old now new : Option (List ℕ)) (failed : Bool) → new ≡ no
 unread_needed old now new failed same fine n = subst (λ b. IsNeeded old new (cond b 0 4096)) (sym fine) (subst (λ w. IsNeeded old w 4096) (sym same) n)
 
 -- whether the body was there with the head or not
-pub stays_needed : (now new : Option (List ℕ)) (bytes : List ℕ) (start : ℕ) (posted : Posted) (failed : Bool) → At start ≡ head_end_of bytes → start ≤ length bytes → AsksFor (take start bytes) (Command posted) → (start + posted.length ≤ length bytes → (new ≡ now) × (failed ≡ false)) → FillsUpTo (length bytes) (start + posted.length) now new (cond failed 0 4096) → StaysNeeded bytes now new (cond failed 0 4096)
+pub stays_needed : (now new : Option (List ℕ)) (bytes : List ℕ) (start : ℕ) (posted : Posted) (failed : Bool) → At start ≡ head_end_of bytes → start ≤ length bytes → HeadAsksFor (take start bytes) (Command posted) → (start + posted.length ≤ length bytes → (new ≡ now) × (failed ≡ false)) → FillsUpTo (length bytes) (start + posted.length) now new (cond failed 0 4096) → StaysNeeded bytes now new (cond failed 0 4096)
 stays_needed now new bytes start posted failed e le asks there filled =
     λ old taken n.
     elim (leb (start + posted.length) (length bytes)) as (λ b. leb (start + posted.length) (length bytes) ≡ b → IsNeeded old new (cond failed 0 4096)) [

@@ -68,18 +68,18 @@ counted_none None = refl
 counted_none (Some s) = ap Some (same_size s.bytes s.bytes (0 + s.lines) s.lines refl (omega arith))
 
 -- what the search says behind some lines and the first bytes of the next
-abbrev Finds : ℕ → List ℕ → List ℕ → Type 0
-Finds n p bs = option_map (behind (length p)) (end_from (at n p) bs) ≡ option_map (counted n) (size_to_empty (lead p (lines_of bs)))
+abbrev FindsBehind : ℕ → List ℕ → List ℕ → Type 0
+FindsBehind n p bs = option_map (behind (length p)) (end_from (at n p) bs) ≡ option_map (counted n) (size_to_empty (lead p (lines_of bs)))
 
 -- the same before the first line
 abbrev FindsFirst : List ℕ → List ℕ → Type 0
 FindsFirst p bs = option_map (behind (length p)) (end_from (at 0 p) bs) ≡ head_size (lead p (lines_of bs))
 
-plain : (n : ℕ) (bs : List ℕ) → Finds n [] bs → end_from (at n []) bs ≡ option_map (counted n) (size_to_empty (lines_of bs))
+plain : (n : ℕ) (bs : List ℕ) → FindsBehind n [] bs → end_from (at n []) bs ≡ option_map (counted n) (size_to_empty (lines_of bs))
 plain n bs h = sym (behind_none (end_from (at n []) bs)) ∙ h ∙ ap (λ ls. option_map (counted n) (size_to_empty ls)) (lead_none (lines_of bs))
 
 -- an LF
-line_ends : (n : ℕ) (p bs : List ℕ) (e : Bool) → eqb n 0 ≡ false → is_empty_line p ≡ e → Finds (n + 1) [] bs → Finds n p (10 ∷ bs)
+line_ends : (n : ℕ) (p bs : List ℕ) (e : Bool) → eqb n 0 ≡ false → is_empty_line p ≡ e → FindsBehind (n + 1) [] bs → FindsBehind n p (10 ∷ bs)
 line_ends n p bs true h e k =
     let len : 1 + length p ≡ length p + 1 = omega arith in
     rw (append-nil p, empty_at p, e, h) (ap Some (same_size (1 + length p) (length p + 1) n (n + 0) len (omega arith)))
@@ -87,22 +87,22 @@ line_ends n p bs false h e k =
     rw (append-nil p, empty_at p, e) (ap (λ o. option_map (behind (length p)) (option_map (behind 1) o)) (plain (n + 1) bs k) ∙ line_behind (size_to_empty (lines_of bs)) p n 1)
 
 -- a byte within a line
-byte_in : (n : ℕ) (p bs : List ℕ) (b : ℕ) → eqb b 10 ≡ false → Finds n (p ++ b ∷ []) bs → Finds n p (b ∷ bs)
+byte_in : (n : ℕ) (p bs : List ℕ) (b : ℕ) → eqb b 10 ≡ false → FindsBehind n (p ++ b ∷ []) bs → FindsBehind n p (b ∷ bs)
 byte_in n p bs b e k =
     let len : 1 + length p ≡ length (p ++ b ∷ []) = omega (arith, length-append p (b ∷ [])) in
     rw (e, place_on p b) (behind_twice (end_from (at n (p ++ b ∷ [])) bs) (length p) 1 (length (p ++ b ∷ [])) len ∙ k
     ∙ ap (λ ls. option_map (counted n) (size_to_empty ls)) (sym (lead_first p b (lines_of bs))))
 
-byte_finds : (n : ℕ) (p bs : List ℕ) (b : ℕ) (c : Bool) → eqb b 10 ≡ c → eqb n 0 ≡ false → Finds (n + 1) [] bs → Finds n (p ++ b ∷ []) bs → Finds n p (b ∷ bs)
+byte_finds : (n : ℕ) (p bs : List ℕ) (b : ℕ) (c : Bool) → eqb b 10 ≡ c → eqb n 0 ≡ false → FindsBehind (n + 1) [] bs → FindsBehind n (p ++ b ∷ []) bs → FindsBehind n p (b ∷ bs)
 byte_finds n p bs b true e h k m =
     let ten : 10 ≡ b = grind (arith, nat_tests) in
-    subst (λ x. Finds n p (x ∷ bs)) ten (line_ends n p bs (is_empty_line p) h refl k)
+    subst (λ x. FindsBehind n p (x ∷ bs)) ten (line_ends n p bs (is_empty_line p) h refl k)
 byte_finds n p bs b false e h k m = byte_in n p bs b e m
 
 later : (n : ℕ) → eqb (n + 1) 0 ≡ false
 later n = grind (arith, nat_tests)
 
-finds : (n : ℕ) (p bs : List ℕ) → eqb n 0 ≡ false → Finds n p bs
+finds : (n : ℕ) (p bs : List ℕ) → eqb n 0 ≡ false → FindsBehind n p bs
 finds n p [] h = refl
 finds n p (b ∷ bs) h = byte_finds n p bs b (eqb b 10) refl h (finds (n + 1) [] bs (later n)) (finds n (p ++ b ∷ []) bs h)
 

@@ -21,7 +21,7 @@ use Rattle.dh_requests.specs.Lengths.{is_number, limited, told_length, body_leng
 use Rattle.dh_paths.specs.Targets.{target_of}
 use Rattle.dh_wire.specs.declared.reply.Allow.TheVariants as allow
 use Rattle.dh_requests.specs.declared.request.Request.TheVariants.{Refused}
-use Rattle.dh_requests.specs.Request.{is_head, requested_host, not_allowed, post_at, read_by, posted, post_by, asked_at, asked_where_right, asked_of, AsksFor}
+use Rattle.dh_requests.specs.Request.{is_head, requested_host, not_allowed, post_at, read_by, posted, post_by, asked_at, asked_where_right, asked_of, HeadAsksFor}
 use Rattle.dh_requests.specs.Needs.{NeedsMore, IsNeeded}
 use Rattle.dh_requests.proofs.Ends.{head_end_of-search}
 
@@ -86,7 +86,7 @@ asked_little (Some head) =
     map_or (post_at target.path) (λ post. post_by post parts host key) (Whole (read_by parts.method target host pass)) (λ post. post_little post parts host key) tt))))) tt
 
 -- the body that a head asks for has at most 4,194,304 bytes
-pub asks_little : (text : List ℕ) (posted : Posted) → AsksFor text (Command posted) → posted.length ≤ 4194304
+pub asks_little : (text : List ℕ) (posted : Posted) → HeadAsksFor text (Command posted) → posted.length ≤ 4194304
 asks_little text posted asks = subst IsLittle (sym asks.2) (asked_little asks.0)
 
 -- an end lies among the bytes that were searched

@@ -17,15 +17,15 @@ use Rattle.dh_requests.specs.declared.head_end.HeadEnd.TheVariants.{At, TooLarge
 use Rattle.dh_requests.specs.HeadEnd.{head_end_of}
 use Rattle.dh_requests.specs.Head.{IsHeadOf, parts_found, IsReadAs}
 use Rattle.dh_requests.specs.Takes.{AddsUpTo}
-use Rattle.dh_requests.specs.Request.{asked_by, asked_of, AsksFor, command_of, request_behind, IsRequestUpTo, IsRequest}
+use Rattle.dh_requests.specs.Request.{asked_by, asked_of, HeadAsksFor, command_of, request_behind, IsRequestUpTo, IsRequest}
 
 -- the parts that were found ask for what the head does
-pub text_asks : (text : List ℕ) (found : Head) (r : Result Asked Stop) → IsReadAs text (Some found) → IfOk r (λ a. a ≡ asked_by (parts_found found)) → IfOk r (AsksFor text)
+pub text_asks : (text : List ℕ) (found : Head) (r : Result Asked Stop) → IsReadAs text (Some found) → IfOk r (λ a. a ≡ asked_by (parts_found found)) → IfOk r (HeadAsksFor text)
 text_asks text found (Err e) read h = tt
 text_asks text found (Ok a) read h = (Some read.0, read.1, h ∙ ap asked_by read.2)
 
 -- what the text of a head asks for, and what follows it, is a request
-pub request_text : (r : Result Request Stop) (left : Option (List ℕ)) (bytes text : List ℕ) (start : ℕ) (asked : Asked) → start ≤ length bytes → text ≡ take start bytes → AsksFor text asked → IfOk r (λ q. IfSome left (λ more. q ≡ request_behind asked (drop start (bytes ++ more)))) → IfOk r (λ q. IfSome left (λ more. IsRequestUpTo (At start) (bytes ++ more) q))
+pub request_text : (r : Result Request Stop) (left : Option (List ℕ)) (bytes text : List ℕ) (start : ℕ) (asked : Asked) → start ≤ length bytes → text ≡ take start bytes → HeadAsksFor text asked → IfOk r (λ q. IfSome left (λ more. q ≡ request_behind asked (drop start (bytes ++ more)))) → IfOk r (λ q. IfSome left (λ more. IsRequestUpTo (At start) (bytes ++ more) q))
 request_text (Err e) left bytes text start asked le same asks is = tt
 request_text (Ok q) None bytes text start asked le same asks is = tt
 request_text (Ok q) (Some more) bytes text start asked le same asks is =
@@ -33,7 +33,7 @@ request_text (Ok q) (Some more) bytes text start asked le same asks is =
     (asks.0, subst (λ w. IsHeadOf w asks.0) front asks.1, is ∙ ap (λ a. request_behind a (drop start (bytes ++ more))) asks.2)
 
 -- a request that is whole with its head
-pub whole_text : (left : Option (List ℕ)) (bytes text : List ℕ) (start : ℕ) (request : Request) → start ≤ length bytes → text ≡ take start bytes → AsksFor text (Whole request) → IfSome left (λ more. IsRequestUpTo (At start) (bytes ++ more) request)
+pub whole_text : (left : Option (List ℕ)) (bytes text : List ℕ) (start : ℕ) (request : Request) → start ≤ length bytes → text ≡ take start bytes → HeadAsksFor text (Whole request) → IfSome left (λ more. IsRequestUpTo (At start) (bytes ++ more) request)
 whole_text None bytes text start request le same asks = tt
 whole_text (Some more) bytes text start request le same asks = request_text (Ok request) (Some more) bytes text start (Whole request) le same asks refl
 

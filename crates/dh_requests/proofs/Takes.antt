@@ -6,7 +6,7 @@ use Rattle.dh_ports.specs.declared.source.Source.{Ghosts}
 use Rattle.dh_ports.specs.declared.stop.Stop.{Stop}
 use Rattle.dh_ports.specs.declared.stop.Stop.TheVariants.{Read, TooManyTurns, Memory}
 use Rattle.dh_ports.specs.Reading.{reader_failed, TookAtMost, AddsSome, most_lost}
-use Rattle.dh_requests.specs.Takes.{TookWhile, Takes}
+use Rattle.dh_requests.specs.Takes.{TookWhile, TakesNeeded}
 
 -- some bytes, and then others
 pub consumes_on : (a b c : Option (List ℕ)) (xs ys : List ℕ) → Consumes a b xs → Consumes b c ys → Consumes a c (xs ++ ys)
@@ -43,7 +43,7 @@ same_cause A B Memory = refl
 
 module _ {S : Type 0} {g : Ghosts S} {old new : S} {Needs : Option (List ℕ) → Option (List ℕ) → ℕ → Type 0} {bytes times : ℕ} where
   -- after an answer, where only memory ran out
-  pub takes_still : {A B : Type 0} (a : A) (r : Result B Stop) → IfErr r (λ stop. stop ≡ Memory) → Takes g old new (Ok a) Needs bytes times → Takes g old new r Needs bytes times
+  pub takes_still : {A B : Type 0} (a : A) (r : Result B Stop) → IfErr r (λ stop. stop ≡ Memory) → TakesNeeded g old new (Ok a) Needs bytes times → TakesNeeded g old new r Needs bytes times
   takes_still a (Ok b) e t = record {
     needed = t.needed;
     broken = t.broken;
@@ -59,7 +59,7 @@ module _ {S : Type 0} {g : Ghosts S} {old new : S} {Needs : Option (List ℕ) �
     reads = t.reads;
   }
 
-  same_stop : {A B : Type 0} (stop : Stop) → Takes {T = A} g old new (Err stop) Needs bytes times → Takes {T = B} g old new (Err stop) Needs bytes times
+  same_stop : {A B : Type 0} (stop : Stop) → TakesNeeded {T = A} g old new (Err stop) Needs bytes times → TakesNeeded {T = B} g old new (Err stop) Needs bytes times
   same_stop {A = A} {B = B} stop t = record {
     needed = subst (λ failed. Needs (g.left old) (g.left new) (cond failed 0 4096)) (same_cause A B stop) t.needed;
     broken = t.broken ∙ same_cause A B stop;
@@ -69,7 +69,7 @@ module _ {S : Type 0} {g : Ghosts S} {old new : S} {Needs : Option (List ℕ) �
   }
 
   -- after a stop that is handed on
-  pub takes_stop : {A B : Type 0} (stop : Stop) (r : Result B Stop) → IsErrAnd r (λ e. e ≡ stop) → Takes {T = A} g old new (Err stop) Needs bytes times → Takes g old new r Needs bytes times
+  pub takes_stop : {A B : Type 0} (stop : Stop) (r : Result B Stop) → IsErrAnd r (λ e. e ≡ stop) → TakesNeeded {T = A} g old new (Err stop) Needs bytes times → TakesNeeded g old new r Needs bytes times
   takes_stop {A = A} {B = B} stop r is t =
       let at = err_from_is_err_and r is in
-      subst (λ (v : Result B Stop). Takes g old new v Needs bytes times) (sym (at.1 ∙ ap Err at.2)) (same_stop {A = A} {B = B} stop t)
+      subst (λ (v : Result B Stop). TakesNeeded g old new v Needs bytes times) (sym (at.1 ∙ ap Err at.2)) (same_stop {A = A} {B = B} stop t)

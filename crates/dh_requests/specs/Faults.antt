@@ -11,9 +11,9 @@ fault_of text.Memory = Memory
 fault_of _ = BadText
 
 -- the definition's value is found; a fault but out of memory comes only where it has none
-abbrev pub Finds : {A : Type 0} → Option A → Result A HeadFault → Type 0
-Finds spec (Ok value) = spec ≡ Some value
-Finds spec (Err BadText) = spec ≡ None
-Finds spec (Err NoLine) = spec ≡ None
-Finds spec (Err TwoLines) = spec ≡ None
-Finds spec (Err Memory) = ⊤
+abbrev pub FindsInHead : {A : Type 0} → Option A → Result A HeadFault → Type 0
+FindsInHead spec (Ok value) = spec ≡ Some value
+FindsInHead spec (Err BadText) = spec ≡ None
+FindsInHead spec (Err NoLine) = spec ≡ None
+FindsInHead spec (Err TwoLines) = spec ≡ None
+FindsInHead spec (Err Memory) = ⊤

@@ -4,7 +4,7 @@ use Rattle.dh_requests.specs.declared.head_end.HeadEnd.TheVariants.{At}
 use Rattle.dh_requests.specs.declared.asked.Posted.{Posted}
 use Rattle.dh_requests.specs.declared.asked.Asked.TheVariants.{Command}
 use Rattle.dh_requests.specs.HeadEnd.{head_end_of, OpenHead}
-use Rattle.dh_requests.specs.Request.{AsksFor}
+use Rattle.dh_requests.specs.Request.{HeadAsksFor}
 use Rattle.std.specs.Io.KnownBytes.{Consumes}
 use Rattle.dh_requests.specs.Takes.{TookWhile}
 
@@ -13,7 +13,7 @@ pub record OpenBody (bytes : List ℕ) : Type 0 where
   pub size : ℕ
   pub posted : Posted
   pub ends : head_end_of bytes ≡ At size
-  pub asks : AsksFor (take size bytes) (Command posted)
+  pub asks : HeadAsksFor (take size bytes) (Command posted)
   pub short : length bytes < size + posted.length
 
 -- an input that begins with these bytes needs more of them: its head is open, or its body is

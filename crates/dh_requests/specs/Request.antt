@@ -129,8 +129,8 @@ request_behind (Command posted) rest =
 -- ---- the input
 
 -- a text that is a head by its lines asks for that
-abbrev pub AsksFor : List ℕ → Asked → Type 0
-AsksFor text asked = (head : Option RequestHead) × IsHeadOf text head × (asked ≡ asked_of head)
+abbrev pub HeadAsksFor : List ℕ → Asked → Type 0
+HeadAsksFor text asked = (head : Option RequestHead) × IsHeadOf text head × (asked ≡ asked_of head)
 
 -- the request of a text that is a head by its lines, and of what follows it
 abbrev pub IsRequestText : List ℕ → List ℕ → Request → Type 0

@@ -71,7 +71,7 @@ AddsPiece missing old new before after (Err stop) =
 -- What a call takes from a source, whatever it answers.
 module _ {S T : Type 0} (g : Ghosts S) (old new : S) (result : Result T Stop) where
   -- It makes at most so many reads, and it needs them.
-  pub record Takes
+  pub record TakesNeeded
       (Needs : Option (List ℕ) → Option (List ℕ) → ℕ → Type 0) (bytes times : ℕ) : Type 0 where
     -- no more came than is needed, and then 4,096 bytes at most: none where the reader failed
     pub needed : Needs (g.left old) (g.left new) (if reader_failed result then 0 else 4096)

@@ -2,7 +2,7 @@
 
 ghost use Rattle.std.specs.Prelude.{◌≡◌, [], IfOk, IfErr, OnErr, Some, None, unwrap_or};
 ghost use Rattle.std.specs.Option.{option_copied};
-ghost use Rattle.dh_requests.specs.Faults.{Finds};
+ghost use Rattle.dh_requests.specs.Faults.{FindsInHead};
 ghost use Rattle.dh_requests.specs.Fields.{one_of};
 ghost use Rattle.dh_requests.specs.Head.{parts_found};
 ghost use Rattle.dh_requests.specs.HeadEnd.{IsHeadText};
@@ -39,7 +39,7 @@ fn requested_host(
     named: &Option<Text>,
     lines: Lines<'_>,
 ) -> Result<Option<HostName>, HeadFault>
-    ensures { Finds (request.requested_host named.now (one_of lines.entry)) result }
+    ensures { FindsInHead (request.requested_host named.now (one_of lines.entry)) result }
 {
     match lines {
         Lines::One(value) => match named {
@@ -138,7 +138,7 @@ fn asked_at(
 
 /// What a head asks for in which nothing is wrong.
 fn asked_where_right(alloc: Global, head: &Head<'_>) -> Result<Asked, HeadFault>
-    ensures { Finds (request.asked_where_right (parts_found head.now)) result }
+    ensures { FindsInHead (request.asked_where_right (parts_found head.now)) result }
 {
     let target = Target::read(alloc, head.target)?;
     let host = requested_host(alloc, &target.host, head.host)?;
@@ -164,7 +164,7 @@ fn head_asks(alloc: Global, head: &Head<'_>) -> Result<Asked, Stop>
 /// What the text of a head asks for.
 pub fn text_asks(alloc: Global, text: &[u8]) -> Result<Asked, Stop>
     requires { IsHeadText text.now }
-    ensures asked { IfOk result (request.AsksFor text.now) }
+    ensures asked { IfOk result (request.HeadAsksFor text.now) }
     ensures err { IfErr result (λ stop. stop ≡ Stop.Memory) }
 {
     match head_of(text) {

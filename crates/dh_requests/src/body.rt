@@ -3,7 +3,7 @@
 ghost use Rattle.std.specs.Prelude.{◌≡◌, ◌+◌, ◌-◌, ◌≤◌, ◌<◌, false, length, min, IfOk, OnOk, IsErrOf, if◌then◌else◌};
 ghost use Rattle.dh_ports.specs.Ports.{CountsUpTo, CountsAtLeast};
 ghost use Rattle.dh_ports.specs.Reading.{reader_failed, IsFull};
-ghost use Rattle.dh_requests.specs.Takes.{AddsPiece, AddsUpTo, FillsUpTo, Takes};
+ghost use Rattle.dh_requests.specs.Takes.{AddsPiece, AddsUpTo, FillsUpTo, TakesNeeded};
 
 use dh_ports::{Intake, Source, Stop};
 
@@ -83,7 +83,7 @@ pub fn read_up_to<R: Source>(
     ensures adds { IfOk result (AddsUpTo (R.left source.old) (R.left source.new)
         intake.old.bytes.items intake.new.bytes.items count) }
     ensures unread { count ≤ length intake.old.bytes.items → source.new ≡ source.old }
-    ensures takes { Takes R.Source source.old source.new result
+    ensures takes { TakesNeeded R.Source source.old source.new result
         (FillsUpTo (length intake.old.bytes.items) count)
         (100000 - length intake.old.bytes.items) (100000 - intake.old.reads) }
 {

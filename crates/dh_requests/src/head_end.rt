@@ -4,7 +4,7 @@ ghost use Rattle.std.specs.Prelude.{◌≡◌, ◌+◌, ◌^◌, ◌-◌, ◌≤
 ghost use Rattle.std.specs.Io.KnownBytes.{Consumes};
 ghost use Rattle.dh_ports.specs.Ports.{CountsUpTo, CountsAtLeast};
 ghost use Rattle.dh_requests.specs.HeadEnd.{head_end_of, EndsHead, OpenHead, most_spent};
-ghost use Rattle.dh_requests.specs.Takes.{TookWhile, Takes};
+ghost use Rattle.dh_requests.specs.Takes.{TookWhile, TakesNeeded};
 ghost use Rattle.dh_requests.specs.Scan.{after_byte, ScansTo, FindsEnd};
 
 use dh_ports::{Intake, Source, Stop};
@@ -104,7 +104,7 @@ pub fn read_head<R: Source>(intake: &mut Intake, source: &mut R) -> Result<HeadE
         IfSome (R.left source.old) (λ input. end ≡ head_end_of input)) }
     ensures found { IfOk result (λ end. end ≡ head_end_of intake.new.bytes.items) }
     ensures text { IfOk result (λ end. EndsHead end intake.new.bytes.items) }
-    ensures takes { Takes R.Source source.old source.new result
+    ensures takes { TakesNeeded R.Source source.old source.new result
         (TookWhile OpenHead) 100000 100000 }
     ensures turns { IsErrOf result Stop.TooManyTurns → ⊥ }
     ensures little { OnOk result (length intake.new.bytes.items ≤ 20480) }

@@ -7,7 +7,7 @@ ghost use Rattle.dh_requests.specs.declared.asked.Asked.{Asked};
 ghost use Rattle.dh_requests.specs.declared.head_end.HeadEnd.TheVariants.{At};
 ghost use Rattle.dh_requests.specs.HeadEnd.{head_end_of, EndsHead, most_spent};
 ghost use Rattle.dh_requests.specs.Request as request;
-ghost use Rattle.dh_requests.specs.Takes.{FillsUpTo, Takes};
+ghost use Rattle.dh_requests.specs.Takes.{FillsUpTo, TakesNeeded};
 ghost use Rattle.dh_requests.specs.Needs.{IsNeeded, StaysNeeded};
 
 use crate::asked::{Asked, Posted};
@@ -60,7 +60,7 @@ fn read_command<R: Source>(
         (drop start (intake.bytes.items ++ left)))) }
     ensures unread { start + posted.length ≤ length intake.bytes.items
         → source.new ≡ source.old }
-    ensures takes { Takes R.Source source.old source.new result
+    ensures takes { TakesNeeded R.Source source.old source.new result
         (FillsUpTo (length intake.bytes.items) (start + posted.length))
         (100000 - length intake.bytes.items) (100000 - intake.reads) }
 {
@@ -79,7 +79,8 @@ fn read_behind<R: Source>(alloc: Global, intake: Intake, source: &mut R, start: 
     requires little { length intake.bytes.items ≤ 20480 }
     ensures request { IfOk result (λ r. IfSome (R.left source.old) (λ left.
         request.IsRequestUpTo (At start) (intake.bytes.items ++ left) r)) }
-    ensures takes { Takes R.Source source.old source.new result (StaysNeeded intake.bytes.items)
+    ensures takes { TakesNeeded R.Source source.old source.new result
+        (StaysNeeded intake.bytes.items)
         (100000 - length intake.bytes.items) (100000 - intake.reads) }
 {
     match text_asks(alloc, &intake.bytes[..start])? {
@@ -96,7 +97,8 @@ fn read_on<R: Source>(alloc: Global, intake: Intake, source: &mut R, end: HeadEn
     requires little { length intake.bytes.items ≤ 20480 }
     ensures request { IfOk result (λ r. IfSome (R.left source.old) (λ left.
         request.IsRequestUpTo end (intake.bytes.items ++ left) r)) }
-    ensures takes { Takes R.Source source.old source.new result (StaysNeeded intake.bytes.items)
+    ensures takes { TakesNeeded R.Source source.old source.new result
+        (StaysNeeded intake.bytes.items)
         (100000 - length intake.bytes.items) (100000 - intake.reads) }
     ensures spent { CountsUpTo (R.fills source.old) (R.fills source.new)
         (100000 - most_spent end intake.reads) }
@@ -117,7 +119,7 @@ pub fn read_request<R: Source>(alloc: Global, source: &mut R) -> Result<Request,
     ensures asked { IfOk result (λ r.
         IfSome (R.left source.old) (λ input. request.IsRequest input r)) }
     ensures taken { TookAtMost (R.left source.old) (R.left source.new) 4214784 }
-    ensures takes { Takes R.Source source.old source.new result IsNeeded 100000 100000 }
+    ensures takes { TakesNeeded R.Source source.old source.new result IsNeeded 100000 100000 }
 {
     let mut intake = Intake::new(alloc);
     let end = read_head(&mut intake, source)?;

@@ -67,7 +67,7 @@ missing None e = refl
 missing (Some x) e = absurd (cc)
 
 -- the records after an edit spell the edited project, and are sound
-pub record Spells (host : Text) (lists next : Lists) (q : Project) : Type 0 where
+pub record SpellsEdited (host : Text) (lists next : Lists) (q : Project) : Type 0 where
   pub world_is : world_of next ≡ insert (world_of lists) host q
   pub sound : AreSound next
 
@@ -98,7 +98,7 @@ module _ (host : Text) (lists : Lists) (p : Project) (sound : AreSound lists) (w
   rows_may (PutAnswer a) may =
       used_is_free (answer_row host a) lists.used (unmapped kept_answer _ (sym (used_in lists host p was a.slug a.operation a.key) ∙ may.0))
 
-  version_gone : (slug : Text) → Spells host lists (of_lists.drop_version host slug (of_lists.drop_grants_of host slug (of_lists.drop_pages host slug None (of_lists.set_picks host (change.without_name slug p.defaults) lists)))) (change.without_version slug p)
+  version_gone : (slug : Text) → SpellsEdited host lists (of_lists.drop_version host slug (of_lists.drop_grants_of host slug (of_lists.drop_pages host slug None (of_lists.set_picks host (change.without_name slug p.defaults) lists)))) (change.without_version slug p)
   version_gone slug =
       let one : Lists = of_lists.set_picks host (change.without_name slug p.defaults) lists in
       let two : Lists = of_lists.drop_pages host slug None one in
@@ -110,7 +110,7 @@ module _ (host : Text) (lists : Lists) (p : Project) (sound : AreSound lists) (w
         };
       }
 
-  new_front : (name : Text) → IsTrue (is_alias name || has_version lists host name) → Spells host lists (of_lists.set_picks host (name ∷ change.without_name name p.defaults) lists) (record p { defaults = name ∷ change.without_name name p.defaults })
+  new_front : (name : Text) → IsTrue (is_alias name || has_version lists host name) → SpellsEdited host lists (of_lists.set_picks host (name ∷ change.without_name name p.defaults) lists) (record p { defaults = name ∷ change.without_name name p.defaults })
   new_front name may = record {
     world_is = world_with_defaults lists host (name ∷ change.without_name name p.defaults) p sound.order.picks was;
     sound = record {
@@ -119,7 +119,7 @@ module _ (host : Text) (lists : Lists) (p : Project) (sound : AreSound lists) (w
     };
   }
 
-  edit_spells : (e : Edit) → MayEdit e p → Spells host lists (rows_edited host e lists) (edited e p)
+  edit_spells : (e : Edit) → MayEdit e p → SpellsEdited host lists (rows_edited host e lists) (edited e p)
   edit_spells (AddLang lang place) may =
       let row : LangRow = lang_row host lang place in
       let next = may.1 ∙ ap (λ n. n + 1) (count_in lists host p was) in record {
@@ -151,7 +151,7 @@ module _ (host : Text) (lists : Lists) (p : Project) (sound : AreSound lists) (w
         };
       }
   edit_spells (RemoveVersion slug defaults) may =
-      let P : List Text → Type 0 = λ names. Spells host lists (of_lists.drop_version host slug (of_lists.drop_grants_of host slug (of_lists.drop_pages host slug None (of_lists.set_picks host names lists)))) (record (change.without_version slug p) { defaults = names }) in
+      let P : List Text → Type 0 = λ names. SpellsEdited host lists (of_lists.drop_version host slug (of_lists.drop_grants_of host slug (of_lists.drop_pages host slug None (of_lists.set_picks host names lists)))) (record (change.without_version slug p) { defaults = names }) in
       subst P (sym may) (version_gone slug)
   edit_spells (PutPage slug lang x) may =
       let row : PageRow = page_row host slug lang x in record {
@@ -167,7 +167,7 @@ module _ (host : Text) (lists : Lists) (p : Project) (sound : AreSound lists) (w
         sound = record { order = order_without lists sound.order out; constraints = constraints_without lists out sound.constraints };
       }
   edit_spells (SetDefaults names) may =
-      let P : List Text → Type 0 = λ ns. Spells host lists (of_lists.set_picks host ns lists) (record p { defaults = ns }) in
+      let P : List Text → Type 0 = λ ns. SpellsEdited host lists (of_lists.set_picks host ns lists) (record p { defaults = ns }) in
       subst P (sym may.names_are) (new_front may.name (sym (ap (λ b. is_alias may.name || b) (has_version_in lists host p was may.name)) ∙ may.may))
   edit_spells (SetRules rules) may = record {
     world_is = world_with_rules lists host rules p sound.constraints sound.order.rules was;
@@ -232,7 +232,7 @@ module _ (host : Text) (lists : Lists) (p : Project) (sound : AreSound lists) (w
 
 -- ---- edits one after the other
 
-after : (host : Text) (lists next : Lists) (q : Project) → Spells host lists next q → get (world_of next) host ≡ Some q
+after : (host : Text) (lists next : Lists) (q : Project) → SpellsEdited host lists next q → get (world_of next) host ≡ Some q
 after host lists next q it = ap (λ w. get w host) it.world_is ∙ get_back (world_of lists) host q
 
 pub all_may
@@ -249,7 +249,7 @@ all_may host (e ∷ es) lists p sound was may =
 pub all_spell
     : (host : Text) (es : List Edit) (lists : Lists) (p : Project) → AreSound lists
     → get (world_of lists) host ≡ Some p → MayEditAll es p
-    → Spells host lists (all_rows_edited host es lists) (all_edited es p)
+    → SpellsEdited host lists (all_rows_edited host es lists) (all_edited es p)
 all_spell host [] lists p sound was may = record {
   world_is = sym (put_same (world_of lists) host p was);
   sound = sound;

@@ -30,7 +30,7 @@ use Rattle.dh_faults.specs.declared.fault.Fault.{Fault}
 use Rattle.dh_faults.specs.declared.fault.Fault.TheVariants.{Store, Memory}
 use Rattle.dh_rows.specs.Faults.{fault_of}
 use Rattle.dh_faults.specs.Faults.{OnStore}
-use Rattle.dh_rows.specs.Calls.{command_of, statement_of, IsEdit, Edits, EditsAs, whole, IsHonest, LeavesTrees, LeavesNoMore, Lasts, Goes, GoesWithin, Sees, Runs as Ran, Makes, EditsAtMost, Controls, OnlyBegins, OnlyCommits, OnlyUndoes, OnlyLooks, OnlyEdits, Begins, Commits, Undoes, Refuses, IsPlainLook, IsPlainEdit, AreRows, IsBlamed, Blames, IsRejected, IsUnfit, Shows, IsSame, IsUndone, IsRefused, Becomes}
+use Rattle.dh_rows.specs.Calls.{command_of, statement_of, IsEdit, EditsTo, EditsAs, whole, IsHonest, LeavesTrees, LeavesNoMore, KeepsFaults, MakesNoCommit, MakesNoCommitInside, NowShows, RunsStatement as Ran, EditsWhatIsSeen, EditsAtMost, ControlsTransaction, OnlyBegins, OnlyCommits, OnlyUndoes, OnlyLooks, OnlyEdits, BeginsTransaction, CommitsSeen, UndoesTransaction, RefusalUndoes, IsPlainLook, IsPlainEdit, AreRows, IsBlamed, StoreFaultHasCause, IsRejected, IsUnfit, ShowsHonestly, IsSame, IsUndone, IsRefused, BecomesSeen}
 
 -- ---- refusals
 
@@ -129,7 +129,7 @@ rollback_commits : (s : State) (db : Trees) → ¬ CommitsBy rollback_text [] s 
 rollback_commits s db h = elim (bare_commits are_bare.2 s db h).0 [ inl e ↦ cc | inr e ↦ (let x = e.1 in cc) ]
 
 edit_commits : (sql : List ℕ) (params : Row) (s : State) (db : Trees) → IsPlain (understood s.now.schema sql) → IsEdit (command_of (understood s.now.schema sql)) → CommitsBy sql params s db
-    → (s.in_transaction ≡ false) × (after : Database) × Edits s sql params after × (db ≡ after.trees)
+    → (s.in_transaction ≡ false) × (after : Database) × EditsTo s sql params after × (db ≡ after.trees)
 edit_commits sql params s db plain edits h =
     let it = may_commit sql params s db plain h in
     elim it.2 [
@@ -183,7 +183,7 @@ module _ {S : Type 0} (g : Ghosts S) (old new : Held S) (text : List ℕ) (k : C
       ]
 
   -- A refusal is the store's own, but where the statement is out of place.
-  pub blames : (P : Type 0) (r : Result (Unit {0}) Fault) → IfErr r (IsRejected g old new text []) → ((e : Error) → state.IsMisplaced (state_of g old) k e → P) → Blames g old new r P
+  pub blames : (P : Type 0) (r : Result (Unit {0}) Fault) → IfErr r (IsRejected g old new text []) → ((e : Error) → state.IsMisplaced (state_of g old) k e → P) → StoreFaultHasCause g old new r P
   blames P (Ok u) told out clean = tt
   blames P (Err Memory) told out clean = tt
   blames P (Err Store) told out clean =
@@ -191,21 +191,21 @@ module _ {S : Type 0} (g : Ghosts S) (old new : Held S) (text : List ℕ) (k : C
       elim (why it.0 it.2 (sym it.1)) [ inl own ↦ inl own | inr misplaced ↦ inr (out it.0 misplaced) ]
 
 module _ {S : Type 0} (g : Ghosts S) (old new : Held S) (r : Result (Unit {0}) Fault) where
-  begin_blames : IfErr r (IsRejected g old new begin_text []) → Blames g old new r (old.in_transaction ≡ true)
+  begin_blames : IfErr r (IsRejected g old new begin_text []) → StoreFaultHasCause g old new r (old.in_transaction ≡ true)
   begin_blames told = blames g old new begin_text Begin are_bare.0 _ r told out
     where
       out : (e : Error) → state.IsMisplaced (state_of g old) Begin e → old.in_transaction ≡ true
       out e (inl it) = elim it.1 [ inl within ↦ within.1 | inr ends ↦ absurd (elim ends.0 [ inl x ↦ cc | inr x ↦ cc ]) ]
       out e (inr it) = absurd (elim it.2 [ inl x ↦ cc | inr x ↦ cc ])
 
-  commit_blames : IfErr r (IsRejected g old new commit_text []) → Blames g old new r (old.in_transaction ≡ false)
+  commit_blames : IfErr r (IsRejected g old new commit_text []) → StoreFaultHasCause g old new r (old.in_transaction ≡ false)
   commit_blames told = blames g old new commit_text Commit are_bare.1 _ r told out
     where
       out : (e : Error) → state.IsMisplaced (state_of g old) Commit e → old.in_transaction ≡ false
       out e (inl it) = elim it.1 [ inl begins ↦ absurd (let x = begins.0 in cc) | inr ends ↦ ends.1 ]
       out e (inr it) = absurd (elim it.2 [ inl x ↦ cc | inr x ↦ cc ])
 
-  rollback_blames : IfErr r (IsRejected g old new rollback_text []) → old.in_transaction ≡ true → Blames g old new r ⊥
+  rollback_blames : IfErr r (IsRejected g old new rollback_text []) → old.in_transaction ≡ true → StoreFaultHasCause g old new r ⊥
   rollback_blames told within = blames g old new rollback_text Rollback are_bare.2 _ r told out
     where
       out : (e : Error) → state.IsMisplaced (state_of g old) Rollback e → ⊥
@@ -286,7 +286,7 @@ module _ {S : Type 0} (g : Ghosts S) (old new : Held S) (P : Trees → Type 0) (
   back_clean clean = omega (arith, survives.clean, clean)
 
   -- only a fault shuts the store
-  pub lasts : (IsHonest g new → IsHonest g old) → Lasts g old new
+  pub lasts : (IsHonest g new → IsHonest g old) → KeepsFaults g old new
   lasts was = record {
     clean = back_clean;
     was = was;
@@ -295,7 +295,7 @@ module _ {S : Type 0} (g : Ghosts S) (old new : Held S) (P : Trees → Type 0) (
     limit = survives.limit;
   }
 
-  told : (now last : Database) (mode : Bool) → state.Shows (state_of g old) (state_of g new) now last mode → HasCleanDisk (state_of g new) → Shows g whole old new now last mode
+  told : (now last : Database) (mode : Bool) → state.Shows (state_of g old) (state_of g new) now last mode → HasCleanDisk (state_of g new) → ShowsHonestly g whole old new now last mode
   told now last mode it clean = record { was_honest = (back_clean clean, it.was_open); is_open = it.is_open; now_is = it.now_is; last_is = it.committed_is; mode = it.mode }
 
   undone : IsRolledBack (state_of g old) (state_of g new) → IsHonest g new → IsUndone g whole old new
@@ -343,7 +343,7 @@ module _ {S : Type 0} (g : Ghosts S) (old new : Held S) where
   stays_committed P (Err e) keeps ok err = refused_commits_nothing err
 
   -- of a call that a crash leaves nothing more of
-  goes_by : {T E : Type 0} (P : Type 0) (r : Result T E) → (P → (state_of g new).committed ≡ (state_of g old).committed) → (IsHonest g new → OnOk r P) → Refuses g whole old new r → LeavesNoMore g old new → Lasts g old new → Goes g old new
+  goes_by : {T E : Type 0} (P : Type 0) (r : Result T E) → (P → (state_of g new).committed ≡ (state_of g old).committed) → (IsHonest g new → OnOk r P) → RefusalUndoes g whole old new r → LeavesNoMore g old new → KeepsFaults g old new → MakesNoCommit g old new
   goes_by P r keeps ok err none lasts = record { lasts = lasts; kept = λ honest. stays_committed P r keeps (ok honest) (err honest); quiet = λ _. none }
 
 -- ---- each call, by its result
@@ -353,24 +353,24 @@ module _ {S : Type 0} (g : Ghosts S) (old new : Held S) (r : Result (Unit {0}) F
   Failed = HasCleanDisk (state_of g new) → OnErr r (IsUnchanged (state_of g old) (state_of g new) ⊎ IsRolledBack (state_of g old) (state_of g new))
 
   module _ (P : Trees → Type 0) (survives : Survives (state_of g old) (state_of g new) P) (failed : Failed) where
-    pub fails : Refuses g whole old new r
+    pub fails : RefusalUndoes g whole old new r
     fails honest = go r (failed honest.0)
       where
         go : (r : Result (Unit {0}) Fault) → OnErr r (IsUnchanged (state_of g old) (state_of g new) ⊎ IsRolledBack (state_of g old) (state_of g new)) → OnErr r (IsRefused g whole old new)
         go (Ok u) err = tt
         go (Err e) err = stopped g old new P survives err honest
 
-    controls : (sql : List ℕ) (Done Misplaced : Type 0) → IfErr r (IsRejected g old new sql []) → Done → Blames g old new r Misplaced → Controls g whole old new r sql Done Misplaced
+    controls : (sql : List ℕ) (Done Misplaced : Type 0) → IfErr r (IsRejected g old new sql []) → Done → StoreFaultHasCause g old new r Misplaced → ControlsTransaction g whole old new r sql Done Misplaced
     controls sql Done Misplaced told done blames = record { done = done; err = fails; told = blames; rejected = told }
 
   module _ (survives : Survives (state_of g old) (state_of g new) (CommitsBy begin_text [] (state_of g old))) (ran : Ran g old new begin_text [] r) where
-    begun : Begins g whole old new r
+    begun : BeginsTransaction g whole old new r
     begun clean = on_ok r (ran clean) (λ it. told g old new _ survives _ _ _ (runs_bare are_bare.0 _ _ it.0 it.1).1 clean)
 
     begun_no_more : LeavesNoMore g old new
     begun_no_more = leaves_no_more g old new _ survives (begin_commits _)
 
-    pub only_begins : Lasts g old new → Failed → IfErr r (IsRejected g old new begin_text []) → OnlyBegins g whole old new r
+    pub only_begins : KeepsFaults g old new → Failed → IfErr r (IsRejected g old new begin_text []) → OnlyBegins g whole old new r
     only_begins lasts failed told = record {
       goes = goes_by g old new _ r (λ it. it.last_is) (λ honest. begun honest.0) (fails _ survives failed) begun_no_more lasts;
       quiet = begun_no_more;
@@ -378,23 +378,23 @@ module _ {S : Type 0} (g : Ghosts S) (old new : Held S) (r : Result (Unit {0}) F
     }
 
   module _ (survives : Survives (state_of g old) (state_of g new) (CommitsBy commit_text [] (state_of g old))) where
-    done : Ran g old new commit_text [] r → Commits g whole old new r
+    done : Ran g old new commit_text [] r → CommitsSeen g whole old new r
     done ran clean = on_ok r (ran clean) (λ it. told g old new _ survives _ _ _ (runs_bare are_bare.1 _ _ it.0 it.1).1 clean)
 
-    pub only_commits : Ran g old new commit_text [] r → Lasts g old new → Failed → IfErr r (IsRejected g old new commit_text []) → OnlyCommits g whole old new r
+    pub only_commits : Ran g old new commit_text [] r → KeepsFaults g old new → Failed → IfErr r (IsRejected g old new commit_text []) → OnlyCommits g whole old new r
     only_commits ran lasts failed told = record { lasts = lasts; committed = controls _ survives failed _ _ _ told (done ran) (commit_blames g old new r told) }
 
     pub done_leaves : LeavesTrees g old new (λ db. db ≡ (state_of g old).now.trees)
     done_leaves = leaves g old new _ survives _ (λ _ db it. (bare_commits are_bare.1 _ db it).1)
 
   module _ (survives : Survives (state_of g old) (state_of g new) (CommitsBy rollback_text [] (state_of g old))) (ran : Ran g old new rollback_text [] r) where
-    undoes : Undoes g whole old new r
+    undoes : UndoesTransaction g whole old new r
     undoes honest = on_ok r (ran honest.0) (λ it. undone g old new _ survives (runs_bare are_bare.2 _ _ it.0 it.1).1 honest)
 
     undone_no_more : LeavesNoMore g old new
     undone_no_more = leaves_no_more g old new _ survives (rollback_commits _)
 
-    pub only_undoes : Lasts g old new → Failed → IfErr r (IsRejected g old new rollback_text []) → old.in_transaction ≡ true → OnlyUndoes g whole old new r
+    pub only_undoes : KeepsFaults g old new → Failed → IfErr r (IsRejected g old new rollback_text []) → old.in_transaction ≡ true → OnlyUndoes g whole old new r
     only_undoes lasts failed told within = record {
       goes = goes_by g old new _ r (λ it. it.last_is) undoes (fails _ survives failed) undone_no_more lasts;
       quiet = undone_no_more;
@@ -424,23 +424,23 @@ wrote old new _ text ps n it h = absurd it
 module _ {S : Type 0} (g : Ghosts S) (old new : Held S) (sql : List ℕ) (params : Row) where
   module _ (r : Result (Unit {0}) Fault) (survives : Survives (state_of g old) (state_of g new) (CommitsBy sql params (state_of g old)))
       (edit : IsHonest g old → IsPlainEdit (state_of g old) sql) (ran : Ran g old new sql params r) where
-    changed : IsHonest g old → HasCleanDisk (state_of g new) → OnOk r (Becomes g whole old new (state_of g new).now × Edits (state_of g old) sql params (state_of g new).now)
+    changed : IsHonest g old → HasCleanDisk (state_of g new) → OnOk r (BecomesSeen g whole old new (state_of g new).now × EditsTo (state_of g old) sql params (state_of g new).now)
     changed honest clean = on_ok r (ran clean) (λ it.
         let w = wrote _ _ _ _ _ _ (edit honest).edits (ran_as sql params (state_of g old) (state_of g new) (edit honest).plain it.0 it.1) in
         (told g old new _ survives _ _ _ w.shown clean, (w.tally, w.changed, w.sound)))
 
-    makes : Makes g old new sql params r
+    makes : EditsWhatIsSeen g old new sql params r
     makes honest clean = on_ok r (changed honest clean) (λ it. it.1)
 
     changes_at_most : EditsAtMost g old new sql params
     changes_at_most = leaves g old new _ survives _ (λ honest db. edit_commits sql params (state_of g old) db (edit honest).plain (edit honest).edits)
 
-    module _ (lasts : Lasts g old new) where
-      changed_sees : OnOk r (Sees g whole old new (state_of g new).now)
+    module _ (lasts : KeepsFaults g old new) where
+      changed_sees : OnOk r (NowShows g whole old new (state_of g new).now)
       changed_sees = go r changed
         where
-          go : (r : Result (Unit {0}) Fault) → (IsHonest g old → HasCleanDisk (state_of g new) → OnOk r (Becomes g whole old new (state_of g new).now × Edits (state_of g old) sql params (state_of g new).now))
-              → OnOk r (Sees g whole old new (state_of g new).now)
+          go : (r : Result (Unit {0}) Fault) → (IsHonest g old → HasCleanDisk (state_of g new) → OnOk r (BecomesSeen g whole old new (state_of g new).now × EditsTo (state_of g old) sql params (state_of g new).now))
+              → OnOk r (NowShows g whole old new (state_of g new).now)
           go (Ok u) it = record {
             live = λ honest clean. (clean, (it honest clean).0.is_open);
             now_is = λ honest. refl;
@@ -450,7 +450,7 @@ module _ {S : Type 0} (g : Ghosts S) (old new : Held S) (sql : List ℕ) (params
           go (Err e) it = tt
 
       -- within a transaction it commits nothing
-      changed_goes : Failed g old new r → GoesWithin g old new
+      changed_goes : Failed g old new r → MakesNoCommitInside g old new
       changed_goes failed = record {
         lasts = lasts;
         kept = λ within honest. stays_committed g old new _ r (λ it. it.0.last_is ∙ ap (λ b. cond b (state_of g old).committed (state_of g new).now) within) (changed (lasts.was honest) honest.0) (fails g old new r _ survives failed honest);

@@ -27,8 +27,8 @@ use Rattle.sqlite.specs.Does.{Does, Tally, lacks_sequence}
 use Rattle.sqlite.specs.Given.{IsPlain}
 use Rattle.sqlite.specs.Listing.{understood}
 use Rattle.sqlite.specs.State.{State, mode_of, text_of}
-use Rattle.dh_rows.specs.Calls.{command_of, IsEdit, IsPlainEdit, Edits, EditsAs}
-use Rattle.dh_rows.specs.Places.{IsFree, HasTable, is_at, IsUnreferred, IsUnmentioned, tree_of, table_in, Stands, unique_keys, ArePlaced, rows_of}
+use Rattle.dh_rows.specs.Calls.{command_of, IsEdit, IsPlainEdit, EditsTo, EditsAs}
+use Rattle.dh_rows.specs.Places.{IsFree, HasTable, is_at, IsUnreferred, IsUnmentioned, tree_of, table_in, StandsInSchema, unique_keys, ArePlaced, rows_of}
 use Rattle.dh_rows.proofs.Indexes.{placed, keyed_kept, keyed_made}
 use Rattle.dh_rows.proofs.Meaning.{understood_as, compiled_as}
 
@@ -275,7 +275,7 @@ stored_in db name at table sound has =
     omega (arith, low)
 
 -- the table stands where it is found
-stands_at : (db : Database) (t : Table) (at tree : ℕ) → IsDatabase db → HasTable db.schema t.name at (record t { tree = tree }) → IsUnreferred db.schema tree → unique_keys db.schema tree ≡ map (λ places. (places, plain)) t.uniques → Stands db.schema t
+stands_at : (db : Database) (t : Table) (at tree : ℕ) → IsDatabase db → HasTable db.schema t.name at (record t { tree = tree }) → IsUnreferred db.schema tree → unique_keys db.schema tree ≡ map (λ places. (places, plain)) t.uniques → StandsInSchema db.schema t
 stands_at db t at tree sound has alone keyed =
     let is = tree_is db.schema t.name at (record t { tree = tree }) has in
     record {
@@ -287,11 +287,11 @@ stands_at db t at tree sound has alone keyed =
     }
 
 -- The table is made, with no row, and each table of ours that was there stands as it did.
-pub record Makes (t : Table) (db after : Database) : Type 0 where
+pub record MakesEmptyTable (t : Table) (db after : Database) : Type 0 where
   pub schema : after.schema ≡ created db.schema t
-  pub stands : Stands after.schema t
+  pub stands : StandsInSchema after.schema t
   pub empty : rows_of after t.name ≡ []
-  pub others : (u : Table) → Stands db.schema u → Stands after.schema u × (rows_of after u.name ≡ rows_of db u.name)
+  pub others : (u : Table) → StandsInSchema db.schema u → StandsInSchema after.schema u × (rows_of after u.name ≡ rows_of db u.name)
   pub counted : lacks_sequence after.schema ≡ false
   pub placed : ArePlaced after.schema
 
@@ -322,7 +322,7 @@ made_by s statement t tally after defines fine does =
 -- what `change` asks of the text, and what it then makes
 pub record Creates (s : State) (text : List ℕ) (t : Table) : Type 0 where
   pub edit : IsPlainEdit s text
-  pub made : (after : Database) → Edits s text [] after → Makes t s.now after
+  pub made : (after : Database) → EditsTo s text [] after → MakesEmptyTable t s.now after
 
 pub creates : (t : Table) (text : List ℕ) → IsCreate text t → t.references ≡ [] → t.is_counted ≡ false → AllByRecursion (λ o. o ≡ plain) t.orders → (s : State) → IsFree s.now.schema t.name → IsUnmentioned s.now.schema t.name → lacks_sequence s.now.schema ≡ false → ArePlaced s.now.schema → Creates s text t
 creates t text (makes {p = p} {def = def} read is formats name reserved table sound defined) unreferring uncounted bytewise s free unmentioned counted fine =
@@ -330,10 +330,10 @@ creates t text (makes {p = p} {def = def} read is formats name reserved table so
     let means = create_means schema p def is formats (subst (IsFree schema) (sym name) free) (ap is_reserved name ∙ reserved) t table sound text read in
     record { edit = record { plain = subst IsPlain (sym means) (refl, refl); edits = subst (λ r. IsEdit (command_of r)) (sym means) tt }; made = λ after edits. go after (subst (EditsAs s text [] after) means edits) }
   where
-    low : (u : Table) → (was : Stands s.now.schema u) → tree_of s.now.schema u.name < next_tree s.now.schema
+    low : (u : Table) → (was : StandsInSchema s.now.schema u) → tree_of s.now.schema u.name < next_tree s.now.schema
     low u was = table_below s.now.schema (table_in s.now.schema u) (slice_has s.now.schema.tables was.at (table_in s.now.schema u) was.has.stands)
 
-    go : (after : Database) → EditsAs s text [] after (Ok (with_command p ([], (CreateTable, None)))) → Makes t s.now after
+    go : (after : Database) → EditsAs s text [] after (Ok (with_command p ([], (CreateTable, None)))) → MakesEmptyTable t s.now after
     go after it =
         let schema = s.now.schema in
         let counts = counts_kept schema t uncounted counted in

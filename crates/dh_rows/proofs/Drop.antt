@@ -28,8 +28,8 @@ use Rattle.sqlite.specs.Given.{IsPlain}
 use Rattle.sqlite.specs.Listing.{understood}
 use Rattle.sqlite.specs.Rows.{sequence, Task}
 use Rattle.sqlite.specs.State.{State, mode_of, text_of}
-use Rattle.dh_rows.specs.Calls.{command_of, IsEdit, IsPlainEdit, Edits, EditsAs}
-use Rattle.dh_rows.specs.Places.{IsFree, IsUnshared, HasTable, is_at, IsUnreferred, IsUnmentioned, tree_of, table_in, Stands, unique_keys, ArePlaced, rows_of}
+use Rattle.dh_rows.specs.Calls.{command_of, IsEdit, IsPlainEdit, EditsTo, EditsAs}
+use Rattle.dh_rows.specs.Places.{IsFree, IsUnshared, HasTable, is_at, IsUnreferred, IsUnmentioned, tree_of, table_in, StandsInSchema, unique_keys, ArePlaced, rows_of}
 use Rattle.dh_rows.specs.Shapes.{IsLone}
 use Rattle.dh_rows.proofs.Create.{row_kept, tree_is}
 use Rattle.dh_rows.proofs.Effects.{went, same_ok, trees_apart}
@@ -107,7 +107,7 @@ differs_too a b c same apart = elim (cases_Bool (same_name a c)) [
 
 -- ---- what is left of a schema
 
-module _ (schema : Schema) (t : Table) (was : Stands schema t) (lone : IsLone schema (tree_of schema t.name) t.name) (alone : IsUnmentioned schema t.name) where
+module _ (schema : Schema) (t : Table) (was : StandsInSchema schema t) (lone : IsLone schema (tree_of schema t.name) t.name) (alone : IsUnmentioned schema t.name) where
   abbrev tree : ℕ
   tree = tree_of schema t.name
 
@@ -176,7 +176,7 @@ module _ (schema : Schema) (t : Table) (was : Stands schema t) (lone : IsLone sc
   )
 
   -- another table of ours stays
-  module _ (u : Table) (stood : Stands schema u) (apart : same_name u.name t.name ≡ false) where
+  module _ (u : Table) (stood : StandsInSchema schema u) (apart : same_name u.name t.name ≡ false) where
     abbrev its : ℕ
     its = tree_of schema u.name
 
@@ -212,7 +212,7 @@ module _ (schema : Schema) (t : Table) (was : Stands schema t) (lone : IsLone sc
     keyed_left : unique_keys left its ≡ unique_keys schema its
     keyed_left = ap (map (λ (i : Index). (i.columns, i.order))) (filter-filter (λ (i : Index). i.is_unique && (i.table == its)) (λ i. not (i.table == tree)) (λ i on. kept_tree i.table (λ same. other (sym (on_it i on) ∙ same))) schema.indexes)
 
-    stands_left : Stands left u
+    stands_left : StandsInSchema left u
     stands_left = record {
       at = place_left.at;
       has = subst (λ n. HasTable left u.name place_left.at (record u { tree = n })) (sym tree_left) has_left;
@@ -261,14 +261,14 @@ pub record Drops (t : Table) (db after : Database) : Type 0 where
   pub free : IsFree after.schema t.name
   pub unmentioned : IsUnmentioned after.schema t.name
   pub spared : (name : List ℕ) → IsFree db.schema name → IsUnmentioned db.schema name → IsFree after.schema name × IsUnmentioned after.schema name
-  pub others : (u : Table) → Stands db.schema u → same_name u.name t.name ≡ false → Stands after.schema u × (rows_of after u.name ≡ rows_of db u.name)
+  pub others : (u : Table) → StandsInSchema db.schema u → same_name u.name t.name ≡ false → StandsInSchema after.schema u × (rows_of after u.name ≡ rows_of db u.name)
   pub counted : lacks_sequence after.schema ≡ false
   pub placed : ArePlaced after.schema
 
 -- what `change` asks of the text, and what it then does
 pub record DropsTable (s : State) (text : List ℕ) (t : Table) : Type 0 where
   pub edit : IsPlainEdit s text
-  pub dropped : (after : Database) → Edits s text [] after → Drops t s.now after
+  pub dropped : (after : Database) → EditsTo s text [] after → Drops t s.now after
 
 when_false : (b : Bool) (P Q : Type 0) → b ≡ false → MatchBool b P Q → Q
 when_false true P Q off it = absurd (cc)
@@ -278,7 +278,7 @@ uncounted_by : (task : Task) (db : Trees) (b : Bool) (o : Option Table) (out : T
 uncounted_by task db true o out off it = absurd (cc)
 uncounted_by task db false o out off it = same_ok it
 
-dropped_by : (s : State) (t : Table) (was : Stands s.now.schema t) (statement : List ℕ) (tally : Tally) (after : Database) → t.is_counted ≡ false → IsUnmentioned s.now.schema t.name
+dropped_by : (s : State) (t : Table) (was : StandsInSchema s.now.schema t) (statement : List ℕ) (tally : Tally) (after : Database) → t.is_counted ≡ false → IsUnmentioned s.now.schema t.name
     → Does s.step_limit (mode_of s) [] s.now statement None (DropTable was.at) (Ok (tally, after))
     → (after.schema ≡ without_table s.now.schema (tree_of s.now.schema t.name)) × KeepsRows (without_table s.now.schema (tree_of s.now.schema t.name)).tables s.now.trees after.trees
 dropped_by s t was statement tally after uncounted alone does =
@@ -295,7 +295,7 @@ dropped_by s t was statement tally after uncounted alone does =
       subst (λ (d : Database). KeepsRows kept s.now.trees d.trees) (sym last) (subst (λ old. KeepsRows kept old gone.0.trees) (still ∙ same) gone.1.1),
     )
 
-pub drops_table : (t : Table) (text : List ℕ) → IsDrop text t.name → t.is_counted ≡ false → same_name t.name (codes "sqlite_sequence") ≡ false → (s : State) → IsDatabase s.now → Stands s.now.schema t
+pub drops_table : (t : Table) (text : List ℕ) → IsDrop text t.name → t.is_counted ≡ false → same_name t.name (codes "sqlite_sequence") ≡ false → (s : State) → IsDatabase s.now → StandsInSchema s.now.schema t
     → IsLone s.now.schema (tree_of s.now.schema t.name) t.name → IsUnmentioned s.now.schema t.name → IsUnshared s.now.schema t.name → lacks_sequence s.now.schema ≡ false → DropsTable s text t
 drops_table t text (drops {p = p} read is formats reserved) uncounted apart s sound was lone alone unshared counted =
     let means = drop_means s.now.schema p t.name is formats reserved was.at was.has.named unshared.views text read in
@@ -312,7 +312,7 @@ drops_table t text (drops {p = p} read is formats reserved) uncounted apart s so
           others = λ u stood differs.
               let place = place_left schema t was lone alone u stood differs in
               let tree = tree_left schema t was lone alone u stood differs in (
-                subst (λ d. Stands d u) (sym done.0) (stands_left schema t was lone alone u stood differs),
+                subst (λ d. StandsInSchema d u) (sym done.0) (stands_left schema t was lone alone u stood differs),
                 ap (λ d. after.trees (tree_of d u.name)) done.0 ∙ ap after.trees tree ∙ row_kept _ place.at (table_in schema u) s.now.trees after.trees place.stands done.1,
               );
           counted = ap lacks_sequence done.0 ∙ counted_left schema t was lone alone apart counted;

@@ -32,7 +32,7 @@ use Rattle.sqlite.specs.Rows.{Written}
 use Rattle.sqlite.specs.declared.run.Mode.{Mode}
 use Rattle.sqlite.proofs.Callers.{one_step}
 use Rattle.dh_rows.specs.Keyed.{Coding, IsTableOf, by_key, same_key, IsFreeKey, added, records}
-use Rattle.dh_rows.specs.Places.{HasTable, IsUnreferred, tree_of, table_in, Stands, rows_of, records_of, Keeps}
+use Rattle.dh_rows.specs.Places.{HasTable, IsUnreferred, tree_of, table_in, StandsInSchema, rows_of, records_of, KeepsTable}
 use Rattle.dh_rows.proofs.Alone.{works_none}
 use Rattle.dh_rows.proofs.Terms.{from_table}
 use Rattle.dh_rows.proofs.Lists.{by_key_total}
@@ -138,34 +138,34 @@ row_kept next db (t ∷ ts) tree zero other e apart all = let same : t ≡ other
 row_kept next db (t ∷ ts) tree (suc place) other e apart all = row_kept next db ts tree place other e apart all.1
 
 -- two tables of other names have other trees
-pub trees_apart : (schema : Schema) (t u : Table) → Stands schema t → Stands schema u → same_name u.name t.name ≡ false → tree_of schema u.name ≢ tree_of schema t.name
+pub trees_apart : (schema : Schema) (t u : Table) → StandsInSchema schema t → StandsInSchema schema u → same_name u.name t.name ≡ false → tree_of schema u.name ≢ tree_of schema t.name
 trees_apart schema t u s v apart e =
     let both : Some (table_in schema u) ≡ Some (table_in schema t) = sym v.has.found ∙ ap (λ tree. find (λ x. x.tree == tree) schema.tables) e ∙ s.has.found in
     let same : table_in schema u ≡ table_in schema t = cc in
     true≢false (sym (same_itself t.name) ∙ ap (λ n. same_name n t.name) (sym (ap (λ (x : Table). x.name) same)) ∙ apart)
 
 -- The records of one table are changed, and each other table keeps its rows.
-pub record Turns (t : Table) {X : Type 0} (c : Coding X) (change : List X → List X) (db after : Database) : Type 0 where
+pub record TurnsTable (t : Table) {X : Type 0} (c : Coding X) (change : List X → List X) (db after : Database) : Type 0 where
   pub schema : after.schema ≡ db.schema
-  pub keeps : Keeps t c after
+  pub keeps : KeepsTable t c after
   pub records : records_of c t.name after ≡ change (records_of c t.name db)
-  pub others : (u : Table) → Stands db.schema u → same_name u.name t.name ≡ false → rows_of after u.name ≡ rows_of db u.name
+  pub others : (u : Table) → StandsInSchema db.schema u → same_name u.name t.name ≡ false → rows_of after u.name ≡ rows_of db u.name
 
 -- another table of ours is as it was
-pub other_keeps : {X Y : Type 0} {t : Table} {c : Coding X} {change : List X → List X} {db after : Database} → Turns t c change db after → (u : Table) (d : Coding Y) → Keeps u d db → same_name u.name t.name ≡ false
-    → Keeps u d after × (records_of d u.name after ≡ records_of d u.name db)
+pub other_keeps : {X Y : Type 0} {t : Table} {c : Coding X} {change : List X → List X} {db after : Database} → TurnsTable t c change db after → (u : Table) (d : Coding Y) → KeepsTable u d db → same_name u.name t.name ≡ false
+    → KeepsTable u d after × (records_of d u.name after ≡ records_of d u.name db)
 other_keeps {db = db} {after = after} it u d keeps apart =
     let rows = it.others u keeps.stands apart in
-    (record { stands = subst (λ s. Stands s u) (sym it.schema) keeps.stands; rows = subst (IsTableOf d) (sym rows) keeps.rows }, ap (records d) rows)
+    (record { stands = subst (λ s. StandsInSchema s u) (sym it.schema) keeps.stands; rows = subst (IsTableOf d) (sym rows) keeps.rows }, ap (records d) rows)
 
-pub turned : {X : Type 0} (t : Table) (c : Coding X) (change : List X → List X) (db after : Database) → Stands db.schema t → after.schema ≡ db.schema
-    → ((u : Table) → Stands db.schema u → same_name u.name t.name ≡ false → after.trees (tree_of db.schema u.name) ≡ rows_of db u.name)
-    → IsTableOf c (after.trees (tree_of db.schema t.name)) → records c (after.trees (tree_of db.schema t.name)) ≡ change (records_of c t.name db) → Turns t c change db after
+pub turned : {X : Type 0} (t : Table) (c : Coding X) (change : List X → List X) (db after : Database) → StandsInSchema db.schema t → after.schema ≡ db.schema
+    → ((u : Table) → StandsInSchema db.schema u → same_name u.name t.name ≡ false → after.trees (tree_of db.schema u.name) ≡ rows_of db u.name)
+    → IsTableOf c (after.trees (tree_of db.schema t.name)) → records c (after.trees (tree_of db.schema t.name)) ≡ change (records_of c t.name db) → TurnsTable t c change db after
 turned t c change db after stands same others is are =
     let tree : (name : List ℕ) → after.trees (tree_of after.schema name) ≡ after.trees (tree_of db.schema name) = λ name. ap (λ s. after.trees (tree_of s name)) same in
     record {
       schema = same;
-      keeps = record { stands = subst (λ s. Stands s t) (sym same) stands; rows = subst (IsTableOf c) (sym (tree t.name)) is };
+      keeps = record { stands = subst (λ s. StandsInSchema s t) (sym same) stands; rows = subst (IsTableOf c) (sym (tree t.name)) is };
       records = ap (records c) (tree t.name) ∙ are;
       others = λ u s apart. tree u.name ∙ others u s apart;
     }
@@ -173,7 +173,7 @@ turned t c change db after stands same others is are =
 unsorted : {X : Type 0} (c : Coding X) (rows : List Row) (P : X → Type 0) → AllByRecursion P (records c rows) → AllByRecursion P (map c.decode rows)
 unsorted c rows P all = recursion_from_All P _ (All-permutation P _ _ (IsPermutation-sort_by (by_key c.key) (by_key_total c.key) (map c.decode rows)) (All-from_recursion P _ all))
 
-module _ (limit : Option ℕ) (mode : Mode) (db after : Database) (t : Table) {X : Type 0} (c : Coding X) (keeps : Keeps t c db) (params : Row) (text : List ℕ) (tally : Tally) where
+module _ (limit : Option ℕ) (mode : Mode) (db after : Database) (t : Table) {X : Type 0} (c : Coding X) (keeps : KeepsTable t c db) (params : Row) (text : List ℕ) (tally : Tally) where
   abbrev its : Table
   its = table_in db.schema t
 
@@ -181,13 +181,13 @@ module _ (limit : Option ℕ) (mode : Mode) (db after : Database) (t : Table) {X
   tree = tree_of db.schema t.name
 
   pub kept : (next : Trees) → AllByRecursion (λ u. u.tree ≢ tree → next u.tree ≡ db.trees u.tree) db.schema.tables
-      → (u : Table) → Stands db.schema u → same_name u.name t.name ≡ false → next (tree_of db.schema u.name) ≡ rows_of db u.name
+      → (u : Table) → StandsInSchema db.schema u → same_name u.name t.name ≡ false → next (tree_of db.schema u.name) ≡ rows_of db u.name
   kept next all u stands apart = row_kept next db.trees db.schema.tables tree stands.at (table_in db.schema u) stands.has.stands (trees_apart db.schema t u keeps.stands stands apart) all
 
   -- DELETE takes out the records that pass the test
   pub delete_turns : (terms : List Term) (test : X → Bool) → ((n : ℤ) (x : X) → matching terms params (Int n ∷ c.encode x) ≡ test x)
       → Does limit mode params db text None (Delete keeps.stands.at (record { lets = []; body = from_table tree terms (col 1 0 ∷ []) [] })) (Ok (tally, after))
-      → Turns t c (filter (λ x. not (test x))) db after
+      → TurnsTable t c (filter (λ x. not (test x))) db after
   delete_turns terms test sees does =
       let it = deletes limit mode db after t.name keeps.stands.at its keeps.stands.has keeps.stands.unreferred params text tally _ does in
       let mine = dropped c its terms params test sees db.schema mode.keys db.trees after.trees it.0 keeps.rows it.1 it.3 in
@@ -197,7 +197,7 @@ module _ (limit : Option ℕ) (mode : Mode) (db after : Database) (t : Table) {X
   pub insert_turns : IsSimple t → (x : X) (terms : List Term) (width : ℕ) → ((n : ℤ) → c.decode (Int n ∷ c.encode x) ≡ x) → AreOfKinds t.columns (c.encode x)
       → value_rows params width (length terms / width) terms ≡ (Null ∷ c.encode x) ∷ [] → IsFreeKey c.key x (records_of c t.name db)
       → Does limit mode params db text None (Insert keeps.stands.at (Values terms width)) (Ok (tally, after))
-      → Turns t c (added c.key x) db after
+      → TurnsTable t c (added c.key x) db after
   insert_turns simple x terms width back kinds one free does =
       let plain : IsSimple its = ap (λ (u : Table). record u { tree = tree }) simple in
       let it = inserts limit mode db after t.name keeps.stands.at its keeps.stands.has keeps.stands.unreferred params text tally plain terms width (Null ∷ c.encode x) one does in
@@ -206,7 +206,7 @@ module _ (limit : Option ℕ) (mode : Mode) (db after : Database) (t : Table) {X
       turned t c _ db after keeps.stands it.0 (kept after.trees it.1.tables) mine.0 mine.1
 
 -- SELECT answers the records that pass the test, in the order of their keys
-pub select_reads : (db : Database) (t : Table) {X : Type 0} (c : Coding X) → Keeps t c db → (params : Row) (terms shown : List Term) (order : List (Term × Key)) (names : List (List ℕ)) (test : X → Bool) (show : X → Row)
+pub select_reads : (db : Database) (t : Table) {X : Type 0} (c : Coding X) → KeepsTable t c db → (params : Row) (terms shown : List Term) (order : List (Term × Key)) (names : List (List ℕ)) (test : X → Bool) (show : X → Row)
     → ((n : ℤ) (x : X) → matching terms params (Int n ∷ c.encode x) ≡ test x)
     → ((n : ℤ) (x : X) → outp c terms shown order (tree_of db.schema t.name) params (Int n ∷ c.encode x) ≡ (c.key x, show x))
     → ((x y : X) → key_cmp 0 (map (λ k. k.1) order) (c.key x) (c.key y) ≡ by_key c.key x y)

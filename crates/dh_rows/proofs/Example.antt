@@ -12,8 +12,8 @@ use Rattle.sqlite.specs.State.{State}
 use Rattle.sqlite.specs.Effect.{IsDatabase}
 use Rattle.dh_rows.specs.Calls.{AreRows}
 use Rattle.dh_rows.specs.Keyed.{IsTableOf, IsFreeKey, added, put}
-use Rattle.dh_rows.specs.Places.{IsFree, IsUnmentioned, ArePlaced, Stands, Keeps, rows_of, records_of}
-use Rattle.dh_rows.specs.Whole.{Spells}
+use Rattle.dh_rows.specs.Places.{IsFree, IsUnmentioned, ArePlaced, StandsInSchema, KeepsTable, rows_of, records_of}
+use Rattle.dh_rows.specs.Whole.{SpellsRecords}
 use Rattle.sqlite.specs.Does.{lacks_sequence}
 use Rattle.dh_rows.specs.Example.{Note, note_table, notes, is_of, is_note}
 use Rattle.dh_rows.proofs.Effects.{IsSimple}
@@ -21,9 +21,9 @@ use Rattle.dh_rows.proofs.Texts.{ArePlain}
 use Rattle.dh_rows.proofs.Read.{parameters_in, delete_of, select_of, insert_of}
 use Rattle.dh_rows.proofs.Equal.{equal_text, equal_int, tied_is, alike_text, alike_int}
 use Rattle.dh_rows.proofs.Create.{IsCreate, makes, Creates, creates}
-use Rattle.dh_rows.proofs.Asks.{Writes, Answers, delete, insert, upsert, select}
+use Rattle.dh_rows.proofs.Asks.{WritesTable, AnswersWith, delete, insert, upsert, select}
 use Rattle.dh_rows.proofs.Upsert.{IsUpsert, puts, IsKeyOf, Fits}
-use Rattle.dh_rows.proofs.Whole.{AreTextsOf, IsCodingOf, Asks, asks_ids, asks_all, spelled, spells}
+use Rattle.dh_rows.proofs.Whole.{AreTextsOf, IsCodingOf, SuitsSelect, asks_ids, asks_all, spelled, spells}
 
 -- ---- once for the table
 
@@ -67,17 +67,17 @@ list_count : parameters_in list_text ≡ Some 1
 unfolding everything
 list_count = refl
 
-module _ (s : State) (keeps : Keeps note_table notes s.now) where
-  pub drops : (name : List ℕ) (place : ℕ) → Writes s drop_text (Text name ∷ Int (pos place) ∷ []) note_table notes (filter (λ x. not (is_note name place x)))
+module _ (s : State) (keeps : KeepsTable note_table notes s.now) where
+  pub drops : (name : List ℕ) (place : ℕ) → WritesTable s drop_text (Text name ∷ Int (pos place) ∷ []) note_table notes (filter (λ x. not (is_note name place x)))
   drops name place = delete note_table note_simple note_plain notes s keeps drop_text _ drop_read _ (is_note name place) (λ n x. rw (equal_text x.name name, equal_int (pos x.place) (pos place), and-true) refl)
 
   abbrev pub shown : Note → Row
   shown x = Text x.name ∷ Int (pos x.place) ∷ Text x.text ∷ []
 
-  pub lists : (name : List ℕ) → Answers s list_text (Text name ∷ []) (map shown (filter (is_of name) (records_of notes note_table.name s.now)))
+  pub lists : (name : List ℕ) → AnswersWith s list_text (Text name ∷ []) (map shown (filter (is_of name) (records_of notes note_table.name s.now)))
   lists name = select note_table note_simple note_plain notes s keeps list_text _ _ _ list_read _ list_count refl (is_of name) shown (λ n x. rw (equal_text x.name name, and-true) refl) (λ n x. refl) (λ x y. refl)
 
-  pub adds : (x : Note) → IsFreeKey notes.key x (records_of notes note_table.name s.now) → Writes s add_text (notes.encode x) note_table notes (added notes.key x)
+  pub adds : (x : Note) → IsFreeKey notes.key x (records_of notes note_table.name s.now) → WritesTable s add_text (notes.encode x) note_table notes (added notes.key x)
   adds x free = insert note_table note_simple note_plain notes s keeps add_text _ _ (add_read _ _) x (note_back x) (tt, (tt, (tt, tt))) refl free
 
 -- ---- INSERT .. ON CONFLICT
@@ -106,7 +106,7 @@ put_fits x = record {
       rw (alike_text y.name x.name parts.0, alike_int (pos y.place) (pos x.place) (and_parts _ _ parts.1).0) refl;
 }
 
-pub puts_note : (s : State) → Keeps note_table notes s.now → (x : Note) → Writes s put_text (notes.encode x) note_table notes (put notes.key x)
+pub puts_note : (s : State) → KeepsTable note_table notes s.now → (x : Note) → WritesTable s put_text (notes.encode x) note_table notes (put notes.key x)
 puts_note s keeps x = upsert note_table note_simple note_plain notes s keeps (1 ∷ 2 ∷ []) note_key put_text _ 4 3 put_new put_read refl x (note_back x) (put_fits x) refl
 
 -- ---- CREATE TABLE
@@ -136,18 +136,18 @@ note_texts = record { simple = refl; plain = note_plain; ids_read = refl; all_re
 note_coding : IsCodingOf note_table notes (0 ∷ 1 ∷ [])
 note_coding = record { back = note_back; wide = λ x. refl; full = λ x. refl; keys = λ x. refl; sorts = λ x y. refl }
 
-module _ (s : State) (stands : Stands s.now.schema note_table) where
-  pub asks_note_ids : Asks s ids_text
+module _ (s : State) (stands : StandsInSchema s.now.schema note_table) where
+  pub asks_note_ids : SuitsSelect s ids_text
   asks_note_ids = asks_ids note_texts s stands
 
-  pub asks_notes : Asks s all_text
+  pub asks_notes : SuitsSelect s all_text
   asks_notes = asks_all note_texts s stands
 
   -- where the answers spell notes, the table is ours and has these
-  pub are_notes : IsDatabase s.now → (ids rows : List Row) (xs : List Note) → AreRows s ids_text [] ids → AreRows s all_text [] rows → Spells notes ids rows xs
+  pub are_notes : IsDatabase s.now → (ids rows : List Row) (xs : List Note) → AreRows s ids_text [] ids → AreRows s all_text [] rows → SpellsRecords notes ids rows xs
       → IsTableOf notes (rows_of s.now note_table.name) × (records_of notes note_table.name s.now ≡ xs)
   are_notes = spelled note_texts s stands note_coding
 
   -- and where it is, they do
-  pub notes_are : (ids rows : List Row) → AreRows s ids_text [] ids → AreRows s all_text [] rows → IsTableOf notes (rows_of s.now note_table.name) → Spells notes ids rows (records_of notes note_table.name s.now)
+  pub notes_are : (ids rows : List Row) → AreRows s ids_text [] ids → AreRows s all_text [] rows → IsTableOf notes (rows_of s.now note_table.name) → SpellsRecords notes ids rows (records_of notes note_table.name s.now)
   notes_are = spells note_texts s stands note_coding

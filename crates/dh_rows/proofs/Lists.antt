@@ -64,8 +64,8 @@ module _ {X : Type 0} (cmp : X → X → Ordering) (total : IsTotalOrder cmp) wh
       one_order _ _ (ascending-filter _ p _ (rises-sort xs apart)) (rises-sort _ (ascending-filter _ p xs apart))
       (IsPermutation-trans _ _ _ (IsPermutation-filter p _ _ (IsPermutation-sort_by cmp total xs)) (IsPermutation-sym _ _ (IsPermutation-sort_by cmp total (filter p xs))))
 
-  abbrev Moves : List X → List X → Type 0
-  Moves xs ys = ((z : X) → AllByRecursion (λ y. is_eq (cmp z y) ≡ false) xs → AllByRecursion (λ y. is_eq (cmp z y) ≡ false) ys) × (NoTies xs → NoTies ys)
+  abbrev KeepsNoTies : List X → List X → Type 0
+  KeepsNoTies xs ys = ((z : X) → AllByRecursion (λ y. is_eq (cmp z y) ≡ false) xs → AllByRecursion (λ y. is_eq (cmp z y) ≡ false) ys) × (NoTies xs → NoTies ys)
 
   pub other_way : (x y : X) → is_eq (cmp x y) ≡ false → is_eq (cmp y x) ≡ false
   other_way x y apart = go (cmp x y) refl
@@ -75,8 +75,8 @@ module _ {X : Type 0} (cmp : X → X → Ordering) (total : IsTotalOrder cmp) wh
       go Equal e = absurd (true≢false (sym (ap is_eq e) ∙ apart))
       go Greater e = ap is_eq (total.antisymm y x ∙ ap ordering_reverse e)
 
-  moves : (xs ys : List X) → IsPermutation xs ys → Moves xs ys
-  moves = along_permutation Moves (λ xs. (λ z h. h, λ h. h)) (λ x xs ys r. (λ z h. (h.0, r.0 z h.1), λ h. (r.0 x h.0, r.1 h.1)))
+  moves : (xs ys : List X) → IsPermutation xs ys → KeepsNoTies xs ys
+  moves = along_permutation KeepsNoTies (λ xs. (λ z h. h, λ h. h)) (λ x xs ys r. (λ z h. (h.0, r.0 z h.1), λ h. (r.0 x h.0, r.1 h.1)))
       (λ x y xs. (λ z h. (h.1.0, (h.0, h.1.1)), λ h. ((other_way x y h.0.0, h.1.0), (h.0.1, h.1.1))))
       (λ xs ys zs r s. (λ z h. s.0 z (r.0 z h), λ h. s.1 (r.1 h)))
 

@@ -410,16 +410,16 @@ counted text (Err e) = None
 abbrev pub parameters_in : List ℕ → Option ℕ
 parameters_in text = counted text (first text)
 
-pub record Counts (text : List ℕ) (n : ℕ) : Type 0 where
+pub record CountsParameters (text : List ℕ) (n : ℕ) : Type 0 where
   pub parsed : Parsed
   pub read : first text ≡ Ok parsed
   pub whole : length text ≤ parsed.tail
   pub given : length parsed.names ≡ n
 
-pub are_counted : (text : List ℕ) (n : ℕ) → parameters_in text ≡ Some n → Counts text n
+pub are_counted : (text : List ℕ) (n : ℕ) → parameters_in text ≡ Some n → CountsParameters text n
 are_counted text n h = go (first text) refl h
   where
-    go : (r : Checked Parsed) → first text ≡ r → counted text r ≡ Some n → Counts text n
+    go : (r : Checked Parsed) → first text ≡ r → counted text r ≡ Some n → CountsParameters text n
     go (Ok p) read h =
         let whole = so _ _ n h in
         record { parsed = p; read = read; whole = leb-true (length text) p.tail whole.0; given = some_same whole.1 }
@@ -431,10 +431,10 @@ abbrev whole_in : {B : Type 0} → List ℕ → (Select → Option B) → Checke
 whole_in text f (Ok p) = if_true (nat_le (length text) p.tail) (if_nil p.names (query_in f (Ok p)))
 whole_in text f (Err e) = None
 
-is_whole : {B : Type 0} (text : List ℕ) (f : Select → Option B) (z : B) → whole_in text f (first text) ≡ Some z → Counts text 0 × Queries f (first text) z
+is_whole : {B : Type 0} (text : List ℕ) (f : Select → Option B) (z : B) → whole_in text f (first text) ≡ Some z → CountsParameters text 0 × Queries f (first text) z
 is_whole {B} text f z h = go (first text) refl h
   where
-    go : (r : Checked Parsed) → first text ≡ r → whole_in text f r ≡ Some z → Counts text 0 × Queries f (first text) z
+    go : (r : Checked Parsed) → first text ≡ r → whole_in text f r ≡ Some z → CountsParameters text 0 × Queries f (first text) z
     go (Ok p) read h =
         let whole = so _ _ z h in
         let bare = nil _ _ z whole.1 in (
@@ -474,7 +474,7 @@ ids_by t q = frame_of t q (ids_in t (out-Select q).first (out-Select q).order)
 abbrev pub ids_of : Table → List ℕ → Option (Unit {0})
 ids_of t text = whole_in text (ids_by t) (first text)
 
-pub is_ids : (t : Table) (text : List ℕ) → ids_of t text ≡ Some tt → Counts text 0 × IsIds t text
+pub is_ids : (t : Table) (text : List ℕ) → ids_of t text ≡ Some tt → CountsParameters text 0 × IsIds t text
 is_ids t text h =
     let it = is_whole text (ids_by t) tt h in
     let q = it.1.query in
@@ -509,7 +509,7 @@ all_in t q = option_and_then (all_by t) (choice_of t q)
 abbrev pub all_of : Table → List ℕ → Option (List ℕ)
 all_of t text = whole_in text (all_in t) (first text)
 
-pub is_all : (t : Table) (text : List ℕ) (os : List ℕ) → all_of t text ≡ Some os → Counts text 0 × IsSelect t text (places t.columns) [] os
+pub is_all : (t : Table) (text : List ℕ) (os : List ℕ) → all_of t text ≡ Some os → CountsParameters text 0 × IsSelect t text (places t.columns) [] os
 is_all t text os h =
     let it = is_whole text (all_in t) os h in
     let shape = got (all_by t) (choice_of t it.1.query) os it.1.told in

@@ -61,7 +61,7 @@ use Rattle.sqlite.specs.Listing.{understood, reads_listing}
 use Rattle.sqlite.specs.Given.{IsPlain}
 use Rattle.dh_rows.specs.Calls.{command_of}
 use Rattle.dh_rows.proofs.Calls.{tail_of, parameters_of}
-use Rattle.dh_rows.specs.Places.{tree_of, table_in, Stands}
+use Rattle.dh_rows.specs.Places.{tree_of, table_in, StandsInSchema}
 use Rattle.dh_rows.proofs.Terms.{equals, above, wanted, wanted_above, rising, by_rowid, from_table, columns_at}
 use Rattle.dh_rows.proofs.Effects.{IsSimple}
 use Rattle.dh_rows.proofs.Steps.{begun, ended, binary, column_end, rowid_end, compared_end, node_as, column_as, rowid_as, both_as, tests_as, columned_as, deleted_as, compared_as}
@@ -251,7 +251,7 @@ names_rowid : is_rowid rowid_name ≡ true
 unfolding everything
 names_rowid = refl
 
-module _ (schema : Schema) (t : Table) (stands : Stands schema t) (simple : IsSimple t) (plain : ArePlain t.columns) where
+module _ (schema : Schema) (t : Table) (stands : StandsInSchema schema t) (simple : IsSimple t) (plain : ArePlain t.columns) where
   abbrev its : Table
   its = table_in schema t
 
@@ -293,18 +293,18 @@ module _ (schema : Schema) (t : Table) (stands : Stands schema t) (simple : IsSi
       rw (there, has, strict, flat (n == 0)) (ap₂ (λ x y. op2 how x y) (left_same _ c.kind (col 1 (suc k))) (right_same _ c.kind n))
 
   -- what the operator makes of a column and a parameter
-  abbrev Makes : Operator → (ℕ → ℕ → Term) → Type 0
-  Makes op term = (shows : List Output) (may : Bool) (k n : ℕ) (c : Declared) → slice_get t.columns k ≡ Some c → (s : State) → combine (cx shows may) op Binary (col 1 (suc k)) (col 0 n) s ≡ Ok (term k n, s)
+  abbrev MakesTerm : Operator → (ℕ → ℕ → Term) → Type 0
+  MakesTerm op term = (shows : List Output) (may : Bool) (k n : ℕ) (c : Declared) → slice_get t.columns k ≡ Some c → (s : State) → combine (cx shows may) op Binary (col 1 (suc k)) (col 0 n) s ≡ Ok (term k n, s)
 
-  made : Makes Eq equals
+  made : MakesTerm Eq equals
   unfolding combine
   made shows may k n c has s = ap (λ x. Ok (x, s)) (sides_same shows may (by.Compare compare.Eq Binary) k n c has)
 
-  made_above : Makes Gt above
+  made_above : MakesTerm Gt above
   unfolding combine
   made_above shows may k n c has s = ap (λ x. Ok (x, s)) (sides_same shows may (by.Compare compare.Gt Binary) k n c has)
 
-  lowers_compared : (op : Operator) → is_identity op ≡ false → (term : ℕ → ℕ → Term) → Makes op term
+  lowers_compared : (op : Operator) → is_identity op ≡ false → (term : ℕ → ℕ → Term) → MakesTerm op term
       → (shows : List Output) (may : Bool) (e : Expr) (w : ℕ × ℕ) → IsCompared t op e w → (d : ℕ) (s : State) → 2 ≤ d → 4 ≤ s.budget → lower_to d (cx shows may) e s ≡ Ok (term w.0 w.1, compared_end s)
   lowers_compared op free term makes shows may e w it zero s deep h = absurd (omega arith)
   lowers_compared op free term makes shows may e w it (suc zero) s deep h = absurd (omega arith)
@@ -321,7 +321,7 @@ module _ (schema : Schema) (t : Table) (stands : Stands schema t) (simple : IsSi
     follows : Follows s after cost
 
   -- a test AND a comparison
-  joined : (shows : List Output) (may : Bool) (e l r : Expr) (terms : List Term) (cost d : ℕ) (s : State) (op : Operator) → is_identity op ≡ false → (term : ℕ → ℕ → Term) → Makes op term → (w : ℕ × ℕ)
+  joined : (shows : List Output) (may : Bool) (e l r : Expr) (terms : List Term) (cost d : ℕ) (s : State) (op : Operator) → is_identity op ≡ false → (term : ℕ → ℕ → Term) → MakesTerm op term → (w : ℕ × ℕ)
       → conjuncts (term w.0 w.1) ≡ term w.0 w.1 ∷ [] → out-Expr e ≡ Expr-F.Binary And l r → IsCompared t op r w → 2 ≤ d → cost + 5 ≤ s.budget → Lowered shows may l terms cost d (begun s)
       → Lowered shows may e (terms ++ term w.0 w.1 ∷ []) (cost + 5) (suc d) s
   unfolding lower_to passes tests_truth tests_alias wanted_truth combine

@@ -58,7 +58,7 @@ use Rattle.sqlite.specs.Rows.{Written as Wrote, Task, Tries, TriesEach, Meets, U
 use Rattle.sqlite.proofs.Callers.{one_step, one_permutation}
 use Rattle.dh_rows.specs.Calls.{command_of}
 use Rattle.dh_rows.specs.Keyed.{Coding, IsCoded, IsTableOf, same_key, put, records}
-use Rattle.dh_rows.specs.Places.{HasTable, IsUnreferred, tree_of, table_in, unique_keys, Stands, Keeps}
+use Rattle.dh_rows.specs.Places.{HasTable, IsUnreferred, tree_of, table_in, unique_keys, StandsInSchema, KeepsTable}
 use Rattle.dh_rows.proofs.Alone.{works_none}
 use Rattle.dh_rows.proofs.Equal.{equal_int}
 use Rattle.dh_rows.proofs.Indexes.{key_found, conflict_is}
@@ -67,7 +67,7 @@ use Rattle.dh_rows.proofs.Replaced.{one_left, one_rowid, all_left, filter_alike,
 use Rattle.dh_rows.proofs.Shapes.{matching, outp, answered, filter_same_on}
 use Rattle.dh_rows.proofs.Terms.{from_table}
 use Rattle.dh_rows.proofs.Texts.{Means}
-use Rattle.dh_rows.proofs.Effects.{IsSimple, simplified, AreOfKinds, Turns, went, same_ok, cast_null, cast_int, casts_same, kept, turned}
+use Rattle.dh_rows.proofs.Effects.{IsSimple, simplified, AreOfKinds, TurnsTable, went, same_ok, cast_null, cast_int, casts_same, kept, turned}
 
 -- ---- the text
 
@@ -123,7 +123,7 @@ pub record IsKeyOf (t : Table) (key : List ℕ) : Type 0 where
   pub own : bytes_eq key key ≡ true
   pub among : (length key == length key) && are_among key key && are_among key key ≡ true
 
-module _ (schema : Schema) (t : Table) (stands : Stands schema t) (simple : IsSimple t) (key : List ℕ) (is_key : IsKeyOf t key) where
+module _ (schema : Schema) (t : Table) (stands : StandsInSchema schema t) (simple : IsSimple t) (key : List ℕ) (is_key : IsKeyOf t key) where
   abbrev its_tree : ℕ
   its_tree = tree_of schema t.name
 
@@ -226,7 +226,7 @@ pub record Fits (t : Table) {X : Type 0} (c : Coding X) (x : X) (key : List ℕ)
   pub placed : (id : ℤ) (more : Row) → column (c.encode x ++ Int id ∷ more) base ≡ Int id
   pub shows : (n : ℤ) (more : Row) (y : X) → same_key c.key x y ≡ true → eval_all new ((c.encode x ++ more) ∷ (Int n ∷ c.encode y) ∷ []) ≡ Int n ∷ Int n ∷ c.encode x
 
-module _ (limit : Option ℕ) (mode : Mode) (db after : Database) (t : Table) {X : Type 0} (c : Coding X) (keeps : Keeps t c db) (x : X) (text : List ℕ) (tally : Tally) (simple : IsSimple t) (key : List ℕ) (is_key : IsKeyOf t key) (base : ℕ) (new : List Term) where
+module _ (limit : Option ℕ) (mode : Mode) (db after : Database) (t : Table) {X : Type 0} (c : Coding X) (keeps : KeepsTable t c db) (x : X) (text : List ℕ) (tally : Tally) (simple : IsSimple t) (key : List ℕ) (is_key : IsKeyOf t key) (base : ℕ) (new : List Term) where
   abbrev its : Table
   its = simplified (table_in db.schema t)
 
@@ -297,7 +297,7 @@ module _ (limit : Option ℕ) (mode : Mode) (db after : Database) (t : Table) {X
     -- the record stands in its place, instead of one that has its key
     pub put_turns : (terms : List Term) (width : ℕ) → value_rows (c.encode x) width (length terms / width) terms ≡ (Null ∷ c.encode x) ∷ []
         → Does limit mode (c.encode x) db text None (InsertOr keeps.stands.at how.Abort (Values terms width) (clause_for key tree base new ∷ [])) (Ok (tally, after))
-        → Turns t c (put c.key x) db after
+        → TurnsTable t c (put c.key x) db after
     put_turns terms width one does =
         let simple_its : IsSimple (table_in db.schema t) = ap (λ (v : Table). record v { tree = tree }) simple in
         let it = ends limit mode db after t.name keeps.stands.at (table_in db.schema t) (subst (HasTable db.schema t.name keeps.stands.at) simple_its keeps.stands.has) keeps.stands.unreferred (c.encode x) text tally terms width (Null ∷ c.encode x) one key base new does in

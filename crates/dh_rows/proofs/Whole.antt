@@ -28,8 +28,8 @@ use Rattle.sqlite.specs.Effect.{IsDatabase, Reads}
 use Rattle.sqlite.specs.State.{State}
 use Rattle.dh_rows.specs.Calls.{IsPlainLook, IsUnfit, AreRows}
 use Rattle.dh_rows.specs.Keyed.{Coding, IsCoded, IsTableOf, by_key, records}
-use Rattle.dh_rows.specs.Places.{tree_of, table_in, Stands, rows_of}
-use Rattle.dh_rows.specs.Whole.{IsRowid, Spells}
+use Rattle.dh_rows.specs.Places.{tree_of, table_in, StandsInSchema, rows_of}
+use Rattle.dh_rows.specs.Whole.{IsRowid, SpellsRecords}
 use Rattle.dh_rows.proofs.Terms.{rising, by_rowid, from_table, columns_at}
 use Rattle.dh_rows.proofs.Lists.{rises-sort, one_order, ties_moved, all_moved, by_key_total, id_total}
 use Rattle.dh_rows.proofs.Shapes.{matching, outp, query, answered}
@@ -54,7 +54,7 @@ pub record IsCodingOf (t : Table) {X : Type 0} (c : Coding X) (order : List ℕ)
   pub sorts : (x y : X) → key_cmp 0 (map (λ (k : Term × Key). k.1) (map rising order)) (c.key x) (c.key y) ≡ by_key c.key x y
 
 -- What `select` asks of a text. Only a limit on steps refuses it.
-pub record Asks (s : State) (text : List ℕ) : Type 0 where
+pub record SuitsSelect (s : State) (text : List ℕ) : Type 0 where
   pub look : IsPlainLook s text
   pub fits : IsUnfit s text [] → IsSome s.step_limit
 
@@ -136,7 +136,7 @@ answer_of s text q {names = names} it rows h = let found : Reads (Select (record
 
 -- ---- a table of which only its place is known
 
-module _ {t : Table} {ids_text all_text order : List ℕ} (texts : AreTextsOf t ids_text all_text order) (s : State) (stands : Stands s.now.schema t) where
+module _ {t : Table} {ids_text all_text order : List ℕ} (texts : AreTextsOf t ids_text all_text order) (s : State) (stands : StandsInSchema s.now.schema t) where
   abbrev tree : ℕ
   tree = tree_of s.now.schema t.name
 
@@ -155,13 +155,13 @@ module _ {t : Table} {ids_text all_text order : List ℕ} (texts : AreTextsOf t 
   all_means : Chooses s.now.schema all_text (Select (record { lets = []; body = from_table tree [] columns (map rising order) }) (map (name_at t) (places t.columns)))
   all_means = select_is s.now.schema t stands texts.simple texts.plain all_text (places t.columns) [] order all_shape
 
-  pub asks_ids : Asks s ids_text
+  pub asks_ids : SuitsSelect s ids_text
   asks_ids = record {
     look = record { plain = ids_means.means.plain; listing = ids_means.listing };
     fits = fitting s ids_text [] ids_means (is_ids t ids_text texts.ids_read).0 (ids_accepts s.now.schema t stands texts.simple texts.plain);
   }
 
-  pub asks_all : Asks s all_text
+  pub asks_all : SuitsSelect s all_text
   asks_all = record {
     look = record { plain = all_means.means.plain; listing = all_means.listing };
     fits = fitting s all_text [] all_means (is_all t all_text order texts.all_read).0 (select_accepts s.now.schema t stands texts.simple texts.plain all_text (places t.columns) [] order all_shape [] refl);
@@ -214,7 +214,7 @@ module _ {t : Table} {ids_text all_text order : List ℕ} (texts : AreTextsOf t 
         ap₂ ◌∷◌ (ap decode_after it.shown ∙ coding.back it.it (pos 0) ∙ sym (ap c.decode it.row ∙ coding.back it.it it.id)) (decoded rs all.1)
 
     -- Answers that spell records are of a table of ours, and these are its records.
-    pub spelled : IsDatabase s.now → (ids rows : List Row) (xs : List X) → AreRows s ids_text [] ids → AreRows s all_text [] rows → Spells c ids rows xs
+    pub spelled : IsDatabase s.now → (ids rows : List Row) (xs : List X) → AreRows s ids_text [] ids → AreRows s all_text [] rows → SpellsRecords c ids rows xs
         → IsTableOf c (rows_of s.now t.name) × (records c (rows_of s.now t.name) ≡ xs)
     spelled sound ids rows xs ids_are rows_are spells =
         let by_id = IsPermutation-sym _ _ (ids_moved ids ids_are) in
@@ -257,7 +257,7 @@ module _ {t : Table} {ids_text all_text order : List ℕ} (texts : AreTextsOf t 
         subst (IsAscending (λ a b. value_cmp (rowid a) (rowid b) ≡ Less)) (sym are) (ascending-map (λ a b. value_cmp (rowid a) (rowid b) ≡ Less) (λ r. rowid r ∷ []) _ up)
 
     -- The answers of a table of ours spell its records.
-    pub spells : (ids rows : List Row) → AreRows s ids_text [] ids → AreRows s all_text [] rows → IsTableOf c (rows_of s.now t.name) → Spells c ids rows (records c (rows_of s.now t.name))
+    pub spells : (ids rows : List Row) → AreRows s ids_text [] ids → AreRows s all_text [] rows → IsTableOf c (rows_of s.now t.name) → SpellsRecords c ids rows (records c (rows_of s.now t.name))
     spells ids rows ids_are rows_are was = record {
       ids_are = record {
         ints = all_moved IsRowid _ ids (ids_moved ids ids_are) (all_map IsRowid (λ r. rowid r ∷ []) stored (all_weaker (IsCoded c) _ (λ r h. (id_in (rowid r), ap (λ z. rowid z ∷ []) h)) stored was.coded));

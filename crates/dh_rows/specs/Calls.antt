@@ -42,8 +42,8 @@ IsEdit _ = ⊥
 abbrev pub EditsAs : State → List ℕ → Row → Database → Result Compiled CompileError → Type 0
 EditsAs s sql params after meaning = (tally : Tally) × Does s.step_limit (mode_of s) params s.now (statement_of sql meaning) None (command_of meaning) (Ok (tally, after)) × IsDatabase after
 
-abbrev pub Edits : State → List ℕ → Row → Database → Type 0
-Edits s sql params after = EditsAs s sql params after (understood s.now.schema sql)
+abbrev pub EditsTo : State → List ℕ → Row → Database → Type 0
+EditsTo s sql params after = EditsAs s sql params after (understood s.now.schema sql)
 
 -- the text is one statement, with no RETURNING, that does not read the time
 abbrev pub IsPlainText : State → List ℕ → Type 0
@@ -119,7 +119,7 @@ module _ {S : Type 0} (g : Ghosts S) where
   IsBlamed old new = MoreFaults (state g old).faults (state g new).faults ⊎ ((state g old).is_open ≡ false)
 
   -- What every call leaves, whatever it answers.
-  pub record Lasts (old new : Held S) : Type 0 where
+  pub record KeepsFaults (old new : Held S) : Type 0 where
     -- what the disk returned before the call was right, if what it returned after it was
     pub clean : HasCleanDisk (state g new) → HasCleanDisk (state g old)
     -- a store that is honest was honest
@@ -132,29 +132,29 @@ module _ {S : Type 0} (g : Ghosts S) where
     pub limit : new.step_limit ≡ old.step_limit
 
   -- What a call leaves that commits nothing, whatever it answers.
-  pub record Goes (old new : Held S) : Type 0 where
-    pub lasts : Lasts old new
+  pub record MakesNoCommit (old new : Held S) : Type 0 where
+    pub lasts : KeepsFaults old new
     pub kept : KeepsCommitted old new
     pub quiet : IsHonest old → LeavesNoMore old new
 
   -- What a call leaves that commits nothing within a transaction, whatever it answers.
-  pub record GoesWithin (old new : Held S) : Type 0 where
-    pub lasts : Lasts old new
+  pub record MakesNoCommitInside (old new : Held S) : Type 0 where
+    pub lasts : KeepsFaults old new
     pub kept : old.in_transaction ≡ true → KeepsCommitted old new
     pub quiet : old.in_transaction ≡ true → IsHonest old → LeavesNoMore old new
 
   module _ {T : Type 0} (old new : Held S) where
     -- What an answered look finds. Only an honest store answers.
-    abbrev pub Finds : {E : Type 0} → Result T E → (T → Type 0) → Type 0
-    Finds r P = HasCleanDisk (state g new) → IfOk r (λ x. IsHonest old × P x)
+    abbrev pub FindsSuch : {E : Type 0} → Result T E → (T → Type 0) → Type 0
+    FindsSuch r P = HasCleanDisk (state g new) → IfOk r (λ x. IsHonest old × P x)
 
     -- A refusal is the store's own, but where P holds.
-    abbrev pub Blames : Result T Fault → Type 0 → Type 0
-    Blames r P = HasCleanDisk (state g new) → OnStore r (IsBlamed old new ⊎ P)
+    abbrev pub StoreFaultHasCause : Result T Fault → Type 0 → Type 0
+    StoreFaultHasCause r P = HasCleanDisk (state g new) → OnStore r (IsBlamed old new ⊎ P)
 
   -- A refused statement left all as it was, or undid the transaction.
-  abbrev pub Stops : {T E : Type 0} → Held S → Held S → Result T E → Type 0
-  Stops old new r = HasCleanDisk (state g new) → OnErr r (IsUnchanged (state g old) (state g new) ⊎ IsRolledBack (state g old) (state g new))
+  abbrev pub RefusalRollsBack : {T E : Type 0} → Held S → Held S → Result T E → Type 0
+  RefusalRollsBack old new r = HasCleanDisk (state g new) → OnErr r (IsUnchanged (state g old) (state g new) ⊎ IsRolledBack (state g old) (state g new))
 
   module _ (old new : Held S) (sql : List ℕ) (params : Row) where
     -- the statement was refused for what the fault tells
@@ -166,16 +166,16 @@ module _ {S : Type 0} (g : Ghosts S) where
     IsUnanswered fault = HasCleanDisk (state g new) → (e : Error) × (fault ≡ fault_of e) × FailsToQuery sql params (state g old) (state g new) e
 
     -- an answered statement ran
-    abbrev pub Runs : {E : Type 0} → Result (Unit {0}) E → Type 0
-    Runs r = HasCleanDisk (state g new) → OnOk r ((n : ℕ) × Executes sql params (state g old) (state g new) (Ok n))
+    abbrev pub RunsStatement : {E : Type 0} → Result (Unit {0}) E → Type 0
+    RunsStatement r = HasCleanDisk (state g new) → OnOk r ((n : ℕ) × Executes sql params (state g old) (state g new) (Ok n))
 
     -- an answered edit made of what was seen what is seen now
-    abbrev pub Makes : {E : Type 0} → Result (Unit {0}) E → Type 0
-    Makes r = IsHonest old → HasCleanDisk (state g new) → OnOk r (Edits (state g old) sql params (state g new).now)
+    abbrev pub EditsWhatIsSeen : {E : Type 0} → Result (Unit {0}) E → Type 0
+    EditsWhatIsSeen r = IsHonest old → HasCleanDisk (state g new) → OnOk r (EditsTo (state g old) sql params (state g new).now)
 
     -- A crash leaves what it could leave before the call or, outside a transaction, what the edit makes.
     abbrev pub EditsAtMost : Type 0
-    EditsAtMost = LeavesTrees old new (λ db. (old.in_transaction ≡ false) × (after : Database) × Edits (state g old) sql params after × (db ≡ after.trees))
+    EditsAtMost = LeavesTrees old new (λ db. (old.in_transaction ≡ false) × (after : Database) × EditsTo (state g old) sql params after × (db ≡ after.trees))
 
   module _ (old new : Held S) where
     -- the commit, or the rollback of a transaction was refused for what the fault tells
@@ -203,7 +203,7 @@ module _ {S : Type 0} (g : Ghosts S) where
 
     module _ (old new : Held S) where
       -- the connection was honest and is open, and shows this now
-      pub record Shows (now last : W) (in_transaction : Bool) : Type 0 where
+      pub record ShowsHonestly (now last : W) (in_transaction : Bool) : Type 0 where
         pub was_honest : IsHonest old
         pub is_open : IsTrue (state g new).is_open
         pub now_is : seen new ≡ now
@@ -211,21 +211,22 @@ module _ {S : Type 0} (g : Ghosts S) where
         pub mode : new.in_transaction ≡ in_transaction
 
       abbrev pub IsSame : Type 0
-      IsSame = Shows (seen old) (committed old) old.in_transaction
+      IsSame = ShowsHonestly (seen old) (committed old) old.in_transaction
 
       -- all since the begin of the transaction is undone
       abbrev pub IsUndone : Type 0
-      IsUndone = Shows (committed old) (committed old) false
+      IsUndone = ShowsHonestly (committed old) (committed old) false
 
       abbrev pub IsRefused : Type 0
       IsRefused = IsSame ⊎ IsUndone
 
       -- this is seen now, and outside a transaction it is committed
-      abbrev pub Becomes : W → Type 0
-      Becomes w = Shows w (if old.in_transaction then committed old else w) old.in_transaction
+      abbrev pub BecomesSeen : W → Type 0
+      BecomesSeen w =
+          ShowsHonestly w (if old.in_transaction then committed old else w) old.in_transaction
 
       -- What an answered call leaves, which neither begins nor ends a transaction.
-      pub record Sees (next : W) : Type 0 where
+      pub record NowShows (next : W) : Type 0 where
         -- the store is as honest as it was
         pub live : IsHonest old → HasCleanDisk (state g new) → IsHonest new
         -- this is seen
@@ -236,80 +237,84 @@ module _ {S : Type 0} (g : Ghosts S) where
         pub done : IsHonest new → old.in_transaction ≡ false → committed new ≡ next
 
       -- A refused call leaves all as it was, or as it was at the last commit.
-      abbrev pub Refuses : {T E : Type 0} → Result T E → Type 0
-      Refuses r = IsHonest new → OnErr r IsRefused
+      abbrev pub RefusalUndoes : {T E : Type 0} → Result T E → Type 0
+      RefusalUndoes r = IsHonest new → OnErr r IsRefused
 
       -- An answered call leaves a honest store, whose transaction began, was committed, or left nothing.
-      abbrev pub Begins : {T E : Type 0} → Result T E → Type 0
-      Begins r = HasCleanDisk (state g new) → OnOk r (Shows (seen old) (committed old) true)
+      abbrev pub BeginsTransaction : {T E : Type 0} → Result T E → Type 0
+      BeginsTransaction r =
+          HasCleanDisk (state g new) → OnOk r (ShowsHonestly (seen old) (committed old) true)
 
-      abbrev pub Commits : {T E : Type 0} → Result T E → Type 0
-      Commits r = HasCleanDisk (state g new) → OnOk r (Shows (seen old) (seen old) false)
+      abbrev pub CommitsSeen : {T E : Type 0} → Result T E → Type 0
+      CommitsSeen r =
+          HasCleanDisk (state g new) → OnOk r (ShowsHonestly (seen old) (seen old) false)
 
-      abbrev pub Undoes : {T E : Type 0} → Result T E → Type 0
-      Undoes r = IsHonest new → OnOk r IsUndone
+      abbrev pub UndoesTransaction : {T E : Type 0} → Result T E → Type 0
+      UndoesTransaction r = IsHonest new → OnOk r IsUndone
 
       -- An answered look was at an honest store, and left all as it was.
-      abbrev pub Stays : {T E : Type 0} → Result T E → Type 0
-      Stays r = HasCleanDisk (state g new) → OnOk r IsSame
+      abbrev pub LeavesAllAsItWas : {T E : Type 0} → Result T E → Type 0
+      LeavesAllAsItWas r = HasCleanDisk (state g new) → OnOk r IsSame
 
       -- A crash leaves what it could leave before the call, or trees that have P when seen by the tables of the last commit.
-      abbrev pub Leaves : (W → Type 0) → Type 0
-      Leaves P = LeavesTrees old new (λ db. P (view (record { schema = (state g old).committed.schema; trees = db })))
+      abbrev pub CrashLeaves : (W → Type 0) → Type 0
+      CrashLeaves P = LeavesTrees old new (λ db. P (view (record { schema = (state g old).committed.schema; trees = db })))
 
       -- A crash leaves what it could leave before the call or, outside a transaction, this.
       abbrev pub CommitsAtMost : W → Type 0
-      CommitsAtMost w = Leaves (λ v. (old.in_transaction ≡ false) × (v ≡ w))
+      CommitsAtMost w = CrashLeaves (λ v. (old.in_transaction ≡ false) × (v ≡ w))
 
   module _ {W : Type 0} (view : Database → W) (old new : Held S) (result : Result (Unit {0}) Fault) where
     -- What a statement that begins or ends a transaction leaves by its answer: `Done` is what it has done. Where it is
     -- `Misplaced` it may be refused at any store.
-    pub record Controls (sql : List ℕ) (Done Misplaced : Type 0) : Type 0 where
+    pub record ControlsTransaction (sql : List ℕ) (Done Misplaced : Type 0) : Type 0 where
       pub done : Done
       -- one that was refused left all as it was, or undid the transaction
-      pub err : Refuses view old new result
+      pub err : RefusalUndoes view old new result
       -- the refusal is the store's own, but for a misplaced one
-      pub told : Blames old new result Misplaced
+      pub told : StoreFaultHasCause old new result Misplaced
       -- it was refused for what the fault tells
       pub rejected : IfErr result (IsRejected old new sql [])
 
     -- What a BEGIN leaves, whatever it answers. Within a transaction it is refused.
     pub record OnlyBegins : Type 0 where
       -- nothing is committed, and a crash leaves nothing more
-      pub goes : Goes old new
+      pub goes : MakesNoCommit old new
       pub quiet : LeavesNoMore old new
-      pub begun : Controls (codes "BEGIN") (Begins view old new result) (old.in_transaction ≡ true)
+      pub begun
+          : ControlsTransaction (codes "BEGIN") (BeginsTransaction view old new result)
+          (old.in_transaction ≡ true)
 
     -- What a COMMIT leaves, whatever it answers. Outside a transaction it is refused.
     pub record OnlyCommits : Type 0 where
-      pub lasts : Lasts old new
-      pub committed : Controls (codes "COMMIT") (Commits view old new result) (old.in_transaction ≡ false)
+      pub lasts : KeepsFaults old new
+      pub committed : ControlsTransaction (codes "COMMIT") (CommitsSeen view old new result) (old.in_transaction ≡ false)
 
     -- What a ROLLBACK leaves, whatever it answers. Outside a transaction there is nothing to undo.
     pub record OnlyUndoes : Type 0 where
       -- nothing is committed, and a crash leaves nothing more
-      pub goes : Goes old new
+      pub goes : MakesNoCommit old new
       pub quiet : LeavesNoMore old new
-      pub undone : Controls (codes "ROLLBACK") (Undoes view old new result) ⊥
+      pub undone : ControlsTransaction (codes "ROLLBACK") (UndoesTransaction view old new result) ⊥
 
   -- What a look leaves, whatever it answers.
   pub record OnlyLooks (old new : Held S) {T E : Type 0} (result : Result T E) : Type 0 where
     -- nothing is committed, and a crash leaves nothing more
-    pub goes : Goes old new
+    pub goes : MakesNoCommit old new
     -- one that was answered was at an honest store, and left all as it was
-    pub same : Stays whole old new result
+    pub same : LeavesAllAsItWas whole old new result
     -- one that was refused left all as it was, or undid the transaction
-    pub err : Refuses whole old new result
+    pub err : RefusalUndoes whole old new result
 
   -- What an INSERT, a DELETE, a CREATE TABLE or a DROP TABLE leaves, whatever it answers.
   pub record OnlyEdits (old new : Held S) (sql : List ℕ) (params : Row) {E : Type 0} (result : Result (Unit {0}) E) : Type 0 where
     -- within a transaction nothing is committed, and a crash leaves nothing more
-    pub goes : GoesWithin old new
+    pub goes : MakesNoCommitInside old new
     -- one that was answered left the store as honest as it was, and outside a transaction committed what is seen
-    pub sees : OnOk result (Sees whole old new (state g new).now)
+    pub sees : OnOk result (NowShows whole old new (state g new).now)
     -- of what was seen it made what is seen now
-    pub made : Makes old new sql params result
+    pub made : EditsWhatIsSeen old new sql params result
     -- one that was refused left all as it was, or undid the transaction
-    pub err : Refuses whole old new result
+    pub err : RefusalUndoes whole old new result
     -- a crash leaves what it could leave before or, outside a transaction, what the edit makes
     pub crash : EditsAtMost old new sql params

@@ -84,7 +84,7 @@ abbrev pub ArePlaced : Schema → Type 0
 ArePlaced schema = AllByRecursion (λ i. (t : Table) × Has schema.tables t × (i.table ≡ t.tree)) schema.indexes
 
 -- The schema has this table at some place, where its tree is its own and no foreign key refers to it.
-pub record Stands (schema : Schema) (t : Table) : Type 0 where
+pub record StandsInSchema (schema : Schema) (t : Table) : Type 0 where
   pub at : ℕ
   pub has : HasTable schema t.name at (table_in schema t)
   -- no statement computes it
@@ -102,6 +102,6 @@ abbrev pub records_of : {X : Type 0} → Coding X → List ℕ → Database → 
 records_of c name db = records c (rows_of db name)
 
 -- the database has this table, and each of its rows stands for a record
-pub record Keeps (t : Table) {X : Type 0} (c : Coding X) (db : Database) : Type 0 where
-  pub stands : Stands db.schema t
+pub record KeepsTable (t : Table) {X : Type 0} (c : Coding X) (db : Database) : Type 0 where
+  pub stands : StandsInSchema db.schema t
   pub rows : IsTableOf c (rows_of db t.name)

@@ -7,7 +7,7 @@ use Rattle.sqlite_schema.specs.declared.schema.Index.{Index}
 use Rattle.sqlite_schema.specs.declared.schema.Schema.{Schema}
 use Rattle.sqlite_schema.specs.Names.{same_name}
 use Rattle.dh_rows.specs.declared.table_shape.Shape.{Shape}
-use Rattle.dh_rows.specs.Places.{Stands, IsUnmentioned, tree_of, keyed_table, needed}
+use Rattle.dh_rows.specs.Places.{StandsInSchema, IsUnmentioned, tree_of, keyed_table, needed}
 
 -- the table of this shape
 abbrev pub table_of : Shape → Table
@@ -23,7 +23,7 @@ IsUniquelyIndexed schema tree = AllByRecursion (λ i. i.table ≡ tree → i.is_
 
 -- The schema has this table, and nothing of others is on it.
 pub record StandsAlone (schema : Schema) (t : Table) : Type 0 where
-  pub stands : Stands schema t
+  pub stands : StandsInSchema schema t
   -- no foreign key names it
   pub unmentioned : IsUnmentioned schema t.name
   -- its tree is of no table of another name

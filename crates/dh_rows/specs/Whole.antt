@@ -18,7 +18,7 @@ pub record AreRowids (ids : List Row) : Type 0 where
 
 module _ {X : Type 0} (c : Coding X) where
   -- The rowids and the rows of a table, by two queries, are those of these records, whose keys rise.
-  pub record Spells (ids rows : List Row) (xs : List X) : Type 0 where
+  pub record SpellsRecords (ids rows : List Row) (xs : List X) : Type 0 where
     pub ids_are : AreRowids ids
     pub rows_are : rows ≡ map c.encode xs
     pub rise : IsAscending (λ x y. by_key c.key x y ≡ Less) xs

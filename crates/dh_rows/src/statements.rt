@@ -4,7 +4,7 @@ ghost use Rattle.std.specs.Prelude.{IfErr};
 ghost use Rattle.sqlite.specs.Held.{state};
 ghost use Rattle.sqlite.specs.State.{Survives, CommitsBy};
 ghost use Rattle.sqlite.specs.Values.{bound};
-ghost use Rattle.dh_rows.specs.Calls.{AreRows, Blames, Finds, IsHonest, IsPlainEdit, IsPlainLook, IsRejected, IsUnanswered, IsUnfit, Lasts, LeavesSeen, OnlyBegins, OnlyCommits, OnlyEdits, OnlyLooks, OnlyUndoes, Runs, Stops, whole};
+ghost use Rattle.dh_rows.specs.Calls.{AreRows, StoreFaultHasCause, FindsSuch, IsHonest, IsPlainEdit, IsPlainLook, IsRejected, IsUnanswered, IsUnfit, KeepsFaults, LeavesSeen, OnlyBegins, OnlyCommits, OnlyEdits, OnlyLooks, OnlyUndoes, RunsStatement, RefusalRollsBack, whole};
 
 use crate::fault::fault_of;
 use dh_faults::Fault;
@@ -17,10 +17,10 @@ pub fn run<S: Alter>(
     sql: &str,
     params: &[ValueRef<'_>],
 ) -> Result<(), Fault>
-    ensures runs { Runs S.Store conn.old conn.new sql.now (bound params.now) result }
+    ensures runs { RunsStatement S.Store conn.old conn.new sql.now (bound params.now) result }
     ensures told { IfErr result (IsRejected S.Store conn.old conn.new sql.now (bound params.now)) }
-    ensures err { Stops S.Store conn.old conn.new result }
-    ensures lasts { Lasts S.Store conn.old conn.new }
+    ensures err { RefusalRollsBack S.Store conn.old conn.new result }
+    ensures lasts { KeepsFaults S.Store conn.old conn.new }
     ensures survives { Survives (state S.Store conn.old) (state S.Store conn.new)
         (CommitsBy sql.now (bound params.now) (state S.Store conn.old)) }
 {
@@ -75,11 +75,11 @@ pub fn select<S: Alter>(
     params: &[ValueRef<'_>],
 ) -> Result<Vec<Row>, Fault>
     requires look { IsHonest S.Store conn.old → IsPlainLook (state S.Store conn.old) sql.now }
-    ensures rows { Finds S.Store conn.old conn.new result
+    ensures rows { FindsSuch S.Store conn.old conn.new result
         (λ rows. AreRows (state S.Store conn.old) sql.now (bound params.now) rows.items) }
     ensures looks { OnlyLooks S.Store conn.old conn.new result }
     ensures told { IfErr result (IsUnanswered S.Store conn.old conn.new sql.now (bound params.now)) }
-    ensures blamed { Blames S.Store conn.old conn.new result
+    ensures blamed { StoreFaultHasCause S.Store conn.old conn.new result
         (IsUnfit (state S.Store conn.old) sql.now (bound params.now)) }
 {
     match conn.query_all(sql, params) {

@@ -24,7 +24,7 @@ abbrev pub WritesTold
     : (ℕ → List ℕ → Type 0) → Option (List ℕ) → Option (List ℕ)
     → Option (Result Done EngineFault) → Type 0
 WritesTold IsAnswer held now None = now ≡ held
-WritesTold IsAnswer held now (Some result) = engine.Writes IsAnswer held now result
+WritesTold IsAnswer held now (Some result) = engine.WritesAnswer IsAnswer held now result
 
 -- whether the engine told that the reader failed
 abbrev pub reader_failed : Option (Result Done EngineFault) → Bool

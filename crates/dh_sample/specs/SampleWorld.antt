@@ -70,5 +70,5 @@ DoesAll commands before after (Ok done) = after_all commands before ≡ Ok after
 DoesAll commands before after (Err e) = (done : ℕ) × StopsBehind commands before after e done
 
 -- the world has the sample added, or the part of it that was done before the first refusal
-abbrev pub Fills : World → World → Result Unit Refusal → Type 0
-Fills = DoesAll sample_commands
+abbrev pub AddsSample : World → World → Result Unit Refusal → Type 0
+AddsSample = DoesAll sample_commands

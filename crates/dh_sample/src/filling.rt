@@ -2,8 +2,8 @@
 
 ghost use Rattle.std.specs.Prelude.{◌≡◌, ◌∷◌, ◌++◌, [], IfOk};
 ghost use Rattle.dh_world.specs.Step.{IsStep};
-ghost use Rattle.dh_http.specs.Desk.{world, Moves};
-ghost use Rattle.dh_sample.specs.SampleWorld.{uploaded_page, sample_uploads, of_sample, make_sample, push_sample, upload_sample, sample_world, Fills};
+ghost use Rattle.dh_http.specs.Desk.{world, WorldGoesBy};
+ghost use Rattle.dh_sample.specs.SampleWorld.{uploaded_page, sample_uploads, of_sample, make_sample, push_sample, upload_sample, sample_world, AddsSample};
 ghost use Rattle.std.specs.FinMap.{empty};
 ghost use Rattle.sqlite.specs.Steps.{over_memory};
 
@@ -99,7 +99,7 @@ fn upload_command(alloc: Global) -> Result<Command, AllocError>
 
 /// Does a command of the sample, and lets it go.
 fn perform<S: Alter>(alloc: Global, desk: &mut Desk<S>, command: Command) -> Result<Answer, Refusal>
-    ensures step { Moves S.Store desk.old desk.new
+    ensures step { WorldGoesBy S.Store desk.old desk.new
         (λ before after. IsStep before after command result) }
 {
     desk.apply(alloc, &command)
@@ -107,7 +107,7 @@ fn perform<S: Alter>(alloc: Global, desk: &mut Desk<S>, command: Command) -> Res
 
 /// Makes the sample project.
 fn make_project<S: Alter>(alloc: Global, desk: &mut Desk<S>) -> Result<Answer, Refusal>
-    ensures step { Moves S.Store desk.old desk.new
+    ensures step { WorldGoesBy S.Store desk.old desk.new
         (λ before after. IsStep before after make_sample result) }
 {
     perform(alloc, desk, make_command(alloc)?)
@@ -115,7 +115,7 @@ fn make_project<S: Alter>(alloc: Global, desk: &mut Desk<S>) -> Result<Answer, R
 
 /// Pushes its branch.
 fn push_branch<S: Alter>(alloc: Global, desk: &mut Desk<S>) -> Result<Answer, Refusal>
-    ensures step { Moves S.Store desk.old desk.new
+    ensures step { WorldGoesBy S.Store desk.old desk.new
         (λ before after. IsStep before after push_sample result) }
 {
     perform(alloc, desk, push_command(alloc)?)
@@ -123,7 +123,7 @@ fn push_branch<S: Alter>(alloc: Global, desk: &mut Desk<S>) -> Result<Answer, Re
 
 /// Stores its pages.
 fn store_pages<S: Alter>(alloc: Global, desk: &mut Desk<S>) -> Result<Answer, Refusal>
-    ensures step { Moves S.Store desk.old desk.new
+    ensures step { WorldGoesBy S.Store desk.old desk.new
         (λ before after. IsStep before after upload_sample result) }
 {
     perform(alloc, desk, upload_command(alloc)?)
@@ -132,7 +132,8 @@ fn store_pages<S: Alter>(alloc: Global, desk: &mut Desk<S>) -> Result<Answer, Re
 /// Makes the sample project, pushes its branch and stores its pages: three commands. The first refusal is answered: what was done
 /// before it stays, and the rest is not done.
 pub fn fill_sample<S: Alter>(alloc: Global, desk: &mut Desk<S>) -> Result<(), Refusal>
-    ensures fills { Moves S.Store desk.old desk.new (λ before after. Fills before after result) }
+    ensures fills { WorldGoesBy S.Store desk.old desk.new
+        (λ before after. AddsSample before after result) }
 {
     make_project(alloc, desk)?;
     push_branch(alloc, desk)?;

@@ -18,12 +18,12 @@ use Rattle.dh_records.specs.Lists.{world_of}
 use Rattle.sqlite.specs.State.{State}
 use Rattle.sqlite_trees.specs.declared.store.Store.{Ghosts}
 use Rattle.sqlite.specs.Held.{Held, state}
-use Rattle.dh_rows.specs.Calls.{Edits, IsHonest, IsPlainEdit, OnlyEdits}
+use Rattle.dh_rows.specs.Calls.{EditsTo, IsHonest, IsPlainEdit, OnlyEdits}
 use Rattle.dh_rows.specs.Keyed.{Coding, IsTableOf, records, added}
-use Rattle.dh_rows.specs.Places.{IsFree, IsUnmentioned, ArePlaced, Stands, Keeps, rows_of, records_of}
-use Rattle.dh_rows.proofs.Asks.{Writes, insert}
-use Rattle.dh_rows.proofs.Create.{IsCreate, makes, Makes, Creates, creates, free_kept, unmentioned_kept}
-use Rattle.dh_rows.proofs.Effects.{IsSimple, Turns, other_keeps}
+use Rattle.dh_rows.specs.Places.{IsFree, IsUnmentioned, ArePlaced, StandsInSchema, KeepsTable, rows_of, records_of}
+use Rattle.dh_rows.proofs.Asks.{WritesTable, insert}
+use Rattle.dh_rows.proofs.Create.{IsCreate, makes, MakesEmptyTable, Creates, creates, free_kept, unmentioned_kept}
+use Rattle.dh_rows.proofs.Effects.{IsSimple, TurnsTable, other_keeps}
 use Rattle.dh_rows.proofs.Read.{insert_of}
 use Rattle.dh_rows.proofs.Texts.{ArePlain}
 use Rattle.dh_records.specs.Codings.{projects, langs, versions, pages, used, picks, passes, held, rules, redirects, aliases, routes}
@@ -31,14 +31,14 @@ use Rattle.dh_records.specs.Typed.{AreTyped}
 use Rattle.dh_schema.specs.Tables.{lists_of, meta, meta_table, alias_table, route_table, rule_table, redirect_table, project_table, lang_table, version_table, page_table, used_table, pick_table, pass_table, holds_table}
 use Rattle.dh_faults.specs.declared.fault.Fault.{Fault}
 use Rattle.dh_schema.proofs.CallLemmas.{Since, built_one, builds_since, ready_since}
-use Rattle.dh_schema.specs.Making.{Builds, IsAdded, IsReady, IsMade, added_tables, aliases_text, derived_tables, routes_text, no_lists, made_tables, our_tables, table_texts}
+use Rattle.dh_schema.specs.Making.{BuildsTables, IsAdded, IsReady, IsMade, added_tables, aliases_text, derived_tables, routes_text, no_lists, made_tables, our_tables, table_texts}
 
 -- the name, and those of the indexes that come with the table
 abbrev pub Spares : Table → Table → Type 0
 Spares t u = (same_name t.name u.name ≡ false) × ((tree : ℕ) → AllByRecursion (λ (i : Index). same_name i.name u.name ≡ false) (automatics (record t { tree = tree }) 0 (tree + 1) t.uniques))
 
-module _ (t : Table) (plain : t.references ≡ []) (db after : Database) (m : Makes t db after) where
-  stay : (ts : List Table) → AllByRecursion (λ u. Stands db.schema u × (rows_of db u.name ≡ [])) ts → AllByRecursion (λ u. Stands after.schema u × (rows_of after u.name ≡ [])) ts
+module _ (t : Table) (plain : t.references ≡ []) (db after : Database) (m : MakesEmptyTable t db after) where
+  stay : (ts : List Table) → AllByRecursion (λ u. StandsInSchema db.schema u × (rows_of db u.name ≡ [])) ts → AllByRecursion (λ u. StandsInSchema after.schema u × (rows_of after u.name ≡ [])) ts
   stay [] h = tt
   stay (u ∷ us) h = let o = m.others u h.0.0 in ((o.0, o.1 ∙ h.0.1), stay us h.1)
 
@@ -65,13 +65,13 @@ pub record IsStep (text : List ℕ) (t : Table) (left : List Table) : Type 0 whe
   orders : AllByRecursion (λ o. o ≡ keys.plain) t.orders
   spares : AllByRecursion (Spares t) left
 
-pub Steps : List (List ℕ) → List Table → Type 0
-Steps [] [] = ⊤
-Steps (text ∷ texts) (t ∷ ts) = IsStep text t ts × Steps texts ts
-Steps _ _ = ⊥
+pub AreSteps : List (List ℕ) → List Table → Type 0
+AreSteps [] [] = ⊤
+AreSteps (text ∷ texts) (t ∷ ts) = IsStep text t ts × AreSteps texts ts
+AreSteps _ _ = ⊥
 
-pub all_steps : Steps table_texts our_tables
-unfolding everything Steps
+pub all_steps : AreSteps table_texts our_tables
+unfolding everything AreSteps
 all_steps = (
   record { read = makes refl refl refl refl refl refl refl refl; plain = refl; uncounted = refl; orders = tt; spares = ((refl, λ tree. tt), ((refl, λ tree. tt), ((refl, λ tree. tt), ((refl, λ tree. tt), ((refl, λ tree. tt), ((refl, λ tree. tt), ((refl, λ tree. tt), ((refl, λ tree. tt), ((refl, λ tree. tt), ((refl, λ tree. tt), ((refl, λ tree. tt), ((refl, λ tree. tt), tt)))))))))))) },
   (
@@ -123,14 +123,14 @@ module _ (s : State) (done : List Table) where
   pub step_asks : {text : List ℕ} {t : Table} {left : List Table} → IsStep text t left → IsReady done (t ∷ left) s.now → Creates s text t
   step_asks step r = creates _ _ step.read step.plain step.uncounted step.orders s r.free.0.0 r.free.0.1 r.counted r.placed
 
-  pub step_makes : {text : List ℕ} {t : Table} {left : List Table} → IsStep text t left → IsReady done (t ∷ left) s.now → (after : Database) → Edits s text [] after → IsReady (t ∷ done) left after
+  pub step_makes : {text : List ℕ} {t : Table} {left : List Table} → IsStep text t left → IsReady done (t ∷ left) s.now → (after : Database) → EditsTo s text [] after → IsReady (t ∷ done) left after
   step_makes {t = t} {left = left} step r after it = one_more t step.plain s.now after ((step_asks step r).made after it) done left r step.spares
 
 -- Some tables are made, and these texts make the others.
 pub record IsAt {S : Type 0} (g : Ghosts S) (old now : Held S) (texts : List (List ℕ)) : Type 0 where
   pub done : List Table
   pub left : List Table
-  pub steps : Steps texts left
+  pub steps : AreSteps texts left
   pub all : with_all done left ≡ made_tables
   pub since : Since g old now (done ≡ []) (IsReady done left)
 
@@ -140,18 +140,18 @@ at_first ready = record { done = []; left = our_tables; steps = all_steps; all =
 
 module _ {S : Type 0} {g : Ghosts S} {old now : Held S} {text : List ℕ} {texts : List (List ℕ)} (it : IsAt g old now (text ∷ texts)) where
   pub next_asks : IsHonest g now → IsPlainEdit (state g now) text
-  unfolding Steps
+  unfolding AreSteps
   next_asks honest = go it.left it.steps it.since
     where
-      go : (left : List Table) → Steps (text ∷ texts) left → Since g old now (it.done ≡ []) (IsReady it.done left) → IsPlainEdit (state g now) text
+      go : (left : List Table) → AreSteps (text ∷ texts) left → Since g old now (it.done ≡ []) (IsReady it.done left) → IsPlainEdit (state g now) text
       go [] steps since = absurd steps
       go (t ∷ left) steps since = (step_asks (state g now) it.done steps.0 (ready_since since honest)).edit
 
   pub next_at : {new : Held S} → OnlyEdits g now new text [] {E = Fault} (Ok tt) → IsAt g old new texts
-  unfolding Steps with_all
+  unfolding AreSteps with_all
   next_at {new = new} edits = go it.left it.steps it.all it.since
     where
-      go : (left : List Table) → Steps (text ∷ texts) left → with_all it.done left ≡ made_tables → Since g old now (it.done ≡ []) (IsReady it.done left) → IsAt g old new texts
+      go : (left : List Table) → AreSteps (text ∷ texts) left → with_all it.done left ≡ made_tables → Since g old now (it.done ≡ []) (IsReady it.done left) → IsAt g old new texts
       go [] steps all since = absurd steps
       go (t ∷ left) steps all since = record {
         done = t ∷ it.done;
@@ -164,13 +164,13 @@ module _ {S : Type 0} {g : Ghosts S} {old now : Held S} {text : List ℕ} {texts
 not_made : [] ≡ made_tables → ⊥
 not_made is = absurd (cc)
 
-pub at_last : {S : Type 0} {g : Ghosts S} {old now : Held S} → IsAt g old now [] → Builds g old now (Ok tt) (IsReady made_tables [])
-unfolding Steps with_all
+pub at_last : {S : Type 0} {g : Ghosts S} {old now : Held S} → IsAt g old now [] → BuildsTables g old now (Ok tt) (IsReady made_tables [])
+unfolding AreSteps with_all
 at_last {g = g} {old = old} {now = now} it = go it.left it.steps it.all it.since
   where
-    go : (left : List Table) → Steps [] left → with_all it.done left ≡ made_tables → Since g old now (it.done ≡ []) (IsReady it.done left) → Builds g old now (Ok tt) (IsReady made_tables [])
+    go : (left : List Table) → AreSteps [] left → with_all it.done left ≡ made_tables → Since g old now (it.done ≡ []) (IsReady it.done left) → BuildsTables g old now (Ok tt) (IsReady made_tables [])
     go [] steps all (inl none) = absurd (not_made (sym none.0 ∙ all))
-    go [] steps all (inr built) = subst (λ done. Builds g old now (Ok tt) (IsReady done [])) all built
+    go [] steps all (inr built) = subst (λ done. BuildsTables g old now (Ok tt) (IsReady done [])) all built
     go (t ∷ left) steps all since = absurd steps
 
 -- the texts from one on
@@ -195,24 +195,24 @@ are_apart = (refl, (refl, (refl, (refl, (refl, (refl, (refl, (refl, (refl, (refl
 -- ---- the tables of derived records, among those that stand
 
 alias_step : IsStep aliases_text alias_table (route_table ∷ [])
-unfolding Steps
+unfolding AreSteps
 alias_step = let it = all_steps.1.0 in record { read = it.read; plain = it.plain; uncounted = it.uncounted; orders = it.orders; spares = (it.spares.0, tt) }
 
 route_step : IsStep routes_text route_table []
-unfolding Steps
+unfolding AreSteps
 route_step = let it = all_steps.1.1.0 in record { read = it.read; plain = it.plain; uncounted = it.uncounted; orders = it.orders; spares = tt }
 
 module _ (s : State) where
   pub aliases_ask : IsReady [] derived_tables s.now → Creates s aliases_text alias_table
   aliases_ask r = step_asks s [] alias_step r
 
-  pub aliases_made : (r : IsReady [] derived_tables s.now) (after : Database) → Edits s aliases_text [] after → IsAdded (alias_table ∷ []) (route_table ∷ []) s.now after
+  pub aliases_made : (r : IsReady [] derived_tables s.now) (after : Database) → EditsTo s aliases_text [] after → IsAdded (alias_table ∷ []) (route_table ∷ []) s.now after
   aliases_made r after it = record { ready = step_makes s [] alias_step r after it; others = ((aliases_ask r).made after it).others }
 
   pub routes_ask : IsReady (alias_table ∷ []) (route_table ∷ []) s.now → Creates s routes_text route_table
   routes_ask r = step_asks s (alias_table ∷ []) route_step r
 
-  pub routes_made : (r : IsReady (alias_table ∷ []) (route_table ∷ []) s.now) (after : Database) → Edits s routes_text [] after → IsAdded added_tables [] s.now after
+  pub routes_made : (r : IsReady (alias_table ∷ []) (route_table ∷ []) s.now) (after : Database) → EditsTo s routes_text [] after → IsAdded added_tables [] s.now after
   routes_made r after it = record { ready = step_makes s (alias_table ∷ []) route_step r after it; others = ((routes_ask r).made after it).others }
 
 -- one after the other
@@ -224,7 +224,7 @@ all_added first next = record { ready = next.ready; others = λ u was. let o = f
 none : {X : Type 0} (c : Coding X) → IsTableOf c []
 none c = record { coded = tt; apart = tt; keyed = tt }
 
-bare : {X : Type 0} (c : Coding X) (t : Table) (db : Database) → Stands db.schema t → rows_of db t.name ≡ [] → Keeps t c db
+bare : {X : Type 0} (c : Coding X) (t : Table) (db : Database) → StandsInSchema db.schema t → rows_of db t.name ≡ [] → KeepsTable t c db
 bare c t db stands empty = record { stands = stands; rows = subst (IsTableOf c) (sym empty) (none c) }
 
 meta_simple : IsSimple meta_table
@@ -240,20 +240,20 @@ number_read : (schema : Schema) (tree : ℕ) → insert_of schema (record meta_t
 unfolding everything
 number_read schema tree = refl
 
-pub number_writes : (s : State) → IsReady made_tables [] s.now → Writes s number_text (meta.encode 2) meta_table meta (added meta.key 2)
+pub number_writes : (s : State) → IsReady made_tables [] s.now → WritesTable s number_text (meta.encode 2) meta_table meta (added meta.key 2)
 number_writes s r =
     let m = r.standing.1.1.1.1.1.1.1.1.1.1.1.1.0 in
     insert meta_table meta_simple meta_plain meta s (bare meta meta_table s.now m.0 m.1) number_text _ _ (number_read _ _) 2 (λ n. refl) (tt, tt) refl
     (subst (λ rows. AllByRecursion (λ y. Rattle.dh_rows.specs.Keyed.same_key meta.key 2 y ≡ false) (records meta rows)) (sym m.1) tt)
 
 -- a table with no row stays so
-stays_bare : {X : Type 0} {change : List ℕ → List ℕ} {db after : Database} → Turns meta_table meta change db after → (c : Coding X) (t : Table) → Stands db.schema t × (rows_of db t.name ≡ []) → same_name t.name meta_table.name ≡ false → Keeps t c after × (records_of c t.name after ≡ [])
+stays_bare : {X : Type 0} {change : List ℕ → List ℕ} {db after : Database} → TurnsTable meta_table meta change db after → (c : Coding X) (t : Table) → StandsInSchema db.schema t × (rows_of db t.name ≡ []) → same_name t.name meta_table.name ≡ false → KeepsTable t c after × (records_of c t.name after ≡ [])
 stays_bare {db = db} it c t r apart = let o = other_keeps it t c (bare c t db r.0 r.1) apart in (o.0, o.1 ∙ ap (records c) r.1)
 
 none_typed : AreTyped no_lists
 none_typed = record { projects = tt; langs = tt; versions = tt; pages = tt; used = tt; picks = tt; passes = tt; held = tt; rules = tt; redirects = tt; aliases = tt; routes = tt }
 
-pub number_makes : (s : State) → IsReady made_tables [] s.now → (after : Database) → Edits s number_text (meta.encode 2) after → IsMade after
+pub number_makes : (s : State) → IsReady made_tables [] s.now → (after : Database) → EditsTo s number_text (meta.encode 2) after → IsMade after
 number_makes s r after edits =
     let it = (number_writes s r).turns after edits in
     let m = r.standing.1.1.1.1.1.1.1.1.1.1.1.1.0 in

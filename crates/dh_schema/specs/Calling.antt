@@ -6,8 +6,8 @@ use Rattle.sqlite_trees.specs.declared.store.Store.{Ghosts}
 use Rattle.sqlite.specs.State.{State}
 use Rattle.sqlite.specs.Held.{Held, state}
 use Rattle.dh_faults.specs.declared.fault.Fault.{Fault}
-use Rattle.dh_rows.specs.Calls.{AreRows, IsHonest, IsUnfit, Goes, GoesWithin, Stays, Refuses, Sees, CommitsAtMost, seen, committed}
-pub use Rattle.dh_rows.specs.Calls.{Blames}
+use Rattle.dh_rows.specs.Calls.{AreRows, IsHonest, IsUnfit, MakesNoCommit, MakesNoCommitInside, LeavesAllAsItWas, RefusalUndoes, NowShows, CommitsAtMost, seen, committed}
+pub use Rattle.dh_rows.specs.Calls.{StoreFaultHasCause}
 use Rattle.dh_rows.specs.Keyed.{Coding, IsFreeKey}
 use Rattle.dh_records.specs.Lists.{Lists}
 use Rattle.dh_schema.specs.Tables.{lists_of}
@@ -34,8 +34,8 @@ module _ {S : Type 0} (g : Ghosts S) where
   HasRecords h fact = IsHonest g h → fact (seen g lists_of h)
 
   -- Where the store is honest, no record of a list has this one's key.
-  abbrev pub Lacks : {R : Type 0} → Held S → Coding R → (Lists → List R) → R → Type 0
-  Lacks h coding part row = HasRecords h (λ l. IsFreeKey coding.key row (part l))
+  abbrev pub LacksKey : {R : Type 0} → Held S → Coding R → (Lists → List R) → R → Type 0
+  LacksKey h coding part row = HasRecords h (λ l. IsFreeKey coding.key row (part l))
 
   -- Where the store is honest, a transaction is open.
   abbrev pub IsWithin : Held S → Type 0
@@ -48,48 +48,48 @@ module _ {S : Type 0} (g : Ghosts S) where
 
   module _ {T : Type 0} (old new : Held S) (result : Result T Fault) where
     -- What a look leaves, whatever it answers.
-    pub record Asks : Type 0 where
+    pub record LooksAtLists : Type 0 where
       -- nothing is committed, and a crash leaves nothing more
-      pub goes : Goes g old new
+      pub goes : MakesNoCommit g old new
       -- one that was answered was at an honest store, and left all as it was
-      pub same : Stays g lists_of old new result
+      pub same : LeavesAllAsItWas g lists_of old new result
       -- one that was refused did too, or within a transaction undid all since its begin
-      pub err : Refuses g lists_of old new result
+      pub err : RefusalUndoes g lists_of old new result
       -- `Store` is told for a fault of the store alone
-      pub told : Blames g old new result ⊥
+      pub told : StoreFaultHasCause g old new result ⊥
 
     -- What a change of the lists leaves, whatever it answers.
-    pub record Writes (change : Lists → Lists) : Type 0 where
+    pub record ChangesLists (change : Lists → Lists) : Type 0 where
       -- within a transaction nothing is committed, and a crash leaves nothing more
-      pub goes : GoesWithin g old new
+      pub goes : MakesNoCommitInside g old new
       -- one that was answered changed what is seen, and outside a transaction committed it
-      pub sees : OnOk result (Sees g lists_of old new (change (seen g lists_of old)))
+      pub sees : OnOk result (NowShows g lists_of old new (change (seen g lists_of old)))
       -- one that was refused left all as it was, or undid the transaction
-      pub err : Refuses g lists_of old new result
+      pub err : RefusalUndoes g lists_of old new result
       -- a crash leaves what it could leave before, or outside a transaction the changed lists
       pub crash : CommitsAtMost g lists_of old new (change (seen g lists_of old))
 
     -- The same of changes in turn, within a transaction. If it is refused, some may be made.
-    pub record WritesWithin (change : Lists → Lists) : Type 0 where
-      pub goes : Goes g old new
-      pub sees : OnOk result (Sees g lists_of old new (change (seen g lists_of old)))
+    pub record ChangesListsInside (change : Lists → Lists) : Type 0 where
+      pub goes : MakesNoCommit g old new
+      pub sees : OnOk result (NowShows g lists_of old new (change (seen g lists_of old)))
 
   module _ {T E : Type 0} (old new : Held S) (result : Result T E) where
     -- Where the store is honest, an answer and the records before stand so to each other.
-    abbrev pub Learns : (Lists → T → Type 0) → Type 0
-    Learns fact = IsHonest g new → IfOk result (fact (seen g lists_of old))
+    abbrev pub AnswersBy : (Lists → T → Type 0) → Type 0
+    AnswersBy fact = IsHonest g new → IfOk result (fact (seen g lists_of old))
 
   module _ {T : Type 0} (old new : Held S) (result : Result T Fault) where
     -- What a look leaves, whose answer and the records before stand so to each other.
-    pub record Obtains (fact : Lists → T → Type 0) : Type 0 where
-      pub asks : Asks old new result
-      pub value : Learns old new result fact
+    pub record LearnsFact (fact : Lists → T → Type 0) : Type 0 where
+      pub asks : LooksAtLists old new result
+      pub value : AnswersBy old new result fact
 
     -- What a look leaves that answers this of the records before.
-    abbrev pub Reads : (Lists → T) → Type 0
-    Reads value = Obtains (λ l read. read ≡ value l)
+    abbrev pub ReadsValue : (Lists → T) → Type 0
+    ReadsValue value = LearnsFact (λ l read. read ≡ value l)
 
   -- the same of a list
   abbrev pub ReadsAll
       : {U Z : Type 0} → Held S → Held S → Result (Vec U Z) Fault → (Lists → List U) → Type 0
-  ReadsAll old new result value = Obtains old new result (λ l read. read.items ≡ value l)
+  ReadsAll old new result value = LearnsFact old new result (λ l read. read.items ≡ value l)

@@ -7,7 +7,7 @@ use Rattle.sqlite_trees.specs.declared.store.Store.{Ghosts}
 use Rattle.sqlite.specs.State.{HasCleanDisk}
 use Rattle.sqlite.specs.Held.{Held, state}
 use Rattle.sqlite.specs.Effect.{Database}
-use Rattle.dh_rows.specs.Calls.{IsBlamed, IsHonest, Lasts, Goes, GoesWithin, Shows, IsSame, IsRefused}
+use Rattle.dh_rows.specs.Calls.{IsBlamed, IsHonest, KeepsFaults, MakesNoCommit, MakesNoCommitInside, ShowsHonestly, IsSame, IsRefused}
 
 -- as faults are counted: more than later is more than before
 more_before
@@ -22,7 +22,7 @@ more_before a b c counts more =
     more
 
 module _ {S : Type 0} {g : Ghosts S} where
-  pub lasts_none : (h : Held S) → Lasts g h h
+  pub lasts_none : (h : Held S) → KeepsFaults g h h
   lasts_none h = record {
     clean = λ it. it;
     was = λ it. it;
@@ -31,7 +31,7 @@ module _ {S : Type 0} {g : Ghosts S} where
     limit = refl;
   }
 
-  pub lasts_on : {a b c : Held S} → Lasts g a b → Lasts g b c → Lasts g a c
+  pub lasts_on : {a b c : Held S} → KeepsFaults g a b → KeepsFaults g b c → KeepsFaults g a c
   lasts_on {a} {b} {c} p q = record {
     clean = λ it. p.clean (q.clean it);
     was = λ it. p.was (q.was it);
@@ -49,7 +49,7 @@ module _ {S : Type 0} {g : Ghosts S} where
 
   -- What was shut between two calls was shut before them, or failed in the first.
   pub shut_before
-      : {a b c : Held S} → Lasts g a b → Lasts g b c → HasCleanDisk (state g c)
+      : {a b c : Held S} → KeepsFaults g a b → KeepsFaults g b c → HasCleanDisk (state g c)
       → (state g b).is_open ≡ false → IsBlamed g a c
   shut_before {a} p q clean shut =
       elim (cases_Bool (state g a).is_open) [
@@ -62,20 +62,22 @@ module _ {S : Type 0} {g : Ghosts S} where
 
   -- A later call's blame is that of both.
   pub blamed_before
-      : {a b c : Held S} → Lasts g a b → Lasts g b c → HasCleanDisk (state g c) → IsBlamed g b c
+      : {a b c : Held S} → KeepsFaults g a b → KeepsFaults g b c → HasCleanDisk (state g c)
+      → IsBlamed g b c
       → IsBlamed g a c
   blamed_before {a} {b} {c} p q clean (inl more) =
       inl (more_before (state g a).faults (state g b).faults (state g c).faults p.counts more)
   blamed_before p q clean (inr shut) = shut_before p q clean shut
 
-  pub goes_none : (h : Held S) → Goes g h h
+  pub goes_none : (h : Held S) → MakesNoCommit g h h
   goes_none h = record { lasts = lasts_none h; kept = λ _. refl; quiet = λ _ _ db may. may }
 
   -- where an honest store stays honest over the first
   pub goes_on
       : {a b c : Held S}
-      → Goes g a b → (IsHonest g a → HasCleanDisk (state g b) → IsHonest g b) → Goes g b c
-      → Goes g a c
+      → MakesNoCommit g a b → (IsHonest g a → HasCleanDisk (state g b) → IsHonest g b)
+      → MakesNoCommit g b c
+      → MakesNoCommit g a c
   goes_on p live q = record {
     lasts = lasts_on p.lasts q.lasts;
     kept = λ it. q.kept it ∙ p.kept (q.lasts.was it);
@@ -85,12 +87,13 @@ module _ {S : Type 0} {g : Ghosts S} where
   }
 
   -- calls that commit nothing commit nothing within a transaction
-  pub goes_anywhere : {a b : Held S} → Goes g a b → GoesWithin g a b
+  pub goes_anywhere : {a b : Held S} → MakesNoCommit g a b → MakesNoCommitInside g a b
   goes_anywhere p = record { lasts = p.lasts; kept = λ _. p.kept; quiet = λ _. p.quiet }
 
   -- calls within a transaction
   pub goes_within
-      : {a b : Held S} → GoesWithin g a b → (IsHonest g a → a.in_transaction ≡ true) → Goes g a b
+      : {a b : Held S} → MakesNoCommitInside g a b → (IsHonest g a → a.in_transaction ≡ true)
+      → MakesNoCommit g a b
   goes_within p within = record {
     lasts = p.lasts;
     kept = λ it. p.kept (within (p.lasts.was it)) it;
@@ -104,7 +107,8 @@ module _ {S : Type 0} {g : Ghosts S} where
     -- what a call shows is shown after one that leaves all as it was
     pub shows_on
         : {a b c : Held S} {now last : W} {mode : Bool}
-        → Shows g view a b now last mode → IsSame g view b c → Shows g view a c now last mode
+        → ShowsHonestly g view a b now last mode → IsSame g view b c
+        → ShowsHonestly g view a c now last mode
     shows_on p q = record {
       was_honest = p.was_honest;
       is_open = q.is_open;

@@ -8,15 +8,15 @@ use Rattle.sqlite.specs.Effect.{Database}
 use Rattle.sqlite.specs.Held.{Held, state}
 use Rattle.sqlite.specs.State.{HasCleanDisk}
 use Rattle.dh_faults.specs.declared.fault.Fault.{Fault}
-use Rattle.dh_rows.specs.Calls.{IsHonest, GoesWithin, Refuses, whole, committed}
-use Rattle.dh_rows.specs.Places.{IsFree, IsUnmentioned, ArePlaced, Stands, rows_of}
+use Rattle.dh_rows.specs.Calls.{IsHonest, MakesNoCommitInside, RefusalUndoes, whole, committed}
+use Rattle.dh_rows.specs.Places.{IsFree, IsUnmentioned, ArePlaced, StandsInSchema, rows_of}
 use Rattle.dh_records.specs.Lists.{Lists}
 use Rattle.sqlite_schema.specs.declared.schema.Schema.{Schema}
-use Rattle.dh_schema.specs.Tables.{Holds, lists_of, meta_table, alias_table, route_table, rule_table, redirect_table, project_table, lang_table, version_table, page_table, used_table, pick_table, pass_table, holds_table}
+use Rattle.dh_schema.specs.Tables.{HoldsTables, lists_of, meta_table, alias_table, route_table, rule_table, redirect_table, project_table, lang_table, version_table, page_table, used_table, pick_table, pass_table, holds_table}
 
 -- Some tables stand with no row, the others can be made: their names are free, and no foreign key names them.
 pub record IsReady (made left : List Table) (db : Database) : Type 0 where
-  pub standing : AllByRecursion (λ t. Stands db.schema t × (rows_of db t.name ≡ [])) made
+  pub standing : AllByRecursion (λ t. StandsInSchema db.schema t × (rows_of db t.name ≡ [])) made
   pub free : AllByRecursion (λ t. IsFree db.schema t.name × IsUnmentioned db.schema t.name) left
   -- each counted table has the table that counts for it
   pub counted : lacks_sequence db.schema ≡ false
@@ -27,7 +27,7 @@ no_lists = record { projects = []; langs = []; versions = []; pages = []; used =
 
 -- all tables stand, and spell nothing
 pub record IsMade (db : Database) : Type 0 where
-  pub holds : Holds db
+  pub holds : HoldsTables db
   pub empty : lists_of db ≡ no_lists
 
 -- the tables in the order in which they are made
@@ -109,7 +109,7 @@ CanAdd schema = AllByRecursion (λ t. IsFree schema t.name × IsUnmentioned sche
 
 -- each table that stood stands with its rows
 abbrev pub SparesAll : Database → Database → Type 0
-SparesAll before after = (u : Table) → Stands before.schema u → Stands after.schema u × (rows_of after u.name ≡ rows_of before u.name)
+SparesAll before after = (u : Table) → StandsInSchema before.schema u → StandsInSchema after.schema u × (rows_of after u.name ≡ rows_of before u.name)
 
 -- Beside those that stood some tables are made, and others are left to make.
 pub record IsAdded (made left : List Table) (before after : Database) : Type 0 where
@@ -130,14 +130,14 @@ module _ {S : Type 0} (g : Ghosts S) (old new : Held S) where
 
   module _ (result : Result (Unit {0}) Fault) where
     -- What making leaves, of one table or of several in turn; answered, P is true of what is seen.
-    pub record Builds (P : Database → Type 0) : Type 0 where
-      pub goes : GoesWithin g old new
+    pub record BuildsTables (P : Database → Type 0) : Type 0 where
+      pub goes : MakesNoCommitInside g old new
       pub made : IsHonest g old → HasCleanDisk (state g new) → OnOk result (GoesOn × P (state g new).now)
 
     -- The same of one statement: refused, it left all as it was, or undid the transaction.
     pub record BuildsOne (P : Database → Type 0) : Type 0 where
-      pub builds : Builds P
-      pub err : Refuses g whole old new result
+      pub builds : BuildsTables P
+      pub err : RefusalUndoes g whole old new result
 
 -- All tables are made, and committed.
 pub record AreCommitted {S : Type 0} (g : Ghosts S) (h : Held S) : Type 0 where

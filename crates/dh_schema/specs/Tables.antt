@@ -7,7 +7,7 @@ use Rattle.sqlite_schema.specs.declared.schema.Column.{Column}
 use Rattle.sqlite_schema.specs.declared.schema.Table.{Table}
 use Rattle.sqlite.specs.Effect.{Database}
 use Rattle.dh_rows.specs.Keyed.{Coding}
-use Rattle.dh_rows.specs.Places.{records_of, Keeps, needed, keyed_table}
+use Rattle.dh_rows.specs.Places.{records_of, KeepsTable, needed, keyed_table}
 use Rattle.dh_records.specs.Codings.{number_in}
 use Rattle.dh_records.specs.Codings as coding
 use Rattle.dh_records.specs.Lists.{Lists}
@@ -86,19 +86,19 @@ lists_of db = record {
 
 -- The database has our tables, among those of others, and each of their rows stands for a record
 -- that can be read again; the schema's number is 2.
-pub record Holds (db : Database) : Type 0 where
-  pub meta : Keeps meta_table Rattle.dh_schema.specs.Tables.meta db
+pub record HoldsTables (db : Database) : Type 0 where
+  pub meta : KeepsTable meta_table Rattle.dh_schema.specs.Tables.meta db
   pub number : records_of Rattle.dh_schema.specs.Tables.meta (codes "meta") db ≡ 2 ∷ []
-  pub projects : Keeps project_table coding.projects db
-  pub langs : Keeps lang_table coding.langs db
-  pub versions : Keeps version_table coding.versions db
-  pub pages : Keeps page_table coding.pages db
-  pub used : Keeps used_table coding.used db
-  pub picks : Keeps pick_table coding.picks db
-  pub passes : Keeps pass_table coding.passes db
-  pub held : Keeps holds_table coding.held db
-  pub rules : Keeps rule_table coding.rules db
-  pub redirects : Keeps redirect_table coding.redirects db
-  pub aliases : Keeps alias_table coding.aliases db
-  pub routes : Keeps route_table coding.routes db
+  pub projects : KeepsTable project_table coding.projects db
+  pub langs : KeepsTable lang_table coding.langs db
+  pub versions : KeepsTable version_table coding.versions db
+  pub pages : KeepsTable page_table coding.pages db
+  pub used : KeepsTable used_table coding.used db
+  pub picks : KeepsTable pick_table coding.picks db
+  pub passes : KeepsTable pass_table coding.passes db
+  pub held : KeepsTable holds_table coding.held db
+  pub rules : KeepsTable rule_table coding.rules db
+  pub redirects : KeepsTable redirect_table coding.redirects db
+  pub aliases : KeepsTable alias_table coding.aliases db
+  pub routes : KeepsTable route_table coding.routes db
   pub typed : AreTyped (lists_of db)

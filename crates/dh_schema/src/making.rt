@@ -4,9 +4,9 @@ ghost use Rattle.std.specs.Prelude.{◌≡◌, ◌↔◌, [], ◌∷◌, map, Is
 ghost use Rattle.std.specs.List.{AllByRecursion};
 ghost use Rattle.sqlite.specs.Held.{state};
 ghost use Rattle.sqlite.specs.State.{HasCleanDisk};
-ghost use Rattle.dh_rows.specs.Calls.{IsHonest, Lasts};
+ghost use Rattle.dh_rows.specs.Calls.{IsHonest, KeepsFaults};
 ghost use Rattle.dh_rows.specs.Places.{IsFree, IsUnmentioned, ArePlaced};
-ghost use Rattle.dh_schema.specs.Making.{CanMake, IsReady, IsMade, Builds, BuildsOne, AreCommitted, CommitsNothing, CanAdd, IsAdded, added_tables, derived_tables, made_tables, our_tables, table_texts};
+ghost use Rattle.dh_schema.specs.Making.{CanMake, IsReady, IsMade, BuildsTables, BuildsOne, AreCommitted, CommitsNothing, CanAdd, IsAdded, added_tables, derived_tables, made_tables, our_tables, table_texts};
 ghost use Rattle.dh_schema.specs.Tables.{alias_table, route_table};
 
 use dh_lookup::Fault;
@@ -64,7 +64,7 @@ fn make_each<S: Alter>(conn: &mut Connection<S>, texts: &[&str]) -> Result<(), F
     requires ready { IsHonest S.Store conn.old
         → IsReady [] our_tables (state S.Store conn.old).now }
     requires texts { map (λ text. text.now) texts.now ≡ table_texts }
-    ensures builds { Builds S.Store conn.old conn.new result (IsReady made_tables []) }
+    ensures builds { BuildsTables S.Store conn.old conn.new result (IsReady made_tables []) }
 {
     for sql in texts {
         change(conn, *sql, &[])?;
@@ -85,7 +85,7 @@ fn number<S: Alter>(conn: &mut Connection<S>) -> Result<(), Fault>
 pub fn make_tables<S: Alter>(conn: &mut Connection<S>) -> Result<(), Fault>
     requires { IsHonest S.Store conn.old
         → IsReady [] our_tables (state S.Store conn.old).now }
-    ensures builds { Builds S.Store conn.old conn.new result IsMade }
+    ensures builds { BuildsTables S.Store conn.old conn.new result IsMade }
 {
     make_each(conn, &TABLES)?;
     number(conn)
@@ -127,7 +127,7 @@ pub fn can_add(schema: &Schema) -> bool
 fn make_aliases<S: Alter>(conn: &mut Connection<S>) -> Result<(), Fault>
     requires { IsHonest S.Store conn.old
         → IsReady [] derived_tables (state S.Store conn.old).now }
-    ensures builds { Builds S.Store conn.old conn.new result
+    ensures builds { BuildsTables S.Store conn.old conn.new result
         (IsAdded (alias_table ∷ []) (route_table ∷ []) (state S.Store conn.old).now) }
 {
     change(conn, ALIASES, &[])
@@ -137,7 +137,7 @@ fn make_aliases<S: Alter>(conn: &mut Connection<S>) -> Result<(), Fault>
 fn make_routes<S: Alter>(conn: &mut Connection<S>) -> Result<(), Fault>
     requires { IsHonest S.Store conn.old
         → IsReady (alias_table ∷ []) (route_table ∷ []) (state S.Store conn.old).now }
-    ensures builds { Builds S.Store conn.old conn.new result
+    ensures builds { BuildsTables S.Store conn.old conn.new result
         (IsAdded added_tables [] (state S.Store conn.old).now) }
 {
     change(conn, ROUTES, &[])
@@ -147,7 +147,7 @@ fn make_routes<S: Alter>(conn: &mut Connection<S>) -> Result<(), Fault>
 pub fn make_derived<S: Alter>(conn: &mut Connection<S>) -> Result<(), Fault>
     requires { IsHonest S.Store conn.old
         → IsReady [] derived_tables (state S.Store conn.old).now }
-    ensures builds { Builds S.Store conn.old conn.new result
+    ensures builds { BuildsTables S.Store conn.old conn.new result
         (IsAdded added_tables [] (state S.Store conn.old).now) }
 {
     make_aliases(conn)?;
@@ -158,7 +158,7 @@ pub fn make_derived<S: Alter>(conn: &mut Connection<S>) -> Result<(), Fault>
 pub fn make_at_once<S: Alter>(conn: &mut Connection<S>) -> Result<(), Fault>
     requires can { CanMake (state S.Store conn.old).now.schema }
     requires placed { IsHonest S.Store conn.old → ArePlaced (state S.Store conn.old).now.schema }
-    ensures lasts { Lasts S.Store conn.old conn.new }
+    ensures lasts { KeepsFaults S.Store conn.old conn.new }
     ensures ok { IsHonest S.Store conn.old → HasCleanDisk (state S.Store conn.new)
         → OnOk result (AreCommitted S.Store conn.new) }
     ensures err { IsHonest S.Store conn.new

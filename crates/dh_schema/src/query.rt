@@ -3,8 +3,8 @@
 ghost use Rattle.std.specs.Prelude.{◌≡◌, List, slice_get};
 ghost use Rattle.sqlite.specs.Held.{state};
 ghost use Rattle.sqlite.specs.Values.{bound};
-ghost use Rattle.dh_rows.specs.Calls.{Finds, IsHonest, IsPlainLook, OnlyLooks};
-ghost use Rattle.dh_schema.specs.Calling.{AreAsked, Blames, IsUnread};
+ghost use Rattle.dh_rows.specs.Calls.{FindsSuch, IsHonest, IsPlainLook, OnlyLooks};
+ghost use Rattle.dh_schema.specs.Calling.{AreAsked, StoreFaultHasCause, IsUnread};
 
 use dh_lookup::{Fault, Found};
 use dh_records::{Record, all, first};
@@ -21,12 +21,12 @@ pub fn first_record<S: Alter, R: Record>(
     params: &[ValueRef<'_>],
 ) -> Found<R>
     requires look { IsHonest S.Store conn.old → IsPlainLook (state S.Store conn.old) sql.now }
-    ensures value { Finds S.Store conn.old conn.new result
+    ensures value { FindsSuch S.Store conn.old conn.new result
         (λ o. (xs : List R)
         → AreAsked R.coding.encode (state S.Store conn.old) sql.now (bound params.now) xs
         → o ≡ slice_get xs 0) }
     ensures looks { OnlyLooks S.Store conn.old conn.new result }
-    ensures told { Blames S.Store conn.old conn.new result
+    ensures told { StoreFaultHasCause S.Store conn.old conn.new result
         (IsUnread R.coding.encode R.typed (state S.Store conn.old) sql.now (bound params.now)) }
 {
     first(alloc, &select(conn, sql, params)?)
@@ -40,12 +40,12 @@ pub fn all_records<S: Alter, R: Record>(
     params: &[ValueRef<'_>],
 ) -> Result<Vec<R>, Fault>
     requires look { IsHonest S.Store conn.old → IsPlainLook (state S.Store conn.old) sql.now }
-    ensures value { Finds S.Store conn.old conn.new result
+    ensures value { FindsSuch S.Store conn.old conn.new result
         (λ v. (xs : List R)
         → AreAsked R.coding.encode (state S.Store conn.old) sql.now (bound params.now) xs
         → v.items ≡ xs) }
     ensures looks { OnlyLooks S.Store conn.old conn.new result }
-    ensures told { Blames S.Store conn.old conn.new result
+    ensures told { StoreFaultHasCause S.Store conn.old conn.new result
         (IsUnread R.coding.encode R.typed (state S.Store conn.old) sql.now (bound params.now)) }
 {
     all(alloc, &select(conn, sql, params)?)

@@ -12,7 +12,7 @@ use Rattle.dh_lines.specs.declared.lines.Line.{Line}
 use Rattle.dh_lines.specs.declared.lines.Order.{Order}
 use Rattle.dh_lines.specs.declared.lines.Order.TheVariants as order
 use Rattle.dh_script.specs.Outcomes.{text_of_outcome}
-use Rattle.dh_script.specs.Script.{GetsAt, DoesOrder, DoesOver, Does}
+use Rattle.dh_script.specs.Script.{GetsAt, DoesOrder, DoesOver, DoesLine}
 use Rattle.dh_script.specs.LineCalls.{read_of_target, call_of_order, call_over, call_of_line, calls_of_lines, add_call, print_first, printed_by, LinesAreCalls}
 
 -- what one line does and prints, as a call or as none
@@ -36,7 +36,7 @@ of_order moment before after order.Script text (refused, (same, did)) = (same, d
 of_order moment before after order.Answer text (refused, (same, did)) = (same, did.0)
 of_order moment before after (order.Serve count port log) text (refused, (same, did)) = (same, did.0)
 
-of_line : (moment : ℕ) (before after : World) (line : Option Line) (text : Text) → Does moment before line after text → IsLineDone before (call_of_line moment line) after text
+of_line : (moment : ℕ) (before after : World) (line : Option Line) (text : Text) → DoesLine moment before line after text → IsLineDone before (call_of_line moment line) after text
 of_line moment before after None text did = did
 of_line moment before after (Some line) text did = by_store line.store did
   where

@@ -8,16 +8,16 @@ use Rattle.std.specs.Io.KnownBytes.{Appends}
 use Rattle.dh_world.specs.World.{Text, World}
 use Rattle.dh_lines.specs.Lines.{line_in}
 use Rattle.dh_ports.specs.Ports.{PutsFirst}
-use Rattle.dh_script.specs.Script.{Does, MayDo}
+use Rattle.dh_script.specs.Script.{DoesLine, MayDoLine}
 use Rattle.dh_script.specs.declared.fault.RunFault.{RunFault}
-use Rattle.dh_script.specs.Running.{Runs, RunsInto, RunsSome, StopsAt, Ran, RunsBut, RanBut, RunsScript, lines_in, seen, worded, words_in, is_filled}
+use Rattle.dh_script.specs.Running.{RunsLines, RunsInto, RunsSome, StopsAt, Ran, RunsBut, RanBut, RunsScript, lines_in, seen, worded, words_in, is_filled}
 
 -- two runs, one after the other, are a run
 pub runs_on : (moment : ℕ) (before : World) (xs : List (List Text)) (between : World) (text : Text) (ys : List (List Text)) (after : World) (rest : Text)
-    → Runs moment before xs between text → Runs moment between ys after rest → Runs moment before (xs ++ ys) after (text ++ rest)
+    → RunsLines moment before xs between text → RunsLines moment between ys after rest → RunsLines moment before (xs ++ ys) after (text ++ rest)
 runs_on moment before [] between text ys after rest first second =
-    let at : Runs moment before ys after rest = subst (λ (w : World). Runs moment w ys after rest) first.0 second in
-    subst (Runs moment before ys after) (ap (λ t. t ++ rest) (sym first.1)) at
+    let at : RunsLines moment before ys after rest = subst (λ (w : World). RunsLines moment w ys after rest) first.0 second in
+    subst (RunsLines moment before ys after) (ap (λ t. t ++ rest) (sym first.1)) at
 runs_on moment before (x ∷ xs) between text ys after rest first second =
     let m = first.0 in
     let line = first.1 in
@@ -60,17 +60,17 @@ some_first moment before lines after front held now stops wrote = record {
 pub some_none : (moment : ℕ) (w : World) (lines : List (List Text)) (held : Option Text) → RunsSome moment w lines w held held
 some_none moment w lines held = some_first moment w lines w [] held held (stops_none moment w lines) (Appends-nil held)
 
-stops_lost : (moment : ℕ) (before : World) (words : List Text) (after : World) → MayDo moment before (line_in words) after → StopsAt moment before (words ∷ []) after []
+stops_lost : (moment : ℕ) (before : World) (words : List Text) (after : World) → MayDoLine moment before (line_in words) after → StopsAt moment before (words ∷ []) after []
 stops_lost moment before words after (inl same) = inl (same, refl)
 stops_lost moment before words after (inr did) = inr (did.0, 0, did.1, longer did.0, refl)
 
 -- of one line nothing was written, done or not
-pub some_lost : (moment : ℕ) (before : World) (words : List Text) (after : World) (held : Option Text) → MayDo moment before (line_in words) after → RunsSome moment before (words ∷ []) after held held
+pub some_lost : (moment : ℕ) (before : World) (words : List Text) (after : World) (held : Option Text) → MayDoLine moment before (line_in words) after → RunsSome moment before (words ∷ []) after held held
 some_lost moment before words after held may = some_first moment before (words ∷ []) after [] held held (stops_lost moment before words after may) (Appends-nil held)
 
 -- one line was done: it was written, or a front of what it prints
 pub line_put : {T E : Type 0} (moment : ℕ) (before : World) (words : List Text) (after : World) (line bytes : Text) (held now : Option Text) (wrote : Result T ℕ) (r : Result T E)
-    → Does moment before (line_in words) after line → bytes ≡ line ++ 10 ∷ [] → OnOk wrote (Appends held now bytes) → IfErr wrote (PutsFirst held now bytes)
+    → DoesLine moment before (line_in words) after line → bytes ≡ line ++ 10 ∷ [] → OnOk wrote (Appends held now bytes) → IfErr wrote (PutsFirst held now bytes)
     → is_ok r ≡ is_ok wrote → Ran moment before (words ∷ []) after held now r
 line_put moment before words after line bytes held now (Ok value) (Ok same) does is ok err told =
     record { text = bytes; ran = (after, line, [], does, (refl, refl), is); written = ok }

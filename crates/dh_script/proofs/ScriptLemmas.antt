@@ -17,24 +17,24 @@ use Rattle.dh_world.specs.declared.refusal.Refusal.{Refusal}
 use Rattle.dh_lines.specs.declared.lines.Line.{Line}
 use Rattle.dh_world.specs.declared.outcome.Outcome.TheVariants as outcomes
 use Rattle.dh_script.specs.Outcomes.{text_of_outcome, is_refusal}
-use Rattle.dh_desk.specs.Desk.{Blames, Standing}
-use Rattle.dh_script.specs.Reasons.{reason_of, reason_of_list, BlamesStore, Explains}
+use Rattle.dh_desk.specs.Desk.{StoreFaultHasCause, Standing}
+use Rattle.dh_script.specs.Reasons.{reason_of, reason_of_list, BlamesStore, ExplainsRefusal}
 use Rattle.dh_script.specs.declared.reasons.Reason.{Reason}
 use Rattle.dh_listings.specs.ListingTexts.{listing_text}
 use Rattle.dh_listings.specs.declared.words.ListWord.{ListWord}
 use Rattle.dh_lines.specs.declared.lines.Order.{Order}
 use Rattle.dh_lines.specs.declared.lines.Order.TheVariants as order
-use Rattle.dh_script.specs.Script.{outcome_of, outcome_of_read, Tells, GetsAt, DoesOver, MayDo, MayDoOrder, MayDoSingle, ListsAt, TellsList}
+use Rattle.dh_script.specs.Script.{outcome_of, outcome_of_read, TellsOutcome, GetsAt, DoesOver, MayDoLine, MayDoOrder, MayDoSingle, ListsAt, TellsList}
 
 -- what is told of a read's outcome, whose reply is the definition's
 pub got : {P E : Type 0} (text_in : P → Text) (refused_in : P → Bool) (w : World) (named host : Text) (shown pass : Option Text) (moment : ℕ) (t : Target) (reply : Result Reply Fault) (outcome : Outcome) (result : Result P E)
     → IfOk reply (λ r. r ≡ reply_to (seen w (host_named named) (caller_named shown moment)) t.path t.query)
-    → named ≡ host → shown ≡ pass → outcome ≡ outcome_of_read reply → IfOk result (λ p. Tells outcome (text_in p) (refused_in p))
+    → named ≡ host → shown ≡ pass → outcome ≡ outcome_of_read reply → IfOk result (λ p. TellsOutcome outcome (text_in p) (refused_in p))
     → IfOk result (λ p. GetsAt w host pass moment (Some t) (text_in p) (refused_in p))
 got text_in refused_in w named host shown pass moment t reply outcome result value same_host same_pass same told =
     let by_host = subst (λ (h : Text). IfOk reply (λ r. r ≡ reply_to (seen w (host_named h) (caller_named shown moment)) t.path t.query)) same_host value in
     let by_pass = subst (λ (p : Option Text). IfOk reply (λ r. r ≡ reply_to (seen w (host_named host) (caller_named p moment)) t.path t.query)) same_pass by_host in
-    IfOk-weaker result _ _ (λ p is. (reply, by_pass, subst (λ (o : Outcome). Tells o (text_in p) (refused_in p)) same is)) told
+    IfOk-weaker result _ _ (λ p is. (reply, by_pass, subst (λ (o : Outcome). TellsOutcome o (text_in p) (refused_in p)) same is)) told
 
 -- what is told of a list, which is the definition's
 pub list_told : {P E : Type 0} (text_in : P → Text) (refused_in : P → Bool) (w : World) (word : ListWord) (listed : Result (Option Text) Fault) (result : Result P E)
@@ -43,20 +43,20 @@ pub list_told : {P E : Type 0} (text_in : P → Text) (refused_in : P → Bool) 
 list_told text_in refused_in w word listed result value told = IfOk-weaker result _ _ (λ p is. (listed, value, is)) told
 
 -- what is told of an outcome has its reason
-pub explained : (o : Outcome) (text : Text) (refused : Bool) (reason : Option Reason) → text ≡ text_of_outcome o → refused ≡ is_refusal o → reason ≡ reason_of o → Explains reason text refused
-explained (outcomes.Applied answer) text refused reason is told why = subst (λ (r : Option Reason). Explains r text refused) (sym why) told
-explained (outcomes.Refused refusal) text refused reason is told why = subst (λ (r : Option Reason). Explains r text refused) (sym why) (is, told)
-explained (outcomes.Replied reply) text refused reason is told why = subst (λ (r : Option Reason). Explains r text refused) (sym why) told
-explained (outcomes.Failed fault) text refused reason is told why = subst (λ (r : Option Reason). Explains r text refused) (sym why) (is, told)
+pub explained : (o : Outcome) (text : Text) (refused : Bool) (reason : Option Reason) → text ≡ text_of_outcome o → refused ≡ is_refusal o → reason ≡ reason_of o → ExplainsRefusal reason text refused
+explained (outcomes.Applied answer) text refused reason is told why = subst (λ (r : Option Reason). ExplainsRefusal r text refused) (sym why) told
+explained (outcomes.Refused refusal) text refused reason is told why = subst (λ (r : Option Reason). ExplainsRefusal r text refused) (sym why) (is, told)
+explained (outcomes.Replied reply) text refused reason is told why = subst (λ (r : Option Reason). ExplainsRefusal r text refused) (sym why) told
+explained (outcomes.Failed fault) text refused reason is told why = subst (λ (r : Option Reason). ExplainsRefusal r text refused) (sym why) (is, told)
 
 -- of which store that failed what is told
 module _ {S : Type 0} (g : Ghosts S) (old new : Standing S) where
-  read_blames : (reply : Result Reply Fault) → Blames g old.tables new.tables reply (old.closed ≡ true) → BlamesStore g old new (reason_of (outcome_of_read reply))
+  read_blames : (reply : Result Reply Fault) → StoreFaultHasCause g old.tables new.tables reply (old.closed ≡ true) → BlamesStore g old new (reason_of (outcome_of_read reply))
   read_blames (Ok reply) told = tt
   read_blames (Err Memory) told = told
   read_blames (Err Store) told = told
 
-  list_blames : (listed : Result (Option Text) Fault) → Blames g old.tables new.tables listed (old.closed ≡ true) → BlamesStore g old new (reason_of_list listed)
+  list_blames : (listed : Result (Option Text) Fault) → StoreFaultHasCause g old.tables new.tables listed (old.closed ≡ true) → BlamesStore g old new (reason_of_list listed)
   list_blames (Ok (Some text)) told = tt
   list_blames (Ok None) told = tt
   list_blames (Err Memory) told = told
@@ -70,11 +70,11 @@ module _ {S : Type 0} (g : Ghosts S) (old new : Standing S) where
     by_reason : (why : Option Reason) → BlamesStore g old new why → IfOk result (λ p. reason p ≡ why) → IfOk result (λ p. BlamesStore g old new (reason p))
     by_reason why blames = IfOk-weaker result _ _ (λ p is. subst (BlamesStore g old new) (sym is) blames)
 
-    pub blamed_read : (reply : Result Reply Fault) (outcome : Outcome) → outcome ≡ outcome_of_read reply → Blames g old.tables new.tables reply (old.closed ≡ true)
+    pub blamed_read : (reply : Result Reply Fault) (outcome : Outcome) → outcome ≡ outcome_of_read reply → StoreFaultHasCause g old.tables new.tables reply (old.closed ≡ true)
         → IfOk result (λ p. reason p ≡ reason_of outcome) → IfOk result (λ p. BlamesStore g old new (reason p))
     blamed_read reply outcome is told = by_reason (reason_of outcome) (subst (λ o. BlamesStore g old new (reason_of o)) (sym is) (read_blames reply told))
 
-    pub blamed_list : (listed : Result (Option Text) Fault) → Blames g old.tables new.tables listed (old.closed ≡ true)
+    pub blamed_list : (listed : Result (Option Text) Fault) → StoreFaultHasCause g old.tables new.tables listed (old.closed ≡ true)
         → IfOk result (λ p. reason p ≡ reason_of_list listed) → IfOk result (λ p. BlamesStore g old new (reason p))
     blamed_list listed told = by_reason (reason_of_list listed) (list_blames listed told)
 
@@ -83,7 +83,7 @@ module _ {S : Type 0} (g : Ghosts S) (old new : Standing S) where
     blamed_act answer outcome is = by_reason (reason_of outcome) (subst (λ o. BlamesStore g old new (reason_of o)) (sym is) (act_blames answer))
 
 -- a line that names no store may do what its order may
-pub may_line : (moment : ℕ) (before after : World) (line : Line) → line.store ≡ None → MayDoOrder moment before line.order after → MayDo moment before (Some line) after
+pub may_line : (moment : ℕ) (before after : World) (line : Line) → line.store ≡ None → MayDoOrder moment before line.order after → MayDoLine moment before (Some line) after
 may_line moment before after line none (inl same) = inl same
 may_line moment before after line none (inr did) =
     inr (did.0, subst (λ s. DoesOver moment before s line.order after did.0) (sym none) did.1)

@@ -67,22 +67,22 @@ piece w x rest live (Some q) finds cut =
     (subst (All (λ b. is_gap b ≡ false)) (sym at.0) (clear (take q.0 w) finds.0), inr (at.1, (c, gap, all)))
 
 -- what a list of characters finds, and that it stays one for the same characters
-abbrev Finds : List ℕ → Text → Option (ℕ × ℕ) → Type 0
-Finds p w o = (k : ℕ → Bool) → ((c : ℕ) → char_set_contains p c ≡ k c) → FindsBy k w o
+abbrev FindsAlways : List ℕ → Text → Option (ℕ × ℕ) → Type 0
+FindsAlways p w o = (k : ℕ → Bool) → ((c : ℕ) → char_set_contains p c ≡ k c) → FindsBy k w o
 
-abbrev Keeps : List ℕ → List ℕ → Type 0
-Keeps p q = (k : ℕ → Bool) → ((c : ℕ) → char_set_contains p c ≡ k c) → (c : ℕ) → char_set_contains q c ≡ k c
+abbrev KeepsAlways : List ℕ → List ℕ → Type 0
+KeepsAlways p q = (k : ℕ → Bool) → ((c : ℕ) → char_set_contains p c ≡ k c) → (c : ℕ) → char_set_contains q c ≡ k c
 
 abbrev IsGaps : List ℕ → Type 0
 IsGaps p = (c : ℕ) → char_set_contains p c ≡ is_gap c
 
 -- a text that is cut at its spaces and tabs
-pub YieldsList-from_gaps : {s : _} (bs : Text) → split_text {P = List ℕ} s ≡ bs → split_has_more s ≡ true → split_pattern s ≡ 32 ∷ 9 ∷ [] → YieldsList (split_steps Finds Keeps) (λ x. x.now) s (slice_split is_gap bs)
+pub YieldsList-from_gaps : {s : _} (bs : Text) → split_text {P = List ℕ} s ≡ bs → split_has_more s ≡ true → split_pattern s ≡ 32 ∷ 9 ∷ [] → YieldsList (split_steps FindsAlways KeepsAlways) (λ x. x.now) s (slice_split is_gap bs)
 YieldsList-from_gaps {s} bs text more pattern =
     let parts = slice_split is_gap in
     let shown = λ (t : _). cond (split_has_more t) (parts (split_text t)) [] in
-    subst (YieldsList (split_steps Finds Keeps) (λ x. x.now) s) (λ i. cond (more i) (parts (text i)) [])
-    (YieldsList-from_shown_while (split_steps Finds Keeps) (λ x. x.now) shown (λ t. IsGaps (split_pattern t))
+    subst (YieldsList (split_steps FindsAlways KeepsAlways) (λ x. x.now) s) (λ i. cond (more i) (parts (text i)) [])
+    (YieldsList-from_shown_while (split_steps FindsAlways KeepsAlways) (λ x. x.now) shown (λ t. IsGaps (split_pattern t))
     (λ t u h k. ap (λ b. length (cond b (parts (split_text t)) [])) (sym k.0))
     (λ t x u h k.
     let cut = k.1.1.1 in

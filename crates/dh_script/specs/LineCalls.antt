@@ -12,7 +12,7 @@ use Rattle.dh_lines.specs.declared.lines.Line.{Line}
 use Rattle.dh_lines.specs.declared.lines.Order.{Order}
 use Rattle.dh_lines.specs.declared.lines.Order.TheVariants as order
 use Rattle.dh_script.specs.Outcomes.{text_of_outcome}
-use Rattle.dh_script.specs.Running.{Runs}
+use Rattle.dh_script.specs.Running.{RunsLines}
 
 -- a read of this target, or what is printed where there is none
 abbrev pub read_of_target : Text → Option Text → ℕ → Option Target → Result Call Text
@@ -63,6 +63,6 @@ printed_by moment (words ∷ more) outcomes =
 abbrev pub LinesAreCalls : Type 0
 LinesAreCalls =
     (moment : ℕ) (before after : World) (lines : List (List Text)) (text : Text)
-    → Runs moment before lines after text
+    → RunsLines moment before lines after text
     → (outcomes : List Outcome) × AreCallsDone before (calls_of_lines moment lines) after outcomes
     × (text ≡ printed_by moment lines outcomes)

@@ -2,7 +2,7 @@
 use Rattle.std.specs.Prelude.{◌≡◌, Bool, true, false, Option, Some, None, Result, Ok, Err, codes, ⊤}
 use Rattle.sqlite_trees.specs.declared.store.Store.{Ghosts}
 use Rattle.dh_faults.specs.declared.fault.Fault.{Fault}
-use Rattle.dh_desk.specs.Desk.{Blames, Standing}
+use Rattle.dh_desk.specs.Desk.{StoreFaultHasCause, Standing}
 use Rattle.dh_world.specs.World.{Text}
 use Rattle.dh_world.specs.declared.outcome.Outcome.{Outcome}
 use Rattle.dh_world.specs.declared.outcome.Outcome.TheVariants as outcome
@@ -32,13 +32,13 @@ text_of_reason BadTarget = codes "bad target"
 text_of_reason Usage = codes "usage"
 
 -- the reason of what was refused is that which is printed, and of what was not there is none
-abbrev pub Explains : Option Reason → Text → Bool → Type 0
-Explains None text refused = refused ≡ false
-Explains (Some reason) text refused = (text ≡ text_of_reason reason) × (refused ≡ true)
+abbrev pub ExplainsRefusal : Option Reason → Text → Bool → Type 0
+ExplainsRefusal None text refused = refused ≡ false
+ExplainsRefusal (Some reason) text refused = (text ≡ text_of_reason reason) × (refused ≡ true)
 
 -- A read or a list is told to have failed for the store only where the store counted a fault meanwhile, or was shut
 -- before, or a fault had closed the desk.
 abbrev pub BlamesStore : {S : Type 0} → Ghosts S → Standing S → Standing S → Option Reason → Type 0
 BlamesStore g old new (Some (Failed fault)) =
-    Blames g {T = Unit {0}} old.tables new.tables (Err fault) (old.closed ≡ true)
+    StoreFaultHasCause g {T = Unit {0}} old.tables new.tables (Err fault) (old.closed ≡ true)
 BlamesStore g old new reason = ⊤

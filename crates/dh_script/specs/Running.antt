@@ -7,7 +7,7 @@ use Rattle.std.specs.Str.Lines.{lines}
 use Rattle.std.specs.Io.KnownBytes.{Appends}
 use Rattle.dh_world.specs.World.{Text, World}
 use Rattle.dh_lines.specs.Lines.{line_in}
-use Rattle.dh_script.specs.Script.{Does}
+use Rattle.dh_script.specs.Script.{DoesLine}
 use Rattle.dh_script.specs.declared.fault.RunFault.{RunFault}
 use Rattle.dh_script.specs.declared.fault.RunFault.TheVariants.{Write}
 
@@ -42,18 +42,18 @@ seen lines = map (λ words. map string_bytes words.items) lines
 
 -- these lines run one after another: what each does to the world, and what all print, each its
 -- text and LF
-abbrev pub Runs : ℕ → World → List (List Text) → World → Text → Type 0
-Runs moment before [] after text = (after ≡ before) × (text ≡ [])
-Runs moment before (words ∷ more) after text =
+abbrev pub RunsLines : ℕ → World → List (List Text) → World → Text → Type 0
+RunsLines moment before [] after text = (after ≡ before) × (text ≡ [])
+RunsLines moment before (words ∷ more) after text =
     (between : World) × (line : Text) × (rest : Text)
-    × Does moment before (line_in words) between line
-    × Runs moment between more after rest
+    × DoesLine moment before (line_in words) between line
+    × RunsLines moment between more after rest
     × (text ≡ line ++ 10 ∷ rest)
 
 -- these lines ran, and what they print was written
 pub record RunsInto (moment : ℕ) (before : World) (lines : List (List Text)) (after : World) (held now : Option Text) : Type 0 where
   pub text : Text
-  pub ran : Runs moment before lines after text
+  pub ran : RunsLines moment before lines after text
   pub written : Appends held now text
 
 -- where a run ended early: of these lines nothing was done and written, or the first one was done,
@@ -63,7 +63,7 @@ StopsAt moment before [] after text = (after ≡ before) × (text ≡ [])
 StopsAt moment before (words ∷ more) after text =
     ((after ≡ before) × (text ≡ []))
     ⊎ ((line : Text) × (n : ℕ)
-    × Does moment before (line_in words) after line
+    × DoesLine moment before (line_in words) after line
     × (n < length (line ++ 10 ∷ []))
     × (text ≡ take n (line ++ 10 ∷ [])))
 
@@ -75,7 +75,7 @@ pub record RunsSome (moment : ℕ) (before : World) (lines : List (List Text)) (
   pub text : Text
   pub front : Text
   pub parts : lines ≡ done ++ more
-  pub ran : Runs moment before done between text
+  pub ran : RunsLines moment before done between text
   pub stops : StopsAt moment between more after front
   pub written : Appends held now (text ++ front)
 

@@ -28,14 +28,15 @@ use Rattle.dh_script.specs.declared.fault.ScriptFault.TheVariants.{Run}
 pub use Rattle.dh_histories.specs.CallsDone.{outcome_of, outcome_of_read}
 
 -- an outcome's text is printed, and whether it is a refusal is told
-abbrev pub Tells : Outcome → Text → Bool → Type 0
-Tells outcome text refused = (text ≡ text_of_outcome outcome) × (refused ≡ is_refusal outcome)
+abbrev pub TellsOutcome : Outcome → Text → Bool → Type 0
+TellsOutcome outcome text refused =
+    (text ≡ text_of_outcome outcome) × (refused ≡ is_refusal outcome)
 
 -- a command is one step of the world, or is refused, or set aside; its outcome is printed
-abbrev pub Acts : World → Command → World → Text → Bool → Type 0
-Acts before c after text refused =
+abbrev pub PerformsCommand : World → Command → World → Text → Bool → Type 0
+PerformsCommand before c after text refused =
     (answer : Result Answer Refusal) × IsStep before after c answer
-    × Tells (outcome_of answer) text refused
+    × TellsOutcome (outcome_of answer) text refused
 
 -- a read of a target that is none prints `bad target` and is refused; any other prints the outcome
 -- of the read under the host named, whatever host the target gives: its reply is the definition's
@@ -46,7 +47,7 @@ GetsAt w host pass moment (Some t) text refused =
     (reply : Result Reply Fault)
     × IfOk reply (λ r. r ≡ reply_to
     (seen w (host_named host) (caller_named pass moment)) t.path t.query)
-    × Tells (outcome_of_read reply) text refused
+    × TellsOutcome (outcome_of_read reply) text refused
 
 -- an order that is none of a desk is refused
 abbrev pub IsUsage : Text → Bool → Type 0
@@ -55,28 +56,31 @@ IsUsage text refused = (text ≡ codes "usage") × (refused ≡ true)
 -- what an order does to the world at a moment, what it prints, and whether it is refused; a read that
 -- gives its own moment is one of that. An order that is none of a desk prints `usage`, and neither that
 -- nor a read changes the world
-abbrev pub Performs : ℕ → World → Order → World → Text → Bool → Type 0
-Performs moment before (order.Act c) after text refused = Acts before c after text refused
-Performs moment before (order.Get host target pass own) after text refused =
+abbrev pub PerformsOrder : ℕ → World → Order → World → Text → Bool → Type 0
+PerformsOrder moment before (order.Act c) after text refused =
+    PerformsCommand before c after text refused
+PerformsOrder moment before (order.Get host target pass own) after text refused =
     (after ≡ before)
     × GetsAt before host pass (unwrap_or own moment) (target_of target) text refused
-Performs moment before (order.Import host list) after text refused =
+PerformsOrder moment before (order.Import host list) after text refused =
     (after ≡ before) × IsUsage text refused
-Performs moment before (order.List word) after text refused =
+PerformsOrder moment before (order.List word) after text refused =
     (after ≡ before) × IsUsage text refused
-Performs moment before (order.Init file) after text refused =
+PerformsOrder moment before (order.Init file) after text refused =
     (after ≡ before) × IsUsage text refused
-Performs moment before (order.Migrate file) after text refused =
+PerformsOrder moment before (order.Migrate file) after text refused =
     (after ≡ before) × IsUsage text refused
-Performs moment before order.Script after text refused = (after ≡ before) × IsUsage text refused
-Performs moment before order.Answer after text refused = (after ≡ before) × IsUsage text refused
-Performs moment before (order.Serve count port log) after text refused =
+PerformsOrder moment before order.Script after text refused =
+    (after ≡ before) × IsUsage text refused
+PerformsOrder moment before order.Answer after text refused =
+    (after ≡ before) × IsUsage text refused
+PerformsOrder moment before (order.Serve count port log) after text refused =
     (after ≡ before) × IsUsage text refused
 
 -- and so, whether it is refused or not
 abbrev pub DoesOrder : ℕ → World → Order → World → Text → Type 0
 DoesOrder moment before order after text =
-    (refused : Bool) × Performs moment before order after text refused
+    (refused : Bool) × PerformsOrder moment before order after text refused
 
 -- a line that names a store of its own is none of a script
 abbrev pub DoesOver : ℕ → World → Option Text → Order → World → Text → Type 0
@@ -85,15 +89,16 @@ DoesOver moment before (Some file) order after text = (after ≡ before) × (tex
 
 -- what a line of a script does to the world at a moment, and prints; what is none prints `usage`, and
 -- changes nothing
-abbrev pub Does : ℕ → World → Option Line → World → Text → Type 0
-Does moment before None after text = (after ≡ before) × (text ≡ codes "usage")
-Does moment before (Some line) after text = DoesOver moment before line.store line.order after text
+abbrev pub DoesLine : ℕ → World → Option Line → World → Text → Type 0
+DoesLine moment before None after text = (after ≡ before) × (text ≡ codes "usage")
+DoesLine moment before (Some line) after text =
+    DoesOver moment before line.store line.order after text
 
 -- what was listed is printed; where there is no project that is refused, and of a fault the failure is told
 abbrev pub TellsList : Result (Option Text) Fault → Text → Bool → Type 0
 TellsList (Ok (Some listed)) text refused = (text ≡ listed) × (refused ≡ false)
-TellsList (Ok None) text refused = Tells (outcome.Refused NoProject) text refused
-TellsList (Err fault) text refused = Tells (outcome.Failed fault) text refused
+TellsList (Ok None) text refused = TellsOutcome (outcome.Refused NoProject) text refused
+TellsList (Err fault) text refused = TellsOutcome (outcome.Failed fault) text refused
 
 -- a word that lists prints what it lists of the world, unless the store or memory failed
 abbrev pub ListsAt : World → ListWord → Text → Bool → Type 0
@@ -106,7 +111,7 @@ ListsAt w word text refused =
 abbrev pub PerformsSingle : ℕ → World → Order → World → Text → Bool → Type 0
 PerformsSingle moment before (order.List word) after text refused =
     (after ≡ before) × ListsAt before word text refused
-PerformsSingle moment before order after text refused = Performs moment before order after text refused
+PerformsSingle moment before order after text refused = PerformsOrder moment before order after text refused
 
 -- a single order was done, whatever it prints, or nothing was
 abbrev pub MayDoSingle : ℕ → World → Order → World → Type 0
@@ -120,9 +125,9 @@ MayDoOrder moment before order after =
     (after ≡ before) ⊎ ((text : Text) × DoesOrder moment before order after text)
 
 -- this line was done, whatever it prints, or nothing was
-abbrev pub MayDo : ℕ → World → Option Line → World → Type 0
-MayDo moment before line after =
-    (after ≡ before) ⊎ ((text : Text) × Does moment before line after text)
+abbrev pub MayDoLine : ℕ → World → Option Line → World → Type 0
+MayDoLine moment before line after =
+    (after ≡ before) ⊎ ((text : Text) × DoesLine moment before line after text)
 
 -- whether the answer is that the script was not read
 abbrev pub is_unread : {A : Type 0} → Result A ScriptFault → Bool

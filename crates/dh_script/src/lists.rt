@@ -1,8 +1,8 @@
 //! What a word prints that lists.
 
 ghost use Rattle.std.specs.Prelude.{◌≡◌, string_bytes, false, None, IfOk};
-ghost use Rattle.dh_desk.specs.Desk.{Moves};
-ghost use Rattle.dh_script.specs.Reasons.{BlamesStore, Explains, reason_of_list};
+ghost use Rattle.dh_desk.specs.Desk.{WorldGoesBy};
+ghost use Rattle.dh_script.specs.Reasons.{BlamesStore, ExplainsRefusal, reason_of_list};
 ghost use Rattle.dh_script.specs.Script.{ListsAt, TellsList};
 
 use crate::orders::{Printed, told};
@@ -30,7 +30,7 @@ fn listed(alloc: Global, text: &Text) -> Result<Printed, AllocError>
 /// What is told of what was listed.
 fn told_list(alloc: Global, answer: &Found<Text>) -> Result<Printed, AllocError>
     ensures tells { IfOk result (λ p. TellsList answer.now (string_bytes p.text) p.refused) }
-    ensures explains { IfOk result (λ p. Explains p.reason (string_bytes p.text) p.refused) }
+    ensures explains { IfOk result (λ p. ExplainsRefusal p.reason (string_bytes p.text) p.refused) }
     ensures reason { IfOk result (λ p. p.reason ≡ reason_of_list answer.now) }
 {
     match answer {
@@ -46,10 +46,10 @@ pub fn list<S: Alter>(
     desk: &mut Desk<S>,
     word: &ListWord,
 ) -> Result<Printed, AllocError>
-    ensures lists { Moves S.Store desk.old desk.new
+    ensures lists { WorldGoesBy S.Store desk.old desk.new
         (λ before after. (after ≡ before) × IfOk result
         (λ p. ListsAt before word.now (string_bytes p.text) p.refused)) }
-    ensures explains { IfOk result (λ p. Explains p.reason (string_bytes p.text) p.refused) }
+    ensures explains { IfOk result (λ p. ExplainsRefusal p.reason (string_bytes p.text) p.refused) }
     ensures told { IfOk result (λ p. BlamesStore S.Store desk.old desk.new p.reason) }
 {
     let answer = desk.list(alloc, word);

@@ -3,10 +3,10 @@
 ghost use Rattle.std.specs.Prelude.{◌≡◌, true, Some, string_bytes, IfOk, OnErr};
 ghost use Rattle.std.specs.Option.{is_none};
 ghost use Rattle.dh_paths.specs.Targets.{target_of};
-ghost use Rattle.dh_desk.specs.Desk.{Moves};
-ghost use Rattle.dh_script.specs.Reasons.{BlamesStore, Explains, reason_of as spec_reason};
-ghost use Rattle.dh_script.specs.Script.{Tells, GetsAt};
-ghost use Rattle.dh_script.specs.Script.{IsUsage, Performs, MayDoOrder};
+ghost use Rattle.dh_desk.specs.Desk.{WorldGoesBy};
+ghost use Rattle.dh_script.specs.Reasons.{BlamesStore, ExplainsRefusal, reason_of as spec_reason};
+ghost use Rattle.dh_script.specs.Script.{TellsOutcome, GetsAt};
+ghost use Rattle.dh_script.specs.Script.{IsUsage, PerformsOrder, MayDoOrder};
 ghost use Rattle.dh_script.specs.Script.{PerformsSingle, MayDoSingle};
 
 use crate::lists::list;
@@ -33,8 +33,8 @@ pub struct Printed {
 
 /// What is told of an outcome.
 pub(crate) fn told(alloc: Global, outcome: &Outcome) -> Result<Printed, AllocError>
-    ensures tells { IfOk result (λ p. Tells outcome.now (string_bytes p.text) p.refused) }
-    ensures explains { IfOk result (λ p. Explains p.reason (string_bytes p.text) p.refused) }
+    ensures tells { IfOk result (λ p. TellsOutcome outcome.now (string_bytes p.text) p.refused) }
+    ensures explains { IfOk result (λ p. ExplainsRefusal p.reason (string_bytes p.text) p.refused) }
     ensures reason { IfOk result (λ p. p.reason ≡ spec_reason outcome.now) }
 {
     let text = outcome_text(alloc, outcome)?;
@@ -63,7 +63,7 @@ fn refusal(alloc: Global, text: &str, reason: Reason) -> Result<Printed, AllocEr
 /// What is told of what is no command and no read.
 pub fn usage(alloc: Global) -> Result<Printed, AllocError>
     ensures tells { IfOk result (λ p. IsUsage (string_bytes p.text) p.refused) }
-    ensures explains { IfOk result (λ p. Explains p.reason (string_bytes p.text) p.refused) }
+    ensures explains { IfOk result (λ p. ExplainsRefusal p.reason (string_bytes p.text) p.refused) }
     ensures reason { IfOk result (λ p. p.reason ≡ Some Reason.Usage) }
 {
     refusal(alloc, "usage", Reason::Usage)
@@ -77,10 +77,10 @@ fn do_read<S: Alter>(
     moment: u64,
     target: Target,
 ) -> Result<Printed, AllocError>
-    ensures gets { Moves S.Store desk.old desk.new
+    ensures gets { WorldGoesBy S.Store desk.old desk.new
         (λ before after. (after ≡ before) × IfOk result
         (λ p. GetsAt before host.now pass.now moment (Some target) (string_bytes p.text) p.refused)) }
-    ensures explains { IfOk result (λ p. Explains p.reason (string_bytes p.text) p.refused) }
+    ensures explains { IfOk result (λ p. ExplainsRefusal p.reason (string_bytes p.text) p.refused) }
     ensures told { IfOk result (λ p. BlamesStore S.Store desk.old desk.new p.reason) }
 {
     let Target {
@@ -101,11 +101,11 @@ fn do_get<S: Alter>(
     pass: &Option<Text>,
     moment: u64,
 ) -> Result<Printed, AllocError>
-    ensures gets { Moves S.Store desk.old desk.new
+    ensures gets { WorldGoesBy S.Store desk.old desk.new
         (λ before after. (after ≡ before) × IfOk result
         (λ p. GetsAt before host.now pass.now moment (target_of target.now)
         (string_bytes p.text) p.refused)) }
-    ensures explains { IfOk result (λ p. Explains p.reason (string_bytes p.text) p.refused) }
+    ensures explains { IfOk result (λ p. ExplainsRefusal p.reason (string_bytes p.text) p.refused) }
     ensures told { IfOk result (λ p. BlamesStore S.Store desk.old desk.new p.reason) }
 {
     match Target::read(alloc, target.as_str().as_bytes()) {
@@ -135,11 +135,11 @@ pub fn perform<S: Alter>(
     order: &Order,
     now: u64,
 ) -> Result<Printed, AllocError>
-    ensures performs { Moves S.Store desk.old desk.new (λ before after. IfOk result
-        (λ p. Performs now before order.now after (string_bytes p.text) p.refused)) }
-    ensures may { Moves S.Store desk.old desk.new
+    ensures performs { WorldGoesBy S.Store desk.old desk.new (λ before after. IfOk result
+        (λ p. PerformsOrder now before order.now after (string_bytes p.text) p.refused)) }
+    ensures may { WorldGoesBy S.Store desk.old desk.new
         (λ before after. OnErr result (MayDoOrder now before order.now after)) }
-    ensures explains { IfOk result (λ p. Explains p.reason (string_bytes p.text) p.refused) }
+    ensures explains { IfOk result (λ p. ExplainsRefusal p.reason (string_bytes p.text) p.refused) }
     ensures told { IfOk result (λ p. BlamesStore S.Store desk.old desk.new p.reason) }
 {
     match order {
@@ -168,11 +168,11 @@ pub fn perform_single<S: Alter>(
     order: &Order,
     now: u64,
 ) -> Result<Printed, AllocError>
-    ensures performs { Moves S.Store desk.old desk.new (λ before after. IfOk result
+    ensures performs { WorldGoesBy S.Store desk.old desk.new (λ before after. IfOk result
         (λ p. PerformsSingle now before order.now after (string_bytes p.text) p.refused)) }
-    ensures may { Moves S.Store desk.old desk.new
+    ensures may { WorldGoesBy S.Store desk.old desk.new
         (λ before after. OnErr result (MayDoSingle now before order.now after)) }
-    ensures explains { IfOk result (λ p. Explains p.reason (string_bytes p.text) p.refused) }
+    ensures explains { IfOk result (λ p. ExplainsRefusal p.reason (string_bytes p.text) p.refused) }
     ensures told { IfOk result (λ p. BlamesStore S.Store desk.old desk.new p.reason) }
 {
     match order {

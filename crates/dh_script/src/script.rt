@@ -3,12 +3,12 @@
 ghost use Rattle.std.specs.Prelude.{◌≡◌, true, false, map, string_bytes, Some, IfOk, IfErr};
 ghost use Rattle.std.specs.Prelude.{IfSome, IsErrOf, OnOk, OnErr, [], ◌∷◌, ◌++◌};
 ghost use Rattle.dh_ports.specs.Ports.{CountsAtLeast, CountsUpTo};
-ghost use Rattle.dh_desk.specs.Desk.{Moves};
+ghost use Rattle.dh_desk.specs.Desk.{WorldGoesBy};
 ghost use Rattle.dh_words.specs.Apps.{StandsFor};
 ghost use Rattle.dh_lines.specs.App.{docs_app};
 ghost use Rattle.dh_lines.specs.Lines.{line_in};
 ghost use Rattle.dh_script.specs.Reading.{IsCause, IsScript, TookAtMost, reader_failed, writer_failed};
-ghost use Rattle.dh_script.specs.Script.{Does, MayDo, is_unread};
+ghost use Rattle.dh_script.specs.Script.{DoesLine, MayDoLine, is_unread};
 ghost use Rattle.dh_script.specs.Running.{Ran, RanBut, RunsScript, lines_in, seen, stopped_by_writer, words_in, worded};
 
 use crate::fault::{RunFault, ScriptFault};
@@ -34,10 +34,10 @@ fn own_line<S: Alter>(
     line: &Line,
     now: u64,
 ) -> Result<Printed, AllocError>
-    ensures does { Moves S.Store desk.old desk.new (λ before after. IfOk result
-        (λ p. Does now before (Some line.now) after (string_bytes p.text))) }
-    ensures may { Moves S.Store desk.old desk.new
-        (λ before after. OnErr result (MayDo now before (Some line.now) after)) }
+    ensures does { WorldGoesBy S.Store desk.old desk.new (λ before after. IfOk result
+        (λ p. DoesLine now before (Some line.now) after (string_bytes p.text))) }
+    ensures may { WorldGoesBy S.Store desk.old desk.new
+        (λ before after. OnErr result (MayDoLine now before (Some line.now) after)) }
 {
     match &line.store {
         Some(_) => usage(alloc),
@@ -55,10 +55,12 @@ fn line_printed<'a, S: Alter>(
 ) -> Result<Printed, AllocError>
     requires { StandsFor docs_app program.old }
     ensures stands { StandsFor docs_app program.new }
-    ensures does { Moves S.Store desk.old desk.new (λ before after. IfOk result
-        (λ p. Does now before (line_in (map string_bytes words.now)) after (string_bytes p.text))) }
-    ensures may { Moves S.Store desk.old desk.new
-        (λ before after. OnErr result (MayDo now before (line_in (map string_bytes words.now)) after)) }
+    ensures does { WorldGoesBy S.Store desk.old desk.new (λ before after. IfOk result
+        (λ p. DoesLine now before (line_in (map string_bytes words.now)) after
+        (string_bytes p.text))) }
+    ensures may { WorldGoesBy S.Store desk.old desk.new
+        (λ before after. OnErr result
+        (MayDoLine now before (line_in (map string_bytes words.now)) after)) }
 {
     match line_by(alloc, program, words) {
         Ok(line) => own_line(alloc, desk, &line, now),
@@ -81,7 +83,7 @@ fn run_words<'a, S: Alter, W: Sink>(
     requires stands { StandsFor docs_app program.old }
     ensures stays { StandsFor docs_app program.new }
     ensures broken { W.broken sink.new ≡ stopped_by_writer result }
-    ensures ran { Moves S.Store desk.old desk.new
+    ensures ran { WorldGoesBy S.Store desk.old desk.new
         (λ before after. Ran now before (map string_bytes words.now ∷ []) after
         (W.held sink.old) (W.held sink.new) result) }
 {
@@ -103,7 +105,7 @@ fn run_batch<'a, S: Alter, W: Sink>(
 ) -> Result<(), RunFault>
     requires { W.broken sink.old ≡ false }
     ensures broken { W.broken sink.new ≡ stopped_by_writer result }
-    ensures ran { Moves S.Store desk.old desk.new
+    ensures ran { WorldGoesBy S.Store desk.old desk.new
         (λ before after. Ran now before (seen lines.now) after
         (W.held sink.old) (W.held sink.new) result) }
 {
@@ -177,7 +179,7 @@ fn take_line<S: Alter, W: Sink>(
 ) -> Result<(), RunFault>
     requires { W.broken sink.old ≡ false }
     ensures broken { W.broken sink.new ≡ stopped_by_writer result }
-    ensures ran { Moves S.Store desk.old desk.new
+    ensures ran { WorldGoesBy S.Store desk.old desk.new
         (λ before after. RanBut now before (seen batch.old.items ++ worded (line.now ∷ [])) after
         (W.held sink.old) (W.held sink.new) (seen batch.new.items) result) }
 {
@@ -201,7 +203,7 @@ fn run_lines<S: Alter, W: Sink>(
 ) -> Result<(), RunFault>
     requires { W.broken sink.old ≡ false }
     ensures broken { W.broken sink.new ≡ stopped_by_writer result }
-    ensures ran { Moves S.Store desk.old desk.new
+    ensures ran { WorldGoesBy S.Store desk.old desk.new
         (λ before after. Ran now before (lines_in text.now) after
         (W.held sink.old) (W.held sink.new) result) }
 {
@@ -235,7 +237,7 @@ pub fn run_script<S: Alter, R: Source, W: Sink>(
         → (desk.new ≡ desk.old) × (W.held sink.new ≡ W.held sink.old) }
     ensures cause { IfErr result (λ fault. IfSome (R.left source.old) (IsCause fault)) }
     ensures script { OnOk result (IfSome (R.left source.old) IsScript) }
-    ensures ran { Moves S.Store desk.old desk.new
+    ensures ran { WorldGoesBy S.Store desk.old desk.new
         (λ before after. RunsScript now (R.left source.old) before after
         (W.held sink.old) (W.held sink.new) result) }
     ensures taken { TookAtMost (R.left source.old) (R.left source.new) 1052672 }

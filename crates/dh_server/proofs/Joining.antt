@@ -3,11 +3,11 @@ use Rattle.std.proofs.Common.{◌≡◌, ◌∙◌, ℕ, true, List, Option, Som
 use Rattle.std.proofs.lemmas.Result.{err_from_is_err_and}
 use Rattle.std.specs.Io.KnownBytes.{Appends, Keeps}
 use Rattle.dh_world.specs.World.{World}
-use Rattle.dh_http.specs.Answers.{AnswersSource, Writes, is_unread}
+use Rattle.dh_http.specs.Answers.{AnswersSource, WritesAnswer, is_unread}
 use Rattle.dh_http.specs.declared.fault.Done.{Done}
 use Rattle.dh_http.specs.declared.fault.EngineFault.{EngineFault}
 use Rattle.dh_http.specs.declared.fault.EngineFault.TheVariants as fault
-use Rattle.dh_server.specs.Serving.{Answers}
+use Rattle.dh_server.specs.Serving.{AnswersConnection}
 
 -- what was kept was handed on
 handed_on : (held kept now : Option (List ℕ)) (text : List ℕ) → Appends held kept text → Keeps kept now → Appends held now text
@@ -17,21 +17,21 @@ handed_on (Some xs) (Some ys) None text appends keeps = absurd keeps
 handed_on (Some xs) (Some ys) (Some zs) text appends keeps = keeps ∙ appends
 
 module _ (moment : ℕ) (left held kept now : Option (List ℕ)) (before after : World) where
-  pub joined : (done : Done) → Writes (AnswersSource moment left before after) held kept (Ok done) → Keeps kept now → Answers moment left held now before after (Ok done)
+  pub joined : (done : Done) → WritesAnswer (AnswersSource moment left before after) held kept (Ok done) → Keeps kept now → AnswersConnection moment left held now before after (Ok done)
   joined done w keeps = (w.0, w.1, handed_on held kept now w.0 w.2 keeps)
 
   -- not all of it could be handed on
-  pub cut : (done : Done) (n : ℕ) → Writes (AnswersSource moment left before after) held kept (Ok done) → Answers moment left held now before after (Err (fault.Write n))
+  pub cut : (done : Done) (n : ℕ) → WritesAnswer (AnswersSource moment left before after) held kept (Ok done) → AnswersConnection moment left held now before after (Err (fault.Write n))
   cut done n w = (done.status, w.0, w.1)
 
   -- the engine's own fault
-  failed : (e : EngineFault) → Writes (AnswersSource moment left before after) held kept (Err e) → (is_unread (Err e) ≡ true → after ≡ before) → Answers moment left held now before after (Err e)
+  failed : (e : EngineFault) → WritesAnswer (AnswersSource moment left before after) held kept (Err e) → (is_unread (Err e) ≡ true → after ≡ before) → AnswersConnection moment left held now before after (Err e)
   failed fault.Read w same = same refl
   failed fault.TooManyTurns w same = same refl
   failed (fault.Write n) w same = (w.0, w.1, w.2)
 
   -- and it is handed on
-  pub told_on : (e : EngineFault) (r : Result Done EngineFault) → IsErrAnd r (λ x. x ≡ e) → Writes (AnswersSource moment left before after) held kept (Err e) → (is_unread (Err e) ≡ true → after ≡ before) → Answers moment left held now before after r
+  pub told_on : (e : EngineFault) (r : Result Done EngineFault) → IsErrAnd r (λ x. x ≡ e) → WritesAnswer (AnswersSource moment left before after) held kept (Err e) → (is_unread (Err e) ≡ true → after ≡ before) → AnswersConnection moment left held now before after r
   told_on e r is w same =
       let at = err_from_is_err_and r is in
-      subst (Answers moment left held now before after) (sym (at.1 ∙ ap Err at.2)) (failed e w same)
+      subst (AnswersConnection moment left held now before after) (sym (at.1 ∙ ap Err at.2)) (failed e w same)

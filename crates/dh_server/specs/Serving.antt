@@ -13,17 +13,17 @@ use Rattle.dh_server.specs.declared.listening.Came.TheVariants as came
 
 -- the request of a source was answered at a moment, and all of the answer stands behind what the sink held; or the answer was
 -- made and not all of it went out; or no whole request was read, and nothing was done
-abbrev pub Answers
+abbrev pub AnswersConnection
     : ℕ → Option (List ℕ) → Option (List ℕ) → Option (List ℕ) → World → World
     → Result Done EngineFault → Type 0
-Answers moment left held now before after (Ok done) =
+AnswersConnection moment left held now before after (Ok done) =
     (text : List ℕ)
     × AnswersSource moment left before after done.status text
     × Appends held now text
-Answers moment left held now before after (Err (fault.Write n)) =
+AnswersConnection moment left held now before after (Err (fault.Write n)) =
     (status : ℕ) × (text : List ℕ) × AnswersSource moment left before after status text
-Answers moment left held now before after (Err fault.Read) = after ≡ before
-Answers moment left held now before after (Err fault.TooManyTurns) = after ≡ before
+AnswersConnection moment left held now before after (Err fault.Read) = after ≡ before
+AnswersConnection moment left held now before after (Err fault.TooManyTurns) = after ≡ before
 
 -- some request was answered, at such a moment
 abbrev pub AnswersSome : (ℕ → Type 0) → World → World → Type 0
@@ -55,19 +55,19 @@ MayTurn IsMoment Does before after =
     ⊎ ((moment : ℕ) × IsMoment moment × (talk : Talk) × Does moment talk before after)
 
 -- so many connections, one after another
-abbrev pub Serves
+abbrev pub ServesInTurn
     : (ℕ → Type 0) → (ℕ → Talk → World → World → Type 0) → ℕ → World → World → Type 0
-Serves IsMoment Does zero before after = after ≡ before
-Serves IsMoment Does (suc count) before after =
-    (between : World) × Serves IsMoment Does count before between × MayTurn IsMoment Does between after
+ServesInTurn IsMoment Does zero before after = after ≡ before
+ServesInTurn IsMoment Does (suc count) before after =
+    (between : World) × ServesInTurn IsMoment Does count before between × MayTurn IsMoment Does between after
 
 -- a call of the clock may give this moment
 abbrev pub GivenBy : {C : Type 0} → (C → ℕ → Type 0) → ℕ → Type 0
 GivenBy {C} gives moment = (clock : C) × gives clock moment
 
 -- it was asked so many times, where that is counted
-abbrev pub Counts : Option ℕ → Option ℕ → ℕ → Type 0
-Counts old new n = CountsUpTo old new n × CountsAtLeast old new n
+abbrev pub CountsExactly : Option ℕ → Option ℕ → ℕ → Type 0
+CountsExactly old new n = CountsUpTo old new n × CountsAtLeast old new n
 
 -- how many connections of a control socket came
 abbrev pub is_message : Came → Bool
@@ -80,7 +80,8 @@ messages_in (Some it) = if is_message it then 1 else 0
 
 -- so many connections of a control socket came, and as many were handed on, where both are counted
 abbrev pub HandsOn : Option ℕ → Option ℕ → Option ℕ → Option ℕ → Type 0
-HandsOn came more handed now = (count : ℕ) × Counts came more count × Counts handed now count
+HandsOn came more handed now =
+    (count : ℕ) × CountsExactly came more count × CountsExactly handed now count
 
 -- the world stayed, or one command was done, refused or set aside
 abbrev pub StepsOnce : World → World → Type 0
@@ -88,10 +89,10 @@ StepsOnce before after =
     (after ≡ before) ⊎ ((command : Command) × MayApply before after command)
 
 -- so many of these, one after another
-abbrev pub Steps : ℕ → World → World → Type 0
-Steps zero before after = after ≡ before
-Steps (suc count) before after =
-    (between : World) × Steps count before between × StepsOnce between after
+abbrev pub StepsInTurn : ℕ → World → World → Type 0
+StepsInTurn zero before after = after ≡ before
+StepsInTurn (suc count) before after =
+    (between : World) × StepsInTurn count before between × StepsOnce between after
 
 -- a control socket over which no world is changed
 abbrev pub ChangesNothing : (ℕ → Talk → World → World → Type 0) → Type 0
@@ -101,4 +102,4 @@ ChangesNothing Does =
 -- beside such a socket so many connections are so many steps
 abbrev pub PortSteps : (ℕ → Type 0) → (ℕ → Talk → World → World → Type 0) → Type 0
 PortSteps IsMoment Does =
-    ChangesNothing Does → (count : ℕ) (before after : World) → Serves IsMoment Does count before after → Steps count before after
+    ChangesNothing Does → (count : ℕ) (before after : World) → ServesInTurn IsMoment Does count before after → StepsInTurn count before after

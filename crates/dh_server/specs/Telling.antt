@@ -8,15 +8,15 @@ use Rattle.dh_server.specs.declared.line.Entry.{Entry}
 
 module _ {S : Type 0} (broken : S → Bool) (held : S → Option (List ℕ)) where
   -- the text stands behind what the sink held, unless the sink has failed
-  pub record Tells (old new : S) (text : List ℕ) : Type 0 where
+  pub record WritesUnlessBroken (old new : S) (text : List ℕ) : Type 0 where
     pub live : broken new ≡ false → broken old ≡ false
     pub said : broken new ≡ false → Appends (held old) (held new) text
 
   -- some text
   abbrev pub TellsSome : S → S → Type 0
-  TellsSome old new = (text : List ℕ) × Tells old new text
+  TellsSome old new = (text : List ℕ) × WritesUnlessBroken old new text
 
   -- the line of a connection, in some microseconds; or none
   abbrev pub TellsLine : S → S → Option (Result Done EngineFault) → Entry → ℕ → Type 0
   TellsLine old new outcome entry bytes =
-      Tells old new [] ⊎ ((micros : ℕ) × Tells old new (log_line (told_as outcome) entry bytes micros))
+      WritesUnlessBroken old new [] ⊎ ((micros : ℕ) × WritesUnlessBroken old new (log_line (told_as outcome) entry bytes micros))

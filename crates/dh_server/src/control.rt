@@ -1,8 +1,8 @@
 //! What is done with the connections of a control socket.
 
 ghost use Rattle.std.specs.Prelude.{◌≡◌, ℕ, Option, None, false};
-ghost use Rattle.dh_http.specs.Desk.{Moves};
-ghost use Rattle.dh_server.specs.Serving.{Counts, Talk, talk_of};
+ghost use Rattle.dh_http.specs.Desk.{WorldGoesBy};
+ghost use Rattle.dh_server.specs.Serving.{CountsExactly, Talk, talk_of};
 ghost use Rattle.dh_world.specs.World.{World};
 
 use dh_http::Desk;
@@ -29,9 +29,9 @@ pub trait Control {
     )
         requires reader { R.broken source.old ≡ false }
         requires writer { W.broken sink.old ≡ false }
-        ensures moves { Moves S.Store desk.old desk.new (does now
+        ensures moves { WorldGoesBy S.Store desk.old desk.new (does now
             (talk_of (R.left source.old) (W.held sink.old) (W.held sink.new) (W.broken sink.new))) }
-        ensures counts { Counts (handed self.old) (handed self.new) 1 };
+        ensures counts { CountsExactly (handed self.old) (handed self.new) 1 };
 }
 
 /// Where there is no socket: nothing is done.

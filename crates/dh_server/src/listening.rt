@@ -2,7 +2,7 @@
 
 ghost use Rattle.std.specs.Prelude.{◌≡◌, ℕ, Option, Some};
 ghost use Rattle.dh_server.specs.Serving as spec;
-ghost use Rattle.dh_server.specs.Serving.{Counts, messages_in};
+ghost use Rattle.dh_server.specs.Serving.{CountsExactly, messages_in};
 
 use crate::stream::{accept_message, accept_request, limited, pause, ready};
 use std::io;
@@ -43,8 +43,9 @@ pub trait Listen {
 
     /// The next connection, which it waits for. None where there was none to be had, or it was lost before it could be answered.
     fn accept(&mut self) -> Option<Came>
-        ensures asks { Counts (asked self.old) (asked self.new) 1 }
-        ensures gives { Counts (messages self.old) (messages self.new) (messages_in result) };
+        ensures asks { CountsExactly (asked self.old) (asked self.new) 1 }
+        ensures gives { CountsExactly (messages self.old) (messages self.new)
+            (messages_in result) };
 }
 
 /// The connections that come in at a port, and at a control socket where there is one: now from the one and now from the other

@@ -2,9 +2,9 @@
 
 ghost use Rattle.std.specs.Prelude.{◌≡◌, ◌≤◌, true, false, drop, Some};
 ghost use Rattle.std.specs.Io.KnownBytes.{append_known};
-ghost use Rattle.dh_http.specs.Desk.{Moves};
+ghost use Rattle.dh_http.specs.Desk.{WorldGoesBy};
 ghost use Rattle.dh_http.specs.Answers as spec;
-ghost use Rattle.dh_server.specs.Serving.{Answers, Turn, Talk, MayTurn, Serves, GivenBy, ChangesNothing, Steps, Counts, HandsOn, messages_in};
+ghost use Rattle.dh_server.specs.Serving.{AnswersConnection, Turn, Talk, MayTurn, ServesInTurn, GivenBy, ChangesNothing, StepsInTurn, CountsExactly, HandsOn, messages_in};
 ghost use Rattle.dh_server.specs.Telling.{TellsSome};
 
 use crate::beginning::{Beginning, Heard};
@@ -39,8 +39,8 @@ pub fn answer_joined<S: Alter, R: Source, W: Sink>(
 ) -> Result<Done, EngineFault>
     requires reader { R.broken source.old ≡ false }
     requires writer { W.broken sink.old.inner ≡ false }
-    ensures answers { Moves S.Store desk.old desk.new
-        (λ before after. Answers now (R.left source.old)
+    ensures answers { WorldGoesBy S.Store desk.old desk.new
+        (λ before after. AnswersConnection now (R.left source.old)
         (append_known (W.held sink.old.inner) (drop sink.old.gone sink.old.kept.items))
         (W.held sink.new.inner) before after result) }
     ensures unread { spec.is_unread result ≡ true
@@ -77,7 +77,7 @@ fn answer_stream<S: Alter, T: Clock + Copy, L: Sink>(
     log: &Log<T>,
     errors: &mut L,
 )
-    ensures turn { Moves S.Store desk.old desk.new (Turn (λ moment. moment ≡ now)) }
+    ensures turn { WorldGoesBy S.Store desk.old desk.new (Turn (λ moment. moment ≡ now)) }
     ensures tells { TellsSome L.broken L.held errors.old errors.new }
     ensures off { log.now.is_on ≡ false → errors.new ≡ errors.old }
 {
@@ -119,9 +119,9 @@ fn answer_control<S: Alter, K: Control, T: Clock + Copy>(
     now: u64,
     clock: T,
 )
-    ensures moves { Moves S.Store desk.old desk.new
+    ensures moves { WorldGoesBy S.Store desk.old desk.new
         (λ before after. (talk : Talk) × K.does now talk before after) }
-    ensures counts { Counts (K.handed control.old) (K.handed control.new) 1 }
+    ensures counts { CountsExactly (K.handed control.old) (K.handed control.new) 1 }
 {
     let mut source = Timed::new(clock, MOST_SECONDS, Port::new(Steady::new(stream)));
     let mut sink = Port::new(Steady::new(stream));
@@ -138,8 +138,9 @@ fn answer_came<S: Alter, K: Control, T: Clock + Copy, L: Sink>(
     log: &Log<T>,
     errors: &mut L,
 )
-    ensures hears { Counts (K.handed control.old) (K.handed control.new) (messages_in (Some came)) }
-    ensures turn { Moves S.Store desk.old desk.new (MayTurn (λ moment. moment ≡ now) K.does) }
+    ensures hears { CountsExactly (K.handed control.old) (K.handed control.new)
+        (messages_in (Some came)) }
+    ensures turn { WorldGoesBy S.Store desk.old desk.new (MayTurn (λ moment. moment ≡ now) K.does) }
     ensures tells { TellsSome L.broken L.held errors.old errors.new }
     ensures off { log.now.is_on ≡ false → errors.new ≡ errors.old }
 {
@@ -160,11 +161,11 @@ fn serve_next<S: Alter, N: Listen, K: Control, C: FnMut() -> u64, T: Clock + Cop
     errors: &mut L,
 )
     requires { C.IsAlwaysCallable clock.old }
-    ensures asks { Counts (N.asked listener.old) (N.asked listener.new) 1 }
+    ensures asks { CountsExactly (N.asked listener.old) (N.asked listener.new) 1 }
     ensures callable { C.IsAlwaysCallable clock.new }
     ensures hears { HandsOn (N.messages listener.old) (N.messages listener.new)
         (K.handed control.old) (K.handed control.new) }
-    ensures turn { Moves S.Store desk.old desk.new (MayTurn (GivenBy C.post) K.does) }
+    ensures turn { WorldGoesBy S.Store desk.old desk.new (MayTurn (GivenBy C.post) K.does) }
     ensures tells { TellsSome L.broken L.held errors.old errors.new }
     ensures off { log.now.is_on ≡ false → errors.new ≡ errors.old }
 {
@@ -191,14 +192,16 @@ pub fn serve_on<S: Alter, N: Listen, K: Control, C: FnMut() -> u64, T: Clock + C
     errors: &mut L,
 ) -> u32
     requires { C.IsAlwaysCallable clock.old }
-    ensures asks { Counts (N.asked listener.old) (N.asked listener.new) result }
+    ensures asks { CountsExactly (N.asked listener.old) (N.asked listener.new) result }
     ensures few { result ≤ count }
     ensures all { desk.new.closed ≡ false → result ≡ count }
     ensures shut { desk.old.closed ≡ true → result ≡ 0 }
     ensures hears { HandsOn (N.messages listener.old) (N.messages listener.new)
         (K.handed control.old) (K.handed control.new) }
-    ensures serves { Moves S.Store desk.old desk.new (Serves (GivenBy C.post) K.does result) }
-    ensures steps { ChangesNothing K.does → Moves S.Store desk.old desk.new (Steps result) }
+    ensures serves { WorldGoesBy S.Store desk.old desk.new
+        (ServesInTurn (GivenBy C.post) K.does result) }
+    ensures steps { ChangesNothing K.does
+        → WorldGoesBy S.Store desk.old desk.new (StepsInTurn result) }
     ensures tells { TellsSome L.broken L.held errors.old errors.new }
     ensures off { log.now.is_on ≡ false → errors.new ≡ errors.old }
 {

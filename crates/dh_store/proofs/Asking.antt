@@ -8,22 +8,22 @@ use Rattle.sqlite.specs.State.{State, HasCleanDisk}
 use Rattle.sqlite.specs.Held.{Held, state}
 use Rattle.dh_faults.specs.declared.fault.Fault.{Fault}
 use Rattle.dh_faults.specs.Faults.{OnStore}
-use Rattle.dh_rows.specs.Calls.{AreOurs, Goes, IsHonest, IsPlainLook, IsSame, OnlyLooks, Refuses, seen, whole}
-use Rattle.dh_rows.proofs.Asks.{Answers}
+use Rattle.dh_rows.specs.Calls.{AreOurs, MakesNoCommit, IsHonest, IsPlainLook, IsSame, OnlyLooks, RefusalUndoes, seen, whole}
+use Rattle.dh_rows.proofs.Asks.{AnswersWith}
 use Rattle.dh_records.specs.Lists.{Lists}
 use Rattle.dh_records.specs.Typed.{AreTyped}
 use Rattle.dh_records.proofs.ReadingLemmas.{handed_on}
-use Rattle.dh_schema.specs.Calling.{AreAsked, Asks, Blames, IsUnread}
+use Rattle.dh_schema.specs.Calling.{AreAsked, LooksAtLists, StoreFaultHasCause, IsUnread}
 use Rattle.dh_schema.proofs.CallLemmas.{asked, on_store}
-use Rattle.dh_schema.specs.Tables.{Holds, lists_of}
-use Rattle.dh_store.specs.Meanings.{AsksFor, Changes, IsChange, IsQuery}
+use Rattle.dh_schema.specs.Tables.{HoldsTables, lists_of}
+use Rattle.dh_store.specs.Meanings.{AsksFor, AltersWhereHonest, IsChange, IsQuery}
 use Rattle.dh_store.proofs.Finding.{first_that}
 use Rattle.dh_store.proofs.Kept.{all_kept}
 
 pub asked_for : {X : Type 0} {s : State} {encode : X → Row} {typed : X → Type 0} {part : Lists → List X} {test : X → Bool} {sql : List ℕ} {params : Row} → AsksFor encode typed part test s sql params → IsQuery encode typed s sql params
 asked_for {part = part} {test = test} it = (part, test, it)
 
-pub altered : {S : Type 0} (g : Ghosts S) (h : Held S) {sql : List ℕ} {params : Row} {change : Lists → Lists} → Changes g h sql params change → IsChange g h sql params
+pub altered : {S : Type 0} (g : Ghosts S) (h : Held S) {sql : List ℕ} {params : Row} {change : Lists → Lists} → AltersWhereHonest g h sql params change → IsChange g h sql params
 altered g h {change = change} it = (change, it)
 
 -- what a refused query leaves is left by what hands its refusal on
@@ -32,12 +32,12 @@ looks_handed (Ok y) fault was same look = absurd same
 looks_handed {T = T} {g = g} {old = old} {new = new} (Err f) fault was same look = record {
   goes = look.goes;
   same = λ clean. tt;
-  err = subst (λ (v : Result T Fault). Refuses g whole old new v) was look.err;
+  err = subst (λ (v : Result T Fault). RefusalUndoes g whole old new v) was look.err;
 }
 
 -- of tables of ours whose connection is this one
-module _ {S : Type 0} (g : Ghosts S) {conn tables : Held S} (is : conn ≡ tables) (ours : AreOurs Holds (state g conn)) {X : Type 0} {encode : X → Row} {typed : X → Type 0} {sql : List ℕ} {params : Row} where
-  answered : {part : Lists → List X} {test : X → Bool} → AsksFor encode typed part test (state g tables) sql params → IsHonest g conn → Answers (state g conn) sql params (map encode (filter test (part (seen g lists_of tables))))
+module _ {S : Type 0} (g : Ghosts S) {conn tables : Held S} (is : conn ≡ tables) (ours : AreOurs HoldsTables (state g conn)) {X : Type 0} {encode : X → Row} {typed : X → Type 0} {sql : List ℕ} {params : Row} where
+  answered : {part : Lists → List X} {test : X → Bool} → AsksFor encode typed part test (state g tables) sql params → IsHonest g conn → AnswersWith (state g conn) sql params (map encode (filter test (part (seen g lists_of tables))))
   answered query honest = rw (← is) ((rw (← is) at query).answers (ours honest.0 honest.1).now)
 
   -- the records that a query asks for are what a look answers
@@ -62,16 +62,16 @@ module _ {S : Type 0} (g : Ghosts S) {conn tables : Held S} (is : conn ≡ table
         none (filter query.1 (query.0 now)) (answered query.2 honest).reads (all_kept typed query.1 (query.0 now) (query.2.kept now are_typed))
 
     -- and a refusal is the store's own
-    pub asks : {P T : Type 0} {new : Held S} {r : Result T Fault} → (P → IsUnread encode typed (state g conn) sql params) → OnlyLooks g conn new r → Blames g conn new r P → Asks g tables new r
+    pub asks : {P T : Type 0} {new : Held S} {r : Result T Fault} → (P → IsUnread encode typed (state g conn) sql params) → OnlyLooks g conn new r → StoreFaultHasCause g conn new r P → LooksAtLists g tables new r
     asks why look told = rw (← is) (asked g conn _ _ look told (λ honest it. unread honest (why it)))
 
     -- a refusal that is handed on, too
-    pub refused : {T U P : Type 0} {new : Held S} (r : Result U Fault) {from : Result T Fault} (fault : Fault) → from ≡ Err fault → IsErrAnd r (λ f. f ≡ fault) → (P → IsUnread encode typed (state g conn) sql params) → OnlyLooks g conn new from → Blames g conn new from P → Asks g tables new r
+    pub refused : {T U P : Type 0} {new : Held S} (r : Result U Fault) {from : Result T Fault} (fault : Fault) → from ≡ Err fault → IsErrAnd r (λ f. f ≡ fault) → (P → IsUnread encode typed (state g conn) sql params) → OnlyLooks g conn new from → StoreFaultHasCause g conn new from P → LooksAtLists g tables new r
     refused r fault was same why look told = asks why (looks_handed r fault was same look) (λ clean. handed_on r _ fault was same (λ p. p) (told clean))
 
 -- A look that found a record, which can be told.
-pub told_asks : {S : Type 0} (g : Ghosts S) (old new : Held S) {T P : Type 0} (r : Result T Fault) → Goes g old new → (HasCleanDisk (state g new) → IsSame g lists_of old new)
-    → OnStore r (¬ P) → (IsHonest g new → P) → Asks g old new r
+pub told_asks : {S : Type 0} (g : Ghosts S) (old new : Held S) {T P : Type 0} (r : Result T Fault) → MakesNoCommit g old new → (HasCleanDisk (state g new) → IsSame g lists_of old new)
+    → OnStore r (¬ P) → (IsHonest g new → P) → LooksAtLists g old new r
 told_asks g old new r goes same refused holds = record {
   goes = goes;
   same = λ clean. answered r (same clean);

@@ -10,9 +10,9 @@ use Rattle.sqlite.specs.State.{State, Survives, CommitsBy, Executes, IsMisplaced
 use Rattle.sqlite.specs.Held.{Held, state}
 use Rattle.sqlite.proofs.Callers.{IsPlain, command_of, runs_as}
 use Rattle.dh_faults.specs.declared.fault.Fault.{Fault}
-use Rattle.dh_rows.specs.Calls.{whole, Runs, IsRejected, Stops, Lasts, Blames, OnlyLooks, Stays, Refuses, IsSame, IsRefused, KeepsCommitted, LeavesNoMore}
+use Rattle.dh_rows.specs.Calls.{whole, RunsStatement, IsRejected, RefusalRollsBack, KeepsFaults, StoreFaultHasCause, OnlyLooks, LeavesAllAsItWas, RefusalUndoes, IsSame, IsRefused, KeepsCommitted, LeavesNoMore}
 use Rattle.dh_rows.proofs.Calls.{IsBare, blames, fails, leaves_no_more}
-use Rattle.dh_schema.specs.Calling.{Asks}
+use Rattle.dh_schema.specs.Calling.{LooksAtLists}
 use Rattle.dh_schema.proofs.CallLemmas.{asked}
 
 abbrev pub empty_text : List ℕ
@@ -34,8 +34,8 @@ never_commits s db h =
 
 module _ {S : Type 0} (g : Ghosts S) (old new : Held S) (r : Result (Unit {0}) Fault)
     (survives : Survives (state g old) (state g new) (CommitsBy empty_text [] (state g old)))
-    (ran : Runs g old new empty_text [] r) (lasts : Lasts g old new) (stops : Stops g old new r) (told : IfErr r (IsRejected g old new empty_text [])) where
-  stays : Stays g whole old new r
+    (ran : RunsStatement g old new empty_text [] r) (lasts : KeepsFaults g old new) (stops : RefusalRollsBack g old new r) (told : IfErr r (IsRejected g old new empty_text [])) where
+  stays : LeavesAllAsItWas g whole old new r
   stays clean = go r (ran clean)
     where
       go : (r : Result (Unit {0}) Fault) → OnOk r ((n : ℕ) × Executes empty_text [] (state g old) (state g new) (Ok n)) → OnOk r (IsSame g whole old new)
@@ -47,7 +47,7 @@ module _ {S : Type 0} (g : Ghosts S) (old new : Held S) (r : Result (Unit {0}) F
   pub leaves_nothing : LeavesNoMore g old new
   leaves_nothing = leaves_no_more g old new _ survives (never_commits (state g old))
 
-  refuses : Refuses g whole old new r
+  refuses : RefusalUndoes g whole old new r
   refuses = fails g old new r _ survives stops
 
   kept : KeepsCommitted g old new
@@ -61,12 +61,12 @@ module _ {S : Type 0} (g : Ghosts S) (old new : Held S) (r : Result (Unit {0}) F
   pub looks : OnlyLooks g old new r
   looks = record { goes = record { lasts = lasts; kept = kept; quiet = λ _. leaves_nothing }; same = stays; err = refuses }
 
-  own : Blames g old new r ⊥
+  own : StoreFaultHasCause g old new r ⊥
   own = blames g old new empty_text Nothing is_empty ⊥ r told misplaced
     where
       misplaced : (e : Error) → IsMisplaced (state g old) Nothing e → ⊥
       misplaced e (inl it) = elim it.1 [ inl begins ↦ (let x = begins.0 in cc) | inr ends ↦ elim ends.0 [ inl x ↦ cc | inr x ↦ cc ] ]
       misplaced e (inr it) = elim it.2 [ inl x ↦ cc | inr x ↦ cc ]
 
-  pub answers : Asks g old new r
+  pub answers : LooksAtLists g old new r
   answers = asked g old new r looks own (λ honest none. none)

@@ -4,9 +4,9 @@ use Rattle.dh_rows.specs.Keyed.{by_key}
 use Rattle.dh_rows.proofs.Lists.{rises-sort, by_key_total}
 use Rattle.dh_records.specs.Codings as coding
 use Rattle.dh_records.specs.Constraints.{InOrder, AreInOrder}
-use Rattle.dh_schema.specs.Tables.{Holds, lists_of}
+use Rattle.dh_schema.specs.Tables.{HoldsTables, lists_of}
 
-pub in_order : (db : Database) → Holds db → AreInOrder (lists_of db)
+pub in_order : (db : Database) → HoldsTables db → AreInOrder (lists_of db)
 in_order db h = record {
   projects = rises-sort (by_key coding.projects.key) (by_key_total coding.projects.key) _ h.projects.rows.keyed;
   langs = rises-sort (by_key coding.langs.key) (by_key_total coding.langs.key) _ h.langs.rows.keyed;
@@ -20,5 +20,5 @@ in_order db h = record {
   redirects = rises-sort (by_key coding.redirects.key) (by_key_total coding.redirects.key) _ h.redirects.rows.keyed;
 }
 
-pub routes_in_order : (db : Database) → Holds db → InOrder coding.routes.key (lists_of db).routes
+pub routes_in_order : (db : Database) → HoldsTables db → InOrder coding.routes.key (lists_of db).routes
 routes_in_order db h = rises-sort (by_key coding.routes.key) (by_key_total coding.routes.key) _ h.routes.rows.keyed

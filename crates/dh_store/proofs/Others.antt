@@ -5,12 +5,12 @@ use Rattle.sqlite_schema.specs.declared.schema.Table.{Table}
 use Rattle.sqlite_schema.specs.Names.{same_name}
 use Rattle.sqlite.specs.Effect.{Database}
 use Rattle.dh_rows.specs.Keyed.{Coding}
-use Rattle.dh_rows.specs.Places.{Keeps, records_of}
-use Rattle.dh_rows.proofs.Effects.{Turns, other_keeps}
+use Rattle.dh_rows.specs.Places.{KeepsTable, records_of}
+use Rattle.dh_rows.proofs.Effects.{TurnsTable, other_keeps}
 use Rattle.dh_records.specs.Codings as coding
 use Rattle.dh_records.specs.Lists.{Lists}
 use Rattle.dh_records.specs.Typed.{AreTyped, IsProject, IsLanguage, IsVersion, IsPage, IsUsed, IsPick, IsPass, IsHeld, IsRule, IsRedirect, IsAlias, IsRoute}
-use Rattle.dh_schema.specs.Tables.{Holds, lists_of, meta, meta_table, project_table, lang_table, version_table, page_table, used_table, pick_table, pass_table, holds_table, rule_table, redirect_table, alias_table, route_table}
+use Rattle.dh_schema.specs.Tables.{HoldsTables, lists_of, meta, meta_table, project_table, lang_table, version_table, page_table, used_table, pick_table, pass_table, holds_table, rule_table, redirect_table, alias_table, route_table}
 use Rattle.dh_schema.proofs.CallLemmas.{Changed}
 
 abbrev pub if_so : Bool → Type 0 → Type 0 → Type 0
@@ -20,7 +20,7 @@ if_so false A B = B
 module _ (t : Table) (db after : Database) where
   -- the table has these records, which can be read again
   pub record Has {Y : Type 0} (u : Table) (d : Coding Y) (P : Y → Type 0) (rows : List Y) : Type 0 where
-    pub keeps : Keeps u d after
+    pub keeps : KeepsTable u d after
     pub records : records_of d u.name after ≡ rows
     pub typed : AllByRecursion P rows
 
@@ -42,15 +42,15 @@ module _ (t : Table) (db after : Database) where
     pub aliases : Part alias_table coding.aliases IsAlias next.aliases
     pub routes : Part route_table coding.routes IsRoute next.routes
 
-  module _ {X : Type 0} {c : Coding X} {change : List X → List X} (it : Turns t c change db after) where
-    part : {Y : Type 0} (u : Table) (d : Coding Y) (P : Y → Type 0) (rows : List Y) → Keeps u d db → AllByRecursion P (records_of d u.name db) → Part u d P rows → Has u d P rows
+  module _ {X : Type 0} {c : Coding X} {change : List X → List X} (it : TurnsTable t c change db after) where
+    part : {Y : Type 0} (u : Table) (d : Coding Y) (P : Y → Type 0) (rows : List Y) → KeepsTable u d db → AllByRecursion P (records_of d u.name db) → Part u d P rows → Has u d P rows
     part u d P rows had typed own = go (same_name u.name t.name) refl own
       where
         go : (b : Bool) → same_name u.name t.name ≡ b → if_so b (Has u d P rows) (records_of d u.name db ≡ rows) → Has u d P rows
         go true e own = own
         go false e same = let o = other_keeps it u d had e in record { keeps = o.0; records = o.1 ∙ same; typed = subst (AllByRecursion P) same typed }
 
-    pub changed : (f : Lists → Lists) → Holds db → same_name meta_table.name t.name ≡ false → Parts (f (lists_of db)) → Changed db after f
+    pub changed : (f : Lists → Lists) → HoldsTables db → same_name meta_table.name t.name ≡ false → Parts (f (lists_of db)) → Changed db after f
     changed f had apart p =
         let m = other_keeps it meta_table meta had.meta apart in
         let project = part project_table coding.projects IsProject _ had.projects had.typed.projects p.projects in

@@ -4,11 +4,11 @@ use Rattle.std.proofs.Math.Seq.{drop-nil}
 use Rattle.std.specs.List.{AllByRecursion}
 use Rattle.sqlite_trees.specs.declared.store.Store.{Ghosts}
 use Rattle.sqlite.specs.Held.{Held}
-use Rattle.dh_rows.specs.Calls.{IsHonest, Goes, GoesWithin, Sees, seen}
+use Rattle.dh_rows.specs.Calls.{IsHonest, MakesNoCommit, MakesNoCommitInside, NowShows, seen}
 use Rattle.dh_rows.specs.Keyed.{added}
 use Rattle.dh_records.specs.declared.records.PickRow.{PickRow}
 use Rattle.dh_faults.specs.declared.fault.Fault.{Fault}
-use Rattle.dh_schema.specs.Calling.{Writes, WritesWithin}
+use Rattle.dh_schema.specs.Calling.{ChangesLists, ChangesListsInside}
 use Rattle.dh_records.specs.Changes as change
 use Rattle.dh_records.specs.Codings as coding
 use Rattle.dh_schema.specs.InTurn.{goes_none, goes_on, goes_within}
@@ -30,8 +30,8 @@ none_left (x ∷ names) (suc i) past = none_left names i (omega arith)
 module _ {S : Type 0} (g : Ghosts S) (host : List ℕ) (names : List (List ℕ)) (old : Held S) where
   -- The first i names are added: what is left to add makes of the defaults what all names make of those before.
   pub record AreAdded (now : Held S) (i : ℕ) : Type 0 where
-    pub goes : Goes g old now
-    pub sees : Sees g lists_of old now (record (seen g lists_of old) { picks = (seen g lists_of now).picks })
+    pub goes : MakesNoCommit g old now
+    pub sees : NowShows g lists_of old now (record (seen g lists_of old) { picks = (seen g lists_of now).picks })
     pub left : IsHonest g now → with_picks (ranked host (i + 1) (drop i names)) (seen g lists_of now).picks ≡ with_picks (ranked host 1 names) (seen g lists_of old).picks
     pub below : IsHonest g now → AreBelow host (i + 1) (seen g lists_of now).picks
 
@@ -48,11 +48,11 @@ module _ {S : Type 0} (g : Ghosts S) (host : List ℕ) (names : List (List ℕ))
     at honest = had.sees.mode honest ∙ within (had.goes.lasts.was honest)
 
     -- whatever the next call answers
-    pub more_goes : GoesWithin g now next → Goes g old next
+    pub more_goes : MakesNoCommitInside g now next → MakesNoCommit g old next
     more_goes it = goes_on had.goes had.sees.live (goes_within it at)
 
     -- one more is added
-    pub one_more : (name d : List ℕ) → i < length names → name ≡ slice_index_or names i d → Writes g now next (Ok (tt {0})) (change.add_pick (pick_row host name (i + 1))) → AreAdded next (i + 1)
+    pub one_more : (name d : List ℕ) → i < length names → name ≡ slice_index_or names i d → ChangesLists g now next (Ok (tt {0})) (change.add_pick (pick_row host name (i + 1))) → AreAdded next (i + 1)
     one_more name d h e it =
         let x : PickRow = pick_row host name (i + 1) in
         let was : IsHonest g next → IsHonest g now = it.goes.lasts.was in
@@ -75,7 +75,7 @@ module _ {S : Type 0} (g : Ghosts S) (host : List ℕ) (names : List (List ℕ))
         }
 
   -- all are added
-  pub all_added : (now : Held S) (i : ℕ) → length names ≤ i → AreAdded now i → WritesWithin g old now (Ok (tt {0})) (change.with_picks (ranked host 1 names))
+  pub all_added : (now : Held S) (i : ℕ) → length names ≤ i → AreAdded now i → ChangesListsInside g old now (Ok (tt {0})) (change.with_picks (ranked host 1 names))
   all_added now i past had =
       let lists : (honest : IsHonest g now) → seen g lists_of now ≡ change.with_picks (ranked host 1 names) (seen g lists_of old) = λ honest.
       had.sees.now_is honest ∙ ap (λ p. record (seen g lists_of old) { picks = p }) (ap (λ ns. with_picks (ranked host (i + 1) ns) (seen g lists_of now).picks) (sym (none_left names i past)) ∙ had.left honest) in
@@ -90,13 +90,13 @@ pub taken_out : (host : List ℕ) (now before : Lists) → now ≡ record before
 taken_out host now before e = subst (λ (l : Lists). AllByRecursion (λ r. is_pick_of host r ≡ false) l.picks) (sym e) (all_taken_out host before.picks)
 
 module _ {S : Type 0} (g : Ghosts S) (old middle new : Held S) (host : List ℕ) (names : List (List ℕ)) (r : Result (Unit {0}) Fault) where
-  pub set_after : (IsHonest g old → old.in_transaction ≡ true) → Writes g old middle (Ok (tt {0})) (change.drop_picks host) → WritesWithin g middle new r (change.with_picks (ranked host 1 names)) → WritesWithin g old new r (change.set_picks host names)
+  pub set_after : (IsHonest g old → old.in_transaction ≡ true) → ChangesLists g old middle (Ok (tt {0})) (change.drop_picks host) → ChangesListsInside g middle new r (change.with_picks (ranked host 1 names)) → ChangesListsInside g old new r (change.set_picks host names)
   set_after within dropped it = record {
     goes = goes_on (goes_within dropped.goes within) dropped.sees.live it.goes;
     sees = go r it.sees;
   }
     where
-      go : (r : Result (Unit {0}) Fault) → OnOk r (Sees g lists_of middle new (change.with_picks (ranked host 1 names) (seen g lists_of middle))) → OnOk r (Sees g lists_of old new (change.set_picks host names (seen g lists_of old)))
+      go : (r : Result (Unit {0}) Fault) → OnOk r (NowShows g lists_of middle new (change.with_picks (ranked host 1 names) (seen g lists_of middle))) → OnOk r (NowShows g lists_of old new (change.set_picks host names (seen g lists_of old)))
       go (Ok u) sees =
           let was : IsHonest g new → IsHonest g middle = it.goes.lasts.was in
           let lists : (honest : IsHonest g new) → seen g lists_of new ≡ change.set_picks host names (seen g lists_of old) = λ honest. sees.now_is honest ∙ ap (change.with_picks (ranked host 1 names)) (dropped.sees.now_is (was honest)) in

@@ -10,7 +10,7 @@ use Rattle.dh_records.specs.Constraints.{InOrder}
 use Rattle.dh_records.specs.Lists.{Lists, placed, put_all}
 use Rattle.dh_records.proofs.OrderLemmas.{put_in_order}
 use Rattle.dh_records.proofs.PlaceLemmas.{count_placed}
-use Rattle.dh_schema.specs.Calling.{Asks, Writes, WritesWithin}
+use Rattle.dh_schema.specs.Calling.{LooksAtLists, ChangesLists, ChangesListsInside}
 use Rattle.dh_schema.specs.Tables.{lists_of}
 use Rattle.dh_store.specs.Listing.{Listing, all_put, is_own, key_of, put_one, list_set, without_behind}
 use Rattle.dh_store.proofs.ListLemmas.{Has, has_at, has_back, has_put, put_there, places_apart, next_placed}
@@ -49,7 +49,7 @@ module _ {S : Type 0} (g : Ghosts S) {X V : Type 0} (l : Listing X V) (host : Li
       next_is : drop i (placed (l.row host) 1 vs) ≡ x ∷ drop (suc i) (placed (l.row host) 1 vs)
       next_is = next_placed (l.row host) 1 i vs v at ∙ ap (λ n. l.row host n v ∷ drop (suc i) (placed (l.row host) 1 vs)) (omega (arith, here))
 
-      pub one_set : {next : Held S} → Writes g now next (Ok (tt {0})) (put_one l x) → AreSet vs rows old next (i + 1)
+      pub one_set : {next : Held S} → ChangesLists g now next (Ok (tt {0})) (put_one l x) → AreSet vs rows old next (i + 1)
       one_set {next = next} it =
           let rows_are : (honest : IsHonest g next) → l.part (seen g lists_of next) ≡ put (key_of l) x (l.part (seen g lists_of now)) = λ honest. ap l.part (it.sees.now_is honest) ∙ l.is_part.0 _ (seen g lists_of now) in
           record {
@@ -77,7 +77,7 @@ module _ {S : Type 0} (g : Ghosts S) {X V : Type 0} (l : Listing X V) (host : Li
       }
 
     pub all_set : (IsHonest g old → old.in_transaction ≡ true) → {now : Held S} {i : ℕ} → AreSet vs rows old now i → length vs ≤ i
-        → WritesWithin g old now (Ok (tt {0})) (all_put l host vs)
+        → ChangesListsInside g old now (Ok (tt {0})) (all_put l host vs)
     all_set within {now = now} {i = i} had past =
         let many = count_placed (l.row host) 1 vs in
         same_change g (λ honest. puts_all (placed (l.row host) 1 vs) (seen g lists_of old))
@@ -85,8 +85,8 @@ module _ {S : Type 0} (g : Ghosts S) {X V : Type 0} (l : Listing X V) (host : Li
 
   -- ---- those behind are dropped, and after a look the others are put
 
-  pub set_after : (vs : List V) {old dropped middle new : Held S} {r : Result (Unit {0}) Fault} {T : Type 0} {read : T} → (IsHonest g old → old.in_transaction ≡ true) → Writes g old dropped (Ok (tt {0})) (without_behind l host (length vs)) → Asks g dropped middle (Ok read)
-      → WritesWithin g middle new r (all_put l host vs)
-      → WritesWithin g old new r (list_set l host vs)
+  pub set_after : (vs : List V) {old dropped middle new : Held S} {r : Result (Unit {0}) Fault} {T : Type 0} {read : T} → (IsHonest g old → old.in_transaction ≡ true) → ChangesLists g old dropped (Ok (tt {0})) (without_behind l host (length vs)) → LooksAtLists g dropped middle (Ok read)
+      → ChangesListsInside g middle new r (all_put l host vs)
+      → ChangesListsInside g old new r (list_set l host vs)
   set_after vs within gone look it =
       in_turn g _ _ _ _ (without_behind l host (length vs)) (all_put l host vs) (within_one g gone within) (after_look g _ _ _ _ _ _ look it)

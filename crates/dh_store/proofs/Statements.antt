@@ -30,12 +30,12 @@ use Rattle.dh_world.specs.World.{is_upload}
 use Rattle.dh_records.specs.Typed.{IsProject, IsLanguage, IsVersion, IsPage, IsUsed, IsPick, IsPass, IsHeld, IsRule, IsRedirect, IsAlias, IsRoute}
 use Rattle.dh_records.specs.Codings.{projects, langs, versions, pages, used, picks, passes, held, rules, redirects, aliases, routes, alias_number}
 use Rattle.dh_records.specs.Changes as change
-use Rattle.dh_schema.specs.Tables.{Holds, lists_of, project_table, lang_table, version_table, page_table, used_table, pick_table, pass_table, holds_table, rule_table, redirect_table, alias_table, route_table}
+use Rattle.dh_schema.specs.Tables.{HoldsTables, lists_of, project_table, lang_table, version_table, page_table, used_table, pick_table, pass_table, holds_table, rule_table, redirect_table, alias_table, route_table}
 use Rattle.dh_records.specs.Lists.{is_project, is_lang_of, is_version_of, is_version, is_page_of, is_page_in, is_page, is_used, same_op, is_pick_of, is_pass_of, is_pass, is_held, is_held_by, is_held_on, is_rule_of, is_rule_behind, is_redirect_of, is_redirect_behind, is_alias_of, is_alias_at, same_alias, is_route_of, is_route_in}
 use Rattle.dh_store.proofs.Matching.{equal_text, above_place, equal_alias, equal_op, equal_place}
 use Rattle.dh_store.specs.Listing.{is_redirect_at}
 use Rattle.dh_records.proofs.Keys.{one, two, three, four}
-use Rattle.dh_store.specs.Meanings.{Alters, AsksFor}
+use Rattle.dh_store.specs.Meanings.{AltersLists, AsksFor}
 use Rattle.dh_store.proofs.OneTable.{asks, deletes, deletes_above, inserts, upserts}
 use Rattle.dh_store.proofs.OurTables.{of_projects, of_langs, of_versions, of_pages, of_used, of_picks, of_passes, of_held, of_rules, of_redirects, of_aliases, of_routes}
 
@@ -116,7 +116,7 @@ add_project_read : (schema : Schema) (tree : ℕ) → insert_of schema (record p
 unfolding everything
 add_project_read schema tree = refl
 
-pub add_project_alters : (s : State) → Holds s.now → (x : ProjectRow) → IsProject x → IsFreeKey projects.key x (lists_of s.now).projects → Alters s add_project_text (projects.encode x) (change.add_project x)
+pub add_project_alters : (s : State) → HoldsTables s.now → (x : ProjectRow) → IsProject x → IsFreeKey projects.key x (lists_of s.now).projects → AltersLists s add_project_text (projects.encode x) (change.add_project x)
 add_project_alters s had x typed free = inserts of_projects s had x typed add_project_text _ _ add_project_read (tt, (tt, (tt, (tt, (tt, tt))))) refl free
 
 abbrev pub add_lang_text : List ℕ
@@ -126,7 +126,7 @@ add_lang_read : (schema : Schema) (tree : ℕ) → insert_of schema (record lang
 unfolding everything
 add_lang_read schema tree = refl
 
-pub add_lang_alters : (s : State) → Holds s.now → (x : LangRow) → IsLanguage x → IsFreeKey langs.key x (lists_of s.now).langs → Alters s add_lang_text (langs.encode x) (change.add_lang x)
+pub add_lang_alters : (s : State) → HoldsTables s.now → (x : LangRow) → IsLanguage x → IsFreeKey langs.key x (lists_of s.now).langs → AltersLists s add_lang_text (langs.encode x) (change.add_lang x)
 add_lang_alters s had x typed free = inserts of_langs s had x typed add_lang_text _ _ add_lang_read (tt, (tt, (tt, tt))) refl free
 
 abbrev pub keep_text : List ℕ
@@ -136,7 +136,7 @@ keep_read : (schema : Schema) (tree : ℕ) → insert_of schema (record used_tab
 unfolding everything
 keep_read schema tree = refl
 
-pub keep_alters : (s : State) → Holds s.now → (x : UsedRow) → IsUsed x → IsFreeKey used.key x (lists_of s.now).used → Alters s keep_text (used.encode x) (change.add_used x)
+pub keep_alters : (s : State) → HoldsTables s.now → (x : UsedRow) → IsUsed x → IsFreeKey used.key x (lists_of s.now).used → AltersLists s keep_text (used.encode x) (change.add_used x)
 keep_alters s had x typed free = inserts of_used s had x typed keep_text _ _ keep_read (tt, (tt, (tt, (tt, (tt, tt))))) refl free
 
 abbrev pub drop_pages_of_text : List ℕ
@@ -146,7 +146,7 @@ drop_pages_of_read : delete_of page_table drop_pages_of_text ≡ Some ((0, 0) �
 unfolding everything
 drop_pages_of_read = refl
 
-pub drop_pages_of_alters : (s : State) → Holds s.now → (host slug : List ℕ) → Alters s drop_pages_of_text (Text host ∷ Text slug ∷ []) (change.drop_pages host slug None)
+pub drop_pages_of_alters : (s : State) → HoldsTables s.now → (host slug : List ℕ) → AltersLists s drop_pages_of_text (Text host ∷ Text slug ∷ []) (change.drop_pages host slug None)
 drop_pages_of_alters s had host slug = deletes of_pages s had drop_pages_of_text _ drop_pages_of_read _ (is_page_of host slug) (λ n x. rw (equal_text x.host host, equal_text x.slug slug) (two (bytes_eq x.host host) (bytes_eq x.slug slug)))
 
 abbrev pub drop_pages_in_text : List ℕ
@@ -156,7 +156,7 @@ drop_pages_in_read : delete_of page_table drop_pages_in_text ≡ Some ((0, 0) �
 unfolding everything
 drop_pages_in_read = refl
 
-pub drop_pages_in_alters : (s : State) → Holds s.now → (host slug lang : List ℕ) → Alters s drop_pages_in_text (Text host ∷ Text slug ∷ Text lang ∷ []) (change.drop_pages host slug (Some lang))
+pub drop_pages_in_alters : (s : State) → HoldsTables s.now → (host slug lang : List ℕ) → AltersLists s drop_pages_in_text (Text host ∷ Text slug ∷ Text lang ∷ []) (change.drop_pages host slug (Some lang))
 drop_pages_in_alters s had host slug lang = deletes of_pages s had drop_pages_in_text _ drop_pages_in_read _ (is_page_in host slug lang) (λ n x. rw (equal_text x.host host, equal_text x.slug slug, equal_text x.lang lang) (three (bytes_eq x.host host) (bytes_eq x.slug slug) (bytes_eq x.lang lang)))
 
 -- ---- records put in place of those with their keys
@@ -186,7 +186,7 @@ put_version_fits x = record {
       rw (alike_text y.host x.host host.0, alike_text y.version.slug x.version.slug slug.0) refl;
 }
 
-pub put_version_alters : (s : State) → Holds s.now → (x : VersionRow) → IsVersion x → Alters s put_version_text (versions.encode x) (change.put_version x)
+pub put_version_alters : (s : State) → HoldsTables s.now → (x : VersionRow) → IsVersion x → AltersLists s put_version_text (versions.encode x) (change.put_version x)
 put_version_alters s had x typed = upserts of_versions s had x typed (1 ∷ 2 ∷ []) version_key put_version_text _ 8 7 put_version_new put_version_read refl (put_version_fits x) refl
 
 page_key : IsKeyOf page_table (1 ∷ 2 ∷ 3 ∷ 4 ∷ [])
@@ -216,7 +216,7 @@ put_page_fits x = record {
       rw (alike_text y.host x.host host.0, alike_text y.slug x.slug slug.0, alike_text y.lang x.lang lang.0, alike_text y.path x.path path.0) refl;
 }
 
-pub put_page_alters : (s : State) → Holds s.now → (x : PageRow) → IsPage x → Alters s put_page_text (pages.encode x) (change.put_page x)
+pub put_page_alters : (s : State) → HoldsTables s.now → (x : PageRow) → IsPage x → AltersLists s put_page_text (pages.encode x) (change.put_page x)
 put_page_alters s had x typed = upserts of_pages s had x typed (1 ∷ 2 ∷ 3 ∷ 4 ∷ []) page_key put_page_text _ 7 6 put_page_new put_page_read refl (put_page_fits x) refl
 
 -- ---- defaults, passes and grants
@@ -268,14 +268,14 @@ add_pick_read : (schema : Schema) (tree : ℕ) → insert_of schema (record pick
 unfolding everything
 add_pick_read schema tree = refl
 
-pub add_pick_alters : (s : State) → Holds s.now → (x : PickRow) → IsPick x → IsFreeKey picks.key x (lists_of s.now).picks → Alters s add_pick_text (picks.encode x) (change.add_pick x)
+pub add_pick_alters : (s : State) → HoldsTables s.now → (x : PickRow) → IsPick x → IsFreeKey picks.key x (lists_of s.now).picks → AltersLists s add_pick_text (picks.encode x) (change.add_pick x)
 add_pick_alters s had x typed free = inserts of_picks s had x typed add_pick_text _ _ add_pick_read (tt, (tt, (tt, tt))) refl free
 
 -- the same, where the rank is a number that SQL counts with
-pub add_pick_ranked : (s : State) → Holds s.now → (x : PickRow) → IsPick x → (rank : ℤ) → rank ≡ pos x.rank → IsFreeKey picks.key x (lists_of s.now).picks
-    → Alters s add_pick_text (Text x.host ∷ Text x.name ∷ Int rank ∷ []) (change.add_pick x)
+pub add_pick_ranked : (s : State) → HoldsTables s.now → (x : PickRow) → IsPick x → (rank : ℤ) → rank ≡ pos x.rank → IsFreeKey picks.key x (lists_of s.now).picks
+    → AltersLists s add_pick_text (Text x.host ∷ Text x.name ∷ Int rank ∷ []) (change.add_pick x)
 add_pick_ranked s had x typed rank e free =
-    subst (λ n. Alters s add_pick_text (Text x.host ∷ Text x.name ∷ Int n ∷ []) (change.add_pick x)) (sym e) (add_pick_alters s had x typed free)
+    subst (λ n. AltersLists s add_pick_text (Text x.host ∷ Text x.name ∷ Int n ∷ []) (change.add_pick x)) (sym e) (add_pick_alters s had x typed free)
 
 abbrev pub add_pass_text : List ℕ
 add_pass_text = codes "INSERT INTO pass VALUES (?1, ?2, ?3)"
@@ -284,7 +284,7 @@ add_pass_read : (schema : Schema) (tree : ℕ) → insert_of schema (record pass
 unfolding everything
 add_pass_read schema tree = refl
 
-pub add_pass_alters : (s : State) → Holds s.now → (x : PassRow) → IsPass x → IsFreeKey passes.key x (lists_of s.now).passes → Alters s add_pass_text (passes.encode x) (change.add_pass x)
+pub add_pass_alters : (s : State) → HoldsTables s.now → (x : PassRow) → IsPass x → IsFreeKey passes.key x (lists_of s.now).passes → AltersLists s add_pass_text (passes.encode x) (change.add_pass x)
 add_pass_alters s had x typed free = inserts of_passes s had x typed add_pass_text _ _ add_pass_read (tt, (tt, (tt, tt))) refl free
 
 abbrev pub add_grant_text : List ℕ
@@ -294,7 +294,7 @@ add_grant_read : (schema : Schema) (tree : ℕ) → insert_of schema (record hol
 unfolding everything
 add_grant_read schema tree = refl
 
-pub add_grant_alters : (s : State) → Holds s.now → (x : HeldRow) → IsHeld x → IsFreeKey held.key x (lists_of s.now).held → Alters s add_grant_text (held.encode x) (change.add_grant x)
+pub add_grant_alters : (s : State) → HoldsTables s.now → (x : HeldRow) → IsHeld x → IsFreeKey held.key x (lists_of s.now).held → AltersLists s add_grant_text (held.encode x) (change.add_grant x)
 add_grant_alters s had x typed free = inserts of_held s had x typed add_grant_text _ _ add_grant_read (tt, (tt, (tt, tt))) refl free
 
 abbrev pub drop_picks_text : List ℕ
@@ -304,7 +304,7 @@ drop_picks_read : delete_of pick_table drop_picks_text ≡ Some ((0, 0) ∷ [])
 unfolding everything
 drop_picks_read = refl
 
-pub drop_picks_alters : (s : State) → Holds s.now → (host : List ℕ) → Alters s drop_picks_text (Text host ∷ []) (change.drop_picks host)
+pub drop_picks_alters : (s : State) → HoldsTables s.now → (host : List ℕ) → AltersLists s drop_picks_text (Text host ∷ []) (change.drop_picks host)
 drop_picks_alters s had host = deletes of_picks s had drop_picks_text _ drop_picks_read _ (is_pick_of host) (λ n x. rw (equal_text x.host host) (one (bytes_eq x.host host)))
 
 abbrev pub drop_pass_text : List ℕ
@@ -314,7 +314,7 @@ drop_pass_read : delete_of pass_table drop_pass_text ≡ Some ((0, 0) ∷ (1, 1)
 unfolding everything
 drop_pass_read = refl
 
-pub drop_pass_alters : (s : State) → Holds s.now → (host pass : List ℕ) → Alters s drop_pass_text (Text host ∷ Text pass ∷ []) (change.drop_pass host pass)
+pub drop_pass_alters : (s : State) → HoldsTables s.now → (host pass : List ℕ) → AltersLists s drop_pass_text (Text host ∷ Text pass ∷ []) (change.drop_pass host pass)
 drop_pass_alters s had host pass = deletes of_passes s had drop_pass_text _ drop_pass_read _ (is_pass host pass) (λ n x. rw (equal_text x.host host, equal_text x.pass pass) (two (bytes_eq x.host host) (bytes_eq x.pass pass)))
 
 abbrev pub revoke_text : List ℕ
@@ -324,7 +324,7 @@ revoke_read : delete_of holds_table revoke_text ≡ Some ((0, 0) ∷ (1, 1) ∷ 
 unfolding everything
 revoke_read = refl
 
-pub revoke_alters : (s : State) → Holds s.now → (host pass slug : List ℕ) → Alters s revoke_text (Text host ∷ Text pass ∷ Text slug ∷ []) (change.revoke host pass slug)
+pub revoke_alters : (s : State) → HoldsTables s.now → (host pass slug : List ℕ) → AltersLists s revoke_text (Text host ∷ Text pass ∷ Text slug ∷ []) (change.revoke host pass slug)
 revoke_alters s had host pass slug = deletes of_held s had revoke_text _ revoke_read _ (is_held host pass slug) (λ n x. rw (equal_text x.host host, equal_text x.pass pass, equal_text x.slug slug) (three (bytes_eq x.host host) (bytes_eq x.pass pass) (bytes_eq x.slug slug)))
 
 abbrev pub drop_grants_of_text : List ℕ
@@ -334,7 +334,7 @@ drop_grants_of_read : delete_of holds_table drop_grants_of_text ≡ Some ((0, 0)
 unfolding everything
 drop_grants_of_read = refl
 
-pub drop_grants_of_alters : (s : State) → Holds s.now → (host slug : List ℕ) → Alters s drop_grants_of_text (Text host ∷ Text slug ∷ []) (change.drop_grants_of host slug)
+pub drop_grants_of_alters : (s : State) → HoldsTables s.now → (host slug : List ℕ) → AltersLists s drop_grants_of_text (Text host ∷ Text slug ∷ []) (change.drop_grants_of host slug)
 drop_grants_of_alters s had host slug = deletes of_held s had drop_grants_of_text _ drop_grants_of_read _ (is_held_on host slug) (λ n x. rw (equal_text x.host host, equal_text x.slug slug) (two (bytes_eq x.host host) (bytes_eq x.slug slug)))
 
 abbrev pub drop_grants_by_text : List ℕ
@@ -344,7 +344,7 @@ drop_grants_by_read : delete_of holds_table drop_grants_by_text ≡ Some ((0, 0)
 unfolding everything
 drop_grants_by_read = refl
 
-pub drop_grants_by_alters : (s : State) → Holds s.now → (host pass : List ℕ) → Alters s drop_grants_by_text (Text host ∷ Text pass ∷ []) (change.drop_grants_by host pass)
+pub drop_grants_by_alters : (s : State) → HoldsTables s.now → (host pass : List ℕ) → AltersLists s drop_grants_by_text (Text host ∷ Text pass ∷ []) (change.drop_grants_by host pass)
 drop_grants_by_alters s had host pass = deletes of_held s had drop_grants_by_text _ drop_grants_by_read _ (is_held_by host pass) (λ n x. rw (equal_text x.host host, equal_text x.pass pass) (two (bytes_eq x.host host) (bytes_eq x.pass pass)))
 
 abbrev pub drop_version_text : List ℕ
@@ -354,7 +354,7 @@ drop_version_read : delete_of version_table drop_version_text ≡ Some ((0, 0) �
 unfolding everything
 drop_version_read = refl
 
-pub drop_version_alters : (s : State) → Holds s.now → (host slug : List ℕ) → Alters s drop_version_text (Text host ∷ Text slug ∷ []) (change.drop_version host slug)
+pub drop_version_alters : (s : State) → HoldsTables s.now → (host slug : List ℕ) → AltersLists s drop_version_text (Text host ∷ Text slug ∷ []) (change.drop_version host slug)
 drop_version_alters s had host slug = deletes of_versions s had drop_version_text _ drop_version_read _ (is_version host slug) (λ n x. rw (equal_text x.host host, equal_text x.version.slug slug) (two (bytes_eq x.host host) (bytes_eq x.version.slug slug)))
 
 abbrev pub held_by_text : List ℕ
@@ -404,7 +404,7 @@ put_rule_fits x = record {
       rw (alike_text y.host x.host host.0, alike_int (pos y.place) (pos x.place) place.0) refl;
 }
 
-pub put_rule_alters : (s : State) → Holds s.now → (x : RuleRow) → IsRule x → Alters s put_rule_text (rules.encode x) (change.put_rule x)
+pub put_rule_alters : (s : State) → HoldsTables s.now → (x : RuleRow) → IsRule x → AltersLists s put_rule_text (rules.encode x) (change.put_rule x)
 put_rule_alters s had x typed = upserts of_rules s had x typed (1 ∷ 2 ∷ []) rule_key put_rule_text _ 6 5 put_rule_new put_rule_read refl (put_rule_fits x) refl
 
 abbrev pub drop_rules_behind_text : List ℕ
@@ -414,7 +414,7 @@ drop_rules_behind_read : delete_above_of rule_table drop_rules_behind_text ≡ S
 unfolding everything
 drop_rules_behind_read = refl
 
-pub drop_rules_behind_alters : (s : State) → Holds s.now → (host : List ℕ) (count : ℕ) → Alters s drop_rules_behind_text (Text host ∷ Int (pos count) ∷ []) (change.drop_rules_behind host count)
+pub drop_rules_behind_alters : (s : State) → HoldsTables s.now → (host : List ℕ) (count : ℕ) → AltersLists s drop_rules_behind_text (Text host ∷ Int (pos count) ∷ []) (change.drop_rules_behind host count)
 drop_rules_behind_alters s had host count = deletes_above of_rules s had drop_rules_behind_text _ _ drop_rules_behind_read _ (is_rule_behind host count) (λ n x. rw (equal_text x.host host, above_place x.place count) (two (bytes_eq x.host host) (nat_lt count x.place)))
 
 -- ---- redirects
@@ -464,7 +464,7 @@ put_redirect_fits x = record {
       rw (alike_text y.host x.host host.0, alike_int (pos y.place) (pos x.place) place.0) refl;
 }
 
-pub put_redirect_alters : (s : State) → Holds s.now → (x : RedirectRow) → IsRedirect x → Alters s put_redirect_text (redirects.encode x) (change.put_redirect x)
+pub put_redirect_alters : (s : State) → HoldsTables s.now → (x : RedirectRow) → IsRedirect x → AltersLists s put_redirect_text (redirects.encode x) (change.put_redirect x)
 put_redirect_alters s had x typed = upserts of_redirects s had x typed (1 ∷ 2 ∷ []) redirect_key put_redirect_text _ 8 7 put_redirect_new put_redirect_read refl (put_redirect_fits x) refl
 
 abbrev pub drop_redirects_behind_text : List ℕ
@@ -474,7 +474,7 @@ drop_redirects_behind_read : delete_above_of redirect_table drop_redirects_behin
 unfolding everything
 drop_redirects_behind_read = refl
 
-pub drop_redirects_behind_alters : (s : State) → Holds s.now → (host : List ℕ) (count : ℕ) → Alters s drop_redirects_behind_text (Text host ∷ Int (pos count) ∷ []) (change.drop_redirects_behind host count)
+pub drop_redirects_behind_alters : (s : State) → HoldsTables s.now → (host : List ℕ) (count : ℕ) → AltersLists s drop_redirects_behind_text (Text host ∷ Int (pos count) ∷ []) (change.drop_redirects_behind host count)
 drop_redirects_behind_alters s had host count = deletes_above of_redirects s had drop_redirects_behind_text _ _ drop_redirects_behind_read _ (is_redirect_behind host count) (λ n x. rw (equal_text x.host host, above_place x.place count) (two (bytes_eq x.host host) (nat_lt count x.place)))
 
 -- ---- aliases
@@ -525,7 +525,7 @@ put_alias_fits x = record {
       rw (alike_text y.host x.host host.0, alike_text y.class x.class class.0, alike_int (pos (alias_number y.name)) (pos (alias_number x.name)) name.0) refl;
 }
 
-pub put_alias_alters : (s : State) → Holds s.now → (x : AliasRow) → IsAlias x → Alters s put_alias_text (aliases.encode x) (change.put_alias x)
+pub put_alias_alters : (s : State) → HoldsTables s.now → (x : AliasRow) → IsAlias x → AltersLists s put_alias_text (aliases.encode x) (change.put_alias x)
 put_alias_alters s had x typed = upserts of_aliases s had x typed (1 ∷ 2 ∷ 3 ∷ []) alias_key put_alias_text _ 5 4 put_alias_new put_alias_read refl (put_alias_fits x) refl
 
 abbrev pub drop_alias_text : List ℕ
@@ -535,7 +535,7 @@ drop_alias_read : delete_of alias_table drop_alias_text ≡ Some ((0, 0) ∷ (1,
 unfolding everything
 drop_alias_read = refl
 
-pub drop_alias_alters : (s : State) → Holds s.now → (host class : List ℕ) (name : AliasName) → Alters s drop_alias_text (Text host ∷ Text class ∷ Int (pos (alias_number name)) ∷ []) (change.drop_alias host class name)
+pub drop_alias_alters : (s : State) → HoldsTables s.now → (host class : List ℕ) (name : AliasName) → AltersLists s drop_alias_text (Text host ∷ Text class ∷ Int (pos (alias_number name)) ∷ []) (change.drop_alias host class name)
 drop_alias_alters s had host class name = deletes of_aliases s had drop_alias_text _ drop_alias_read _ (is_alias_at host class name) (λ n x. rw (equal_text x.host host, equal_text x.class class, equal_alias x.name name) (three (bytes_eq x.host host) (bytes_eq x.class class) (same_alias x.name name)))
 
 abbrev pub drop_aliases_text : List ℕ
@@ -545,7 +545,7 @@ drop_aliases_read : delete_of alias_table drop_aliases_text ≡ Some ((0, 0) ∷
 unfolding everything
 drop_aliases_read = refl
 
-pub drop_aliases_alters : (s : State) → Holds s.now → (host : List ℕ) → Alters s drop_aliases_text (Text host ∷ []) (change.drop_aliases host)
+pub drop_aliases_alters : (s : State) → HoldsTables s.now → (host : List ℕ) → AltersLists s drop_aliases_text (Text host ∷ []) (change.drop_aliases host)
 drop_aliases_alters s had host = deletes of_aliases s had drop_aliases_text _ drop_aliases_read _ (is_alias_of host) (λ n x. rw (equal_text x.host host) (one (bytes_eq x.host host)))
 
 -- ---- routes
@@ -596,7 +596,7 @@ put_route_fits x = record {
       rw (alike_text y.host x.host host.0, alike_text y.route.seg x.route.seg seg.0, alike_int (pos y.place) (pos x.place) place.0) refl;
 }
 
-pub put_route_alters : (s : State) → Holds s.now → (x : RouteRow) → IsRoute x → Alters s put_route_text (routes.encode x) (change.put_route x)
+pub put_route_alters : (s : State) → HoldsTables s.now → (x : RouteRow) → IsRoute x → AltersLists s put_route_text (routes.encode x) (change.put_route x)
 put_route_alters s had x typed = upserts of_routes s had x typed (1 ∷ 2 ∷ 3 ∷ []) route_key put_route_text _ 5 4 put_route_new put_route_read refl (put_route_fits x) refl
 
 abbrev pub drop_routes_text : List ℕ
@@ -606,5 +606,5 @@ drop_routes_read : delete_of route_table drop_routes_text ≡ Some ((0, 0) ∷ [
 unfolding everything
 drop_routes_read = refl
 
-pub drop_routes_alters : (s : State) → Holds s.now → (host : List ℕ) → Alters s drop_routes_text (Text host ∷ []) (change.drop_routes host)
+pub drop_routes_alters : (s : State) → HoldsTables s.now → (host : List ℕ) → AltersLists s drop_routes_text (Text host ∷ []) (change.drop_routes host)
 drop_routes_alters s had host = deletes of_routes s had drop_routes_text _ drop_routes_read _ (is_route_of host) (λ n x. rw (equal_text x.host host) (one (bytes_eq x.host host)))

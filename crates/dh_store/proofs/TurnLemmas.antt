@@ -4,10 +4,10 @@ use Rattle.std.proofs.lemmas.List.{drop_all}
 use Rattle.sqlite_trees.specs.declared.store.Store.{Ghosts}
 use Rattle.sqlite.specs.Held.{Held, state}
 use Rattle.sqlite.specs.State.{HasCleanDisk}
-use Rattle.dh_rows.specs.Calls.{IsHonest, Goes, Sees, seen}
+use Rattle.dh_rows.specs.Calls.{IsHonest, MakesNoCommit, NowShows, seen}
 use Rattle.dh_faults.specs.declared.fault.Fault.{Fault}
 use Rattle.dh_records.specs.Lists.{Lists}
-use Rattle.dh_schema.specs.Calling.{Asks, Writes, WritesWithin}
+use Rattle.dh_schema.specs.Calling.{LooksAtLists, ChangesLists, ChangesListsInside}
 use Rattle.dh_schema.specs.InTurn.{goes_none, goes_on, goes_within}
 use Rattle.dh_schema.specs.Tables.{lists_of}
 
@@ -17,11 +17,11 @@ made_of step [] l = l
 made_of step (y ∷ ys) l = made_of step ys (step y l)
 
 module _ {S : Type 0} (g : Ghosts S) where
-  pub within_one : {T : Type 0} {old new : Held S} {r : Result T Fault} {change : Lists → Lists} → Writes g old new r change → (IsHonest g old → old.in_transaction ≡ true) → WritesWithin g old new r change
+  pub within_one : {T : Type 0} {old new : Held S} {r : Result T Fault} {change : Lists → Lists} → ChangesLists g old new r change → (IsHonest g old → old.in_transaction ≡ true) → ChangesListsInside g old new r change
   within_one it within = record { goes = goes_within it.goes within; sees = it.sees }
 
   -- what changes nothing need not be made
-  pub makes_nothing : (h : Held S) (change : Lists → Lists) → (IsHonest g h → h.in_transaction ≡ true) → (IsHonest g h → change (seen g lists_of h) ≡ seen g lists_of h) → WritesWithin g h h (Ok (tt {0})) change
+  pub makes_nothing : (h : Held S) (change : Lists → Lists) → (IsHonest g h → h.in_transaction ≡ true) → (IsHonest g h → change (seen g lists_of h) ≡ seen g lists_of h) → ChangesListsInside g h h (Ok (tt {0})) change
   makes_nothing h change within same = record {
     goes = goes_none h;
     sees = record {
@@ -34,7 +34,7 @@ module _ {S : Type 0} (g : Ghosts S) where
 
   module _ (old middle new : Held S) (r : Result (Unit {0}) Fault) where
     -- after a look
-    pub after_look : {T : Type 0} (x : T) (change : Lists → Lists) → Asks g old middle (Ok x) → WritesWithin g middle new r change → WritesWithin g old new r change
+    pub after_look : {T : Type 0} (x : T) (change : Lists → Lists) → LooksAtLists g old middle (Ok x) → ChangesListsInside g middle new r change → ChangesListsInside g old new r change
     after_look x change look it = record {
       goes = goes_on look.goes (λ honest. between) it.goes;
       sees = go r it.sees;
@@ -49,7 +49,7 @@ module _ {S : Type 0} (g : Ghosts S) where
         lists_are : (honest : IsHonest g middle) → change (seen g lists_of middle) ≡ change (seen g lists_of old)
         lists_are honest = ap change (look.same honest.0).now_is
 
-        go : (r : Result (Unit {0}) Fault) → OnOk r (Sees g lists_of middle new (change (seen g lists_of middle))) → OnOk r (Sees g lists_of old new (change (seen g lists_of old)))
+        go : (r : Result (Unit {0}) Fault) → OnOk r (NowShows g lists_of middle new (change (seen g lists_of middle))) → OnOk r (NowShows g lists_of old new (change (seen g lists_of old)))
         go (Ok u) sees = record {
           live = λ honest clean. sees.live (between (it.goes.lasts.clean clean)) clean;
           now_is = λ honest. sees.now_is honest ∙ lists_are (was honest);
@@ -59,7 +59,7 @@ module _ {S : Type 0} (g : Ghosts S) where
         go (Err e) sees = tt
 
     -- two in turn
-    pub in_turn : (first change : Lists → Lists) → WritesWithin g old middle (Ok (tt {0})) first → WritesWithin g middle new r change → WritesWithin g old new r (λ l. change (first l))
+    pub in_turn : (first change : Lists → Lists) → ChangesListsInside g old middle (Ok (tt {0})) first → ChangesListsInside g middle new r change → ChangesListsInside g old new r (λ l. change (first l))
     in_turn first change made it = record {
       goes = goes_on made.goes made.sees.live it.goes;
       sees = go r it.sees;
@@ -71,7 +71,7 @@ module _ {S : Type 0} (g : Ghosts S) where
         lists_are : (honest : IsHonest g middle) → change (seen g lists_of middle) ≡ change (first (seen g lists_of old))
         lists_are honest = ap change (made.sees.now_is honest)
 
-        go : (r : Result (Unit {0}) Fault) → OnOk r (Sees g lists_of middle new (change (seen g lists_of middle))) → OnOk r (Sees g lists_of old new (change (first (seen g lists_of old))))
+        go : (r : Result (Unit {0}) Fault) → OnOk r (NowShows g lists_of middle new (change (seen g lists_of middle))) → OnOk r (NowShows g lists_of old new (change (first (seen g lists_of old))))
         go (Ok u) sees = record {
           live = λ honest clean. sees.live (made.sees.live honest (it.goes.lasts.clean clean)) clean;
           now_is = λ honest. sees.now_is honest ∙ lists_are (was honest);
@@ -81,7 +81,7 @@ module _ {S : Type 0} (g : Ghosts S) where
         go (Err e) sees = tt
 
   -- a change that makes the same of the lists
-  pub same_change : {old new : Held S} {first change : Lists → Lists} → (IsHonest g old → first (seen g lists_of old) ≡ change (seen g lists_of old)) → WritesWithin g old new (Ok (tt {0})) first → WritesWithin g old new (Ok (tt {0})) change
+  pub same_change : {old new : Held S} {first change : Lists → Lists} → (IsHonest g old → first (seen g lists_of old) ≡ change (seen g lists_of old)) → ChangesListsInside g old new (Ok (tt {0})) first → ChangesListsInside g old new (Ok (tt {0})) change
   same_change same it = record {
     goes = it.goes;
     sees = record {
@@ -95,7 +95,7 @@ module _ {S : Type 0} (g : Ghosts S) where
   module _ {Y : Type 0} (step : Y → Lists → Lists) (ys : List Y) (old : Held S) where
     -- Those of the first i are made: what is left to make makes of the lists what all make of those before.
     pub record AreMade (now : Held S) (i : ℕ) : Type 0 where
-      pub goes : Goes g old now
+      pub goes : MakesNoCommit g old now
       pub live : IsHonest g old → HasCleanDisk (state g now) → IsHonest g now
       pub mode : IsHonest g now → now.in_transaction ≡ old.in_transaction
       pub left : IsHonest g now → made_of step (drop i ys) (seen g lists_of now) ≡ made_of step ys (seen g lists_of old)
@@ -105,10 +105,10 @@ module _ {S : Type 0} (g : Ghosts S) where
 
     module _ (now next : Held S) (i : ℕ) (had : AreMade now i) where
       -- whatever the next call answers
-      pub more_goes : Goes g now next → Goes g old next
+      pub more_goes : MakesNoCommit g now next → MakesNoCommit g old next
       more_goes it = goes_on had.goes had.live it
 
-      pub one_made : (y : Y) → drop i ys ≡ y ∷ drop (suc i) ys → WritesWithin g now next (Ok (tt {0})) (step y) → AreMade next (i + 1)
+      pub one_made : (y : Y) → drop i ys ≡ y ∷ drop (suc i) ys → ChangesListsInside g now next (Ok (tt {0})) (step y) → AreMade next (i + 1)
       one_made y next_is it = record {
         goes = more_goes it.goes;
         live = λ honest clean. it.sees.live (had.live honest (it.goes.lasts.clean clean)) clean;
@@ -124,7 +124,7 @@ module _ {S : Type 0} (g : Ghosts S) where
       pub still_within : (now : Held S) (i : ℕ) → AreMade now i → IsHonest g now → now.in_transaction ≡ true
       still_within now i had honest = had.mode honest ∙ within (had.goes.lasts.was honest)
 
-      pub all_made : (now : Held S) (i : ℕ) → length ys ≤ i → AreMade now i → WritesWithin g old now (Ok (tt {0})) (made_of step ys)
+      pub all_made : (now : Held S) (i : ℕ) → length ys ≤ i → AreMade now i → ChangesListsInside g old now (Ok (tt {0})) (made_of step ys)
       all_made now i past had = record {
         goes = had.goes;
         sees = record {

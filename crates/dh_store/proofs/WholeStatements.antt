@@ -14,11 +14,11 @@ use Rattle.dh_records.specs.Codings.{aliases, projects, routes}
 use Rattle.dh_records.specs.Lists.{Lists}
 use Rattle.dh_records.specs.Typed.{IsAlias, IsProject, IsRoute}
 use Rattle.dh_schema.specs.Calling.{ReadsAll}
-use Rattle.dh_schema.specs.Tables.{Holds, alias_table, lists_of, project_table, route_table}
+use Rattle.dh_schema.specs.Tables.{HoldsTables, alias_table, lists_of, project_table, route_table}
 use Rattle.dh_store.proofs.OneTable.{asks, deletes}
 use Rattle.dh_store.proofs.OurTables.{of_aliases, of_projects, of_routes}
 use Rattle.dh_store.specs.Clearing.{without_aliases, without_routes}
-use Rattle.dh_store.specs.Meanings.{Alters, AsksFor}
+use Rattle.dh_store.specs.Meanings.{AltersLists, AsksFor}
 
 -- each record is asked for
 abbrev pub each : {X : Type 0} → X → Bool
@@ -74,7 +74,7 @@ clear_aliases_read = refl
 none_left : {X : Type 0} (xs : List X) → filter (λ x. not (each x)) xs ≡ []
 none_left xs = filter_none _ xs (each_of (λ x. false ≡ false) (λ x. refl) xs)
 
-pub clear_aliases_alters : (s : State) → Holds s.now → Alters s clear_aliases_text [] without_aliases
+pub clear_aliases_alters : (s : State) → HoldsTables s.now → AltersLists s clear_aliases_text [] without_aliases
 clear_aliases_alters s had =
     let it = deletes of_aliases s had clear_aliases_text _ clear_aliases_read [] each (λ n x. refl) in record {
       edit = it.edit;
@@ -93,7 +93,7 @@ clear_routes_read : delete_of route_table clear_routes_text ≡ Some []
 unfolding everything
 clear_routes_read = refl
 
-pub clear_routes_alters : (s : State) → Holds s.now → Alters s clear_routes_text [] without_routes
+pub clear_routes_alters : (s : State) → HoldsTables s.now → AltersLists s clear_routes_text [] without_routes
 clear_routes_alters s had =
     let it = deletes of_routes s had clear_routes_text _ clear_routes_read [] each (λ n x. refl) in record {
       edit = it.edit;

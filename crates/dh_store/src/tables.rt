@@ -4,10 +4,10 @@ ghost use Rattle.std.specs.Prelude.{◌≡◌, ◌<◌, ◌^◌, true, false, no
 ghost use Rattle.std.specs.FinMap.{empty};
 ghost use Rattle.sqlite.specs.Held.{state};
 ghost use Rattle.sqlite.specs.Steps.{over_memory};
-ghost use Rattle.dh_rows.specs.Calls.{AreOurs, IsHonest, OnlyBegins, OnlyCommits, OnlyUndoes, Leaves, LeavesCommitted, LeavesNoMore, seen, committed};
-ghost use Rattle.dh_schema.specs.Calling.{Asks, IsSettled, KeepsSchema};
+ghost use Rattle.dh_rows.specs.Calls.{AreOurs, IsHonest, OnlyBegins, OnlyCommits, OnlyUndoes, CrashLeaves, LeavesCommitted, LeavesNoMore, seen, committed};
+ghost use Rattle.dh_schema.specs.Calling.{LooksAtLists, IsSettled, KeepsSchema};
 ghost use Rattle.dh_schema.specs.Making.{no_lists};
-ghost use Rattle.dh_schema.specs.Tables.{Holds, lists_of};
+ghost use Rattle.dh_schema.specs.Tables.{HoldsTables, lists_of};
 ghost use Rattle.dh_records.specs.Lists as spec;
 
 mod defaults;
@@ -45,7 +45,7 @@ impl<S: Alter + Drop> Drop for Tables<S> {
 impl<S: Alter> Model for Tables<S> {
     ghost use Rattle.sqlite.specs.Held.{Held, held_code, state};
     ghost use Rattle.dh_rows.specs.Calls.{AreOurs};
-    ghost use Rattle.dh_schema.specs.Tables.{Holds};
+    ghost use Rattle.dh_schema.specs.Tables.{HoldsTables};
 
     ghost Value = { Held S };
 
@@ -53,7 +53,7 @@ impl<S: Alter> Model for Tables<S> {
 
     ghost view = { λ t. t.conn };
 
-    ghost invariant = { λ t. AreOurs Holds (state S.Store t.conn) };
+    ghost invariant = { λ t. AreOurs HoldsTables (state S.Store t.conn) };
 }
 
 impl<S: Alter> Tables<S> {
@@ -67,7 +67,7 @@ impl<S: Alter> Tables<S> {
     /// Commits what was changed since the begin. Outside a transaction it is refused.
     pub fn commit(&mut self) -> Result<(), Fault>
         ensures commits { OnlyCommits S.Store lists_of self.old self.new result }
-        ensures crash { Leaves S.Store lists_of self.old self.new
+        ensures crash { CrashLeaves S.Store lists_of self.old self.new
             (λ l. l ≡ seen S.Store lists_of self.old) }
         ensures steady { KeepsSchema S.Store self.old self.new }
         ensures left { IsHonest S.Store self.new → LeavesCommitted S.Store lists_of self.new }
@@ -84,7 +84,7 @@ impl<S: Alter> Tables<S> {
 
     /// Asks the store whether it still answers, by a text with no statement, which does nothing. A transaction stays open. Once one was answered, a later one takes no memory.
     pub fn ask(&mut self) -> Result<(), Fault>
-        ensures asks { Asks S.Store self.old self.new result }
+        ensures asks { LooksAtLists S.Store self.old self.new result }
         ensures quiet { LeavesNoMore S.Store self.old self.new }
     {
         run(&mut self.conn, "", &[])
@@ -102,7 +102,7 @@ impl<S: Alter> Tables<S> {
 impl<S: Alter> Tables<S> {
     /// The tables that stand in the database of a connection, in no transaction and with no limit on a statement's steps.
     pub fn over(conn: Connection<S>) -> Tables<S>
-        requires ours { AreOurs Holds (state S.Store conn) }
+        requires ours { AreOurs HoldsTables (state S.Store conn) }
         ensures { result ≡ conn }
     {
         Tables { conn }

@@ -3,9 +3,9 @@ use Rattle.std.specs.Prelude.{◌≡◌, ◌⊎◌, false, Result, Ok, Err, OnOk
 use Rattle.sqlite_trees.specs.declared.store.Store.{Ghosts}
 use Rattle.sqlite.specs.Held.{Held, state}
 use Rattle.sqlite.specs.State.{HasCleanDisk}
-use Rattle.dh_rows.specs.Calls.{IsHonest, Goes, GoesWithin, seen, committed}
+use Rattle.dh_rows.specs.Calls.{IsHonest, MakesNoCommit, MakesNoCommitInside, seen, committed}
 use Rattle.dh_records.specs.Lists.{Lists}
-pub use Rattle.dh_schema.specs.Calling.{HasRecords, IsWithin, Lacks}
+pub use Rattle.dh_schema.specs.Calling.{HasRecords, IsWithin, LacksKey}
 use Rattle.dh_schema.specs.Tables.{lists_of}
 use Rattle.dh_world.specs.CheckResults.{IsFault}
 use Rattle.dh_world.specs.declared.answer.Answer.{Answer}
@@ -21,7 +21,7 @@ module _ {S : Type 0} (g : Ghosts S) where
 
   module _ (old new : Held S) where
     -- Calls that were answered.
-    pub record Sees (next : Lists) : Type 0 where
+    pub record NowShowsRecords (next : Lists) : Type 0 where
       -- the store is as honest as it was
       pub live : IsHonest g old → HasCleanDisk (state g new) → IsHonest g new
       -- these records are seen
@@ -30,25 +30,25 @@ module _ {S : Type 0} (g : Ghosts S) where
       pub mode : IsHonest g new → new.in_transaction ≡ old.in_transaction
 
     -- the store is as honest as it was
-    abbrev pub Stays : Type 0
-    Stays = IsHonest g old → HasCleanDisk (state g new) → IsHonest g new
+    abbrev pub StaysHonest : Type 0
+    StaysHonest = IsHonest g old → HasCleanDisk (state g new) → IsHonest g new
 
   module _ {T : Type 0} (old new : Held S) (result : Result T Refusal) where
     -- What looks leave, whatever they answer.
-    pub record Asks : Type 0 where
+    pub record LooksAtRecords : Type 0 where
       -- nothing is committed, and a crash leaves nothing more
-      pub goes : Goes g old new
+      pub goes : MakesNoCommit g old new
       -- those that were answered left the records as they were
-      pub looks : OnOk result (Sees old new (records old))
+      pub looks : OnOk result (NowShowsRecords old new (records old))
       -- a refusal is a fault of the store, or out of memory
       pub err : IfErr result IsFault
 
     -- What edits leave, whatever they answer.
-    pub record Makes (change : Lists → Lists) : Type 0 where
+    pub record ChangesRecords (change : Lists → Lists) : Type 0 where
       -- within a transaction nothing is committed, and a crash leaves nothing more
-      pub goes : GoesWithin g old new
+      pub goes : MakesNoCommitInside g old new
       -- those that were made changed the records so
-      pub sees : OnOk result (Sees old new (change (records old)))
+      pub sees : OnOk result (NowShowsRecords old new (change (records old)))
       pub err : IfErr result IsFault
 
   -- A command that was answered, or refused for what it asks, has left no transaction open.

@@ -85,11 +85,11 @@ abbrev pub is_token : List ℕ → Bool
 is_token text = is_within 1 most_token is_token_byte text
 
 -- a text that passes is taken as it is; the refusal comes only of one that does not pass, and out of memory only of one that does
-abbrev pub Parses : (List ℕ → Bool) → TextFault → List ℕ → Result (List ℕ) TextFault → Type 0
-Parses test refusal text (Ok value) = (value ≡ text) × IsTrue (test text)
-Parses test refusal text (Err fault) = ((fault ≡ refusal) × (test text ≡ false)) ⊎ ((fault ≡ Memory) × IsTrue (test text))
+abbrev pub ParsesText : (List ℕ → Bool) → TextFault → List ℕ → Result (List ℕ) TextFault → Type 0
+ParsesText test refusal text (Ok value) = (value ≡ text) × IsTrue (test text)
+ParsesText test refusal text (Err fault) = ((fault ≡ refusal) × (test text ≡ false)) ⊎ ((fault ≡ Memory) × IsTrue (test text))
 
 -- the definition's value is answered; the refusal comes only where it has none, or where memory is out
-abbrev pub Answers : {A : Type 0} → Option A → TextFault → Result A TextFault → Type 0
-Answers spec refusal (Ok value) = spec ≡ Some value
-Answers spec refusal (Err fault) = ((fault ≡ refusal) × (spec ≡ None)) ⊎ (fault ≡ Memory)
+abbrev pub AnswersDefined : {A : Type 0} → Option A → TextFault → Result A TextFault → Type 0
+AnswersDefined spec refusal (Ok value) = spec ≡ Some value
+AnswersDefined spec refusal (Err fault) = ((fault ≡ refusal) × (spec ≡ None)) ⊎ (fault ≡ Memory)

@@ -1,7 +1,7 @@
 //! A text that passes the test of its kind, and that contracts see as its bytes.
 
 ghost use Rattle.std.specs.Prelude.{◌≡◌, IfOk, IsTrue};
-ghost use Rattle.dh_texts.specs.Texts.{Parses};
+ghost use Rattle.dh_texts.specs.Texts.{ParsesText};
 
 use crate::fault::TextFault;
 use std::alloc::{AllocError, Global};
@@ -46,7 +46,7 @@ impl<K: Kind> Model for Checked<K> {
 impl<K: Kind> Checked<K> {
     /// The text as a value of this type, or the refusal of its kind where it is none.
     pub fn parse(alloc: Global, text: &str) -> Result<Checked<K>, TextFault>
-        ensures { Parses K.test K.refusal text.now result }
+        ensures { ParsesText K.test K.refusal text.now result }
     {
         if !K::passes(text) {
             return Err(K::refusal());

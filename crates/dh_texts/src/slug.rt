@@ -1,7 +1,7 @@
 //! The slug of a version, from the name of its branch or tag.
 
 ghost use Rattle.std.specs.Prelude.{◌≡◌, ◌<◌, IfOk, OnOk, OnErr, Err, string_bytes, length};
-ghost use Rattle.dh_texts.specs.Texts.{Answers};
+ghost use Rattle.dh_texts.specs.Texts.{AnswersDefined};
 ghost use Rattle.dh_texts.specs.SlugOfName.{slug_char, slug_text, slug_from, with_byte};
 
 use crate::classes::lower_or_digit;
@@ -47,7 +47,7 @@ fn make_slug_text(alloc: Global, name: &str) -> Result<String, AllocError>
 /// made `-`, and what stands before the first letter or digit left out. A name that leaves no text, or more than
 /// 128 bytes, is refused by `BadRef`.
 pub fn slug_of(alloc: Global, name: &RefName) -> Result<Slug, TextFault>
-    ensures slug { Answers (slug_from name.now) TextFault.BadRef result }
+    ensures slug { AnswersDefined (slug_from name.now) TextFault.BadRef result }
     ensures memory { result ≡ Err TextFault.Memory → 0 < length (slug_text name.now) }
 {
     let text = make_slug_text(alloc, name.as_str())?;

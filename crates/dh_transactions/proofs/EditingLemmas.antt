@@ -7,7 +7,7 @@ use Rattle.sqlite.specs.Held.{Held}
 use Rattle.dh_plans.specs.Edits.{edited, all_edited, MayEdit, MayEditAll}
 use Rattle.dh_plans.specs.declared.edits.Edit.{Edit}
 use Rattle.dh_plans.specs.declared.edits.Edit.TheVariants.{AddLang, PutVersion, PutWithoutPages, RemoveVersion, PutPage, RemovePages, SetDefaults, SetRules, SetRedirects, AddPass, RemovePass, Grant, Revoke, PutAnswer}
-use Rattle.dh_rows.specs.Calls.{Goes, GoesWithin, IsHonest}
+use Rattle.dh_rows.specs.Calls.{MakesNoCommit, MakesNoCommitInside, IsHonest}
 use Rattle.dh_records.specs.Constraints.{AreSound}
 use Rattle.dh_records.specs.Lists.{Lists, base_of, world_of}
 use Rattle.dh_derived.specs.Renewed.{renewed, renewed_at}
@@ -19,11 +19,11 @@ use Rattle.dh_renewal.specs.Finding.{CoversEdit}
 use Rattle.dh_renewal.specs.Renewing.{LacksRenewal}
 use Rattle.dh_renewal.proofs.SameBase.{same_sound, same_world}
 use Rattle.dh_schema.specs.InTurn.{goes_anywhere}
-use Rattle.dh_tables.specs.Going.{HasRecords, Makes, Sees, records}
+use Rattle.dh_tables.specs.Going.{HasRecords, ChangesRecords, NowShowsRecords, records}
 use Rattle.dh_tables.proofs.Together.{goes_within_on}
 use Rattle.dh_row_edits.specs.RowEdits.{rows_edited, RowsMay}
-use Rattle.dh_row_edits.proofs.EditLemmas.{Spells, all_may, all_spell}
-use Rattle.dh_transactions.specs.Editing.{Changes, EditsProject, MayChange}
+use Rattle.dh_row_edits.proofs.EditLemmas.{SpellsEdited, all_may, all_spell}
+use Rattle.dh_transactions.specs.Editing.{ChangesProject, EditsProject, MayChange}
 use Rattle.dh_world.proofs.MapLemmas.{get_back, put_same, put_twice}
 use Rattle.dh_world.specs.World.{Text, Project}
 use Rattle.dh_world.specs.declared.refusal.Refusal.{Refusal}
@@ -73,7 +73,7 @@ module _ (host : Text) (e : Edit) (before : Lists) (it : MayChange host (MayEdit
   pub rows_may : RowsMay host e before
   rows_may = (all_may host (e ∷ []) before it.project it.consistent.sound it.found (it.holds, tt)).0
 
-  spells : Spells host before next q
+  spells : SpellsEdited host before next q
   spells = all_spell host (e ∷ []) before it.project it.consistent.sound it.found (it.holds, tt)
 
   pub edited_sound : AreSound next
@@ -93,7 +93,7 @@ module _ (host : Text) (e : Edit) (before : Lists) (it : MayChange host (MayEdit
     )
 
     -- so after it the records are consistent
-    pub edit_renewed : (after : Lists) → after ≡ renewed_at r host next → AreRight after → Changes host (edited e) before after
+    pub edit_renewed : (after : Lists) → after ≡ renewed_at r host next → AreRight after → ChangesProject host (edited e) before after
     edit_renewed after is right p found =
         let same : it.project ≡ p = cc in
         let made : after ≡ renewed r host q next = is ∙ ap (λ o. option_map_or (λ p. renewed r host p next) o next) stands in
@@ -106,8 +106,8 @@ module _ (host : Text) (e : Edit) (before : Lists) (it : MayChange host (MayEdit
 -- asked for, made and renewed, in turn
 module _
     {S : Type 0} (g : Ghosts S) (a b c : Held S) (host : Text) (e : Edit) (r : Renewal)
-    (asks : Goes g a b) (looks : Sees g a b (records g a)) (covers : IsHonest g b → CoversEdit host e (records g a) r)
-    (goes : GoesWithin g b c) (sees : Sees g b c (rows_edited host e (records g b)))
+    (asks : MakesNoCommit g a b) (looks : NowShowsRecords g a b (records g a)) (covers : IsHonest g b → CoversEdit host e (records g a) r)
+    (goes : MakesNoCommitInside g b c) (sees : NowShowsRecords g b c (rows_edited host e (records g b)))
     (may : HasRecords g a (MayChange host (MayEdit e))) where
   now_is : IsHonest g c → records g c ≡ rows_edited host e (records g a)
   now_is honest = sees.now_is honest ∙ ap (rows_edited host e) (looks.now_is (goes.lasts.was honest))
@@ -124,7 +124,7 @@ module _
       (edited_lacks host e (records g a) (may_then honest) r (covers (goes.lasts.was honest)))
 
   module _
-      (d : Held S) {T : Type 0} (result : Result T Refusal) (it : Makes g c d result (renewed_at r host))
+      (d : Held S) {T : Type 0} (result : Result T Refusal) (it : ChangesRecords g c d result (renewed_at r host))
       (right : OnOk result (HasRecords g d AreRight)) where
     pub edit_made : EditsProject g a d result host (edited e)
     edit_made = record {
@@ -138,7 +138,7 @@ module _
       err = it.err;
     }
       where
-        shows : (x : Result T Refusal) → OnOk x (Sees g c d (renewed_at r host (records g c))) → OnOk x (Sees g a d (records g d))
+        shows : (x : Result T Refusal) → OnOk x (NowShowsRecords g c d (renewed_at r host (records g c))) → OnOk x (NowShowsRecords g a d (records g d))
         shows (Ok x) last = record {
           live = λ honest clean.
               let back = it.goes.lasts.clean clean in
@@ -151,8 +151,8 @@ module _
         shows (Err x) last = tt
 
         changes
-            : IsHonest g d → (x : Result T Refusal) → OnOk x (Sees g c d (renewed_at r host (records g c))) → OnOk x (HasRecords g d AreRight)
-            → OnOk x (Changes host (edited e) (records g a) (records g d))
+            : IsHonest g d → (x : Result T Refusal) → OnOk x (NowShowsRecords g c d (renewed_at r host (records g c))) → OnOk x (HasRecords g d AreRight)
+            → OnOk x (ChangesProject host (edited e) (records g a) (records g d))
         changes honest (Ok x) last are =
             let middle = it.goes.lasts.was honest in
             edit_renewed host e (records g a) (may_then middle) r (covers (goes.lasts.was middle)) (records g d)
@@ -181,7 +181,7 @@ module _ (host : Text) (all : List Edit) (start : Lists) where
     pub midway_may : MayChange host (MayEdit e) now
     midway_may = record { project = it.here.project; found = it.here.found; holds = it.here.holds.0; consistent = it.here.consistent }
 
-    pub midway_next : (after : Lists) → Changes host (edited e) now after → IsMidway host all rest start after
+    pub midway_next : (after : Lists) → ChangesProject host (edited e) now after → IsMidway host all rest start after
     midway_next after changes =
         let p : Project = edited e it.here.project in
         let puts = changes it.here.project it.here.found in record {
@@ -196,7 +196,7 @@ module _ (host : Text) (all : List Edit) (start : Lists) where
               ∙ ap (λ w. insert w host (all_edited rest p)) (sym puts.world_is);
         }
 
-  pub midway_last : (now : Lists) → IsMidway host all [] start now → Changes host (all_edited all) start now
+  pub midway_last : (now : Lists) → IsMidway host all [] start now → ChangesProject host (all_edited all) start now
   midway_last now it p found = record {
     world_is = sym (put_same (world_of now) host it.here.project it.here.found) ∙ sym (it.leads p found);
     consistent = it.here.consistent;

@@ -10,7 +10,7 @@ use Rattle.dh_rows.specs.Calls.{IsNotCommitted, IsNotUndone, IsRefused}
 use Rattle.dh_records.specs.Lists.{Lists}
 use Rattle.dh_schema.specs.Tables.{lists_of}
 use Rattle.dh_tables.specs.Going.{IsOver, last_records}
-use Rattle.dh_transactions.specs.Steps.{IsNotEnded, Steps}
+use Rattle.dh_transactions.specs.Steps.{IsNotEnded, TakesStep}
 use Rattle.dh_world.specs.CheckResults.{refusal_from, IsFault}
 use Rattle.dh_world.specs.declared.answer.Answer.{Answer}
 use Rattle.dh_world.specs.declared.command.Command.{Command}
@@ -23,10 +23,10 @@ aside fault.Memory e is = inr is
 -- a fault of the tables, where nothing was committed
 pub steps_aside
     : (before after : Lists) (c : Command) (f : Fault) (r : Result Answer Refusal)
-    → after ≡ before → IsErrAnd r (λ e. e ≡ refusal_from f) → Steps before after c r
+    → after ≡ before → IsErrAnd r (λ e. e ≡ refusal_from f) → TakesStep before after c r
 steps_aside before after c f r same is =
     let at = err_from_is_err_and r is in
-    subst (Steps before after c) (sym at.1) (same, inl (inl (aside f at.0 at.2)))
+    subst (TakesStep before after c) (sym at.1) (same, inl (inl (aside f at.0 at.2)))
 
 pub over_aside
     : {S : Type 0} (g : Ghosts S) (new : Held S) (f : Fault) (r : Result Answer Refusal)

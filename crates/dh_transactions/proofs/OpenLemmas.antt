@@ -7,7 +7,7 @@ use Rattle.std.specs.Option.{option_and_then, option_map, option_or}
 use Rattle.std.proofs.lemmas.List.{nil_from_length}
 use Rattle.std.proofs.lemmas.Map.Lookups.{exact_bytes}
 use Rattle.dh_checks.specs.Commands.{command_of}
-use Rattle.dh_plans.specs.Plans.{Opens}
+use Rattle.dh_plans.specs.Plans.{OpensProject}
 use Rattle.dh_checks.specs.declared.checking.CheckedChange.{CheckedChange}
 use Rattle.dh_checks.specs.declared.checked.NewProject.{NewProject}
 use Rattle.sqlite_keyed.proofs.ListLemmas.{filter_none}
@@ -28,7 +28,7 @@ use Rattle.dh_records.specs.declared.records.ProjectRow.{ProjectRow}
 use Rattle.dh_transactions.proofs.Turning.{turn_at}
 use Rattle.dh_transactions.specs.Opening.{project_row, main_lang, with_row, with_project}
 use Rattle.dh_records.specs.Constraints.{AreSound}
-use Rattle.dh_transactions.specs.Steps.{Turns}
+use Rattle.dh_transactions.specs.Steps.{TakesTurn}
 use Rattle.dh_aliases.specs.Names.{names_of}
 use Rattle.dh_aliases.specs.declared.names.Names.{Names}
 use Rattle.dh_aliases.proofs.NameLemmas.{names_by_versions}
@@ -171,7 +171,7 @@ module _ (host : Text) (lists : Lists) (none : get (world_of lists) host ≡ Non
           })
 
       -- the command's turn, where this is the project that it makes
-      pub opened_here : (change : CheckedChange) → Opens change (Ok x) → AreRight lists → Turns lists (with_project host x lists) (command_of host change) (Ok Done)
+      pub opened_here : (change : CheckedChange) → OpensProject change (Ok x) → AreRight lists → TakesTurn lists (with_project host x lists) (command_of host change) (Ok Done)
       opened_here change opens right = (
         turn_at host change lists None none ∙ ap (settled (world_of lists) host) opens
             ∙ ap (λ w. Ok (w, Done)) (sym made_world),

@@ -4,7 +4,7 @@ use Rattle.std.specs.FinMap.{get}
 use Rattle.dh_checks.specs.Commands.{change_of, command_of}
 use Rattle.dh_checks.specs.declared.checking.CheckedChange.{CheckedChange}
 use Rattle.dh_records.specs.Lists.{Lists, world_of}
-use Rattle.dh_transactions.specs.Steps.{AreConsistent, Turns, Steps}
+use Rattle.dh_transactions.specs.Steps.{AreConsistent, TakesTurn, TakesStep}
 use Rattle.dh_world.specs.CheckResults.{IsFault}
 use Rattle.dh_world.specs.Step.{IsSetAside, change_at, settled, turn, step, after_texts}
 use Rattle.dh_world.specs.WrongTexts.{bad_text}
@@ -33,21 +33,21 @@ right_texts lists c e = ap (after_texts (world_of lists) c) e
 -- a command that was begun, worked on and ended, where `start` was seen and committed at its begin
 pub ended
     : (start worked after kept : Lists) (c : Command) (result answer : Result Answer Refusal)
-    → bad_text c ≡ None → kept ≡ start → Turns start worked c result
+    → bad_text c ≡ None → kept ≡ start → TakesTurn start worked c result
     → IfOk answer (λ a. (result ≡ Ok a) × (after ≡ worked))
     → IfErr answer (λ e. (after ≡ kept) × (IsFault e ⊎ (result ≡ Err e)))
-    → Steps start after c answer
+    → TakesStep start after c answer
 ended start worked after kept c result (Ok a) right same turned ok err =
-    let at : Turns start worked c (Ok a) = subst (Turns start worked c) ok.0 turned in
+    let at : TakesTurn start worked c (Ok a) = subst (TakesTurn start worked c) ok.0 turned in
     let P : Lists → Type 0 = λ l. (step (world_of start) c ≡ Ok (world_of l, a)) × AreConsistent l in
     subst P (sym ok.1) (right_texts start c right ∙ at.0, at.1)
 ended start worked after kept c result (Err e) right same turned ok err = (err.0 ∙ same, go err.1)
   where
     go : IsFault e ⊎ (result ≡ Err e) → IsSetAside (world_of start) c e ⊎ (step (world_of start) c ≡ Err e)
     go (inl is) = inl (inl is)
-    go (inr is) = turn_refused (subst (Turns start worked c) is turned)
+    go (inr is) = turn_refused (subst (TakesTurn start worked c) is turned)
       where
-        turn_refused : Turns start worked c (Err e) → IsSetAside (world_of start) c e ⊎ (step (world_of start) c ≡ Err e)
+        turn_refused : TakesTurn start worked c (Err e) → IsSetAside (world_of start) c e ⊎ (step (world_of start) c ≡ Err e)
         turn_refused (inl fault) = inl (inl fault)
         turn_refused (inr (inl refused)) = inl (inr (right, inr refused))
         turn_refused (inr (inr is)) = inr (right_texts start c right ∙ is)

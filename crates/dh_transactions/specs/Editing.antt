@@ -3,9 +3,9 @@ use Rattle.std.specs.Prelude.{◌≡◌, Some, Result, IfErr, OnOk}
 use Rattle.std.specs.FinMap.{get, insert}
 use Rattle.sqlite_trees.specs.declared.store.Store.{Ghosts}
 use Rattle.sqlite.specs.Held.{Held}
-use Rattle.dh_rows.specs.Calls.{GoesWithin, IsHonest}
+use Rattle.dh_rows.specs.Calls.{MakesNoCommitInside, IsHonest}
 use Rattle.dh_records.specs.Lists.{Lists, world_of}
-use Rattle.dh_tables.specs.Going.{Sees, records}
+use Rattle.dh_tables.specs.Going.{NowShowsRecords, records}
 use Rattle.dh_derived.specs.Consistent.{AreConsistent}
 use Rattle.dh_world.specs.CheckResults.{IsFault}
 use Rattle.dh_world.specs.World.{Text, Project}
@@ -24,17 +24,18 @@ pub record PutsProject (host : Text) (before after : Lists) (p : Project) : Type
   pub consistent : AreConsistent after
 
 -- a change of the host's project
-abbrev pub Changes : Text → (Project → Project) → Lists → Lists → Type 0
-Changes host change before after =
+abbrev pub ChangesProject : Text → (Project → Project) → Lists → Lists → Type 0
+ChangesProject host change before after =
     (p : Project) → get (world_of before) host ≡ Some p → PutsProject host before after (change p)
 
 -- What edits of the host's project leave within a transaction, whatever they answer.
 pub record EditsProject {S : Type 0} (g : Ghosts S) {T : Type 0} (old new : Held S)
     (result : Result T Refusal) (host : Text) (change : Project → Project) : Type 0 where
   -- nothing is committed, and a crash leaves nothing more
-  pub goes : GoesWithin g old new
+  pub goes : MakesNoCommitInside g old new
   -- those that were made left the store as honest as it was
-  pub sees : OnOk result (Sees g old new (records g new))
+  pub sees : OnOk result (NowShowsRecords g old new (records g new))
   -- and the project changed so, its stored rows with it
-  pub made : IsHonest g new → OnOk result (Changes host change (records g old) (records g new))
+  pub made
+      : IsHonest g new → OnOk result (ChangesProject host change (records g old) (records g new))
   pub err : IfErr result IsFault

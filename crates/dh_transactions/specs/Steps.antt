@@ -4,7 +4,7 @@ use Rattle.std.specs.FinMap.{get}
 use Rattle.sqlite_trees.specs.declared.store.Store.{Ghosts}
 use Rattle.sqlite.specs.Held.{Held, state}
 use Rattle.sqlite.specs.State.{HasCleanDisk}
-use Rattle.dh_rows.specs.Calls.{IsHonest, IsNotCommitted, IsNotUndone, Lasts, LeavesNoMore}
+use Rattle.dh_rows.specs.Calls.{IsHonest, IsNotCommitted, IsNotUndone, KeepsFaults, LeavesNoMore}
 use Rattle.dh_records.specs.Lists.{Lists, world_of}
 use Rattle.dh_tables.specs.Going.{IsOver, last_records}
 pub use Rattle.dh_derived.specs.Consistent.{AreConsistent}
@@ -17,18 +17,18 @@ use Rattle.dh_world.specs.declared.command.Command.{Command}
 use Rattle.dh_world.specs.declared.refusal.Refusal.{Refusal}
 
 -- a command whose texts are right, before its commit
-abbrev pub Turns : Lists → Lists → Command → Result Answer Refusal → Type 0
-Turns before after c (Ok answer) =
+abbrev pub TakesTurn : Lists → Lists → Command → Result Answer Refusal → Type 0
+TakesTurn before after c (Ok answer) =
     (turn (world_of before) c ≡ Ok (world_of after, answer)) × AreConsistent after
-Turns before after c (Err e) =
+TakesTurn before after c (Err e) =
     IsFault e
     ⊎ (PushRefusedAt c.change (get (world_of before) c.host) e ⊎ (turn (world_of before) c ≡ Err e))
 
 -- a command in whole, by what is committed
-abbrev pub Steps : Lists → Lists → Command → Result Answer Refusal → Type 0
-Steps before after c (Ok answer) =
+abbrev pub TakesStep : Lists → Lists → Command → Result Answer Refusal → Type 0
+TakesStep before after c (Ok answer) =
     (step (world_of before) c ≡ Ok (world_of after, answer)) × AreConsistent after
-Steps before after c (Err e) =
+TakesStep before after c (Err e) =
     (after ≡ before) × (IsSetAside (world_of before) c e ⊎ (step (world_of before) c ≡ Err e))
 
 -- the refusal is what the store said of the commit, or of the rollback
@@ -37,10 +37,10 @@ IsNotEnded g old new e =
     (f : Fault) × (e ≡ refusal_from f) × (IsNotCommitted g old new f ⊎ IsNotUndone g old new f)
 
 -- What a command leaves that is done as one transaction.
-pub record Transacts {S : Type 0} (g : Ghosts S) (old new : Held S) (c : Command)
+pub record IsOneTransaction {S : Type 0} (g : Ghosts S) (old new : Held S) (c : Command)
     (result : Result Answer Refusal) : Type 0 where
   -- an answer is its one step of what is committed, and a refusal leaves that
-  pub steps : IsHonest g new → Steps (last_records g old) (last_records g new) c result
+  pub steps : IsHonest g new → TakesStep (last_records g old) (last_records g new) c result
   -- no transaction is open, but after a fault
   pub outside : IsHonest g new → IsOver g new result
   -- a crash leaves what was committed before, or what the step makes of it
@@ -50,4 +50,4 @@ pub record Transacts {S : Type 0} (g : Ghosts S) (old new : Held S) (c : Command
   -- an answer comes of an honest store alone
   pub live : HasCleanDisk (state g new) → OnOk result (IsHonest g new)
   -- no fault is forgotten, and only one shuts the store
-  pub lasts : Lasts g old new
+  pub lasts : KeepsFaults g old new

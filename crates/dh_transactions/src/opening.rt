@@ -2,14 +2,14 @@
 ghost use Rattle.std.specs.Prelude.{◌≡◌, false, None, IfOk, OnOk};
 ghost use Rattle.std.specs.FinMap.{get};
 ghost use Rattle.dh_checks.specs.Commands.{command_of};
-ghost use Rattle.dh_rows.specs.Calls.{IsHonest, GoesWithin};
+ghost use Rattle.dh_rows.specs.Calls.{IsHonest, MakesNoCommitInside};
 ghost use Rattle.dh_records.specs.Codings as coding;
 ghost use Rattle.dh_records.specs.Lists.{world_of};
 ghost use Rattle.dh_records.specs.Constraints.{has_language};
-ghost use Rattle.dh_tables.specs.Going.{HasRecords, Lacks, Makes, Stays, records};
+ghost use Rattle.dh_tables.specs.Going.{HasRecords, LacksKey, ChangesRecords, StaysHonest, records};
 ghost use Rattle.dh_transactions.specs.Opening.{project_row, main_lang, with_row, with_lang, with_project};
 ghost use Rattle.dh_records.specs.Constraints.{AreSound};
-ghost use Rattle.dh_transactions.specs.Steps.{AreConsistent, Turns};
+ghost use Rattle.dh_transactions.specs.Steps.{AreConsistent, TakesTurn};
 
 use dh_checks::{CheckedChange, NewProject, ProjectSettings};
 use dh_commands::open;
@@ -50,18 +50,18 @@ fn rows_of(
 }
 
 fn add_row<S: Alter>(tables: &mut Tables<S>, row: &ProjectRow) -> Result<(), Refusal>
-    requires free { Lacks S.Store tables.old coding.projects (λ l. l.projects) row.now }
-    ensures makes { Makes S.Store tables.old tables.new result
+    requires free { LacksKey S.Store tables.old coding.projects (λ l. l.projects) row.now }
+    ensures makes { ChangesRecords S.Store tables.old tables.new result
         (with_row row.now) }
 {
     Ok(tables.add_project(row)?)
 }
 
 fn add_main<S: Alter>(tables: &mut Tables<S>, lang: &LangRow) -> Result<(), Refusal>
-    requires free { Lacks S.Store tables.old coding.langs (λ l. l.langs) lang.now }
+    requires free { LacksKey S.Store tables.old coding.langs (λ l. l.langs) lang.now }
     requires new { HasRecords S.Store tables.old
         (λ l. has_language l lang.now.host lang.now.lang ≡ false) }
-    ensures makes { Makes S.Store tables.old tables.new result
+    ensures makes { ChangesRecords S.Store tables.old tables.new result
         (with_lang lang.now) }
 {
     Ok(tables.add_lang(lang)?)
@@ -76,7 +76,7 @@ fn add_project<S: Alter>(
 ) -> Result<(), Refusal>
     requires sound { HasRecords S.Store tables.old AreSound }
     requires none { HasRecords S.Store tables.old (λ l. get (world_of l) host.now ≡ None) }
-    ensures makes { Makes S.Store tables.old tables.new result
+    ensures makes { ChangesRecords S.Store tables.old tables.new result
         (with_project host.now project) }
 {
     let (row, main) = rows_of(alloc, host, project)?;
@@ -93,10 +93,10 @@ pub fn open_project<S: Alter>(
 ) -> Result<Answer, Refusal>
     requires consistent { HasRecords S.Store tables.old AreConsistent }
     requires none { HasRecords S.Store tables.old (λ l. get (world_of l) host.now ≡ None) }
-    ensures goes { GoesWithin S.Store tables.old tables.new }
-    ensures live { OnOk result (Stays S.Store tables.old tables.new) }
+    ensures goes { MakesNoCommitInside S.Store tables.old tables.new }
+    ensures live { OnOk result (StaysHonest S.Store tables.old tables.new) }
     ensures turns { IsHonest S.Store tables.new
-        → Turns (records S.Store tables.old) (records S.Store tables.new)
+        → TakesTurn (records S.Store tables.old) (records S.Store tables.new)
         (command_of host.now change.entry) result }
 {
     let project = open(change)?;

@@ -3,11 +3,11 @@ ghost use Rattle.std.specs.Prelude.{◌≡◌, ◌⊎◌, false, Ok, Err, IfOk, 
 ghost use Rattle.sqlite.specs.Held.{state};
 ghost use Rattle.sqlite.specs.State.{HasCleanDisk};
 ghost use Rattle.dh_checks.specs.Commands.{command_of};
-ghost use Rattle.dh_rows.specs.Calls.{IsHonest, Lasts, LeavesNoMore, Goes};
+ghost use Rattle.dh_rows.specs.Calls.{IsHonest, KeepsFaults, LeavesNoMore, MakesNoCommit};
 ghost use Rattle.dh_world.specs.CheckResults.{IsFault};
 ghost use Rattle.dh_transactions.specs.Crashes.{LeavesEnd};
-ghost use Rattle.dh_tables.specs.Going.{HasRecords, IsOver, IsWithin, Stays, records, last_records};
-ghost use Rattle.dh_transactions.specs.Steps.{AreConsistent, IsNotEnded, Transacts, Turns};
+ghost use Rattle.dh_tables.specs.Going.{HasRecords, IsOver, IsWithin, StaysHonest, records, last_records};
+ghost use Rattle.dh_transactions.specs.Steps.{AreConsistent, IsNotEnded, IsOneTransaction, TakesTurn};
 
 use crate::editing::edit_project;
 use crate::opening::open_project;
@@ -31,10 +31,10 @@ fn work<S: Alter>(
 ) -> Result<Answer, Refusal>
     requires within { IsWithin S.Store tables.old }
     requires consistent { HasRecords S.Store tables.old AreConsistent }
-    ensures goes { Goes S.Store tables.old tables.new }
-    ensures live { OnOk result (Stays S.Store tables.old tables.new) }
+    ensures goes { MakesNoCommit S.Store tables.old tables.new }
+    ensures live { OnOk result (StaysHonest S.Store tables.old tables.new) }
     ensures turns { IsHonest S.Store tables.new
-        → Turns (records S.Store tables.old) (records S.Store tables.new)
+        → TakesTurn (records S.Store tables.old) (records S.Store tables.new)
         (command_of host.now change.entry) result }
 {
     let Some(facts) = look(tables, alloc, host, &change)? else {
@@ -60,7 +60,7 @@ fn end<S: Alter>(tables: &mut Tables<S>, worked: Result<Answer, Refusal>) -> Res
         (λ e. IsFault e ⊎ LeavesNoMore S.Store tables.old tables.new) }
     ensures live { OnOk worked (IsHonest S.Store tables.old)
         → HasCleanDisk (state S.Store tables.new) → OnOk result (IsHonest S.Store tables.new) }
-    ensures lasts { Lasts S.Store tables.old tables.new }
+    ensures lasts { KeepsFaults S.Store tables.old tables.new }
 {
     match worked {
         Ok(answer) => {
@@ -86,7 +86,7 @@ pub fn run<S: Alter>(
         → records S.Store tables.old ≡ last_records S.Store tables.old }
     requires consistent { IsHonest S.Store tables.old
         → AreConsistent (last_records S.Store tables.old) }
-    ensures { Transacts S.Store tables.old tables.new command.now result }
+    ensures { IsOneTransaction S.Store tables.old tables.new command.now result }
 {
     let CheckedCommand { host, change } = check(alloc, command)?;
     tables.begin()?;

@@ -12,7 +12,7 @@ use Rattle.dh_faults.specs.declared.fault.Fault.TheVariants.{Store, Memory}
 use Rattle.dh_faults.specs.Faults.{OnStore, UnlessStore}
 use Rattle.dh_lookup.specs.Lookup as lookup
 use Rattle.dh_lookup.specs.declared.seen_project.SeenProject.{SeenProject}
-use Rattle.dh_rows.specs.Calls.{IsBlamed, IsHonest, IsSame, Lasts, seen}
+use Rattle.dh_rows.specs.Calls.{IsBlamed, IsHonest, IsSame, KeepsFaults, seen}
 use Rattle.dh_schema.specs.Tables.{lists_of}
 use Rattle.dh_world.specs.declared.caller.Caller.{Caller}
 use Rattle.dh_world.specs.World.{Text}
@@ -23,9 +23,9 @@ use Rattle.dh_schema.proofs.CallLemmas.{on_store}
 use Rattle.dh_schema.specs.Calling as call
 use Rattle.dh_schema.specs.Calling.{IsSettled}
 use Rattle.dh_schema.specs.InTurn.{blamed_before, goes_none, goes_on, refused_on, same_none, same_on}
-use Rattle.dh_view.specs.Remembered.{AreLanguages, IsClassed, IsKnown, IsSeen}
+use Rattle.dh_view.specs.Remembered.{AreLanguagesRead, IsClassed, IsKnown, IsSeen}
 use Rattle.dh_view.specs.Right.{IsRightAt, IsRightIn}
-use Rattle.dh_view.specs.View.{ShowsClass, doubt_of, has_project, host_in, languages_in, meaning_of, project_in, sees, shown, shown_in, shown_under, slug_in, version_in, fails_on, looks_on, Asks, Fails, Looks, Obtains}
+use Rattle.dh_view.specs.View.{ShowsClass, doubt_of, has_project, host_in, languages_in, meaning_of, project_in, sees, shown, shown_in, shown_under, slug_in, version_in, fails_on, looks_on, LooksInTurn, FailsWithCause, LeavesUnmoved, LearnsInTurn}
 use Rattle.dh_view.specs.declared.view.View.{View}
 use Rattle.dh_view.proofs.Shown.{not_under, slug_found, under_host}
 
@@ -68,25 +68,25 @@ module _ {S : Type 0} (g : Ghosts S) where
 
   -- ---- looks in turn
 
-  was_honest : (a b : Held S) → Looks g a b → IsHonest g b → IsHonest g a
+  was_honest : (a b : Held S) → LeavesUnmoved g a b → IsHonest g b → IsHonest g a
   was_honest a b it h = (it.unmoved h).same.was_honest
 
-  pub looks_grow : (a b : Held S) → Looks g a b → doubt_of g a ≤ doubt_of g b
+  pub looks_grow : (a b : Held S) → LeavesUnmoved g a b → doubt_of g a ≤ doubt_of g b
   looks_grow a b it = go (doubt_of g b) refl
     where
       go : (n : ℕ) → doubt_of g b ≡ n → doubt_of g a ≤ n
       go zero e = let z = undoubted a (was_honest a b it (honest b e)) in omega arith
       go (suc n) e = let m = most a in omega arith
 
-  pub shown_same : (a b : Held S) (host : Option Text) (c : Caller) → Looks g a b → IsHonest g b → shown g b host c ≡ shown g a host c
+  pub shown_same : (a b : Held S) (host : Option Text) (c : Caller) → LeavesUnmoved g a b → IsHonest g b → shown g b host c ≡ shown g a host c
   shown_same a b host c it h = ap (λ l. shown_under l host c) (it.unmoved h).same.now_is
 
   -- what looks at the tables of a view leave of the view
   view_looks
       : {T : Type 0} (old new : View S g) (r : Result T Fault)
       → (new.tables.ghost_name ≡ old.tables.ghost_name) × (new.host ≡ old.host) × (new.caller ≡ old.caller)
-      → Looks g old.tables.now new.tables.now → OnStore r (Fails g old.tables.now new.tables.now)
-      → lookup.Asks (meaning_of g) old new r
+      → LeavesUnmoved g old.tables.now new.tables.now → OnStore r (FailsWithCause g old.tables.now new.tables.now)
+      → lookup.IsLook (meaning_of g) old new r
   view_looks old new r stay it told = record {
     leads = (stay.0, stay.1, stay.2, it);
     doubt = looks_grow old.tables.now new.tables.now it;
@@ -112,20 +112,20 @@ same_fault T U P Memory h = tt
 same_fault T U P Store h = h
 
 module _ {S : Type 0} {g : Ghosts S} where
-  blamed_on : {a b c : Held S} → Lasts g a b → Lasts g b c → HasCleanDisk (state g c) → IsBlamed g b c ⊎ ⊥ → IsBlamed g a c ⊎ ⊥
+  blamed_on : {a b c : Held S} → KeepsFaults g a b → KeepsFaults g b c → HasCleanDisk (state g c) → IsBlamed g b c ⊎ ⊥ → IsBlamed g a c ⊎ ⊥
   blamed_on p q clean (inl blamed) = inl (blamed_before p q clean blamed)
   blamed_on p q clean (inr never) = absurd never
 
   -- one call of the tables
-  pub asked : {T : Type 0} {a b : Held S} {r : Result T Fault} → call.Asks g a b r → Asks g a b r
+  pub asked : {T : Type 0} {a b : Held S} {r : Result T Fault} → call.LooksAtLists g a b r → LooksInTurn g a b r
   asked p = record { goes = p.goes; same = λ _. p.same; err = p.err; told = p.told }
 
   -- none
-  pub asks_none : {T : Type 0} (h : Held S) (x : T) → Asks g h h (Ok x)
+  pub asks_none : {T : Type 0} (h : Held S) (x : T) → LooksInTurn g h h (Ok x)
   asks_none h x = record { goes = goes_none h; same = λ was _. same_none h was; err = λ _. tt; told = λ _. tt }
 
   -- looks after others that were answered
-  pub asks_on : {T U : Type 0} {a b c : Held S} {x : T} {r : Result U Fault} → Asks g a b (Ok x) → Asks g b c r → Asks g a c r
+  pub asks_on : {T U : Type 0} {a b c : Held S} {x : T} {r : Result U Fault} → LooksInTurn g a b (Ok x) → LooksInTurn g b c r → LooksInTurn g a c r
   asks_on {a = a} {b = b} {r = r} p q = record {
     goes = goes_on p.goes (λ was clean. (clean, (p.same was clean).is_open)) q.goes;
     same = λ was clean.
@@ -139,7 +139,7 @@ module _ {S : Type 0} {g : Ghosts S} where
   }
 
   -- what is made of the answers, unless memory is out
-  pub asks_then : {T U : Type 0} {a b : Held S} {x : T} (r : Result U Fault) → OnStore r ⊥ → Asks g a b (Ok x) → Asks g a b r
+  pub asks_then : {T U : Type 0} {a b : Held S} {x : T} (r : Result U Fault) → OnStore r ⊥ → LooksInTurn g a b (Ok x) → LooksInTurn g a b r
   asks_then (Ok y) made p = record { goes = p.goes; same = p.same; err = λ _. tt; told = λ _. tt }
   asks_then (Err Memory) made p = record {
     goes = p.goes;
@@ -150,21 +150,21 @@ module _ {S : Type 0} {g : Ghosts S} where
   asks_then (Err Store) made p = absurd made
 
   -- a fault that is handed on, as a result of any type
-  pub asks_handed : {T U : Type 0} {a b : Held S} (r : Result U Fault) {from : Result T Fault} (fault : Fault) → from ≡ Err fault → IsErrAnd r (λ f. f ≡ fault) → Asks g a b from → Asks g a b r
+  pub asks_handed : {T U : Type 0} {a b : Held S} (r : Result U Fault) {from : Result T Fault} (fault : Fault) → from ≡ Err fault → IsErrAnd r (λ f. f ≡ fault) → LooksInTurn g a b from → LooksInTurn g a b r
   asks_handed (Ok y) fault was same p = absurd same
   asks_handed {T = T} {U = U} {a = a} {b = b} (Err f) fault was same p =
-      let q : Asks g {T = T} a b (Err f) = subst (Asks g a b) (was ∙ ap Err (sym same)) p in
+      let q : LooksInTurn g {T = T} a b (Err f) = subst (LooksInTurn g a b) (was ∙ ap Err (sym same)) p in
       record { goes = q.goes; same = λ _ _. tt; err = q.err; told = λ clean. same_fault T U (IsBlamed g a b ⊎ ⊥) f (q.told clean) }
 
   -- answered looks leave the records as they were
-  pub still : {T : Type 0} {a b : Held S} {x : T} → Asks g a b (Ok x) → IsHonest g b → seen g lists_of b ≡ seen g lists_of a
+  pub still : {T : Type 0} {a b : Held S} {x : T} → LooksInTurn g a b (Ok x) → IsHonest g b → seen g lists_of b ≡ seen g lists_of a
   still p it = (p.same (p.goes.lasts.was it) it.0).now_is
 
 -- ---- the same outside a transaction
 
 module _ {S : Type 0} {g : Ghosts S} where
   -- there looks leave all as it was, also where one was refused
-  same_from_asks : {T : Type 0} (a b : Held S) (r : Result T Fault) → IsSettled g a → IsHonest g b → Asks g a b r → IsSame g lists_of a b
+  same_from_asks : {T : Type 0} (a b : Held S) (r : Result T Fault) → IsSettled g a → IsHonest g b → LooksInTurn g a b r → IsSame g lists_of a b
   same_from_asks a b (Ok x) was it p = p.same (p.goes.lasts.was it) it.0
   same_from_asks a b (Err fault) was it p =
       elim (p.err it) [
@@ -178,7 +178,7 @@ module _ {S : Type 0} {g : Ghosts S} where
         }
       ]
 
-  pub looks_from : {T : Type 0} {a b : Held S} {r : Result T Fault} → (IsHonest g a → IsSettled g a) → Asks g a b r → Looks g a b
+  pub looks_from : {T : Type 0} {a b : Held S} {r : Result T Fault} → (IsHonest g a → IsSettled g a) → LooksInTurn g a b r → LeavesUnmoved g a b
   looks_from {a = a} {b = b} {r = r} settled p = record {
     lasts = p.goes.lasts;
     unmoved = λ it. record {
@@ -187,7 +187,7 @@ module _ {S : Type 0} {g : Ghosts S} where
     };
   }
 
-  pub fails_from : {T : Type 0} {a b : Held S} (r : Result T Fault) → Asks g a b r → OnStore r (Fails g a b)
+  pub fails_from : {T : Type 0} {a b : Held S} (r : Result T Fault) → LooksInTurn g a b r → OnStore r (FailsWithCause g a b)
   fails_from (Ok x) p = tt
   fails_from (Err Memory) p = tt
   fails_from (Err Store) p = record {
@@ -197,7 +197,7 @@ module _ {S : Type 0} {g : Ghosts S} where
 
 module _ {S : Type 0} {g : Ghosts S} where
   -- looks that were answered leave no transaction open
-  pub settled_on : {T : Type 0} {a b : Held S} (r : Result T Fault) → (IsHonest g a → IsSettled g a) → Asks g a b r → OnOk r (IsHonest g b → IsSettled g b)
+  pub settled_on : {T : Type 0} {a b : Held S} (r : Result T Fault) → (IsHonest g a → IsSettled g a) → LooksInTurn g a b r → OnOk r (IsHonest g b → IsSettled g b)
   settled_on (Ok x) settled p =
       λ it.
       let before = settled (p.goes.lasts.was it) in
@@ -208,7 +208,7 @@ module _ {S : Type 0} {g : Ghosts S} where
 module _ {S : Type 0} {g : Ghosts S} where
   -- outside a transaction looks leave what holds of the records
   pub still_told
-      : {T : Type 0} {a b : Held S} {r : Result T Fault} (P : Lists → Type 0) → (IsHonest g a → IsSettled g a) → Asks g a b r
+      : {T : Type 0} {a b : Held S} {r : Result T Fault} (P : Lists → Type 0) → (IsHonest g a → IsSettled g a) → LooksInTurn g a b r
       → (IsHonest g a → P (seen g lists_of a)) → IsHonest g b → P (seen g lists_of b)
   still_told P settled p fact it =
       let same = ((looks_from settled p).unmoved it).same in
@@ -219,13 +219,13 @@ pub record Recalls {S : Type 0} (g : Ghosts S) (v : View S g) (h : Held S) : Typ
   pub right : IsRightAt g h v.host
   pub is_known : IsKnown g h v.host v.known
   pub is_seen : IsSeen g h v.host v.caller v.slug
-  pub are_languages : AreLanguages g h v.host v.langs
+  pub are_languages : AreLanguagesRead g h v.host v.langs
   pub is_classed : IsClassed g h v.host v.caller
 
 -- looks at its tables leave it so
 pub recalls
     : {S : Type 0} {g : Ghosts S} {T : Type 0} (v : View S g) {h : Held S} {r : Result T Fault}
-    → (IsHonest g v.tables.now → IsSettled g v.tables.now) → Asks g v.tables.now h r → Recalls g v h
+    → (IsHonest g v.tables.now → IsSettled g v.tables.now) → LooksInTurn g v.tables.now h r → Recalls g v h
 recalls v settled looks = record {
   right = λ host is. still_told (λ l. IsRightIn l host) settled looks (v.right host is);
   is_known = λ known. still_told (λ l. has_project l v.host ≡ true) settled looks (v.is_known known);
@@ -246,14 +246,14 @@ same_answer f (Err x) v w e h = tt
 
 module _ {S : Type 0} {g : Ghosts S} {T U : Type 0} where
   -- a look whose answer is that of all, after others that were answered
-  pub reads_on : {a b c : Held S} {x : T} {r : Result U Fault} {v w : Lists → U} → Asks g a b (Ok x) → Obtains g b c r (λ l u. u ≡ v l) → (IsHonest g b → v (seen g lists_of b) ≡ w (seen g lists_of a)) → Obtains g a c r (λ l u. u ≡ w l)
+  pub reads_on : {a b c : Held S} {x : T} {r : Result U Fault} {v w : Lists → U} → LooksInTurn g a b (Ok x) → LearnsInTurn g b c r (λ l u. u ≡ v l) → (IsHonest g b → v (seen g lists_of b) ≡ w (seen g lists_of a)) → LearnsInTurn g a c r (λ l u. u ≡ w l)
   reads_on {r = r} first next same = record {
     asks = asks_on first next.asks;
     value = λ honest. same_answer (λ u. u) r _ _ (same (next.asks.goes.lasts.was honest)) (next.value honest);
   }
 
   -- a refusal that is handed on answers nothing
-  pub obtains_handed : {a b : Held S} {fact : Lists → U → Type 0} (r : Result U Fault) {from : Result T Fault} (fault : Fault) → from ≡ Err fault → IsErrAnd r (λ f. f ≡ fault) → Asks g a b from → Obtains g a b r fact
+  pub obtains_handed : {a b : Held S} {fact : Lists → U → Type 0} (r : Result U Fault) {from : Result T Fault} (fault : Fault) → from ≡ Err fault → IsErrAnd r (λ f. f ≡ fault) → LooksInTurn g a b from → LearnsInTurn g a b r fact
   obtains_handed {a = a} {b = b} {fact = fact} r fault was is it = record { asks = asks_handed r fault was is it; value = λ _. none r is }
     where
       none : (r : Result U Fault) → IsErrAnd r (λ f. f ≡ fault) → IfOk r (fact (seen g lists_of a))
@@ -265,24 +265,24 @@ module _ {S : Type 0} (g : Ghosts S) where
   pub view_asks
       : {T : Type 0} {a b : View S g} {r : Result T Fault}
       → (b.tables.ghost_name ≡ a.tables.ghost_name) × (b.host ≡ a.host) × (b.caller ≡ a.caller)
-      → (IsHonest g a.tables.now → IsSettled g a.tables.now) → Asks g a.tables.now b.tables.now r
-      → lookup.Asks (meaning_of g) a b r
+      → (IsHonest g a.tables.now → IsSettled g a.tables.now) → LooksInTurn g a.tables.now b.tables.now r
+      → lookup.IsLook (meaning_of g) a b r
   view_asks {a = a} {b = b} {r = r} stay settled p = view_looks g a b r stay (looks_from settled p) (fails_from r p)
 
   -- the same after a call on the view
   pub view_on
       : {T U : Type 0} {a b c : View S g} {x : T} {r : Result U Fault}
-      → lookup.Asks (meaning_of g) a b (Ok x)
+      → lookup.IsLook (meaning_of g) a b (Ok x)
       → (c.tables.ghost_name ≡ b.tables.ghost_name) × (c.host ≡ b.host) × (c.caller ≡ b.caller)
-      → (IsHonest g b.tables.now → IsSettled g b.tables.now) → Asks g b.tables.now c.tables.now r
-      → lookup.Asks (meaning_of g) a c r
+      → (IsHonest g b.tables.now → IsSettled g b.tables.now) → LooksInTurn g b.tables.now c.tables.now r
+      → lookup.IsLook (meaning_of g) a c r
   view_on {a = a} {b = b} {c = c} {r = r} p stay settled q =
-      let led : Looks g a.tables.now b.tables.now = p.leads.3 in
+      let led : LeavesUnmoved g a.tables.now b.tables.now = p.leads.3 in
       view_looks g a c r (stay.0 ∙ p.leads.0, stay.1 ∙ p.leads.1, stay.2 ∙ p.leads.2)
       (looks_on led (looks_from settled q)) (on_store r (fails_on led) (fails_from r q))
 
   -- what was found before a call is found after it
-  module _ {T : Type 0} {a b : View S g} {x : T} (p : lookup.Asks (meaning_of g) a b (Ok x)) (it : IsHonest g b.tables.now) where
+  module _ {T : Type 0} {a b : View S g} {x : T} (p : lookup.IsLook (meaning_of g) a b (Ok x)) (it : IsHonest g b.tables.now) where
     pub still_sees : (slug : Text) → sees (seen g lists_of a.tables.now) a.host a.caller slug ≡ true → sees (seen g lists_of b.tables.now) b.host b.caller slug ≡ true
     still_sees slug fact =
         ap (λ l. sees l b.host b.caller slug) (p.leads.3.unmoved it).same.now_is ∙ ap (λ h. sees (seen g lists_of a.tables.now) h b.caller slug) p.leads.1
@@ -295,16 +295,16 @@ module _ {S : Type 0} (g : Ghosts S) where
   -- what a call tells after another that was answered
   pub tells_on
       : {T U : Type 0} {a b c : View S g} {x : T} {r : Result (Option U) Fault} (f k : SeenProject → Option U)
-      → lookup.Asks (meaning_of g) a b (Ok x) → lookup.Asks (meaning_of g) b c r → lookup.TellsMaybe (meaning_of g) b c r f
+      → lookup.IsLook (meaning_of g) a b (Ok x) → lookup.IsLook (meaning_of g) b c r → lookup.AnswersMaybe (meaning_of g) b c r f
       → (IsHonest g b.tables.now → option_and_then f (shown g a.tables.now a.host a.caller) ≡ option_and_then k (shown g a.tables.now a.host a.caller))
-      → lookup.TellsMaybe (meaning_of g) a c r k
+      → lookup.AnswersMaybe (meaning_of g) a c r k
   tells_on {b = b} {c = c} {r = r} f k p q told same d =
       let low : doubt_of g b.tables.now ≤ doubt_of g c.tables.now = q.doubt in
       let was : doubt_of g b.tables.now ≡ 0 = omega (arith, d) in
       same_answer (λ x. x) r _ _ (ap (option_and_then f) (p.kept was) ∙ same (honest g b.tables.now was)) (told d)
 
   -- what stands under the host of a view, where a project does
-  module _ {a b : View S g} {o : Option Text} (p : lookup.Asks (meaning_of g) a b (Ok o))
+  module _ {a b : View S g} {o : Option Text} (p : lookup.IsLook (meaning_of g) a b (Ok o))
       (value : IsHonest g b.tables.now → o ≡ host_in (seen g lists_of a.tables.now) a.host) where
     -- the slug that was looked up by the host and the class alone
     pub slug_under_host
@@ -324,7 +324,7 @@ module _ {S : Type 0} (g : Ghosts S) where
         : {U : Type 0} {h : Held S} {r : Result (Option U) Fault} {v : Option U} (f : SeenProject → Option U) (host : Text) → o ≡ Some host
         → (IsHonest g b.tables.now → (row : ProjectRow) → row.host ≡ host → project_in (seen g lists_of a.tables.now) a.host ≡ Some (project_of (seen g lists_of a.tables.now) row)
         → v ≡ f (shown_in (seen g lists_of a.tables.now) row a.caller))
-        → Asks g b.tables.now h r → (IsHonest g h → IfOk r (λ x. x ≡ v))
+        → LooksInTurn g b.tables.now h r → (IsHonest g h → IfOk r (λ x. x ≡ v))
         → doubt_of g h ≡ 0 → IfOk r (λ x. x ≡ option_and_then f (shown g a.tables.now a.host a.caller))
     maybe_right {h = h} {r = r} f host is e asks reads d =
         let it = honest g h d in
@@ -340,7 +340,7 @@ module _ {S : Type 0} (g : Ghosts S) where
         : {U Z : Type 0} {h : Held S} {r : Result (Vec U Z) Fault} (Fact : List U → Type 0) (f : SeenProject → List U) (host : Text) → o ≡ Some host
         → (IsHonest g b.tables.now → (row : ProjectRow) → row.host ≡ host → project_in (seen g lists_of a.tables.now) a.host ≡ Some (project_of (seen g lists_of a.tables.now) row)
         → (v : List U) → Fact v → v ≡ f (shown_in (seen g lists_of a.tables.now) row a.caller))
-        → Asks g b.tables.now h r → (IsHonest g h → IfOk r (λ list. Fact list.items))
+        → LooksInTurn g b.tables.now h r → (IsHonest g h → IfOk r (λ list. Fact list.items))
         → doubt_of g h ≡ 0 → IfOk r (λ list. list.items ≡ option_map_or f (shown g a.tables.now a.host a.caller) [])
     all_under {h = h} {r = r} Fact f host is e asks told d =
         let it = honest g h d in

@@ -46,8 +46,8 @@ module _ {S : Type 0} (g : Ghosts S) (h : Held S) (host : Option Text) where
       (slug : Text) → found ≡ Some slug → HasRecords g h (λ l. sees l host caller slug ≡ true)
 
   -- languages that were read are those of the project
-  abbrev pub AreLanguages : Option (List Text) → Type 0
-  AreLanguages read =
+  abbrev pub AreLanguagesRead : Option (List Text) → Type 0
+  AreLanguagesRead read =
       (langs : List Text) → read ≡ Some langs → HasRecords g h (λ l. langs ≡ languages_in l host)
 
   -- the caller is one who shows his class as his pass

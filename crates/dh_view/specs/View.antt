@@ -9,7 +9,7 @@ use Rattle.sqlite_trees.specs.View.{doubt}
 use Rattle.sqlite_trees.specs.declared.store.Store.{Ghosts}
 use Rattle.sqlite.specs.State.{HasCleanDisk}
 use Rattle.sqlite.specs.Held.{Held, state}
-use Rattle.dh_rows.specs.Calls.{Goes, IsBlamed, IsHonest, IsSame, Lasts, Leaves, Refuses, Stays, seen}
+use Rattle.dh_rows.specs.Calls.{MakesNoCommit, IsBlamed, IsHonest, IsSame, KeepsFaults, CrashLeaves, RefusalUndoes, LeavesAllAsItWas, seen}
 use Rattle.dh_versions.specs.declared.version.Version.{Version}
 use Rattle.dh_lookup.specs.Lookup as lookup
 use Rattle.dh_lookup.specs.Lookup.{Meaning}
@@ -23,7 +23,7 @@ use Rattle.dh_world.specs.World.{Text}
 use Rattle.dh_world.specs.Visibility.{may_see}
 use Rattle.dh_classes.specs.Classes.{class_holds, versions_for}
 use Rattle.dh_world.specs.Seen as sight
-use Rattle.dh_schema.specs.Calling.{Blames, IsSettled, Learns}
+use Rattle.dh_schema.specs.Calling.{StoreFaultHasCause, IsSettled, AnswersBy}
 use Rattle.dh_schema.specs.InTurn.{blamed_before, lasts_none, lasts_on, same_none, same_on, shut_before}
 use Rattle.dh_records.specs.Lists.{Lists, is_version_of, project_of, world_of}
 use Rattle.dh_schema.specs.Tables.{lists_of}
@@ -95,39 +95,39 @@ module _ {S : Type 0} (g : Ghosts S) where
   -- The lists are those of before, and a crash leaves nothing that it could not leave before.
   pub record IsUnmoved (old new : Held S) : Type 0 where
     pub same : IsSame g lists_of old new
-    pub left : Leaves g lists_of old new (λ w. ⊥)
+    pub left : CrashLeaves g lists_of old new (λ w. ⊥)
 
   -- what a look leaves, whatever it answers
-  pub record Looks (old new : Held S) : Type 0 where
-    pub lasts : Lasts g old new
+  pub record LeavesUnmoved (old new : Held S) : Type 0 where
+    pub lasts : KeepsFaults g old new
     pub unmoved : IsHonest g new → IsUnmoved old new
 
   -- Why a look may answer `Store`.
-  pub record Fails (old new : Held S) : Type 0 where
-    pub lasts : Lasts g old new
+  pub record FailsWithCause (old new : Held S) : Type 0 where
+    pub lasts : KeepsFaults g old new
     -- the store counted a fault in the look or was shut before it, or a transaction was open
     pub cause : HasCleanDisk (state g new) → IsBlamed g old new ⊎ (old.in_transaction ≡ true)
 
   module _ {T : Type 0} (old new : Held S) (result : Result T Fault) where
     -- What looks at the tables leave, one or several in turn, or none.
-    pub record Asks : Type 0 where
+    pub record LooksInTurn : Type 0 where
       -- nothing is committed, and a crash leaves nothing more
-      pub goes : Goes g old new
+      pub goes : MakesNoCommit g old new
       -- those that were answered left all as it was, at a store that was honest
-      pub same : IsHonest g old → Stays g lists_of old new result
+      pub same : IsHonest g old → LeavesAllAsItWas g lists_of old new result
       -- one that was refused did too, or within a transaction undid all since its begin
-      pub err : Refuses g lists_of old new result
+      pub err : RefusalUndoes g lists_of old new result
       -- `Store` is told for a fault of the store alone
-      pub told : Blames g old new result ⊥
+      pub told : StoreFaultHasCause g old new result ⊥
 
     -- What such looks leave, whose answer and the records before stand so to each other.
-    pub record Obtains (fact : Lists → T → Type 0) : Type 0 where
-      pub asks : Asks
-      pub value : Learns g old new result fact
+    pub record LearnsInTurn (fact : Lists → T → Type 0) : Type 0 where
+      pub asks : LooksInTurn
+      pub value : AnswersBy g old new result fact
 
     -- What such looks leave that answer this of the records before.
-    abbrev pub Reads : (Lists → T) → Type 0
-    Reads value = Obtains (λ l read. read ≡ value l)
+    abbrev pub ReadsInTurn : (Lists → T) → Type 0
+    ReadsInTurn value = LearnsInTurn (λ l read. read ≡ value l)
 
   -- How a view is read: by what its tables show under its host to its caller, who both stay.
   abbrev pub meaning_of : Meaning (View S g)
@@ -135,9 +135,9 @@ module _ {S : Type 0} (g : Ghosts S) where
     content = λ v. shown v.tables.now v.host v.caller;
     doubt = λ v. doubt_of v.tables.now;
     leads = λ a b. (b.tables.ghost_name ≡ a.tables.ghost_name) × (b.host ≡ a.host)
-        × (b.caller ≡ a.caller) × Looks a.tables.now b.tables.now;
+        × (b.caller ≡ a.caller) × LeavesUnmoved a.tables.now b.tables.now;
     keeps = λ a b. IsHonest g b.tables.now → IsUnmoved a.tables.now b.tables.now;
-    fails = λ a b. Fails a.tables.now b.tables.now;
+    fails = λ a b. FailsWithCause a.tables.now b.tables.now;
   }
 
   -- What looks at a view's tables outside a transaction leave, whose answer and the records before
@@ -145,9 +145,9 @@ module _ {S : Type 0} (g : Ghosts S) where
   pub record LooksUp
       {T : Type 0} (old new : View S g) (result : Result T Fault) (fact : Lists → T → Type 0)
       : Type 0 where
-    pub asks : lookup.Asks meaning_of old new result
+    pub asks : lookup.IsLook meaning_of old new result
     pub settled : OnOk result (IsHonest g new.tables.now → IsSettled g new.tables.now)
-    pub value : Learns g old.tables.now new.tables.now result fact
+    pub value : AnswersBy g old.tables.now new.tables.now result fact
 
   pub unmoved_none : (h : Held S) → IsHonest g h → IsUnmoved h h
   unmoved_none h it = record {
@@ -155,7 +155,7 @@ module _ {S : Type 0} (g : Ghosts S) where
     left = λ _ _ db may. inl may;
   }
 
-  pub looks_none : (h : Held S) → Looks h h
+  pub looks_none : (h : Held S) → LeavesUnmoved h h
   looks_none h = record { lasts = lasts_none h; unmoved = unmoved_none h }
 
 -- what holds over two looks in turn
@@ -170,7 +170,8 @@ unmoved_on p q = record {
 }
 
 pub looks_on
-    : {S : Type 0} {g : Ghosts S} {a b c : Held S} → Looks g a b → Looks g b c → Looks g a c
+    : {S : Type 0} {g : Ghosts S} {a b c : Held S} → LeavesUnmoved g a b → LeavesUnmoved g b c
+    → LeavesUnmoved g a c
 looks_on p q = record {
   lasts = lasts_on p.lasts q.lasts;
   unmoved = λ it. unmoved_on (p.unmoved (q.unmoved it).same.was_honest) (q.unmoved it);
@@ -180,7 +181,8 @@ looks_on p q = record {
 
 -- A cause of the last look is one of all.
 pub fails_on
-    : {S : Type 0} {g : Ghosts S} {a b c : Held S} → Looks g a b → Fails g b c → Fails g a c
+    : {S : Type 0} {g : Ghosts S} {a b c : Held S} → LeavesUnmoved g a b → FailsWithCause g b c
+    → FailsWithCause g a c
 fails_on {g = g} {b = b} p q = record {
   lasts = lasts_on p.lasts q.lasts;
   cause = λ clean.

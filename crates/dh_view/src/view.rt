@@ -1,7 +1,7 @@
 //! What a caller sees of the tables, as a `Lookup`.
 
 ghost use Rattle.std.specs.Prelude.{◌≡◌};
-ghost use Rattle.dh_view.specs.Remembered.{AreLanguages, IsClassed, IsKnown, IsSeen};
+ghost use Rattle.dh_view.specs.Remembered.{AreLanguagesRead, IsClassed, IsKnown, IsSeen};
 ghost use Rattle.dh_view.specs.Right.{IsRightAt};
 
 mod aliases;
@@ -38,7 +38,7 @@ pub struct View<'a, S: Alter> {
     ghost is_classed: { IsClassed S.Store tables.now host caller },
     ghost is_known: { IsKnown S.Store tables.now host known },
     ghost is_seen: { IsSeen S.Store tables.now host caller slug },
-    ghost are_languages: { AreLanguages S.Store tables.now host langs },
+    ghost are_languages: { AreLanguagesRead S.Store tables.now host langs },
 }
 
 impl<'a, S: Alter> View<'a, S> {

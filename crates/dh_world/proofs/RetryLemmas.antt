@@ -57,13 +57,13 @@ module _ (P : Project → Answer → Type 0) where
 -- ---- what a change leaves
 
 -- The write key and each answer that was kept; and the answer that it gives now, where it has a retry key.
-record Leaves (p : Project) (kept_under : Option UsedKey) (q : Project) (a : Answer) : Type 0 where
+record LeavesAnswers (p : Project) (kept_under : Option UsedKey) (q : Project) (a : Answer) : Type 0 where
   same_key : q.wkey ≡ p.wkey
   keeps : (key : UsedKey) (first : Answer) → get p.used key ≡ Some first → get q.used key ≡ Some first
   first : (key : UsedKey) → kept_under ≡ Some key → get q.used key ≡ Some a
 
 -- a project whose write key and kept answers are as they were
-untouched : (p q : Project) (a : Answer) → q.wkey ≡ p.wkey → q.used ≡ p.used → Leaves p None q a
+untouched : (p q : Project) (a : Answer) → q.wkey ≡ p.wkey → q.used ≡ p.used → LeavesAnswers p None q a
 untouched p q a w u = record {
   same_key = w;
   keeps = λ key first e. ap (λ m. get m key) u ∙ e;
@@ -71,7 +71,7 @@ untouched p q a w u = record {
 }
 
 -- a key that was not used keeps the answer
-newly_kept : (p q : Project) (key : UsedKey) (a : Answer) → q.wkey ≡ p.wkey → q.used ≡ p.used → get p.used key ≡ None → Leaves p (Some key) (record q { used = insert q.used key a }) a
+newly_kept : (p q : Project) (key : UsedKey) (a : Answer) → q.wkey ≡ p.wkey → q.used ≡ p.used → get p.used key ≡ None → LeavesAnswers p (Some key) (record q { used = insert q.used key a }) a
 newly_kept p q key a w u free = record {
   same_key = w;
   keeps = λ other first e. get-insert used_total q.used key a other ∙ elsewhere other first e (eq_by_cmp used_cmp other key) refl;
@@ -92,9 +92,9 @@ newly_kept p q key a w u free = record {
     elsewhere other first e false t = ap (λ m. get m other) u ∙ e
 
 -- by the answer that is kept
-at_once : (p : Project) (key : UsedKey) (o : Option Answer) (next : Change) → get p.used key ≡ o → (o ≡ None → Yields (Leaves p (Some key)) next) → Yields (Leaves p (Some key)) (once p o next)
+at_once : (p : Project) (key : UsedKey) (o : Option Answer) (next : Change) → get p.used key ≡ o → (o ≡ None → Yields (LeavesAnswers p (Some key)) next) → Yields (LeavesAnswers p (Some key)) (once p o next)
 at_once p key None next is h = h refl
-at_once p key (Some first) next is h = gives (Leaves p (Some key)) p first record {
+at_once p key (Some first) next is h = gives (LeavesAnswers p (Some key)) p first record {
   same_key = refl;
   keeps = λ other one e. e;
   first = λ other e. subst (λ k. get p.used k ≡ Some first) (the_same other e) is;
@@ -103,22 +103,22 @@ at_once p key (Some first) next is h = gives (Leaves p (Some key)) p first recor
     the_same : (other : UsedKey) → ◌≡◌ {A = Option UsedKey} (Some key) (Some other) → key ≡ other
     the_same other e = cc
 
-done : (p q : Project) (a : Answer) → q.wkey ≡ p.wkey → q.used ≡ p.used → Yields (Leaves p None) (Ok (q, a))
-done p q a w u = gives (Leaves p None) q a (untouched p q a w u)
+done : (p q : Project) (a : Answer) → q.wkey ≡ p.wkey → q.used ≡ p.used → Yields (LeavesAnswers p None) (Ok (q, a))
+done p q a w u = gives (LeavesAnswers p None) q a (untouched p q a w u)
 
-of_pass : (p : Project) (pass : Text) (q : Project) → q.wkey ≡ p.wkey → q.used ≡ p.used → Yields (Leaves p None) (at_pass p pass q)
-of_pass p pass q w u = by_test (Leaves p None) (contains_key p.passes pass) _ _ (done p q _ w u) (refuses (Leaves p None) _)
+of_pass : (p : Project) (pass : Text) (q : Project) → q.wkey ≡ p.wkey → q.used ≡ p.used → Yields (LeavesAnswers p None) (at_pass p pass q)
+of_pass p pass q w u = by_test (LeavesAnswers p None) (contains_key p.passes pass) _ _ (done p q _ w u) (refuses (LeavesAnswers p None) _)
 
 -- what sets a list keeps all else
-sets : (p : Project) {X : Type 0} (with : List X → Project) → ((xs : List X) → Yields (Leaves p None) (Ok (with xs, Done))) → (r : Result (List X) Refusal) → Yields (Leaves p None) (set_to with r)
+sets : (p : Project) {X : Type 0} (with : List X → Project) → ((xs : List X) → Yields (LeavesAnswers p None) (Ok (with xs, Done))) → (r : Result (List X) Refusal) → Yields (LeavesAnswers p None) (set_to with r)
 sets p with set (Ok xs) = set xs
-sets p with set (Err e) = refuses (Leaves p None) e
+sets p with set (Err e) = refuses (LeavesAnswers p None) e
 
 -- ---- which changes have a retry key
 
 -- a change without one
 abbrev IsPlain : CommandChange → Type 0
-IsPlain c = (retry_key c ≡ None) × ((p : Project) → Yields (Leaves p None) (change c p))
+IsPlain c = (retry_key c ≡ None) × ((p : Project) → Yields (LeavesAnswers p None) (change c p))
 
 -- a push or an upload, by what it does under a key that was not used
 record IsRetried (c : CommandChange) : Type 0 where
@@ -129,15 +129,15 @@ record IsRetried (c : CommandChange) : Type 0 where
   its_key : retry_key c ≡ Some key
   unopened : opened c ≡ Err NoProject
   change_is : (p : Project) → change c p ≡ cond (bytes_eq wkey p.wkey) (once p (get p.used key) (next p)) (Err WrongKey)
-  leaves : (p : Project) → get p.used key ≡ None → Yields (Leaves p (Some key)) (next p)
+  leaves : (p : Project) → get p.used key ≡ None → Yields (LeavesAnswers p (Some key)) (next p)
 
 sort_of : (c : CommandChange) → IsPlain c ⊎ IsRetried c
 sort_of (change.NewProject lang branch private wkey) = inl (refl, λ p. refuses _ _)
 sort_of (change.AddLang lang) = inl (
   refl,
   λ p.
-      by_test (Leaves p None) (has_lang p lang) _ _ (refuses (Leaves p None) _)
-      (by_test (Leaves p None) (nat_lt (length p.languages) 30) _ _ (done p _ _ refl refl) (refuses (Leaves p None) _)),
+      by_test (LeavesAnswers p None) (has_lang p lang) _ _ (refuses (LeavesAnswers p None) _)
+      (by_test (LeavesAnswers p None) (nat_lt (length p.languages) 30) _ _ (done p _ _ refl refl) (refuses (LeavesAnswers p None) _)),
 )
 sort_of (change.Push wkey key kind name) = inr (record {
   wkey = wkey;
@@ -153,13 +153,13 @@ sort_of (change.Push wkey key kind name) = inr (record {
     place : UsedKey
     place = push_key (slug_text name) key
 
-    by_version : (p : Project) → get p.used place ≡ None → (o : Option Version) → Yields (Leaves p (Some place)) (pushed p key kind name o)
+    by_version : (p : Project) → get p.used place ≡ None → (o : Option Version) → Yields (LeavesAnswers p (Some place)) (pushed p key kind name o)
     by_version p free (Some v) =
-        by_test (Leaves p (Some place)) (same_kind v.kind kind && bytes_eq v.name name) _ _
-        (gives (Leaves p (Some place)) _ _ (newly_kept p p place _ refl refl free)) (refuses (Leaves p (Some place)) _)
+        by_test (LeavesAnswers p (Some place)) (same_kind v.kind kind && bytes_eq v.name name) _ _
+        (gives (LeavesAnswers p (Some place)) _ _ (newly_kept p p place _ refl refl free)) (refuses (LeavesAnswers p (Some place)) _)
     by_version p free None =
         let x : Fresh = after_rules p.rules (fresh p kind name) in
-        gives (Leaves p (Some place)) _ _ (newly_kept p (with_fresh (slug_text name) x p) place _ (same_wkey x.chosen) (same_used x.chosen) free)
+        gives (LeavesAnswers p (Some place)) _ _ (newly_kept p (with_fresh (slug_text name) x p) place _ (same_wkey x.chosen) (same_used x.chosen) free)
       where
         -- that a rule chose the version changes the defaults alone
         q : Bool → Project
@@ -186,24 +186,24 @@ sort_of (change.Upload wkey key slug lang replace pages) = inr (record {
     place : UsedKey
     place = upload_key slug key
 
-    by_version : (p : Project) → get p.used place ≡ None → (o : Option Version) → Yields (Leaves p (Some place)) (uploaded p key slug lang replace pages o)
-    by_version p free None = refuses (Leaves p (Some place)) _
+    by_version : (p : Project) → get p.used place ≡ None → (o : Option Version) → Yields (LeavesAnswers p (Some place)) (uploaded p key slug lang replace pages o)
+    by_version p free None = refuses (LeavesAnswers p (Some place)) _
     by_version p free (Some v) =
-        let P : Project → Answer → Type 0 = Leaves p (Some place) in
+        let P : Project → Answer → Type 0 = LeavesAnswers p (Some place) in
         by_test P (not v.active) _ _ (refuses P _)
         (by_test P (not (has_lang p lang)) _ _ (refuses P _) (gives P _ _ (newly_kept p (stored slug lang replace pages p) place _ refl refl free)))
-sort_of (change.Activate slug) = inl (refl, λ p. at_one (Leaves p None) (get p.versions slug) _ (λ v. done p _ _ refl refl))
-sort_of (change.Deactivate slug) = inl (refl, λ p. at_one (Leaves p None) (get p.versions slug) _ (λ v. done p _ _ refl refl))
-sort_of (change.Hide slug) = inl (refl, λ p. at_one (Leaves p None) (get p.versions slug) _ (λ v. done p _ _ refl refl))
-sort_of (change.Unhide slug) = inl (refl, λ p. at_one (Leaves p None) (get p.versions slug) _ (λ v. done p _ _ refl refl))
-sort_of (change.Publish slug) = inl (refl, λ p. at_one (Leaves p None) (get p.versions slug) _ (λ v. done p _ _ refl refl))
-sort_of (change.MakePrivate slug) = inl (refl, λ p. at_one (Leaves p None) (get p.versions slug) _ (λ v. done p _ _ refl refl))
-sort_of (change.Gone slug) = inl (refl, λ p. at_one (Leaves p None) (get p.versions slug) _ (λ v. done p _ _ refl refl))
+sort_of (change.Activate slug) = inl (refl, λ p. at_one (LeavesAnswers p None) (get p.versions slug) _ (λ v. done p _ _ refl refl))
+sort_of (change.Deactivate slug) = inl (refl, λ p. at_one (LeavesAnswers p None) (get p.versions slug) _ (λ v. done p _ _ refl refl))
+sort_of (change.Hide slug) = inl (refl, λ p. at_one (LeavesAnswers p None) (get p.versions slug) _ (λ v. done p _ _ refl refl))
+sort_of (change.Unhide slug) = inl (refl, λ p. at_one (LeavesAnswers p None) (get p.versions slug) _ (λ v. done p _ _ refl refl))
+sort_of (change.Publish slug) = inl (refl, λ p. at_one (LeavesAnswers p None) (get p.versions slug) _ (λ v. done p _ _ refl refl))
+sort_of (change.MakePrivate slug) = inl (refl, λ p. at_one (LeavesAnswers p None) (get p.versions slug) _ (λ v. done p _ _ refl refl))
+sort_of (change.Gone slug) = inl (refl, λ p. at_one (LeavesAnswers p None) (get p.versions slug) _ (λ v. done p _ _ refl refl))
 sort_of (change.SetDefault name) = inl (
   refl,
   λ p.
-      by_test (Leaves p None) (is_alias name) _ _ (done p _ _ refl refl)
-      (at_one (Leaves p None) (get p.versions name) _ (λ v. by_test (Leaves p None) v.active _ _ (done p _ _ refl refl) (refuses (Leaves p None) _))),
+      by_test (LeavesAnswers p None) (is_alias name) _ _ (done p _ _ refl refl)
+      (at_one (LeavesAnswers p None) (get p.versions name) _ (λ v. by_test (LeavesAnswers p None) v.active _ _ (done p _ _ refl refl) (refuses (LeavesAnswers p None) _))),
 )
 sort_of (change.AddRule place rule) = inl (refl, λ p. sets p (with_rules p) (λ _. done p _ _ refl refl) _)
 sort_of (change.DropRule place) = inl (refl, λ p. sets p (with_rules p) (λ _. done p _ _ refl refl) _)
@@ -211,26 +211,26 @@ sort_of (change.AddRedirect place redirect) = inl (refl, λ p. sets p (with_redi
 sort_of (change.DropRedirect place) = inl (refl, λ p. sets p (with_redirects p) (λ _. done p _ _ refl refl) _)
 sort_of (change.ImportRedirects list) = inl (
   refl,
-  λ p. by_test (Leaves p None) (nat_le (length (with_new list p.redirects)) 100) _ _ (done p _ _ refl refl) (refuses (Leaves p None) _),
+  λ p. by_test (LeavesAnswers p None) (nat_le (length (with_new list p.redirects)) 100) _ _ (done p _ _ refl refl) (refuses (LeavesAnswers p None) _),
 )
 sort_of (change.AddPass pass until) = inl (
   refl,
   λ p.
-      by_test (Leaves p None) (contains_key p.passes pass) _ _ (refuses (Leaves p None) _)
-      (by_test (Leaves p None) (nat_lt (len p.passes) 1000) _ _ (done p _ _ refl refl) (refuses (Leaves p None) _)),
+      by_test (LeavesAnswers p None) (contains_key p.passes pass) _ _ (refuses (LeavesAnswers p None) _)
+      (by_test (LeavesAnswers p None) (nat_lt (len p.passes) 1000) _ _ (done p _ _ refl refl) (refuses (LeavesAnswers p None) _)),
 )
 sort_of (change.DropPass pass) = inl (refl, λ p. of_pass p pass _ refl refl)
-sort_of (change.Grant pass slug) = inl (refl, λ p. at_one (Leaves p None) (get p.versions slug) _ (λ v. of_pass p pass _ refl refl))
-sort_of (change.Revoke pass slug) = inl (refl, λ p. at_one (Leaves p None) (get p.versions slug) _ (λ v. of_pass p pass _ refl refl))
+sort_of (change.Grant pass slug) = inl (refl, λ p. at_one (LeavesAnswers p None) (get p.versions slug) _ (λ v. of_pass p pass _ refl refl))
+sort_of (change.Revoke pass slug) = inl (refl, λ p. at_one (LeavesAnswers p None) (get p.versions slug) _ (λ v. of_pass p pass _ refl refl))
 
-change_leaves : (c : CommandChange) (p : Project) → Yields (Leaves p (retry_key c)) (change c p)
+change_leaves : (c : CommandChange) (p : Project) → Yields (LeavesAnswers p (retry_key c)) (change c p)
 change_leaves c p = go (sort_of c)
   where
-    go : IsPlain c ⊎ IsRetried c → Yields (Leaves p (retry_key c)) (change c p)
-    go (inl plain) = subst (λ k. Yields (Leaves p k) (change c p)) (sym plain.0) (plain.1 p)
+    go : IsPlain c ⊎ IsRetried c → Yields (LeavesAnswers p (retry_key c)) (change c p)
+    go (inl plain) = subst (λ k. Yields (LeavesAnswers p k) (change c p)) (sym plain.0) (plain.1 p)
     go (inr r) =
-        let P : Project → Answer → Type 0 = Leaves p (Some r.key) in
-        subst (λ k. Yields (Leaves p k) (change c p)) (sym r.its_key)
+        let P : Project → Answer → Type 0 = LeavesAnswers p (Some r.key) in
+        subst (λ k. Yields (LeavesAnswers p k) (change c p)) (sym r.its_key)
         (subst (Yields P) (sym (r.change_is p))
         (by_test P (bytes_eq r.wkey p.wkey) _ _ (at_once p r.key (get p.used r.key) _ refl (r.leaves p)) (refuses P _)))
 

@@ -19,14 +19,14 @@ refusal_of text.BadTarget = BadPath
 refusal_of text.Memory = OutOfMemory
 
 -- a text that passes is taken as it is; the refusal is of one that does not pass, or out of memory
-abbrev pub Reads : (Text → Bool) → Refusal → Text → Result Text Refusal → Type 0
-Reads test refusal text (Ok value) = (value ≡ text) × (test text ≡ true)
-Reads test refusal text (Err e) = ((e ≡ refusal) × (test text ≡ false)) ⊎ (e ≡ OutOfMemory)
+abbrev pub ReadsText : (Text → Bool) → Refusal → Text → Result Text Refusal → Type 0
+ReadsText test refusal text (Ok value) = (value ≡ text) × (test text ≡ true)
+ReadsText test refusal text (Err e) = ((e ≡ refusal) × (test text ≡ false)) ⊎ (e ≡ OutOfMemory)
 
 -- what has the property is answered only where nothing is wrong; a refusal is the first wrong thing, or out of memory
-abbrev pub Checks : {A : Type 0} → Option Refusal → (A → Type 0) → Result A Refusal → Type 0
-Checks wrong P (Ok value) = (wrong ≡ None) × P value
-Checks wrong P (Err e) = (wrong ≡ Some e) ⊎ (e ≡ OutOfMemory)
+abbrev pub ChecksForWrong : {A : Type 0} → Option Refusal → (A → Type 0) → Result A Refusal → Type 0
+ChecksForWrong wrong P (Ok value) = (wrong ≡ None) × P value
+ChecksForWrong wrong P (Err e) = (wrong ≡ Some e) ⊎ (e ≡ OutOfMemory)
 
 -- the same, where one with nothing wrong may be refused too
 abbrev pub ChecksOr : {A : Type 0} → Option Refusal → (A → Type 0) → (Refusal → Type 0) → Result A Refusal → Type 0

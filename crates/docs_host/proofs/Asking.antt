@@ -1,13 +1,13 @@
 -- How many connections were asked for, and how many are left.
 use Rattle.std.proofs.Common.{◌≡◌, ℕ, ◌+◌, ◌-◌, ◌≤◌, min, Option, Some, None, MatchOption, unwrap_or, arith, subst}
 use Rattle.dh_ports.proofs.Taking.{counts_on, counts_from}
-use Rattle.dh_server.specs.Serving.{Counts}
+use Rattle.dh_server.specs.Serving.{CountsExactly}
 
 capped : (cap x n : ℕ) → min (x + (n - n)) cap ≤ x
 capped cap x n = omega arith
 
 -- before the first of them
-pub none_yet : (a : Option ℕ) (n : ℕ) → Counts a a (n - n)
+pub none_yet : (a : Option ℕ) (n : ℕ) → CountsExactly a a (n - n)
 none_yet None n = (tt, tt)
 none_yet (Some x) n = (omega arith, capped _ x n)
 
@@ -16,25 +16,25 @@ pub few_left : (left : Option ℕ) (count : ℕ) (P Q : Type 0) → MatchOption 
 few_left None count P Q it = omega arith
 few_left (Some n) count P Q it = it.1
 
-module _ (a b c : Option ℕ) (count left : ℕ) (few : left ≤ count) (before : Counts a b (count - left)) where
+module _ (a b c : Option ℕ) (count left : ℕ) (few : left ≤ count) (before : CountsExactly a b (count - left)) where
   -- so many are still left
-  pub some_left : (still : ℕ) → still ≤ left → Counts b c (left - still) → Counts a c (count - still)
+  pub some_left : (still : ℕ) → still ≤ left → CountsExactly b c (left - still) → CountsExactly a c (count - still)
   some_left still less after = (
     counts_on a b c (count - left) (left - still) (count - still) before.0 after.0 (omega (arith, few, less)),
     counts_from a b c (count - left) (left - still) (count - still) before.1 after.1 (omega (arith, few, less)),
   )
 
   -- none is
-  pub all_asked : Counts b c (left - 0) → Counts a c count
+  pub all_asked : CountsExactly b c (left - 0) → CountsExactly a c count
   all_asked after = (
     counts_on a b c (count - left) (left - 0) count before.0 after.0 (omega (arith, few)),
     counts_from a b c (count - left) (left - 0) count before.1 after.1 (omega (arith, few)),
   )
 
   pub still_left : (answered : Option ℕ) (still : ℕ) → answered ≡ Some still → unwrap_or answered 0 ≤ left
-      → Counts b c (left - unwrap_or answered 0) → Counts a c (count - still)
+      → CountsExactly b c (left - unwrap_or answered 0) → CountsExactly a c (count - still)
   still_left answered still is less after =
-      some_left still (subst (λ (o : Option ℕ). unwrap_or o 0 ≤ left) is less) (subst (λ (o : Option ℕ). Counts b c (left - unwrap_or o 0)) is after)
+      some_left still (subst (λ (o : Option ℕ). unwrap_or o 0 ≤ left) is less) (subst (λ (o : Option ℕ). CountsExactly b c (left - unwrap_or o 0)) is after)
 
-  pub none_left : (answered : Option ℕ) → answered ≡ None → Counts b c (left - unwrap_or answered 0) → Counts a c count
-  none_left answered is after = all_asked (subst (λ (o : Option ℕ). Counts b c (left - unwrap_or o 0)) is after)
+  pub none_left : (answered : Option ℕ) → answered ≡ None → CountsExactly b c (left - unwrap_or answered 0) → CountsExactly a c count
+  none_left answered is after = all_asked (subst (λ (o : Option ℕ). CountsExactly b c (left - unwrap_or o 0)) is after)

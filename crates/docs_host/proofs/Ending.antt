@@ -10,11 +10,11 @@ use Rattle.clap.specs.Simple.{App}
 use Rattle.clap.specs.declared.error.kind.ErrorKind.{ErrorKind}
 use Rattle.clap.specs.declared.error.kind.ErrorKind.TheVariants.{OutOfMemory}
 use Rattle.dh_files.specs.declared.fault.FileFault.{FileFault}
-use Rattle.dh_http.specs.Answers.{AnswersSource, Writes}
+use Rattle.dh_http.specs.Answers.{AnswersSource, WritesAnswer}
 use Rattle.dh_http.specs.declared.fault.EngineFault.{EngineFault}
 use Rattle.dh_faults.specs.declared.fault.Fault.{Fault}
 use Rattle.dh_faults.specs.declared.fault.Fault.TheVariants as lookup
-use Rattle.dh_server.specs.Serving.{MayTurn, Serves, Talk, Turn}
+use Rattle.dh_server.specs.Serving.{MayTurn, ServesInTurn, Talk, Turn}
 use Rattle.dh_world.specs.World.{Text, World}
 use Rattle.dh_world.specs.declared.command.Command.{Command}
 use Rattle.dh_world.specs.declared.command.CommandChange.TheVariants.{ImportRedirects}
@@ -31,7 +31,7 @@ use Rattle.docs_host.specs.Ends.{Ended, EndsError, EndsHelp, EndsScript, EndsChe
 use Rattle.docs_host.specs.Ends.{is_fault, status_after, may_end_order, may_end_single, asks_help, asks_version, line_asked, line_run}
 use Rattle.docs_host.specs.Failing.{may_fail, IsDoneOr, is_of_output, is_of_init, is_of_list, is_of_script, is_of_command, is_of_opened, is_of_order, is_of_sent, may_be_sent, is_of_checked, is_of_file, is_of_memory}
 use Rattle.docs_host.specs.Failures.{failure_of}
-use Rattle.docs_host.specs.Orders.{OrdersList, RunsRequest, AnswersOne, ServesBoth, bad_record, has_bad_target, import_order}
+use Rattle.docs_host.specs.Orders.{OrdersImport, RunsRequest, AnswersOne, ServesBoth, bad_record, has_bad_target, import_order}
 use Rattle.docs_host.specs.declared.beside.ControlFault.{ControlFault}
 use Rattle.docs_host.specs.declared.failure.Failure.{Failure}
 use Rattle.docs_host.specs.declared.failure.Failure.TheVariants.{File, List as OfList, Store, Memory, Bind, Socket, Control, Write, Script, Request}
@@ -108,7 +108,7 @@ may_turn : (IsMoment : ℕ → Type 0) (Does : ℕ → Talk → World → World 
 may_turn IsMoment Does w v (inl turn) = inl (some_answered IsMoment w v turn)
 may_turn IsMoment Does w v (inr (moment, is, talk, did)) = inr (moment, tt, talk, did)
 
-pub any_moment : (IsMoment : ℕ → Type 0) (n : ℕ) (w v : World) → Serves IsMoment AnswersOne n w v → ServesBoth n w v
+pub any_moment : (IsMoment : ℕ → Type 0) (n : ℕ) (w v : World) → ServesInTurn IsMoment AnswersOne n w v → ServesBoth n w v
 any_moment IsMoment zero w v it = it
 any_moment IsMoment (suc n) w v it =
     (it.0, any_moment IsMoment n w it.0 it.1, may_turn IsMoment AnswersOne it.0 v it.2)
@@ -116,7 +116,7 @@ any_moment IsMoment (suc n) w v it =
 -- the engine's fault is that of the run
 pub request_failed
     : (moment : ℕ) (left held now : Option Text) (before after : World) (e : EngineFault) (r : Result Status Failure)
-    → IsErrAnd r (λ failure. failure ≡ Request e) → Writes (AnswersSource moment left before after) held now (Err e)
+    → IsErrAnd r (λ failure. failure ≡ Request e) → WritesAnswer (AnswersSource moment left before after) held now (Err e)
     → RunsRequest moment before after left held now r
 request_failed moment left held now before after e r is w = handed_on (RunsRequest moment before after left held now) (Request e) r is w
 
@@ -288,13 +288,13 @@ module _ (host : Text) (bytes : List ℕ) (held now : Option Text) where
   EndsListed r = Ended (EndsList host bytes held now) is_of_command r
 
   -- its command ended so
-  over_act : (o : Order) (s : Status) → OrdersList host bytes (Ok o) → IsTrue (may_end_order o s) → EndsOver o held now s
+  over_act : (o : Order) (s : Status) → OrdersImport host bytes (Ok o) → IsTrue (may_end_order o s) → EndsOver o held now s
   over_act o s orders it =
       let act = import_order host orders.0 in
       let at : IsTrue (may_end_order act s) = subst (λ (done : Order). IsTrue (may_end_order done s)) orders.2 it in
       subst (λ (done : Order). EndsOver done held now s) (sym orders.2) at
 
-  pub command_ended : (o : Order) (r : Result Status Failure) → OrdersList host bytes (Ok o)
+  pub command_ended : (o : Order) (r : Result Status Failure) → OrdersImport host bytes (Ok o)
       → Ended (λ s. IsTrue (may_end_order o s)) (is_of_opened o) r → EndsListed r
   command_ended o (Ok status) orders it = ((Ok o, orders, over_act o status orders it.0), it.1)
   command_ended o (Err f) orders it =
@@ -302,7 +302,7 @@ module _ (host : Text) (bytes : List ℕ) (held now : Option Text) where
       ((Ok o, orders, over_act o (status_after f) orders it.0), act_fails (asking host (ImportRedirects orders.0)) f may)
 
   -- a record of it was refused
-  pub record_ended : (number : ℕ) (fault : RecordFault) (r : Result Status Failure) → OrdersList host bytes (Err (listed.BadRecord number fault))
+  pub record_ended : (number : ℕ) (fault : RecordFault) (r : Result Status Failure) → OrdersImport host bytes (Err (listed.BadRecord number fault))
       → Ended (λ s. IsTrue (may_end_single s)) is_of_output r → IfOk r (λ s. s ≡ Refused)
       → OnOk r (Appends held now (bad_record number ++ 10 ∷ [])) → EndsListed r
   record_ended number fault (Ok status) orders it refused says =
@@ -311,7 +311,7 @@ module _ (host : Text) (bytes : List ℕ) (held now : Option Text) where
       ((Err (listed.BadRecord number fault), orders, inr (is_faulty is_of_output (λ fault. refl) f it.1)), output_fails f it.1)
 
   -- what it orders ends as a command may
-  ordered_may : (ordered : Result Order ListFault) (s : Status) → OrdersList host bytes ordered → EndsOrdered ordered held now s → IsTrue (may_end_single s)
+  ordered_may : (ordered : Result Order ListFault) (s : Status) → OrdersImport host bytes ordered → EndsOrdered ordered held now s → IsTrue (may_end_single s)
   ordered_may (Ok o) s orders ends = subst (λ (done : Order). EndsOver done held now s) orders.2 ends
   ordered_may (Err (listed.BadRecord number fault)) s orders (inl ends) = subst (λ (it : Status). IsTrue (may_end_single it)) (sym ends.0) refl
   ordered_may (Err (listed.BadRecord number fault)) s orders (inr is) = single_faulty s is

@@ -22,7 +22,7 @@ use Rattle.dh_lists.specs.declared.lists.ListFault.{ListFault}
 use Rattle.dh_lists.specs.declared.lists.ListFault.TheVariants as list
 use Rattle.dh_script.specs.Running.{RunsScript}
 use Rattle.docs_host.specs.Failing.{may_fail, is_of_output}
-use Rattle.docs_host.specs.Orders.{has_bad_target, OrdersList, bad_record}
+use Rattle.docs_host.specs.Orders.{has_bad_target, OrdersImport, bad_record}
 use Rattle.docs_host.specs.declared.failure.Failure.{Failure}
 use Rattle.docs_host.specs.declared.failure.Failure.TheVariants as failure
 use Rattle.docs_host.specs.declared.failure.Status.{Status}
@@ -123,7 +123,7 @@ EndsOrdered (Err list.Memory) held now status = (now ≡ held) × (status ≡ Fa
 -- what a list of these bytes orders of a project ended so
 abbrev pub EndsList : Text → List ℕ → Option Text → Option Text → Status → Type 0
 EndsList host bytes held now status =
-    (ordered : Result Order ListFault) × OrdersList host bytes ordered
+    (ordered : Result Order ListFault) × OrdersImport host bytes ordered
     × EndsOrdered ordered held now status
 
 -- ---- by the words

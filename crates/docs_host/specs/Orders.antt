@@ -2,7 +2,7 @@
 use Rattle.std.specs.Prelude.{◌≡◌, ⊤, ℕ, Bool, true, false, is_none, List, [], ◌∷◌, ◌++◌, codes, Option, Result, Ok, Err, IfOk}
 use Rattle.std.specs.Fmt.{decimal}
 use Rattle.std.specs.Io.KnownBytes.{Appends}
-use Rattle.dh_http.specs.Answers.{AnswersSource, Writes}
+use Rattle.dh_http.specs.Answers.{AnswersSource, WritesAnswer}
 use Rattle.dh_http.specs.declared.fault.Done.{Done as Answered}
 use Rattle.dh_lines.specs.Lines.{asking}
 use Rattle.dh_lines.specs.declared.lines.Order.{Order}
@@ -16,7 +16,7 @@ use Rattle.dh_script.specs.Script.{PerformsSingle}
 use Rattle.dh_control.specs.Answers.{AnswersMessage}
 use Rattle.dh_control.specs.declared.end.End.{End}
 use Rattle.dh_script.specs.declared.fault.ScriptFault.{ScriptFault}
-use Rattle.dh_server.specs.Serving.{Serves, Talk}
+use Rattle.dh_server.specs.Serving.{ServesInTurn, Talk}
 use Rattle.dh_redirects.specs.declared.redirect.Redirect.{Redirect}
 use Rattle.dh_world.specs.World.{Text, World}
 use Rattle.dh_world.specs.declared.command.CommandChange.TheVariants.{ImportRedirects}
@@ -44,11 +44,11 @@ import_order host list = order.Act (asking host (ImportRedirects list))
 
 -- what a list of these bytes orders of a project: the command that adds the redirects that it writes; or
 -- what is wrong with it
-abbrev pub OrdersList : Text → List ℕ → Result Order ListFault → Type 0
-OrdersList host bytes (Ok order) =
+abbrev pub OrdersImport : Text → List ℕ → Result Order ListFault → Type 0
+OrdersImport host bytes (Ok order) =
     (redirects : List Redirect) × ReadsList bytes (Ok redirects)
     × (order ≡ import_order host redirects)
-OrdersList host bytes (Err fault) = ReadsList bytes (Err fault)
+OrdersImport host bytes (Err fault) = ReadsList bytes (Err fault)
 
 -- what is printed of a list whose record of this number writes no redirect
 abbrev pub bad_record : ℕ → Text
@@ -66,9 +66,9 @@ pub record RunsSingle (moment : ℕ) (before : World) (order : Order) (after : W
 -- the request was answered, and the answer was written, wholly or in part
 abbrev pub RunsRequest : ℕ → World → World → Option Text → Option Text → Option Text → Result Status Failure → Type 0
 RunsRequest moment before after left held now (Ok status) =
-    (done : Answered) × Writes (AnswersSource moment left before after) held now (Ok done)
+    (done : Answered) × WritesAnswer (AnswersSource moment left before after) held now (Ok done)
 RunsRequest moment before after left held now (Err (Request fault)) =
-    Writes (AnswersSource moment left before after) held now (Err fault)
+    WritesAnswer (AnswersSource moment left before after) held now (Err fault)
 RunsRequest moment before after left held now (Err failure) = ⊥
 
 -- the message of a connection was done and answered, or it was not read, and that was told; where its last line is lost, the
@@ -82,7 +82,7 @@ AnswersOne moment talk before after =
 -- so many connections, one after another, each at some moment: of the port, with one request; or of the control socket, with one
 -- message
 abbrev pub ServesBoth : ℕ → World → World → Type 0
-ServesBoth = Serves (λ moment. ⊤) AnswersOne
+ServesBoth = ServesInTurn (λ moment. ⊤) AnswersOne
 
 -- an order was run: the lines of a script, whole or in part; a request, which was answered, wholly or
 -- in part; so many connections, each with one request or one message; or a single command, read or list

@@ -31,9 +31,9 @@ message_of words order.Script script = script_message script
 message_of words order script = words_message words
 
 -- there is none of an order that no server is asked for
-abbrev pub Asks : List Text → Order → Text → Option Text → Type 0
-Asks words order script None = may_be_sent order ≡ false
-Asks words order script (Some message) =
+abbrev pub AsksByMessage : List Text → Order → Text → Option Text → Type 0
+AsksByMessage words order script None = may_be_sent order ≡ false
+AsksByMessage words order script (Some message) =
     (may_be_sent order ≡ true) × (message ≡ message_of words order script)
 
 -- ---- the answer
@@ -76,8 +76,8 @@ unwritten order.Script = Script (script.Run run.Write)
 unwritten order = Write
 
 -- what is to be printed was, and the run ends as it was told; or standard output took a front of it alone
-abbrev pub Prints : Order → Text × Option Text → Option Text → Option Text → Result Status Failure → Type 0
-Prints order parts held now result =
+abbrev pub PrintsParts : Order → Text × Option Text → Option Text → Option Text → Result Status Failure → Type 0
+PrintsParts order parts held now result =
     (Appends held now parts.0 × EndsTold order parts.1 result)
     ⊎ ((result ≡ Err (unwritten order)) × (count : ℕ) × PutsFirst held now parts.0 count)
 
@@ -89,7 +89,7 @@ EndsSent order = Ended (λ status. IsTrue (may_end_order order status)) (is_of_s
 abbrev pub PrintsAnswer : Order → Option (Text × Bool) → Option Text → Option Text → Result Status Failure → Type 0
 PrintsAnswer order None held now result = (result ≡ Err (File Busy)) × (now ≡ held)
 PrintsAnswer order (Some answer) held now result =
-    Prints order (parts_of answer.0 answer.1) held now result
+    PrintsParts order (parts_of answer.0 answer.1) held now result
 
 -- the message of what is ordered was sent to the server of the file, with the whole input where that is a script, and what came
 -- back was printed

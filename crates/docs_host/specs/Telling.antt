@@ -1,6 +1,6 @@
 -- What standard error is told.
 use Rattle.std.specs.Prelude.{◌≡◌, ⊤, Bool, IsTrue, [], ◌∷◌, ◌++◌, codes, Option, Some, None, option_and_then}
-use Rattle.dh_server.specs.Telling.{Tells}
+use Rattle.dh_server.specs.Telling.{WritesUnlessBroken}
 use Rattle.dh_lines.specs.declared.lines.Line.{Line}
 use Rattle.dh_lines.specs.declared.lines.Order.{Order}
 use Rattle.dh_lines.specs.declared.lines.Order.TheVariants.{Import, Init, Migrate}
@@ -57,18 +57,19 @@ fault_text failure file cause = name_text failure ++ cause_text (file_named fail
 module _ {S : Type 0} (broken : S → Bool) (held : S → Option Text) where
   -- some cause, and which file it is of
   abbrev pub TellsCause : S → S → Option Text → Type 0
-  TellsCause old new file = (cause : Text) × Tells broken held old new (cause_text file cause)
+  TellsCause old new file =
+      (cause : Text) × WritesUnlessBroken broken held old new (cause_text file cause)
 
   abbrev pub TellsFault : S → S → Failure → Option Text → Type 0
   TellsFault old new failure file =
-      (cause : Text) × Tells broken held old new (fault_text failure file cause)
+      (cause : Text) × WritesUnlessBroken broken held old new (fault_text failure file cause)
 
   -- last of all a failure was told that ends the program so, and that may end the run of this line
   abbrev pub TellsLast : Option Line → S → S → Status → Type 0
   TellsLast line old new status =
       (front : Text) × (failure : Failure) × (cause : Text)
       × (status ≡ status_after failure) × IsTrue (may_fail (is_of_line line) failure)
-      × Tells broken held old new (front ++ fault_text failure (option_and_then (file_of failure) line) cause)
+      × WritesUnlessBroken broken held old new (front ++ fault_text failure (option_and_then (file_of failure) line) cause)
 
   -- and of another end nothing is said here
   abbrev pub TellsEnd : Option Line → S → S → Status → Type 0

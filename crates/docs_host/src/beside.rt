@@ -6,7 +6,7 @@ ghost use Rattle.docs_host.specs.Failing.{may_be_sent};
 ghost use Rattle.docs_host.specs.Failures.{control_name};
 ghost use Rattle.docs_host.specs.Orders.{AreUnbroken};
 ghost use Rattle.docs_host.specs.Sent as spec;
-ghost use Rattle.docs_host.specs.Sent.{Asks, AsksServer, EndsSent, EndsTold, Prints, ends_as};
+ghost use Rattle.docs_host.specs.Sent.{AsksByMessage, AsksServer, EndsSent, EndsTold, PrintsParts, ends_as};
 
 use crate::explaining::explain;
 use crate::failure::{Failure, Status, tell_sentence};
@@ -96,7 +96,8 @@ fn message_for(
     order: &Order,
     script: &[u8],
 ) -> Result<Option<Vec<u8>>, AllocError>
-    ensures { IfOk result (λ message. Asks (map string_bytes words.now) order.now script.now
+    ensures { IfOk result
+        (λ message. AsksByMessage (map string_bytes words.now) order.now script.now
         (option_map (λ bytes. bytes.items) message)) }
 {
     match order {
@@ -171,7 +172,7 @@ fn tell_answer<W: Sink>(
 ) -> Result<Status, Failure>
     requires writer { W.broken sink.old ≡ false }
     requires sent { may_be_sent order.now ≡ true }
-    ensures tells { Prints order.now (spec.parts_of answer.now is_whole)
+    ensures tells { PrintsParts order.now (spec.parts_of answer.now is_whole)
         (W.held sink.old) (W.held sink.new) result }
     ensures ends { EndsSent order.now result }
 {

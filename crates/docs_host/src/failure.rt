@@ -1,7 +1,7 @@
 //! How the program ends, and how it tells why.
 
 ghost use Rattle.std.specs.Prelude.{◌≡◌, ◌++◌, ◌∷◌, [], codes, option_map};
-ghost use Rattle.dh_server.specs.Telling.{Tells, TellsSome};
+ghost use Rattle.dh_server.specs.Telling.{WritesUnlessBroken, TellsSome};
 ghost use Rattle.docs_host.specs.Ends.{exit_code, status_after};
 ghost use Rattle.docs_host.specs.Failures as spec;
 ghost use Rattle.docs_host.specs.Failures.{failure_of, failure_of_sample};
@@ -226,14 +226,14 @@ impl From<AllocError> for Failure {
 /// Writes a text, unless the sink has failed. What standard error does not take is lost: there is nowhere
 /// else to tell it.
 pub fn put<E: Sink>(errors: &mut E, text: &str)
-    ensures { Tells E.broken E.held errors.old errors.new text.now }
+    ensures { WritesUnlessBroken E.broken E.held errors.old errors.new text.now }
 {
     put_or_lose(errors, text.as_bytes());
 }
 
 /// The line that programs read.
 fn tell_name<E: Sink>(errors: &mut E, failure: Failure)
-    ensures { Tells E.broken E.held errors.old errors.new (name_text failure) }
+    ensures { WritesUnlessBroken E.broken E.held errors.old errors.new (name_text failure) }
 {
     put(errors, "fault ");
     put(errors, failure.name());
@@ -253,7 +253,7 @@ fn named_file(failure: Failure, file: Option<&str>) -> Option<&str>
 
 /// The file, where there is one to name.
 fn tell_file<E: Sink>(errors: &mut E, file: Option<&str>)
-    ensures { Tells E.broken E.held errors.old errors.new
+    ensures { WritesUnlessBroken E.broken E.held errors.old errors.new
         (file_text (option_map (λ name. name.now) file.entry)) }
 {
     if let Some(file) = file {
@@ -286,7 +286,7 @@ pub fn tell<E: Sink>(errors: &mut E, failure: Failure, file: Option<&str>) -> St
 
 /// Tells a sentence.
 pub fn tell_sentence<E: Sink>(errors: &mut E, sentence: &str)
-    ensures { Tells E.broken E.held errors.old errors.new
+    ensures { WritesUnlessBroken E.broken E.held errors.old errors.new
         (codes "docs_host: " ++ sentence.now ++ 10 ∷ []) }
 {
     put(errors, "docs_host: ");
@@ -324,7 +324,7 @@ pub fn tell_report<E: Sink>(alloc: Global, errors: &mut E, report: &Report)
 /// Tells a mistake in the words.
 pub fn tell_usage<E: Sink>(errors: &mut E, mistake: &str) -> Status
     ensures status { result ≡ Status.Usage }
-    ensures told { Tells E.broken E.held errors.old errors.new
+    ensures told { WritesUnlessBroken E.broken E.held errors.old errors.new
         (codes "docs_host: " ++ mistake.now ++ codes "; try 'docs_host --help'\n") }
 {
     put(errors, "docs_host: ");

@@ -7,7 +7,7 @@ ghost use Rattle.docs_host.specs.Ends.{Ended, may_end_single};
 ghost use Rattle.docs_host.specs.Failing.{may_fail, is_of_list, is_of_output, is_too_long};
 ghost use Rattle.docs_host.specs.Failures.{list_name};
 ghost use Rattle.docs_host.specs.Orders as spec;
-ghost use Rattle.docs_host.specs.Orders.{OrdersList, bad_record};
+ghost use Rattle.docs_host.specs.Orders.{OrdersImport, bad_record};
 
 use crate::failure::{Failure, Status, put};
 use crate::orders::say;
@@ -133,7 +133,7 @@ fn import_order(alloc: Global, host: &Text, list: Redirects) -> Result<Order, Al
 
 /// The command that adds the redirects of a list to those of a project, or the record of it that writes none.
 pub fn order_in(alloc: Global, host: &Text, bytes: &[u8]) -> Result<Order, ListFault>
-    ensures { OrdersList host.now bytes.now result }
+    ensures { OrdersImport host.now bytes.now result }
 {
     match read_list(alloc, bytes) {
         Ok(redirects) => Ok(import_order(alloc, host, redirects)?),

@@ -2,7 +2,7 @@
 
 ghost use Rattle.std.specs.Prelude.{◌≡◌, false, [], ◌∷◌, ◌++◌, IfOk, IfErr, OnOk, OnErr, IsTrue};
 ghost use Rattle.std.specs.Io.KnownBytes.{Appends};
-ghost use Rattle.dh_http.specs.Desk.{Moves};
+ghost use Rattle.dh_http.specs.Desk.{WorldGoesBy};
 ghost use Rattle.dh_server.specs.Telling.{TellsSome};
 ghost use Rattle.dh_script.specs.Running.{RunsScript};
 ghost use Rattle.dh_script.specs.Script.{MayDoSingle};
@@ -55,9 +55,9 @@ fn run_single<S: Alter, W: Sink, E: Sink>(
     now: u64,
 ) -> Result<Status, Failure>
     requires { W.broken sink.old ≡ false }
-    ensures runs { Moves S.Store desk.old desk.new (λ before after. IfOk result
+    ensures runs { WorldGoesBy S.Store desk.old desk.new (λ before after. IfOk result
         (RunsSingle now before order.now after (W.held sink.old) (W.held sink.new))) }
-    ensures may { Moves S.Store desk.old desk.new
+    ensures may { WorldGoesBy S.Store desk.old desk.new
         (λ before after. OnErr result (MayDoSingle now before order.now after)) }
     ensures ends { Ended (λ status. IsTrue (may_end_single status)) is_of_output result }
     ensures tells { TellsSome E.broken E.held errors.old errors.new }
@@ -78,7 +78,7 @@ fn run_reported<S: Alter, R: Source, W: Sink, E: Sink>(
     now: u64,
 ) -> Result<(), ScriptFault>
     requires ready { AreUnbroken (R.broken source.old) (W.broken sink.old) }
-    ensures ran { Moves S.Store desk.old desk.new
+    ensures ran { WorldGoesBy S.Store desk.old desk.new
         (λ before after. RunsScript now (R.left source.old) before after
         (W.held sink.old) (W.held sink.new) result) }
     ensures tells { TellsSome E.broken E.held errors.old errors.new }
@@ -99,7 +99,7 @@ pub fn run_lines<S: Alter, R: Source, W: Sink, E: Sink>(
     now: u64,
 ) -> Result<Status, Failure>
     requires ready { AreUnbroken (R.broken source.old) (W.broken sink.old) }
-    ensures ran { Moves S.Store desk.old desk.new
+    ensures ran { WorldGoesBy S.Store desk.old desk.new
         (λ before after. RunsScript now (R.left source.old) before after
         (W.held sink.old) (W.held sink.new) result) }
     ensures ends { IsDoneOr is_of_script result }
@@ -118,7 +118,7 @@ fn answer_request<S: Alter, R: Source, W: Sink>(
     now: u64,
 ) -> Result<Status, Failure>
     requires ready { AreUnbroken (R.broken source.old) (W.broken sink.old) }
-    ensures answers { Moves S.Store desk.old desk.new
+    ensures answers { WorldGoesBy S.Store desk.old desk.new
         (λ before after. RunsRequest now before after (R.left source.old)
         (W.held sink.old) (W.held sink.new) result) }
     ensures ends { Ended (λ status. IsTrue (may_end_request status)) is_of_request result }
@@ -138,7 +138,7 @@ pub fn run_order<S: Alter, R: Source, W: Sink, E: Sink>(
     now: u64,
 ) -> Result<Status, Failure>
     requires ready { AreUnbroken (R.broken streams.old.source) (W.broken streams.old.sink) }
-    ensures runs { Moves S.Store desk.old desk.new
+    ensures runs { WorldGoesBy S.Store desk.old desk.new
         (λ before after. RunsOrder now before order.now after
         (R.left streams.old.source) (W.held streams.old.sink) (W.held streams.new.sink) result) }
     ensures ends { Ended (λ status. IsTrue (may_end_order order.now status))

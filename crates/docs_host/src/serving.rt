@@ -1,8 +1,8 @@
 //! The server.
 
 ghost use Rattle.std.specs.Prelude.{◌≡◌, ◌≤◌, ◌-◌, true, false, unwrap_or, IfErr, IfOk, OnOk, OnErr, IsTrue, MatchOption, Some};
-ghost use Rattle.dh_http.specs.Desk.{Moves};
-ghost use Rattle.dh_server.specs.Serving.{Counts};
+ghost use Rattle.dh_http.specs.Desk.{WorldGoesBy};
+ghost use Rattle.dh_server.specs.Serving.{CountsExactly};
 ghost use Rattle.dh_server.specs.Telling.{TellsSome};
 ghost use Rattle.docs_host.specs.Failing.{IsDoneOr, is_of_init, is_of_server, may_fail};
 ghost use Rattle.docs_host.specs.Orders.{AnswersOne, ServesBoth};
@@ -115,11 +115,12 @@ fn serve_desk<S: Alter, N: Listen, E: Sink>(
     log: bool,
     errors: &mut E,
 ) -> Option<u32>
-    ensures asks { Counts (N.asked listening.old) (N.asked listening.new)
+    ensures asks { CountsExactly (N.asked listening.old) (N.asked listening.new)
         (count - unwrap_or result 0) }
     ensures left { MatchOption result (desk.new.closed ≡ false)
         (λ left. (desk.new.closed ≡ true) × (left ≤ count)) }
-    ensures serves { Moves S.Store desk.old desk.new (ServesBoth (count - unwrap_or result 0)) }
+    ensures serves { WorldGoesBy S.Store desk.old desk.new
+        (ServesBoth (count - unwrap_or result 0)) }
     ensures tells { TellsSome E.broken E.held errors.old errors.new }
 {
     let mut clock = || seconds(rt);
@@ -164,11 +165,11 @@ fn serve_at<S: Alter, R: Source, W: Sink, E: Sink>(
     streams: &mut Streams<R, W, E>,
 ) -> Result<Status, Failure>
     requires { W.broken streams.old.sink ≡ false }
-    ensures serves { Moves S.Store desk.old desk.new (ServesBoth count) }
+    ensures serves { WorldGoesBy S.Store desk.old desk.new (ServesBoth count) }
     ensures ends { IsDoneOr is_of_server result }
     ensures rest { OnOk result (MatchOption served.new.rest (desk.new.closed ≡ false)
         (λ rest. (rest.count ≤ count)
-        × Moves S.Store desk.old desk.new (ServesBoth (count - rest.count)))) }
+        × WorldGoesBy S.Store desk.old desk.new (ServesBoth (count - rest.count)))) }
     ensures same { OnErr result (served.new.rest ≡ served.old.rest) }
     ensures file { served.new.file ≡ served.old.file }
     ensures tells { TellsSome E.broken E.held streams.old.errors streams.new.errors }
@@ -236,11 +237,11 @@ pub fn serve<S: Alter, R: Source, W: Sink, E: Sink>(
     streams: &mut Streams<R, W, E>,
 ) -> Result<Status, Failure>
     requires { W.broken streams.old.sink ≡ false }
-    ensures serves { Moves S.Store desk.old desk.new (ServesBoth count) }
+    ensures serves { WorldGoesBy S.Store desk.old desk.new (ServesBoth count) }
     ensures ends { IsDoneOr is_of_server result }
     ensures rest { OnOk result (MatchOption served.new.rest (desk.new.closed ≡ false)
         (λ rest. (rest.count ≤ count)
-        × Moves S.Store desk.old desk.new (ServesBoth (count - rest.count)))) }
+        × WorldGoesBy S.Store desk.old desk.new (ServesBoth (count - rest.count)))) }
     ensures tells { TellsSome E.broken E.held streams.old.errors streams.new.errors }
 {
     let socket = open_socket(rt, served.file, &mut streams.errors)?;
@@ -269,7 +270,8 @@ fn serve_again<N: Listen, E: Sink>(
     log: bool,
     errors: &mut E,
 ) -> Result<Option<u32>, Failure>
-    ensures asks { IfOk result (λ left. Counts (N.asked listening.old) (N.asked listening.new)
+    ensures asks { IfOk result
+        (λ left. CountsExactly (N.asked listening.old) (N.asked listening.new)
         (count - unwrap_or left 0)) }
     ensures few { IfOk result (λ left. unwrap_or left 0 ≤ count) }
     ensures fails { IfErr result (λ failure. IsTrue (may_fail is_of_init failure)) }
@@ -297,7 +299,8 @@ fn serve_left<N: Listen, E: Sink>(
     log: bool,
     errors: &mut E,
 ) -> Result<Status, Failure>
-    ensures asks { OnOk result (Counts (N.asked listening.old) (N.asked listening.new) count) }
+    ensures asks { OnOk result
+        (CountsExactly (N.asked listening.old) (N.asked listening.new) count) }
     ensures ends { IsDoneOr is_of_init result }
     ensures tells { TellsSome E.broken E.held errors.old errors.new }
 {

@@ -1,7 +1,7 @@
 //! Lists of what the tables hold.
 ghost use Rattle.std.specs.Prelude.{◌≡◌, true, false, Err, IfOk, OnOk};
 ghost use Rattle.dh_faults.specs.declared.fault.Fault.TheVariants as fault;
-ghost use Rattle.dh_desk.specs.Desk.{Blames, IsHonest, IsKept, IsRefused, Lasts, last_records, lists_of, world};
+ghost use Rattle.dh_desk.specs.Desk.{StoreFaultHasCause, IsHonest, IsKept, IsRefused, KeepsFaults, last_records, lists_of, world};
 ghost use Rattle.dh_desk.specs.DeskLists.{is_unlisted};
 ghost use Rattle.dh_listings.specs.ListingTexts.{listing_text};
 ghost use Rattle.dh_records.specs.Lists.{world_of};
@@ -25,9 +25,9 @@ fn list<S: Alter>(tables: &mut Tables<S>, alloc: Global, word: &ListWord) -> Fou
         → last_records S.Store tables.new ≡ last_records S.Store tables.old }
     ensures rests { IsHonest S.Store tables.new
         → IsRefused S.Store lists_of tables.old tables.new }
-    ensures told { Blames S.Store tables.old tables.new result ⊥ }
+    ensures told { StoreFaultHasCause S.Store tables.old tables.new result ⊥ }
     ensures outside { IsHonest S.Store tables.new → OnOk result (tables.new.in_transaction ≡ false) }
-    ensures lasts { Lasts S.Store tables.old tables.new }
+    ensures lasts { KeepsFaults S.Store tables.old tables.new }
 {
     tables.back()?;
     listing_in(tables, alloc, word)
@@ -50,7 +50,7 @@ impl<S: Alter> Desk<S> {
             → world S.Store self.new ≡ world S.Store self.old }
         ensures rests { IsHonest S.Store self.new.tables
             → IsRefused S.Store lists_of self.old.tables self.new.tables }
-        ensures told { Blames S.Store self.old.tables self.new.tables result
+        ensures told { StoreFaultHasCause S.Store self.old.tables self.new.tables result
             (self.old.closed ≡ true) }
         ensures outside { IsHonest S.Store self.new.tables
             → OnOk result (self.new.tables.in_transaction ≡ false) }
@@ -59,7 +59,7 @@ impl<S: Alter> Desk<S> {
         ensures closed { self.old.closed ≡ true
             → (result ≡ Err fault.Store) × (self.new ≡ self.old) }
         ensures closes { self.new.closed ≡ is_unlisted result }
-        ensures lasts { Lasts S.Store self.old.tables self.new.tables }
+        ensures lasts { KeepsFaults S.Store self.old.tables self.new.tables }
     {
         if self.closed {
             return Err(Fault::Store);

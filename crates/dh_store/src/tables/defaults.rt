@@ -4,7 +4,7 @@ ghost use Rattle.std.specs.Prelude.{◌≡◌, pos, false, IfOk};
 ghost use Rattle.std.specs.List.{AllByRecursion, IsDistinct};
 ghost use Rattle.std.specs.Str.{bytes_eq};
 ghost use Rattle.dh_rows.specs.Calls.{IsHonest};
-ghost use Rattle.dh_schema.specs.Calling.{HasRecords, IsWithin, Lacks, Writes, WritesWithin};
+ghost use Rattle.dh_schema.specs.Calling.{HasRecords, IsWithin, LacksKey, ChangesLists, ChangesListsInside};
 ghost use Rattle.dh_records.specs.Changes as change;
 ghost use Rattle.dh_records.specs.Codings as coding;
 ghost use Rattle.dh_records.specs.Lists as spec;
@@ -29,9 +29,9 @@ fn signed(rank: u64) -> Result<i64, Fault>
 impl<S: Alter> Tables<S> {
     /// Adds a default, whose rank is free.
     fn add_pick(&mut self, host: &HostName, name: &Slug, rank: u64) -> Result<(), Fault>
-        requires free { Lacks S.Store self.old coding.picks (λ l. l.picks)
+        requires free { LacksKey S.Store self.old coding.picks (λ l. l.picks)
             (spec.pick_row host.now name.now rank) }
-        ensures writes { Writes S.Store self.old self.new result
+        ensures writes { ChangesLists S.Store self.old self.new result
             (change.add_pick (spec.pick_row host.now name.now rank)) }
     {
         let rank = signed(rank)?;
@@ -43,7 +43,8 @@ impl<S: Alter> Tables<S> {
 
     /// Removes the defaults of a project.
     fn drop_picks(&mut self, host: &HostName) -> Result<(), Fault>
-        ensures writes { Writes S.Store self.old self.new result (change.drop_picks host.now) }
+        ensures writes { ChangesLists S.Store self.old self.new result
+            (change.drop_picks host.now) }
     {
         self.write("DELETE FROM pick WHERE host = ?1", params![host.as_str()])
     }
@@ -53,7 +54,7 @@ impl<S: Alter> Tables<S> {
         requires within { IsWithin S.Store self.old }
         requires bare { HasRecords S.Store self.old
             (λ l. AllByRecursion (λ r. spec.is_pick_of host.now r ≡ false) l.picks) }
-        ensures writes { WritesWithin S.Store self.old self.new result
+        ensures writes { ChangesListsInside S.Store self.old self.new result
             (change.with_picks (spec.ranked host.now 1 names.now)) }
     {
         for (i, name) in names.iter().enumerate() {
@@ -66,7 +67,7 @@ impl<S: Alter> Tables<S> {
     pub fn set_picks(&mut self, host: &HostName, names: &[Slug]) -> Result<(), Fault>
         requires within { IsWithin S.Store self.old }
         requires apart { IsHonest S.Store self.old → IsDistinct bytes_eq names.now }
-        ensures writes { WritesWithin S.Store self.old self.new result
+        ensures writes { ChangesListsInside S.Store self.old self.new result
             (change.set_picks host.now names.now) }
     {
         self.drop_picks(host)?;

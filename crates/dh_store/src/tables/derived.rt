@@ -1,7 +1,7 @@
 //! The calls on the records that are derived from others: what names stand for to each class of callers, and routes.
 
 ghost use Rattle.std.specs.Prelude.{filter, find};
-ghost use Rattle.dh_schema.specs.Calling.{HasRecords, IsWithin, Reads, ReadsAll, Writes, WritesWithin};
+ghost use Rattle.dh_schema.specs.Calling.{HasRecords, IsWithin, ReadsValue, ReadsAll, ChangesLists, ChangesListsInside};
 ghost use Rattle.dh_records.specs.Changes as change;
 ghost use Rattle.dh_records.specs.Codings as coding;
 ghost use Rattle.dh_records.specs.Constraints.{InOrder};
@@ -23,7 +23,7 @@ impl<S: Alter> Tables<S> {
         class: &str,
         name: AliasName,
     ) -> Found<AliasRow>
-        ensures { Reads S.Store self.old self.new result
+        ensures { ReadsValue S.Store self.old self.new result
             (λ l. find (spec.is_alias_at host.now class.now name) l.aliases) }
     {
         let key = params![host.as_str(), class, alias_number(name)];
@@ -46,7 +46,7 @@ impl<S: Alter> Tables<S> {
 
     /// Adds what a name stands for, or puts it in place of what it stood for.
     pub fn put_alias(&mut self, row: &AliasRow) -> Result<(), Fault>
-        ensures writes { Writes S.Store self.old self.new result (change.put_alias row.now) }
+        ensures writes { ChangesLists S.Store self.old self.new result (change.put_alias row.now) }
     {
         let sql =
             "INSERT INTO alias VALUES (?1, ?2, ?3, ?4) ON CONFLICT (host, class, name) DO UPDATE SET slug = ?4";
@@ -55,7 +55,7 @@ impl<S: Alter> Tables<S> {
 
     /// Removes what a name stands for, to the callers with this pass, or with none where it is ''.
     pub fn drop_alias(&mut self, host: &HostName, class: &str, name: AliasName) -> Result<(), Fault>
-        ensures writes { Writes S.Store self.old self.new result
+        ensures writes { ChangesLists S.Store self.old self.new result
             (change.drop_alias host.now class.now name) }
     {
         let sql = "DELETE FROM alias WHERE host = ?1 AND class = ?2 AND name = ?3";
@@ -64,7 +64,8 @@ impl<S: Alter> Tables<S> {
 
     /// Removes what the names of a project stand for.
     pub fn drop_aliases(&mut self, host: &HostName) -> Result<(), Fault>
-        ensures writes { Writes S.Store self.old self.new result (change.drop_aliases host.now) }
+        ensures writes { ChangesLists S.Store self.old self.new result
+            (change.drop_aliases host.now) }
     {
         self.write("DELETE FROM alias WHERE host = ?1", params![host.as_str()])
     }
@@ -106,7 +107,7 @@ impl<S: Alter> Tables<S> {
 
     /// Puts a route at a place.
     fn put_route(&mut self, host: &HostName, place: u32, route: &Route) -> Result<(), Fault>
-        ensures writes { Writes S.Store self.old self.new result
+        ensures writes { ChangesLists S.Store self.old self.new result
             (change.put_route (spec.route_row host.now place route.now)) }
     {
         show_number(place);
@@ -118,7 +119,8 @@ impl<S: Alter> Tables<S> {
 
     /// Removes the routes of a project.
     fn drop_routes(&mut self, host: &HostName) -> Result<(), Fault>
-        ensures writes { Writes S.Store self.old self.new result (change.drop_routes host.now) }
+        ensures writes { ChangesLists S.Store self.old self.new result
+            (change.drop_routes host.now) }
     {
         self.write("DELETE FROM route WHERE host = ?1", params![host.as_str()])
     }
@@ -126,7 +128,7 @@ impl<S: Alter> Tables<S> {
     /// Puts routes at their places.
     fn put_routes(&mut self, host: &HostName, routes: &[Route]) -> Result<(), Fault>
         requires within { IsWithin S.Store self.old }
-        ensures writes { WritesWithin S.Store self.old self.new result
+        ensures writes { ChangesListsInside S.Store self.old self.new result
             (change.put_routes host.now routes.now) }
     {
         for (i, route) in routes.iter().enumerate() {
@@ -139,7 +141,7 @@ impl<S: Alter> Tables<S> {
     /// Sets the routes of a project, in the order of its redirects, within a transaction. A call that is refused may leave some of them until the transaction ends.
     pub fn set_routes(&mut self, host: &HostName, routes: &[Route]) -> Result<(), Fault>
         requires within { IsWithin S.Store self.old }
-        ensures writes { WritesWithin S.Store self.old self.new result
+        ensures writes { ChangesListsInside S.Store self.old self.new result
             (change.set_routes host.now routes.now) }
     {
         self.drop_routes(host)?;

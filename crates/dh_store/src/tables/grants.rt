@@ -1,7 +1,7 @@
 //! The calls on grants: which versions a pass holds.
 
 ghost use Rattle.std.specs.Prelude.{filter, find, is_some};
-ghost use Rattle.dh_schema.specs.Calling.{Lacks, Reads, ReadsAll, Writes};
+ghost use Rattle.dh_schema.specs.Calling.{LacksKey, ReadsValue, ReadsAll, ChangesLists};
 ghost use Rattle.dh_records.specs.Changes as change;
 ghost use Rattle.dh_records.specs.Codings as coding;
 ghost use Rattle.dh_records.specs.Lists as spec;
@@ -16,7 +16,7 @@ use std::alloc::Global;
 impl<S: Alter> Tables<S> {
     /// Whether a pass holds a version.
     pub fn held(&mut self, host: &HostName, pass: &Token, slug: &Slug) -> Result<bool, Fault>
-        ensures { Reads S.Store self.old self.new result
+        ensures { ReadsValue S.Store self.old self.new result
             (λ l. is_some (find (spec.is_held host.now pass.now slug.now) l.held)) }
     {
         let sql =
@@ -26,15 +26,15 @@ impl<S: Alter> Tables<S> {
 
     /// Adds a grant, which is not there.
     fn add_grant(&mut self, row: &HeldRow) -> Result<(), Fault>
-        requires free { Lacks S.Store self.old coding.held (λ l. l.held) row.now }
-        ensures writes { Writes S.Store self.old self.new result (change.add_grant row.now) }
+        requires free { LacksKey S.Store self.old coding.held (λ l. l.held) row.now }
+        ensures writes { ChangesLists S.Store self.old self.new result (change.add_grant row.now) }
     {
         self.write("INSERT INTO holds VALUES (?1, ?2, ?3)", &row.values())
     }
 
     /// Adds a grant, unless it is there.
     pub fn grant(&mut self, row: &HeldRow) -> Result<(), Fault>
-        ensures writes { Writes S.Store self.old self.new result (change.grant row.now) }
+        ensures writes { ChangesLists S.Store self.old self.new result (change.grant row.now) }
     {
         // The proof learns by it that what is seen outside a transaction is committed.
         let _ = &self.conn;
@@ -47,7 +47,7 @@ impl<S: Alter> Tables<S> {
 
     /// Removes a grant.
     pub fn revoke(&mut self, host: &HostName, pass: &Token, slug: &Slug) -> Result<(), Fault>
-        ensures writes { Writes S.Store self.old self.new result
+        ensures writes { ChangesLists S.Store self.old self.new result
             (change.revoke host.now pass.now slug.now) }
     {
         let key = params![host.as_str(), pass.as_str(), slug.as_str()];
@@ -59,7 +59,7 @@ impl<S: Alter> Tables<S> {
 
     /// Removes all grants on a version.
     pub fn drop_grants_of(&mut self, host: &HostName, slug: &Slug) -> Result<(), Fault>
-        ensures writes { Writes S.Store self.old self.new result
+        ensures writes { ChangesLists S.Store self.old self.new result
             (change.drop_grants_of host.now slug.now) }
     {
         let sql = "DELETE FROM holds WHERE host = ?1 AND slug = ?2";
@@ -68,7 +68,7 @@ impl<S: Alter> Tables<S> {
 
     /// Removes all grants of a pass.
     pub fn drop_grants_by(&mut self, host: &HostName, pass: &Token) -> Result<(), Fault>
-        ensures writes { Writes S.Store self.old self.new result
+        ensures writes { ChangesLists S.Store self.old self.new result
             (change.drop_grants_by host.now pass.now) }
     {
         let sql = "DELETE FROM holds WHERE host = ?1 AND pass = ?2";

@@ -1,7 +1,7 @@
 //! How a list of a project is read, and set as a whole, whichever it is.
 
 ghost use Rattle.std.specs.Prelude.{◌≡◌, ◌↔◌, ℕ, Bool, List, map, filter, slice_get, IfOk, IsSomeAnd, IsTrue};
-ghost use Rattle.dh_schema.specs.Calling.{HasRecords, IsWithin, ReadsAll, Writes, WritesWithin};
+ghost use Rattle.dh_schema.specs.Calling.{HasRecords, IsWithin, ReadsAll, ChangesLists, ChangesListsInside};
 ghost use Rattle.dh_records.specs.Constraints.{AreInOrder, InOrder};
 ghost use Rattle.dh_records.specs.Lists.{Lists};
 ghost use Rattle.dh_store.specs.Listing as spec;
@@ -77,7 +77,7 @@ pub(crate) trait Placed: Listed {
         place: u32,
         item: &Self::Item,
     ) -> Result<(), Fault>
-        ensures writes { Writes S.Store tables.old tables.new result
+        ensures writes { ChangesLists S.Store tables.old tables.new result
             (spec.put_one listing (listing.row host.now place item.now)) };
 
     /// Removes the items of a project that stand behind the first so many.
@@ -86,7 +86,7 @@ pub(crate) trait Placed: Listed {
         host: &HostName,
         count: usize,
     ) -> Result<(), Fault>
-        ensures writes { Writes S.Store tables.old tables.new result
+        ensures writes { ChangesLists S.Store tables.old tables.new result
             (spec.without_behind listing host.now count) };
 
     // The records of a project are those of the list,
@@ -122,7 +122,7 @@ fn put_others<S: Alter, R: Placed>(
     requires within { IsWithin S.Store tables.old }
     requires all { HasRecords S.Store tables.old
         (λ l. rows.now ≡ filter (spec.is_own R.listing host.now) (R.listing.part l)) }
-    ensures writes { WritesWithin S.Store tables.old tables.new result
+    ensures writes { ChangesListsInside S.Store tables.old tables.new result
         (spec.all_put R.listing host.now items.now) }
 {
     // The proof learns by it that the records stand in order.
@@ -145,7 +145,7 @@ pub(crate) fn set<S: Alter, R: Placed>(
     items: &[R::Item],
 ) -> Result<(), Fault>
     requires within { IsWithin S.Store tables.old }
-    ensures writes { WritesWithin S.Store tables.old tables.new result
+    ensures writes { ChangesListsInside S.Store tables.old tables.new result
         (spec.list_set R.listing host.now items.now) }
 {
     R::drop_behind(tables, host, items.len())?;

@@ -3,7 +3,7 @@
 
 ghost use Rattle.std.specs.Prelude.{◌<◌, ◌^◌, find, refl};
 ghost use Rattle.std.specs.Str.{bytes_eq};
-ghost use Rattle.dh_schema.specs.Calling.{IsWithin, Reads, WritesWithin};
+ghost use Rattle.dh_schema.specs.Calling.{IsWithin, ReadsValue, ChangesListsInside};
 ghost use Rattle.dh_records.specs.Changes as change;
 ghost use Rattle.dh_records.specs.Lists as spec;
 ghost use Rattle.dh_store.specs.Listing.{is_redirect_at, redirect_list, rule_list};
@@ -263,7 +263,7 @@ impl Placed for RedirectRow {
 impl<S: Alter> Tables<S> {
     /// The redirect of a project at a place.
     pub fn redirect(&mut self, alloc: Global, host: &HostName, place: u32) -> Found<RedirectRow>
-        ensures { Reads S.Store self.old self.new result
+        ensures { ReadsValue S.Store self.old self.new result
             (λ l. find (is_redirect_at host.now place) l.redirects) }
     {
         self.first_record(
@@ -276,7 +276,7 @@ impl<S: Alter> Tables<S> {
     /// Sets the rules of a project, in the order in which they run, within a transaction. A call that is refused may leave some of them until the transaction ends.
     pub fn set_rules(&mut self, alloc: Global, host: &HostName, rules: &[Rule]) -> Result<(), Fault>
         requires within { IsWithin S.Store self.old }
-        ensures writes { WritesWithin S.Store self.old self.new result
+        ensures writes { ChangesListsInside S.Store self.old self.new result
             (change.set_rules host.now rules.now) }
     {
         set::<S, RuleRow>(self, alloc, host, rules)
@@ -290,7 +290,7 @@ impl<S: Alter> Tables<S> {
         redirects: &[Redirect],
     ) -> Result<(), Fault>
         requires within { IsWithin S.Store self.old }
-        ensures writes { WritesWithin S.Store self.old self.new result
+        ensures writes { ChangesListsInside S.Store self.old self.new result
             (change.set_redirects host.now redirects.now) }
     {
         set::<S, RedirectRow>(self, alloc, host, redirects)

@@ -1,7 +1,7 @@
 //! The calls on pages.
 
 ghost use Rattle.std.specs.Prelude.{option_map, Some, None, filter, find};
-ghost use Rattle.dh_schema.specs.Calling.{Reads, ReadsAll, Writes};
+ghost use Rattle.dh_schema.specs.Calling.{ReadsValue, ReadsAll, ChangesLists};
 ghost use Rattle.dh_records.specs.Changes as change;
 ghost use Rattle.dh_records.specs.Lists as spec;
 
@@ -22,7 +22,7 @@ impl<S: Alter> Tables<S> {
         lang: &Lang,
         path: &str,
     ) -> Found<Page>
-        ensures { Reads S.Store self.old self.new result
+        ensures { ReadsValue S.Store self.old self.new result
             (λ l. option_map (λ row. row.page)
             (find (spec.is_page host.now slug.now lang.now path.now) l.pages)) }
     {
@@ -56,7 +56,7 @@ impl<S: Alter> Tables<S> {
 
     /// Adds a page, or puts it in place of the one with its path.
     pub fn put_page(&mut self, row: &PageRow) -> Result<(), Fault>
-        ensures writes { Writes S.Store self.old self.new result (change.put_page row.now) }
+        ensures writes { ChangesLists S.Store self.old self.new result (change.put_page row.now) }
     {
         let sql =
             "INSERT INTO page VALUES (?1, ?2, ?3, ?4, ?5, ?6) ON CONFLICT (host, slug, lang, path) DO UPDATE SET media = ?5, body = ?6";
@@ -65,7 +65,7 @@ impl<S: Alter> Tables<S> {
 
     /// Removes the pages of a version.
     fn drop_pages_of(&mut self, host: &HostName, slug: &Slug) -> Result<(), Fault>
-        ensures writes { Writes S.Store self.old self.new result
+        ensures writes { ChangesLists S.Store self.old self.new result
             (change.drop_pages host.now slug.now None) }
     {
         self.write(
@@ -76,7 +76,7 @@ impl<S: Alter> Tables<S> {
 
     /// Removes the pages of a version in a language.
     fn drop_pages_in(&mut self, host: &HostName, slug: &Slug, lang: &Lang) -> Result<(), Fault>
-        ensures writes { Writes S.Store self.old self.new result
+        ensures writes { ChangesLists S.Store self.old self.new result
             (change.drop_pages host.now slug.now (Some lang.now)) }
     {
         self.write(
@@ -92,7 +92,7 @@ impl<S: Alter> Tables<S> {
         slug: &Slug,
         lang: Option<&Lang>,
     ) -> Result<(), Fault>
-        ensures writes { Writes S.Store self.old self.new result
+        ensures writes { ChangesLists S.Store self.old self.new result
             (change.drop_pages host.now slug.now (option_map (λ l. l.now) lang.entry)) }
     {
         match lang {

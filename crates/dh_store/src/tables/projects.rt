@@ -1,7 +1,7 @@
 //! The calls on projects and their languages.
 
 ghost use Rattle.std.specs.Prelude.{◌≡◌, false, find, is_some};
-ghost use Rattle.dh_schema.specs.Calling.{HasRecords, Lacks, Reads, Writes};
+ghost use Rattle.dh_schema.specs.Calling.{HasRecords, LacksKey, ReadsValue, ChangesLists};
 ghost use Rattle.dh_records.specs.Changes as change;
 ghost use Rattle.dh_records.specs.Codings as coding;
 ghost use Rattle.dh_records.specs.Lists as spec;
@@ -17,7 +17,7 @@ use std::alloc::Global;
 impl<S: Alter> Tables<S> {
     /// Whether there is a project under a host.
     pub fn has_project(&mut self, host: &HostName) -> Result<bool, Fault>
-        ensures { Reads S.Store self.old self.new result
+        ensures { ReadsValue S.Store self.old self.new result
             (λ l. is_some (find (spec.is_project host.now) l.projects)) }
     {
         let sql =
@@ -27,7 +27,7 @@ impl<S: Alter> Tables<S> {
 
     /// The project under a host.
     pub fn project(&mut self, alloc: Global, host: &HostName) -> Found<ProjectRow>
-        ensures { Reads S.Store self.old self.new result
+        ensures { ReadsValue S.Store self.old self.new result
             (λ l. find (spec.is_project host.now) l.projects) }
     {
         self.first_record(
@@ -39,8 +39,9 @@ impl<S: Alter> Tables<S> {
 
     /// Adds a project, whose host is free.
     pub fn add_project(&mut self, project: &ProjectRow) -> Result<(), Fault>
-        requires free { Lacks S.Store self.old coding.projects (λ l. l.projects) project.now }
-        ensures writes { Writes S.Store self.old self.new result (change.add_project project.now) }
+        requires free { LacksKey S.Store self.old coding.projects (λ l. l.projects) project.now }
+        ensures writes { ChangesLists S.Store self.old self.new result
+            (change.add_project project.now) }
     {
         let sql = "INSERT INTO project VALUES (?1, ?2, ?3, ?4, ?5)";
         self.write(sql, &project.values())
@@ -48,10 +49,10 @@ impl<S: Alter> Tables<S> {
 
     /// Adds a language, whose place is free, and which the project has not.
     pub fn add_lang(&mut self, lang: &LangRow) -> Result<(), Fault>
-        requires free { Lacks S.Store self.old coding.langs (λ l. l.langs) lang.now }
+        requires free { LacksKey S.Store self.old coding.langs (λ l. l.langs) lang.now }
         requires new { HasRecords S.Store self.old
             (λ l. has_language l lang.now.host lang.now.lang ≡ false) }
-        ensures writes { Writes S.Store self.old self.new result (change.add_lang lang.now) }
+        ensures writes { ChangesLists S.Store self.old self.new result (change.add_lang lang.now) }
     {
         self.write("INSERT INTO lang VALUES (?1, ?2, ?3)", &lang.values())
     }

@@ -2,11 +2,11 @@
 
 ghost use Rattle.std.specs.Prelude.{◌≡◌, option_map, find, IfSome, IsSome};
 ghost use Rattle.dh_world.specs.Answers.{IsAnswer, json_of};
-ghost use Rattle.dh_schema.specs.Calling.{Lacks, Obtains, Reads, Writes};
+ghost use Rattle.dh_schema.specs.Calling.{LacksKey, LearnsFact, ReadsValue, ChangesLists};
 ghost use Rattle.dh_records.specs.Changes as change;
 ghost use Rattle.dh_records.specs.Codings as coding;
 ghost use Rattle.dh_records.specs.Lists as spec;
-ghost use Rattle.dh_records.specs.Typed.{Tells};
+ghost use Rattle.dh_records.specs.Typed.{TellsAnswer};
 
 use super::Tables;
 use dh_lookup::{Fault, Found};
@@ -43,9 +43,9 @@ impl<S: Alter> Tables<S> {
         op: Operation,
         retry: &Token,
     ) -> Found<UsedRow>
-        ensures { Obtains S.Store self.old self.new result
+        ensures { LearnsFact S.Store self.old self.new result
             (λ l o. (o ≡ find (spec.is_used host.now slug.now op retry.now) l.used)
-            × IfSome o (λ row. Tells row.answer)) }
+            × IfSome o (λ row. TellsAnswer row.answer)) }
     {
         // The proof learns by it that a kept text is an answer's.
         let _ = &self.conn;
@@ -65,7 +65,7 @@ impl<S: Alter> Tables<S> {
         op: Operation,
         retry: &Token,
     ) -> Found<Answer>
-        ensures { Reads S.Store self.old self.new result
+        ensures { ReadsValue S.Store self.old self.new result
             (λ l. option_map spec.kept_answer
             (find (spec.is_used host.now slug.now op retry.now) l.used)) }
     {
@@ -85,10 +85,10 @@ impl<S: Alter> Tables<S> {
         retry: &Token,
         answer: &str,
     ) -> Result<(), Fault>
-        requires tells { Tells answer.now }
-        requires free { Lacks S.Store self.old coding.used (λ l. l.used)
+        requires tells { TellsAnswer answer.now }
+        requires free { LacksKey S.Store self.old coding.used (λ l. l.used)
             (spec.used_row host.now slug.now op retry.now answer.now) }
-        ensures writes { Writes S.Store self.old self.new result
+        ensures writes { ChangesLists S.Store self.old self.new result
             (change.add_used (spec.used_row host.now slug.now op retry.now answer.now)) }
     {
         self.write(
@@ -114,9 +114,9 @@ impl<S: Alter> Tables<S> {
         answer: &Answer,
     ) -> Result<(), Fault>
         requires told { IsSome (json_of answer.now) }
-        requires free { Lacks S.Store self.old coding.used (λ l. l.used)
+        requires free { LacksKey S.Store self.old coding.used (λ l. l.used)
             (spec.keeping host.now slug.now op retry.now answer.now) }
-        ensures writes { Writes S.Store self.old self.new result
+        ensures writes { ChangesLists S.Store self.old self.new result
             (change.add_used (spec.keeping host.now slug.now op retry.now answer.now)) }
     {
         show_parts(answer);

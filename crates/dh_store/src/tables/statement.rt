@@ -4,8 +4,8 @@ ghost use Rattle.std.specs.Prelude.{Bool, List, filter, find, is_some, length};
 ghost use Rattle.sqlite.specs.Held.{state};
 ghost use Rattle.sqlite.specs.Values.{bound};
 ghost use Rattle.dh_records.specs.Lists.{Lists};
-ghost use Rattle.dh_schema.specs.Calling.{Reads, ReadsAll, Writes};
-ghost use Rattle.dh_store.specs.Meanings.{AsksFor, Changes, IsChange, IsQuery};
+ghost use Rattle.dh_schema.specs.Calling.{ReadsValue, ReadsAll, ChangesLists};
+ghost use Rattle.dh_store.specs.Meanings.{AsksFor, AltersWhereHonest, IsChange, IsQuery};
 
 use super::Tables;
 use dh_lookup::{Fault, Found};
@@ -29,7 +29,7 @@ impl<S: Alter> Tables<S> {
         ensures { (part : Lists → List R) → (test : R → Bool)
             → AsksFor R.coding.encode R.typed part test (state S.Store self.old) sql.now
             (bound params.now)
-            → Reads S.Store self.old self.new result (λ l. find test (part l)) }
+            → ReadsValue S.Store self.old self.new result (λ l. find test (part l)) }
     {
         first_record(&mut self.conn, alloc, sql, params)
     }
@@ -62,7 +62,7 @@ impl<S: Alter> Tables<S> {
         ensures { (part : Lists → List R) → (test : R → Bool)
             → AsksFor R.coding.encode R.typed part test (state S.Store self.old) sql.now
             (bound params.now)
-            → Reads S.Store self.old self.new result (λ l. is_some (find test (part l))) }
+            → ReadsValue S.Store self.old self.new result (λ l. is_some (find test (part l))) }
     {
         let rows = select(&mut self.conn, sql, params)?;
         Ok(rows.first().is_some())
@@ -79,7 +79,7 @@ impl<S: Alter> Tables<S> {
         ensures { (part : Lists → List R) → (test : R → Bool)
             → AsksFor R.coding.encode R.typed part test (state S.Store self.old) sql.now
             (bound params.now)
-            → Reads S.Store self.old self.new result (λ l. length (filter test (part l))) }
+            → ReadsValue S.Store self.old self.new result (λ l. length (filter test (part l))) }
     {
         let rows = select(&mut self.conn, sql, params)?;
         Ok(rows.as_slice().len())
@@ -89,8 +89,8 @@ impl<S: Alter> Tables<S> {
     pub(crate) fn write(&mut self, sql: &str, params: &[ValueRef<'_>]) -> Result<(), Fault>
         requires change { IsChange S.Store self.old sql.now (bound params.now) }
         ensures writes { (change : Lists → Lists)
-            → Changes S.Store self.old sql.now (bound params.now) change
-            → Writes S.Store self.old self.new result change }
+            → AltersWhereHonest S.Store self.old sql.now (bound params.now) change
+            → ChangesLists S.Store self.old self.new result change }
     {
         change(&mut self.conn, sql, params)
     }

@@ -2,8 +2,8 @@
 
 ghost use Rattle.sqlite.specs.Held.{state};
 ghost use Rattle.dh_rows.specs.Calls.{AreOurs};
-ghost use Rattle.dh_schema.specs.Calling.{ReadsAll, Writes};
-ghost use Rattle.dh_schema.specs.Tables.{Holds};
+ghost use Rattle.dh_schema.specs.Calling.{ReadsAll, ChangesLists};
+ghost use Rattle.dh_schema.specs.Tables.{HoldsTables};
 ghost use Rattle.dh_store.specs.Clearing.{without_aliases, without_routes};
 
 use super::Tables;
@@ -15,7 +15,7 @@ use std::alloc::Global;
 impl<S: Alter> Tables<S> {
     /// That they are ours. It does nothing.
     pub fn show_ours(&self)
-        ensures { AreOurs Holds (state S.Store self.now) }
+        ensures { AreOurs HoldsTables (state S.Store self.now) }
     {
         let _ = &self.conn;
     }
@@ -46,14 +46,14 @@ impl<S: Alter> Tables<S> {
 
     /// Removes what the names of all projects stand for.
     pub fn clear_aliases(&mut self) -> Result<(), Fault>
-        ensures writes { Writes S.Store self.old self.new result without_aliases }
+        ensures writes { ChangesLists S.Store self.old self.new result without_aliases }
     {
         self.write("DELETE FROM alias", &[])
     }
 
     /// Removes the routes of all projects.
     pub fn clear_routes(&mut self) -> Result<(), Fault>
-        ensures writes { Writes S.Store self.old self.new result without_routes }
+        ensures writes { ChangesLists S.Store self.old self.new result without_routes }
     {
         self.write("DELETE FROM route", &[])
     }

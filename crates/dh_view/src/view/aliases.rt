@@ -3,7 +3,7 @@
 ghost use Rattle.std.specs.Prelude.{◌≡◌, IfOk};
 ghost use Rattle.dh_derived.specs.Rightness.{class_in, kept_at};
 ghost use Rattle.dh_lookup.specs.SeenProject.{alias_to};
-ghost use Rattle.dh_view.specs.View.{Reads};
+ghost use Rattle.dh_view.specs.View.{ReadsInTurn};
 
 use crate::view::HostView;
 use dh_lookup::{Found, Named};
@@ -49,7 +49,7 @@ impl HostView<'_> {
         class: &str,
         name: AliasName,
     ) -> Found<Slug>
-        ensures { Reads S.Store tables.old tables.new result
+        ensures { ReadsInTurn S.Store tables.old tables.new result
             (λ l. kept_at l self.now.host.now class.now name) }
     {
         match tables.alias(self.alloc, self.host, class, name)? {

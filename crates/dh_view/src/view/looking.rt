@@ -4,7 +4,7 @@ ghost use Rattle.std.specs.Prelude.{◌≡◌, ◌↔◌, IfOk, IfSome, IsTrue, 
 ghost use Rattle.std.proofs.Common.{◌∙◌, refl};
 ghost use Rattle.sqlite.specs.Held.{Held};
 ghost use Rattle.dh_rows.specs.Calls.{IsHonest};
-ghost use Rattle.dh_lookup.specs.Lookup.{Asks, TellsMaybe};
+ghost use Rattle.dh_lookup.specs.Lookup.{IsLook, AnswersMaybe};
 ghost use Rattle.dh_lookup.specs.SeenProject.{alias_of, alias_to};
 ghost use Rattle.dh_redirects.specs.FirstResult.{first_result};
 ghost use Rattle.dh_schema.specs.Calling.{HasRecords, IsSettled};
@@ -140,8 +140,9 @@ impl<'a, S: Alter> View<'a, S> {
 impl<'a, S: Alter> View<'a, S> {
     /// What a name stands for, to the caller's class.
     fn kept(&mut self, alloc: Global, name: AliasName) -> Found<Slug>
-        ensures asks { Asks (meaning_of S.Store) self.old self.new result }
-        ensures value { TellsMaybe (meaning_of S.Store) self.old self.new result (stands_for name) }
+        ensures asks { IsLook (meaning_of S.Store) self.old self.new result }
+        ensures value { AnswersMaybe (meaning_of S.Store) self.old self.new result
+            (stands_for name) }
     {
         if !self.tables.is_settled() {
             return Err(Fault::Store);
@@ -158,8 +159,8 @@ impl<'a, S: Alter> View<'a, S> {
     }
 
     fn kept_alias(&mut self, alloc: Global, name: AliasName) -> Found<Named>
-        ensures asks { Asks (meaning_of S.Store) self.old self.new result }
-        ensures value { TellsMaybe (meaning_of S.Store) self.old self.new result
+        ensures asks { IsLook (meaning_of S.Store) self.old self.new result }
+        ensures value { AnswersMaybe (meaning_of S.Store) self.old self.new result
             (λ p. alias_to (stands_for name p)) }
     {
         let slug = self.kept(alloc, name)?;
@@ -168,8 +169,8 @@ impl<'a, S: Alter> View<'a, S> {
 
     /// The alias of that name.
     fn alias(&mut self, alloc: Global, name: &str) -> Found<Named>
-        ensures asks { Asks (meaning_of S.Store) self.old self.new result }
-        ensures value { TellsMaybe (meaning_of S.Store) self.old self.new result
+        ensures asks { IsLook (meaning_of S.Store) self.old self.new result }
+        ensures value { AnswersMaybe (meaning_of S.Store) self.old self.new result
             (λ p. alias_of p name.now) }
     {
         match name {
@@ -252,8 +253,8 @@ impl<'a, S: Alter> View<'a, S> {
 impl<'a, S: Alter> View<'a, S> {
     /// Where the first redirect leads that has a result: of all, or of those with force alone.
     fn redirect(&mut self, alloc: Global, forced: bool, asked: &Asked) -> Found<Location>
-        ensures asks { Asks (meaning_of S.Store) self.old self.new result }
-        ensures value { TellsMaybe (meaning_of S.Store) self.old self.new result
+        ensures asks { IsLook (meaning_of S.Store) self.old self.new result }
+        ensures value { AnswersMaybe (meaning_of S.Store) self.old self.new result
             (λ p. first_result forced p.redirects asked.now) }
     {
         match self.opened(alloc)? {

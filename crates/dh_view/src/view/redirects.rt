@@ -3,7 +3,7 @@
 ghost use Rattle.std.specs.Prelude.{◌≡◌, None, IfOk, option_map, option_and_then};
 ghost use Rattle.dh_redirects.specs.FirstResult as choice;
 ghost use Rattle.dh_view.specs.Stored as spec;
-ghost use Rattle.dh_view.specs.View.{Reads};
+ghost use Rattle.dh_view.specs.View.{ReadsInTurn};
 
 use crate::view::HostView;
 use dh_lookup::Found;
@@ -93,7 +93,7 @@ impl HostView<'_> {
         place: u32,
         asked: &Asked,
     ) -> Found<Location>
-        ensures { Reads S.Store tables.old tables.new result
+        ensures { ReadsInTurn S.Store tables.old tables.new result
             (λ l. spec.led_at l self.now.host.now forced asked.now place) }
     {
         let found = tables.redirect(self.alloc, self.host, place)?;
@@ -109,7 +109,7 @@ impl HostView<'_> {
         asked: &Asked,
         best: Option<(u32, Location)>,
     ) -> Found<(u32, Location)>
-        ensures { Reads S.Store tables.old tables.new result
+        ensures { ReadsInTurn S.Store tables.old tables.new result
             (λ l. spec.led_or place (spec.led_at l self.now.host.now forced asked.now place) best) }
     {
         let at = self.led_at(tables, forced, place, asked)?;
@@ -125,7 +125,7 @@ impl HostView<'_> {
         asked: &Asked,
         best: Option<(u32, Location)>,
     ) -> Found<(u32, Location)>
-        ensures { Reads S.Store tables.old tables.new result (λ l. spec.better
+        ensures { ReadsInTurn S.Store tables.old tables.new result (λ l. spec.better
             (spec.led_at l self.now.host.now forced asked.now) forced route.now best) }
     {
         if is_asked(forced, route, &best) {
@@ -144,7 +144,7 @@ impl HostView<'_> {
         asked: &Asked,
         best: Option<(u32, Location)>,
     ) -> Found<(u32, Location)>
-        ensures { Reads S.Store tables.old tables.new result (λ l. spec.best_of
+        ensures { ReadsInTurn S.Store tables.old tables.new result (λ l. spec.best_of
             (spec.led_at l self.now.host.now forced asked.now) forced routes.now best) }
     {
         let mut best = best;
@@ -164,7 +164,7 @@ impl HostView<'_> {
         asked: &Asked,
         best: Option<(u32, Location)>,
     ) -> Found<(u32, Location)>
-        ensures { Reads S.Store tables.old tables.new result
+        ensures { ReadsInTurn S.Store tables.old tables.new result
             (λ l. spec.best_in l self.now.host.now forced asked.now seg.now best) }
     {
         let routes = tables.routes_in(self.alloc, self.host, seg)?;
@@ -178,7 +178,7 @@ impl HostView<'_> {
         forced: bool,
         asked: &Asked,
     ) -> Found<(u32, Location)>
-        ensures { Reads S.Store tables.old tables.new result
+        ensures { ReadsInTurn S.Store tables.old tables.new result
             (λ l. spec.best_at l self.now.host.now forced asked.now) }
     {
         let own = self.best_in(
@@ -199,7 +199,7 @@ impl HostView<'_> {
         forced: bool,
         asked: &Asked,
     ) -> Found<Location>
-        ensures { Reads S.Store tables.old tables.new result
+        ensures { ReadsInTurn S.Store tables.old tables.new result
             (λ l. option_map (λ led. led.1) (spec.best_at l self.now.host.now forced asked.now)) }
     {
         let best = self.best_at(tables, forced, asked)?;

@@ -6,7 +6,7 @@ ghost use Rattle.std.specs.Option.{option_map};
 ghost use Rattle.dh_records.specs.Constraints.{RiseBySlug};
 ghost use Rattle.dh_records.specs.Lists.{is_version_of};
 ghost use Rattle.dh_view.specs.View as view;
-ghost use Rattle.dh_view.specs.View.{Obtains, Reads, OpensAs, ShowsAs, held_in, is_shown, version_in, versions_in};
+ghost use Rattle.dh_view.specs.View.{LearnsInTurn, ReadsInTurn, OpensAs, ShowsAs, held_in, is_shown, version_in, versions_in};
 ghost use Rattle.dh_world.specs.Visibility as visibility;
 
 use crate::view::HostView;
@@ -67,7 +67,7 @@ fn versions_of(alloc: Global, rows: Vec<VersionRow>) -> Result<Vec<Version>, All
 impl HostView<'_> {
     /// Whether the class holds the version.
     fn is_held<S: Alter>(&self, tables: &mut Tables<S>, slug: &Slug) -> Result<bool, Fault>
-        ensures { Reads S.Store tables.old tables.new result
+        ensures { ReadsInTurn S.Store tables.old tables.new result
             (λ l. held_in l self.now.host.now self.now.class.now slug.now) }
     {
         match self.class {
@@ -78,7 +78,7 @@ impl HostView<'_> {
 
     /// Whether the class may see a version of the project. Only of a private one are its grants asked.
     fn is_seen<S: Alter>(&self, tables: &mut Tables<S>, version: &Version) -> Result<bool, Fault>
-        ensures { Reads S.Store tables.old tables.new result
+        ensures { ReadsInTurn S.Store tables.old tables.new result
             (λ l. visibility.may_see version.now
             (held_in l self.now.host.now self.now.class.now version.now.slug)) }
     {
@@ -91,7 +91,7 @@ impl HostView<'_> {
 
     /// The visible version with this slug.
     pub fn visible_version<S: Alter>(&self, tables: &mut Tables<S>, name: &str) -> Found<Version>
-        ensures { Reads S.Store tables.old tables.new result
+        ensures { ReadsInTurn S.Store tables.old tables.new result
             (λ l. version_in l self.now.host.now self.now.class.now name.now) }
     {
         match tables.version(self.alloc, self.host, name)? {
@@ -102,7 +102,7 @@ impl HostView<'_> {
 
     /// The slug, where there is a visible version with it.
     pub fn visible_slug<S: Alter>(&self, tables: &mut Tables<S>, name: &str) -> Found<Slug>
-        ensures { Reads S.Store tables.old tables.new result (λ l. option_map (λ _. name.now)
+        ensures { ReadsInTurn S.Store tables.old tables.new result (λ l. option_map (λ _. name.now)
             (version_in l self.now.host.now self.now.class.now name.now)) }
     {
         match self.visible_version(tables, name)? {
@@ -113,7 +113,7 @@ impl HostView<'_> {
 
     /// What the class holds.
     fn grants_of<S: Alter>(&self, tables: &mut Tables<S>) -> Result<Vec<HeldRow>, Fault>
-        ensures { Obtains S.Store tables.old tables.new result
+        ensures { LearnsInTurn S.Store tables.old tables.new result
             (λ l grants. OpensAs grants.items (held_in l self.now.host.now self.now.class.now)) }
     {
         match self.class {
@@ -129,7 +129,7 @@ impl HostView<'_> {
         tables: &mut Tables<S>,
         rows: &[VersionRow],
     ) -> Result<Vec<HeldRow>, Fault>
-        ensures { Obtains S.Store tables.old tables.new result
+        ensures { LearnsInTurn S.Store tables.old tables.new result
             (λ l grants. ShowsAs rows.now grants.items
             (held_in l self.now.host.now self.now.class.now)) }
     {
@@ -142,7 +142,7 @@ impl HostView<'_> {
 
     /// The visible versions in the order of their slugs.
     pub fn all_visible<S: Alter>(&self, tables: &mut Tables<S>) -> Result<Vec<Version>, Fault>
-        ensures { Obtains S.Store tables.old tables.new result
+        ensures { LearnsInTurn S.Store tables.old tables.new result
             (λ l v. (v.items ≡ versions_in l self.now.host.now self.now.class.now)
             × RiseBySlug (filter (is_version_of self.now.host.now) l.versions)) }
     {

@@ -1,10 +1,10 @@
-use Rattle.dh_desk.proofs.Moving.{Moves-weaker}
+use Rattle.dh_desk.proofs.Moving.{WorldGoesBy-weaker}
 use Rattle.dh_control.proofs.Whole.{end_told, reader_told}
 use Rattle.dh_control.proofs.answering.answer_message.Goals as goal
 
 pub returns-clause-answers : goal.returns-clause-answers
 returns-clause-answers g c =
-    Moves-weaker c.take_message-ended.ensures.takes
+    WorldGoesBy-weaker c.take_message-ended.ensures.takes
     (end_told (g.W.Sink.held c.take_message-ended.new.sink) (g.W.Sink.held c.tell_end.new.sink) c.take_message-ended.result c.tell_end.result c.tell_end.ensures.tells
     c.args.now (g.R.Source.left c.args.source.now) (g.W.Sink.held c.args.sink.now))
 

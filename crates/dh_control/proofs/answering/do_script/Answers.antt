@@ -1,12 +1,12 @@
 use Rattle.std.proofs.Common.{ap}
 use Rattle.dh_desk.specs.Desk.{world}
-use Rattle.dh_desk.proofs.Moving.{Moves-weaker}
+use Rattle.dh_desk.proofs.Moving.{WorldGoesBy-weaker}
 use Rattle.dh_control.proofs.Whole.{script_done, script_failed}
 use Rattle.dh_control.proofs.answering.do_script.Goals as goal
 
 pub returns-in-Ok-clause-does : goal.returns-in-Ok-clause-does
 returns-in-Ok-clause-does g c =
-    Moves-weaker c.in-Ok.ensures.ran
+    WorldGoesBy-weaker c.in-Ok.ensures.ran
     (λ u v runs. script_done c.args.now c.args.script.now u v (g.W.Sink.held c.args.sink.now) (g.W.Sink.held c.run_bytes.new.sink) _ runs c.in-Ok.ensures.whole)
 
 pub returns-in-Err-clause-does : goal.returns-in-Err-clause-does

@@ -6,7 +6,7 @@ use Rattle.dh_transactions.proofs.Ending.{over_aside, stays, steps_aside}
 use Rattle.dh_schema.specs.InTurn.{lasts_on}
 use Rattle.dh_tables.specs.Going.{last_records}
 use Rattle.dh_desk.specs.Desk.{AreConsistent}
-use Rattle.dh_transactions.specs.Steps.{Steps}
+use Rattle.dh_transactions.specs.Steps.{TakesStep}
 
 pub returns-in_err-back : goal.returns-in_err-back
 returns-in_err-back g c = record {
@@ -31,7 +31,7 @@ pub returns : goal.returns
 returns g c = record {
   steps = λ honest.
       let h1 = c.run.ensures.lasts.was honest in
-      let P : Lists → Type 0 = λ l. Steps l (last_records g.S.Store c.run.new.tables) c.args.command.now c.run.result in
+      let P : Lists → Type 0 = λ l. TakesStep l (last_records g.S.Store c.run.new.tables) c.args.command.now c.run.result in
       subst P (c.in_ok-back.ensures.undone.done h1).last_is (c.run.ensures.steps honest);
   outside = c.run.ensures.outside;
   crash = step_after g.S.Store c.args.tables.now c.back.new.self c.run.new.tables c.args.command.now c.back.ensures.goes.lasts.was c.back.ensures.quiet c.back.ensures.goes.kept c.run.ensures.lasts.clean c.run.ensures.crash;

@@ -1,7 +1,7 @@
 use Rattle.std.proofs.Common.{◌≡◌, IfOk, inr, sym, ◌∙◌, subst}
 use Rattle.dh_reply.specs.Replies.{reply_to}
 use Rattle.dh_records.specs.Lists.{Lists, world_of}
-use Rattle.dh_replies.specs.Kept.{AreRight}
+use Rattle.dh_replies.specs.Kept.{AreRepliesRight}
 use Rattle.dh_world.specs.Seen as sight
 use Rattle.std.specs.Option.{option_map}
 use Rattle.dh_tables.specs.Going.{last_records}
@@ -20,19 +20,19 @@ reply_by_class-requires g c = record {
 
 pub returns-in_err-back-clause-current : goal.returns-in_err-back-clause-current
 returns-in_err-back-clause-current g c honest =
-    subst (λ db. AreRight (world_of (lists_of db)) c.args.replies.now.entries) (sym (c.back.ensures.goes.kept honest)) (c.requires.current (c.back.ensures.goes.lasts.was honest))
+    subst (λ db. AreRepliesRight (world_of (lists_of db)) c.args.replies.now.entries) (sym (c.back.ensures.goes.kept honest)) (c.requires.current (c.back.ensures.goes.lasts.was honest))
 
 pub returns-clause-current : goal.returns-clause-current
 returns-clause-current g c honest =
     let same = (c.reply_by_class.ensures.looks.unmoved honest).same in
     let undone = c.in_ok-back.ensures.undone.done same.was_honest in
-    let right = subst (λ l. AreRight (world_of l) c.args.replies.now.entries) (sym undone.now_is) (c.requires.current undone.was_honest) in
-    subst (λ l. AreRight (world_of l) c.reply_by_class.new.replies.entries) (undone.now_is ∙ sym (same.last_is ∙ undone.last_is)) (c.reply_by_class.ensures.right honest right).0
+    let right = subst (λ l. AreRepliesRight (world_of l) c.args.replies.now.entries) (sym undone.now_is) (c.requires.current undone.was_honest) in
+    subst (λ l. AreRepliesRight (world_of l) c.reply_by_class.new.replies.entries) (undone.now_is ∙ sym (same.last_is ∙ undone.last_is)) (c.reply_by_class.ensures.right honest right).0
 
 pub returns-clause-value : goal.returns-clause-value
 returns-clause-value g c honest =
     let undone = c.in_ok-back.ensures.undone.done (c.reply_by_class.ensures.looks.unmoved honest).same.was_honest in
-    let right = subst (λ l. AreRight (world_of l) c.args.replies.now.entries) (sym undone.now_is) (c.requires.current undone.was_honest) in
+    let right = subst (λ l. AreRepliesRight (world_of l) c.args.replies.now.entries) (sym undone.now_is) (c.requires.current undone.was_honest) in
     let by_lists : Lists → Type 0 = λ l. IfOk c.reply_by_class.result (λ r. r ≡ reply_to (sight.seen (world_of l) c.in_ok-host.host c.in_ok-caller.caller) c.args.asked.now.path c.args.asked.now.query) in
     rw (c.in_ok-host.ensures.value, c.in_ok-caller.ensures.value) at (subst by_lists undone.now_is (c.reply_by_class.ensures.right honest right).1)
 

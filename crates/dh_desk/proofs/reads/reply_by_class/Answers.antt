@@ -1,6 +1,6 @@
 use Rattle.std.proofs.Common.{rules, ◌≡◌, IfOk, Some, sym, ap, subst}
 use Rattle.dh_classes.specs.Replies.{reply_for}
-use Rattle.dh_replies.specs.Kept.{AreRight, question_for}
+use Rattle.dh_replies.specs.Kept.{AreRepliesRight, question_for}
 use Rattle.dh_reply.specs.Replies.{reply_to}
 use Rattle.dh_records.specs.Lists.{world_of}
 use Rattle.dh_schema.proofs.CallLemmas.{on_store}
@@ -55,8 +55,8 @@ returns-in_ok-class-in-Some g c =
           let host = c.in-Some.host in
           let of_class = c.in_ok-class-in-Some.ensures.value mid in
           let told =
-          subst (λ v. AreRight v c.args.replies.now.entries
-          → AreRight v c.reply_to_class.new.replies.entries × IfOk c.reply_to_class.result (λ r. r ≡ reply_for v (question_for host class c.args.asked.now)))
+          subst (λ v. AreRepliesRight v c.args.replies.now.entries
+          → AreRepliesRight v c.reply_to_class.new.replies.entries × IfOk c.reply_to_class.result (λ r. r ≡ reply_for v (question_for host class c.args.asked.now)))
           (ap world_of (still c.in_ok-class-in-Some.ensures.asks mid)) (c.reply_to_class.ensures.right honest) right in (
             told.0,
             subst (λ h. IfOk c.reply_to_class.result (λ r. r ≡ reply_to (sight.seen w h c.args.caller) c.args.asked.now.path c.args.asked.now.query)) (sym c.in-Some.is)

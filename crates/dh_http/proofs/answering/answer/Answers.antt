@@ -1,13 +1,13 @@
 use Rattle.std.proofs.Common.{◌≡◌, refl}
 use Rattle.dh_desk.specs.Desk.{world}
-use Rattle.dh_desk.proofs.Moving.{Moves-refl, Moves-weaker}
+use Rattle.dh_desk.proofs.Moving.{WorldGoesBy-refl, WorldGoesBy-weaker}
 use Rattle.dh_http.proofs.Headlines.{headline_of}
 use Rattle.dh_http.proofs.Writing.{request_answered, unread_answered, in_vain, anyway}
 use Rattle.dh_http.proofs.answering.answer.Goals as goal
 
 pub returns-in-Ok-clause-answers : goal.returns-in-Ok-clause-answers
 returns-in-Ok-clause-answers g c =
-    Moves-weaker c.answer_request.ensures.writes
+    WorldGoesBy-weaker c.answer_request.ensures.writes
     (λ u v. request_answered c.args.now u v (g.R.Source.left c.args.source.now) _ _ c.in-Ok.request c.answer_request.result c.in-Ok.ensures.asked)
 
 pub returns-in-Ok-clause-headline : goal.returns-in-Ok-clause-headline
@@ -16,7 +16,7 @@ returns-in-Ok-clause-headline g c honest =
 
 pub returns-in-Err-Memory-clause-answers : goal.returns-in-Err-Memory-clause-answers
 returns-in-Err-Memory-clause-answers g c =
-    Moves-refl (λ w. unread_answered c.args.now w (g.R.Source.left c.args.source.now) _ _ c.answer_unavailable.result c.answer_unavailable.ensures.writes)
+    WorldGoesBy-refl (λ w. unread_answered c.args.now w (g.R.Source.left c.args.source.now) _ _ c.answer_unavailable.result c.answer_unavailable.ensures.writes)
 
 pub returns-in-Ok-clause-refused : goal.returns-in-Ok-clause-refused
 returns-in-Ok-clause-refused g c =

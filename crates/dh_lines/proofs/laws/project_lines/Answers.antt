@@ -3,7 +3,7 @@ use Rattle.clap.specs.Faults.{defaults_fault}
 use Rattle.clap.specs.Walk.{Text}
 use Rattle.dh_words.specs.Words.{ArePlain}
 use Rattle.dh_words.proofs.TokenLemmas.{Token, chosen, written}
-use Rattle.dh_lines.specs.Lines.{Orders, change_in, access_in}
+use Rattle.dh_lines.specs.Lines.{OrdersLine, change_in, access_in}
 use Rattle.dh_lines.specs.declared.lines.Order.{Order}
 use Rattle.dh_lines.proofs.FormLines.{form_line, ReadsAs}
 use Rattle.dh_lines.proofs.laws.project_lines.Goals as goal
@@ -15,7 +15,7 @@ fourth word a b c d = chosen a ∷ chosen b ∷ chosen c ∷ written word ∷ ch
 fourth_line : (name word : Text) (order : (a b c d : Text) → Order)
     → ((a b c d : Text) → ReadsAs name (fourth word a b c d) (Some (order a b c d)))
     → (a b c d : Text) → ArePlain (a ∷ b ∷ c ∷ d ∷ [])
-    → Orders (name ∷ a ∷ b ∷ c ∷ word ∷ d ∷ []) (order a b c d)
+    → OrdersLine (name ∷ a ∷ b ∷ c ∷ word ∷ d ∷ []) (order a b c d)
 fourth_line name word order reads a b c d plain =
     form_line name (fourth word a b c d) (order a b c d) plain (reads a b c d)
 

@@ -6,7 +6,7 @@ use Rattle.dh_world.specs.declared.command.CommandChange.TheVariants.{Upload}
 use Rattle.dh_words.proofs.TokenLemmas.{Token, chosen, written, text_of, Fits}
 use Rattle.dh_words.proofs.TokenLemmas.{tokens_level, tokens_rows}
 use Rattle.dh_lines.specs.App.{upload_app}
-use Rattle.dh_lines.specs.Lines.{Orders, as_line, asking, one_page, named_line}
+use Rattle.dh_lines.specs.Lines.{OrdersLine, as_line, asking, one_page, named_line}
 use Rattle.dh_lines.specs.Lines.{change_in, access_in}
 use Rattle.dh_lines.specs.declared.lines.Line.{Line}
 use Rattle.dh_lines.specs.declared.lines.Order.{Order}
@@ -15,22 +15,22 @@ use Rattle.dh_lines.proofs.FormLines.{form_line, in_steps, stored, line_by, nami
 use Rattle.dh_lines.proofs.laws.upload_lines.Goals as goal
 
 -- `clap` finds no fault in these words
-abbrev Passes : List Token → Type 0
-Passes ts = tokens_level (stored upload_app) ts ≡ []
+abbrev PassesClap : List Token → Type 0
+PassesClap ts = tokens_level (stored upload_app) ts ≡ []
 
 -- they read as this line
-abbrev Reads : List Token → Line → Type 0
-Reads ts line = named_line (codes "upload") (tokens_rows (stored upload_app) ts) ≡ Some line
+abbrev ReadsAsLine : List Token → Line → Type 0
+ReadsAsLine ts line = named_line (codes "upload") (tokens_rows (stored upload_app) ts) ≡ Some line
 
-upload_by : (ts : List Token) (line : Line) → Passes ts → Reads ts line
+upload_by : (ts : List Token) (line : Line) → PassesClap ts → ReadsAsLine ts line
     → line_by (codes "upload") ts ≡ Some (Some line)
 upload_by ts line = in_steps (codes "upload") ts (stored upload_app) (Some line) refl refl
 
 uploading : (ts : List Token) (order : Order) → Fits ts
-    → (Passes ts × ((file : Text) → Passes (ts ++ naming file)))
-    → (Reads ts (as_line None order)
-    × ((file : Text) → Reads (ts ++ naming file) (as_line (Some file) order)))
-    → Orders (codes "upload" ∷ map text_of ts) order
+    → (PassesClap ts × ((file : Text) → PassesClap (ts ++ naming file)))
+    → (ReadsAsLine ts (as_line None order)
+    × ((file : Text) → ReadsAsLine (ts ++ naming file) (as_line (Some file) order)))
+    → OrdersLine (codes "upload" ∷ map text_of ts) order
 uploading ts order fits passes reads =
     form_line (codes "upload") ts order fits (
       upload_by ts (as_line None order) passes.0 reads.0,

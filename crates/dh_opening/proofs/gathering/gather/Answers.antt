@@ -1,7 +1,7 @@
 use Rattle.std.proofs.Common.{◌≡◌, ◌∙◌, Bool, true, false, List, [], ◌∷◌, ◌++◌, Ok, refl, rules, subst}
 use Rattle.sqlite_value.specs.Order.{Row}
 use Rattle.dh_opening.specs.Gathering.{TakesNext}
-use Rattle.dh_opening.specs.Opening.{Answers, Opens}
+use Rattle.dh_opening.specs.Opening.{AnswersQuery, JudgesTables}
 use Rattle.dh_opening.proofs.GatherLemmas.{begins_opens, begins_taken, failed_opens, gather_failed, gathered, gathers_on, refused_is}
 use Rattle.dh_opening.proofs.gathering.gather.Goals as goal
 
@@ -24,7 +24,7 @@ pub returns-in_err-take_next-clause-opens : goal.returns-in_err-take_next-clause
 returns-in_err-take_next-clause-opens g c =
     let at = c.rows.invariant in
     let same = c.take_next.ensures.same_reference ∙ at.0 in
-    let it : Opens g.S.Store c.args.conn.now c.take_next.new.rows.conn.now {T = Unit {0}} c.from_residual.result (λ db _. (rows : List Row) × Answers db c.args.sql.now rows × g.G.Taker.took c.take_next.new.taker rows) (λ _. ⊥) =
+    let it : JudgesTables g.S.Store c.args.conn.now c.take_next.new.rows.conn.now {T = Unit {0}} c.from_residual.result (λ db _. (rows : List Row) × AnswersQuery db c.args.sql.now rows × g.G.Taker.took c.take_next.new.taker rows) (λ _. ⊥) =
     gather_failed g.S.Store c.args.conn.now c.rows.rows.conn.now c.take_next.new.rows.conn.now c.args.sql.now g.G.Taker.took c.rows.taker c.take_next.new.taker at.1 at.2 at.3 c.from_residual.result c.in_err-take_next.field-0.0 c.from_residual.ensures.1 (c.in_err-take_next.ensures.takes c.args.sql.now) in
     search rules
 

@@ -1,7 +1,7 @@
 use Rattle.std.proofs.Common.{◌≡◌, List, Ok}
 use Rattle.sqlite_value.specs.Order.{Row}
 use Rattle.dh_opening.specs.Gathering.{HasTaken}
-use Rattle.dh_opening.specs.Opening.{Opens}
+use Rattle.dh_opening.specs.Opening.{JudgesTables}
 use Rattle.dh_opening.proofs.gathering.gather.Given as goal
 
 abbrev pub invariant-rows : goal.invariant-rows
@@ -9,5 +9,5 @@ invariant-rows g l =
     (l.rows.conn.ghost_name ≡ l.initial.rows.conn.ghost_name)
     × (given : List Row)
     × HasTaken g.S.Store l.sql l.rows.conn.now given
-    × Opens g.S.Store l.fn.conn l.rows.conn.now {T = Unit {0}} (Ok tt) (λ _ _. Unit {0}) (λ _. ⊥)
+    × JudgesTables g.S.Store l.fn.conn l.rows.conn.now {T = Unit {0}} (Ok tt) (λ _ _. Unit {0}) (λ _. ⊥)
     × g.G.Taker.took l.taker given

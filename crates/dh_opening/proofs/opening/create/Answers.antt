@@ -1,7 +1,7 @@
 use Rattle.std.proofs.Common.{◌∙◌, ap, rules, subst, sym}
 use Rattle.sqlite.specs.Effect.{Database}
 use Rattle.sqlite.specs.Held.{state}
-use Rattle.dh_schema.specs.Tables.{Holds, lists_of}
+use Rattle.dh_schema.specs.Tables.{HoldsTables, lists_of}
 use Rattle.dh_rows.proofs.Indexes.{placed}
 use Rattle.dh_rows.specs.Calls.{IsHonest}
 use Rattle.dh_schema.specs.Making.{CanMake, IsMade}
@@ -25,7 +25,7 @@ pub over-requires : goal.over-requires
 over-requires g c = record {
   ours = λ clean live.
       let it = c.in-Ok.ensures.ok (c.in-Ok.ensures.lasts.was (clean, live)) clean in
-      record { now = it.made.holds; last = subst Holds it.settled it.made.holds; steady = ap (λ (d : Database). d.schema) it.settled; settled = λ _. it.settled; unlimited = c.in-Ok.ensures.lasts.limit ∙ ap (λ h. h.step_limit) c.set_step_limit.ensures };
+      record { now = it.made.holds; last = subst HoldsTables it.settled it.made.holds; steady = ap (λ (d : Database). d.schema) it.settled; settled = λ _. it.settled; unlimited = c.in-Ok.ensures.lasts.limit ∙ ap (λ h. h.step_limit) c.set_step_limit.ensures };
 }
 
 pub returns-in-Ok-clause-left : goal.returns-in-Ok-clause-left

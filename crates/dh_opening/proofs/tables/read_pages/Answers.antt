@@ -3,7 +3,7 @@ use Rattle.sqlite.specs.Held.{state}
 use Rattle.dh_records.specs.Codings.{pages}
 use Rattle.dh_records.specs.Constraints.{InOrder}
 use Rattle.dh_records.specs.declared.records.PageRow.{PageRow}
-use Rattle.dh_opening.specs.Opening.{Answers, IsWhole}
+use Rattle.dh_opening.specs.Opening.{AnswersQuery, IsWhole}
 use Rattle.dh_opening.specs.Readings.{page_reads}
 use Rattle.dh_opening.proofs.Looks.{laid_on, opens_on, then_not_ours, then_ok}
 use Rattle.dh_opening.proofs.Telling.{whole_ids, whole_rows}
@@ -22,7 +22,7 @@ returns-then-not-are_rowids-clause-opens g c =
     let s = state g.S.Store c.args.conn.now in
     then_not_ours c.in_ok-gather.field-0 (opens_on c.in_ok-ids.ids (Ok c.in_ok-gather.field-0) c.in_ok-ids.ensures.opens c.in_ok-gather.ensures.opens)
     (λ honest it.
-    no_rowids s (c.requires.laid honest) c.in_ok-ids.ids.items it.1.0 (subst (λ t. Answers s.now t c.in_ok-ids.ids.items) c.ids.ensures it.0) (subst (λ t. Answers s.now t it.1.0) c.rows.ensures.text it.1.1)
+    no_rowids s (c.requires.laid honest) c.in_ok-ids.ids.items it.1.0 (subst (λ t. AnswersQuery s.now t c.in_ok-ids.ids.items) c.ids.ensures it.0) (subst (λ t. AnswersQuery s.now t it.1.0) c.rows.ensures.text it.1.1)
     (not_so c.are_rowids.result (rw c.as_slice.ensures.value at c.are_rowids.ensures.1) (search rules)))
 
 pub returns-in-Some-clause-opens : goal.returns-in-Some-clause-opens
@@ -32,7 +32,7 @@ returns-in-Some-clause-opens g c =
     (λ honest it.
     let has = it.1.2.kept c.in-Some.ensures.some.0 in (
       has.all,
-      pages_found s (c.requires.laid honest) c.in_ok-ids.ids.items it.1.0 (subst (λ t. Answers s.now t c.in_ok-ids.ids.items) c.ids.ensures it.0) (subst (λ t. Answers s.now t it.1.0) c.rows.ensures.text it.1.1)
+      pages_found s (c.requires.laid honest) c.in_ok-ids.ids.items it.1.0 (subst (λ t. AnswersQuery s.now t c.in_ok-ids.ids.items) c.ids.ensures it.0) (subst (λ t. AnswersQuery s.now t it.1.0) c.rows.ensures.text it.1.1)
           ((rw c.as_slice.ensures.value at c.are_rowids.ensures.0) (search rules)) has.all has.fit,
       ap (λ (v : Vec PageRow Global). v.items) c.in-Some.ensures.some.1 ∙ has.found,
     ))
@@ -47,5 +47,5 @@ returns-clause-opens g c =
     let s = state g.S.Store c.args.conn.now in
     then_not_ours c.in_ok-gather.field-0 (opens_on c.in_ok-ids.ids (Ok c.in_ok-gather.field-0) c.in_ok-ids.ensures.opens c.in_ok-gather.ensures.opens)
     (λ honest it.
-    no_pages s (c.requires.laid honest) c.in_ok-ids.ids.items it.1.0 (subst (λ t. Answers s.now t c.in_ok-ids.ids.items) c.ids.ensures it.0) (subst (λ t. Answers s.now t it.1.0) c.rows.ensures.text it.1.1)
+    no_pages s (c.requires.laid honest) c.in_ok-ids.ids.items it.1.0 (subst (λ t. AnswersQuery s.now t c.in_ok-ids.ids.items) c.ids.ensures it.0) (subst (λ t. AnswersQuery s.now t it.1.0) c.rows.ensures.text it.1.1)
     (it.1.2.none (c.into_pages.ensures.none c.in-None.is)))

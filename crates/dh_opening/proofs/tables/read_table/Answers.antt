@@ -1,7 +1,7 @@
 use Rattle.std.proofs.Common.{Ok, sym, subst}
 use Rattle.sqlite.specs.Held.{state}
 use Rattle.dh_rows.proofs.Whole.{IsCodingOf}
-use Rattle.dh_opening.specs.Opening.{Answers, IsWhole}
+use Rattle.dh_opening.specs.Opening.{AnswersQuery, IsWhole}
 use Rattle.dh_opening.proofs.Looks.{laid_on, opens_on, then_ok, then_not_ours}
 use Rattle.dh_opening.proofs.Telling.{whole_ids, whole_rows, stand_for, stand_for_none}
 use Rattle.dh_opening.proofs.tables.read_table.Goals as goal
@@ -21,7 +21,7 @@ returns-in-Some-clause-opens g c =
     then_ok c.in_ok-rows.rows (opens_on c.in_ok-ids.ids (Ok c.in_ok-rows.rows) c.in_ok-ids.ensures.opens c.in_ok-rows.ensures.opens) c.in-Some.records
     (λ honest it.
     stand_for g.R.Kept.reads (state g.S.Store c.args.conn.now) (c.requires.laid honest) g.R.Record.typed (subst (λ k. IsCodingOf g.R.Kept.table k g.R.Kept.order) c.rows.ensures.same g.R.Kept.suits)
-    c.in_ok-ids.ids.items c.in_ok-rows.rows.items (subst (λ t. Answers (state g.S.Store c.args.conn.now).now t c.in_ok-ids.ids.items) c.ids.ensures it.0) (subst (λ t. Answers (state g.S.Store c.args.conn.now).now t c.in_ok-rows.rows.items) c.rows.ensures.text it.1)
+    c.in_ok-ids.ids.items c.in_ok-rows.rows.items (subst (λ t. AnswersQuery (state g.S.Store c.args.conn.now).now t c.in_ok-ids.ids.items) c.ids.ensures it.0) (subst (λ t. AnswersQuery (state g.S.Store c.args.conn.now).now t c.in_ok-rows.rows.items) c.rows.ensures.text it.1)
     c.in-Some.records.items (rw (c.in-Some.is, c.as_slice.ensures.value) at c.in_ok-records.ensures.some))
 
 pub returns-clause-opens : goal.returns-clause-opens
@@ -29,7 +29,7 @@ returns-clause-opens g c =
     then_not_ours c.in_ok-rows.rows (opens_on c.in_ok-ids.ids (Ok c.in_ok-rows.rows) c.in_ok-ids.ensures.opens c.in_ok-rows.ensures.opens)
     (λ honest it.
     stand_for_none g.R.Kept.reads (state g.S.Store c.args.conn.now) (c.requires.laid honest) g.R.Record.typed (subst (λ k. IsCodingOf g.R.Kept.table k g.R.Kept.order) c.rows.ensures.same g.R.Kept.suits)
-    c.in_ok-ids.ids.items c.in_ok-rows.rows.items (subst (λ t. Answers (state g.S.Store c.args.conn.now).now t c.in_ok-ids.ids.items) c.ids.ensures it.0) (subst (λ t. Answers (state g.S.Store c.args.conn.now).now t c.in_ok-rows.rows.items) c.rows.ensures.text it.1)
+    c.in_ok-ids.ids.items c.in_ok-rows.rows.items (subst (λ t. AnswersQuery (state g.S.Store c.args.conn.now).now t c.in_ok-ids.ids.items) c.ids.ensures it.0) (subst (λ t. AnswersQuery (state g.S.Store c.args.conn.now).now t c.in_ok-rows.rows.items) c.rows.ensures.text it.1)
     (rw (c.as_slice.ensures.value) at (c.in_ok-records.ensures.none c.in-None.is)))
 
 pub returns-in-Some-clause-order : goal.returns-in-Some-clause-order

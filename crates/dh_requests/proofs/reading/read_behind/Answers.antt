@@ -2,7 +2,7 @@ use Rattle.std.proofs.Common.{take, ap, sym, subst, ◌∙◌}
 use Rattle.dh_ports.specs.Reading.{reader_failed}
 use Rattle.dh_requests.specs.HeadEnd.{IsHeadText}
 use Rattle.dh_requests.specs.declared.asked.Asked.TheVariants.{Command}
-use Rattle.dh_requests.specs.Request.{AsksFor}
+use Rattle.dh_requests.specs.Request.{HeadAsksFor}
 use Rattle.dh_requests.proofs.Little.{asks_little}
 use Rattle.dh_requests.proofs.Requests.{request_text, whole_text}
 use Rattle.dh_requests.proofs.Bodies.{stays_needed}
@@ -13,13 +13,13 @@ text_asks-requires g c = subst (λ w. IsHeadText (take c.args.start w)) (sym c.d
 
 pub read_command-requires-clause-small : goal.read_command-requires-clause-small
 read_command-requires-clause-small g c =
-    asks_little (take c.args.start c.deref.result.now) c.in-Command.posted (subst (AsksFor (take c.args.start c.deref.result.now)) c.in-Command.is c.in_ok-request.ensures.asked)
+    asks_little (take c.args.start c.deref.result.now) c.in-Command.posted (subst (HeadAsksFor (take c.args.start c.deref.result.now)) c.in-Command.is c.in_ok-request.ensures.asked)
 
 pub returns-in-Command-clause-takes : goal.returns-in-Command-clause-takes
 returns-in-Command-clause-takes g c =
     let t = c.read_command.ensures.takes in
-    let asks = subst (AsksFor (take c.args.start c.deref.result.now)) c.in-Command.is c.in_ok-request.ensures.asked in
-    let there = subst (λ w. AsksFor (take c.args.start w) (Command c.in-Command.posted)) c.deref.ensures.value asks in
+    let asks = subst (HeadAsksFor (take c.args.start c.deref.result.now)) c.in-Command.is c.in_ok-request.ensures.asked in
+    let there = subst (λ w. HeadAsksFor (take c.args.start w) (Command c.in-Command.posted)) c.deref.ensures.value asks in
     record {
       needed = stays_needed (g.R.Source.left c.args.source.now) (g.R.Source.left c.read_command.new.source) c.args.intake.bytes.items c.args.start c.in-Command.posted (reader_failed c.read_command.result) c.requires.head c.requires.text.0 there
           (λ le. (
@@ -35,10 +35,10 @@ returns-in-Command-clause-takes g c =
 
 pub returns-in-Command-clause-request : goal.returns-in-Command-clause-request
 returns-in-Command-clause-request g c =
-    let asks = subst (AsksFor (take c.args.start c.deref.result.now)) c.in-Command.is c.in_ok-request.ensures.asked in
+    let asks = subst (HeadAsksFor (take c.args.start c.deref.result.now)) c.in-Command.is c.in_ok-request.ensures.asked in
     request_text c.read_command.result (g.R.Source.left c.args.source.now) c.args.intake.bytes.items (take c.args.start c.deref.result.now) c.args.start (Command c.in-Command.posted) c.requires.text.0 (ap (take c.args.start) c.deref.ensures.value) asks c.read_command.ensures.request
 
 pub returns-in-Whole-clause-request : goal.returns-in-Whole-clause-request
 returns-in-Whole-clause-request g c =
-    let asks = subst (AsksFor (take c.args.start c.deref.result.now)) c.in-Whole.is c.in_ok-request.ensures.asked in
+    let asks = subst (HeadAsksFor (take c.args.start c.deref.result.now)) c.in-Whole.is c.in_ok-request.ensures.asked in
     whole_text (g.R.Source.left c.args.source.now) c.args.intake.bytes.items (take c.args.start c.deref.result.now) c.args.start c.in-Whole.request c.requires.text.0 (ap (take c.args.start) c.deref.ensures.value) asks

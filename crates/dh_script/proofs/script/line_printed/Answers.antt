@@ -1,13 +1,13 @@
 use Rattle.std.proofs.Common.{subst, sym, string_bytes, Option, IfOk, OnErr}
-use Rattle.dh_desk.specs.Desk.{Moves}
+use Rattle.dh_desk.specs.Desk.{WorldGoesBy}
 use Rattle.dh_lines.specs.declared.lines.Line.{Line}
-use Rattle.dh_script.specs.Script.{Does, MayDo}
+use Rattle.dh_script.specs.Script.{DoesLine, MayDoLine}
 use Rattle.dh_script.proofs.script.line_printed.Goals as goal
 
 pub returns-in-Ok-clause-does : goal.returns-in-Ok-clause-does
 returns-in-Ok-clause-does g c =
-    subst (λ (l : Option Line). Moves g.S.Store c.args.desk.now c.own_line.new.desk (λ before after. IfOk c.own_line.result (λ p. Does c.args.now before l after (string_bytes p.text)))) (sym c.in-Ok.ensures.says) c.own_line.ensures.does
+    subst (λ (l : Option Line). WorldGoesBy g.S.Store c.args.desk.now c.own_line.new.desk (λ before after. IfOk c.own_line.result (λ p. DoesLine c.args.now before l after (string_bytes p.text)))) (sym c.in-Ok.ensures.says) c.own_line.ensures.does
 
 pub returns-in-Ok-clause-may : goal.returns-in-Ok-clause-may
 returns-in-Ok-clause-may g c =
-    subst (λ (l : Option Line). Moves g.S.Store c.args.desk.now c.own_line.new.desk (λ before after. OnErr c.own_line.result (MayDo c.args.now before l after))) (sym c.in-Ok.ensures.says) c.own_line.ensures.may
+    subst (λ (l : Option Line). WorldGoesBy g.S.Store c.args.desk.now c.own_line.new.desk (λ before after. OnErr c.own_line.result (MayDoLine c.args.now before l after))) (sym c.in-Ok.ensures.says) c.own_line.ensures.may

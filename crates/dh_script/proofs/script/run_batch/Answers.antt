@@ -1,14 +1,14 @@
-use Rattle.dh_desk.proofs.Moving.{Moves-refl, Moves-weaker, Moves-trans}
+use Rattle.dh_desk.proofs.Moving.{WorldGoesBy-refl, WorldGoesBy-weaker, WorldGoesBy-trans}
 use Rattle.dh_script.proofs.RunLemmas.{some_none, ran_err, batch_on, batch_some, batch_ends}
 use Rattle.dh_script.proofs.script.run_batch.Goals as goal
 
 pub returns-in_err-program-clause-ran : goal.returns-in_err-program-clause-ran
 returns-in_err-program-clause-ran g c =
-    Moves-refl (λ w. ran_err c.args.now w _ w _ _ c.from_residual.result c.from_residual.ensures.0 (some_none c.args.now w _ _))
+    WorldGoesBy-refl (λ w. ran_err c.args.now w _ w _ _ c.from_residual.result c.from_residual.ensures.0 (some_none c.args.now w _ _))
 
 pub returns-in_err-run_words-clause-ran : goal.returns-in_err-run_words-clause-ran
 returns-in_err-run_words-clause-ran g c =
-    Moves-trans c.loop-words.invariant.ran c.in_err-run_words.ensures.ran
+    WorldGoesBy-trans c.loop-words.invariant.ran c.in_err-run_words.ensures.ran
     (λ u v w ran some. ran_err c.args.now u _ w _ _ c.from_residual-in_err-run_words.result c.from_residual-in_err-run_words.ensures.0
     (batch_some c.args.now c.args.lines.now c.loop-words.words-index c.words-item.result c.as_slice.result.now u v w _ _ _ ran some c.as_slice.ensures.value c.words-item.is c.loop-words-test.true))
 
@@ -17,11 +17,11 @@ loop-words-preserved g c = record {
   fine = c.in_ok-run_words.ensures.broken;
   stands = c.in_ok-run_words.ensures.stays;
   ran =
-      Moves-trans c.loop-words.invariant.ran c.in_ok-run_words.ensures.ran
+      WorldGoesBy-trans c.loop-words.invariant.ran c.in_ok-run_words.ensures.ran
       (λ u v w ran one. batch_on c.args.now c.args.lines.now c.loop-words.words-index c.words-item.result c.as_slice.result.now u v w _ _ _ ran one c.as_slice.ensures.value c.words-item.is c.loop-words-test.true);
 }
 
 pub returns-clause-ran : goal.returns-clause-ran
 returns-clause-ran g c =
-    Moves-weaker c.loop-words.invariant.ran
+    WorldGoesBy-weaker c.loop-words.invariant.ran
     (λ u v ran. batch_ends c.args.now c.args.lines.now c.loop-words.words-index u v _ _ ran c.loop-words-test.false)

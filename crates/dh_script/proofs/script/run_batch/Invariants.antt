@@ -1,5 +1,5 @@
 use Rattle.std.proofs.Common.{◌≡◌, false, take}
-use Rattle.dh_desk.specs.Desk.{Moves}
+use Rattle.dh_desk.specs.Desk.{WorldGoesBy}
 use Rattle.dh_words.specs.Apps.{StandsFor}
 use Rattle.dh_lines.specs.App.{docs_app}
 use Rattle.dh_script.specs.Running.{RunsInto, seen}
@@ -9,6 +9,6 @@ abbrev pub invariant-loop-words : goal.invariant-loop-words
 invariant-loop-words g l = record {
   fine : g.W.Sink.broken l.sink ≡ false;
   stands : StandsFor docs_app l.program;
-  ran : Moves g.S.Store l.fn.desk l.desk
+  ran : WorldGoesBy g.S.Store l.fn.desk l.desk
       (λ before after. RunsInto l.fn.now before (seen (take l.words-index l.lines)) after (g.W.Sink.held l.fn.sink) (g.W.Sink.held l.sink));
 }

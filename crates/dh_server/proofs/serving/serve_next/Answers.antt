@@ -1,22 +1,22 @@
 use Rattle.std.proofs.Common.{of_calls, subst}
-use Rattle.dh_http.proofs.Moving.{Moves-weaker}
-use Rattle.dh_server.specs.Serving.{Counts, GivenBy, messages_in}
+use Rattle.dh_http.proofs.Moving.{WorldGoesBy-weaker}
+use Rattle.dh_server.specs.Serving.{CountsExactly, GivenBy, messages_in}
 use Rattle.dh_server.proofs.Stepping.{may_turn_at, hands_none}
 use Rattle.dh_server.proofs.serving.serve_next.Goals as goal
 
 pub returns-in-Some-clause-hears : goal.returns-in-Some-clause-hears
 returns-in-Some-clause-hears g c = (
   _,
-  subst (λ it. Counts (g.N.Listen.messages c.args.listener.now) (g.N.Listen.messages c.accept-came.new.self) (messages_in it)) c.in-Some.is c.accept-came.ensures.gives,
+  subst (λ it. CountsExactly (g.N.Listen.messages c.args.listener.now) (g.N.Listen.messages c.accept-came.new.self) (messages_in it)) c.in-Some.is c.accept-came.ensures.gives,
   c.answer_came.ensures.hears,
 )
 
 pub returns-in-None-clause-hears : goal.returns-in-None-clause-hears
 returns-in-None-clause-hears g c =
     hands_none (g.N.Listen.messages c.args.listener.now) (g.N.Listen.messages c.accept-came.new.self) (g.K.Control.handed c.args.control.now)
-    (subst (λ it. Counts (g.N.Listen.messages c.args.listener.now) (g.N.Listen.messages c.accept-came.new.self) (messages_in it)) c.in-None.is c.accept-came.ensures.gives)
+    (subst (λ it. CountsExactly (g.N.Listen.messages c.args.listener.now) (g.N.Listen.messages c.accept-came.new.self) (messages_in it)) c.in-None.is c.accept-came.ensures.gives)
 
 pub returns-in-Some-clause-turn : goal.returns-in-Some-clause-turn
 returns-in-Some-clause-turn g c =
-    Moves-weaker c.answer_came.ensures.turn
+    WorldGoesBy-weaker c.answer_came.ensures.turn
     (λ u v turn. may_turn_at (GivenBy (goal.C-post g)) g.K.Control.does c.clock-now.result u v (c.args.clock.now, search of_calls) turn)

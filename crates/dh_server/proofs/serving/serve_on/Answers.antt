@@ -1,5 +1,5 @@
 use Rattle.std.proofs.Common.{◌∙◌, sym, true≢false, arith}
-use Rattle.dh_http.proofs.Moving.{Moves-trans, Moves-weaker}
+use Rattle.dh_http.proofs.Moving.{WorldGoesBy-trans, WorldGoesBy-weaker}
 use Rattle.dh_server.specs.Serving.{GivenBy}
 use Rattle.dh_server.proofs.Stepping.{counts_next, hands_more, serves_next, steps_of}
 use Rattle.dh_server.proofs.Told.{some_more}
@@ -14,15 +14,15 @@ loop-asked-preserved g c = record {
       (g.K.Control.handed c.args.control.now) (g.K.Control.handed c.loop-asked.control) (g.K.Control.handed c.serve_next.new.control)
       c.loop-asked.invariant.hears c.serve_next.ensures.hears;
   shut = λ closed. absurd (true≢false (sym (c.loop-asked.invariant.shut closed).1 ∙ sym c.is_closed.ensures ∙ c.if-not-is_closed.true));
-  serves = Moves-trans c.loop-asked.invariant.serves c.serve_next.ensures.turn (serves_next (GivenBy (goal.C-post g)) g.K.Control.does c.loop-asked.asked);
+  serves = WorldGoesBy-trans c.loop-asked.invariant.serves c.serve_next.ensures.turn (serves_next (GivenBy (goal.C-post g)) g.K.Control.does c.loop-asked.asked);
   tells = some_more g.L.Sink.broken g.L.Sink.held c.args.errors.now c.loop-asked.errors c.serve_next.new.errors c.loop-asked.invariant.tells c.serve_next.ensures.tells;
   off = λ is_off. c.serve_next.ensures.off is_off ∙ c.loop-asked.invariant.off is_off;
 }
 
 pub returns-after-loop-asked-clause-steps : goal.returns-after-loop-asked-clause-steps
 returns-after-loop-asked-clause-steps g c =
-    λ none. Moves-weaker c.loop-asked.invariant.serves (steps_of (GivenBy (goal.C-post g)) g.K.Control.does none c.loop-asked.asked)
+    λ none. WorldGoesBy-weaker c.loop-asked.invariant.serves (steps_of (GivenBy (goal.C-post g)) g.K.Control.does none c.loop-asked.asked)
 
 pub returns-else-not-is_closed-clause-steps : goal.returns-else-not-is_closed-clause-steps
 returns-else-not-is_closed-clause-steps g c =
-    λ none. Moves-weaker c.loop-asked.invariant.serves (steps_of (GivenBy (goal.C-post g)) g.K.Control.does none c.loop-asked.asked)
+    λ none. WorldGoesBy-weaker c.loop-asked.invariant.serves (steps_of (GivenBy (goal.C-post g)) g.K.Control.does none c.loop-asked.asked)

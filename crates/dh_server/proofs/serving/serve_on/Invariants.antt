@@ -1,17 +1,17 @@
 use Rattle.std.proofs.Common.{◌≡◌, ◌≤◌, ◌-◌, true, false}
-use Rattle.dh_http.specs.Desk.{Moves}
-use Rattle.dh_server.specs.Serving.{Serves, GivenBy, Counts, HandsOn}
+use Rattle.dh_http.specs.Desk.{WorldGoesBy}
+use Rattle.dh_server.specs.Serving.{ServesInTurn, GivenBy, CountsExactly, HandsOn}
 use Rattle.dh_server.specs.Telling.{TellsSome}
 use Rattle.dh_server.proofs.serving.serve_on.Given as goal
 
 abbrev pub invariant-loop-asked : goal.invariant-loop-asked
 invariant-loop-asked g l = record {
   callable : goal.C-IsAlwaysCallable g l.clock;
-  asks : Counts (g.N.Listen.asked l.fn.listener) (g.N.Listen.asked l.listener) l.asked;
+  asks : CountsExactly (g.N.Listen.asked l.fn.listener) (g.N.Listen.asked l.listener) l.asked;
   few : l.asked ≤ l.count;
   hears : HandsOn (g.N.Listen.messages l.fn.listener) (g.N.Listen.messages l.listener) (g.K.Control.handed l.fn.control) (g.K.Control.handed l.control);
   shut : l.fn.desk.closed ≡ true → (l.asked ≡ 0) × (l.desk.closed ≡ true);
-  serves : Moves g.S.Store l.fn.desk l.desk (Serves (GivenBy (goal.C-post g)) g.K.Control.does l.asked);
+  serves : WorldGoesBy g.S.Store l.fn.desk l.desk (ServesInTurn (GivenBy (goal.C-post g)) g.K.Control.does l.asked);
   tells : TellsSome g.L.Sink.broken g.L.Sink.held l.fn.errors l.errors;
   off : l.fn.log.is_on ≡ false → l.errors ≡ l.fn.errors;
 }

@@ -8,7 +8,7 @@ use Rattle.dh_records.specs.declared.records.ProjectRow.{ProjectRow}
 use Rattle.dh_transactions.proofs.OpenLemmas.{row_is_free, main_is_free, none_speaks}
 use Rattle.dh_transactions.proofs.opening.add_project.Goals as goal
 use Rattle.dh_tables.proofs.Together.{makes_on}
-use Rattle.dh_tables.specs.Going.{Makes, records}
+use Rattle.dh_tables.specs.Going.{ChangesRecords, records}
 use Rattle.dh_transactions.specs.Opening.{project_row, main_lang, with_lang, with_row}
 
 pub add_row-requires : goal.add_row-requires
@@ -42,7 +42,7 @@ pub returns : goal.returns
 returns g c = record {
   makes =
       let it = c.in_ok-add_row.ensures.makes in
-      let P : ProjectRow → LangRow → Type 0 = λ r m. Makes g.S.Store c.args.tables.now c.add_main.new.tables c.add_main.result (λ l. with_lang m (with_row r l)) in
+      let P : ProjectRow → LangRow → Type 0 = λ r m. ChangesRecords g.S.Store c.args.tables.now c.add_main.new.tables c.add_main.result (λ l. with_lang m (with_row r l)) in
       subst (λ r. P r (main_lang c.args.host.now c.args.project.lang)) c.in_ok-row.ensures.0
       (subst (P c.in_ok-row.row) c.in_ok-row.ensures.1
       (makes_on g.S.Store c.args.tables.now c.add_row.new.tables c.add_main.new.tables (with_row c.in_ok-row.row) (with_lang c.in_ok-row.main)

@@ -6,7 +6,7 @@ use Rattle.dh_transactions.proofs.Crashing.{given_ok, ended_leaves, refused_afte
 use Rattle.dh_transactions.proofs.Ending.{over_aside, stays, steps_aside}
 use Rattle.dh_transactions.proofs.transaction.run.Goals as goal
 use Rattle.dh_tables.specs.Going.{records, last_records}
-use Rattle.dh_transactions.specs.Steps.{Turns}
+use Rattle.dh_transactions.specs.Steps.{TakesTurn}
 use Rattle.dh_world.specs.declared.command.Command.{Command}
 
 pub returns-in_err-begin : goal.returns-in_err-begin
@@ -30,10 +30,10 @@ returns g c = record {
       let begun = c.begin.new.self in
       let worked = c.work-worked.new.tables in
       let result = c.work-worked.result in
-      let turned : IsHonest g.S.Store old → IsHonest g.S.Store begun → IsHonest g.S.Store worked → Turns (last_records g.S.Store old) (records g.S.Store worked) c.args.command.now result =
+      let turned : IsHonest g.S.Store old → IsHonest g.S.Store begun → IsHonest g.S.Store worked → TakesTurn (last_records g.S.Store old) (records g.S.Store worked) c.args.command.now result =
       λ h0 h1 h2.
       let before = (c.in_ok-begin.ensures.begun.done h1.0).now_is ∙ c.requires.settled h0 in
-      let P : Lists → Command → Type 0 = λ l x. Turns l (records g.S.Store worked) x result in
+      let P : Lists → Command → Type 0 = λ l x. TakesTurn l (records g.S.Store worked) x result in
       subst (P (last_records g.S.Store old)) c.in_ok-host.ensures.1
       (subst (λ l. P l (command_of c.in_ok-host.field-0.host c.in_ok-host.field-0.change)) before (c.work-worked.ensures.turns h2)) in
       ended_leaves g.S.Store old begun worked c.end.new.tables c.args.command.now result c.in_ok-host.ensures.0

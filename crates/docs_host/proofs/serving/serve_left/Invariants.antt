@@ -1,11 +1,11 @@
 use Rattle.std.proofs.Common.{◌≤◌, ◌-◌}
-use Rattle.dh_server.specs.Serving.{Counts}
+use Rattle.dh_server.specs.Serving.{CountsExactly}
 use Rattle.dh_server.specs.Telling.{TellsSome}
 use Rattle.docs_host.proofs.serving.serve_left.Given as goal
 
 abbrev pub invariant-openings : goal.invariant-openings
 invariant-openings g l = record {
-  asks : Counts (g.N.Listen.asked l.fn.listening) (g.N.Listen.asked l.listening) (l.count - l.left);
+  asks : CountsExactly (g.N.Listen.asked l.fn.listening) (g.N.Listen.asked l.listening) (l.count - l.left);
   few : l.left ≤ l.count;
   tells : TellsSome g.E.Sink.broken g.E.Sink.held l.fn.errors l.errors;
 }

@@ -6,7 +6,7 @@ use Rattle.dh_histories.proofs.CallLemmas.{calls_and_one}
 use Rattle.dh_world.specs.declared.outcome.Outcome.{Outcome}
 use Rattle.dh_desk.specs.DeskRuns.{DoesWhileOpen}
 use Rattle.dh_desk.proofs.Calling.{none_done, open_none, open_and_one}
-use Rattle.dh_desk.proofs.Moving.{Moves-refl, Moves-trans}
+use Rattle.dh_desk.proofs.Moving.{WorldGoesBy-refl, WorldGoesBy-trans}
 use Rattle.dh_desk.proofs.desk.Desk.run.Goals as goal
 
 pub loop-call-init : goal.loop-call-init
@@ -15,7 +15,7 @@ loop-call-init g c =
     record {
       count = ap length empty;
       room = omega (arith, c.in_ok-outcomes.ensures.capacity);
-      ran = Moves-refl (λ w. none_done w _ _ refl empty);
+      ran = WorldGoesBy-refl (λ w. none_done w _ _ refl empty);
       until = subst₂ (λ cs os. DoesWhileOpen g.S.Store c.args.self.now c.args.self.now cs os) refl (sym empty) (open_none g.S.Store c.args.self.now);
     }
 
@@ -30,7 +30,7 @@ loop-call-preserved g c =
     record {
       count = ap length told ∙ omega (arith, length-append c.loop-call.outcomes.items (outcome ∷ []), c.loop-call.invariant.count);
       room = omega (arith, c.loop-call.invariant.room, c.push_reserved.ensures.capacity);
-      ran = Moves-trans c.loop-call.invariant.ran c.call-outcome.ensures.done
+      ran = WorldGoesBy-trans c.loop-call.invariant.ran c.call-outcome.ensures.done
           (λ u v w did last. subst₂ (λ cs os. AreCallsDone u cs w os) (sym {A = List Call} one_more) (sym {A = List Outcome} told) (calls_and_one u v w (take i calls) c.loop-call.outcomes.items call outcome did last));
       until = subst₂ (λ cs os. DoesWhileOpen g.S.Store c.args.self.now c.call-outcome.new.self cs os) (sym {A = List Call} one_more) (sym {A = List Outcome} told)
           (open_and_one g.S.Store _ _ _ (take i calls) c.loop-call.outcomes.items call outcome c.loop-call.invariant.until

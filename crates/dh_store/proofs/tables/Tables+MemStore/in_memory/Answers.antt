@@ -2,7 +2,7 @@ use Rattle.std.proofs.Common.{refl, sym, ap, subst, ◌∙◌}
 use Rattle.sqlite.proofs.Callers.{memory_is_clean}
 use Rattle.sqlite.specs.Effect.{Database}
 use Rattle.dh_records.specs.Lists.{world_of}
-use Rattle.dh_schema.specs.Tables.{Holds, lists_of}
+use Rattle.dh_schema.specs.Tables.{HoldsTables, lists_of}
 use Rattle.dh_schema.proofs.Made.{all_ready, world_empty}
 use Rattle.dh_store.proofs.tables.Tables+MemStore.in_memory.Goals as goal
 
@@ -13,7 +13,7 @@ pub invariant_of-tables : goal.invariant_of-tables
 invariant_of-tables c clean live =
     let it = c.in_ok-make_tables.ensures.builds.made (memory_is_clean c.in_ok-conn.conn, refl) clean in
     let same = it.0.settled c.in_ok-conn.ensures.fresh.autocommit in
-    record { now = it.1.holds; last = subst Holds same it.1.holds; steady = ap (λ (d : Database). d.schema) same; settled = λ _. same; unlimited = c.in_ok-make_tables.ensures.builds.goes.lasts.limit ∙ c.in_ok-conn.ensures.fresh.unlimited }
+    record { now = it.1.holds; last = subst HoldsTables same it.1.holds; steady = ap (λ (d : Database). d.schema) same; settled = λ _. same; unlimited = c.in_ok-make_tables.ensures.builds.goes.lasts.limit ∙ c.in_ok-conn.ensures.fresh.unlimited }
 
 pub returns-clause-honest : goal.returns-clause-honest
 returns-clause-honest c = (memory_is_clean c.ask.new.self, refl)

@@ -5,7 +5,7 @@ use Rattle.dh_rows.specs.Keyed.{IsFreeKey}
 use Rattle.dh_records.specs.Changes as change
 use Rattle.dh_records.specs.Codings as coding
 use Rattle.dh_records.specs.Lists.{Lists}
-use Rattle.dh_schema.specs.Tables.{Holds, lists_of}
+use Rattle.dh_schema.specs.Tables.{HoldsTables, lists_of}
 use Rattle.dh_schema.proofs.CallLemmas.{wrote_after, wrote_nothing}
 use Rattle.dh_records.proofs.GrantLemmas.{grant_is_free, granted_new, granted_there}
 use Rattle.dh_store.proofs.tables.Tables.grant.Goals as goal
@@ -19,7 +19,7 @@ add_grant-requires g c = record {
 
 pub returns-in-Ok-true : goal.returns-in-Ok-true
 returns-in-Ok-true g c = record {
-  writes = wrote_nothing g.S.Store c.args.self.now c.held.new.self _ _ (change.grant c.args.row.now) (subst (λ h. AreOurs Holds (state g.S.Store h)) c.self.view_is c.self.invariant) c.in-Ok-true.ensures.asks
+  writes = wrote_nothing g.S.Store c.args.self.now c.held.new.self _ _ (change.grant c.args.row.now) (subst (λ h. AreOurs HoldsTables (state g.S.Store h)) c.self.view_is c.self.invariant) c.in-Ok-true.ensures.asks
       (λ honest. ap (λ rows. record (seen g.S.Store lists_of c.args.self.now) { held = rows }) (granted_there c.args.row.now (seen g.S.Store lists_of c.args.self.now).held (sym (c.in-Ok-true.ensures.value honest) ∙ c.in-Ok-true.field-0-test)));
 }
 

@@ -1,7 +1,7 @@
 use Rattle.std.proofs.Common.{subst}
 use Rattle.sqlite.specs.Held.{state}
 use Rattle.dh_rows.specs.Calls.{AreOurs}
-use Rattle.dh_schema.specs.Tables.{Holds}
+use Rattle.dh_schema.specs.Tables.{HoldsTables}
 use Rattle.dh_records.specs.Constraints.{RiseBySlug}
 use Rattle.dh_records.proofs.SlugOrder.{host_rises}
 use Rattle.dh_records.specs.Lists.{is_version_of}
@@ -17,7 +17,7 @@ all_records-requires g c = record { query = rw (c.params-to_sql.ensures, c.as_st
 pub returns : goal.returns
 returns g c =
     let it = c.all_records.ensures (λ l. l.versions) (is_version_of c.args.host.now) (rw (c.params-to_sql.ensures, c.as_str.ensures.text) (versions_asked (state g.S.Store c.args.self.now) c.args.host.now)) in
-    let ours = subst (λ h. AreOurs Holds (state g.S.Store h)) c.self.view_is c.self.invariant in
+    let ours = subst (λ h. AreOurs HoldsTables (state g.S.Store h)) c.self.view_is c.self.invariant in
     record {
       asks = it.asks;
       value = λ now.

@@ -1,7 +1,7 @@
 use Rattle.std.proofs.Common.{arith, rules, subst, IsTrue}
 use Rattle.sqlite.specs.Held.{state}
 use Rattle.dh_rows.specs.Calls.{AreOurs}
-use Rattle.dh_schema.specs.Tables.{Holds, lists_of}
+use Rattle.dh_schema.specs.Tables.{HoldsTables, lists_of}
 use Rattle.dh_store.proofs.ListLemmas.{got}
 use Rattle.dh_store.proofs.OrderLemmas.{in_order}
 use Rattle.dh_store.proofs.SettingLemmas.{none_set, one_set, one_stands, all_set}
@@ -10,7 +10,7 @@ use Rattle.dh_store.proofs.tables.listing.put_others.Goals.{then-not-stands_at+i
 
 pub loop-i-init : goal.loop-i-init
 loop-i-init g c =
-    let ours = subst (λ h. AreOurs Holds (state g.S.Store h)) c.tables.view_is c.tables.invariant in
+    let ours = subst (λ h. AreOurs HoldsTables (state g.S.Store h)) c.tables.view_is c.tables.invariant in
     none_set g.S.Store g.R.Placed.listing c.args.host.now (λ honest. g.met.R.Placed.ordered (lists_of (state g.S.Store c.args.tables.now).now) (in_order (state g.S.Store c.args.tables.now).now (ours honest.0 honest.1).now)) c.requires.all
 
 pub loop-i-preserved : goal.loop-i-preserved
