@@ -1,4 +1,4 @@
-//! Redirects.
+//! The commands that add, remove and import redirects.
 ghost use Rattle.std.specs.Prelude.{◌≡◌, ◌∷◌, [], ◌++◌, OnOk};
 ghost use Rattle.std.specs.List.{list_any};
 ghost use Rattle.dh_commands.specs.Lists.{TakesIn};
@@ -78,7 +78,7 @@ fn take_in(
     Ok(Items::wrap(all))
 }
 
-/// The plan by which these are the redirects, so many more than before.
+/// The plan that sets the redirects, and answers how many were added.
 fn set_imported<'c>(
     alloc: Global,
     redirects: Items<Redirect>,

@@ -22,7 +22,7 @@ address_of ([] ∷ l ∷ n ∷ []) = if length l == 0 || length n == 0 then Othe
 address_of ([] ∷ l ∷ n ∷ r ∷ rs) = if length l == 0 || length n == 0 then Other else File l n (join_with_byte slash (r ∷ rs))
 address_of _ = Other
 
--- the first that fits
+-- what a path names: the first form that fits
 unfoldable pub split_of : List ℕ → Place
 split_of path =
     if bytes_eq path (codes "/") then Root

@@ -83,7 +83,7 @@ fn query_text(alloc: Global, query: Option<&[u8]>) -> Result<Option<Text>, Alloc
     }
 }
 
-/// The target at a host.
+/// The target at a host, from its path and query as written.
 #[tactic(auto, unfolding(crate::specs::Targets::target_at))]
 fn at_host(alloc: Global, host: Option<Text>, text: &[u8]) -> Result<Target, TextFault>
     requires { IsAscii text.now }

@@ -29,7 +29,7 @@ pub enum Action {
 impl Action {
     ghost use Rattle.dh_rules.specs.Rules.{activates};
 
-    /// Hiding a version and setting it as default activate it too.
+    /// Whether the action activates the version: hiding it and setting it as default do so too.
     pub fn activates(self) -> bool
         ensures { result ≡ activates self }
     {
