@@ -5,7 +5,7 @@ use Rattle.dh_world.specs.Changes.{with_new}
 use Rattle.dh_world.specs.declared.refusal.Refusal.{Refusal}
 use Rattle.dh_world.specs.declared.refusal.Refusal.TheVariants.{OutOfMemory, TooMany}
 
--- the answer is the one that is said, or out of memory where no refusal is said
+-- the answer is `said`, or out of memory where `said` is no refusal
 abbrev pub ComesAsSaid : {X : Type 0} → Result (List X) Refusal → Result (List X) Refusal → Type 0
 ComesAsSaid said (Ok xs) = said ≡ Ok xs
 ComesAsSaid said (Err e) = ((e ≡ OutOfMemory) × IsOk said) ⊎ (said ≡ Err e)

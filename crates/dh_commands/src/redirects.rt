@@ -58,7 +58,7 @@ fn push_copy(
     Ok(())
 }
 
-/// Adds copies of those redirects of a list that are not there, each once, while there is room.
+/// Adds copies of the redirects of a list that are not there, each once; refused where there is no room for one.
 fn take_in(
     alloc: Global,
     list: &[Redirect],

@@ -12,7 +12,7 @@ pub fn purge_law()
     ensures { PurgeLaw }
 {}
 
-/// Calls that were done one after the other are a run, once those whose outcomes are set aside are taken out.
+/// Calls that were done one after the other are a run, without the calls whose outcomes are set aside.
 pub fn done_is_run()
     ensures { DoneIsRun }
 {}

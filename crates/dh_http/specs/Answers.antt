@@ -27,7 +27,7 @@ abbrev pub read_reply : ℕ → World → Option (List ℕ) → Option (List ℕ
 read_reply moment world host pass read =
     reply_to (seen world host (caller_named pass moment)) read.path read.query
 
--- a command is one step of the world, or is refused, or set aside, and this replies to it
+-- the reply is that to a command which is one step of the world, or is refused, or set aside
 abbrev pub IsAppliedAs : World → World → Command → Reply → Type 0
 IsAppliedAs before after command reply =
     (outcome : Result Answer Refusal)

@@ -39,7 +39,7 @@ abbrev pub IsOriginForm : List ℕ → Target → Type 0
 IsOriginForm text target =
     (raw : List ℕ) × IsPathAndQuery text raw target.query × IsTrue (first_byte raw == slash) × (path_of raw ≡ Some target.path) × (target.host ≡ None)
 
--- `http://` or `https://`, in any case
+-- `http://` or `https://`, ignoring case
 abbrev pub IsScheme : List ℕ → Type 0
 IsScheme scheme = IsTrue (str_eq_ignore_ascii_case scheme (codes "http://")) ⊎ IsTrue (str_eq_ignore_ascii_case scheme (codes "https://"))
 

@@ -69,7 +69,7 @@ path_of raw = if is_utf8 (unescaped raw) && list_all is_no_control (unescaped ra
 unfoldable pub target_at : Option (List ℕ) → List ℕ → Option Target
 target_at host text = option_map (λ path. record { host = host; path = path; query = query_of text }) (path_of (before_first is_question text))
 
--- what follows `http://` or `https://`, in any case
+-- what follows `http://` or `https://`, ignoring case
 abbrev pub after_scheme : List ℕ → Option (List ℕ)
 after_scheme text =
     if str_eq_ignore_ascii_case (take 7 text) (codes "http://") then Some (drop 7 text)

@@ -35,7 +35,7 @@ most_lost Read = 0
 most_lost TooManyTurns = 0
 most_lost Memory = 4096
 
--- one read: the bytes that came are put behind those that were there, or where the read stopped, none are
+-- one read: the bytes that came are put behind those that were there; a read that stopped leaves these as they were
 abbrev pub AddsOneRead
     : Option (List ℕ) → Option (List ℕ) → List ℕ → List ℕ → Result Bool Stop → Type 0
 AddsOneRead old new before after (Ok came) = AddsSome old new before after came

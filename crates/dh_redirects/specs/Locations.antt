@@ -80,7 +80,7 @@ in_version parts target text = if is_path target then version_path parts ++ text
 abbrev pub filled_for : List ℕ → List ℕ → List ℕ → Option (List ℕ)
 filled_for source target text = option_map (λ rest. filled rest target) (matched source text)
 
--- To filled for a page redirect, where From fits the file behind a slash
+-- To filled for a page redirect, where From fits `/` and the file
 abbrev pub page_for : List ℕ → List ℕ → Parts → Option (List ℕ)
 page_for source target parts = option_map (λ rest. in_version parts target (filled rest target)) (matched source (slash ∷ parts.file))
 

@@ -132,7 +132,7 @@ impl BadRedirect {
 impl Redirect {
     ghost use Rattle.dh_redirects.specs.Redirects.{first_fault, same_redirect};
 
-    /// The same redirect again.
+    /// A copy of the redirect.
     pub fn try_copy(&self, alloc: Global) -> Result<Redirect, AllocError>
         ensures { IfOk result (λ copy. copy ≡ self.now) }
     {

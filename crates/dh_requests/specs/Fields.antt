@@ -8,7 +8,7 @@ use Rattle.dh_requests.specs.declared.fields.Lines.TheVariants.{Absent, One, Man
 abbrev pub NameAndValue : Type 0
 NameAndValue = List ℕ × List ℕ
 
--- the field has this name, in any case
+-- the field has this name, ignoring case
 abbrev pub is_named : List ℕ → NameAndValue → Bool
 is_named name field = str_eq_ignore_ascii_case field.0 name
 

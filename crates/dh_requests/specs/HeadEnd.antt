@@ -37,7 +37,7 @@ size_to_empty (line ∷ lines) =
     if is_empty_line line then Some (record { bytes = length line + 1; lines = 0 })
     else option_map (with_line line 1) (size_to_empty lines)
 
--- the size up to and with the first empty line behind one that is not empty
+-- the size up to and with the first empty line behind a line that is not empty
 abbrev pub head_size : List (List ℕ) → Option HeadSize
 head_size [] = None
 head_size (line ∷ lines) =

@@ -26,8 +26,8 @@ use Rattle.dh_requests.specs.Lengths.{body_length, length_status}
 abbrev pub is_head : List ℕ → Bool
 is_head method = bytes_eq method (codes "HEAD")
 
--- the host of a request: that of its target, else that of the one Host line, which there must be
--- in any case (RFC 9112, section 3.2)
+-- the host of a request: that of its target, else that of the Host line; there has to be exactly one Host
+-- line, whichever is used (RFC 9112, section 3.2)
 abbrev pub requested_host :
     Option (List ℕ) → Option (Option (List ℕ)) → Option (Option (List ℕ))
 requested_host named (Some (Some value)) = host_of (unwrap_or named value)

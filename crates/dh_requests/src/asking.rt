@@ -72,7 +72,7 @@ fn host_text(host: &Option<HostName>) -> &str
     }
 }
 
-/// The bytes as a text; the empty text where they are none.
+/// The bytes as a text, or the empty text where they are not UTF-8.
 fn text_of(bytes: &[u8]) -> &str
     ensures { result.now ≡ request.text_of bytes.now }
 {

@@ -32,7 +32,7 @@ fn with_line<'b>(found: Lines<'b>, value: &'b [u8]) -> Lines<'b>
     }
 }
 
-/// The lines with this name, in any case.
+/// The lines with this name, ignoring case.
 pub fn lines_named<'b>(text: &'b [u8], headers: &[HeaderSpan], name: &[u8]) -> Lines<'b>
     requires { All (IsHeaderWithin (length text.now)) headers.now }
     ensures { one_of result

@@ -5,7 +5,7 @@ ghost use Rattle.dh_requests.specs.declared.request.Request.{Request};
 ghost use Rattle.dh_requests.specs.Head.{HeadEndsByLines};
 ghost use Rattle.dh_requests.specs.Request.{IsRequest};
 
-/// The same bytes are no two requests.
+/// No bytes are two different requests.
 pub fn one_reading()
     ensures { (input : List ℕ) (a b : Request) → IsRequest input a → IsRequest input b → a ≡ b }
 {}

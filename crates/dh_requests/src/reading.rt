@@ -113,7 +113,7 @@ fn read_on<R: Source>(alloc: Global, intake: Intake, source: &mut R, end: HeadEn
 /// Reads a request, in reads of any size: its head, and the body that the head asks for. No read is made once the request is
 /// whole, so a client may wait for the reply with its connection open; the last read may take bytes behind the request too.
 ///
-/// It refuses by 400, 405, 411, 413 or 431 as a server does (RFC 9110, section 15.5; RFC 6585, section 5).
+/// Requests are refused by 400, 405, 411, 413 or 431 (RFC 9110, section 15.5; RFC 6585, section 5).
 pub fn read_request<R: Source>(alloc: Global, source: &mut R) -> Result<Request, Stop>
     requires { R.broken source.old ≡ false }
     ensures asked { IfOk result (λ r.

@@ -50,7 +50,7 @@ last_said [] before = before
 last_said (x ∷ rest) before = last_said rest x
 
 -- a new version after the rules: active, hidden or default if it was so before or a rule that is met makes it so,
--- and private or public as the last rule that is met and speaks of this says
+-- and private or public by the last rule that is met and sets either
 abbrev pub after_rules : List Rule → Fresh → Fresh
 after_rules rules fresh =
     let actions = actions_met rules fresh.kind fresh.name in

@@ -50,7 +50,7 @@ impl Rule {
     ghost use Rattle.dh_rules.specs.Rules.{is_allowed, AnswersUnasked};
     ghost use Rattle.dh_rules.specs.Patterns.{IsCustom};
 
-    /// The same rule again.
+    /// A copy of the rule.
     pub fn try_copy(&self, alloc: Global) -> Result<Rule, AllocError>
         ensures { IfOk result (λ copy. copy ≡ self.now) }
     {

@@ -28,7 +28,7 @@ abbrev pub ChecksForWrong : {A : Type 0} → Option Refusal → (A → Type 0) �
 ChecksForWrong wrong P (Ok value) = (wrong ≡ None) × P value
 ChecksForWrong wrong P (Err e) = (wrong ≡ Some e) ⊎ (e ≡ OutOfMemory)
 
--- the same, but where nothing is wrong there may be one more reason to refuse
+-- as `ChecksForWrong`, but where nothing is wrong, one more refusal may come
 abbrev pub ChecksOr : {A : Type 0} → Option Refusal → (A → Type 0) → (Refusal → Type 0) → Result A Refusal → Type 0
 ChecksOr wrong P Q (Ok value) = (wrong ≡ None) × P value
 ChecksOr wrong P Q (Err e) = (wrong ≡ Some e) ⊎ ((e ≡ OutOfMemory) ⊎ ((wrong ≡ None) × Q e))

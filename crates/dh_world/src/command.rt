@@ -110,7 +110,7 @@ pub enum CommandChange {
     ImportRedirects {
         list: Redirects,
     },
-    /// Adds a pass, which holds no version yet.
+    /// Adds a pass without grants.
     AddPass {
         pass: Text,
         /// The second since 1970 at which the pass ends, if it ends.
