@@ -25,7 +25,7 @@ pub record IsTop (m : Versions) (slug : Text) : Type 0 where
   pub release : is_release version ≡ true
   pub unbeaten : (s : Text) (w : Version) → get m s ≡ Some w → is_above w version ≡ false
 
--- the slug is that of such a release, or there is none and no version is a release
+-- the slug is that of a release that none of these versions is above, or there is no slug and no release
 abbrev pub IsTopIfAny : Versions → Option Text → Type 0
 IsTopIfAny m (Some slug) = IsTop m slug
 IsTopIfAny m None = (s : Text) (w : Version) → get m s ≡ Some w → is_release w ≡ false

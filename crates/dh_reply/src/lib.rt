@@ -1,4 +1,4 @@
-//! Makes the reply to a read, over any lookup; re-exports replies, their bytes, and the ports for bytes.
+//! Makes the reply to a read, over any lookup; re-exports lookups, replies, their bytes, and the ports for bytes.
 #![tactic(auto)]
 
 mod address;

@@ -14,7 +14,7 @@ use crate::fields::Lines;
 pub enum LengthFault {
     /// No line tells the length, or the body comes in a transfer coding.
     Untold,
-    /// Two lines tell the length, or one line that is no number.
+    /// Two lines tell the length, or the one line is no number.
     Wrong,
     /// The length is above 4,194,304.
     TooLarge,

@@ -166,7 +166,7 @@ upload wkey key slug lang replace pages p =
 
 -- ---- the properties of a version
 
--- changes the version, or refuses where there is none
+-- goes on with the version, or refuses where there is none
 abbrev pub at_version : Option Version → (Version → Change) → Change
 at_version None next = Err NoVersion
 at_version (Some v) next = next v
