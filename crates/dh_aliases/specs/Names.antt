@@ -11,7 +11,7 @@ use Rattle.dh_classes.specs.Classes.{seen_by}
 pub use Rattle.dh_aliases.specs.declared.names.Names.{Names}
 use Rattle.dh_aliases.specs.Tops.{Versions, stable_in}
 
--- the names of what a class sees
+-- what the three names are in the project as a class sees it
 abbrev pub names_of : Project → Option Text → Names
 names_of p class =
     let seen = seen_by p class in
@@ -26,7 +26,7 @@ is_of_branch branch v = is_branch v.kind && bytes_eq v.name branch
 abbrev pub slug_of_branch : Text → Version → Option Text
 slug_of_branch branch v = if is_of_branch branch v then Some v.slug else None
 
--- the default branch's version stands under the slug of its name
+-- the slug that `latest` stands for: that of the version under the default branch's slug, if it is of that branch
 abbrev pub latest_in : Versions → Text → Option Text
 latest_in m branch =
     option_and_then (λ slug. option_and_then (slug_of_branch branch) (get m slug)) (slug_from branch)
@@ -38,7 +38,7 @@ alias_in m branch name =
     else if bytes_eq name (codes "stable") then stable_in m
     else None
 
--- the name is a slug of these, or an alias that stands for one
+-- the name is the slug of one of these versions, or an alias that stands for one
 abbrev pub stands_in : Versions → Text → Text → Bool
 stands_in m branch name = contains_key m name || is_some (alias_in m branch name)
 

@@ -12,7 +12,7 @@ use Rattle.dh_classes.specs.Classes.{sees, versions_for}
 use Rattle.dh_aliases.specs.Tops.{IsNamed, AreNamed}
 use Rattle.dh_aliases.specs.Names.{names_of, is_of_branch}
 
--- The class sees this version under a slug under which it saw none. It is not the default branch's, and its slug is no
+-- The class sees this version under a slug under which it saw none. The version is not the default branch's, and the slug is no
 -- alias's name and none of the defaults.
 pub record IsNew (p : Project) (class : Option Text) (slug : Text) (v : Version) : Type 0 where
   pub named : IsNamed slug v
@@ -47,14 +47,14 @@ UnseenPut =
     → sees p class slug ≡ false → sees (with_version p slug v) class slug ≡ false
     → names_of (with_version p slug v) class ≡ names_of p class
 
--- nor does one that is put again and differs in whether it is hidden
+-- a version that is put again, and differs at most in whether it is hidden, changes no name
 abbrev pub HiddenPut : Type 0
 HiddenPut =
     (p : Project) (class : Option Text) (slug : Text) (v : Version) (hidden : Bool)
     → AreNamed p.versions → get p.versions slug ≡ Some v
     → names_of (with_version p slug (record v { hidden = hidden })) class ≡ names_of p class
 
--- nor does a new one that is no release, or is not above one
+-- a new version that is no release, or is not above one that the class sees, changes no name
 abbrev pub QuietPut : Type 0
 QuietPut =
     (p : Project) (class : Option Text) (slug : Text) (v : Version)
@@ -62,7 +62,7 @@ QuietPut =
     → (is_release v ≡ false) ⊎ IsNotAbove p class v
     → names_of (with_version p slug v) class ≡ names_of p class
 
--- a new one above the one that `stable` stands for takes its place, and changes no other name
+-- a new version above the one that `stable` stands for takes the place of that one, and changes no other name
 abbrev pub RaisedPut : Type 0
 RaisedPut =
     (p : Project) (class : Option Text) (slug : Text) (v : Version)

@@ -12,26 +12,26 @@ pub fn stable_is_top()
     ensures { (m : Versions) → AreNamed m → IsTopIfAny m (stable_in m) }
 {}
 
-/// There is one such answer.
+/// Only one slug, or none, can be the one that `stable` stands for.
 pub fn stable_is_one()
     ensures { (m : Versions) (a b : Option Text)
         → AreNamed m → IsTopIfAny m a → IsTopIfAny m b → a ≡ b }
 {}
 
-/// A list of some versions decides which of all is stable, where it has beside each release one that this is
-/// not above.
+/// A list of some versions decides which of all is stable, where no release of all is above every release of the
+/// list.
 pub fn list_decides()
     ensures { (m : Versions) (vs : List Version) → AreNamed m → DecidesStable m vs
         → stable_in m ≡ stable_among vs }
 {}
 
-/// Whoever shows a pass sees what is seen without one.
+/// Whoever shows a pass sees each version that is seen without one.
 pub fn passes_see_more()
     ensures { (p : Project) (pass slug : Text) → sees p None slug ≡ true
         → sees p (Some pass) slug ≡ true }
 {}
 
-/// For a pass such a list is the version that is stable without one, and the private versions that it opens.
+/// For a pass, the version that is stable without one and the private versions that the pass opens are such a list.
 pub fn short_list_decides()
     ensures { (p : Project) (pass : Text) (vs : List Version) → AreNamed p.versions
         → AreThePrivate (versions_for p (Some pass)) vs

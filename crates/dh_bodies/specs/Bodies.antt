@@ -18,7 +18,7 @@ use Rattle.dh_world.specs.declared.pages.UploadedPage.{UploadedPage}
 use Rattle.dh_bodies.specs.declared.post.Post.{Post}
 use Rattle.dh_bodies.specs.declared.post.Post.TheVariants as post
 
--- what the text under the name gives, where it is one
+-- what `f` gives for the text under the name, where a text stands there
 abbrev pub with_text : {A : Type 0} → List ℕ → Data → (List ℕ → Option A) → Option A
 with_text name d f = option_and_then f (text_at name d)
 
@@ -30,7 +30,7 @@ kind_of text =
     else if bytes_eq text (codes "tag") then Some Tag
     else None
 
--- the push that carries this write key
+-- the push that an object asks for, with this write key
 abbrev pub push_in : List ℕ → Data → Option CommandChange
 push_in wkey d =
     with_text (codes "key") d (λ key.
@@ -40,8 +40,8 @@ push_in wkey d =
 
 -- ---- `POST /_/upload`
 
--- the body of a page, of what stands under `text` and under `base64`: just one of them, the text's
--- own bytes or those that it encodes, in the standard alphabet with canonical padding
+-- the body of a page, which has either `text` or `base64`: the bytes of the text, or those that it encodes
+-- in Base64, in the standard alphabet with canonical padding
 abbrev pub page_body : Option Data → Option Data → Option (List ℕ)
 page_body (Some text) None = as_str text
 page_body None (Some base64) = option_and_then (decoded_of standard) (as_str base64)
@@ -57,7 +57,7 @@ page_in d =
     with_text (codes "type") d (λ media.
     option_map (λ body. record { path = path; media = media; body = body }) (body_in d)))
 
--- the pages of a list, in its order: each item has to be one
+-- the pages of a list, in its order: each item has to be a page
 abbrev pub pages_from : Items → Option (List UploadedPage)
 pages_from no_items = Some []
 pages_from (item d ds) =
@@ -71,7 +71,7 @@ abbrev pub flag_from : Option Data → Option Bool
 flag_from None = Some false
 flag_from (Some d) = as_bool d
 
--- the upload that carries this write key
+-- the upload that an object asks for, with this write key
 abbrev pub upload_in : List ℕ → Data → Option CommandChange
 upload_in wkey d =
     with_text (codes "key") d (λ key.
@@ -86,9 +86,9 @@ abbrev pub change_in : Post → List ℕ → Data → Option CommandChange
 change_in post.Push wkey d = push_in wkey d
 change_in post.Upload wkey d = upload_in wkey d
 
--- the change that a body asks for, beside which this write key came: none where the body is no
+-- the change that a body asks for, with the write key that came beside it: none where the body is no
 -- UTF-8, is no JSON (nesting over 127 levels, a number that no finite float holds and a lone
--- surrogate are none), or has not the form
+-- surrogate are no JSON), or has not the form
 abbrev pub change_of : Post → List ℕ → List ℕ → Option CommandChange
 change_of post wkey body =
     if is_utf8 body then option_and_then (change_in post wkey) (read body) else None

@@ -12,11 +12,11 @@ use Rattle.dh_bodies.specs.declared.field.Fields.{Fields}
 abbrev pub IsLeaf : Leaf → Data → Type 0
 IsLeaf leaf d = (option_copied leaf.text ≡ as_str d) × (leaf.flag ≡ as_bool d)
 
--- what stands under a name, as a text, where anything does
+-- what stands under a name, if anything does: its text, or none where it is no text
 abbrev pub text_there : List ℕ → Data → Option (Option (List ℕ))
 text_there name d = option_map as_str (get name d)
 
--- these are what the page's object says
+-- these are the texts of a page's object
 abbrev pub AreTextsOf : PageTexts → Data → Type 0
 AreTextsOf texts d =
     (option_copied texts.path ≡ text_at (codes "path") d)
@@ -24,7 +24,7 @@ AreTextsOf texts d =
     × (option_map option_copied texts.text ≡ text_there (codes "text") d)
     × (option_map option_copied texts.base64 ≡ text_there (codes "base64") d)
 
--- these are what the body's object says
+-- these are the fields of a body's object
 abbrev pub AreFieldsOf : Fields → Data → Type 0
 AreFieldsOf fields d =
     (option_copied fields.key ≡ text_at (codes "key") d)

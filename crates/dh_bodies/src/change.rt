@@ -89,7 +89,7 @@ fn change_of(
 }
 
 /// The change that a body asks for, with the write key that came beside it; none where the body has not the form.
-/// Of what it does not name nothing is kept.
+/// Members with other names are not kept.
 pub fn read_change(
     alloc: Global,
     post: Post,

@@ -30,7 +30,7 @@ pub(crate) struct Fields<'a> {
     pub(crate) pages: Option<Vec<UploadedPage>>,
 }
 
-/// The text under the name that is wanted, after a member of the other name.
+/// The text under the wanted name, after one more member was read.
 pub(crate) fn text_after<'a>(
     wanted: &str,
     before: Option<&'a str>,
@@ -53,7 +53,7 @@ fn flag_after(wanted: &str, before: Option<bool>, name: &str, leaf: Leaf<'_>) ->
 }
 
 impl<'a> Fields<'a> {
-    /// What is said by a value that is no object, or by one with no member.
+    /// The fields of a value that is no object, or of an object with no member.
     fn none() -> Fields<'a>
         ensures { AreFieldsOf result (object no_members) }
     {
@@ -68,7 +68,7 @@ impl<'a> Fields<'a> {
         }
     }
 
-    /// Takes in one more member that is not the pages.
+    /// Takes in one more member, other than `pages`.
     fn put(&mut self, name: &str, leaf: Leaf<'a>)
         requires { bytes_eq name.now (codes "pages") ≡ false }
         ensures { (ms : Members) (d : Data) → IsLeaf leaf.entry d
@@ -126,7 +126,7 @@ fn read_members<'a>(
     Ok(fields)
 }
 
-/// What the next value says as a body.
+/// Reads the fields of the next value, which is a body.
 pub(crate) fn read_fields<'a>(
     alloc: Global,
     reader: &mut Reader<'a>,

@@ -10,7 +10,7 @@ pub fn last_value_counts()
     ensures { LastValueCounts }
 {}
 
-/// A text of Base64 stands for some bytes where it is just their encoding, padding and all.
+/// A text of Base64 decodes to some bytes exactly where it is their encoding, padding and all.
 pub fn base64_is_exact()
     ensures { (text bytes : List ℕ) → IsBytes text → IsBytes bytes
         → (decoded_of standard text ≡ Some bytes) ↔ (text ≡ encode_of standard bytes) }

@@ -1,4 +1,4 @@
-//! Values that are read past. What a text or a flag says is told, and of the rest nothing is kept.
+//! Reads past values: keeps a text or a flag, and nothing of any other value.
 
 ghost use Rattle.std.specs.Prelude.{◌≡◌, ◌∷◌, ◌<◌, None, Some, length, is_some, IfOk, OnOk, OnErr, IsTrue, slice_index, ◌==◌, ◌+◌, true, false};
 ghost use Rattle.json.specs.Json.{value, items, members};
@@ -10,7 +10,7 @@ ghost use Rattle.dh_bodies.specs.Fields.{IsLeaf};
 use fast_float::Numeral;
 use json::{Invalid, Reader, Token};
 
-/// What a value says that is a text or a flag.
+/// The text or the flag that a value is; neither for any other value.
 #[derive(Clone, Copy, Drop)]
 pub(crate) struct Leaf<'a> {
     pub(crate) text: Option<&'a str>,
@@ -73,7 +73,7 @@ fn is_in_range(text: &str) -> bool
     }
 }
 
-/// What is left of a value behind its first token, where lists and objects nest so deep at most.
+/// Reads the rest of a value behind its first token, where lists and objects nest at most `depth` deep.
 #[cycle(pass)]
 pub(crate) fn leaf_from<'a>(
     token: Token<'a>,
@@ -120,7 +120,7 @@ pub(crate) fn leaf_from<'a>(
     }
 }
 
-/// What the next value says, which is read past.
+/// Reads past the next value, and keeps the text or the flag that it is.
 #[cycle(pass)]
 pub(crate) fn read_leaf<'a>(reader: &mut Reader<'a>, depth: usize) -> Result<Leaf<'a>, Invalid>
     ensures ok { IfOk result (λ leaf. (d : Data) × IsLeaf leaf d

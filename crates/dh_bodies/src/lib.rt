@@ -1,4 +1,4 @@
-//! The JSON bodies of POST: which change one asks for. Nothing here knows HTTP.
+//! The JSON bodies of POST: which change a body asks for. Nothing here knows HTTP.
 #![tactic(auto)]
 
 pub mod change;

@@ -30,7 +30,7 @@ pub(crate) struct PageTexts<'a> {
     base64: Option<Option<&'a str>>,
 }
 
-/// What stands under the name that is wanted, as a text where it is one, after a member of the other name.
+/// What stands under the wanted name, as a text where it is one, after one more member was read.
 fn place_after<'a>(
     wanted: &str,
     before: Option<Option<&'a str>>,
@@ -166,7 +166,7 @@ fn with_page(
     Ok(Some(pages))
 }
 
-/// The pages of a list, in its order, where each item is one. Behind one that is none nothing is kept.
+/// The pages of a list, in its order, where each item is a page. Behind an item that is no page nothing is kept.
 fn read_items(
     alloc: Global,
     reader: &mut Reader<'_>,

@@ -1,4 +1,4 @@
--- The change that a checked one is of, and which command is one whose texts are right.
+-- The change that a checked change stands for, and what the checks of commands answer.
 use Rattle.std.specs.Prelude.{◌≡◌, ◌≤◌, List, [], ◌∷◌, length, Option, Result, IsTrue}
 use Rattle.dh_world.specs.CheckResults.{ChecksOr}
 use Rattle.dh_world.specs.Refusals.{first_of}
@@ -51,7 +51,7 @@ command_of host c = record { host = host; change = change_of c }
 
 -- ---- checks
 
--- the pages of an upload, which are few, and each may have its media type and body
+-- the checked pages are those of the upload, at most 256, and each may have its media type and body
 abbrev pub AreRightPages : List UploadedPage → List UploadedPage → Type 0
 AreRightPages pages checked =
     (checked ≡ pages) × (length checked ≤ 256) × IsTrue (have_contents checked)
@@ -60,10 +60,10 @@ AreRightPages pages checked =
 abbrev pub bad_upload : List UploadedPage → Option Refusal
 bad_upload pages = first_of (bad_count pages ∷ bad_pages [] pages ∷ [])
 
--- the change itself where all its texts are right, or the refusal of the first one that is not; or of a custom pattern, which `regex` may refuse
+-- answers the change where its texts are right; refuses for the first wrong text, for memory, or a pattern by `regex`
 abbrev pub ChecksChange : CommandChange → Result CheckedChange Refusal → Type 0
 ChecksChange change = ChecksOr (bad_change change) (λ x. change_of x ≡ change) (RuleRefused change)
 
--- the command itself, by the same; its host comes first
+-- answers the command where its texts are right, and refuses for the same reasons; its host comes first
 abbrev pub ChecksCommand : Command → Result CheckedCommand Refusal → Type 0
 ChecksCommand command = ChecksOr (bad_text command) (λ x. command_of x.host x.change ≡ command) (RuleRefused command.change)

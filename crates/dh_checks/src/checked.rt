@@ -27,7 +27,7 @@ pub struct ProjectSettings {
 /// A project to be made.
 #[derive(Drop)]
 pub struct NewProject {
-    /// The main language, and for now the only one.
+    /// The main language, and at first the only one.
     pub lang: Lang,
     pub settings: ProjectSettings,
 }
@@ -40,7 +40,7 @@ pub struct CheckedPush {
     pub key: Token,
     pub kind: Kind,
     pub name: RefName,
-    /// The slug that the name has.
+    /// The slug that comes from the name.
     pub slug: Slug,
     ghost named: { slug_from name ≡ Some slug } by { Prim.hlevel props },
 }
@@ -81,7 +81,7 @@ pub struct CheckedUpload<'c> {
 /// A rule that passes its check, and the place that it is to have.
 #[derive(Drop)]
 pub struct CheckedRule {
-    /// From 1, if it is a place at all.
+    /// Counted from 1. Whether the list has this place is not checked here.
     pub place: u32,
     pub rule: Rule,
     ghost good: { IsTrue (is_allowed rule.pattern) } by { Prim.hlevel props },
@@ -90,7 +90,7 @@ pub struct CheckedRule {
 /// A redirect that passes its check, and the place that it is to have.
 #[derive(Drop)]
 pub struct CheckedRedirect {
-    /// From 1, if it is a place at all.
+    /// Counted from 1. Whether the list has this place is not checked here.
     pub place: u32,
     pub redirect: Redirect,
     ghost good: { first_fault redirect ≡ None } by { Prim.hlevel props },

@@ -1,4 +1,4 @@
-//! A command whose texts are values of their types, and the check that makes it, which looks at its
+//! Commands whose texts are values of their types, and the check that makes them, which looks at the
 //! texts alone.
 ghost use Rattle.dh_checks.specs.Commands.{ChecksChange, ChecksCommand, setting};
 
@@ -128,7 +128,7 @@ fn property_in<'c>(
     Ok(CheckedChange::SetProperty { slug, property })
 }
 
-/// The change with its texts as values of their types, or the refusal of the first that is none.
+/// Gives the texts of a change as values of their types, or refuses the first that is wrong.
 fn check_change<'c>(alloc: Global, change: &'c CommandChange) -> Result<CheckedChange<'c>, Refusal>
     ensures { ChecksChange change.now result }
 {
@@ -212,7 +212,7 @@ fn check_change<'c>(alloc: Global, change: &'c CommandChange) -> Result<CheckedC
     }
 }
 
-/// The command with its texts as values of their types, or the refusal of the first that is none:
+/// Gives the texts of a command as values of their types, or refuses the first that is wrong:
 /// the host comes first.
 pub fn check<'c>(alloc: Global, command: &'c Command) -> Result<CheckedCommand<'c>, Refusal>
     ensures { ChecksCommand command.now result }

@@ -1,4 +1,4 @@
-//! Commands whose texts are values of their types, or the refusal of the first that is none.
+//! Checks the texts of commands: gives them as values of their types, or refuses the first that is wrong.
 //!
 //! Nothing here knows a project or a store: what a command asks for is decided in the layers above.
 #![tactic(auto)]

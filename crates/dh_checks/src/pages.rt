@@ -26,7 +26,7 @@ fn path_in(alloc: Global, text: &Text) -> Result<PagePath, Refusal>
     Ok(PagePath::parse(alloc, text.as_str())?)
 }
 
-/// A page of an upload, after those before it.
+/// Checks a page of an upload, given the pages before it.
 fn check_page<'c>(
     alloc: Global,
     before: &[UploadedPage],
@@ -51,7 +51,7 @@ fn add<'c>(pages: &mut Vec<CheckedPage<'c>>, page: CheckedPage<'c>) -> Result<()
     Ok(())
 }
 
-/// Each page, after those before it.
+/// Checks each page, given the pages before it.
 fn check_each<'c>(alloc: Global, pages: &'c [UploadedPage]) -> Result<Vec<CheckedPage<'c>>, Refusal>
     ensures { ChecksForWrong (bad_pages [] pages.now) (λ checked. checked.items ≡ pages.now)
         result }
@@ -63,7 +63,7 @@ fn check_each<'c>(alloc: Global, pages: &'c [UploadedPage]) -> Result<Vec<Checke
     Ok(checked)
 }
 
-/// How many pages there are, and then each.
+/// Checks how many pages there are, and then each page.
 pub fn check_pages<'c>(alloc: Global, pages: &'c Pages) -> Result<Vec<CheckedPage<'c>>, Refusal>
     ensures { ChecksForWrong (bad_upload pages.now) (λ found. AreRightPages pages.now found.items)
         result }

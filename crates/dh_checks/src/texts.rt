@@ -15,7 +15,7 @@ use dh_texts::{Checked, Kind};
 use dh_world::{PassEnd, Refusal};
 use std::alloc::Global;
 
-/// The text as one of a kind.
+/// Gives the text as a checked text of its kind, or refuses it.
 pub fn text_in<K: Kind>(alloc: Global, text: &Text) -> Result<Checked<K>, Refusal>
     ensures reads { ReadsText K.test (refusal_of K.refusal) text.now result }
     ensures memory { IfErr result (λ e. (e ≡ refusal_of K.refusal) ⊎ IsTrue (K.test text.now)) }
@@ -44,7 +44,7 @@ pub fn slug_in_name(alloc: Global, name: &RefName) -> Result<Slug, Refusal>
     Ok(slug_of(alloc, name)?)
 }
 
-/// A rule that passes its check. `regex` may refuse any custom pattern as too big.
+/// Gives a copy of a rule that passes its check. `regex` may refuse any custom pattern as too big.
 pub fn rule_in(alloc: Global, rule: &Rule) -> Result<Rule, Refusal>
     ensures { ChecksOr (bad_rule rule.now)
         (λ r. (r ≡ rule.now) × IsTrue (is_allowed r.pattern))
@@ -57,7 +57,7 @@ pub fn rule_in(alloc: Global, rule: &Rule) -> Result<Rule, Refusal>
     }
 }
 
-/// A redirect that passes its check.
+/// Gives a copy of a redirect that passes its check.
 pub fn redirect_in(alloc: Global, redirect: &Redirect) -> Result<Redirect, Refusal>
     ensures checks { ChecksForWrong (bad_redirect redirect.now)
         (λ r. (r ≡ redirect.now) × (first_fault r ≡ None)) result }
@@ -84,7 +84,7 @@ pub fn check_redirects(list: &[Redirect]) -> Result<&[Redirect], Refusal>
     Ok(list)
 }
 
-/// When a pass ends, if it does.
+/// Checks the end of a pass, if it has one.
 pub fn until_in(until: Option<u64>) -> Result<Option<PassEnd>, Refusal>
     ensures checks { ChecksForWrong (bad_until until) (λ end. end ≡ until) result }
     ensures told { IfErr result (λ e. bad_until until ≡ Some e) }

@@ -1,4 +1,4 @@
--- Callers in classes: who shows a live pass of the project is of that pass, and all others are of one class.
+-- Classes of callers: one for each live pass of the project, and one for all callers who show none.
 use Rattle.std.specs.Prelude.{Bool, false, Option}
 use Rattle.std.specs.Option.{option_map_or}
 use Rattle.std.specs.FinMap.{FinMap, get, retain_keys}
@@ -13,7 +13,7 @@ use Rattle.dh_world.specs.Seen.{without_default, with_default}
 abbrev pub class_of : Project → Caller → Option Text
 class_of p caller = live_pass p caller
 
--- the callers of a class hold the version; this asks for no end, so what goes by it stays while time passes
+-- the callers of a class hold the version; the end of a pass is not looked at, so the answer stays while time passes
 abbrev pub class_holds : Project → Option Text → Text → Bool
 class_holds p class slug = holds p class slug
 

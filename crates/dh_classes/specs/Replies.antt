@@ -15,7 +15,7 @@ pub record Question : Type 0 where
   pub path : Text
   pub query : Option Text
 
--- the reply of the world
+-- the reply of the world to a question
 abbrev pub reply_for : World → Question → Reply
 reply_for w q = reply_to (option_map (λ p. seen_by p q.class) (get w q.host)) q.path q.query
 
@@ -23,7 +23,7 @@ reply_for w q = reply_to (option_map (λ p. seen_by p q.class) (get w q.host)) q
 abbrev pub IsOfClass : World → Text → Caller → Option Text → Type 0
 IsOfClass w host caller class = IfSome (get w host) (λ p. class_of p caller ≡ class)
 
--- the reply to a class is that to each caller of it
+-- the reply to a class is the reply to each caller of that class
 abbrev pub ClassReplies : Type 0
 ClassReplies =
     (w : World) (q : Question) (caller : Caller) → IsOfClass w q.host caller q.class

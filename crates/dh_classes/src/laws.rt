@@ -11,7 +11,7 @@ pub fn class_decides()
     ensures { (p : Project) (caller : Caller) → seen_project p caller ≡ seen_by p (class_of p caller) }
 {}
 
-/// Who shows his class as his pass is of the same class at that moment.
+/// A caller who shows the pass of his class, or no pass where his class has none, is of the same class at that moment.
 pub fn class_stays()
     ensures { (p : Project) (caller : Caller)
         → class_of p (record caller { pass = class_of p caller }) ≡ class_of p caller }

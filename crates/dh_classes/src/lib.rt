@@ -1,4 +1,4 @@
-//! Callers in classes: what a caller sees, and what he is replied, goes by the live pass that he shows.
+//! Classes of callers: the live pass that a caller shows decides what he sees and which replies he gets.
 #![tactic(auto)]
 
 mod laws;

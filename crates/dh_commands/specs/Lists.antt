@@ -1,11 +1,11 @@
--- What a list comes to.
+-- What changes of a list answer.
 use Rattle.std.specs.Prelude.{◌≡◌, ◌≤◌, ◌<◌, ◌+◌, ◌⊎◌, List, length, Result, Ok, Err, IsOk}
 use Rattle.dh_redirects.specs.declared.redirect.Redirect.{Redirect}
 use Rattle.dh_world.specs.Changes.{with_new}
 use Rattle.dh_world.specs.declared.refusal.Refusal.{Refusal}
 use Rattle.dh_world.specs.declared.refusal.Refusal.TheVariants.{OutOfMemory, TooMany}
 
--- what is said of it; where it is refused, memory is not told in its place
+-- the answer is `said`, or out of memory where `said` is no refusal
 abbrev pub ComesAsSaid : {X : Type 0} → Result (List X) Refusal → Result (List X) Refusal → Type 0
 ComesAsSaid said (Ok xs) = said ≡ Ok xs
 ComesAsSaid said (Err e) = ((e ≡ OutOfMemory) × IsOk said) ⊎ (said ≡ Err e)

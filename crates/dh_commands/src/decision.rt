@@ -14,7 +14,7 @@ use dh_pushes::{deactivate, push, set_property};
 use dh_world::Refusal;
 use std::alloc::Global;
 
-/// The plan of a command, by facts that it may use up.
+/// The plan of a command. Deciding may use the facts up.
 fn decide_by<'c>(
     alloc: Global,
     change: CheckedChange<'c>,

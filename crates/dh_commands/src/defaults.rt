@@ -10,7 +10,7 @@ use dh_versions::Version;
 use dh_world::{Answer, Refusal};
 use std::alloc::Global;
 
-/// Why a name may be no default: of one that is no alias, the version has to be there and active.
+/// Why a name may be no default: unless it is an alias, its version has to be there and active.
 fn wrong_name(name: &Slug, version: &Option<Version>) -> Option<Refusal>
     ensures { result ≡ wrong_default name.now version.now }
 {

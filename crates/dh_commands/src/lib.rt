@@ -1,6 +1,6 @@
 //! Commands decided: which edits of its project each asks for, or why it is refused.
 //!
-//! `decide` makes a plan of what was found of the project of a checked command, or `open` where the
+//! `decide` makes a plan for a checked command from what was found of its project; `open` decides where the
 //! host has no project. Both are pure: to look up, and to make the edits of a plan, is the work of a store.
 #![tactic(auto)]
 

@@ -16,7 +16,7 @@ fn is_place(place: u32, last: usize) -> bool
     1 <= place && place as usize <= last
 }
 
-/// The list with one more at a place; those from there on move by one.
+/// The list with an item added at a place; later items move down.
 fn with_one_at<T: Drop>(place: u32, entry: T, entries: Vec<T>) -> Result<Items<T>, AllocError>
     requires first { 1 ≤ place }
     requires last { place ≤ length entries.items + 1 }
@@ -27,7 +27,7 @@ fn with_one_at<T: Drop>(place: u32, entry: T, entries: Vec<T>) -> Result<Items<T
     Ok(Items::wrap(entries))
 }
 
-/// The list without the one at a place; those behind it move by one.
+/// The list without the item at a place; later items move up.
 fn without_place<T: Drop>(place: u32, entries: Vec<T>) -> Items<T>
     requires first { 1 ≤ place }
     requires last { place ≤ length entries.items }
@@ -38,7 +38,7 @@ fn without_place<T: Drop>(place: u32, entries: Vec<T>) -> Items<T>
     Items::wrap(entries)
 }
 
-/// Adds one at a place of a list or behind the last one, where there is room. The list is used up.
+/// Adds an item at a place of a list or behind the last one, where there is room. The list is used up.
 pub fn add_at<T: Drop>(
     alloc: Global,
     most: usize,
@@ -57,7 +57,7 @@ pub fn add_at<T: Drop>(
     Ok(with_one_at(place, entry, take_list(alloc, list))?)
 }
 
-/// Removes the one at a place of a list. The list is used up.
+/// Removes the item at a place of a list. The list is used up.
 pub fn drop_at<T: Drop>(alloc: Global, place: u32, list: &mut Vec<T>) -> Result<Items<T>, Refusal>
     ensures { ComesAsSaid (spec.dropped place list.old.items) result }
 {

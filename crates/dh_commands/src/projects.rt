@@ -33,7 +33,7 @@ pub fn is_among(languages: &[Lang], lang: &Lang) -> bool
     languages.iter().any(|l| l.as_str() == lang.as_str())
 }
 
-/// The plan by which a language takes a place.
+/// The plan that adds a language at a place.
 fn append_lang<'c>(alloc: Global, lang: Lang, place: u32) -> Result<Plan<'c>, Refusal>
     ensures { IsPlan (planned (Edit.AddLang lang place ∷ []) Answer.Done) result }
 {

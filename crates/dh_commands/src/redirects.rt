@@ -1,4 +1,4 @@
-//! Redirects.
+//! The commands that add, remove and import redirects.
 ghost use Rattle.std.specs.Prelude.{◌≡◌, ◌∷◌, [], ◌++◌, OnOk};
 ghost use Rattle.std.specs.List.{list_any};
 ghost use Rattle.dh_commands.specs.Lists.{TakesIn};
@@ -58,7 +58,7 @@ fn push_copy(
     Ok(())
 }
 
-/// Adds copies of those redirects of a list that are not there, each once, while there is room.
+/// Adds copies of the redirects of a list that are not there, each once; refused where there is no room for one.
 fn take_in(
     alloc: Global,
     list: &[Redirect],
@@ -78,7 +78,7 @@ fn take_in(
     Ok(Items::wrap(all))
 }
 
-/// The plan by which these are the redirects, so many more than before.
+/// The plan that sets the redirects, and answers how many were added.
 fn set_imported<'c>(
     alloc: Global,
     redirects: Items<Redirect>,

@@ -1,4 +1,4 @@
-//! Automation rules.
+//! The commands that add and remove automation rules.
 ghost use Rattle.dh_plans.specs.Knowing.{DecidesChange};
 
 use crate::lists::{add_at, drop_at};

@@ -32,7 +32,7 @@ fn put_pages<'c>(
     Ok(())
 }
 
-/// The pages are stored, and their number is the first answer to the retry key.
+/// The plan that stores the pages, and keeps their number as the first answer to the retry key.
 fn store<'c>(alloc: Global, upload: CheckedUpload<'c>) -> Result<Plan<'c>, AllocError>
     ensures { IfOk result (λ plan. plan ≡ plan_stored upload.entry) }
 {
@@ -65,14 +65,14 @@ fn store<'c>(alloc: Global, upload: CheckedUpload<'c>) -> Result<Plan<'c>, Alloc
     })
 }
 
-/// The same, or the refusal of an upload for want of memory.
+/// The plan that stores the pages, or the refusal for want of memory.
 fn store_or_refuse<'c>(alloc: Global, upload: CheckedUpload<'c>) -> Result<Plan<'c>, Refusal>
     ensures { IsPlan (plan_stored upload.entry) result }
 {
     Ok(store(alloc, upload)?)
 }
 
-/// An upload: a retry key that was used gives its first answer; else the version has to be there
+/// Decides an upload: a used retry key gives its first answer; else the version has to be there
 /// and active, and the language one of the project's.
 pub fn upload<'c>(
     alloc: Global,

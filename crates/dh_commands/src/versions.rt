@@ -1,4 +1,4 @@
-//! A version that is removed.
+//! The command that removes a version.
 ghost use Rattle.dh_plans.specs.Knowing.{DecidesChange};
 
 use dh_checks::CheckedChange;

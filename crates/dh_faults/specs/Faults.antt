@@ -1,4 +1,4 @@
--- What is said of a call by how it failed.
+-- Facts that hold of a call by the fault that it answers.
 use Rattle.std.specs.Prelude.{◌≡◌, Option, Result, Ok, Err, IsSome, ⊤}
 use Rattle.dh_faults.specs.declared.fault.Fault.{Fault}
 use Rattle.dh_faults.specs.declared.fault.Fault.TheVariants.{Store, Memory}
@@ -15,7 +15,7 @@ OnStore (Ok value) P = ⊤
 OnStore (Err Memory) P = ⊤
 OnStore (Err Store) P = P
 
--- the value is given, and only where there is one memory can be short
+-- the call gives this value, and fails only where there is a value to give
 abbrev pub GivesMaybe : {T E : Type 0} → Option T → Result (Option T) E → Type 0
 GivesMaybe value (Ok given) = given ≡ value
 GivesMaybe value (Err fault) = IsSome value

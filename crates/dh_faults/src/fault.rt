@@ -15,7 +15,7 @@ pub enum Fault {
     Memory,
 }
 
-/// What a look answers: what it found, or nothing.
+/// What a look-up answers: what was found, or nothing; or why it failed.
 pub type Found<T> = Result<Option<T>, Fault>;
 
 impl From<AllocError> for Fault {

@@ -1,4 +1,4 @@
--- A history without a set of slugs, and that a caller who never sees one of them cannot tell.
+-- A history without a set of slugs: a caller who never sees one of these slugs cannot tell it from the whole history.
 use Rattle.std.specs.Prelude.{◌≡◌, Bool, true, false, not, ◌&&◌, if◌then◌else◌, List, [], ◌∷◌, filter}
 use Rattle.std.specs.Prelude.{Option, Some, None, option_map, option_and_then, codes}
 use Rattle.std.specs.Option.{option_map_or}
@@ -44,19 +44,19 @@ subject _ = None
 abbrev pub concerns : SlugSet → CommandChange → Bool
 concerns purged change = option_map_or purged (subject change) false
 
--- the same pass, or none twice
+-- both are the same pass, or both are none
 abbrev pub is_same_pass : Option Text → Option Text → Bool
 is_same_pass None None = true
 is_same_pass (Some pass) (Some other) = bytes_eq pass other
 is_same_pass _ _ = false
 
--- the call is a read under this host by who has this pass, or none
+-- the call is a read under this host by a caller with this pass, or with none
 abbrev pub is_read_by : Text → Option Text → Call → Bool
 is_read_by host pass (Act c) = false
 is_read_by host pass (Ask named shown moment asked) =
     bytes_eq named host && is_same_pass (caller_named shown moment).pass pass
 
--- the call is a command on this host that is about no slug of the set, or such a read
+-- the call is a command on this host that is about no slug of the set, or a read under this host by this caller
 abbrev pub remains : Text → Option Text → SlugSet → Call → Bool
 remains host pass purged (Act c) = bytes_eq c.host host && not (concerns purged c.change)
 remains host pass purged (Ask named shown moment asked) =
@@ -65,7 +65,7 @@ remains host pass purged (Ask named shown moment asked) =
 abbrev pub purge : Text → Option Text → SlugSet → List Call → List Call
 purge host pass purged calls = filter (remains host pass purged) calls
 
--- of the outcomes of these calls those of the calls that remain
+-- the outcomes of the calls that remain
 abbrev pub remaining_outcomes : Text → Option Text → SlugSet → List Call → List Outcome → List Outcome
 remaining_outcomes host pass purged (call ∷ calls) (outcome ∷ outcomes) =
     let more = remaining_outcomes host pass purged calls outcomes in
@@ -102,14 +102,14 @@ abbrev pub sees_version : World → Option Text → Caller → Text → Bool
 sees_version w host caller slug =
     option_map_or (λ p. is_visible p caller slug) (option_and_then (get w) host) false
 
--- who reads then sees none of the slugs
+-- the caller of a read sees none of the slugs
 abbrev pub SeesNone : SlugSet → World → Call → Type 0
 SeesNone purged w (Act c) = Unit {0}
 SeesNone purged w (Ask host shown moment asked) =
     (slug : Text) → purged slug ≡ true
     → sees_version w (host_named host) (caller_named shown moment) slug ≡ false
 
--- who has this pass, or none, sees none of the slugs at any of his reads under this host
+-- a caller with this pass, or with none, sees none of the slugs at any of his reads under this host
 abbrev pub AreUnseen : Text → Option Text → SlugSet → World → List Call → Type 0
 AreUnseen host pass purged w [] = Unit {0}
 AreUnseen host pass purged w (call ∷ calls) =

@@ -1,4 +1,4 @@
--- A used key over whole histories.
+-- Used retry keys over whole histories.
 use Rattle.std.specs.Prelude.{◌≡◌, List, Some}
 use Rattle.dh_world.specs.World.{World, UsedKey}
 use Rattle.dh_world.specs.Retries.{retry_key, write_key}
@@ -10,7 +10,7 @@ use Rattle.dh_histories.specs.declared.call.Call.{Call}
 use Rattle.dh_histories.specs.declared.call.Call.TheVariants.{Act}
 use Rattle.dh_histories.specs.Runs.{called, run}
 
--- the later command is a push or an upload to the same project under the same keys, and its texts are as right
+-- the later command goes to the same host with the same retry key and write key, and what is wrong with its texts is the same
 pub record IsRepeat (first later : Command) : Type 0 where
   pub same_host : later.host ≡ first.host
   pub same_retry_key : retry_key later.change ≡ retry_key first.change

@@ -15,23 +15,23 @@ use Rattle.dh_world.specs.declared.outcome.Outcome.TheVariants.{Applied, Refused
 use Rattle.dh_histories.specs.declared.call.Call.{Call}
 use Rattle.dh_histories.specs.declared.call.Call.TheVariants.{Act, Ask}
 
--- the reply to a read under a host, for a caller who shows this pass or none at this moment: that of what
+-- the reply to a read under a host, for a caller who shows this pass or none at this moment, from what
 -- the caller sees of the world
 abbrev pub reply_in : World → Text → Option Text → ℕ → Read → Reply
 reply_in w host pass moment asked =
     reply_to (seen w (host_named host) (caller_named pass moment)) asked.path asked.query
 
--- what comes of a command whose step is this
+-- the outcome of a command with this step
 abbrev pub outcome_of_step : Result (World × Answer) Refusal → Outcome
 outcome_of_step (Ok (new, answer)) = Applied answer
 outcome_of_step (Err refusal) = Refused refusal
 
--- the world that a call leaves, and what comes of it: a command is its step, a read changes nothing
+-- the world that a call leaves, and the outcome of the call: a command is its step, a read changes nothing
 abbrev pub called : World → Call → World × Outcome
 called w (Act c) = (left_by w (step w c), outcome_of_step (step w c))
 called w (Ask host pass moment asked) = (w, Replied (reply_in w host pass moment asked))
 
--- the world that a list of calls leaves, and what comes of each, one after the other
+-- the world that a list of calls leaves, one after the other, and the outcome of each
 abbrev pub run : World → List Call → World × List Outcome
 run w [] = (w, [])
 run w (call ∷ calls) =

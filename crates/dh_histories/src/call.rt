@@ -1,4 +1,4 @@
-//! What a desk is asked.
+//! The calls of a desk.
 use dh_paths::Text;
 use dh_wire::Read;
 use dh_world::Command;
@@ -8,13 +8,13 @@ use dh_world::Command;
 pub enum Call {
     /// A command.
     Act(Command),
-    /// A read. Its texts are as they came: a name that is no host's names no project, and a text that is no
+    /// A read. Its texts are unchecked: a name that is no host's names no project, and a text that is no
     /// pass counts as none.
     Ask {
         host: Text,
         /// The pass that is shown, if one is.
         pass: Option<Text>,
-        /// When it is read, in seconds since 1970.
+        /// The moment of the read, in seconds since 1970.
         moment: u64,
         asked: Read,
     },

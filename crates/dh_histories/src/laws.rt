@@ -3,16 +3,16 @@ ghost use Rattle.dh_histories.specs.CallsDone.{DoneIsRun};
 ghost use Rattle.dh_histories.specs.Purge.{PurgeLaw};
 ghost use Rattle.dh_histories.specs.Repeats.{RunsAnswerForGood};
 
-/// What a caller can never see changes nothing of what he sees. Take a history, and a set of slugs without
-/// `latest` and `stable` of which he sees no version at any of his reads of a host: without the commands on
-/// these, without other hosts and the reads of others, and without what the world held of them at first, each
-/// command that remains has the outcome that it had, each read of his the reply that it had, and the last
-/// world is that of the whole history without these slugs.
+/// What a caller can never see changes nothing of what he sees. Take a history, a host, and a set of slugs without
+/// `latest` and `stable`, of which the caller sees no version at any of his reads under the host. Leave out the
+/// commands on these slugs, the commands on other hosts, all other reads, and what the first world holds of these
+/// slugs and of other hosts. Then each command and each read that remains has the same outcome, and the last world
+/// is that of the whole history, without these slugs and without other hosts.
 pub fn purge_law()
     ensures { PurgeLaw }
 {}
 
-/// Calls that were done one after the other are a run, once those whose outcomes are set aside are taken out.
+/// Calls that were done one after the other are a run, without the calls whose outcomes are set aside.
 pub fn done_is_run()
     ensures { DoneIsRun }
 {}

@@ -1,4 +1,4 @@
-//! Whole histories: what a list of calls leaves and answers, and what of it a caller can never tell.
+//! Whole histories: what a list of calls leaves and answers, and what of a history a caller can never tell.
 #![tactic(auto)]
 
 pub mod call;

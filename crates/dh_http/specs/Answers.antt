@@ -22,12 +22,12 @@ use Rattle.dh_http.specs.declared.fault.Done.{Done}
 use Rattle.dh_http.specs.declared.fault.EngineFault.{EngineFault}
 use Rattle.dh_http.specs.declared.fault.EngineFault.TheVariants as fault
 
--- the reply to a read at a moment: that of the definition, of what the caller sees of the world
+-- the reply to a read at a moment, from what the caller sees of the world
 abbrev pub read_reply : ℕ → World → Option (List ℕ) → Option (List ℕ) → Read → Reply
 read_reply moment world host pass read =
     reply_to (seen world host (caller_named pass moment)) read.path read.query
 
--- a command is one step of the world, or is refused, or set aside, and this replies to it
+-- the reply is that to a command which is one step of the world, or is refused, or set aside
 abbrev pub IsAppliedAs : World → World → Command → Reply → Type 0
 IsAppliedAs before after command reply =
     (outcome : Result Answer Refusal)
@@ -48,13 +48,13 @@ abbrev pub MayApply : World → World → Command → Type 0
 MayApply before after command =
     (outcome : Result Answer Refusal) × IsStep before after command outcome
 
--- what a request does that gets no reply of its own: a command is done or not
+-- what a request without a reply of its own does: a command is done or not
 abbrev pub MayDoRequest : World → World → Request → Type 0
 MayDoRequest before after (request.Read host pass read head) = after ≡ before
 MayDoRequest before after (request.Apply command) = MayApply before after command
 MayDoRequest before after (request.Refused status allow head) = after ≡ before
 
--- the reply to a request, where one was made
+-- the reply to a request, where one was made; else what the request may have done
 abbrev pub MakesReply : ℕ → World → World → Request → Option Reply → Type 0
 MakesReply moment before after request (Some reply) = IsReplyTo moment before after request reply
 MakesReply moment before after request None = MayDoRequest before after request
@@ -78,8 +78,8 @@ AnswersRequest moment before after request status text =
     ⊎ ((reply ≡ unavailable) × MayDoRequest before after request))
     × IsWritten reply (is_bodiless request) status text
 
--- the same for a source: of the request that it holds, and of some request where it does not tell its bytes; or a 503 before
--- the request was known, and then nothing was done
+-- the status and the bytes that answer a source: for the request that it holds, or for some request where it does not tell its
+-- bytes; or a 503 before the request was known, and then nothing was done
 abbrev pub AnswersSource : ℕ → Option (List ℕ) → World → World → ℕ → List ℕ → Type 0
 AnswersSource moment left before after status text =
     ((request : Request)
@@ -118,6 +118,6 @@ abbrev pub IsRefusal : Request → Type 0
 IsRefusal (request.Refused status allow head) = Unit {0}
 IsRefusal _ = ⊥
 
--- the input is one
+-- the input is a request that asks for nothing that can be done
 abbrev pub AsksInVain : List ℕ → Type 0
 AsksInVain input = (request : Request) × IsRequest input request × IsRefusal request

@@ -1,4 +1,4 @@
--- The reply to a command, by what came of it.
+-- The reply to a command, by its outcome.
 use Rattle.std.specs.Prelude.{ℕ, List, None, Result, Ok, Err, codes, unwrap_or}
 use Rattle.serde_json.specs.Data.{Data, number, unsigned, string, object, no_members, member}
 use Rattle.serde_json.specs.Written.{compact_text}

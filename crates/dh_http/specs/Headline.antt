@@ -13,7 +13,7 @@ use Rattle.dh_http.specs.Answers.{read_reply}
 use Rattle.dh_http.specs.declared.fault.Done.{Done}
 use Rattle.dh_http.specs.declared.fault.EngineFault.{EngineFault}
 
--- the bytes of the reply to a read at a moment in a world, with its body or without: those of the reply's definition, of what the
+-- the bytes of the reply to a read at a moment in a world, with its body or without: the reply comes from what the
 -- caller with this pass sees under this host
 abbrev pub read_bytes : ℕ → World → Option (List ℕ) → Option (List ℕ) → Read → Bool → List ℕ
 read_bytes moment world host pass read head = reply_bytes_of (read_reply moment world host pass read) head
@@ -29,7 +29,7 @@ AnswersRead moment world input text =
     → IsRequest input (request.Read host pass read head)
     → (text ≡ read_bytes moment world host pass read head) ⊎ IsUnavailable text
 
--- where all was written, it answers what the source held, if that is a read request
+-- where the whole reply was written, it answers the read request that the source held, if it held one
 abbrev pub Headline
     : ℕ → World → Option (List ℕ) → Option (List ℕ) → Option (List ℕ) → Result Done EngineFault
     → Type 0

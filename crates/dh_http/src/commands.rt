@@ -78,7 +78,7 @@ fn refused_reply(alloc: Global, refusal: Refusal) -> Result<Reply, AllocError>
     json_reply(alloc, status_of(refusal), text)
 }
 
-/// The reply to a command, by what came of it.
+/// The reply to a command, by its outcome.
 pub fn command_reply(alloc: Global, outcome: Result<Answer, Refusal>) -> Result<Reply, AllocError>
     ensures { IfOk result (λ r. r ≡ spec.command_reply outcome) }
 {

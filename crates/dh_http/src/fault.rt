@@ -1,4 +1,4 @@
-//! What a request comes to.
+//! How answering a request ends.
 
 use thiserror::Error;
 
@@ -15,10 +15,10 @@ pub enum EngineFault {
     /// The reader failed. Nothing was written, and no command done.
     #[error("Read")]
     Read,
-    /// The writer failed or took no byte, and exactly so many bytes of the reply went out. A command that was accepted stays.
+    /// The writer failed or took no byte, and exactly this many bytes of the reply went out. A command that was accepted stays.
     #[error("Write")]
     Write(usize),
-    /// 100,000 reads without a whole request. Nothing was written, and no command done.
+    /// 100,000 reads brought no whole request. Nothing was written, and no command done.
     #[error("TooManyTurns")]
     TooManyTurns,
 }

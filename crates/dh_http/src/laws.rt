@@ -8,8 +8,8 @@ pub fn same_project_same_bytes()
     ensures { SameProjectSameBytes }
 {}
 
-/// Rows of other projects, and private versions that the caller's pass does not open, never change a reply: it is that of the world
-/// in which none of them are left.
+/// Other projects, and private versions that the caller's pass does not open, never change a reply: the reply is that of a
+/// world without them.
 pub fn veiled_bytes()
     ensures { VeiledBytes }
 {}

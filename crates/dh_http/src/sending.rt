@@ -1,4 +1,4 @@
-//! Replies, written.
+//! Writes replies.
 
 ghost use Rattle.std.specs.Prelude.{◌≡◌, false};
 ghost use Rattle.dh_wire.specs.Wire.{head_of};
@@ -9,7 +9,7 @@ use crate::fault::{Done, EngineFault};
 use dh_ports::{Sink, put_all, put_both};
 use dh_reply::{Reply, unavailable_bytes};
 
-/// Writes a reply, of which the bytes up to its body were made.
+/// Writes a reply, whose bytes up to the body are given.
 pub fn send_reply<W: Sink>(
     sink: &mut W,
     reply: &Reply,

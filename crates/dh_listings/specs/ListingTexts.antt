@@ -59,7 +59,7 @@ abbrev pub text_word : Text → Text
 text_word [] = codes "none"
 text_word (b ∷ bs) = b ∷ bs
 
--- a last word of a redirect, or nothing
+-- the last word of a redirect with force, or nothing
 abbrev pub force_end : Bool → Text
 force_end true = 9 ∷ codes "--force"
 force_end false = []
@@ -69,8 +69,8 @@ abbrev pub end_word : Option ℕ → Text
 end_word None = codes "none"
 end_word (Some end) = decimal end
 
--- a text as a word of a row: it stands as it is, but for one with a control byte, as a tab, which stands behind `escaped:`
--- with percent escapes
+-- a text as a word of a row: a text with a control byte, as a tab, stands behind `escaped:` with percent escapes, and any other
+-- stands as it is
 abbrev pub row_word : Text → Text
 row_word text = if list_all is_no_control text then text else codes "escaped:" ++ escaped text
 
@@ -87,7 +87,7 @@ version_words v =
     kind_word v.kind ++ 9 ∷ v.name ++ 9 ∷ v.slug ++ 9 ∷ active_word v.active
     ++ 9 ∷ hidden_word v.hidden ++ 9 ∷ private_word v.private
 
--- `PATH TYPE SIZE`: how many bytes its body has
+-- `PATH TYPE SIZE`, where the size is how many bytes the body has
 unfoldable pub page_words : Text → Text → ℕ → Text
 page_words path media size = path ++ 9 ∷ media ++ 9 ∷ decimal size
 
@@ -97,7 +97,7 @@ rule_words place r =
     decimal place ++ 9 ∷ kind_word r.kind ++ 9 ∷ row_word (pattern_text r.pattern)
     ++ 9 ∷ action_word r.action
 
--- `PLACE KIND STATUS FROM TO`, and `--force`
+-- `PLACE KIND STATUS FROM TO`, and `--force` where the redirect has force
 unfoldable pub redirect_words : ℕ → Redirect → Text
 redirect_words place r =
     decimal place ++ 9 ∷ redirect_word r.kind ++ 9 ∷ decimal r.status
@@ -107,7 +107,7 @@ redirect_words place r =
 unfoldable pub pass_start : Text → Option ℕ → Text
 pass_start pass end = pass ++ 9 ∷ end_word end
 
--- the same, and behind it each slug that the pass is granted
+-- `PASS SECONDS|none`, and then each slug that the pass is granted
 abbrev pub pass_words : Text → Option ℕ → List Text → Text
 pass_words pass end slugs = pass_start pass end ++ flat_map (λ slug. 9 ∷ slug) slugs
 
@@ -124,7 +124,7 @@ listed_head count = codes "listed " ++ decimal count
 abbrev pub listed_text : List Text → Text
 listed_text rows = listed_head (length rows) ++ rows_text rows
 
--- rows of items that stand at places from a number on
+-- the rows of items, with their places from a number on
 abbrev pub placed_rows : {X : Type 0} → (ℕ → X → Text) → ℕ → List X → List Text
 placed_rows row n [] = []
 placed_rows row n (x ∷ xs) = row n x ∷ placed_rows row (n + 1) xs
@@ -150,7 +150,7 @@ rows_listed p (part.Pages slug lang) =
     map (λ e. page_words e.0.1.1 e.1.media (length e.1.body))
     (filter (λ e. lies_under slug (Some lang) e.0) (entries p.pages))
 
--- the projects by their hosts
+-- a row for each project, by its host
 abbrev pub project_rows : World → List Text
 project_rows w = map (λ e. project_words e.0 (main_language e.1) e.1.branch e.1.new_private) (entries w)
 

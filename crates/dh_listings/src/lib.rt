@@ -1,4 +1,4 @@
-//! What list words print: the rows of what a file holds, by definition, and the text of one row.
+//! What list words print: the rows of each list, by definition, and functions that append one row.
 #![tactic(auto)]
 
 mod rows;

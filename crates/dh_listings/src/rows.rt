@@ -87,7 +87,7 @@ pub fn listed_head(alloc: Global, count: usize) -> Result<String, AllocError>
     format!(in alloc; "listed {count}")
 }
 
-/// A slug that a pass is granted.
+/// Appends a slug that a pass is granted.
 pub fn append_grant(out: &mut String, slug: &Slug) -> Result<(), AllocError>
     ensures { OnOk result (string_bytes out.new ≡ string_bytes out.old ++ 9 ∷ slug.now) }
 {
@@ -95,7 +95,7 @@ pub fn append_grant(out: &mut String, slug: &Slug) -> Result<(), AllocError>
     write!(out, "\t{slug}")
 }
 
-/// A project, without its write key.
+/// Appends a project, without its write key.
 #[tactic(auto, unfolding(crate::specs::ListingTexts::project_words))]
 pub fn append_project(
     out: &mut String,
@@ -119,7 +119,7 @@ pub fn append_lang(out: &mut String, lang: &Lang) -> Result<(), AllocError>
     write!(out, "\n{lang}")
 }
 
-/// A name among the defaults.
+/// Appends a name among the defaults.
 pub fn append_name(out: &mut String, name: &Slug) -> Result<(), AllocError>
     ensures { OnOk result (string_bytes out.new ≡ string_bytes out.old ++ 10 ∷ name.now) }
 {
@@ -143,7 +143,7 @@ pub fn append_version(out: &mut String, version: &Version) -> Result<(), AllocEr
     )
 }
 
-/// A page, by its media type and how many bytes its body has.
+/// Appends a page: its path, its media type and how many bytes its body has.
 #[tactic(auto, unfolding(crate::specs::ListingTexts::page_words))]
 pub fn append_page(
     out: &mut String,
@@ -158,8 +158,8 @@ pub fn append_page(
     write!(out, "\n{path}\t{media}\t{size}")
 }
 
-/// A text as a word of a row: one with a control byte, which may be a tab or an LF, stands behind a mark with percent
-/// escapes.
+/// A text as a word of a row: a text with a control byte, which may be a tab or an LF, is written with percent escapes
+/// behind `escaped:`.
 fn row_word(alloc: Global, text: String) -> Result<String, AllocError>
     ensures { IfOk result (λ word. string_bytes word ≡ spec.row_word (string_bytes text)) }
 {
@@ -171,7 +171,7 @@ fn row_word(alloc: Global, text: String) -> Result<String, AllocError>
     format!(in alloc; "escaped:{escaped}")
 }
 
-/// A rule at its place.
+/// Appends a rule with its place.
 #[tactic(auto, unfolding(crate::specs::ListingTexts::rule_words))]
 pub fn append_rule(
     out: &mut String,
@@ -217,7 +217,7 @@ fn put_end(out: &mut String, until: &Option<PassEnd>) -> Result<(), AllocError>
     }
 }
 
-/// A pass, and when it ends. What it is granted stands behind, each slug behind a tab.
+/// Appends a pass and when it ends; `append_grant` appends each slug that the pass is granted.
 #[tactic(auto, unfolding(crate::specs::ListingTexts::pass_start))]
 pub fn append_pass(
     out: &mut String,

@@ -2,7 +2,7 @@
 
 use dh_paths::Text;
 
-/// What a list word asks for. Its texts are as they came: under a text that is no host's name there is no project.
+/// What a list word asks for. Its texts are unchecked: under a text that is no host's name there is no project.
 #[derive(Drop)]
 pub enum ListWord {
     /// The projects of all hosts.
@@ -11,7 +11,7 @@ pub enum ListWord {
     OfProject { host: Text, list: ProjectList },
 }
 
-/// A list of one project. Of pages under what is no version's slug, or no language, there are none.
+/// A list of one project. Under a text that is no version's slug, or no language, there are no pages.
 #[derive(Drop)]
 pub enum ProjectList {
     Langs,
@@ -19,7 +19,7 @@ pub enum ProjectList {
     Defaults,
     Rules,
     Redirects,
-    /// Passes, each with what it is granted.
+    /// Passes, each with the slugs that it is granted.
     Passes,
     /// The pages of a version in a language.
     Pages { slug: Text, lang: Text },

@@ -43,10 +43,10 @@ unfoldable pub page_at : SeenProject → List ℕ → List ℕ → List ℕ → 
 page_at p lang slug path =
     option_map (λ (s : StoredPage). s.page) (find (stands_at lang slug path) p.pages)
 
--- the result that comes before any page
+-- the result of the first redirect with force that has one; it comes before any page
 abbrev pub forced_result : SeenProject → Asked → Option Location
 forced_result p asked = first_result true p.redirects asked
 
--- the result that comes where nothing is served
+-- the result of the first redirect that has one; it comes where nothing is served
 abbrev pub not_found_result : SeenProject → Asked → Option Location
 not_found_result p asked = first_result false p.redirects asked

@@ -67,6 +67,6 @@ pub trait Lookup {
 
     ghost keeps_on: { (a b c : Self) → meaning.keeps a b → meaning.keeps b c → meaning.keeps a c };
 
-    // A cause is one in a longer run of calls, too.
+    // What causes a later call of a run to fail causes the run to fail.
     ghost fails_on: { (a b c : Self) → meaning.leads a b → meaning.fails b c → meaning.fails a c };
 }

@@ -151,7 +151,7 @@ fn page_of(
     }
 }
 
-/// Where the redirect leads, if it counts.
+/// Where the redirect leads, unless only redirects with force count and this one has none.
 fn result_in(
     alloc: Global,
     forced: bool,

@@ -18,11 +18,11 @@ pub struct StoredPage {
 /// One project as one caller sees it.
 #[derive(Drop)]
 pub struct SeenProject {
-    /// The main one first.
+    /// The languages, the main one first.
     pub langs: Items<Lang>,
     /// The visible versions, hidden ones too, in the order of their slugs.
     pub versions: Items<Version>,
-    /// Those of the visible versions.
+    /// The pages of the visible versions.
     pub pages: Items<StoredPage>,
     /// The version that the alias `latest` stands for.
     pub latest: Option<Slug>,

@@ -16,12 +16,12 @@ abbrev pub IsBracketed : List ℕ → Type 0
 IsBracketed name =
     (address : List ℕ) × (name ≡ (open_bracket ∷ address) ++ (close_bracket ∷ [])) × (0 < length address) × IsTrue (list_all is_address_byte address)
 
--- a name and a port or none, which is the host of that name in small letters
+-- the text is a name and a port or none, and names the host of that name in small letters
 abbrev pub IsNameAndPort : List ℕ → Option (List ℕ) → Type 0
 IsNameAndPort text host =
     (name : List ℕ) × (port : List ℕ) × (text ≡ name ++ port) × (IsPlainName name ⊎ IsBracketed name) × IsTrue (is_port port) × (host ≡ host_named name)
 
--- a host part: nothing, which is no host, or a name and a port
+-- the text is a host part: empty, which names no host, or a name and a port
 abbrev pub IsHostPart : List ℕ → Option (List ℕ) → Type 0
 IsHostPart text host = ((text ≡ []) × (host ≡ None)) ⊎ IsNameAndPort text host
 
@@ -39,7 +39,7 @@ abbrev pub IsOriginForm : List ℕ → Target → Type 0
 IsOriginForm text target =
     (raw : List ℕ) × IsPathAndQuery text raw target.query × IsTrue (first_byte raw == slash) × (path_of raw ≡ Some target.path) × (target.host ≡ None)
 
--- `http://` or `https://`, in any case
+-- `http://` or `https://`, ignoring case
 abbrev pub IsScheme : List ℕ → Type 0
 IsScheme scheme = IsTrue (str_eq_ignore_ascii_case scheme (codes "http://")) ⊎ IsTrue (str_eq_ignore_ascii_case scheme (codes "https://"))
 

@@ -16,13 +16,13 @@ pub data Place : Type 0 where
   File : (lang name rest : List ℕ) → Place
   Other : Place
 
--- by the parts between slashes: `/l/n` is bare and `/l/n/rest` a file, with l and n not empty
+-- what a path names, by its parts between slashes: `/l/n` is bare and `/l/n/rest` a file, with l and n not empty
 abbrev pub address_of : List (List ℕ) → Place
 address_of ([] ∷ l ∷ n ∷ []) = if length l == 0 || length n == 0 then Other else Bare l n
 address_of ([] ∷ l ∷ n ∷ r ∷ rs) = if length l == 0 || length n == 0 then Other else File l n (join_with_byte slash (r ∷ rs))
 address_of _ = Other
 
--- the first that fits
+-- what a path names: the first form that fits
 unfoldable pub split_of : List ℕ → Place
 split_of path =
     if bytes_eq path (codes "/") then Root

@@ -20,13 +20,13 @@ is_name_byte b =
 abbrev pub is_address_byte : ℕ → Bool
 is_address_byte b = is_digit b || (nat_le 65 b && nat_le b 70) || (nat_le 97 b && nat_le b 102) || b == colon || b == dot
 
--- `[`, one or more address bytes, `]`: how long it is, 0 where the text begins with none
+-- the length of `[`, one or more address bytes and `]` that the text begins with, 0 where it begins with none
 abbrev pub bracketed_len : List ℕ → ℕ
 bracketed_len text =
     let inner = prefix_len is_address_byte (drop 1 text) in
     if nat_lt 0 inner && slice_index text (inner + 1) == close_bracket then inner + 2 else 0
 
--- how long the name is that the text begins with
+-- the length of the name that the text begins with
 abbrev pub name_len : List ℕ → ℕ
 name_len text = if first_byte text == open_bracket then bracketed_len text else prefix_len is_name_byte text
 
@@ -69,18 +69,18 @@ path_of raw = if is_utf8 (unescaped raw) && list_all is_no_control (unescaped ra
 unfoldable pub target_at : Option (List ℕ) → List ℕ → Option Target
 target_at host text = option_map (λ path. record { host = host; path = path; query = query_of text }) (path_of (before_first is_question text))
 
--- what follows `http://` or `https://`, in any case
+-- what follows `http://` or `https://`, ignoring case
 abbrev pub after_scheme : List ℕ → Option (List ℕ)
 after_scheme text =
     if str_eq_ignore_ascii_case (take 7 text) (codes "http://") then Some (drop 7 text)
     else if str_eq_ignore_ascii_case (take 8 text) (codes "https://") then Some (drop 8 text)
     else None
 
--- how long the host part is: up to the first `/` or `?`
+-- the length of the host part: up to the first `/` or `?`
 abbrev pub authority_len : List ℕ → ℕ
 authority_len text = prefix_len (λ b. not (b == slash || b == question)) text
 
--- a path begins with a slash, also one that is left out
+-- puts a slash before a path that has none
 abbrev pub rooted : List ℕ → List ℕ
 rooted text = if first_byte text == slash then text else slash ∷ text
 
@@ -90,13 +90,13 @@ begins_with_host_part text =
     let len = authority_len text in
     nat_lt 0 len && is_some (host_of (take len text))
 
--- a host part that is not empty, and then nothing, a path or a query
+-- a target behind its scheme: a host part that is not empty, and then nothing, a path or a query
 unfoldable pub absolute_of : List ℕ → Option Target
 absolute_of text =
     let len = authority_len text in
     if begins_with_host_part text then target_at (Some (take len text)) (rooted (drop len text)) else None
 
--- a target by its form alone, whatever its path decodes to
+-- the text has the form of a target, whatever its path decodes to
 abbrev pub has_form : List ℕ → Bool
 has_form text =
     list_all is_target_byte text && (first_byte text == slash || option_map_or begins_with_host_part (after_scheme text) false)

@@ -60,7 +60,7 @@ fn by_segments(path: &str) -> Split<'_>
     }
 }
 
-/// What a decoded path names: the first that fits.
+/// What a decoded path names: the first form that fits.
 #[tactic(auto, unfolding(crate::specs::Places::split_of))]
 pub fn split(path: &str) -> Split<'_>
     ensures { place result ≡ split_of path.now }

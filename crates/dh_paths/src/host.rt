@@ -106,7 +106,7 @@ pub fn host_name(alloc: Global, text: &str) -> Result<Option<HostName>, TextFaul
     host_part(alloc, text.as_bytes())
 }
 
-/// The same of bytes that may be no text, as the value of a `Host` line.
+/// The host that a host part names, as `host_name` tells it, from bytes that may be no text, as the value of a `Host` line.
 pub fn host_part(alloc: Global, bytes: &[u8]) -> Result<Option<HostName>, TextFault>
     ensures host { AnswersDefined (host_of bytes.now) TextFault.BadHost result }
     ensures memory { result ≡ Err TextFault.Memory → NamesSome bytes.now }

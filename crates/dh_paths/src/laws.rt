@@ -5,7 +5,7 @@ ghost use Rattle.dh_paths.specs.Targets.{host_of, target_of};
 ghost use Rattle.dh_paths.specs.Forms.{IsHostPart, IsTarget};
 ghost use Rattle.dh_paths.specs.declared.target.Target.{Target};
 
-/// A host part is empty, or a name and a port put together; it is the host of that name.
+/// A host part is empty, or a name and a port put together, and it names the host of that name.
 pub fn host_part_is_name_and_port()
     ensures { (text : List ℕ) (host : Option (List ℕ))
         → (host_of text ≡ Some host) ↔ IsHostPart text host }

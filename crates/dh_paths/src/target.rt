@@ -83,7 +83,7 @@ fn query_text(alloc: Global, query: Option<&[u8]>) -> Result<Option<Text>, Alloc
     }
 }
 
-/// The target at a host.
+/// The target at a host, from its path and query as written.
 #[tactic(auto, unfolding(crate::specs::Targets::target_at))]
 fn at_host(alloc: Global, host: Option<Text>, text: &[u8]) -> Result<Target, TextFault>
     requires { IsAscii text.now }
@@ -101,7 +101,7 @@ fn same_ignoring_case(a: &[u8], b: &[u8]) -> bool
     a.eq_ignore_ascii_case(b)
 }
 
-/// Whether the text begins with the front, in any case.
+/// Whether the text begins with the front, ignoring case.
 #[tactic(auto, using(std::proofs::lemmas::List::take_min))]
 fn begins_with(text: &[u8], front: &[u8]) -> bool
     ensures { result ≡ str_eq_ignore_ascii_case (take (length front.now) text.now) front.now }
@@ -110,7 +110,7 @@ fn begins_with(text: &[u8], front: &[u8]) -> bool
     same_ignoring_case(&text[..len], front)
 }
 
-/// What follows `http://` or `https://`, in any case.
+/// What follows `http://` or `https://`, ignoring case.
 fn behind_scheme(text: &[u8]) -> Option<&[u8]>
     requires { IsAscii text.now }
     ensures value { option_copied result ≡ after_scheme text.now }

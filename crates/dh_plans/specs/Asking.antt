@@ -9,15 +9,15 @@ use Rattle.dh_checks.specs.declared.checking.CheckedChange.TheVariants.{NewProje
 use Rattle.dh_checks.specs.declared.checked.ProjectSettings.{ProjectSettings}
 use Rattle.dh_plans.specs.Questions.{Asked, nothing, version_named}
 
--- the version with a slug
+-- asks for the version with a slug
 abbrev pub of_version : Text → Asked
 of_version slug = record nothing { version = Some slug }
 
--- that, and the first answer to a retry key
+-- asks for the version with a slug, and for the first answer to a retry key
 abbrev pub of_retried : Text → Operation → Text → Asked
 of_retried slug operation key = record (of_version slug) { retry_key = Some (slug, (op_code operation, key)) }
 
--- what it asks where its write key is right
+-- what a command with the right write key asks
 abbrev pub asked_by : CheckedChange → Asked
 asked_by (NewProject x) = nothing
 asked_by (AddLang lang) = record nothing { languages = true }
@@ -43,6 +43,6 @@ has_right_key (Push x) s = bytes_eq x.wkey s.wkey
 has_right_key (Upload x) s = bytes_eq x.wkey s.wkey
 has_right_key _ s = true
 
--- what it asks of a project with these settings: with a wrong write key nothing
+-- what a command asks of a project with these settings: with a wrong write key nothing
 abbrev pub asked : CheckedChange → ProjectSettings → Asked
 asked c s = if has_right_key c s then asked_by c else nothing

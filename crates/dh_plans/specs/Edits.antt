@@ -34,7 +34,7 @@ edited (Grant pass slug) p = record p { held = insert p.held (pass, slug) tt }
 edited (Revoke pass slug) p = record p { held = remove p.held (pass, slug) }
 edited (PutAnswer a) p = record p { used = insert p.used (a.slug, (op_code a.operation, a.key)) a.answer }
 
--- one after the other
+-- the project after edits, one after the other
 abbrev pub all_edited : List Edit → Project → Project
 all_edited [] p = p
 all_edited (e ∷ es) p = all_edited es (edited e p)
@@ -49,9 +49,9 @@ pub record IsNewFront (p : Project) (names : List Text) : Type 0 where
   pub names_are : names ≡ name ∷ without_name name p.defaults
   pub may : IsTrue (is_alias name || contains_key p.versions name)
 
--- What has to hold of a project before an edit, so that it is one again: a language and a pass are new, and the language takes
+-- What has to hold before an edit, so that the project stays a right one: a language and a pass are new, and the language takes
 -- the next place; a version's slug comes from its name, and one that is active stays so, unless its pages go with it;
--- a removal takes its name from the defaults, which else get one new name in front; pages and grants lead to what is
+-- a removal takes its name from the defaults, and a new default comes first among them; pages and grants lead to what is
 -- there, a page may have its media type and body; lists are no longer than they may be, their rules and redirects pass their
 -- checks; and a first answer is one of its operation that has a JSON, under a free key.
 abbrev pub MayEdit : Edit → Project → Type 0
@@ -80,12 +80,12 @@ MayRunOut (Ok made) = ⊤
 MayRunOut (Err TooMany) = ⊤
 MayRunOut (Err refusal) = ⊥
 
--- a plan that is the change of this project, or the change's refusal, or out of memory
+-- the plan makes the change of this project, or the refusal is that of the change, or out of memory
 abbrev pub PlansChange : Project → Change → Result Planned Refusal → Type 0
 PlansChange p change (Ok plan) = (change ≡ Ok (all_edited plan.edits p, plan.answer)) × MayEditAll plan.edits p
 PlansChange p change (Err e) = ((e ≡ OutOfMemory) × MayRunOut change) ⊎ (change ≡ Err e)
 
--- this plan, unless out of memory
+-- the answer is this plan, unless out of memory
 abbrev pub IsPlan : Planned → Result Planned Refusal → Type 0
 IsPlan planned (Ok plan) = plan ≡ planned
 IsPlan planned (Err e) = e ≡ OutOfMemory

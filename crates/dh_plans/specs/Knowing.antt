@@ -34,11 +34,11 @@ pub record AnswersAsked (q : Asked) (f : Facts) (p : Project) : Type 0 where
   pub languages : (if q.languages then p.languages else []) ≡ f.languages.items
   pub defaults : (if q.defaults then p.defaults else []) ≡ f.defaults.items
   pub rules : (if q.rules then p.rules else []) ≡ f.rules.items
-  -- they are at most 50, and each passes its check
+  -- the rules are at most 50, and each passes its check
   pub few_rules : length f.rules.items ≤ 50
   pub good_rules : AllByRecursion (λ r. IsTrue (is_allowed r.pattern)) f.rules.items
   pub redirects : (if q.redirects then p.redirects else []) ≡ f.redirects.items
-  -- they are at most 100, and each passes its check
+  -- the redirects are at most 100, and each passes its check
   pub few_redirects : length f.redirects.items ≤ 100
   pub good_redirects : AllByRecursion (λ r. first_fault r ≡ None) f.redirects.items
   pub has_pass : option_map_or (contains_key p.passes) q.pass false ≡ f.has_pass
@@ -49,7 +49,8 @@ pub record KnowsProject (c : CheckedChange) (f : Facts) (p : Project) : Type 0 w
   pub settings : HasSettings p f.settings
   pub answers : AnswersAsked (asked c f.settings) f p
 
--- A plan is that of the change, for each project that has these facts; a refusal is the change's, or of a custom pattern, which `regex` may refuse.
+-- The plan makes the change of each project that has these facts; a refusal is that of the change, or of a custom pattern,
+-- which `regex` may refuse.
 abbrev pub DecidesChange : CheckedChange → Facts → Result Planned Refusal → Type 0
 DecidesChange c f (Ok plan) =
     (p : Project) → KnowsProject c f p → PlansChange p (change (change_of c) p) (Ok plan)

@@ -1,4 +1,4 @@
--- The parts of plans, and why there is none.
+-- The parts of plans, and the refusals in place of a plan.
 use Rattle.std.specs.Prelude.{◌≡◌, ◌⊎◌, ℕ, Bool, true, false, ◌&&◌, if◌then◌else◌, List, [], ◌∷◌, ◌++◌, map, length, Option, Some, None, Result, Ok, Err}
 use Rattle.std.specs.Str.{bytes_eq}
 use Rattle.dh_versions.specs.declared.version.Kind.TheVariants.{Branch}
@@ -30,14 +30,14 @@ use Rattle.dh_checks.specs.declared.checked.ProjectSettings.{ProjectSettings}
 
 -- ---- where the host has no project
 
--- the project that the command makes there, or its refusal
+-- the project that a command makes under a host that has none, or the refusal
 abbrev pub OpensProject : CheckedChange → Result NewProject Refusal → Type 0
 OpensProject c (Ok x) = opened (change_of c) ≡ Ok (new_project x.lang x.settings.branch x.settings.new_private x.settings.wkey, Done)
 OpensProject c (Err e) = opened (change_of c) ≡ Err e
 
 -- ---- pushes
 
--- what a push makes, before the rules
+-- the new version that a push makes, before the rules
 abbrev pub pushed_fresh : ProjectSettings → CheckedPush → Fresh
 pushed_fresh s x = record {
   kind = x.kind;
@@ -48,27 +48,27 @@ pushed_fresh s x = record {
   chosen = false;
 }
 
--- the rules have run; or at a place stands a custom pattern of the kind, and that place is told
+-- the rules have run, or the refusal names the place of a rule of the kind with a custom pattern, or out of memory
 abbrev pub RunsRules : List Rule → Fresh → Result Fresh Refusal → Type 0
 RunsRules rules x (Ok after) = after ≡ after_rules rules x
 RunsRules rules x (Err e) = (e ≡ OutOfMemory) ⊎ ((place : ℕ) × IsCustomAt rules x.kind place × (e ≡ PatternRefused place))
 
--- where a rule chose the version, its slug is the first default
+-- makes the slug of the version the first default, where a rule chose the version
 abbrev pub chosen_put : Bool → Text → List Text → List Edit
 chosen_put true slug defaults = SetDefaults (slug ∷ without_name slug defaults) ∷ []
 chosen_put false slug defaults = []
 
--- this is the first answer to the retry key
+-- keeps the answer as the first one to the retry key of the push
 abbrev pub push_answered : CheckedPush → Answer → Edit
 push_answered x answer = PutAnswer (record { slug = x.slug; operation = operation.Push; key = x.key; answer = answer })
 
--- of what the rules made of it
+-- the plan of a push that makes a version, as the rules left it
 abbrev pub plan_made : CheckedPush → List Text → Fresh → Planned
 plan_made x defaults after =
     let v : Version = version_of x.slug after in
     record { edits = PutVersion v ∷ (chosen_put after.chosen x.slug defaults ++ push_answered x (made v) ∷ []); answer = made v }
 
--- the plan of what the rules make of it, unless they cannot run
+-- the plan of a push that makes a version, after the rules; refused where they cannot run
 abbrev pub MakesNew : ProjectSettings → CheckedPush → List Rule → List Text → Result Planned Refusal → Type 0
 MakesNew s x rules defaults (Ok plan) = plan ≡ plan_made x defaults (after_rules rules (pushed_fresh s x))
 MakesNew s x rules defaults (Err e) = RunsRules rules (pushed_fresh s x) (Err e)
@@ -82,7 +82,7 @@ plan_known x = record { edits = push_answered x (Known x.slug) ∷ []; answer = 
 abbrev pub pages_put : Text → Text → List UploadedPage → List Edit
 pages_put slug lang pages = map (PutPage slug lang) pages
 
--- with `replace`, the pages that are there go
+-- removes the pages that are there, where `replace` is set
 abbrev pub pages_cleared : Bool → Text → Text → List Edit
 pages_cleared true slug lang = RemovePages slug lang ∷ []
 pages_cleared false slug lang = []
@@ -98,7 +98,7 @@ plan_stored x = record {
 
 -- ---- lists of redirects
 
--- these are the redirects, so many more than before
+-- sets the redirects, and answers how many were added
 abbrev pub plan_imported : List Redirect → ℕ → Planned
 plan_imported redirects count = record { edits = SetRedirects redirects ∷ []; answer = Added count }
 
@@ -107,7 +107,7 @@ plan_imported redirects count = record { edits = SetRedirects redirects ∷ []; 
 abbrev pub plan_deactivated : Version → Planned
 plan_deactivated v = record { edits = PutWithoutPages (record v { active = false }) ∷ []; answer = Done }
 
--- of a name that is no alias, the version has to be there and active
+-- why a name that is no alias may be no default: its version has to be there and active
 abbrev pub wrong_default_version : Option Version → Option Refusal
 wrong_default_version None = Some NoVersion
 wrong_default_version (Some v) = unless v.active Inactive

@@ -31,6 +31,6 @@ seen_questions q = record {
   pass_count = q.pass_count;
 }
 
--- a name that is no alias stands for a version
+-- the slug of the version that a name stands for, none where the name is an alias
 abbrev pub version_named : Text → Option Text
 version_named name = if is_alias name then None else Some name

@@ -8,7 +8,7 @@ use dh_checks::{CheckedChange, ProjectSettings};
 use dh_paths::{Slug, Token};
 use dh_world::Operation;
 
-/// The version with a slug.
+/// Asks for the version with a slug.
 fn of_version(slug: &Slug) -> Questions<'_>
     ensures { seen_questions result ≡ spec.of_version slug.now }
 {
@@ -18,7 +18,7 @@ fn of_version(slug: &Slug) -> Questions<'_>
     }
 }
 
-/// The version with a slug, and the first answer to a retry key.
+/// Asks for the version with a slug, and for the first answer to a retry key.
 fn of_retried<'q>(slug: &'q Slug, operation: Operation, key: &'q Token) -> Questions<'q>
     ensures { seen_questions result ≡ spec.of_retried slug.now operation key.now }
 {
@@ -32,7 +32,7 @@ fn of_retried<'q>(slug: &'q Slug, operation: Operation, key: &'q Token) -> Quest
     }
 }
 
-/// What a command asks whose write key is right.
+/// What a command with the right write key asks.
 fn asked_by<'q>(change: &'q CheckedChange<'_>) -> Questions<'q>
     ensures { seen_questions result ≡ spec.asked_by change.now }
 {

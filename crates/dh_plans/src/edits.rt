@@ -8,7 +8,7 @@ use dh_versions::Version;
 use dh_world::{Answer, Operation, PassEnd};
 use std::marker::Model;
 
-/// The first answer to a retry key. It is one that has a JSON.
+/// The first answer to a retry key, which has a JSON.
 #[derive(Drop)]
 pub struct FirstAnswer {
     /// The slug that was asked for.
@@ -33,56 +33,56 @@ impl Model for FirstAnswer {
 /// One change of a project.
 #[derive(Drop)]
 pub enum Edit<'c> {
-    /// The language is the last one.
+    /// Adds the language behind the others.
     AddLang {
         lang: Lang,
-        /// From 1, which is the main one's.
+        /// Counted from 1, the place of the main language.
         place: u32,
     },
-    /// The version stands under its slug, in place of the one that did.
+    /// Puts the version under its slug, in place of the one that was there.
     PutVersion(Version),
-    /// The same, and its pages are gone.
+    /// Puts the version under its slug, and removes its pages.
     PutWithoutPages(Version),
-    /// The version is gone, with its pages and the grants on it.
+    /// Removes the version with its pages and the grants on it.
     RemoveVersion {
         slug: Slug,
-        /// What the defaults are without it.
+        /// The defaults without the version.
         defaults: Items<Slug>,
     },
-    /// The page is one of the version's in the language, in place of the one with its path.
+    /// Puts the page into the version in the language, in place of the one with its path.
     PutPage {
         slug: Slug,
         lang: Lang,
         page: CheckedPage<'c>,
     },
-    /// The pages of the version in the language are gone.
+    /// Removes the pages of the version in the language.
     RemovePages {
         slug: Slug,
         lang: Lang,
     },
-    /// These are the defaults, the newest first.
+    /// Sets the defaults, the newest first.
     SetDefaults(Items<Slug>),
-    /// These are the rules, in the order in which they run.
+    /// Sets the rules, in the order in which they run.
     SetRules(Items<Rule>),
-    /// These are the redirects, in the order in which they are tried.
+    /// Sets the redirects, in the order in which they are tried.
     SetRedirects(Items<Redirect>),
     /// Adds a pass, which holds nothing.
     AddPass {
         pass: Token,
         until: Option<PassEnd>,
     },
-    /// The pass is gone, with its grants.
+    /// Removes the pass with its grants.
     RemovePass(Token),
-    /// The pass holds the version.
+    /// Grants the version to the pass.
     Grant {
         pass: Token,
         slug: Slug,
     },
-    /// The pass does not hold the version.
+    /// Takes the grant on the version from the pass.
     Revoke {
         pass: Token,
         slug: Slug,
     },
-    /// The answer is kept under its retry key.
+    /// Keeps the answer under its retry key.
     PutAnswer(FirstAnswer),
 }

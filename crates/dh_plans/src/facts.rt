@@ -10,8 +10,8 @@ use dh_world::Answer;
 use std::alloc::Global;
 use std::mem;
 
-/// What was found of the project of a command: the answers to its questions. Where it does not ask,
-/// there is none: `None`, an empty list, false or 0. A plan that is made of it may use it up.
+/// What was found of the project of a command: the answers to the command's questions. What was not
+/// asked is `None`, an empty list, false or 0. Making a plan may use the facts up.
 #[derive(Drop)]
 pub struct Facts {
     pub settings: ProjectSettings,
@@ -19,7 +19,7 @@ pub struct Facts {
     pub version: Option<Version>,
     /// The first answer to the retry key.
     pub first_answer: Option<Answer>,
-    /// The main one first.
+    /// The languages, the main one first.
     pub languages: Vec<Lang>,
     /// Slugs and names of aliases, the newest first.
     pub defaults: Vec<Slug>,
@@ -33,7 +33,7 @@ pub struct Facts {
     pub pass_count: usize,
 }
 
-/// What stands in a list, which is empty then.
+/// Takes all items out of a list.
 pub fn take_list<T: Drop>(alloc: Global, list: &mut Vec<T>) -> Vec<T>
     ensures taken { result.items ≡ list.old.items }
     ensures left { list.new.items ≡ [] }

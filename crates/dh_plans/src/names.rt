@@ -14,7 +14,7 @@ pub fn is_alias(name: &Slug) -> bool
     name.as_str() == "latest" || name.as_str() == "stable"
 }
 
-/// The names but for one.
+/// The names without one.
 pub fn names_but(alloc: Global, names: Vec<Slug>, but: &Slug) -> Result<Vec<Slug>, AllocError>
     ensures { IfOk result (λ others. others.items ≡ without_name but.now names.items) }
 {

@@ -16,8 +16,8 @@ pub struct RetryKey<'q> {
     pub key: &'q Token,
 }
 
-/// What to look up of a project besides its settings. What costs is asked only by the commands that
-/// need it.
+/// What to look up of a project besides its settings. Each command asks only for what it
+/// needs.
 #[derive(Clone, Copy)]
 pub struct Questions<'q> {
     /// The version with this slug.
@@ -45,7 +45,7 @@ pub fn is_write_key(settings: &ProjectSettings, wkey: &Token) -> bool
     wkey.as_str() == settings.wkey.as_str()
 }
 
-/// No question.
+/// Asks nothing.
 pub fn nothing<'q>() -> Questions<'q>
     ensures { spec.seen_questions result ≡ spec.nothing }
 {
@@ -61,7 +61,7 @@ pub fn nothing<'q>() -> Questions<'q>
     }
 }
 
-/// A name that is no alias stands for a version.
+/// The slug of the version that a name stands for; none where the name is an alias.
 pub fn version_named(name: &Slug) -> Option<&Slug>
     ensures { option_map (λ slug. slug.now) result ≡ spec.version_named name.now }
 {

@@ -11,7 +11,7 @@ reader_failed (Err Read) = true
 reader_failed (Err TooManyTurns) = false
 reader_failed (Err Memory) = false
 
--- the source lost no more than so many bytes, where it tells them
+-- the source gave at most this many bytes, where it tells its bytes
 abbrev pub TookAtMost : Option (List ℕ) → Option (List ℕ) → ℕ → Type 0
 TookAtMost old new most = (bytes : List ℕ) × Consumes old new bytes × (length bytes ≤ most)
 
@@ -20,7 +20,7 @@ abbrev pub CameOrEnded : Option (List ℕ) → List ℕ → Bool → Type 0
 CameOrEnded left bytes true = 0 < length bytes
 CameOrEnded left bytes false = (bytes ≡ []) × IsAtEnd left
 
--- the bytes that the source lost, at most 4,096, were put behind those that were there; came says whether there were any
+-- the bytes that the source gave, at most 4,096, were put behind those that were there; `came` says whether there were any
 abbrev pub AddsSome : Option (List ℕ) → Option (List ℕ) → List ℕ → List ℕ → Bool → Type 0
 AddsSome old new before after came =
     (bytes : List ℕ)
@@ -29,19 +29,19 @@ AddsSome old new before after came =
     × CameOrEnded new bytes came
     × (length bytes ≤ 4096)
 
--- the most bytes that a read took which stopped
+-- the most bytes that the source gave to a read that stopped
 abbrev pub most_lost : Stop → ℕ
 most_lost Read = 0
 most_lost TooManyTurns = 0
 most_lost Memory = 4096
 
--- one read; where it stopped, the bytes that were there stay, and no others came
+-- one read: the bytes that came are put behind those that were there; a read that stopped leaves these as they were
 abbrev pub AddsOneRead
     : Option (List ℕ) → Option (List ℕ) → List ℕ → List ℕ → Result Bool Stop → Type 0
 AddsOneRead old new before after (Ok came) = AddsSome old new before after came
 AddsOneRead old new before after (Err stop) = (after ≡ before) × TookAtMost old new (most_lost stop)
 
--- so many reads brought these bytes, and no more may be made: each brought a byte at least
+-- all 100,000 reads were made, and each of them brought a byte at least
 pub record IsFull (reads : ℕ) (bytes : List ℕ) : Type 0 where
   pub reads_made : reads ≡ 100000
   pub bytes_came : 100000 ≤ length bytes

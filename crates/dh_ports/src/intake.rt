@@ -24,7 +24,7 @@ pub struct Intake {
 }
 
 impl Intake {
-    /// Nothing read yet.
+    /// An intake that has read nothing.
     pub fn new(alloc: Global) -> Intake
         ensures empty { result.bytes.items ≡ [] }
         ensures unasked { result.reads ≡ 0 }

@@ -6,12 +6,12 @@ use crate::sink::Sink;
 use crate::source::{Failed, Source};
 use std::io::{Read, Write};
 
-/// A source over a reader of std, or a sink over a writer. Each error of theirs counts, `Interrupted` too.
+/// A source over a reader of std, or a sink over a writer. Each error of the reader or writer counts, `Interrupted` too.
 #[derive(Drop)]
 pub struct Port<T> {
     inner: T,
     stopped: bool,
-    /// How often the reader was asked; it stays at 2^64 - 1.
+    /// How often the reader was asked; the count stays at 2^64 - 1.
     reads: u64,
 }
 

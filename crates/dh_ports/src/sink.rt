@@ -11,7 +11,7 @@ pub trait Sink {
     // The bytes that are held, where the sink tells them.
     ghost held: { Self → Option (List ℕ) };
 
-    // A call failed, or took no byte of some.
+    // A call failed, or took no byte of a piece that has some.
     ghost broken: { Self → Bool };
 
     /// Takes bytes from the front of the piece, and answers how many.
@@ -21,7 +21,7 @@ pub trait Sink {
         ensures failed { broken self.new
             ≡ (broken self.old || put_stops result (length piece.now)) };
 
-    /// Whether a call failed, or took no byte of some.
+    /// Whether a call failed, or took no byte of a piece that has some.
     fn failed(&self) -> bool
         ensures { result ≡ broken self.now };
 }

@@ -19,7 +19,7 @@ pub trait Source {
     // A call failed.
     ghost broken: { Self → Bool };
 
-    // How often it was asked, where the source counts. A count stays at 2^64 - 1.
+    // How often the source was asked, where it counts. A count stays at 2^64 - 1.
     ghost fills: { Self → Option ℕ } = { λ _. None };
 
     /// Fills the front of the room, and answers how many bytes it gave. It gives 0 bytes only at the end, or where there is no room.

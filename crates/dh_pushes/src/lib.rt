@@ -1,4 +1,4 @@
-//! What pushes decide, and what changes the properties of one version.
+//! Decides pushes, and the commands that change the properties of one version.
 #![tactic(auto)]
 
 mod properties;

@@ -43,7 +43,7 @@ pub fn set_property<'c>(
     }
 }
 
-/// The version is inactive, and its pages are gone.
+/// Makes the version inactive, and removes its pages.
 fn put_inactive<'c>(alloc: Global, version: Version) -> Result<Plan<'c>, Refusal>
     ensures { IsPlan (plan_deactivated version) result }
 {

@@ -32,7 +32,7 @@ fn is_default_branch(settings: &ProjectSettings, kind: Kind, name: &RefName) -> 
     kind == Kind::Branch && name.as_str() == settings.branch.as_str()
 }
 
-/// What a push makes, before the rules.
+/// The new version that a push makes, before the rules.
 fn fresh_of(
     alloc: Global,
     settings: &ProjectSettings,
@@ -50,7 +50,7 @@ fn fresh_of(
     })
 }
 
-/// The refusal of a pattern, by the place of its rule. No list in memory is longer than places count.
+/// The refusal of a pattern, by the place of its rule. A place that does not fit 32 bits is refused by `OutOfMemory`.
 fn pattern_refused(place: usize) -> Refusal
     ensures either { (result ≡ Refusal.PatternRefused place) ⊎ (result ≡ Refusal.OutOfMemory) }
     ensures told { place < 2 ^ 32 → result ≡ Refusal.PatternRefused place }
@@ -107,7 +107,7 @@ fn known_answer(alloc: Global, push: &CheckedPush) -> Result<Answer, AllocError>
     Ok(Answer::Known { slug })
 }
 
-/// The answer is the first one to the push's retry key.
+/// Keeps the answer as the first one to the push's retry key.
 fn answer_first(
     alloc: Global,
     push: &CheckedPush,
@@ -124,7 +124,7 @@ fn answer_first(
     }))
 }
 
-/// Where a rule chose the version, its slug is the first default.
+/// Makes the slug the first default, where a rule chose the version.
 fn choose<'c>(
     alloc: Global,
     edits: &mut Vec<Edit<'c>>,
@@ -142,7 +142,7 @@ fn choose<'c>(
     Ok(())
 }
 
-/// The edits of a branch or tag that makes this version.
+/// The edits of a push that makes this version.
 fn edits_made<'c>(
     alloc: Global,
     push: &CheckedPush,
@@ -159,7 +159,7 @@ fn edits_made<'c>(
     Ok(edits)
 }
 
-/// The branch or tag makes this version.
+/// The plan of a push that makes this version.
 fn make<'c>(
     alloc: Global,
     push: &CheckedPush,
@@ -173,7 +173,7 @@ fn make<'c>(
     Ok(Plan { edits, answer })
 }
 
-/// The branch or tag makes a version, over which the rules run first.
+/// The plan of a push that makes a version, after the rules have run.
 fn make_new<'c>(
     alloc: Global,
     settings: &ProjectSettings,
@@ -187,7 +187,7 @@ fn make_new<'c>(
     Ok(make(alloc, push, &fresh, defaults)?)
 }
 
-/// The branch or tag is known.
+/// The plan of a push whose branch or tag is known.
 fn know<'c>(alloc: Global, push: &CheckedPush) -> Result<Plan<'c>, Refusal>
     ensures { IsPlan (plan_known push.now) result }
 {
@@ -196,8 +196,8 @@ fn know<'c>(alloc: Global, push: &CheckedPush) -> Result<Plan<'c>, Refusal>
     Ok(Plan::one(alloc, first, answer)?)
 }
 
-/// A push: a retry key that was used gives its first answer; a branch or tag is known, or makes a
-/// version, over which the rules run, unless another has taken its slug.
+/// Decides a push: a used retry key gives its first answer; a known branch or tag keeps its version; a new
+/// one gets a version, over which the rules run, unless another has taken its slug.
 pub fn push<'c>(alloc: Global, push: CheckedPush, facts: &mut Facts) -> Result<Plan<'c>, Refusal>
     ensures { DecidesChange (CheckedChange.Push push) facts.old result }
 {

@@ -6,11 +6,11 @@ use Rattle.dh_redirects.specs.declared.redirect.Asked.{Asked}
 use Rattle.dh_redirects.specs.declared.redirect.Location.{Location}
 use Rattle.dh_redirects.specs.Locations.{redirect_result}
 
--- where a redirect leads, of all or of those with force alone
+-- where a redirect leads, unless only redirects with force count and this one has none
 abbrev pub result_in : Bool → Redirect → Asked → Option Location
 result_in forced r asked = if forced && not r.force then None else redirect_result r asked
 
--- where the first of them leads that has a result
+-- where the first redirect leads that has a result, of all or of those with force alone
 unfoldable pub first_result : Bool → List Redirect → Asked → Option Location
 first_result forced [] asked = None
 first_result forced (r ∷ rs) asked =

@@ -33,7 +33,7 @@ sent_byte b = kept_or_escaped is_sent b
 unfoldable pub sent : List ℕ → List ℕ
 sent text = flat_map sent_byte text
 
--- a part of To that follows a `:`: the rest stands for `:splat`
+-- a part of To that follows a `:`, with the rest in place of `:splat`
 abbrev pub after_colon : List ℕ → List ℕ → List ℕ
 after_colon rest part = if starts_with nat_eq part (codes "splat") then rest ++ sent (drop 5 part) else sent (colon ∷ part)
 
@@ -72,7 +72,7 @@ clean_file file =
 abbrev pub file_path : Parts → List ℕ → List ℕ
 file_path parts file = version_path parts ++ (slash ∷ escaped file)
 
--- where a page redirect leads: a path of To stands in the version
+-- where a page redirect leads: below the version's path, where To is a path
 abbrev pub in_version : Parts → List ℕ → List ℕ → List ℕ
 in_version parts target text = if is_path target then version_path parts ++ text else text
 
@@ -80,11 +80,11 @@ in_version parts target text = if is_path target then version_path parts ++ text
 abbrev pub filled_for : List ℕ → List ℕ → List ℕ → Option (List ℕ)
 filled_for source target text = option_map (λ rest. filled rest target) (matched source text)
 
--- the same for a page redirect, where From fits the file behind a slash
+-- To filled for a page redirect, where From fits `/` and the file
 abbrev pub page_for : List ℕ → List ℕ → Parts → Option (List ℕ)
 page_for source target parts = option_map (λ rest. in_version parts target (filled rest target)) (matched source (slash ∷ parts.file))
 
--- To filled, or the address of the changed file, where the redirect's kind and From fit what is asked; without parts only an exact one does
+-- To filled, or the address of the changed file, where kind and From fit the request; without parts only an exact one fits
 abbrev pub written_by : RedirectKind → List ℕ → List ℕ → List ℕ → Option Parts → Option (List ℕ)
 written_by Exact source target path parts = filled_for source target path
 written_by _ source target path None = None
@@ -92,7 +92,7 @@ written_by Page source target path (Some parts) = page_for source target parts
 written_by CleanToHtml source target path (Some parts) = option_map (file_path parts) (html_file parts.file)
 written_by HtmlToClean source target path (Some parts) = option_map (file_path parts) (clean_file parts.file)
 
--- the same of a redirect and what is asked
+-- the address that a redirect writes for a request, if it fits
 abbrev pub written_of : Redirect → Asked → Option (List ℕ)
 written_of r asked = written_by r.kind r.source r.target asked.path asked.parts
 
@@ -100,7 +100,7 @@ abbrev pub is_page : RedirectKind → Bool
 is_page Page = true
 is_page _ = false
 
--- a text is written, or the path of a file to compare From with
+-- memory may be taken: an address is written, or the path of a file to compare From with
 abbrev pub asks_memory : Redirect → Asked → Bool
 asks_memory r asked = is_some (written_of r asked) || (is_page r.kind && is_some asked.parts)
 
@@ -120,14 +120,14 @@ path_part text = before_first is_question (without_fragment text)
 abbrev pub query_part : List ℕ → Option (List ℕ)
 query_part text = query_of (without_fragment text)
 
--- a text that has no query gets this one, before its fragment
+-- adds the query to a text that has none, before the fragment
 unfoldable pub with_query_of : List ℕ → Option (List ℕ) → List ℕ
 with_query_of text None = text
 with_query_of text (Some query) =
     let address = without_fragment text in
     if is_some (query_part text) then text else address ++ (question ∷ query) ++ drop (length address) text
 
--- whether the result is a path of this host, as of a To that is a path and of a changed file
+-- whether the result is a path of this host: To is a path, or a file is changed
 abbrev pub is_on_site : RedirectKind → List ℕ → Bool
 is_on_site CleanToHtml target = true
 is_on_site HtmlToClean target = true
@@ -137,7 +137,7 @@ is_on_site _ target = is_path target
 abbrev pub is_request : List ℕ → Asked → Bool
 is_request text asked = bytes_eq (unescaped (path_part text)) asked.path && option_eq bytes_eq (query_part text) asked.query
 
--- a path result has one leading slash; it gets the query, and is none where it is the request itself
+-- adds the query; a path gets one leading slash, and has no result where it is the request itself
 abbrev pub led : Bool → Asked → List ℕ → Option (List ℕ)
 led on_site asked text =
     let address = with_query_of (if on_site then one_slash text else text) asked.query in

@@ -83,7 +83,7 @@ has_fault r SplatWithoutStar = has_texts r.kind && holds splat r.target && not (
 has_fault r BadStatus = not (r.status == 301 || r.status == 302)
 has_fault r UnusedText = not (has_texts r.kind) && not (length r.source == 0 && length r.target == 0)
 
--- the first of its faults, if it has one
+-- the first fault of a redirect, if it has one
 unfoldable pub first_fault : Redirect → Option BadRedirect
 first_fault r = find (has_fault r) (BadSource ∷ EarlyStar ∷ BadTarget ∷ SplatWithoutStar ∷ UnusedText ∷ BadStatus ∷ [])
 
@@ -123,17 +123,17 @@ same_redirect a b =
 abbrev pub old_rest : List ℕ
 old_rest = codes "$rest"
 
--- what stands before it, where From ends so
+-- what stands before `$rest`, where From ends in it
 abbrev pub before_rest : List ℕ → Option (List ℕ)
 before_rest source =
     let front = take (length source - length old_rest) source in
     if bytes_eq source (front ++ old_rest) then Some front else None
 
--- a `*` follows what stands before the rest, and To gets `:splat` at its end
+-- `*` takes the place of `$rest` in From, and To gets `:splat` at its end
 abbrev pub with_rest : Redirect → Option (List ℕ) → Redirect
 with_rest r None = r
 with_rest r (Some front) = record r { source = front ++ codes "*"; target = r.target ++ splat }
 
--- a redirect of an old list as it is written now: one whose From has no rest at its end stays as it was
+-- rewrites a redirect of an old list; one whose From does not end in `$rest` stays as it was
 abbrev pub from_old : Redirect → Redirect
 from_old r = with_rest r (before_rest r.source)

@@ -6,7 +6,7 @@ ghost use Rattle.dh_redirects.specs.Locations.{stem, html_file, clean_file};
 use dh_paths::Text;
 use std::alloc::{AllocError, Global};
 
-/// What stands before the end, where something does.
+/// What stands before the end of a file, where the file has this end and is longer.
 fn stem_of<'a>(file: &'a str, end: &str) -> Option<&'a str>
     ensures { MatchOption result (stem end.now file.now ≡ None)
         (λ front. stem end.now file.now ≡ Some front.now) }

@@ -1,4 +1,4 @@
-//! From against a text, and To with the rest in it.
+//! Compares From with a text, and fills the rest into To.
 
 ghost use Rattle.std.specs.Prelude.{◌≡◌, ◌==◌, ◌<◌, [], ◌∷◌, ◌++◌, drop, IfSome, IfOk, OnOk, Some, None, MatchOption, string_bytes, length, codes};
 ghost use Rattle.std.specs.List.{prefix_len};
@@ -13,7 +13,7 @@ use std::alloc::{AllocError, Global};
 /// The ASCII bytes of To that are escaped.
 const UNSENT: AsciiSet = ascii_set!(CONTROLS.add(b' ').add(b'\\'));
 
-/// The rest that a final `*` of From stands for.
+/// The rest that a final `*` of From stands for; none where From does not fit the text.
 pub fn rest_of<'a>(source: &str, text: &'a str) -> Option<&'a str>
     ensures { MatchOption result (matched source.now text.now ≡ None)
         (λ rest. matched source.now text.now ≡ Some rest.now) }

@@ -20,7 +20,7 @@ fn with_end(alloc: Global, front: &str, end: &str) -> Result<Text, AllocError>
     Ok(Text::wrap(format!(in alloc; "{front}{end}")?))
 }
 
-/// The redirect of an old list as it is written now.
+/// Rewrites a redirect of an old list: `*` takes the place of `$rest`, and To gets `:splat` at its end.
 pub fn from_old(alloc: Global, old: Redirect) -> Result<Redirect, AllocError>
     ensures { IfOk result (λ new. new ≡ spec.from_old old) }
 {

@@ -17,7 +17,7 @@ fn query_of(text: &str) -> Option<&str>
     Some(query)
 }
 
-/// The address without its fragment, and what follows.
+/// The address without its fragment, and the fragment with its `#`.
 fn at_fragment(text: &str) -> (&str, &str)
     ensures address { result.0.now ≡ without_fragment text.now }
     ensures fragment { result.1.now ≡ drop (length (without_fragment text.now)) text.now }
@@ -26,7 +26,7 @@ fn at_fragment(text: &str) -> (&str, &str)
     (address, &text[address.len()..])
 }
 
-/// An address that has no query gets this one, before its fragment.
+/// Adds the query to an address that has none, before the fragment.
 #[tactic(auto, unfolding(crate::specs::Locations::with_query_of))]
 pub fn with_query(alloc: Global, text: &str, query: Option<&str>) -> Result<String, AllocError>
     ensures { IfOk result
@@ -45,7 +45,7 @@ pub fn with_query(alloc: Global, text: &str, query: Option<&str>) -> Result<Stri
     }
 }
 
-/// Whether the address is what was asked.
+/// Whether the address is that of the request itself.
 pub fn leads_back(text: &str, asked: &Asked) -> bool
     ensures { result ≡ is_request text.now asked.now }
 {

@@ -37,7 +37,7 @@ pub struct Redirect {
     pub force: bool,
 }
 
-/// Why a redirect is refused. The first that is true is told, where `UnusedText` comes before `BadStatus`.
+/// Why a redirect is refused. The first fault that holds is told, where `UnusedText` comes before `BadStatus`.
 #[derive(Clone, Copy, Debug, PartialEq, Eq, Error)]
 pub enum BadRedirect {
     #[error("From is no path of at most 512 bytes without control bytes")]
@@ -61,7 +61,7 @@ pub struct Asked {
     pub path: Text,
     /// What stands after the first `?`, as sent.
     pub query: Option<Text>,
-    /// There where the path is `/language/version/file`, the language is one of the project's and the version's name resolves.
+    /// The parts, where the path is `/language/version/file`, the project has the language and the version's name resolves.
     pub parts: Option<Parts>,
 }
 
@@ -132,7 +132,7 @@ impl BadRedirect {
 impl Redirect {
     ghost use Rattle.dh_redirects.specs.Redirects.{first_fault, same_redirect};
 
-    /// The same redirect again.
+    /// A copy of the redirect.
     pub fn try_copy(&self, alloc: Global) -> Result<Redirect, AllocError>
         ensures { IfOk result (λ copy. copy ≡ self.now) }
     {

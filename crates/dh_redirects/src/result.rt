@@ -85,7 +85,7 @@ impl Redirect {
         Ok(Some(Text::wrap(out)))
     }
 
-    /// To filled, or the address of the changed file.
+    /// The address that the redirect writes, if it fits the request: To filled, or the address of the changed file.
     fn written(&self, alloc: Global, asked: &Asked) -> Result<Option<Text>, AllocError>
         ensures value { IfOk result (λ r. r ≡ written_of self.now asked.now) }
         ensures memory { OnErr result (IsTrue (asks_memory self.now asked.now)) }

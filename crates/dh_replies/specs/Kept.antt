@@ -21,7 +21,7 @@ question_of key = record {
   query = option_map string_bytes key.query;
 }
 
--- each reply that is kept is that of the world to its question
+-- each reply that is kept is the world's reply to the question of its key
 abbrev pub AreRepliesRight : World → LruCache Key Reply → Type 0
 AreRepliesRight w kept =
     (e : Key × Reply) → Contains kept.entries e → e.1 ≡ reply_for w (question_of e.0)

@@ -1,4 +1,4 @@
-//! A reply once more.
+//! Copies of replies.
 ghost use Rattle.std.specs.Prelude.{◌≡◌, IfOk};
 
 use dh_paths::{Bytes, Text};

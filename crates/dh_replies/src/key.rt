@@ -6,7 +6,7 @@ use dh_paths::{HostName, Text, Token};
 use dh_wire::Read;
 use std::alloc::{AllocError, Global};
 
-/// Whose project is read, by which class of callers, and what. Two keys are equal where their questions are.
+/// The host, the class of callers, the path and the query of a read. Two keys are equal where their questions are.
 #[derive(PartialEq, Eq, Hash, Drop)]
 pub struct Key {
     host: String,

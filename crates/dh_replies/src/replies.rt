@@ -12,14 +12,14 @@ use lru::LruCache;
 use std::alloc::{AllocError, Global};
 use std::num::NonZeroUsize;
 
-/// So many replies are kept at most.
+/// The most replies that are kept.
 pub const MOST_REPLIES: usize = 256;
 
 /// A reply whose body has more bytes is not kept.
 pub const MOST_BODY: usize = 65_536;
 
-/// The replies to the questions that were asked last. Where there are too many, the one goes that was asked for
-/// longest ago.
+/// The replies to the questions that were asked last. Where there are too many, the reply that was asked for longest
+/// ago is dropped.
 #[derive(Drop)]
 pub struct Replies {
     entries: LruCache<Key, Reply>,
@@ -27,7 +27,7 @@ pub struct Replies {
 }
 
 impl Replies {
-    /// None. Room is taken as replies come.
+    /// Starts with no replies. Memory is taken as replies come.
     pub fn new(alloc: Global) -> Result<Replies, AllocError>
         ensures { IfOk result (λ r. r.entries.entries ≡ []) }
     {
@@ -40,7 +40,7 @@ impl Replies {
         })
     }
 
-    /// How many are kept.
+    /// How many replies are kept.
     pub fn count(&self) -> usize
         ensures value { result ≡ length self.now.entries.entries }
         ensures most { result ≤ MOST_REPLIES }
@@ -48,14 +48,14 @@ impl Replies {
         self.entries.len()
     }
 
-    /// Forgets all.
+    /// Forgets all replies.
     pub fn clear(&mut self)
         ensures { self.new.entries.entries ≡ [] }
     {
         self.entries.clear();
     }
 
-    /// A copy of the reply that is kept under a key. There is none either where memory is out for the copy.
+    /// A copy of the reply that is kept under a key; none where no reply is kept, or where memory is out for the copy.
     pub fn find(&mut self, alloc: Global, key: &Key) -> Option<Reply>
         ensures { (w : World) → AreRepliesRight w self.old.entries
             → AreRepliesRight w self.new.entries

@@ -52,7 +52,7 @@ known_lang langs lang = find (λ l. bytes_eq l lang) langs
 abbrev pub slug_named : List ℕ → Option (List ℕ)
 slug_named name = if is_slug name then Some name else None
 
--- the three together, where each is there
+-- the good address of a name, a language and a version, where all three are there
 abbrev pub good_of : Option (List ℕ) → Option (List ℕ) → Option Named → Option GoodAddress
 good_of (Some name) (Some lang) (Some named) =
     Some (record { lang = lang; name = name; slug = named.slug })
@@ -82,14 +82,14 @@ first_of (Some r ∷ cases) = Some r
 
 -- ---- something is served
 
--- to the file in the default version and the main language, where there is a default
+-- redirects to the file in the default version and the main language, where there is a default
 unfoldable pub home_to : SeenProject → List ℕ → Option (List ℕ) → Option Reply
 home_to p file query =
     option_and_then
     (λ lang. option_map (λ name. redirect (address lang name file) query) p.default)
     (main_lang p)
 
--- the same address with `/` at its end
+-- redirects to the same path with `/` at its end
 abbrev pub slash_added : List ℕ → Option (List ℕ) → Reply
 slash_added path query = redirect (escaped path ++ 47 ∷ []) query
 
@@ -101,14 +101,14 @@ page_found p at file = page_at p at.lang at.slug (indexed file)
 abbrev pub folder_found : SeenProject → GoodAddress → List ℕ → Option FoundPage
 folder_found p at file = page_at p at.lang at.slug (file ++ codes "/index.html")
 
--- a file of a good address: its page is there, or the slash at its end is missing
+-- a file of a good address: its page, or where the slash at its end is missing, a redirect that adds it
 abbrev pub file_served
     : SeenProject → GoodAddress → List ℕ → List ℕ → Option (List ℕ) → Option Reply
 file_served p at file path query =
     first_of (option_map (page_reply 200) (page_found p at file)
     ∷ option_map (λ _. slash_added path query) (folder_found p at file) ∷ [])
 
--- what a place serves: `/` and `/page/file` lead home, a good address with no file lacks its slash
+-- what a place serves: `/` and `/page/file` redirect to the default version, a good address with no file gets a slash
 abbrev pub served
     : SeenProject → Place → Option GoodAddress → List ℕ → Option (List ℕ) → Option Reply
 served p Root _ path query = home_to p [] query
@@ -119,7 +119,7 @@ served p _ _ path query = None
 
 -- ---- a redirect leads elsewhere
 
--- what redirects are asked: a file's parts are there where its address is good
+-- the parts of a file's address, where the address is good
 abbrev pub parts_at : Place → Option GoodAddress → Option Parts
 parts_at (File lang name file) (Some at) =
     Some (record { lang = at.lang; name = at.name; file = file })
@@ -137,11 +137,11 @@ leads_to location = record {
   body = [];
 }
 
--- by a redirect with force, whether or not something is served
+-- the reply of a redirect with force, whether or not something is served
 abbrev pub forced_away : SeenProject → Asked → Option Reply
 forced_away p asked = option_map leads_to (forced_result p asked)
 
--- by any redirect, where nothing is served
+-- the reply of any redirect, where nothing is served
 abbrev pub led_away : SeenProject → Asked → Option Reply
 led_away p asked = option_map leads_to (not_found_result p asked)
 
@@ -151,7 +151,7 @@ led_away p asked = option_map leads_to (not_found_result p asked)
 abbrev pub not_found : SeenProject → List ℕ → List ℕ → Option Reply
 not_found p lang slug = option_map (page_reply 404) (page_at p lang slug (codes "404.html"))
 
--- the same of the requested version and language
+-- 404 with `404.html` of the requested version and language
 abbrev pub own_not_found : SeenProject → Option GoodAddress → Option Reply
 own_not_found p own = option_and_then (λ (at : GoodAddress). not_found p at.lang at.slug) own
 
@@ -159,21 +159,21 @@ own_not_found p own = option_and_then (λ (at : GoodAddress). not_found p at.lan
 abbrev pub default_version : SeenProject → Option Named
 default_version p = option_and_then (resolved p) p.default
 
--- the same of the default version in the main language
+-- 404 with `404.html` of the default version in the main language
 unfoldable pub default_not_found : SeenProject → Option Reply
 default_not_found p =
     option_and_then
     (λ (named : Named). option_and_then (λ lang. not_found p lang named.slug) (main_lang p))
     (default_version p)
 
--- the first of the two, and else 404 with the host's text
+-- 404 with `404.html` of the requested version, else of the default version, else with the host's text
 abbrev pub nothing_served : SeenProject → Option GoodAddress → Reply
 nothing_served p own =
     unwrap_or (first_of (own_not_found p own ∷ default_not_found p ∷ [])) host_not_found
 
 -- ---- the reply
 
--- a redirect with force, else what is served, else any redirect
+-- the reply of a redirect with force, else what is served, else the reply of any redirect
 abbrev pub found
     : SeenProject → Place → Option GoodAddress → Asked → List ℕ → Option (List ℕ) → Option Reply
 found p place own asked path query =
@@ -186,7 +186,7 @@ reply_at p place own path query =
 abbrev pub place_reply : SeenProject → Place → List ℕ → Option (List ℕ) → Reply
 place_reply p place path query = reply_at p place (good_at p place) path query
 
--- at `/robots.txt` and below `/_/` neither redirects nor pages count
+-- the reply of a project; at `/robots.txt` and below `/_/` neither redirects nor pages count
 abbrev pub project_reply : SeenProject → Place → List ℕ → Option (List ℕ) → Reply
 project_reply p Robots path query = robots p
 project_reply p (System name) path query = system p name

@@ -28,12 +28,12 @@ disallowed langs versions =
     (λ (v : Version). map (disallow v.slug) langs)
     (filter (λ (v : Version). v.hidden) versions)
 
--- these lines, and where there are none the one that leaves out nothing
+-- these lines, or where there are none the line that leaves out nothing
 abbrev pub or_nothing : List (List ℕ) → List (List ℕ)
 or_nothing [] = codes "Disallow:" ∷ []
 or_nothing (line ∷ lines) = line ∷ lines
 
--- each line and LF
+-- the lines, each with LF at its end
 abbrev pub lines_text : List (List ℕ) → List ℕ
 lines_text lines = flat_map (λ line. line ++ 10 ∷ []) lines
 
@@ -77,7 +77,7 @@ abbrev pub listed_data : List Version → Data
 listed_data versions =
     array (items_of (map version_data (filter (λ (v : Version). not v.hidden) versions)))
 
--- an object with its keys in the order of their bytes
+-- aliases, default, languages and listed versions as a JSON object, its keys in the order of their bytes
 unfoldable pub versions_data
     : List (List ℕ) → Option (List ℕ) → List (List ℕ) → List Version → Data
 versions_data aliases name langs versions = object
@@ -86,7 +86,7 @@ versions_data aliases name langs versions = object
     (member (codes "languages") (texts_data langs)
     (member (codes "versions") (listed_data versions) no_members))))
 
--- its text, with no spaces
+-- the reply with the text of that JSON object, with no spaces
 unfoldable pub versions_reply
     : List (List ℕ) → Option (List ℕ) → List (List ℕ) → List Version → Reply
 versions_reply aliases name langs versions =

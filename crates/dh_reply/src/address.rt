@@ -15,7 +15,7 @@ pub struct GoodAddress {
     pub lang: Lang,
     /// The name as requested: the version's slug, or an alias.
     pub name: Slug,
-    /// The version's own.
+    /// The version's own slug.
     pub slug: Slug,
 }
 

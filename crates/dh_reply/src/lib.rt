@@ -1,4 +1,4 @@
-//! The reply to a read, over any lookup; what a reply and its bytes are, and the ports that bytes come from and go to, it hands on.
+//! Makes the reply to a read, over any lookup; re-exports lookups, replies, their bytes, and the ports for bytes.
 #![tactic(auto)]
 
 mod address;

@@ -123,7 +123,7 @@ fn versions_text(
     versions_value(alloc, aliases, default, langs, versions)?.to_string(alloc)
 }
 
-/// The reply at `/_/versions`: these aliases, the default, the languages, and of the versions those
+/// The reply at `/_/versions`: these aliases, the default, the languages, and the versions
 /// that are not hidden, as JSON.
 #[tactic(auto, unfolding(crate::specs::System::versions_reply))]
 pub fn versions_reply(

@@ -61,7 +61,7 @@ fn make_address(alloc: Global, lang: &str, name: &str, file: &str) -> Result<Str
     Ok(to)
 }
 
-/// To the file in the language and version.
+/// Redirects to the file in the language and version.
 pub fn make_home(
     alloc: Global,
     lang: &str,
@@ -74,7 +74,7 @@ pub fn make_home(
     make_redirect(alloc, make_address(alloc, lang, name, file)?, query)
 }
 
-/// To the same path with a slash at its end.
+/// Redirects to the same path with a slash at its end.
 pub fn make_slashed(alloc: Global, path: &str, query: &Option<Text>) -> Result<Reply, AllocError>
     ensures { IfOk result (λ r. r ≡ slash_added path.now query.now) }
 {

@@ -1,4 +1,4 @@
-//! What redirects are asked, and the reply that leads to where one leads.
+//! What a read asks of redirects, and the reply of a redirect.
 
 ghost use Rattle.std.specs.Prelude.{◌≡◌, IfOk};
 ghost use Rattle.dh_paths.specs.Places.{place};
@@ -10,7 +10,7 @@ use dh_redirects::{Asked, Location, Parts};
 use dh_wire::{Read, Reply};
 use std::alloc::{AllocError, Global};
 
-/// The parts of a good address of a file.
+/// The parts of a file's address, where the address is good.
 fn parts_of(
     alloc: Global,
     asked: &Split,

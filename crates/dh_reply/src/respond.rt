@@ -14,7 +14,7 @@ use dh_redirects::Asked;
 use dh_wire::{Read, Reply, fault_reply};
 use std::alloc::Global;
 
-/// To the file in the default version, where there is a default.
+/// Redirects to the file in the default version, where there is a default.
 #[tactic(auto, unfolding(crate::specs::Replies::home_to))]
 fn home<L: Lookup>(alloc: Global, lookup: &mut L, file: &str, query: &Option<Text>) -> Found<Reply>
     ensures asks { IsLook L.meaning lookup.old lookup.new result }
@@ -35,7 +35,7 @@ fn home<L: Lookup>(alloc: Global, lookup: &mut L, file: &str, query: &Option<Tex
     }
 }
 
-/// The good address with that language and name, if it is one.
+/// The address with that language and name, if it is good.
 #[tactic(auto, unfolding(crate::specs::Replies::good))]
 fn find_good<L: Lookup>(alloc: Global, lookup: &mut L, lang: &str, name: &str) -> Found<GoodAddress>
     ensures asks { IsLook L.meaning lookup.old lookup.new result }
@@ -83,7 +83,7 @@ fn in_folder<L: Lookup>(alloc: Global, lookup: &mut L, at: &GoodAddress, file: &
     lookup.page(alloc, &at.lang, &at.slug, file.as_str())
 }
 
-/// A file of a version: its page, or the way to its folder.
+/// Serves a file of a version: its page, or a redirect to its folder.
 fn file_served<L: Lookup>(
     alloc: Global,
     lookup: &mut L,
@@ -104,7 +104,7 @@ fn file_served<L: Lookup>(
     }
 }
 
-/// What is served at a place: a page, or the way to one.
+/// What is served at a place: a page, or a redirect to one.
 fn served<L: Lookup>(
     alloc: Global,
     lookup: &mut L,
@@ -127,7 +127,7 @@ fn served<L: Lookup>(
     }
 }
 
-/// 404 with the page of a version in a language, where it has one.
+/// 404 with the page `404.html` of a version in a language, where there is one.
 fn not_found<L: Lookup>(alloc: Global, lookup: &mut L, lang: &Lang, slug: &Slug) -> Found<Reply>
     ensures asks { IsLook L.meaning lookup.old lookup.new result }
     ensures value { AnswersMaybe L.meaning lookup.old lookup.new result
@@ -137,7 +137,7 @@ fn not_found<L: Lookup>(alloc: Global, lookup: &mut L, lang: &Lang, slug: &Slug)
     Ok(page.map(|page| make_page_reply(404, page)))
 }
 
-/// The same of the requested version and language.
+/// 404 with the page `404.html` of the requested version and language, where there is one.
 fn own_not_found<L: Lookup>(
     alloc: Global,
     lookup: &mut L,
@@ -164,7 +164,7 @@ fn default_version<L: Lookup>(alloc: Global, lookup: &mut L) -> Found<Named>
     }
 }
 
-/// The same of the default version in the main language.
+/// 404 with the page `404.html` of the default version in the main language, where there is one.
 #[tactic(auto, unfolding(crate::specs::Replies::default_not_found))]
 fn default_not_found<L: Lookup>(alloc: Global, lookup: &mut L) -> Found<Reply>
     ensures asks { IsLook L.meaning lookup.old lookup.new result }
@@ -199,7 +199,7 @@ fn nothing_served<L: Lookup>(
     }
 }
 
-/// Where a redirect with force leads.
+/// The reply of the first redirect with force that has a result.
 fn forced_away<L: Lookup>(alloc: Global, lookup: &mut L, asked: &Asked) -> Found<Reply>
     ensures asks { IsLook L.meaning lookup.old lookup.new result }
     ensures value { AnswersMaybe L.meaning lookup.old lookup.new result
@@ -209,7 +209,7 @@ fn forced_away<L: Lookup>(alloc: Global, lookup: &mut L, asked: &Asked) -> Found
     Ok(location.map(|location| make_led(alloc, location)))
 }
 
-/// Where any redirect leads.
+/// The reply of the first redirect that has a result, with force or without.
 fn led_away<L: Lookup>(alloc: Global, lookup: &mut L, asked: &Asked) -> Found<Reply>
     ensures asks { IsLook L.meaning lookup.old lookup.new result }
     ensures value { AnswersMaybe L.meaning lookup.old lookup.new result
@@ -219,7 +219,7 @@ fn led_away<L: Lookup>(alloc: Global, lookup: &mut L, asked: &Asked) -> Found<Re
     Ok(location.map(|location| make_led(alloc, location)))
 }
 
-/// A redirect with force, else what is served, else any redirect.
+/// The reply of a redirect with force, else what is served, else the reply of any redirect.
 fn found<L: Lookup>(
     alloc: Global,
     lookup: &mut L,
@@ -260,7 +260,7 @@ fn reply_at<L: Lookup>(
     }
 }
 
-/// The first case that holds at a place.
+/// The reply at a place, by the first case that holds.
 fn place_reply<L: Lookup>(
     alloc: Global,
     lookup: &mut L,
@@ -293,7 +293,7 @@ fn project_reply<L: Lookup>(
     }
 }
 
-/// The reply to a read of what the lookup contains.
+/// The reply to a read, from what the lookup shows; 404 where there is no project.
 pub fn reply<L: Lookup>(alloc: Global, lookup: &mut L, read: &Read) -> Result<Reply, Fault>
     ensures asks { IsLook L.meaning lookup.old lookup.new result }
     ensures value { AnswersFor L.meaning lookup.old lookup.new result

@@ -9,7 +9,7 @@ use dh_paths::{Lang, Slug};
 use dh_versions::Version;
 use std::alloc::{AllocError, Global};
 
-/// A line that leaves out a version in a language.
+/// Writes the line that leaves out a version in a language.
 fn put_line(out: &mut String, slug: &str, lang: &str) -> Result<(), AllocError>
     ensures { OnOk result (string_bytes out.new
         ≡ string_bytes out.old ++ (disallow slug.now lang.now ++ 10 ∷ [])) }
@@ -18,7 +18,7 @@ fn put_line(out: &mut String, slug: &str, lang: &str) -> Result<(), AllocError>
     Ok(())
 }
 
-/// The lines for a version, one for each language.
+/// Writes the lines for a version, one for each language.
 fn put_version(out: &mut String, langs: &[Lang], slug: &Slug) -> Result<(), AllocError>
     ensures { OnOk result (string_bytes out.new
         ≡ string_bytes out.old ++ lines_text (map (disallow slug.now) langs.now)) }
@@ -43,7 +43,7 @@ fn hidden_lines(alloc: Global, langs: &[Lang], versions: &[Version]) -> Result<S
     Ok(out)
 }
 
-/// The text of some lines, and where there are none that of the line which leaves out nothing.
+/// The text, or where it is empty the line that leaves out nothing.
 fn text_or_nothing(text: &str) -> &str
     ensures { (lines : List (List ℕ)) → text.now ≡ lines_text lines
         → result.now ≡ lines_text (or_nothing lines) }

@@ -25,7 +25,7 @@ fn listed<L: Lookup>(alloc: Global, lookup: &mut L) -> Result<(Vec<Lang>, Vec<Ve
     Ok((langs, versions))
 }
 
-/// `/robots.txt`.
+/// The reply at `/robots.txt`.
 pub fn robots<L: Lookup>(alloc: Global, lookup: &mut L) -> Result<Reply, Fault>
     ensures asks { IsLook L.meaning lookup.old lookup.new result }
     ensures value { AnswersForProject L.meaning lookup.old lookup.new result spec.robots }
@@ -47,7 +47,7 @@ fn stands_for_alias<L: Lookup>(alloc: Global, lookup: &mut L, name: &str) -> Res
     }
 }
 
-/// Those of `latest` and `stable` that stand for an alias.
+/// Which of `latest` and `stable` stand for an alias.
 fn aliases<L: Lookup>(alloc: Global, lookup: &mut L) -> Result<Vec<Text>, Fault>
     ensures asks { IsLook L.meaning lookup.old lookup.new result }
     ensures value { AnswersAll L.meaning lookup.old lookup.new result spec.aliases }
@@ -57,7 +57,7 @@ fn aliases<L: Lookup>(alloc: Global, lookup: &mut L) -> Result<Vec<Text>, Fault>
     Ok(names_where(alloc, latest, stable)?)
 }
 
-/// `/_/versions`.
+/// The reply at `/_/versions`.
 fn versions<L: Lookup>(alloc: Global, lookup: &mut L) -> Result<Reply, Fault>
     ensures asks { IsLook L.meaning lookup.old lookup.new result }
     ensures value { AnswersForProject L.meaning lookup.old lookup.new result spec.versions }
@@ -68,7 +68,7 @@ fn versions<L: Lookup>(alloc: Global, lookup: &mut L) -> Result<Reply, Fault>
     Ok(versions_reply(alloc, &aliases, &default, &langs, &versions)?)
 }
 
-/// `/_/name`: there is nothing but `versions`.
+/// The reply at `/_/name`: 404 for any name but `versions`.
 pub fn system<L: Lookup>(alloc: Global, lookup: &mut L, name: &str) -> Result<Reply, Fault>
     ensures asks { IsLook L.meaning lookup.old lookup.new result }
     ensures value { AnswersForProject L.meaning lookup.old lookup.new result

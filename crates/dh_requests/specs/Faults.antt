@@ -1,16 +1,16 @@
--- What is answered of a head, or of a part of it.
+-- The faults of a head, and what looking for a part of a head answers.
 use Rattle.std.specs.Prelude.{◌≡◌, Option, Some, None, Result, Ok, Err, ⊤}
 use Rattle.dh_texts.specs.declared.fault.TextFault.{TextFault}
 use Rattle.dh_texts.specs.declared.fault.TextFault.TheVariants as text
 use Rattle.dh_requests.specs.declared.fault.HeadFault.{HeadFault}
 use Rattle.dh_requests.specs.declared.fault.HeadFault.TheVariants.{BadText, NoLine, TwoLines, Memory}
 
--- the fault of a head by that of a text in it
+-- the fault of a head for the fault of a text in it
 abbrev pub fault_of : TextFault → HeadFault
 fault_of text.Memory = Memory
 fault_of _ = BadText
 
--- the definition's value is found; a fault but out of memory comes only where it has none
+-- the defined value is found; a fault other than out of memory comes only where no value is defined
 abbrev pub FindsInHead : {A : Type 0} → Option A → Result A HeadFault → Type 0
 FindsInHead spec (Ok value) = spec ≡ Some value
 FindsInHead spec (Err BadText) = spec ≡ None

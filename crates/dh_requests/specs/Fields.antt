@@ -8,7 +8,7 @@ use Rattle.dh_requests.specs.declared.fields.Lines.TheVariants.{Absent, One, Man
 abbrev pub NameAndValue : Type 0
 NameAndValue = List ℕ × List ℕ
 
--- the field has this name, in any case
+-- the field has this name, ignoring case
 abbrev pub is_named : List ℕ → NameAndValue → Bool
 is_named name field = str_eq_ignore_ascii_case field.0 name
 
@@ -16,19 +16,19 @@ is_named name field = str_eq_ignore_ascii_case field.0 name
 abbrev pub values_named : List ℕ → List NameAndValue → List (List ℕ)
 values_named name fields = map (λ field. field.1) (filter (is_named name) fields)
 
--- the value, or none where there is none; nothing where there are two or more
+-- the value of a line that may stand once, if it stands; undefined where there are two or more
 abbrev pub at_most_one : List (List ℕ) → Option (Option (List ℕ))
 at_most_one [] = Some None
 at_most_one (value ∷ []) = Some (Some value)
 at_most_one (value ∷ other ∷ values) = None
 
--- the same of the lines that were found
+-- the value of the lines that were found, if one was; undefined where many were
 abbrev pub one_of : Lines → Option (Option (List ℕ))
 one_of Absent = Some None
 one_of (One value) = Some (Some value.now)
 one_of Many = None
 
--- with one more value behind
+-- the value after one more line was found
 abbrev pub one_more : Option (Option (List ℕ)) → List ℕ → Option (Option (List ℕ))
 one_more (Some None) value = Some (Some value)
 one_more (Some (Some other)) value = None

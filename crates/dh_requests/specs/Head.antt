@@ -6,22 +6,22 @@ use Rattle.dh_requests.specs.declared.head.Head.{Head}
 use Rattle.dh_requests.specs.HeadEnd.{lines_of, head_size}
 use Rattle.dh_requests.specs.Fields.{values_named, at_most_one, one_of}
 
--- the text is that head of the grammar, or none
+-- the text is this head of the grammar, or no head of the grammar
 abbrev pub IsHeadOf : List ℕ → Option RequestHead → Type 0
 IsHeadOf text (Some head) = ReadsRequest text head []
 IsHeadOf text None = (head : RequestHead) → ¬ (ReadsRequest text head [])
 
--- the value of the one line of the name, none where there is no line, nothing where there are several
+-- the value of the one line of the name, none where there is no line, undefined where there are several
 abbrev pub line_named : List ℕ → RequestHead → Option (Option (List ℕ))
 line_named name head = at_most_one (values_named name (map name_and_value head.fields))
 
--- every head that the text begins with has more fields than that
+-- every head that the text begins with has more than `most` fields
 abbrev pub HasMoreFields : List ℕ → ℕ → Type 0
 HasMoreFields text most =
     (head : RequestHead) (rest : List ℕ) → ReadsRequest text head rest → most < length head.fields
 
--- what counts of a head: its method, its target, and of each line that may stand once the value: none where it does not stand,
--- and nothing where it stands twice
+-- what counts of a head: its method, its target, and the value of each line that may stand once: none where the line is
+-- missing, and undefined where it stands twice
 pub record Parts : Type 0 where
   pub method : List ℕ
   pub target : List ℕ
@@ -31,7 +31,7 @@ pub record Parts : Type 0 where
   pub length : Option (Option (List ℕ))
   pub coding : Option (Option (List ℕ))
 
--- of a head of the grammar
+-- the parts of a head of the grammar
 abbrev pub parts_of : RequestHead → Parts
 parts_of head = record {
   method = head.method;
@@ -43,7 +43,7 @@ parts_of head = record {
   coding = line_named (codes "Transfer-Encoding") head;
 }
 
--- of a head as it was found in a text
+-- the parts of a head as it was found in a text
 abbrev pub parts_found : Head → Parts
 parts_found found = record {
   method = found.method.now;
@@ -55,14 +55,14 @@ parts_found found = record {
   coding = one_of found.coding;
 }
 
--- what was found is a head that the text is, or the text is none
+-- the text is the head that was found, or where none was found, no head of the grammar
 abbrev pub IsReadAs : List ℕ → Option Head → Type 0
 IsReadAs text None = IsHeadOf text None
 IsReadAs text (Some found) =
     (head : RequestHead) × IsHeadOf text (Some head) × (parts_found found ≡ parts_of head)
 
--- whatever follows a head of the grammar, by its lines the head ends where its text does, with a line a field beside the
--- request line
+-- whatever follows a head of the grammar, its lines end the head where its text ends, with one line for the request and one
+-- for each field
 abbrev pub HeadEndsByLines : Type 0
 HeadEndsByLines =
     (head : RequestHead) (rest : List ℕ) → IsRequestHead head

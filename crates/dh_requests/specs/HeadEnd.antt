@@ -4,7 +4,7 @@ use Rattle.std.specs.Option.{option_map}
 use Rattle.dh_requests.specs.declared.head_end.HeadEnd.{HeadEnd}
 use Rattle.dh_requests.specs.declared.head_end.HeadEnd.TheVariants.{At, TooLarge, CutShort}
 
--- the byte in front of the first line, where there is one
+-- puts the byte in front of the first line, where there is a line
 abbrev pub onto_first : ℕ → List (List ℕ) → List (List ℕ)
 onto_first b [] = []
 onto_first b (line ∷ lines) = (b ∷ line) ∷ lines
@@ -25,26 +25,26 @@ pub record HeadSize : Type 0 where
   pub bytes : ℕ
   pub lines : ℕ
 
--- the same with a line in front, which counts or does not
+-- the size with one more line in front, which counts as a line or not
 abbrev pub with_line : List ℕ → ℕ → HeadSize → HeadSize
 with_line line count size =
     record { bytes = length line + 1 + size.bytes; lines = count + size.lines }
 
--- up to and with the first empty line
+-- the size up to and with the first empty line
 abbrev pub size_to_empty : List (List ℕ) → Option HeadSize
 size_to_empty [] = None
 size_to_empty (line ∷ lines) =
     if is_empty_line line then Some (record { bytes = length line + 1; lines = 0 })
     else option_map (with_line line 1) (size_to_empty lines)
 
--- the same, where empty lines in front are skipped
+-- the size up to and with the first empty line behind a line that is not empty
 abbrev pub head_size : List (List ℕ) → Option HeadSize
 head_size [] = None
 head_size (line ∷ lines) =
     if is_empty_line line then option_map (with_line line 0) (head_size lines)
     else size_to_empty (line ∷ lines)
 
--- a head of at most 65 lines, the request line and 64 more, ends there; without an end, 16,384 bytes are too many
+-- a head of at most 65 lines, the request line and 64 more, ends there; a head without an end is too large at 16,384 bytes
 abbrev pub head_end_in : Option HeadSize → ℕ → HeadEnd
 head_end_in (Some size) len = if nat_le size.lines 65 then At size.bytes else TooLarge
 head_end_in None len = if nat_le 16384 len then TooLarge else CutShort
@@ -66,8 +66,8 @@ EndsHead (At n) bytes = (n ≤ length bytes) × IsHeadText (take n bytes)
 EndsHead TooLarge bytes = Unit {0}
 EndsHead CutShort bytes = Unit {0}
 
--- the most reads that were made up to such an end, of which so many brought bytes: where a head
--- ends, each did
+-- the most reads that were made up to this end of a head, of which `reads` brought bytes: where the head
+-- ends, each read did
 abbrev pub most_spent : HeadEnd → ℕ → ℕ
 most_spent (At n) reads = reads
 most_spent TooLarge reads = 100000

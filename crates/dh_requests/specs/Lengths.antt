@@ -11,7 +11,7 @@ abbrev pub is_number : List ℕ → Bool
 is_number [] = false
 is_number (b ∷ text) = is_digit b && list_all is_digit text
 
--- no body has more than 4,194,304 bytes
+-- the number, if a body may have this many bytes: at most 4,194,304
 abbrev pub limited : ℕ → Result ℕ LengthFault
 limited number = if nat_le number 4194304 then Ok number else Err TooLarge
 
@@ -20,7 +20,7 @@ abbrev pub told_length : List ℕ → Result ℕ LengthFault
 told_length value = if is_number value then limited (digits_value 10 value) else Err Wrong
 
 -- the length by the lines of Transfer-Encoding and of Content-Length: a body in a transfer coding
--- tells none, and two lines tell none that counts
+-- is refused, and so are two lines
 abbrev pub body_length :
     Option (Option (List ℕ)) → Option (Option (List ℕ)) → Result ℕ LengthFault
 body_length (Some None) (Some (Some value)) = told_length value
@@ -29,7 +29,7 @@ body_length (Some None) None = Err Wrong
 body_length (Some (Some coding)) lines = Err Untold
 body_length None lines = Err Untold
 
--- the status of a request whose body has no length that counts (RFC 9110, section 15.5)
+-- the status of a request that is refused for the length of its body (RFC 9110, section 15.5)
 abbrev pub length_status : LengthFault → ℕ
 length_status Untold = 411
 length_status Wrong = 400

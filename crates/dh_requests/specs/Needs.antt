@@ -16,16 +16,16 @@ pub record OpenBody (bytes : List ℕ) : Type 0 where
   pub asks : HeadAsksFor (take size bytes) (Command posted)
   pub short : length bytes < size + posted.length
 
--- an input that begins with these bytes needs more of them: its head is open, or its body is
+-- an input that begins with these bytes needs more bytes: its head is not whole, or its body is not
 abbrev pub NeedsMore : List ℕ → Type 0
 NeedsMore bytes = OpenHead bytes ⊎ OpenBody bytes
 
--- what was taken is a part that needs more, and behind it so many bytes at most: no more was asked
--- for once a request was whole
+-- the bytes that were taken are a part that needs more, and then at most this many: no read was made
+-- once a request was whole
 abbrev pub IsNeeded : Option (List ℕ) → Option (List ℕ) → ℕ → Type 0
 IsNeeded = TookWhile NeedsMore
 
--- what was needed while these bytes were taken is needed still
+-- if it was needed to take these bytes, it was needed to take those behind them too
 abbrev pub StaysNeeded : List ℕ → Option (List ℕ) → Option (List ℕ) → ℕ → Type 0
 StaysNeeded bytes now new most =
     (old : Option (List ℕ)) → Consumes old now bytes → IsNeeded old now 4096 → IsNeeded old new most

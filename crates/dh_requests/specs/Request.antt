@@ -1,4 +1,4 @@
--- What request some bytes are.
+-- Which request the bytes of an input are.
 use Rattle.std.specs.Prelude.{◌≡◌, ℕ, Bool, false, ◌||◌, List, [], length, take, drop, Option, Some, None, Result, Ok, Err, unwrap_or, if◌then◌else◌, codes, nat_le}
 use Rattle.std.specs.Option.{option_map, option_map_or, option_and_then}
 use Rattle.std.specs.Str.{bytes_eq, is_utf8}
@@ -26,8 +26,8 @@ use Rattle.dh_requests.specs.Lengths.{body_length, length_status}
 abbrev pub is_head : List ℕ → Bool
 is_head method = bytes_eq method (codes "HEAD")
 
--- the host of a request: that of its target, else that of the one Host line, which there must be
--- in any case (RFC 9112, section 3.2)
+-- the host of a request: that of its target, else that of the Host line; there has to be exactly one Host
+-- line, whichever is used (RFC 9112, section 3.2)
 abbrev pub requested_host :
     Option (List ℕ) → Option (Option (List ℕ)) → Option (Option (List ℕ))
 requested_host named (Some (Some value)) = host_of (unwrap_or named value)
@@ -43,18 +43,18 @@ post_at path =
     else if bytes_eq path (codes "/_/upload") then Some Upload
     else None
 
--- by another method than is allowed
+-- the refusal of a method that is not allowed
 abbrev pub not_allowed : Allow → List ℕ → Request
 not_allowed allowed method = Refused 405 (Some allowed) (is_head method)
 
--- GET and HEAD read
+-- GET and HEAD read; any other method is refused
 abbrev pub read_by : List ℕ → Target → Option (List ℕ) → Option (List ℕ) → Request
 read_by method target host pass =
     if bytes_eq method (codes "GET") || is_head method
     then Read host pass (record { path = target.path; query = target.query }) (is_head method)
     else not_allowed allow.Get method
 
--- bytes that are UTF-8, else the empty text
+-- the bytes as a text, or the empty text where they are not UTF-8
 abbrev pub text_of : List ℕ → List ℕ
 text_of bytes = if is_utf8 bytes then bytes else []
 
@@ -62,7 +62,7 @@ text_of bytes = if is_utf8 bytes then bytes else []
 abbrev pub key_text : Option (List ℕ) → List ℕ
 key_text key = option_map_or text_of key []
 
--- a command whose body is that long, or the refusal of its length; a host that no project can have
+-- a command whose body has this length, or the refusal of its length; a host that no project can have
 -- is the empty text
 abbrev pub posted :
     Post → Option (List ℕ) → Option (List ℕ) → Result ℕ LengthFault → Asked
@@ -75,7 +75,7 @@ posted post host key (Ok count) =
     })
 posted post host key (Err fault) = Whole (Refused (length_status fault) None false)
 
--- POST is a command
+-- POST is a command; any other method is refused
 abbrev pub post_by : Post → Parts → Option (List ℕ) → Option (List ℕ) → Asked
 post_by post parts host key =
     if bytes_eq parts.method (codes "POST")
@@ -91,8 +91,8 @@ asked_at parts target host pass key =
     option_map_or (λ post. post_by post parts host key) (post_at target.path)
     (Whole (read_by parts.method target host pass))
 
--- what a head asks for whose target is one, whose host is one, and which has no more than one line
--- for the pass and for the key
+-- what a head asks for, where its target and its host are right, and it has no more than one line for the
+-- pass and one for the key
 abbrev pub asked_where_right : Parts → Option Asked
 asked_where_right parts =
     option_and_then (λ target.
@@ -101,25 +101,25 @@ asked_where_right parts =
     option_map (λ key. asked_at parts target host pass key) parts.key) parts.pass)
     (requested_host target.host parts.host)) (target_of parts.target)
 
--- any other is a bad request
+-- what a head asks for; a head in which something is wrong is a bad request
 abbrev pub asked_by : Parts → Asked
 asked_by parts = unwrap_or (asked_where_right parts) (Whole (Refused 400 None (is_head parts.method)))
 
--- what a head of the grammar asks for; what is none is a bad request
+-- what a head of the grammar asks for; a text that is no such head is a bad request
 abbrev pub asked_of : Option RequestHead → Asked
 asked_of None = Whole (Refused 400 None false)
 asked_of (Some head) = asked_by (parts_of head)
 
 -- ---- the body
 
--- the command of a body; a body that is not of the form is a bad request
+-- the command that a body asks for; a body that is not of the form is a bad request
 unfoldable pub command_of : Posted → List ℕ → Request
 command_of posted body =
     option_map_or (λ change. Apply (record { host = posted.host; change = change }))
     (change_of posted.post posted.key body) (Refused 400 None false)
 
--- the request of a head, by what follows it: a command has its body there, and what follows that
--- counts for nothing; a body that is cut short is a bad request
+-- the request of a head and of what follows it: a command has its body there, and bytes behind the body
+-- do not count; a body that is cut short is a bad request
 abbrev pub request_behind : Asked → List ℕ → Request
 request_behind (Whole request) rest = request
 request_behind (Command posted) rest =
@@ -128,7 +128,7 @@ request_behind (Command posted) rest =
 
 -- ---- the input
 
--- a text that is a head by its lines asks for that
+-- the text, which is a head by its lines, asks for this
 abbrev pub HeadAsksFor : List ℕ → Asked → Type 0
 HeadAsksFor text asked = (head : Option RequestHead) × IsHeadOf text head × (asked ≡ asked_of head)
 
@@ -139,7 +139,7 @@ IsRequestText text rest request =
     × IsHeadOf text head
     × (request ≡ request_behind (asked_of head) rest)
 
--- the request of an input whose head ends there
+-- the request of an input, by where its head ends
 abbrev pub IsRequestUpTo : HeadEnd → List ℕ → Request → Type 0
 IsRequestUpTo (At n) input request = IsRequestText (take n input) (drop n input) request
 IsRequestUpTo TooLarge input request = request ≡ Refused 431 None false

@@ -18,38 +18,38 @@ ends_empty Start = true
 ends_empty Return = true
 ends_empty Inside = false
 
--- behind the LF of a line, unless the head ends there
+-- the search behind the LF of a line, unless the head ends there
 abbrev pub after_line : Scan → Option Scan
 after_line scan =
     if ends_empty scan.place
     then (if scan.lines == 0 then Some (record { lines = 0; place = Start }) else None)
     else Some (record { lines = scan.lines + 1; place = Start })
 
--- behind a byte, unless the head ends there
+-- the search behind a byte, unless the head ends there
 abbrev pub after_byte : Scan → ℕ → Option Scan
 after_byte scan b =
     if b == 10 then after_line scan
     else Some (record { lines = scan.lines; place = place_after scan.place b })
 
--- with so many bytes in front
+-- the size with this many more bytes in front
 abbrev pub behind : ℕ → HeadSize → HeadSize
 behind n size = record { bytes = size.bytes + n; lines = size.lines }
 
--- the byte ends the head, or is one in front of what the rest says
+-- the byte ends the head, or is one more in front of the size that the rest gives
 abbrev pub ended_or : Option Scan → ℕ → (Scan → Option HeadSize) → Option HeadSize
 ended_or None lines rest = Some (record { bytes = 1; lines = lines })
 ended_or (Some scan) lines rest = option_map (behind 1) (rest scan)
 
--- how many bytes it is from here to the end of the head, and how many lines it then has
+-- how many bytes it is from here to the end of the head, and how many lines the head then has
 abbrev pub end_from : Scan → List ℕ → Option HeadSize
 end_from scan [] = None
 end_from scan (b ∷ bytes) = ended_or (after_byte scan b) scan.lines (λ s. end_from s bytes)
 
--- before any byte
+-- the search before any byte
 abbrev pub at_first : Scan
 at_first = record { lines = 0; place = Start }
 
--- behind the bytes, of which there are n, the search stands at now: whatever follows, the end is found from there
+-- behind these n bytes the search stands at `now`: whatever follows, the end of the head is found from there
 abbrev pub ScansTo : Scan → List ℕ → ℕ → Scan → Type 0
 ScansTo first bytes n now =
     (more : List ℕ) → end_from first (bytes ++ more) ≡ option_map (behind n) (end_from now more)

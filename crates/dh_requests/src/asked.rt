@@ -4,7 +4,7 @@ use crate::request::Request;
 use dh_bodies::Post;
 use dh_paths::Text;
 
-/// A command, but for its body.
+/// A command without its body.
 #[derive(Drop)]
 pub struct Posted {
     /// The name of its host; empty where no project can have it.

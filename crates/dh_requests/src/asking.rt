@@ -1,4 +1,4 @@
-//! From the parts of a head to what it asks for.
+//! Tells from the parts of a head what it asks for.
 
 ghost use Rattle.std.specs.Prelude.{◌≡◌, [], IfOk, IfErr, OnErr, Some, None, unwrap_or};
 ghost use Rattle.std.specs.Option.{option_copied};
@@ -20,7 +20,7 @@ use dh_ports::Stop;
 use dh_wire::Allow;
 use std::alloc::{AllocError, Global};
 
-/// The value of a line that may stand once.
+/// The value of a line that may stand once, if it stands.
 fn one_value<'b>(lines: Lines<'b>) -> Result<Option<&'b [u8]>, HeadFault>
     ensures ok { IfOk result (λ value. one_of lines.entry ≡ Some (option_copied value)) }
     ensures err { OnErr result (one_of lines.entry ≡ None) }
@@ -72,7 +72,7 @@ fn host_text(host: &Option<HostName>) -> &str
     }
 }
 
-/// The bytes as a text; the empty text where they are none.
+/// The bytes as a text, or the empty text where they are not UTF-8.
 fn text_of(bytes: &[u8]) -> &str
     ensures { result.now ≡ request.text_of bytes.now }
 {
@@ -92,7 +92,7 @@ fn key_text(key: Option<&[u8]>) -> &str
     }
 }
 
-/// What a request asks for that posts.
+/// What a request to a path for posts asks for.
 fn post_by(
     alloc: Global,
     post: Post,
@@ -136,7 +136,7 @@ fn asked_at(
     }
 }
 
-/// What a head asks for in which nothing is wrong.
+/// What a head asks for, or the first fault in it.
 fn asked_where_right(alloc: Global, head: &Head<'_>) -> Result<Asked, HeadFault>
     ensures { FindsInHead (request.asked_where_right (parts_found head.now)) result }
 {

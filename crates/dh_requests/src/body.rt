@@ -10,14 +10,14 @@ use dh_ports::{Intake, Source, Stop};
 /// The most reads that may bring bytes.
 const MOST_READS: u32 = 100_000;
 
-/// As many missing bytes, or fewer, are read as a head is read.
+/// Up to this many missing bytes are read as a head is read.
 const SMALL_PIECE: usize = 4_096;
 
 /// The most bytes that one read of a body asks for.
 const LARGE_PIECE: usize = 65_536;
 
-/// Reads once, up to 65,536 bytes and no more than are missing, and answers whether any came. The room for them is no local of
-/// a function that small bodies are read by.
+/// Reads once, up to 65,536 bytes and no more than are missing, and answers whether any came. The room for them is a local of
+/// this function, which small bodies are not read by.
 fn read_large<R: Source>(intake: &mut Intake, source: &mut R, missing: usize) -> Result<bool, Stop>
     requires fine { R.broken source.old ≡ false }
     requires some { 0 < missing }
@@ -51,7 +51,7 @@ fn read_large<R: Source>(intake: &mut Intake, source: &mut R, missing: usize) ->
     }
 }
 
-/// Reads once, and answers whether any bytes came: in a large piece where that many are missing.
+/// Reads once, and answers whether any bytes came: in a large piece where more than 4,096 bytes are missing.
 fn read_piece<R: Source>(intake: &mut Intake, source: &mut R, missing: usize) -> Result<bool, Stop>
     requires fine { R.broken source.old ≡ false }
     requires some { 0 < missing }
@@ -73,7 +73,7 @@ fn read_piece<R: Source>(intake: &mut Intake, source: &mut R, missing: usize) ->
     intake.more(source)
 }
 
-/// Reads until there are so many bytes, and not once more. They do not all come where the input ends before.
+/// Reads until there are `count` bytes, and not once more. Answers false where the input ends before.
 pub fn read_up_to<R: Source>(
     intake: &mut Intake,
     source: &mut R,

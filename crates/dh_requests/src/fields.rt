@@ -7,7 +7,7 @@ ghost use Rattle.dh_requests.specs.Fields.{values_named, at_most_one, one_of, on
 
 use httparse::spans::HeaderSpan;
 
-/// The lines of a name.
+/// The field lines with one name.
 #[derive(Clone, Copy, Debug, Drop)]
 pub enum Lines<'b> {
     Absent,
@@ -32,7 +32,7 @@ fn with_line<'b>(found: Lines<'b>, value: &'b [u8]) -> Lines<'b>
     }
 }
 
-/// The lines of the name, in any case.
+/// The lines with this name, ignoring case.
 pub fn lines_named<'b>(text: &'b [u8], headers: &[HeaderSpan], name: &[u8]) -> Lines<'b>
     requires { All (IsHeaderWithin (length text.now)) headers.now }
     ensures { one_of result

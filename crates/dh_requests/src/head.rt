@@ -10,20 +10,20 @@ use crate::fields::{Lines, lines_named};
 use httparse::Status;
 use httparse::spans::{EMPTY_HEADER_SPAN, HeaderSpan, RequestSpans, parse_request};
 
-/// The parts of a head that count, and of its lines those of these names.
+/// The parts of a head that count: its method, its target, and the values of the lines with these names.
 #[derive(Drop)]
 pub struct Head<'b> {
     pub method: &'b [u8],
     pub target: &'b [u8],
-    /// Of `Host`.
+    /// The `Host` lines.
     pub host: Lines<'b>,
-    /// Of `Docs-Pass`.
+    /// The `Docs-Pass` lines.
     pub pass: Lines<'b>,
-    /// Of `Docs-Key`.
+    /// The `Docs-Key` lines.
     pub key: Lines<'b>,
-    /// Of `Content-Length`.
+    /// The `Content-Length` lines.
     pub length: Lines<'b>,
-    /// Of `Transfer-Encoding`.
+    /// The `Transfer-Encoding` lines.
     pub coding: Lines<'b>,
 }
 

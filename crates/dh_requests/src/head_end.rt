@@ -31,9 +31,9 @@ pub struct Scan {
 /// Where the head ends.
 #[derive(Clone, Copy, Debug, PartialEq, Eq, Drop)]
 pub enum HeadEnd {
-    /// Behind so many bytes.
+    /// The head ends behind this many bytes.
     At(usize),
-    /// Too many bytes, or too many lines.
+    /// The head has too many bytes, or too many lines.
     TooLarge,
     /// The input ends before the head does.
     CutShort,
@@ -50,7 +50,7 @@ const FIRST: Scan = Scan {
     place: Place::Start,
 };
 
-/// The search behind a byte, or none where the head ends there.
+/// The search after one more byte, or none where the head ends there.
 fn after(scan: Scan, byte: u8) -> Option<Scan>
     requires { scan.lines < 2 ^ 64 - 1 }
     ensures next { result ≡ after_byte scan byte }
@@ -76,7 +76,7 @@ fn after(scan: Scan, byte: u8) -> Option<Scan>
     }
 }
 
-/// How many bytes it is to the end of the head, if it is among these.
+/// Searches the bytes for the end of the head: how many of them lie before it, or none where the head goes on.
 fn find_end(scan: &mut Scan, bytes: &[u8]) -> Option<usize>
     requires { scan.old.lines + length bytes.now < 2 ^ 64 }
     ensures found { IfSome result (FindsEnd scan.old bytes.now scan.new) }

@@ -5,17 +5,17 @@ ghost use Rattle.dh_requests.specs.declared.request.Request.{Request};
 ghost use Rattle.dh_requests.specs.Head.{HeadEndsByLines};
 ghost use Rattle.dh_requests.specs.Request.{IsRequest};
 
-/// Some bytes are no more than one request.
+/// No bytes are two different requests.
 pub fn one_reading()
     ensures { (input : List ℕ) (a b : Request) → IsRequest input a → IsRequest input b → a ≡ b }
 {}
 
-/// Any bytes are a request.
+/// Any bytes are a request, which may be a refused one.
 pub fn each_reading()
     ensures { (input : List ℕ) → (request : Request) × IsRequest input request }
 {}
 
-/// A head of the grammar is a head by its lines, and has a line a field beside the request line.
+/// A head of the grammar ends where its lines end it, with one line for the request and one for each field.
 pub fn whole_head()
     ensures { HeadEndsByLines }
 {}

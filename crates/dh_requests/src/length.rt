@@ -9,21 +9,21 @@ ghost use Rattle.dh_requests.specs.Lengths as lengths;
 
 use crate::fields::Lines;
 
-/// Why the head tells no length of a body that counts.
+/// Why the length of a body is refused.
 #[derive(Clone, Copy, Debug, PartialEq, Eq, Drop)]
 pub enum LengthFault {
-    /// No line tells it, or the body comes in a transfer coding.
+    /// No line tells the length, or the body comes in a transfer coding.
     Untold,
-    /// Two lines tell it, or one that is no number.
+    /// Two lines tell the length, or the one line is no number.
     Wrong,
-    /// It is above 4,194,304.
+    /// The length is above 4,194,304.
     TooLarge,
 }
 
 /// The most bytes of a body.
 const MOST_BYTES: usize = 4_194_304;
 
-/// The status of a request whose body has no length that counts.
+/// The status of a request that is refused for the length of its body.
 pub fn length_status(fault: LengthFault) -> u16
     ensures { result ≡ lengths.length_status fault }
 {
@@ -60,7 +60,7 @@ fn as_text(digits: &[u8]) -> &str
     }
 }
 
-/// The number that the digits write, if a body may have so many bytes.
+/// The number that the digits write, if a body may have this many bytes.
 fn number_of(digits: &str) -> Result<usize, LengthFault>
     requires { lengths.is_number digits.now ≡ true }
     ensures { result ≡ lengths.limited (digits_value 10 digits.now) }

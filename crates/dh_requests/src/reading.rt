@@ -23,7 +23,7 @@ use std::alloc::Global;
 /// A request that was read, or why reading it stopped.
 type Taken = Result<Request, Stop>;
 
-/// The command of a body.
+/// The command that a body asks for, or the refusal of a body that asks for none.
 #[tactic(auto, unfolding(crate::specs::Request::command_of))]
 fn command_of(alloc: Global, posted: Posted, body: &[u8]) -> Taken
     ensures request { IfOk result (λ r. r ≡ request.command_of posted body.now) }
@@ -43,7 +43,7 @@ fn command_of(alloc: Global, posted: Posted, body: &[u8]) -> Taken
     }
 }
 
-/// Reads a command, whose head ends there.
+/// Reads the body of a command, whose head ends at `start`.
 fn read_command<R: Source>(
     alloc: Global,
     mut intake: Intake,
@@ -71,7 +71,7 @@ fn read_command<R: Source>(
     command_of(alloc, posted, &intake.bytes[start..count])
 }
 
-/// Reads what follows a head that ends there.
+/// Reads what follows a head that ends at `start`.
 fn read_behind<R: Source>(alloc: Global, intake: Intake, source: &mut R, start: usize) -> Taken
     requires fine { R.broken source.old ≡ false }
     requires head { At start ≡ head_end_of intake.bytes.items }
@@ -110,10 +110,10 @@ fn read_on<R: Source>(alloc: Global, intake: Intake, source: &mut R, end: HeadEn
     }
 }
 
-/// Reads a request, in reads of any size: its head, and the body that this asks for. No read is made once the request is whole, so
-/// a client may wait for the reply with its connection open; the last one may take some bytes behind it too.
+/// Reads a request, in reads of any size: its head, and the body that the head asks for. No read is made once the request is
+/// whole, so a client may wait for the reply with its connection open; the last read may take bytes behind the request too.
 ///
-/// It refuses by 400, 405, 411, 413 or 431 as a server does (RFC 9110, section 15.5; RFC 6585, section 5).
+/// Requests are refused by 400, 405, 411, 413 or 431 (RFC 9110, section 15.5; RFC 6585, section 5).
 pub fn read_request<R: Source>(alloc: Global, source: &mut R) -> Result<Request, Stop>
     requires { R.broken source.old ≡ false }
     ensures asked { IfOk result (λ r.

@@ -26,10 +26,10 @@ pub enum Request {
     Apply {
         command: Command,
     },
-    /// Nothing that can be done.
+    /// A request that is refused.
     Refused {
         status: u16,
-        /// For 405: what is allowed.
+        /// The methods that are allowed, for 405.
         allow: Option<Allow>,
         /// Whether the reply's body is left out.
         head: bool,
@@ -54,7 +54,7 @@ pub fn is_head(method: &[u8]) -> bool
     method == b"HEAD".as_slice()
 }
 
-/// A request by another method than is allowed.
+/// The refusal of a method that is not allowed.
 pub fn not_allowed(allow: Allow, method: &[u8]) -> Request
     ensures { result ≡ request.not_allowed allow method.now }
 {
@@ -74,7 +74,7 @@ fn copied(alloc: Global, bytes: Option<&[u8]>) -> Result<Option<Bytes>, AllocErr
     }
 }
 
-/// The read that is asked for, by GET or HEAD.
+/// The read that GET or HEAD asks for; any other method is refused.
 pub fn read_by(
     alloc: Global,
     method: &[u8],

@@ -17,7 +17,7 @@ use Rattle.dh_rules.specs.declared.rule.Fresh.{Fresh}
 abbrev pub is_met : Rule → Kind → List ℕ → Bool
 is_met rule kind name = same_kind rule.kind kind && is_match rule.pattern name
 
--- hiding a version and setting it as default activate it too
+-- whether the action activates a version: hiding it and setting it as default do so too
 abbrev pub activates : Action → Bool
 activates =
     elim [ Activate ↦ true | Hide ↦ true | Default ↦ true | Public ↦ false | Private ↦ false ]
@@ -49,7 +49,8 @@ abbrev pub last_said : List Bool → Bool → Bool
 last_said [] before = before
 last_said (x ∷ rest) before = last_said rest x
 
--- a new version after the rules: of all that are met, active, hidden or default if one of them says so or it was before, and private as the last that speaks of it says
+-- a new version after the rules: active, hidden or default if it was so before or a rule that is met makes it so,
+-- and private or public by the last rule that is met and sets either
 abbrev pub after_rules : List Rule → Fresh → Fresh
 after_rules rules fresh =
     let actions = actions_met rules fresh.kind fresh.name in
@@ -91,6 +92,6 @@ abbrev pub IsCustomAt : List Rule → Kind → ℕ → Type 0
 IsCustomAt rules kind place =
     (before : ℕ) × (rule : Rule) × (place ≡ before + 1) × (slice_get rules before ≡ Some rule) × (rule.kind ≡ kind) × IsCustom rule.pattern
 
--- a rule of the kind has a pattern for which something is computed
+-- a rule of the kind has a pattern other than `all`, and matching may take memory
 abbrev pub asks_for : List Rule → Kind → Bool
 asks_for rules kind = list_any (λ r. same_kind r.kind kind && not (is_all r.pattern)) rules

@@ -35,7 +35,7 @@ fn perform(marks: &mut Marks, action: Action)
 }
 
 /// Performs the action of each rule of the version's kind whose pattern matches its name, in their order.
-/// Where it answers a fault the version is as it was.
+/// On a fault the version stays as it was.
 pub fn apply(alloc: Global, rules: &[Rule], fresh: &mut Fresh) -> Result<(), RuleFault>
     ensures ok { OnOk result (fresh.new ≡ after_rules rules.now fresh.old) }
     ensures err { OnErr result (fresh.new ≡ fresh.old) }

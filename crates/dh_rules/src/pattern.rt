@@ -52,7 +52,7 @@ impl Pattern {
         }
     }
 
-    /// The same pattern again.
+    /// A copy of the pattern.
     pub fn try_copy(&self, alloc: Global) -> Result<Pattern, AllocError>
         ensures { IfOk result (λ copy. copy ≡ self.now) }
     {

@@ -29,7 +29,7 @@ pub enum Action {
 impl Action {
     ghost use Rattle.dh_rules.specs.Rules.{activates};
 
-    /// Hiding a version and setting it as default activate it too.
+    /// Whether the action activates the version: hiding it and setting it as default do so too.
     pub fn activates(self) -> bool
         ensures { result ≡ activates self }
     {
@@ -50,7 +50,7 @@ impl Rule {
     ghost use Rattle.dh_rules.specs.Rules.{is_allowed, AnswersUnasked};
     ghost use Rattle.dh_rules.specs.Patterns.{IsCustom};
 
-    /// The same rule again.
+    /// A copy of the rule.
     pub fn try_copy(&self, alloc: Global) -> Result<Rule, AllocError>
         ensures { IfOk result (λ copy. copy ≡ self.now) }
     {

@@ -1,4 +1,4 @@
--- The first segment of a path, and the redirects that may lead away from paths of one.
+-- The first segment of a path, and the redirects that may lead away from paths with a given first segment.
 use Rattle.std.specs.Prelude.{ℕ, Bool, not, ◌&&◌, ◌||◌, ◌==◌, if◌then◌else◌, List, [], filter, codes}
 use Rattle.std.specs.List.{before_first}
 use Rattle.std.specs.Option.{option_map_or}
@@ -15,7 +15,7 @@ abbrev pub first_segment : List ℕ → List ℕ
 first_segment path =
     option_map_or (λ rest. before_first (λ b. b == slash) rest) (rest_after (codes "/") path) []
 
--- the first segment of all paths that From fits; empty where it ends in `*`, and they may differ in it
+-- the first segment of all paths that From fits; empty where From's own ends in `*`, so that the paths may differ
 abbrev pub source_segment : List ℕ → List ℕ
 source_segment source =
     let segment = first_segment source in
@@ -33,6 +33,6 @@ segment_of r = segment_by r.kind r.source
 abbrev pub is_tried : List ℕ → List ℕ → Bool
 is_tried path segment = bytes_eq segment [] || bytes_eq segment (first_segment path)
 
--- of all redirects of a list, or of those with force alone, those that are to be tried at the path
+-- the redirects of a list that are to be tried at the path, of all or of those with force alone
 abbrev pub tried_at : Bool → List ℕ → List Redirect → List Redirect
 tried_at forced path rs = filter (λ r. (not forced || r.force) && is_tried path (segment_of r)) rs

@@ -1,4 +1,4 @@
-//! The first segment of a path, and which redirects may lead away from paths of one.
+//! The first segment of a path, and which redirects may lead away from paths with a given first segment.
 #![tactic(auto)]
 
 mod laws;

@@ -43,8 +43,8 @@ fn source_segment(source: &str) -> &str
     if is_open(segment) { "" } else { segment }
 }
 
-/// The first segment of all paths that a redirect may lead away from. It is empty where they may differ in
-/// it: where the kind is not exact, or the first segment of From ends in `*`.
+/// The first segment of all paths that a redirect may lead away from. It is empty where these paths may differ in
+/// their first segment: where the kind is not exact, or the first segment of From ends in `*`.
 pub fn segment_of(redirect: &Redirect) -> &str
     ensures { result.now ≡ spec.segment_of redirect.now }
 {

@@ -18,10 +18,10 @@ abbrev pub with_byte : List ℕ → ℕ → List ℕ
 with_byte [] b = if is_lower_or_digit b then b ∷ [] else []
 with_byte (c ∷ cs) b = c ∷ cs ++ b ∷ []
 
--- character by character, not byte by byte
+-- the text of a name's slug, made character by character, not byte by byte
 abbrev pub slug_text : List ℕ → List ℕ
 slug_text name = from_letter (map slug_char (chars name))
 
--- none where no letter or digit is left, or more than 128 bytes
+-- the slug of a name; none where no letter or digit is left, or more than 128 bytes
 abbrev pub slug_from : List ℕ → Option (List ℕ)
 slug_from name = if is_slug (slug_text name) then Some (slug_text name) else None

@@ -22,7 +22,7 @@ is_lower_or_digit b = is_lower b || is_digit b
 abbrev pub is_no_control : ℕ → Bool
 is_no_control b = nat_le 32 b && not (b == delete)
 
--- from low to high bytes, each of which passes
+-- a text that has `low` to `high` bytes, each of which passes the test
 abbrev pub is_within : ℕ → ℕ → (ℕ → Bool) → List ℕ → Bool
 is_within low high test text = nat_le low (length text) && nat_le (length text) high && list_all test text
 
@@ -84,12 +84,12 @@ is_token_byte b = (nat_le 65 b && nat_le b 90) || is_lower b || is_digit b || b 
 abbrev pub is_token : List ℕ → Bool
 is_token text = is_within 1 most_token is_token_byte text
 
--- a text that passes is taken as it is; the refusal comes only of one that does not pass, and out of memory only of one that does
+-- a text that passes is answered as it is, or refused as out of memory; one that does not pass is refused by its kind
 abbrev pub ParsesText : (List ℕ → Bool) → TextFault → List ℕ → Result (List ℕ) TextFault → Type 0
 ParsesText test refusal text (Ok value) = (value ≡ text) × IsTrue (test text)
 ParsesText test refusal text (Err fault) = ((fault ≡ refusal) × (test text ≡ false)) ⊎ ((fault ≡ Memory) × IsTrue (test text))
 
--- the definition's value is answered; the refusal comes only where it has none, or where memory is out
+-- the defined value is answered, or out of memory; the refusal comes only where no value is defined
 abbrev pub AnswersDefined : {A : Type 0} → Option A → TextFault → Result A TextFault → Type 0
 AnswersDefined spec refusal (Ok value) = spec ≡ Some value
 AnswersDefined spec refusal (Err fault) = ((fault ≡ refusal) × (spec ≡ None)) ⊎ (fault ≡ Memory)

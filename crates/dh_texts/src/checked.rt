@@ -65,7 +65,7 @@ impl<K: Kind> Checked<K> {
         self.inner.as_str()
     }
 
-    /// The same text again.
+    /// A copy of the text.
     pub fn try_copy(&self, alloc: Global) -> Result<Checked<K>, AllocError>
         ensures { IfOk result (λ copy. copy ≡ self.now) }
     {

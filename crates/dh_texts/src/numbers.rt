@@ -1,4 +1,4 @@
-//! Numbers in decimal digits alone: `parse` takes a plus as well.
+//! Reads numbers of decimal digits alone; `parse` takes a plus as well.
 
 ghost use Rattle.std.specs.Prelude.{◌≡◌, ◌^◌};
 ghost use Rattle.std.specs.Char.{is_ascii_digit};

@@ -20,7 +20,7 @@ impl Model for Text {
 }
 
 impl Text {
-    /// The text that the string holds. It takes no memory.
+    /// The text that the string holds; wrapping takes no memory.
     pub fn wrap(inner: String) -> Text
         ensures { result ≡ string_bytes inner }
     {
@@ -59,7 +59,7 @@ impl Model for Bytes {
 }
 
 impl Bytes {
-    /// The bytes that the vector holds. It takes no memory.
+    /// The bytes that the vector holds; wrapping takes no memory.
     pub fn wrap(inner: Vec<u8>) -> Bytes
         ensures { result ≡ inner.items }
     {

@@ -29,7 +29,7 @@ pub struct Version {
 }
 
 impl Version {
-    /// The same version again.
+    /// A copy of the version.
     pub fn try_copy(&self, alloc: Global) -> Result<Version, AllocError>
         ensures { IfOk result (λ copy. copy ≡ self.now) }
     {

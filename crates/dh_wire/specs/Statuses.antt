@@ -30,7 +30,7 @@ is_registered_status s = s == 200 || (s == 301 || (s == 302 || (s == 400 || (s =
 unfoldable pub fault_text : ℕ → List ℕ
 fault_text status = decimal status ++ codes " " ++ phrase_of status ++ 10 ∷ []
 
--- the reply whose body is that text
+-- the reply that says no more than a status, with that text as its body
 unfoldable pub fault_reply_of : ℕ → Option Allow → Reply
 fault_reply_of status allow = record { status = status; location = None; allow = allow; media = Some plain_text; body = fault_text status }
 

@@ -30,11 +30,11 @@ allow_line allow = optional_line (codes "Allow") (option_map allow_text allow)
 unfoldable pub status_line : ℕ → List ℕ
 status_line status = codes "HTTP/1.1 " ++ decimal status ++ codes " " ++ phrase_of status ++ crlf
 
--- the lines on what the reply is
+-- the lines on the reply: its status, location, allowed methods and media type
 unfoldable pub subject_of : Reply → List ℕ
 subject_of r = (status_line r.status ++ optional_line (codes "Location") r.location) ++ (allow_line r.allow ++ optional_line (codes "Content-Type") r.media)
 
--- the lines on what follows, and the empty line
+-- the lines on the body's length and on the connection, and the empty line
 unfoldable pub framing_of : ℕ → List ℕ
 framing_of body_length = line (codes "Content-Length") (decimal body_length) ++ line (codes "Connection") (codes "close") ++ crlf
 

@@ -1,4 +1,4 @@
-//! Statuses, their phrases, and the replies that say no more than one.
+//! Statuses, their phrases, and the replies that say no more than a status.
 
 ghost use Rattle.std.specs.Prelude.{◌≡◌, IfOk, IsTrue, string_bytes};
 ghost use Rattle.dh_wire.specs.Statuses.{phrase_of, is_registered_status, fault_text, fault_reply_of};
@@ -8,7 +8,7 @@ use dh_paths::{Bytes, Text};
 use http::StatusCode;
 use std::alloc::{AllocError, Global};
 
-/// Whether the host answers with that status, and `http` has the phrase that we write.
+/// Whether the host answers with that status, and `http` has the same phrase for it.
 fn is_registered(status: u16) -> bool
     ensures { result ≡ is_registered_status status }
 {
@@ -32,7 +32,7 @@ fn registered(status: u16) -> &'static str
 pub fn phrase(status: u16) -> &'static str
     ensures { result.now ≡ phrase_of status }
 {
-    // RFC 9110 renamed this one, and `http` has the older name.
+    // RFC 9110 renamed the phrase of 413, and `http` has the older name.
     if status == 413 {
         return "Content Too Large";
     }

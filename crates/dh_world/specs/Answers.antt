@@ -12,7 +12,7 @@ use Rattle.dh_world.specs.declared.answer.Answer.TheVariants.{Done, Made, Known,
 use Rattle.dh_world.specs.declared.operation.Operation.{Operation}
 use Rattle.dh_world.specs.declared.operation.Operation.TheVariants.{Push, Upload}
 
--- its slug is one, its count fits 32 bits
+-- the answer is well formed: its slug is a slug, and its count fits 32 bits
 abbrev pub IsAnswer : Answer → Type 0
 IsAnswer Done = Unit {0}
 IsAnswer (Made slug active hidden private) = IsTrue (is_slug slug)
@@ -20,7 +20,7 @@ IsAnswer (Known slug) = IsTrue (is_slug slug)
 IsAnswer (Stored pages) = pages < 2 ^ 32
 IsAnswer (Added count) = count < 2 ^ 32
 
--- the answer as a JSON object, its keys in the order of their bytes; those of commands that have no retry key have none
+-- the answer as a JSON object, its keys in the order of their bytes; an answer to a command without a retry key has none
 abbrev pub data_of : Answer → Option Data
 data_of Done = None
 data_of (Added count) = None
@@ -31,7 +31,7 @@ data_of (Made slug active hidden private) = Some (object
 data_of (Known slug) = Some (object (member (codes "answer") (string (codes "known")) (member (codes "slug") (string slug) no_members)))
 data_of (Stored pages) = Some (object (member (codes "answer") (string (codes "stored")) (member (codes "pages") (number (unsigned pages)) no_members)))
 
--- its text, with no spaces
+-- the text of that JSON object, with no spaces
 abbrev pub json_of : Answer → Option (List ℕ)
 json_of a = option_map compact_text (data_of a)
 

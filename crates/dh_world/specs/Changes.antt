@@ -1,4 +1,4 @@
--- What each command makes of the project of its host, once its texts are found to be values of their types.
+-- What each command changes in the project of its host, once its texts have passed their checks.
 use Rattle.std.specs.Prelude.{ℕ, ◌+◌, ◌-◌, Bool, true, false, not, ◌&&◌, nat_lt, nat_le, if◌then◌else◌, List, [], ◌∷◌, ◌++◌, filter, length, take, drop, Option, Some, None, Result, Ok, Err}
 use Rattle.std.specs.List.{list_any}
 use Rattle.std.specs.Str.{bytes_eq}
@@ -27,7 +27,7 @@ use Rattle.dh_world.specs.declared.property.Property.TheVariants as property
 use Rattle.dh_world.specs.declared.refusal.Refusal.{Refusal}
 use Rattle.dh_world.specs.declared.refusal.Refusal.TheVariants.{NoProject, ProjectTaken, WrongKey, LangTaken, NoLang, NoVersion, SlugTaken, Inactive, BadPlace, TooMany, PassTaken, NoPass}
 
--- the project as it then is, and the answer; or the refusal
+-- what a command gives: the changed project and the answer, or the refusal
 abbrev pub Change : Type 0
 Change = Result (Project × Answer) Refusal
 
@@ -53,7 +53,7 @@ new_project lang branch private wkey = record {
   redirects = [];
 }
 
--- the language is not there, there are fewer than 30: it is added last
+-- adds a language behind the others, where the project does not have it and has fewer than 30
 abbrev pub add_lang : Text → Project → Change
 add_lang lang p =
     if has_lang p lang then Err LangTaken
@@ -68,11 +68,11 @@ push_key slug key = (slug, (op_code operation.Push, key))
 abbrev pub upload_key : Text → Text → UsedKey
 upload_key slug key = (slug, (op_code operation.Upload, key))
 
--- the answer is kept as the first one to its key
+-- keeps the answer as the first one under its retry key
 abbrev pub keep : UsedKey → Answer → Project → Change
 keep key answer p = Ok (record p { used = insert p.used key answer }, answer)
 
--- a key that was used gives its first answer and changes nothing; any other lets the command run, and keeps its answer
+-- a used retry key gives its first answer and changes nothing; under an unused one the change is made
 abbrev pub once : Project → Option Answer → Change → Change
 once p (Some first) change = Ok (p, first)
 once p None change = change
@@ -94,7 +94,7 @@ fresh p kind name = record {
   chosen = false;
 }
 
--- the version that stands under a slug then
+-- the version with this slug that a new version becomes
 abbrev pub version_of : Text → Fresh → Version
 version_of slug x = record { slug = slug; kind = x.kind; name = x.name; active = x.active; hidden = x.hidden; private = x.private }
 
@@ -102,11 +102,11 @@ version_of slug x = record { slug = slug; kind = x.kind; name = x.name; active =
 abbrev pub with_version : Project → Text → Version → Project
 with_version p slug v = record p { versions = insert p.versions slug v }
 
--- the names but for this one
+-- the names without this one
 abbrev pub without_name : Text → List Text → List Text
 without_name name names = filter (λ n. not (bytes_eq n name)) names
 
--- the name is the first of the defaults, and stands there once
+-- makes the name the first of the defaults, where it stands once
 abbrev pub with_default : Text → Project → Project
 with_default name p = record p { defaults = name ∷ without_name name p.defaults }
 
@@ -119,7 +119,7 @@ with_fresh slug x p =
 abbrev pub made : Version → Answer
 made v = Made v.slug v.active v.hidden v.private
 
--- by the version that has the slug: the same branch or tag is known, another has taken the slug; where there is none, it is made, and the rules run
+-- a branch or tag that has its version is known, one whose slug another has is refused; any other gets a version, by the rules
 abbrev pub pushed : Project → Text → Kind → Text → Option Version → Change
 pushed p key kind name (Some v) =
     if same_kind v.kind kind && bytes_eq v.name name then keep (push_key (slug_text name) key) (Known v.slug) p
@@ -129,7 +129,7 @@ pushed p key kind name None =
     let x : Fresh = after_rules p.rules (fresh p kind name) in
     keep (push_key slug key) (made (version_of slug x)) (with_fresh slug x p)
 
--- by the write key, by the answer kept under the retry key, and by the version with the slug
+-- refuses a wrong write key, answers a used retry key as the first time, and else decides by the version with the slug
 abbrev pub push : Text → Text → Kind → Text → Project → Change
 push wkey key kind name p =
     if bytes_eq wkey p.wkey then once p (get p.used (push_key (slug_text name) key)) (pushed p key kind name (get p.versions (slug_text name)))
@@ -137,12 +137,12 @@ push wkey key kind name p =
 
 -- ---- Upload
 
--- with `replace`, the pages without those of the version and language
+-- the pages, without those of the version and language where `replace` is set
 abbrev pub cleared : Bool → Text → Text → FinMap page_cmp Page → FinMap page_cmp Page
 cleared true slug lang pages = retain_keys pages (λ key. not (lies_under slug (Some lang) key))
 cleared false slug lang pages = pages
 
--- one page after the other, each in place of one that has its path
+-- puts in one page after the other; each replaces a page that has its path
 abbrev pub with_pages : Text → Text → List UploadedPage → FinMap page_cmp Page → FinMap page_cmp Page
 with_pages slug lang [] pages = pages
 with_pages slug lang (x ∷ xs) pages = with_pages slug lang xs (insert pages (slug, (lang, x.path)) (record { media = x.media; body = x.body }))
@@ -150,7 +150,7 @@ with_pages slug lang (x ∷ xs) pages = with_pages slug lang xs (insert pages (s
 abbrev pub stored : Text → Text → Bool → List UploadedPage → Project → Project
 stored slug lang replace uploaded p = record p { pages = with_pages slug lang uploaded (cleared replace slug lang p.pages) }
 
--- by the version with the slug: it has to be there and active, and the language one of the project's
+-- stores the pages, where the version with the slug is there and active, and the project has the language
 abbrev pub uploaded : Project → Text → Text → Text → Bool → List UploadedPage → Option Version → Change
 uploaded p key slug lang replace pages None = Err NoVersion
 uploaded p key slug lang replace pages (Some v) =
@@ -158,7 +158,7 @@ uploaded p key slug lang replace pages (Some v) =
     else if not (has_lang p lang) then Err NoLang
     else keep (upload_key slug key) (Stored (length pages)) (stored slug lang replace pages p)
 
--- by the write key, by the answer kept under the retry key, and by the version with the slug
+-- refuses a wrong write key, answers a used retry key as the first time, and else decides by the version with the slug
 abbrev pub upload : Text → Text → Text → Text → Bool → List UploadedPage → Project → Change
 upload wkey key slug lang replace pages p =
     if bytes_eq wkey p.wkey then once p (get p.used (upload_key slug key)) (uploaded p key slug lang replace pages (get p.versions slug))
@@ -166,7 +166,7 @@ upload wkey key slug lang replace pages p =
 
 -- ---- the properties of a version
 
--- what follows for a version, which has to be there
+-- goes on with the version, or refuses where there is none
 abbrev pub at_version : Option Version → (Version → Change) → Change
 at_version None next = Err NoVersion
 at_version (Some v) next = next v
@@ -186,7 +186,7 @@ set_property property slug p = at_version (get p.versions slug) (λ v. Ok (with_
 abbrev pub without_pages : Text → Project → Project
 without_pages slug p = record p { pages = retain_keys p.pages (λ key. not (lies_under slug None key)) }
 
--- the version is inactive, and its pages are gone
+-- makes the version inactive, and removes its pages
 abbrev pub deactivate : Text → Project → Change
 deactivate slug p = at_version (get p.versions slug) (λ v. Ok (without_pages slug (with_version p slug (record v { active = false })), Done))
 
@@ -203,7 +203,7 @@ without_version slug p = record (without_pages slug p) {
 abbrev pub gone : Text → Project → Change
 gone slug p = at_version (get p.versions slug) (λ v. Ok (without_version slug p, Done))
 
--- an alias may stand for nothing; a version has to be there and active
+-- makes an alias or an active version the first default; an alias may stand for nothing
 abbrev pub set_default : Text → Project → Change
 set_default name p =
     if is_alias name then Ok (with_default name p, Done)
@@ -214,27 +214,27 @@ set_default name p =
 abbrev pub is_place : ℕ → ℕ → Bool
 is_place place last = nat_le 1 place && nat_le place last
 
--- one more at a place; those from there on move by one
+-- adds an item at a place; later items move down
 abbrev pub with_one_at : {X : Type 0} → ℕ → X → List X → List X
 with_one_at place x xs = take (place - 1) xs ++ x ∷ drop (place - 1) xs
 
--- the one at a place is gone; those behind it move by one
+-- removes the item at a place; later items move up
 abbrev pub without_place : {X : Type 0} → ℕ → List X → List X
 without_place place xs = take (place - 1) xs ++ drop place xs
 
--- one more at a place of the list or the next one, where there are fewer than so many
+-- adds an item at a place of the list or at its end, where the list is not full
 abbrev pub added : {X : Type 0} → ℕ → ℕ → X → List X → Result (List X) Refusal
 added most place x xs =
     if not (is_place place (length xs + 1)) then Err BadPlace
     else if nat_lt (length xs) most then Ok (with_one_at place x xs)
     else Err TooMany
 
--- the one at a place of the list is gone
+-- removes the item at a place of the list; any other place is refused
 abbrev pub dropped : {X : Type 0} → ℕ → List X → Result (List X) Refusal
 dropped place xs =
     if is_place place (length xs) then Ok (without_place place xs) else Err BadPlace
 
--- a list in place of one that it was made from
+-- puts a changed list into the project, or hands on the refusal
 abbrev pub set_to : {X : Type 0} → (List X → Project) → Result (List X) Refusal → Change
 set_to with (Ok xs) = Ok (with xs, Done)
 set_to with (Err e) = Err e
@@ -265,49 +265,49 @@ with_new [] there = there
 with_new (x ∷ xs) there =
     with_new xs (if list_any (λ r. same_redirect r x) there then there else there ++ x ∷ [])
 
--- these are the redirects, where they are at most 100; the answer is how many more they are
+-- sets the redirects, where they are at most 100, and answers how many were added
 abbrev pub imported : List Redirect → Project → Change
 imported all p =
     if nat_le (length all) 100 then Ok (with_redirects p all, Added (length all - length p.redirects))
     else Err TooMany
 
--- the redirects of a list that are not there are added last
+-- adds the redirects of a list that are not there, behind the others
 abbrev pub import_redirects : List Redirect → Project → Change
 import_redirects list p = imported (with_new list p.redirects) p
 
 -- ---- passes
 
--- the pass is not there, there are fewer than 1,000: it is added with its end, and holds nothing
+-- adds a pass with its end and without grants, where the project does not have it and has fewer than 1,000
 abbrev pub add_pass : Text → Option ℕ → Project → Change
 add_pass pass until p =
     if contains_key p.passes pass then Err PassTaken
     else if nat_lt (len p.passes) 1000 then Ok (record p { passes = insert p.passes pass until }, Done)
     else Err TooMany
 
--- what follows where the project has the pass
+-- answers the changed project, where the project has the pass
 abbrev pub at_pass : Project → Text → Project → Change
 at_pass p pass after = if contains_key p.passes pass then Ok (after, Done) else Err NoPass
 
--- the pass goes, with its grants
+-- removes the pass with its grants
 abbrev pub drop_pass : Text → Project → Change
 drop_pass pass p = at_pass p pass (record p { passes = remove p.passes pass; held = retain_keys p.held (λ key. not (bytes_eq key.0 pass)) })
 
--- by the version and then by the pass: the pass holds the version
+-- grants the version to the pass; both have to be there, and the version is looked for first
 abbrev pub grant : Text → Text → Project → Change
 grant pass slug p = at_version (get p.versions slug) (λ v. at_pass p pass (record p { held = insert p.held (pass, slug) tt }))
 
--- and no longer
+-- takes the grant on the version from the pass; both have to be there, and the version is looked for first
 abbrev pub revoke : Text → Text → Project → Change
 revoke pass slug p = at_version (get p.versions slug) (λ v. at_pass p pass (record p { held = remove p.held (pass, slug) }))
 
 -- ---- all commands
 
--- where the host has no project
+-- what a command does where the host has no project
 abbrev pub opened : CommandChange → Change
 opened (NewProject lang branch private wkey) = Ok (new_project lang branch private wkey, Done)
 opened _ = Err NoProject
 
--- where the host has a project
+-- what a command does to the project of its host
 abbrev pub change : CommandChange → Project → Change
 change (NewProject lang branch private wkey) p = Err ProjectTaken
 change (AddLang lang) p = add_lang lang p

@@ -8,7 +8,7 @@ use Rattle.dh_faults.specs.declared.fault.Fault.TheVariants as fault
 use Rattle.dh_world.specs.declared.refusal.Refusal.{Refusal}
 use Rattle.dh_world.specs.declared.refusal.Refusal.TheVariants.{BadHost, BadLang, BadRef, BadPath, BadToken, Store, OutOfMemory}
 
--- the refusal of a command for what a text is not; no command has a target
+-- the refusal of a command for the fault of a text; `BadTarget` never comes, since no command has a target
 abbrev pub refusal_of : TextFault → Refusal
 refusal_of text.BadHost = BadHost
 refusal_of text.BadLang = BadLang
@@ -18,17 +18,17 @@ refusal_of text.BadToken = BadToken
 refusal_of text.BadTarget = BadPath
 refusal_of text.Memory = OutOfMemory
 
--- a text that passes is taken as it is; the refusal is of one that does not pass, or out of memory
+-- a text that passes is answered as it is; one that does not pass is refused, and either may be refused as out of memory
 abbrev pub ReadsText : (Text → Bool) → Refusal → Text → Result Text Refusal → Type 0
 ReadsText test refusal text (Ok value) = (value ≡ text) × (test text ≡ true)
 ReadsText test refusal text (Err e) = ((e ≡ refusal) × (test text ≡ false)) ⊎ (e ≡ OutOfMemory)
 
--- what has the property is answered only where nothing is wrong; a refusal is the first wrong thing, or out of memory
+-- a value with the property is answered only where nothing is wrong; the refusal tells what is wrong, or out of memory
 abbrev pub ChecksForWrong : {A : Type 0} → Option Refusal → (A → Type 0) → Result A Refusal → Type 0
 ChecksForWrong wrong P (Ok value) = (wrong ≡ None) × P value
 ChecksForWrong wrong P (Err e) = (wrong ≡ Some e) ⊎ (e ≡ OutOfMemory)
 
--- the same, where one with nothing wrong may be refused too
+-- as `ChecksForWrong`, but where nothing is wrong, one more refusal may come
 abbrev pub ChecksOr : {A : Type 0} → Option Refusal → (A → Type 0) → (Refusal → Type 0) → Result A Refusal → Type 0
 ChecksOr wrong P Q (Ok value) = (wrong ≡ None) × P value
 ChecksOr wrong P Q (Err e) = (wrong ≡ Some e) ⊎ ((e ≡ OutOfMemory) ⊎ ((wrong ≡ None) × Q e))
@@ -38,6 +38,6 @@ abbrev pub refusal_from : Fault → Refusal
 refusal_from fault.Store = Store
 refusal_from fault.Memory = OutOfMemory
 
--- a fault of the store, and out of memory, may come wherever they occur
+-- the refusal is a fault of the store, or out of memory
 abbrev pub IsFault : Refusal → Type 0
 IsFault e = (e ≡ Store) ⊎ (e ≡ OutOfMemory)

@@ -1,4 +1,4 @@
--- Whose project is asked for, and by whom.
+-- The host that a read names, and its caller.
 use Rattle.std.specs.Prelude.{ℕ, Bool, true, false, if◌then◌else◌, Option, Some, None, Result, Err, option_and_then}
 use Rattle.dh_texts.specs.Texts.{is_host_name, is_token}
 use Rattle.dh_wire.specs.declared.reply.Reply.{Reply}
@@ -7,15 +7,15 @@ use Rattle.dh_faults.specs.declared.fault.Fault.TheVariants.{Store}
 use Rattle.dh_world.specs.declared.caller.Caller.{Caller}
 use Rattle.dh_world.specs.World.{Text}
 
--- a name that is no host's names no project
+-- the host of this name, or none where the name is no host name
 abbrev pub host_named : Text → Option Text
 host_named name = if is_host_name name then Some name else None
 
--- a text that is no pass is none
+-- the text as a pass, or none where it is no token
 abbrev pub pass_named : Text → Option Text
 pass_named text = if is_token text then Some text else None
 
--- who shows this text as his pass, or none, and reads at this moment
+-- the caller who shows this text as a pass, or shows none, and reads at this moment
 abbrev pub caller_named : Option Text → ℕ → Caller
 caller_named shown moment = record { pass = option_and_then pass_named shown; moment = moment }
 

@@ -1,4 +1,4 @@
--- The numbers and names of refusals, and how checks stand one after the other.
+-- The numbers and names of refusals, and the first refusal of several checks.
 use Rattle.std.specs.Prelude.{ℕ, Bool, true, false, List, [], ◌∷◌, Option, Some, None, codes}
 use Rattle.dh_world.specs.declared.refusal.Refusal.{Refusal}
 use Rattle.dh_world.specs.declared.refusal.Refusal.TheVariants.{BadHost, BadLang, BadRef, BadPath, BadPage, BadPattern, BadRedirect, BadToken, BadKey, NoProject, ProjectTaken, WrongKey, LangTaken, NoLang, NoVersion, SlugTaken, Inactive, BadPlace, TooMany, PassTaken, NoPass, PatternRefused, Store, OutOfMemory, BadUntil}
@@ -64,7 +64,7 @@ abbrev pub unless : Bool → Refusal → Option Refusal
 unless true refusal = None
 unless false refusal = Some refusal
 
--- this refusal, else the other
+-- the first refusal, if there is one, else the second
 abbrev pub or_else : Option Refusal → Option Refusal → Option Refusal
 or_else (Some refusal) rest = Some refusal
 or_else None rest = rest

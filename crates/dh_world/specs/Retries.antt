@@ -46,7 +46,7 @@ after w (c ∷ cs) = after (left_by w (step w c)) cs
 abbrev pub FirstIsKept : Type 0
 FirstIsKept = (w new : World) (c : Command) (answer : Answer) (key : UsedKey) → step w c ≡ Ok (new, answer) → retry_key c.change ≡ Some key → kept new c.host key ≡ Some answer
 
--- what is kept stays so at each step, of any host
+-- an answer that is kept stays kept at each step, of any host
 abbrev pub KeptStays : Type 0
 KeptStays = (w new : World) (c : Command) (answer : Answer) → step w c ≡ Ok (new, answer) → (host : Text) (key : UsedKey) (first : Answer) → kept w host key ≡ Some first → kept new host key ≡ Some first
 

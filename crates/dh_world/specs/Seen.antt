@@ -34,7 +34,7 @@ visible_pages p caller = retain_keys p.pages (λ key. is_visible p caller key.0)
 abbrev pub stored_page : PageKey × Page → StoredPage
 stored_page e = record { lang = e.0.1.0; slug = e.0.0; path = e.0.1.1; page = e.1 }
 
--- languages, versions in the order of their slugs, pages, the two aliases of those versions, and redirects; the default is left open
+-- a project as seen, from its languages, default branch, versions, pages and redirects; the default is left open
 unfoldable pub without_default : List Text → Text → FinMap text_cmp Version → FinMap page_cmp Page → List Redirect → SeenProject
 without_default languages branch versions pages redirects = record {
   langs = languages;
@@ -49,7 +49,7 @@ without_default languages branch versions pages redirects = record {
 abbrev pub with_default : SeenProject → List Text → SeenProject
 with_default p names = record p { «default» = default_of (λ name. is_some (resolved p name)) names }
 
--- the project as this caller sees it: no private version that his live pass does not hold, no rank, pass, end of one, key or rule
+-- the project as this caller sees it: the versions visible to him with their pages, and no list of defaults, pass, key or rule
 unfoldable pub seen_project : Project → Caller → SeenProject
 seen_project p caller = with_default (without_default p.languages p.branch (visible_versions p caller) (visible_pages p caller) p.redirects) p.defaults
 
@@ -57,7 +57,7 @@ seen_project p caller = with_default (without_default p.languages p.branch (visi
 abbrev pub seen : World → Option Text → Caller → Option SeenProject
 seen w host caller = option_map (λ p. seen_project p caller) (option_and_then (get w) host)
 
--- the caller's own pass
+-- the pass is the caller's own
 abbrev pub is_own : Option Text → Text → Bool
 is_own None x = false
 is_own (Some pass) x = bytes_eq x pass
@@ -66,7 +66,8 @@ is_own (Some pass) x = bytes_eq x pass
 abbrev pub is_seen_name : Project → Caller → Text → Bool
 is_seen_name p caller name = is_alias name || is_some (resolved (seen_project p caller) name)
 
--- What is left of a project that holds nothing but what this caller sees: the visible versions, their pages, the redirects, the defaults that he may see, and of the passes his own, with its end and the visible slugs that it holds.
+-- The project with nothing but what this caller sees: the visible versions, their pages, the redirects, the defaults
+-- that he may see, and of the passes his own, with its end and the visible slugs that it holds.
 abbrev pub veiled : Project → Caller → Project
 veiled p caller = record {
   languages = p.languages;

@@ -26,7 +26,7 @@ abbrev pub settled : World → Text → Change → Result (World × Answer) Refu
 settled w host (Ok (p, answer)) = Ok (insert w host p, answer)
 settled w host (Err refusal) = Err refusal
 
--- the one change of the project under the host, where the texts are right
+-- applies the change of a command to the project under its host
 abbrev pub turn : World → Command → Result (World × Answer) Refusal
 turn w c = settled w c.host (change_at c.change (get w c.host))
 
@@ -40,12 +40,12 @@ step w c = after_texts w c (bad_text c)
 
 -- ---- what is set aside
 
--- a rule with a custom pattern, which `regex` may refuse as too big, is to be added, and the refusal is its own
+-- the command adds a rule with a custom pattern, which `regex` may refuse as too big, and the refusal is `BadPattern`
 abbrev pub RuleRefused : CommandChange → Refusal → Type 0
 RuleRefused (AddRule place rule) e = IsCustom rule.pattern × (e ≡ BadPattern)
 RuleRefused _ e = ⊥
 
--- a push makes a version of the project, so that the rules run, and at a place stands one of its kind with a custom pattern
+-- a push makes a version, so that the rules run; a rule of its kind has a custom pattern, and the refusal names its place
 pub record RunsCustomRule (p : Project) (wkey key : Text) (kind : Kind) (name : Text) (e : Refusal) : Type 0 where
   pub right_key : bytes_eq wkey p.wkey ≡ true
   pub unused : get p.used (push_key (slug_text name) key) ≡ None
@@ -54,7 +54,7 @@ pub record RunsCustomRule (p : Project) (wkey key : Text) (kind : Kind) (name : 
   pub custom : IsCustomAt p.rules kind place
   pub refused : e ≡ PatternRefused place
 
--- a push runs such a rule, and the refusal is its own
+-- the command is a push that runs a rule with a custom pattern, and the refusal names the place of that rule
 abbrev pub PushRefused : CommandChange → Project → Refusal → Type 0
 PushRefused (Push wkey key kind name) p e = RunsCustomRule p wkey key kind name e
 PushRefused _ p e = ⊥

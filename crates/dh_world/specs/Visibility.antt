@@ -11,7 +11,7 @@ abbrev pub is_before : ℕ → Option ℕ → Bool
 is_before moment None = true
 is_before moment (Some end) = nat_lt moment end
 
--- at this moment the pass is one of the project's that has not ended
+-- the project has the pass, and the pass has not ended at this moment
 abbrev pub is_live : Project → ℕ → Text → Bool
 is_live p moment pass = option_map_or (is_before moment) (get p.passes pass) false
 

@@ -21,7 +21,7 @@ Text = List ℕ
 abbrev pub text_cmp : Text → Text → Ordering
 text_cmp = slice_cmp nat_cmp
 
--- by the first parts, and where they tie by the second
+-- pairs in the order of their first parts, and where these tie, of their second parts
 abbrev pub pair_cmp : {A B : Type 0} → (A → A → Ordering) → (B → B → Ordering) → A × B → A × B → Ordering
 pair_cmp first second x y = ordering_then (first x.0 y.0) (second x.1 y.1)
 

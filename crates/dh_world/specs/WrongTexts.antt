@@ -34,7 +34,7 @@ is_body body = nat_le (length body) 1048576
 abbrev pub is_content : Text → List ℕ → Bool
 is_content media body = is_media media && is_body body
 
--- each of the pages may have its own
+-- each of the pages may have its media type and its body
 abbrev pub have_contents : List UploadedPage → Bool
 have_contents = list_all (λ (x : UploadedPage). is_content x.media x.body)
 
@@ -80,30 +80,30 @@ bad_token token = unless (is_token token) BadToken
 abbrev pub is_end : ℕ → Bool
 is_end second = nat_lt second (2 ^ 63)
 
--- of the end of a pass, where it has one
+-- refuses an end that no pass may have
 abbrev pub bad_until : Option ℕ → Option Refusal
 bad_until until = unless (option_map_or is_end until true) BadUntil
 
 abbrev pub bad_retry_key : Text → Option Refusal
 bad_retry_key key = unless (is_token key) BadKey
 
--- of the name of a branch or tag, that it leaves no slug
+-- refuses the name of a branch or tag that gives no slug
 abbrev pub bad_name : Text → Option Refusal
 bad_name name = unless (is_some (slug_from name)) BadRef
 
--- of the pages of an upload, that there are too many
+-- refuses an upload of too many pages
 abbrev pub bad_count : List UploadedPage → Option Refusal
 bad_count pages = unless (is_count pages) BadPage
 
--- of a custom pattern, that it is over 200 bytes or no expression
+-- refuses a custom pattern that is over 200 bytes or no expression
 abbrev pub bad_rule : Rule → Option Refusal
 bad_rule rule = unless (is_allowed rule.pattern) BadPattern
 
--- the number of a redirect's first fault
+-- refuses a redirect that has a fault, by the number of its first one
 abbrev pub bad_redirect : Redirect → Option Refusal
 bad_redirect redirect = option_map (λ fault. BadRedirect (fault_number fault)) (first_fault redirect)
 
--- of a list of redirects, the first fault of the first one that has any
+-- refuses a list of redirects for the first fault of the first one that has any
 abbrev pub bad_redirects : List Redirect → Option Refusal
 bad_redirects [] = None
 bad_redirects (x ∷ xs) = or_else (bad_redirect x) (bad_redirects xs)
@@ -133,10 +133,10 @@ wrong_texts (DropPass pass) = bad_token pass ∷ []
 wrong_texts (Grant pass slug) = bad_token pass ∷ bad_slug slug ∷ []
 wrong_texts (Revoke pass slug) = bad_token pass ∷ bad_slug slug ∷ []
 
--- the first text of a change that is no value of its type
+-- the refusal of a change for the first thing that is wrong with its texts
 abbrev pub bad_change : CommandChange → Option Refusal
 bad_change change = first_of (wrong_texts change)
 
--- the first text that is no value of its type; the host comes first
+-- the refusal of a command for the first thing that is wrong with its texts; the host comes first
 abbrev pub bad_text : Command → Option Refusal
 bad_text c = first_of (bad_host c.host ∷ wrong_texts c.change)

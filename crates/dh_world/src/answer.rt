@@ -1,4 +1,4 @@
-//! What accepted commands answer, and its JSON.
+//! What accepted commands answer, and the JSON of an answer.
 ghost use Rattle.std.specs.Prelude.{◌≡◌, ◌≢◌, IfOk, IfSome, IsSome, Some, None, option_map, option_and_then, string_bytes};
 ghost use Rattle.std.specs.List.{find};
 ghost use Rattle.serde_json.specs.Read.{read};
@@ -14,7 +14,7 @@ use std::alloc::{AllocError, Global};
 #[derive(Drop)]
 pub enum Answer {
     Done,
-    /// A push made this version, which stands so after the rules.
+    /// A push made this version; its flags are as the rules left them.
     Made {
         slug: Slug,
         active: bool,
@@ -25,11 +25,11 @@ pub enum Answer {
     Known {
         slug: Slug,
     },
-    /// An upload gave so many pages.
+    /// An upload stored this many pages.
     Stored {
         pages: u32,
     },
-    /// An import added so many redirects.
+    /// An import added this many redirects.
     Added {
         count: u32,
     },
@@ -44,7 +44,7 @@ impl Answer {
         value_of(alloc, self)?.to_string(alloc)
     }
 
-    /// The answer whose JSON this is, byte for byte, or None where it is no answer's.
+    /// Reads the answer whose JSON the text is, byte for byte; None where no answer has this JSON.
     pub fn read(alloc: Global, text: &str) -> Result<Option<Answer>, AllocError>
         ensures some { IfOk result (λ o. IfSome o (λ a. spec.IsAnswer a × (spec.json_of a ≡ Some text.now))) }
         ensures none { IfOk result (λ o. o ≡ None → (a : Answer) → spec.IsAnswer a → spec.json_of a ≢ Some text.now) }
@@ -155,7 +155,7 @@ fn answer_in(alloc: Global, value: &Value) -> Result<Option<Answer>, AllocError>
     }
 }
 
-/// The answer of an object, if its JSON is the text.
+/// The answer that an object reads as, if the answer's JSON is the text.
 fn read_exactly(alloc: Global, value: &Value, text: &str) -> Result<Option<Answer>, AllocError>
     requires { read text.now ≡ Some (view value.now) }
     ensures some { IfOk result (λ o. IfSome o (λ a. spec.IsAnswer a × (spec.json_of a ≡ Some text.now))) }

@@ -2,8 +2,8 @@
 
 use dh_paths::Token;
 
-/// The caller of a read: with a pass of his, or with none, at a moment. Whether his pass is one of the project's
-/// and has not ended then is asked of the records.
+/// Who reads: a caller with a pass, or without one, at a moment. Whether the project has the pass, and whether
+/// the pass is live at that moment, is looked up in the records.
 #[derive(Drop)]
 pub struct Caller {
     pub pass: Option<Token>,

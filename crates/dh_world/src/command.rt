@@ -6,7 +6,7 @@ use dh_redirects::Redirect;
 use dh_rules::Rule;
 use dh_versions::Kind;
 
-/// An administrative command. Its texts are as they came: that one is no value of its type is found when the command is applied.
+/// An administrative command. Its texts are unchecked: applying the command checks each against its type.
 #[derive(Drop)]
 pub struct Command {
     /// The host of the project.
@@ -18,7 +18,7 @@ pub struct Command {
 /// What a command asks of the project of its host.
 #[derive(Drop)]
 pub enum CommandChange {
-    /// A project with one language and nothing else.
+    /// Opens a project with one language and nothing else.
     NewProject {
         lang: Text,
         /// The name of the default branch.
@@ -28,11 +28,11 @@ pub enum CommandChange {
         /// The key that pushes and uploads carry.
         wkey: Text,
     },
-    /// One more language, the last.
+    /// Adds a language behind the others.
     AddLang {
         lang: Text,
     },
-    /// There is a branch or a tag of this name.
+    /// Tells of a branch or a tag with this name; makes a version of it where there is none.
     Push {
         wkey: Text,
         /// The retry key.
@@ -40,7 +40,7 @@ pub enum CommandChange {
         kind: Kind,
         name: Text,
     },
-    /// Pages of a version in a language.
+    /// Stores pages of a version in a language.
     Upload {
         wkey: Text,
         /// The retry key.
@@ -51,81 +51,81 @@ pub enum CommandChange {
         replace: bool,
         pages: Pages,
     },
-    /// A version is active.
+    /// Activates a version.
     Activate {
         slug: Text,
     },
-    /// A version is inactive, and its pages are removed.
+    /// Deactivates a version, and removes its pages.
     Deactivate {
         slug: Text,
     },
-    /// A version is hidden: served, and left out of lists.
+    /// Hides a version: it is served, and left out of lists.
     Hide {
         slug: Text,
     },
-    /// A version is not hidden.
+    /// Makes a version not hidden.
     Unhide {
         slug: Text,
     },
-    /// A version is public.
+    /// Makes a version public.
     Publish {
         slug: Text,
     },
-    /// A version is private.
+    /// Makes a version private.
     MakePrivate {
         slug: Text,
     },
-    /// A version is gone, with its pages, the grants on it and its name among the defaults. Retry keys stay used.
+    /// Removes a version with its pages, the grants on it and its name among the defaults. Retry keys stay used.
     Gone {
         slug: Text,
     },
-    /// A version, or an alias, is the first default.
+    /// Makes a version, or an alias, the first default.
     SetDefault {
         /// The slug of a version, or the name of an alias.
         name: Text,
     },
-    /// There is a rule more; those from its place on move by one.
+    /// Adds a rule at a place; later rules move down.
     AddRule {
-        /// From 1.
+        /// Counted from 1.
         place: u32,
         rule: Rule,
     },
-    /// The rule at a place is gone; those behind it move by one.
+    /// Removes the rule at a place; later rules move up.
     DropRule {
-        /// From 1.
+        /// Counted from 1.
         place: u32,
     },
-    /// There is a redirect more; those from its place on move by one.
+    /// Adds a redirect at a place; later redirects move down.
     AddRedirect {
-        /// From 1.
+        /// Counted from 1.
         place: u32,
         redirect: Redirect,
     },
-    /// The redirect at a place is gone; those behind it move by one.
+    /// Removes the redirect at a place; later redirects move up.
     DropRedirect {
-        /// From 1.
+        /// Counted from 1.
         place: u32,
     },
     /// Adds the redirects of a list that are not there, each once, behind the others.
     ImportRedirects {
         list: Redirects,
     },
-    /// There is a pass, which holds nothing.
+    /// Adds a pass without grants.
     AddPass {
         pass: Text,
-        /// The second since 1970 at which it ends, if it does.
+        /// The second since 1970 at which the pass ends, if it ends.
         until: Option<u64>,
     },
-    /// A pass is gone, with its grants.
+    /// Removes a pass with its grants.
     DropPass {
         pass: Text,
     },
-    /// A pass holds a version.
+    /// Grants a version to a pass.
     Grant {
         pass: Text,
         slug: Text,
     },
-    /// A pass does not hold a version.
+    /// Takes the grant on a version from a pass.
     Revoke {
         pass: Text,
         slug: Text,

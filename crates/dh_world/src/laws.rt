@@ -16,7 +16,7 @@ pub fn first_is_kept()
     ensures { FirstIsKept }
 {}
 
-/// An answer that is kept stays so, whatever command comes.
+/// An answer that is kept stays kept, whatever command comes.
 pub fn kept_stays()
     ensures { KeptStays }
 {}

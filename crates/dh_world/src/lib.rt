@@ -1,4 +1,4 @@
-//! What a documentation host means: its world, what a caller sees of it, and the one step that each command is.
+//! What a documentation host means: its world, what a caller sees of it, and the one step that each command makes.
 #![tactic(auto)]
 
 pub mod answer;

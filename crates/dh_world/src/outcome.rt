@@ -1,10 +1,10 @@
-//! What came of the calls of the desk.
+//! The outcomes of calls of the desk.
 use crate::answer::Answer;
 use crate::refusal::Refusal;
 use dh_lookup::Fault;
 use dh_wire::Reply;
 
-/// What came of a call of the desk.
+/// The outcome of a call of the desk.
 #[derive(Drop)]
 pub enum Outcome {
     /// A command was accepted.

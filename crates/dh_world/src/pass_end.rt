@@ -5,8 +5,8 @@ ghost use Rattle.dh_world.specs.WrongTexts.{is_end};
 
 use std::marker::Model;
 
-/// The second since 1970 at which a pass ends: it is live before it, and not at it. It fits a signed number
-/// of 64 bits, as a column holds it.
+/// The second since 1970 at which a pass ends: the pass is live before that second, and not from then on.
+/// The number fits 64 bits with a sign, so that a column can hold it.
 #[derive(Drop)]
 pub struct PassEnd {
     second: u64,
@@ -41,7 +41,7 @@ impl PassEnd {
         self.second
     }
 
-    /// The same, as a column holds it.
+    /// The second as the signed number that a column holds.
     pub fn number(&self) -> i64
         ensures { result ≡ pos self.now }
     {

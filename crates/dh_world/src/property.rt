@@ -1,5 +1,5 @@
-//! What a command sets of a version.
-/// What a command sets of a version. That it is inactive is none of these: then its pages go too.
+//! The properties that commands set of a version.
+/// A property that a command sets of a version. To be inactive is no property here, since then the pages are removed too.
 #[derive(Clone, Copy, Debug, PartialEq, Eq)]
 pub enum Property {
     Active,

@@ -19,11 +19,11 @@ pub enum Refusal {
     BadRef,
     /// A page's path is no `PagePath`.
     BadPath,
-    /// A page's media type or size, two pages of one path, or too many pages.
+    /// A page has a wrong media type or size, two pages have one path, or there are too many pages.
     BadPage,
-    /// A rule's pattern.
+    /// A rule's custom pattern is over 200 bytes, or `regex` refuses it.
     BadPattern,
-    /// A redirect, by the number of its fault.
+    /// A redirect has a fault, told by its number.
     BadRedirect(u8),
     /// A pass or a write key is no `Token`.
     BadToken,
