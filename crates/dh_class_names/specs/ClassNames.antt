@@ -1,4 +1,4 @@
--- The names of the classes of one project, and the records that it is made of.
+-- The names of the classes of one project, and the records that the project is made of.
 use Rattle.std.specs.Prelude.{◌≡◌, List, ◌∷◌, map, filter, Option, Some, None}
 use Rattle.std.specs.FinMap.{from_entries}
 use Rattle.std.specs.List.Sorted.{IsSortedByKey}
@@ -29,10 +29,10 @@ pub record AreRowsOf (p : Project) (branch : Text) (rows : List VersionRow) (hel
 abbrev pub grants_of : Text → List HeldRow → List HeldRow
 grants_of pass held = filter (λ x. bytes_eq x.pass pass) held
 
--- the names of a class, with it
+-- a class with its names
 abbrev pub class_names : Project → Option Text → ClassNames
 class_names p class = record { class = class; names = names_of p class }
 
--- callers with no pass, and those of each of these
+-- the class of callers with no pass, and the class of each pass
 abbrev pub classes_of : List PassRow → List (Option Text)
 classes_of passes = None ∷ map (λ x. Some x.pass) passes

@@ -8,13 +8,13 @@ use Rattle.dh_records.specs.declared.records.VersionRow.{VersionRow}
 use Rattle.dh_records.specs.declared.records.HeldRow.{HeldRow}
 use Rattle.dh_class_names.specs.Rows.{version_under}
 
--- a release of the set that none of it is above
+-- the version is a release of the set, and no version of the set is above it
 pub record IsHighestOf (P : Version → Type 0) (v : Version) : Type 0 where
   pub member : P v
   pub release : is_release v ≡ true
   pub unbeaten : (w : Version) → P w → is_above w v ≡ false
 
--- this is the highest, or none of the set is a release
+-- the version is the highest release of the set; none where the set has no release
 abbrev pub IsHighest : (Version → Type 0) → Option Version → Type 0
 IsHighest P (Some v) = IsHighestOf P v
 IsHighest P None = (w : Version) → P w → is_release w ≡ false
@@ -27,23 +27,23 @@ is_higher None v = is_release v
 abbrev pub higher_of : Option Version → Version → Option Version
 higher_of best v = if is_higher best v then Some v else best
 
--- the same with a version that all callers see, or not
+-- the higher of the best and the version where all callers see the version, else the best
 abbrev pub with_public : Option Version → Version → Option Version
 with_public best v = if may_see v false then higher_of best v else best
 
--- the same with one that a grant opens, where it is there and active
+-- the higher of the best and the version where it is there and active, else the best
 abbrev pub with_opened : Option Version → Option Version → Option Version
 with_opened best None = best
 with_opened best (Some v) = if v.active then higher_of best v else best
 
 -- ---- sets of versions of a host's records
 
--- seen by all callers
+-- the version is one of the records', and all callers see it
 pub record IsPublic (rows : List VersionRow) (w : Version) : Type 0 where
   pub among : IsMember (map (λ r. r.version) rows) w
   pub seen : may_see w false ≡ true
 
--- seen by who has one of these grants
+-- one of these grants is on the version, which is active
 pub record IsOpenedByGrant (rows : List VersionRow) (grants : List HeldRow)
     (w : Version) : Type 0 where
   pub grant : HeldRow
@@ -51,6 +51,6 @@ pub record IsOpenedByGrant (rows : List VersionRow) (grants : List HeldRow)
   pub stands : version_under rows grant.slug ≡ Some w
   pub active : w.active ≡ true
 
--- seen by who has these grants
+-- all callers see the version, or one of these grants opens it
 abbrev pub IsSeenWith : List VersionRow → List HeldRow → Version → Type 0
 IsSeenWith rows grants w = IsPublic rows w ⊎ IsOpenedByGrant rows grants w

@@ -16,11 +16,11 @@ use Rattle.dh_records.specs.declared.records.HeldRow.{HeldRow}
 abbrev pub version_under : List VersionRow → Text → Option Version
 version_under rows slug = option_map (λ r. r.version) (find (λ r. bytes_eq r.version.slug slug) rows)
 
--- a grant on the version is among these
+-- one of these grants is on the version
 abbrev pub is_granted : List HeldRow → Text → Bool
 is_granted grants slug = list_any (λ x. bytes_eq x.slug slug) grants
 
--- the version under a slug, where who has these grants sees it
+-- the version under a slug, where a caller who has these grants sees it
 abbrev pub seen_under : List VersionRow → List HeldRow → Text → Option Version
 seen_under rows grants slug =
     option_and_then (λ v. if may_see v (is_granted grants slug) then Some v else None) (version_under rows slug)
@@ -30,7 +30,7 @@ abbrev pub latest_by : List VersionRow → List HeldRow → Text → Option Text
 latest_by rows grants branch =
     option_and_then (λ slug. option_and_then (slug_of_branch branch) (seen_under rows grants slug)) (slug_from branch)
 
--- the name is an alias that stands for a version, where these two do or do not
+-- the name is `latest` or `stable`, and the argument of that name says that it stands for a version
 abbrev pub is_standing_alias : Bool → Bool → Text → Bool
 is_standing_alias latest stable name =
     if bytes_eq name (codes "latest") then latest

@@ -27,7 +27,7 @@ fn is_higher(alloc: Global, best: Option<&Version>, version: &Version) -> Result
     }
 }
 
-/// The higher of both: the version, where it is a release and above the best, or there was none.
+/// Answers the version where it is a release and above the best, or there was no best; else the best.
 fn higher_of<'a>(
     alloc: Global,
     best: Option<&'a Version>,
@@ -43,7 +43,7 @@ fn higher_of<'a>(
     }
 }
 
-/// The same, where all callers see the version; else the best stays.
+/// Answers the higher of the best and the version where all callers see the version, else the best.
 fn with_row<'a>(
     alloc: Global,
     best: Option<&'a Version>,
@@ -59,7 +59,7 @@ fn with_row<'a>(
     }
 }
 
-/// The highest release of those that all callers see.
+/// The highest release that all callers see.
 pub fn public_top(alloc: Global, rows: &[VersionRow]) -> Result<Option<&Version>, AllocError>
     ensures { IfOk result (λ o. IsHighest (IsPublic rows.now) (option_copied o)) }
 {
@@ -112,7 +112,7 @@ pub fn with_opened(
     }
 }
 
-/// The highest release of those that all callers see, which is known, and of those that the grants open.
+/// The highest release that all callers see or the grants open; `public` is the highest that all callers see.
 pub fn granted_top<'a>(
     alloc: Global,
     rows: &'a [VersionRow],

@@ -47,14 +47,14 @@ fn is_granted(grants: &[HeldRow], slug: &str) -> bool
     grants.iter().any(|x| x.slug.as_str() == slug)
 }
 
-/// Whether who has these grants sees the version, which stands under this slug.
+/// Whether a caller who has these grants sees the version under this slug.
 pub fn is_seen(version: &Version, grants: &[HeldRow], slug: &str) -> bool
     ensures { result ≡ may_see version.now (spec.is_granted grants.now slug.now) }
 {
     version.active && (!version.private || is_granted(grants, slug))
 }
 
-/// The record of the version under a slug, where who has these grants sees it.
+/// The record of the version under a slug, where a caller who has these grants sees it.
 pub fn seen_under<'a>(
     rows: &'a [VersionRow],
     grants: &[HeldRow],

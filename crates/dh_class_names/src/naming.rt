@@ -38,7 +38,7 @@ pub fn is_of_branch(version: &Version, branch: &RefName) -> bool
     version.kind == Kind::Branch && version.name.as_str() == branch.as_str()
 }
 
-/// The slug that `latest` stands for, for who has these grants.
+/// The slug that `latest` stands for, to a caller who has these grants.
 fn latest_for(
     alloc: Global,
     rows: &[VersionRow],
@@ -61,7 +61,7 @@ fn latest_for(
     }
 }
 
-/// Whether the name is an alias that stands for a version, where these two do or do not.
+/// Whether the name is an alias that stands for a version; `latest` and `stable` say whether each of them does.
 pub fn is_standing_alias(name: &str, latest: bool, stable: bool) -> bool
     ensures { result ≡ spec.is_standing_alias latest stable name.now }
 {
@@ -72,7 +72,7 @@ pub fn is_standing_alias(name: &str, latest: bool, stable: bool) -> bool
     }
 }
 
-/// Whether the name stands for a version, where the aliases do or do not.
+/// Whether the name stands for a version; `latest` and `stable` say whether each alias does.
 fn stands(rows: &[VersionRow], grants: &[HeldRow], latest: bool, stable: bool, name: &str) -> bool
     ensures { RiseBySlug rows.now
         → result ≡ spec.stands_by rows.now grants.now latest stable name.now }
@@ -139,7 +139,7 @@ fn slug_in(alloc: Global, version: Option<&Version>) -> Result<Option<Slug>, All
     }
 }
 
-/// The names for who has these grants, where this version is the stable one.
+/// The names of a caller who has these grants, where `stable` stands for this version.
 fn names_for(
     alloc: Global,
     branch: &RefName,

@@ -1,4 +1,4 @@
--- The lists that the records are, of which none is derived.
+-- The lists of the records, with no derived ones.
 use Rattle.std.specs.Prelude.{[]}
 use Rattle.dh_records.specs.Lists.{Lists}
 use Rattle.dh_constraints.specs.declared.records.Records.{Records}

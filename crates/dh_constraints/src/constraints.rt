@@ -116,7 +116,7 @@ fn projects_have_redirects(records: &Records) -> bool
     ))
 }
 
-// ---- what a record stands on
+// ---- what a record names is there
 
 fn pages_have_versions(records: &Records) -> bool
     ensures { let lists = lists_in records.now in IsTrue result
@@ -291,7 +291,7 @@ fn texts_are_kept(alloc: Global, records: &Records) -> Result<bool, AllocError>
     )
 }
 
-/// Whether the records keep the constraints. Out of memory it says nothing.
+/// Whether the records keep the constraints. Out of memory it does not answer.
 pub fn keep_constraints(alloc: Global, records: &Records) -> Result<bool, AllocError>
     ensures { IfOk result (λ b. IsTrue b ↔ KeepsConstraints (lists_in records.now)) }
 {

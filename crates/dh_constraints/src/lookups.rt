@@ -1,4 +1,4 @@
-//! What the records of one host are.
+//! Looking up the records of one host.
 
 ghost use Rattle.std.specs.Prelude.{◌≡◌, filter, find, option_map};
 ghost use Rattle.dh_records.specs.Lists.{is_lang_of, is_version, is_pick_of, is_pass_of, is_rule_of, is_redirect_of};

@@ -18,31 +18,31 @@ use Rattle.dh_control.specs.Ends.{end_of, end_line}
 use Rattle.dh_control.specs.declared.end.End.{End}
 use Rattle.dh_control.specs.declared.end.End.TheVariants.{Unknown}
 
--- an order was performed, what it prints was written, with LF, and the end says whether it was refused; where a fault ended it,
--- it was done or was not
+-- an order was performed, what it prints was written, with LF, and the end says whether it was refused; after a fault it was
+-- done or was not
 abbrev pub DoesOne : {E : Type 0} → ℕ → World → Order → World → Option Text → Option Text → Result End E → Type 0
 DoesOne moment before order after held now (Ok end) =
     (text : Text) × (refused : Bool) × PerformsSingle moment before order after text refused
     × Appends held now (text ++ 10 ∷ []) × (end ≡ end_of refused)
 DoesOne moment before order after held now (Err fault) = MayDoSingle moment before order after
 
--- what is no message does nothing, and prints nothing
+-- a message that is none does nothing, and prints nothing
 abbrev pub DoesNone : {E : Type 0} → World → World → Option Text → Option Text → Result End E → Type 0
 DoesNone before after held now (Ok end) = (after ≡ before) × (now ≡ held) × (end ≡ Unknown)
 DoesNone before after held now (Err fault) = after ≡ before
 
--- what words order is done, whatever file they name
+-- the order of a line is done, whatever store the line names; words that are no line do nothing
 abbrev pub DoesWords : {E : Type 0} → ℕ → World → Option Line → World → Option Text → Option Text → Result End E → Type 0
 DoesWords moment before None after held now result = DoesNone before after held now result
 DoesWords moment before (Some line) after held now result = DoesOne moment before line.order after held now result
 
--- what was sent as words are the texts between its NULs; what is no text does nothing
+-- bytes sent as words are the texts between their NULs; bytes that are no text do nothing
 abbrev pub DoesSent : ℕ → Text → World → World → Option Text → Option Text → Result End ScriptFault → Type 0
 DoesSent moment sent before after held now result =
     (IsUtf8 sent × DoesWords moment before (line_in (slice_split is_nul sent)) after held now result)
     ⊎ ((IsUtf8 sent → ⊥) × DoesNone before after held now result)
 
--- a script ran; one that is none did nothing
+-- a script ran; bytes that are no script did nothing
 pub record DoesScript (moment : ℕ) (script : Text) (before after : World) (held now : Option Text) (result : Result End ScriptFault) : Type 0 where
   pub ran : RunsScript moment (Some script) before after held now result
   pub whole : OnOk result (IsScript script)
@@ -53,7 +53,7 @@ DoesBy moment (Some sent) script before after held now result = DoesSent moment 
 DoesBy moment None (Some script) before after held now result = DoesScript moment script before after held now result
 DoesBy moment None None before after held now result = DoesNone before after held now result
 
--- by its mark; a message that was cut does nothing
+-- what the body of a message does, by its mark; a message that was cut does nothing
 abbrev pub DoesBody : ℕ → Option Text → World → World → Option Text → Option Text → Result End ScriptFault → Type 0
 DoesBody moment None before after held now result = DoesNone before after held now result
 DoesBody moment (Some body) before after held now result =
@@ -63,12 +63,12 @@ DoesBody moment (Some body) before after held now result =
 abbrev pub DoesMessage : ℕ → Text → World → World → Option Text → Option Text → Result End ScriptFault → Type 0
 DoesMessage moment message before after held now result = DoesBody moment (body_of message) before after held now result
 
--- the last line tells how it ended, behind what was printed; or that line is lost
+-- the last line, behind what was printed, tells the end; or the last line is lost
 abbrev pub HasLastLine : Option Text → Option Text → Result End ScriptFault → Result End ScriptFault → Type 0
 HasLastLine held now ended result =
     ((result ≡ ended) × Appends held now (end_line ended)) ⊎ (result ≡ Err (Run Write))
 
--- why a source was not read as a message, by what it had left
+-- the fault says why a source was not read as a message, by what the source had left
 abbrev pub IsMessageUnread : Option Text → Result End ScriptFault → Type 0
 IsMessageUnread left (Ok end) = ⊥
 IsMessageUnread left (Err fault) = IfSome left (IsCauseOver most_message fault)
@@ -79,7 +79,7 @@ TakesMessage moment left before after held now result =
     ((message : Text) × IfSome left (λ input. message ≡ input) × DoesMessage moment message before after held now result)
     ⊎ (IsMessageUnread left result × (after ≡ before) × (now ≡ held))
 
--- a message was taken so, and behind what that printed stands how it ended
+-- a message was taken, and the last line behind what it printed tells its end
 pub record AnswersMessage (moment : ℕ) (left : Option Text) (before after : World) (held now : Option Text) (result : Result End ScriptFault) : Type 0 where
   pub printed : Option Text
   pub ended : Result End ScriptFault
@@ -92,7 +92,7 @@ pub record AnswersMessage (moment : ℕ) (left : Option Text) (before after : Wo
 abbrev pub IsWord : Text → Type 0
 IsWord word = IsUtf8 word × All (λ byte. is_nul byte ≡ false) word
 
--- of the words that a client sends their line is done
+-- the words that a client sends are done as their line
 abbrev pub WordsAreDone : Type 0
 WordsAreDone =
     (moment : ℕ) (word : Text) (words : List Text) (before after : World) (held now : Option Text) (result : Result End ScriptFault)

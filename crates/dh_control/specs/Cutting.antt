@@ -8,17 +8,17 @@ use Rattle.dh_control.specs.Ends.{end_line, end_word}
 use Rattle.dh_control.specs.Messages.{behind}
 use Rattle.dh_control.specs.declared.end.End.{End}
 
--- a byte, where it ends a line of its own
+-- the byte, where it ends a line
 abbrev pub own_line : Bool → ℕ → Text
 own_line true byte = byte ∷ []
 own_line false byte = []
 
--- a byte in front of the whole lines that follow it
+-- puts a byte in front of the whole lines that follow it
 abbrev pub onto_lines : ℕ → Text → Text
 onto_lines byte [] = own_line (byte == 10) byte
 onto_lines byte (next ∷ lines) = byte ∷ next ∷ lines
 
--- the lines of a text that have their ends, with these
+-- the lines of a text that have their ends, with the ends
 abbrev pub whole_lines : Text → Text
 whole_lines [] = []
 whole_lines (byte ∷ bytes) = onto_lines byte (whole_lines bytes)
@@ -27,7 +27,7 @@ whole_lines (byte ∷ bytes) = onto_lines byte (whole_lines bytes)
 abbrev pub AreLines : Text → Type 0
 AreLines text = whole_lines text ≡ text
 
--- of an answer without its last LF: what was printed stands in front of the last line, which is `end` and a word
+-- cuts an answer without its last LF: its last line is `end` and a word, and what was printed stands before
 abbrev pub cut_front : Text → Option (Text × Text)
 cut_front front =
     option_map (λ word. (whole_lines front, word)) (behind (codes "end ") (drop (length (whole_lines front)) front))
@@ -37,7 +37,7 @@ abbrev pub cut : Text → Option (Text × Text)
 cut answer =
     if slice_index answer (length answer - 1) == 10 then cut_front (take (length answer - 1) answer) else None
 
--- whatever lines an answer prints, and however it ends, cutting it tells both
+-- cutting an answer gives the lines that were printed and the word of the end, whatever they are
 abbrev pub AnswersAreCut : Type 0
 AnswersAreCut =
     (printed : Text) (ended : Result End ScriptFault) → AreLines printed

@@ -1,4 +1,4 @@
--- What is sent.
+-- What a client sends to a server.
 use Rattle.std.specs.Prelude.{ℕ, ◌-◌, ◌==◌, Bool, List, [], ◌∷◌, ◌++◌, Option, Some, None}
 use Rattle.std.specs.Prelude.{length, take, drop, slice_index, codes, nat_eq, if◌then◌else◌}
 use Rattle.std.specs.List.{join_by, starts_with}
@@ -8,7 +8,7 @@ use Rattle.dh_world.specs.World.{Text}
 abbrev pub most_message : ℕ
 most_message = 1048640
 
--- the most reads of one, and the most bytes that these take
+-- the most reads of a message, and the most bytes that these reads take
 abbrev pub most_reads : ℕ
 most_reads = 100000
 
@@ -19,25 +19,25 @@ most_taken = 1052736
 abbrev pub last_byte : ℕ
 last_byte = 255
 
--- a message without that byte; one that has none was cut
+-- the message without its last byte; none where that byte does not end it, as in a message that was cut
 abbrev pub body_of : Text → Option Text
 body_of message =
     if slice_index message (length message - 1) == last_byte then Some (take (length message - 1) message)
     else None
 
--- what stands behind a mark
+-- what stands behind a mark, where the bytes begin with it
 abbrev pub behind : Text → Text → Option Text
 behind mark bytes = if starts_with nat_eq bytes mark then Some (drop (length mark) bytes) else None
 
--- in front of the words of one order
+-- what stands in front of the words of one order
 abbrev pub words_mark : Text
 words_mark = codes "docs_host 1 words\n"
 
--- in front of the lines of a script
+-- what stands in front of the lines of a script
 abbrev pub script_mark : Text
 script_mark = codes "docs_host 1 script\n"
 
--- between each two words
+-- the byte that stands between each two words
 abbrev pub is_nul : ℕ → Bool
 is_nul byte = nat_eq byte 0
 

@@ -42,7 +42,7 @@ fn do_order<S: Alter, W: Sink>(
     }
 }
 
-/// Does what words of the program order.
+/// Does what some words order, as words of the program.
 fn do_words<S: Alter, W: Sink>(
     alloc: Global,
     desk: &mut Desk<S>,
@@ -128,7 +128,7 @@ fn do_script<S: Alter, W: Sink>(
     }
 }
 
-/// Does what a message asks for that came whole.
+/// Does what a whole message asks for.
 fn do_body<S: Alter, W: Sink>(
     alloc: Global,
     desk: &mut Desk<S>,
@@ -150,7 +150,7 @@ fn do_body<S: Alter, W: Sink>(
     }
 }
 
-/// Does what a message asks for, and writes what that prints.
+/// Does what a message asks for, and writes what is printed.
 fn do_message<S: Alter, W: Sink>(
     alloc: Global,
     desk: &mut Desk<S>,
@@ -194,7 +194,7 @@ fn tell_end<W: Sink>(sink: &mut W, ended: Result<End, ScriptFault>) -> Result<En
     }
 }
 
-/// Reads one message, does what it asks for, and writes what that prints.
+/// Reads one message, does what it asks for, and writes what is printed.
 fn take_message<S: Alter, R: Source, W: Sink>(
     alloc: Global,
     desk: &mut Desk<S>,
@@ -218,10 +218,10 @@ fn take_message<S: Alter, R: Source, W: Sink>(
     }
 }
 
-/// Reads one message, does what it asks for at a moment, in seconds since 1970, and writes what that prints; and behind it how
-/// it ended: `end 0`, or `end 1` where its one order was refused, `end 2` where it is no message of this version, and `end 3`
-/// with the name of a fault, which may be that it was not read. What an answer without such a line asked for was done, in whole
-/// or in part, or was not.
+/// Reads one message, does what it asks for at a moment, in seconds since 1970, writes what is printed, and then how the message
+/// ended: `end 0`, or `end 1` where its one order was refused, `end 2` where it is no message of this version, and `end 3` with
+/// the name of a fault, also where the message was not read. Where an answer has no such line, what the message asked for was
+/// done, in whole or in part, or was not.
 pub fn answer_message<S: Alter, R: Source, W: Sink>(
     alloc: Global,
     desk: &mut Desk<S>,

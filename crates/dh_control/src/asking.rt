@@ -6,14 +6,14 @@ ghost use Rattle.dh_control.specs.Messages as spec;
 use crate::message::{LAST, SCRIPT, WORDS};
 use std::alloc::{AllocError, Global};
 
-/// The words, a NUL between each two.
+/// Joins the words, with a NUL between each two.
 fn joined(alloc: Global, words: &[String]) -> Result<String, AllocError>
     ensures { IfOk result (λ text. string_bytes text ≡ spec.joined (map string_bytes words.now)) }
 {
     words.join(alloc, "\0")
 }
 
-/// The message that has words of the program done. A server reads the same words, if none of them has a NUL.
+/// Makes the message that orders these words of the program. A server reads the same words, if none of them has a NUL.
 pub fn words_message(alloc: Global, words: &[String]) -> Result<Vec<u8>, AllocError>
     ensures { IfOk result (λ message. message.items
         ≡ spec.words_message (map string_bytes words.now)) }
@@ -26,7 +26,7 @@ pub fn words_message(alloc: Global, words: &[String]) -> Result<Vec<u8>, AllocEr
     Ok(message)
 }
 
-/// The message that runs a script.
+/// Makes the message that runs a script.
 pub fn script_message(alloc: Global, script: &[u8]) -> Result<Vec<u8>, AllocError>
     ensures { IfOk result (λ message. message.items ≡ spec.script_message script.now) }
 {

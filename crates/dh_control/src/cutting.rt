@@ -10,11 +10,11 @@ use crate::message::behind;
 #[derive(Clone, Copy)]
 pub struct AnswerParts<'a> {
     pub printed: &'a [u8],
-    /// `0`, `1`, `2`, or `3` and the name of a fault.
+    /// The end: `0`, `1`, `2`, or `3` and the name of a fault.
     pub end: &'a [u8],
 }
 
-/// The lines of some bytes, each with its end: all that stands in front of the last that has none.
+/// The lines of some bytes that have their ends: all but the last line where that has none.
 pub fn whole_lines(bytes: &[u8]) -> &[u8]
     ensures lines { result.now ≡ spec.whole_lines bytes.now }
     ensures within { length result.now ≤ length bytes.now }
@@ -29,7 +29,7 @@ pub fn whole_lines(bytes: &[u8]) -> &[u8]
     lines
 }
 
-/// The parts of an answer. None where its last line is not whole, or tells no end.
+/// Cuts an answer into its parts. None where its last line is not whole, or tells no end.
 pub fn cut(answer: &[u8]) -> Option<AnswerParts<'_>>
     ensures { option_map (λ parts. (parts.printed.now, parts.end.now)) result
         ≡ spec.cut answer.now }

@@ -10,11 +10,11 @@ use dh_script::{RunFault, ScriptFault};
 /// How a message ends that met no fault.
 #[derive(Clone, Copy, Debug, PartialEq, Eq)]
 pub enum End {
-    /// It is done.
+    /// What the message asks for is done.
     Done,
     /// Its one order was refused or failed, or is a read of a bad target.
     Refused,
-    /// It is no message of this version, and nothing is done.
+    /// The message is none of this version, and nothing is done.
     Unknown,
 }
 
@@ -25,7 +25,7 @@ pub fn end_of(refused: bool) -> End
     if refused { End::Refused } else { End::Done }
 }
 
-/// The number by which an end is told.
+/// The number that tells an end.
 pub fn end_number(ended: Result<End, ScriptFault>) -> &'static str
     ensures { result.now ≡ spec.end_number ended }
 {
@@ -47,7 +47,8 @@ pub fn end_name(ended: Result<End, ScriptFault>) -> &'static str
     }
 }
 
-/// The end that a word of an answer tells, where it tells one. Two faults have one name, and so this is one of theirs.
+/// Reads the end that a word of an answer tells, where it tells one. Two faults share a name; for that name the answer is one of
+/// them.
 pub fn read_end(word: &[u8]) -> Option<Result<End, ScriptFault>>
     ensures { ReadsEnd word.now result }
 {

@@ -3,12 +3,12 @@
 ghost use Rattle.dh_control.specs.Answers.{ScriptsAreDone, WordsAreDone};
 ghost use Rattle.dh_control.specs.Cutting.{AnswersAreCut};
 
-/// Whatever lines an answer prints, and however it ends, cutting it tells both.
+/// Cutting an answer gives the lines that were printed and the end, whatever they are.
 pub fn answers_are_cut()
     ensures { AnswersAreCut }
 {}
 
-/// What a client sends is what is done: of words their line, which each server reads of them, and of a script its lines.
+/// What a client sends is what is done: its words are done as their line, and its script is run.
 pub fn messages_are_done()
     ensures words { WordsAreDone }
     ensures script { ScriptsAreDone }

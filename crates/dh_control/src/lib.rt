@@ -1,4 +1,5 @@
-//! Messages: orders that come in beside the requests of a server. What one asks for, what it does, and how its end is told.
+//! Messages: orders that come in beside the requests of a server. What a message asks for, what it does, and how its end is
+//! told.
 #![tactic(auto)]
 
 mod answering;

@@ -7,19 +7,19 @@ ghost use Rattle.dh_control.specs.Messages as spec;
 
 use std::alloc::{AllocError, Global};
 
-/// What a message begins with that has the words of one order, a NUL between each two.
+/// The beginning of a message that has the words of one order, with a NUL between each two.
 pub const WORDS: &str = "docs_host 1 words\n";
 
-/// What one begins with that has the lines of a script.
+/// The beginning of a message that has the lines of a script.
 pub const SCRIPT: &str = "docs_host 1 script\n";
 
-/// What a message ends with, and what stands in no text.
+/// The byte that ends a message; no text has it.
 pub const LAST: u8 = 255;
 
 /// The most bytes of a message: those of a script, and 64 beside it.
 pub const MOST_BYTES: usize = 1_048_640;
 
-/// A message without its end. One that has none was cut.
+/// Takes the end off a message. None where a message has no end, as one that was cut.
 pub fn body_of(message: &[u8]) -> Option<&[u8]>
     ensures { option_map (λ body. body.now) result ≡ spec.body_of message.now }
 {
@@ -40,7 +40,7 @@ pub fn behind<'a>(mark: &str, bytes: &'a [u8]) -> Option<&'a [u8]>
     }
 }
 
-/// The words that were sent.
+/// The words that were sent: the texts between the NULs.
 pub fn words_of(alloc: Global, text: &str) -> Result<Vec<String>, AllocError>
     ensures { IfOk result (λ words. map string_bytes words.items
         ≡ slice_split spec.is_nul text.now) }

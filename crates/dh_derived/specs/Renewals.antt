@@ -23,33 +23,33 @@ use Rattle.dh_derived.specs.declared.renewals.Renewal.TheVariants.{Nothing, Rout
 
 -- ---- what is covered
 
--- the row of a class and a name is to be made right, in a project that is so afterwards
+-- the renewal covers the row of a class and a name, in a project as it is after the change
 abbrev pub is_covered : Renewal → Project → Option Text → AliasName → Bool
 is_covered Nothing p class name = false
 is_covered Routes p class name = false
 is_covered (Class pass) p class name = is_own class pass
 is_covered Aliases p class name = has_class p class
 
--- the routes are
+-- the renewal covers the routes
 abbrev pub are_routes_covered : Renewal → Bool
 are_routes_covered Routes = true
 are_routes_covered _ = false
 
--- What a renewal does not cover is due after a change of the project as it was before.
+-- What a renewal does not cover is the same for the project before the change and after it.
 pub record CoversChange (r : Renewal) (was is : Project) : Type 0 where
   pub names : (class : Option Text) (name : AliasName) → is_covered r is class name ≡ false → due_in is class name ≡ due_in was class name
   pub redirects : are_routes_covered r ≡ false → is.redirects ≡ was.redirects
 
 -- ---- edits
 
--- What the constraints say of a project that its names rest on: each version stands under its own slug, a grant is on
--- a version that is there, and a default is an alias or a version that is there.
+-- What the names of a project need of the constraints: each version stands under its own slug, a grant is on a version that is
+-- there, and a default is an alias or a version that is there.
 pub record IsCoherent (p : Project) : Type 0 where
   pub named : AreNamed p.versions
   pub granted : (pass slug : Text) → contains_key p.held (pass, slug) ≡ true → contains_key p.versions slug ≡ true
   pub default_names : AllByRecursion (λ name. IsTrue (is_alias name || contains_key p.versions name)) p.defaults
 
--- what an edit leaves, by itself
+-- the renewal that an edit calls for, by itself
 abbrev pub by_edit : Edit → Renewal
 by_edit (SetRedirects redirects) = Routes
 by_edit (AddPass pass until) = Class pass
@@ -62,11 +62,11 @@ by_edit (RemoveVersion slug defaults) = Aliases
 by_edit (SetDefaults names) = Aliases
 by_edit _ = Nothing
 
--- after the edit of any project that may be edited so, this is to be made right
+-- the renewal covers what the edit changes, in any project that may be edited so
 abbrev pub FitsEdit : Edit → Renewal → Type 0
 FitsEdit e r = (p : Project) → IsCoherent p → MayEdit e p → CoversChange r p (edited e p)
 
--- after a version is put in place of another
+-- the renewal covers what changes when a version is put in place of another
 abbrev pub FitsReplaced : Version → Version → Renewal → Type 0
 FitsReplaced was v r =
     (p : Project) → IsCoherent p → get p.versions v.slug ≡ Some was
@@ -77,8 +77,8 @@ abbrev pub is_low : Version → Option Version → Bool
 is_low v None = not (is_release v)
 is_low v (Some other) = not (is_above v other)
 
--- after a version is put under a free slug, in a project with this default branch, and whose stable version is this for
--- callers with no pass
+-- the renewal covers what changes when a version is put under a free slug, in a project that has this default branch and whose
+-- stable version for callers with no pass is this
 abbrev pub FitsAdded : Version → Text → Option Version → Renewal → Type 0
 FitsAdded v branch stable r =
     (p : Project) → IsCoherent p → slug_from v.name ≡ Some v.slug → get p.versions v.slug ≡ None
@@ -87,7 +87,7 @@ FitsAdded v branch stable r =
 
 -- ---- laws
 
--- sound records spell such projects
+-- sound records spell coherent projects
 abbrev pub SoundProjects : Type 0
 SoundProjects =
     (l : Lists) (host : Text) (p : Project) → AreSound l → get (world_of l) host ≡ Some p → IsCoherent p
@@ -98,8 +98,8 @@ pub record AreRightBut (r : Renewal) (l : Lists) (host : Text) (p : Project) : T
   pub routes : are_routes_covered r ≡ false → (seg : Text) → filter (is_route_in host seg) l.routes ≡ filter (is_route_in host seg) (routes_due host (Some p))
   pub others : (other : Text) → bytes_eq host other ≡ false → AreRightAt l other
 
--- where all rows are right, they are so after a change of one project that leaves the rows as they are, but for those
--- that the change's renewal covers
+-- where all rows are right, and one project changes and no row does, all rows are right but for those that the change's renewal
+-- covers
 abbrev pub RightButCovered : Type 0
 RightButCovered =
     (r : Renewal) (l next : Lists) (host : Text) (was is : Project)
@@ -107,7 +107,7 @@ RightButCovered =
     → next.aliases ≡ l.aliases → next.routes ≡ l.routes → CoversChange r was is
     → AreRightBut r next host is
 
--- what holds after a version is put holds where its pages go with it
+-- a renewal that covers a version's being put covers it where its pages go, too
 abbrev pub PutIsBare : Type 0
 PutIsBare =
     (r : Renewal) (p : Project) (v : Version)

@@ -1,4 +1,4 @@
--- The records once stored rows of a host are made right: which are put and which are removed.
+-- What making stored rows of a host right makes of the records.
 use Rattle.std.specs.Prelude.{◌≡◌, false, if◌then◌else◌, List, [], ◌∷◌, map, filter, Option, Some, None}
 use Rattle.std.specs.FinMap.{get}
 use Rattle.std.specs.Option.{option_map_or}
@@ -20,12 +20,12 @@ use Rattle.dh_derived.specs.declared.renewals.Renewal.TheVariants.{Nothing, Rout
 
 -- ---- aliases
 
--- a name of a class stands for this version, or for none
+-- makes a name of a class stand for this version, or for none
 abbrev pub set_alias : Text → Text → AliasName → Option Text → Lists → Lists
 set_alias host class name None l = drop_alias host class name l
 set_alias host class name (Some slug) l = put_alias (record { host = host; class = class; name = name; slug = slug }) l
 
--- all names of a class are these
+-- makes the names of a class stand for these
 abbrev pub set_names : Text → Text → Names → Lists → Lists
 set_names host class names l =
     set_alias host class Default names.«default» (set_alias host class Stable names.stable (set_alias host class Latest names.latest l))
@@ -37,7 +37,7 @@ no_names = record { latest = None; stable = None; «default» = None }
 abbrev pub names_due : Project → Option Text → Names
 names_due p class = if has_class p class then names_of p class else no_names
 
--- those of several classes that the project has, the last first
+-- sets the names of several classes that the project has, the last first
 abbrev pub set_classes : Text → Project → List (Option Text) → Lists → Lists
 set_classes host p [] l = l
 set_classes host p (class ∷ classes) l = set_names host (class_text class) (names_of p class) (set_classes host p classes l)
@@ -48,7 +48,7 @@ classes_at host l = None ∷ map (λ x. Some x.pass) (filter (is_pass_of host) l
 
 -- ---- routes
 
--- of the redirects of a host
+-- the routes of the redirects of a host
 abbrev pub routes_for : Text → Lists → List Route
 routes_for host l = map route_of (map (λ r. r.redirect) (filter (is_redirect_of host) l.redirects))
 
@@ -57,18 +57,18 @@ renew_routes host l = set_routes host (routes_for host l) l
 
 -- ---- a renewal
 
--- the rows of the host of a project that it covers are made right
+-- makes right the rows of the host of a project that the renewal covers
 abbrev pub renewed : Renewal → Text → Project → Lists → Lists
 renewed Nothing host p l = l
 renewed Routes host p l = renew_routes host l
 renewed (Class pass) host p l = set_names host pass (names_due p (class_in pass)) l
 renewed Aliases host p l = set_classes host p (classes_at host l) l
 
--- the same, where the host has a project
+-- makes right the rows that the renewal covers, where the host has a project
 abbrev pub renewed_at : Renewal → Text → Lists → Lists
 renewed_at r host l = option_map_or (λ p. renewed r host p l) (get (world_of l) host) l
 
--- all rows of the host are, whatever stood there
+-- makes all rows of the host right, whatever stood there
 abbrev pub host_renewed : Text → Project → Lists → Lists
 host_renewed host p l = renew_routes host (set_classes host p (classes_at host l) (drop_aliases host l))
 
@@ -89,7 +89,7 @@ RenewedRight =
     → get (world_of l) host ≡ Some p → InOrder coding.routes.key l.routes
     → AreRightBut r l host p → AreRight (renewed r host p l)
 
--- and after all of a host are renewed, those of the host are right, and those of each other that were
+-- after all rows of a host are renewed they are right, and so are those of each other host that were
 pub record HostRenewed (host : Text) (p : Project) (l : Lists) : Type 0 where
   pub base : base_of (host_renewed host p l) ≡ base_of l
   pub here : AreRightAt (host_renewed host p l) host

@@ -2,33 +2,33 @@
 ghost use Rattle.dh_derived.specs.Renewals.{SoundProjects, RightButCovered, PutIsBare};
 ghost use Rattle.dh_derived.specs.Renewed.{RenewedBase, RenewedRight, RenewsHosts};
 
-/// The project of a host in sound records is one that edits and puts are judged for.
+/// The project of a host in sound records is coherent, as the laws of edits and puts ask.
 pub fn sound_projects()
     ensures { SoundProjects }
 {}
 
-/// What an edit's renewal does not cover is right after the edit, if all rows were right before it and none was
-/// changed.
+/// Where all rows were right before an edit and none was changed, all rows that the edit's renewal does not cover are right
+/// after it.
 pub fn right_but_covered()
     ensures { RightButCovered }
 {}
 
-/// A version that is put and loses its pages leaves the same to be made right as one that is put.
+/// The renewal after a version is put also fits where the version loses its pages.
 pub fn put_is_bare()
     ensures { PutIsBare }
 {}
 
-/// What a renewal puts and removes are aliases and routes alone.
+/// A renewal puts and removes aliases and routes alone.
 pub fn renewed_base()
     ensures { RenewedBase }
 {}
 
-/// Rows that were right but for those that a renewal covers are right after it.
+/// Rows that were right, but for those that a renewal covers, are all right after the renewal.
 pub fn renewed_right()
     ensures { RenewedRight }
 {}
 
-/// All rows of a host are right after they are all renewed, whatever they were.
+/// All rows of a host are right after all of them are renewed, whatever they were.
 pub fn host_renewed()
     ensures { RenewsHosts }
 {}

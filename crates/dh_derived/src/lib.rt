@@ -1,4 +1,4 @@
-//! What stands in the tables of aliases and of routes where it is right, and which edits of a project leave which of it right.
+//! When the rows of the tables of aliases and of routes are right, and which of them an edit of a project leaves right.
 #![tactic(auto)]
 
 mod laws;

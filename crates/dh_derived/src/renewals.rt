@@ -1,4 +1,4 @@
-//! Which stored rows of its host an edit of a project leaves to be made right.
+//! Which stored rows of its host must be made right after an edit of a project.
 
 ghost use Rattle.std.specs.Prelude.{◌≡◌, false, IfOk, IsTrue, option_map};
 ghost use Rattle.dh_world.specs.Visibility.{may_see};
@@ -11,7 +11,7 @@ use dh_plans::{Edit, is_alias};
 use dh_versions::{Kind, Version, higher, release};
 use std::alloc::{AllocError, Global};
 
-/// Which rows of a host are to be made right.
+/// Which rows of a host must be made right.
 #[derive(Drop)]
 pub enum Renewal {
     Nothing,
@@ -44,7 +44,7 @@ fn by_edit(alloc: Global, edit: &Edit<'_>) -> Result<Renewal, AllocError>
     })
 }
 
-/// What an edit leaves to be made right, by the edit alone: after a version is put it may be less
+/// Tells which rows must be made right after an edit, by the edit alone. After a version is put they may be fewer
 /// (`renewal_of_added`, `renewal_of_replaced`).
 pub fn renewal_of(alloc: Global, edit: &Edit<'_>) -> Result<Renewal, AllocError>
     ensures { IfOk result (FitsEdit edit.now) }
@@ -58,7 +58,7 @@ fn is_never_active(was: &Version, version: &Version) -> bool
     !was.active && !version.active
 }
 
-/// Whether the two are alike but for their slugs and for whether they are hidden.
+/// Whether two versions are alike but for their slugs and for whether they are hidden.
 fn differ_in_hiding(was: &Version, version: &Version) -> bool
     ensures { IsTrue result → version.now
         ≡ record was.now { slug = version.now.slug; hidden = version.now.hidden } }
@@ -69,7 +69,7 @@ fn differ_in_hiding(was: &Version, version: &Version) -> bool
         && was.private == version.private
 }
 
-/// What is left to be made right once this version stands in place of the one that was under its slug.
+/// Tells which rows must be made right once this version stands in place of the one that was under its slug.
 pub fn renewal_of_replaced(was: &Version, version: &Version) -> Renewal
     ensures { FitsReplaced was.now version.now result }
 {
@@ -109,7 +109,7 @@ fn is_not_above(
     }
 }
 
-/// What is left to be made right once this version stands under a slug that was free.
+/// Tells which rows must be made right once this version stands under a slug that was free.
 pub fn renewal_of_added(
     alloc: Global,
     version: &Version,

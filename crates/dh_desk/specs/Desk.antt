@@ -13,7 +13,7 @@ use Rattle.dh_world.specs.Seen.{veil}
 use Rattle.dh_world.specs.declared.answer.Answer.{Answer}
 use Rattle.dh_world.specs.declared.refusal.Refusal.{Refusal}
 use Rattle.dh_world.specs.declared.refusal.Refusal.TheVariants.{Store, OutOfMemory}
--- words of the layers below that the clauses of a desk are made of
+-- definitions of other crates that the clauses of a desk cite
 pub use Rattle.dh_histories.specs.Runs.{reply_in}
 pub use Rattle.sqlite.specs.Held.{state}
 pub use Rattle.sqlite.specs.State.{HasCleanDisk}
@@ -40,7 +40,7 @@ abbrev pub is_fault : Result Answer Refusal → Bool
 is_fault (Err Store) = true
 is_fault _ = false
 
--- the world that holds nothing but what that caller sees under the host
+-- the world that holds nothing but what the caller sees under the host
 abbrev pub veil_of : World → Text → Option Text → ℕ → World
 veil_of w host pass moment = veil w (host_named host) (caller_named pass moment)
 
@@ -49,12 +49,11 @@ module _ {S : Type 0} (g : Ghosts S) where
   abbrev pub world : Standing S → World
   world d = world_of (last_records g d.tables)
 
-  -- the world that they spell now, in a transaction too
+  -- the world that the tables spell now, also within a transaction
   abbrev pub world_seen : Held S → World
   world_seen h = world_of (records g h)
 
-  -- What every call leaves. Where the store is honest, the worlds before and after stand so to each
-  -- other.
+  -- What every call leaves: where the store is honest, `Relates` holds of the world before and the world after.
   pub record WorldGoesBy (old new : Standing S) (Relates : World → World → Type 0) : Type 0 where
     pub lasts : KeepsFaults g old.tables new.tables
     pub moves : IsHonest g new.tables → Relates (world old) (world new)

@@ -13,7 +13,7 @@ use Rattle.dh_histories.specs.CallsDone.{IsCallDone, calls_left, outcomes_left}
 use Rattle.dh_histories.specs.Runs.{run}
 use Rattle.dh_desk.specs.Desk.{HasCleanDisk, IsHonest, KeepsFaults, WorldGoesBy, Standing, state, world}
 
--- what comes of a call of a closed desk
+-- the outcome of a call of a closed desk
 abbrev pub unanswered : Call → Outcome
 unanswered (Act c) = Refused refusal.Store
 unanswered (Ask host pass moment asked) = Failed fault.Store
@@ -30,14 +30,14 @@ is_applied (Applied answer) = true
 is_applied _ = false
 
 module _ {S : Type 0} (g : Ghosts S) where
-  -- What one call does that leaves the desk open, and what comes of it. While the disk returns what was
-  -- written, an honest store alone accepts a command.
+  -- What one call does that leaves the desk open, and its outcome. While the disk returns what was written, only an honest store
+  -- accepts a command.
   pub record DoesCall (old new : Standing S) (call : Call) (outcome : Outcome) : Type 0 where
     pub moves : WorldGoesBy g old new (λ before after. IsCallDone before call after outcome)
     pub live : HasCleanDisk (state g new.tables) → is_applied outcome ≡ true → IsHonest g new.tables
     pub unfaulted : is_faulted outcome ≡ false
 
-  -- what such calls do, one after the other
+  -- what calls do that leave the desk open, one after the other
   abbrev pub DoesCalls : Standing S → List Call → Standing S → List Outcome → Type 0
   DoesCalls old [] new outcomes = (new ≡ old) × (outcomes ≡ [])
   DoesCalls old (call ∷ calls) new outcomes =
@@ -46,8 +46,8 @@ module _ {S : Type 0} (g : Ghosts S) where
       × DoesCalls between calls new more
       × (outcomes ≡ outcome ∷ more)
 
-  -- These calls were done while the desk was open; where a fault of the store has closed it, the one that met
-  -- the fault, and each behind it, is answered that.
+  -- The first of the calls were done while the desk was open; where a fault of the store has closed the desk, the call that met
+  -- the fault and each later one is answered `Store`.
   pub record DoesWhileOpen (old new : Standing S) (calls : List Call) (outcomes : List Outcome) : Type 0 where
     pub done : List Call
     pub rest : List Call
@@ -60,14 +60,13 @@ module _ {S : Type 0} (g : Ghosts S) where
     pub lasts : KeepsFaults g between.tables new.tables
     pub ends : ((rest ≡ []) × (new ≡ between)) ⊎ (new.closed ≡ true)
 
-  -- without what is set aside these calls are a run from the world of this desk on, which ends in this world
+  -- without those that were set aside, these calls are a run from this desk's world, which ends in the world `last`
   abbrev pub IsRunTo : Standing S → World → List Call → List Outcome → Type 0
   IsRunTo old last calls outcomes =
       run (world g old) (calls_left calls outcomes) ≡ (last, outcomes_left calls outcomes)
 
-  -- What calls over a desk come to. Where the store is honest afterwards they are a run, and the last world is
-  -- its last one unless the desk is closed. While the disk returns what was written, they are one up to each
-  -- command that was accepted, whatever came later.
+  -- What calls over a desk come to: where the store is honest afterwards, a run that ends in the desk's world, or in any where
+  -- the desk is closed; and while the disk returns what was written, a run up to each accepted command.
   pub record IsDeskRun (old new : Standing S) (calls : List Call) (outcomes : List Outcome) : Type 0 where
     pub honest : IsHonest g new.tables → (last : World) × IsRunTo old last calls outcomes
         × ((last ≡ world g new) ⊎ (new.closed ≡ true))

@@ -12,7 +12,7 @@ use dh_world::{Answer, Outcome, Refusal};
 use sqlite::Alter;
 use std::alloc::{AllocError, Global};
 
-/// What comes of a command.
+/// The outcome of a command, by its answer.
 pub fn commanded(answer: Result<Answer, Refusal>) -> Outcome
     ensures { result ≡ outcome_of answer }
 {
@@ -22,7 +22,7 @@ pub fn commanded(answer: Result<Answer, Refusal>) -> Outcome
     }
 }
 
-/// What comes of a read.
+/// The outcome of a read, by its answer.
 pub fn read_out(answer: Result<Reply, Fault>) -> Outcome
     ensures { result ≡ outcome_of_read answer }
 {
@@ -43,7 +43,7 @@ pub fn pass_text(pass: &Option<Text>) -> Option<&str>
 }
 
 impl<S: Alter> Desk<S> {
-    /// Does one call, and tells what came of it.
+    /// Does one call, and answers its outcome.
     fn call(&mut self, alloc: Global, call: &Call) -> Outcome
         ensures done { WorldGoesBy S.Store self.old self.new
             (λ before after. IsCallDone before call.now after result) }
@@ -65,9 +65,9 @@ impl<S: Alter> Desk<S> {
         }
     }
 
-    /// Does calls one after the other, and tells what came of each. The room for that is taken first: out of
-    /// memory is told there alone, and then nothing was done. Where a call is answered by a fault of the store
-    /// each later one is too.
+    /// Does calls one after the other, and answers the outcome of each. Takes the room for the outcomes first: where memory is
+    /// out then, nothing is done, and out of memory is answered. Once a call is answered by a fault of the store, so is each
+    /// later one.
     pub fn run(&mut self, alloc: Global, calls: &[Call]) -> Result<Vec<Outcome>, AllocError>
         ensures ran { WorldGoesBy S.Store self.old self.new (λ before after. IfOk result
             (λ outcomes. AreCallsDone before calls.now after outcomes.items)) }

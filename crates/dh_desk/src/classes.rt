@@ -33,8 +33,8 @@ fn is_live_at(moment: u64, found: &Option<PassRow>) -> bool
     }
 }
 
-/// The class of a caller under a host: the pass that he shows, where the project has it and it is live when he reads.
-/// Where he shows one its record is looked up once, and else the tables are not asked.
+/// The class of a caller under a host: the pass that he shows, where the project has it and it is live when he reads. The record
+/// of a pass that he shows is looked up once; without a pass the tables are not asked.
 pub fn class_in<S: Alter>(
     tables: &mut Tables<S>,
     alloc: Global,

@@ -30,11 +30,10 @@ use sqlite::{Alter, Connection};
 use std::alloc::Global;
 use std::marker::Model;
 
-/// The tables of a documentation host, changed by commands alone, and replies that were given since the last command
-/// that was accepted.
+/// The tables of a documentation host, changed by commands alone, and replies that were given since the last accepted command.
 pub struct Desk<S: Alter> {
     tables: Tables<S>,
-    /// A fault of the store has closed the desk.
+    /// Whether a fault of the store has closed the desk.
     closed: bool,
     replies: Replies,
 }
@@ -64,8 +63,8 @@ impl<S: Alter> Model for Desk<S> {
         IsKept S.Store d.tables × AreCurrent S.Store d.tables d.replies };
 }
 
-/// Asks the store, after memory was out: what stands open is undone, and an empty transaction is committed, which takes
-/// no memory. Out of memory is told where the store answers, and else its fault.
+/// Asks the store, after memory was out: undoes what stands open, and asks whether the store still answers, which takes no
+/// memory. Tells out of memory where the store answers, and else its fault.
 fn ask_store<S: Alter>(tables: &mut Tables<S>) -> Refusal
     ensures fault { IsFault result }
     ensures lasts { KeepsFaults S.Store tables.old tables.new }
@@ -105,7 +104,7 @@ fn act<S: Alter>(
     run(tables, alloc, command)
 }
 
-/// Does a command, and tells out of memory of an open store alone.
+/// Does a command, and tells out of memory only where the store is open.
 fn apply<S: Alter>(
     tables: &mut Tables<S>,
     alloc: Global,
@@ -136,8 +135,8 @@ fn is_unanswered(answer: &Result<Reply, Fault>) -> bool
 }
 
 impl<S: Alter> Desk<S> {
-    /// The desk over these tables, with no reply kept. A transaction that is open will be undone. Where memory is
-    /// out the tables are handed back.
+    /// Makes the desk over these tables, with no reply kept. A transaction that is open will be undone. Where memory is out the
+    /// tables are handed back.
     pub fn over(alloc: Global, tables: Tables<S>) -> Result<Desk<S>, (Fault, Tables<S>)>
         requires { IsKept S.Store tables }
         ensures tables { IfOk result (λ desk. desk.tables ≡ tables) }
@@ -155,8 +154,8 @@ impl<S: Alter> Desk<S> {
         }
     }
 
-    /// The desk over tables outside a transaction, whose stored rows may be others than their records say: they are made
-    /// right before, in a transaction that is committed where one changes. Where that fails the tables are handed back.
+    /// Makes the desk over tables outside a transaction, whose stored rows may differ from what their records say: makes the
+    /// rows right before, in a transaction that is committed. Where that fails the tables are handed back.
     pub fn open(alloc: Global, tables: Tables<S>) -> Result<Desk<S>, (Fault, Tables<S>)>
         requires settled { IsHonest S.Store tables → IsSettled S.Store tables }
         requires sound { IsHonest S.Store tables → AreSound (last_records S.Store tables) }
@@ -177,7 +176,7 @@ impl<S: Alter> Desk<S> {
         }
     }
 
-    /// The connection as it stands.
+    /// Gives back the connection, as it stands.
     pub fn into_conn(self) -> Connection<S>
         ensures { result ≡ self.tables }
     {
@@ -189,7 +188,7 @@ impl<S: Alter> Desk<S> {
         tables.into_conn()
     }
 
-    /// Whether a fault of the store has closed it.
+    /// Whether a fault of the store has closed the desk.
     pub fn is_closed(&self) -> bool
         ensures { result ≡ self.now.closed }
     {
@@ -204,9 +203,9 @@ impl<S: Alter> Desk<S> {
         self.replies.count()
     }
 
-    /// Does a command, as one transaction. An accepted one has changed the world; a refused one has
-    /// left it as it was. After a fault of the store the desk answers it to each command. Out of memory
-    /// is told where the store answers after it: one that is out of memory too is told as a fault.
+    /// Does a command, as one transaction. An accepted command has changed the world; a refused one has left it as it was. After
+    /// a fault of the store the desk answers `Store` to each command. Out of memory is told only where the store still answers;
+    /// else the fault of the store is told.
     pub fn apply(&mut self, alloc: Global, command: &Command) -> Result<Answer, Refusal>
         ensures step { IsHonest S.Store self.new.tables
             → IsStep (world S.Store self.old) (world S.Store self.new) command.now result }
@@ -240,10 +239,9 @@ impl<S: Alter> Desk<S> {
         answer
     }
 
-    /// The reply to a read under a host, for a caller who shows this pass or none. A name that is no
-    /// host's names no project, and a text that is no pass counts as none. `now` is the moment of the
-    /// read, in seconds since 1970. A reply may be one that is kept. After a fault of the store the desk
-    /// answers it to each call.
+    /// Answers the reply to a read under a host, for a caller who shows this pass or none. A text that is no host's name names
+    /// no project, and a text that is no pass counts as none. `now` is the moment of the read, in seconds since 1970. The reply
+    /// may be one that is kept. After a fault of the store the desk answers `Store` to each call.
     pub fn read(
         &mut self,
         alloc: Global,

@@ -26,7 +26,7 @@ pub fn veiled_reply()
         ≡ reply_to (seen w host caller) path query }
 {}
 
-/// Over a store in memory only a closed desk answers a read the fault `Store`.
+/// Over a store in memory only a closed desk answers a read with the fault `Store`.
 pub fn memory_answers()
     ensures { (old new : Standing MemStore) (read : Result Reply Fault)
         → StoreFaultHasCause over_memory old.tables new.tables read (old.closed ≡ true)
@@ -38,8 +38,8 @@ pub fn worlds_are_filed()
     ensures { (lists : Lists) → IsFiled (world_of lists) }
 {}
 
-/// Calls over a desk are a run, once those that were set aside are taken out: where the store is honest
-/// afterwards all of them, and else up to each command that was accepted, while the disk returns what was written.
+/// Calls over a desk are a run, once those that were set aside are taken out: all of them where the store is honest afterwards,
+/// and else those up to each accepted command, while the disk returns what was written.
 pub fn calls_are_a_run<S: Alter>()
     ensures { (old new : Standing S) (calls : List Call) (outcomes : List Outcome)
         → DoesWhileOpen S.Store old new calls outcomes

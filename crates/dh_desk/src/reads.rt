@@ -27,7 +27,7 @@ use dh_world::Caller;
 use sqlite::Alter;
 use std::alloc::Global;
 
-/// The text as one of a kind, if it is.
+/// The text as one of a kind, where the text is one.
 fn text_in<K: Kind>(alloc: Global, text: &str) -> Found<Checked<K>>
     ensures value { IfOk result (λ found.
         found ≡ (if K.test text.now then Some text.now else None)) }
@@ -76,8 +76,8 @@ fn look<S: Alter>(
     answer
 }
 
-/// The reply under a host to a caller who shows his class as his pass, of tables outside a transaction: one that is
-/// kept, or else the tables' own, which is kept then.
+/// Answers the reply under a host to a caller who shows his class as his pass, of tables outside a transaction: a reply that is
+/// kept, or else that of the tables, which is kept then.
 fn reply_to_class<S: Alter>(
     tables: &mut Tables<S>,
     replies: &mut Replies,

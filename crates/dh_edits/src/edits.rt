@@ -65,7 +65,7 @@ fn put_without_pages<S: Alter>(
     put_version(tables, alloc, host, version)
 }
 
-/// The version and the grants on it.
+/// Removes the version and the grants on it.
 fn remove_granted<S: Alter>(
     tables: &mut Tables<S>,
     host: &HostName,
@@ -78,7 +78,7 @@ fn remove_granted<S: Alter>(
     Ok(tables.drop_version(host, slug)?)
 }
 
-/// The version, the grants on it and its pages.
+/// Removes the version, the grants on it and its pages.
 fn remove_filled<S: Alter>(
     tables: &mut Tables<S>,
     host: &HostName,
@@ -108,7 +108,7 @@ fn remove_version<S: Alter>(
     remove_filled(tables, host, slug)
 }
 
-/// A page of an upload as it is stored. Its body is copied, once.
+/// Makes a page of an upload into a page as it is stored. The body is copied, once.
 fn page_in(alloc: Global, page: &CheckedPage<'_>) -> Result<Page, AllocError>
     ensures { IfOk result
         (λ stored. stored ≡ record { media = page.now.media; body = page.now.body }) }

@@ -10,14 +10,14 @@ use Rattle.dh_schema.specs.Tables.{HoldsTables, lists_of}
 use Rattle.dh_derived.specs.Rightness.{AreRight}
 use Rattle.dh_opening.specs.Opening.{IsOurs}
 
--- The store is honest and was, no transaction is open, and what is committed came of what was seen, by R.
+-- The store is honest and was, no transaction is open, and R relates what was seen to what is committed.
 pub record IsSettledBy {S : Type 0} (g : Ghosts S) (R : Database → Database → Type 0) (old new : Held S) : Type 0 where
   pub was : IsHonest g old
   pub honest : IsHonest g new
   pub outside : new.in_transaction ≡ false
   pub last : R (state g old).now (state g new).committed
 
--- Tables that were ours, with their records, and with derived ones that are what these say.
+-- The tables were ours, and have their records; the derived records are what those say.
 pub record IsServed (before after : Database) : Type 0 where
   pub ours : IsOurs before
   pub holds : HoldsTables after

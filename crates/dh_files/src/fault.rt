@@ -11,35 +11,35 @@ use std::io;
 /// What is wrong with a file.
 #[derive(Clone, Copy, Debug, PartialEq, Eq)]
 pub enum FileFault {
-    /// There is none of this name.
+    /// There is no file of this name.
     Missing,
-    /// Nothing is in it.
+    /// The file is empty.
     Empty,
-    /// It is a folder.
+    /// The path is that of a folder.
     Folder,
-    /// It may not be read or written.
+    /// The file may not be read or written.
     Forbidden,
-    /// It is a device, or the system does not open it.
+    /// The path is that of a device, or of a file that the system does not open.
     Unopened,
-    /// It is no SQLite database.
+    /// The file is no SQLite database.
     NoDatabase,
-    /// A page of it is not what was written, or was written without sums.
+    /// A page of the file is not what was written, or was written without sums.
     Damaged,
-    /// By its header another SQLite wrote to it, which knows nothing of its sums.
+    /// By the file's header another SQLite wrote to it, which knows nothing of its sums.
     Changed,
-    /// It has more than one name.
+    /// The file has more than one name.
     Linked,
-    /// Its log has more than one name, or is no file.
+    /// The file's log has more than one name, or is no file.
     LinkedLog,
-    /// A rollback journal stands beside it.
+    /// A rollback journal stands beside the file.
     Journal,
-    /// Another program has it open.
+    /// Another program has the file open.
     Busy,
-    /// It is to be made, and there is something in it.
+    /// The file is to be made, and there is something in it.
     Taken,
-    /// Its tables are not ours, or its rows break a constraint.
+    /// The file's tables are not ours, or their rows break a constraint.
     NotOurs,
-    /// Its tables are of an earlier schema.
+    /// The file's tables are of an earlier schema.
     OldSchema,
     /// The disk is full.
     Full,

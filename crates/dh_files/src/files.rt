@@ -53,9 +53,9 @@ fn make_tables<S: Alter + Drop>(conn: Connection<S>) -> Result<Connection<S>, Fi
     }
 }
 
-/// Makes a file with no project, which its owner alone may read and write, and so its log. It may be there if
-/// nothing is in it: what a run left that was stopped before it had made the tables counts as nothing. One that
-/// is there keeps its permissions.
+/// Makes a file with no project, which its owner alone may read and write, and its log alike. The file may be there if it is
+/// empty: what a run left that was stopped before it had made the tables counts as empty. A file that is there keeps its
+/// permissions.
 pub fn init_file<S: Start>(rt: &HostRuntime, path: &str, start: S) -> Result<(), FileFault> {
     match look(rt, path)? {
         Found::Other => return Err(FileFault::Taken),
@@ -65,19 +65,19 @@ pub fn init_file<S: Start>(rt: &HostRuntime, path: &str, start: S) -> Result<(),
     close(make_tables(connect(rt, path, start)?)?)
 }
 
-/// What counts the projects. Outside a transaction all that is seen stays.
+/// Queries the count of the projects. Outside a transaction all that is seen stays.
 fn count_row<S: Alter>(conn: &mut Connection<S>) -> Result<Row, Error>
     ensures outside { conn.old.in_transaction ≡ false → conn.new.in_transaction ≡ false }
     ensures same { conn.old.in_transaction ≡ false → IsHonest S.Store conn.new
         → IsHonest S.Store conn.old
         × ((state S.Store conn.new).now ≡ (state S.Store conn.old).now) }
 {
-    // (this tells that what is seen was committed)
+    // (this call shows the proof that what is seen was committed)
     let _ = conn.is_autocommit();
     conn.query_row("SELECT COUNT(*) FROM project", &[])
 }
 
-/// The number of projects; 0 where there is no such table, which the opening of the tables tells.
+/// Counts the projects; 0 where there is no such table, which opening the tables tells.
 fn count_projects<S: Alter>(conn: &mut Connection<S>) -> i64
     ensures outside { conn.old.in_transaction ≡ false → conn.new.in_transaction ≡ false }
     ensures same { conn.old.in_transaction ≡ false → IsHonest S.Store conn.new
@@ -110,7 +110,7 @@ fn open_tables<S: Alter + Drop>(
     }
 }
 
-/// Connects to a file that is a database. It makes no file.
+/// Connects to a file that is a database; makes no file.
 fn connect_to_database<S: Start>(
     rt: &HostRuntime,
     path: &str,
@@ -126,10 +126,9 @@ fn connect_to_database<S: Start>(
     }
 }
 
-/// Opens a file that `init_file` made, and tells how many projects it has. The whole file is read. No
-/// other program can open it until it is closed. It makes no file, and leaves one that it refuses as it
-/// is. To a file that an earlier program made it adds the tables of derived
-/// records, and where their rows are not what the others say it makes them so.
+/// Opens a file that `init_file` made, and tells how many projects it has. Reads the whole file. No other program can open it
+/// until it is closed. Makes no file, and leaves a file that it refuses as it is. To a file that an earlier program made it adds
+/// the tables of derived records, and it makes their rows right where they are not.
 pub fn open_desk<S: Start>(
     rt: &HostRuntime,
     path: &str,
@@ -154,14 +153,14 @@ fn migrate_tables<S: Alter + Drop>(
     }
 }
 
-/// Brings a file to the schema of this program, in one transaction: each pass of a file of schema 1 has no
-/// end. A file of this schema is opened, and closed. It leaves a file that it refuses as it is.
+/// Brings a file to the schema of this program, in one transaction: the passes of a file of schema 1 get no end. A file of this
+/// schema is opened, and closed. A file that is refused is left as it is.
 pub fn migrate_file<S: Start>(rt: &HostRuntime, path: &str, start: S) -> Result<(), FileFault> {
     close(migrate_tables(rt.alloc(), connect_to_database(rt, path, start)?)?)
 }
 
-/// Closes a file. Where it fails nothing is lost: the log beside the file holds what is not in it, and
-/// the next opening takes it.
+/// Closes a file. Where closing fails nothing is lost: the log beside the file holds what is not in it, and the next opening
+/// reads the log.
 pub fn close_desk<S: Start>(desk: FileDesk<S>) -> Result<(), FileFault> {
     close(desk.into_conn())
 }

@@ -1,4 +1,4 @@
-//! Records in a file: how a file is made, opened and closed, and what is wrong with one that is not.
+//! Records in a file: making, opening and closing a file, and what is wrong with one that cannot be opened.
 #![tactic(auto)]
 
 mod fault;

@@ -1,5 +1,5 @@
-//! What stands at a path, before anything is opened there: the store makes a database of a file with
-//! nothing in it, and leaves a log beside one that it refuses.
+//! What stands at a path, before anything is opened there: the store makes a database of an empty file, and leaves a log beside
+//! a file that it refuses.
 
 use crate::fault::FileFault;
 use std::alloc::Global;
@@ -10,8 +10,8 @@ use std::os::unix::fs::{MetadataExt, OpenOptionsExt};
 /// The first bytes of each SQLite database.
 const FIRST: [u8; 16] = *b"SQLite format 3\0";
 
-/// The version of SQLite, 3.45.0, that the store writes into the header of each file, at the byte 96. Another
-/// SQLite writes its own there.
+/// The version of SQLite, 3.45.0, that the store writes into the header of each file, at the byte 96. Another SQLite writes its
+/// own version there.
 const VERSION: [u8; 4] = [0, 46, 118, 136];
 
 /// What stands at a path.
@@ -19,7 +19,7 @@ const VERSION: [u8; 4] = [0, 46, 118, 136];
 pub enum Found {
     /// No file.
     Nothing,
-    /// A file with nothing in it, and no log beside it that may hold what belongs there.
+    /// An empty file, and no log beside it that may hold its content.
     Empty,
     /// A file that begins as a database does, or one with a log beside it.
     Database,
@@ -37,7 +37,7 @@ fn has_log(rt: &HostRuntime, path: &str) -> Result<bool, FileFault> {
     }
 }
 
-/// Whether a file begins as a database does. It has to be one that may be read and written.
+/// Whether a file begins as a database does. The file has to be one that may be read and written.
 fn begins_as_database(rt: &HostRuntime, path: &str) -> Result<bool, FileFault> {
     let mut file = OpenOptions::new().read(true).write(true).open(rt, path)?;
     let mut first = [0u8; 16];
@@ -48,7 +48,7 @@ fn begins_as_database(rt: &HostRuntime, path: &str) -> Result<bool, FileFault> {
     }
 }
 
-/// What stands at a path.
+/// Looks at what stands at a path.
 pub fn look(rt: &HostRuntime, path: &str) -> Result<Found, FileFault> {
     let about = match fs::metadata(rt, path) {
         Ok(about) => about,
@@ -72,8 +72,8 @@ pub fn look(rt: &HostRuntime, path: &str) -> Result<Found, FileFault> {
     Ok(Found::Other)
 }
 
-/// Makes a file with nothing in it, which its owner alone may read and write. The store tells what stands at its
-/// name meanwhile.
+/// Makes an empty file, which its owner alone may read and write. Where something stands at the name by then, the store tells
+/// what.
 pub fn make(rt: &HostRuntime, path: &str) -> Result<(), FileFault> {
     // (the store opens no file of these names)
     if path == ":memory:" || path.starts_with("file:") {
@@ -95,7 +95,7 @@ pub fn make(rt: &HostRuntime, path: &str) -> Result<(), FileFault> {
     }
 }
 
-/// What stands beside a file, at its name with another end.
+/// Looks at what stands beside a file, at its name with another end.
 fn beside(rt: &HostRuntime, path: &str, end: &str) -> Result<Option<Metadata>, FileFault> {
     let name = format!(in rt.alloc(); "{path}{end}").map_err(|_| FileFault::Memory)?;
     match fs::symlink_metadata(rt, name.as_str()) {
@@ -105,8 +105,8 @@ fn beside(rt: &HostRuntime, path: &str, end: &str) -> Result<Option<Metadata>, F
     }
 }
 
-/// What keeps the store from opening a file that is there: it wants one name of the file and of its log, neither
-/// of them a link, and no rollback journal.
+/// What keeps the store from opening a file that is there: the store wants one name of the file and one of its log, neither of
+/// them a link, and no rollback journal.
 fn obstacle(rt: &HostRuntime, path: &str) -> Result<Option<FileFault>, FileFault> {
     let real = fs::canonicalize(rt, path)?;
     if fs::metadata(rt, real.as_str())?.nlink() > 1 {
@@ -125,7 +125,7 @@ fn obstacle(rt: &HostRuntime, path: &str) -> Result<Option<FileFault>, FileFault
     Ok(None)
 }
 
-/// Whether a database is another SQLite's by its header, or was written to by one.
+/// Whether the header of a database says that another SQLite made it, or wrote to it.
 fn is_of_another(rt: &HostRuntime, path: &str) -> Result<bool, FileFault> {
     let mut file = fs::File::open(rt, path)?;
     let mut header = [0u8; 100];
@@ -136,7 +136,7 @@ fn is_of_another(rt: &HostRuntime, path: &str) -> Result<bool, FileFault> {
     }
 }
 
-/// What is wrong with a file that begins as a database does, and that the store refuses.
+/// Tells what is wrong with a file that the store refuses: it is no database, another SQLite wrote to it, or it is damaged.
 fn damage(rt: &HostRuntime, path: &str) -> Result<FileFault, FileFault> {
     if !begins_as_database(rt, path)? {
         return Ok(FileFault::NoDatabase);
@@ -147,7 +147,7 @@ fn damage(rt: &HostRuntime, path: &str) -> Result<FileFault, FileFault> {
     Ok(FileFault::Damaged)
 }
 
-/// What is wrong with a file that the store does not open, of which the store tells less.
+/// What is wrong with a file that the store does not open, as far as a look at the file tells more than the store.
 pub fn cause_of(rt: &HostRuntime, path: &str, fault: FileFault) -> FileFault {
     match fault {
         FileFault::Unopened => match obstacle(rt, path) {

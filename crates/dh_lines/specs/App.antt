@@ -121,7 +121,7 @@ store_apps =
     project_apps ++ version_apps ++ pass_apps ++ redirect_apps ++ rule_apps
     ++ (get_app ∷ import_app ∷ []) ++ list_apps ++ (script_app ∷ answer_app ∷ [])
 
--- a form that takes `--store FILE`, too
+-- the form with `--store FILE` added
 abbrev pub with_store : App → App
 with_store app = with_rule app (option_rule (codes "store"))
 

@@ -7,7 +7,7 @@ use Rattle.dh_lines.specs.declared.app.Form.{Form}
 use Rattle.dh_lines.specs.declared.app.More.{More}
 use Rattle.dh_lines.specs.declared.app.More.TheVariants as more
 
--- an app that takes this too, behind its words
+-- the app with this flag or option added, behind its words
 abbrev pub with_more : App → More → App
 with_more app (more.Flag id help) = with_rule app (flag_rule id.now)
 with_more app (more.Value id help) = with_rule app (option_rule id.now)

@@ -1,4 +1,4 @@
--- The line that words are.
+-- Which line the words are.
 use Rattle.std.specs.Prelude.{◌≡◌, ◌≢◌, Bool, true, false, if◌then◌else◌, List, [], ◌∷◌, Option}
 use Rattle.std.specs.Prelude.{◌++◌}
 use Rattle.std.specs.Prelude.{Some, None, is_some, option_map, option_and_then, codes, Result, Ok, Err, ⊤}
@@ -47,11 +47,11 @@ use Rattle.dh_lines.specs.declared.lines.Order.TheVariants.{Answer, Serve}
 use Rattle.dh_lines.specs.declared.lines.LineFault.{LineFault}
 use Rattle.dh_lines.specs.declared.lines.LineFault.TheVariants.{Usage, Memory}
 
--- what follows from the word or the value of this name, where it is there
+-- what `next` makes of the word or the value with this id, where it is there
 abbrev pub with_word : {A : Type 0} → Text → List Row → (Text → Option A) → Option A
 with_word id rows next = option_and_then next (first_of id rows)
 
--- `clap` keeps of a flag the text `true` or `false`
+-- the flag is given: `clap` keeps the text `true` or `false` of a flag
 abbrev pub is_set : Text → List Row → Bool
 is_set id rows = option_map_or (λ text. bytes_eq text (codes "true")) (first_of id rows) false
 
@@ -94,11 +94,11 @@ count_of text = decimal_below (2 ^ 32) text
 abbrev pub port_of : Text → Option ℕ
 port_of text = decimal_below (2 ^ 16) text
 
--- seconds since 1970
+-- the moment that the text writes, in seconds since 1970
 abbrev pub moment_of : Text → Option ℕ
 moment_of text = decimal_below (2 ^ 64) text
 
--- whether this value may be that of the word with this id; of any other word each may be
+-- the word with this id may have this value; a word without a limit may have any
 abbrev pub reads : Text → Text → Bool
 reads id value =
     if bytes_eq id (codes "privacy") then is_some (privacy_of value)
@@ -161,7 +161,7 @@ upload_in rows =
     Some (Upload wkey key slug lang (is_set (codes "replace") rows)
     (one_page path media body)))))))))
 
--- the change of this name of one version
+-- the change of one version that this name orders
 abbrev pub change_on : Text → Text → Option CommandChange
 change_on name slug =
     if bytes_eq name (codes "activate") then Some (Activate slug)
@@ -354,7 +354,7 @@ list_named name =
     else if bytes_eq name (codes "list-passes") then Some Passes
     else None
 
--- `NAME HOST`, of a word that lists this
+-- `NAME HOST`, for a word that lists this
 abbrev pub list_in : ProjectList → List Row → Option Order
 list_in list rows = with_word (codes "host") rows (λ host. Some (order.List (OfProject host list)))
 
@@ -365,7 +365,7 @@ list_pages_in rows =
     with_word (codes "slug") rows (λ slug.
     with_word (codes "lang") rows (λ lang. Some (order.List (OfProject host (Pages slug lang))))))
 
--- what a word orders that lists this, or else a command of this name
+-- the list, where the word lists one, and else the command of this name
 abbrev pub list_or_command : Option ProjectList → Text → List Row → Option Order
 list_or_command (Some list) name rows = list_in list rows
 list_or_command None name rows = option_map Act (command_in name rows)
@@ -396,7 +396,7 @@ abbrev pub line_with : Option (Text × List Row) → Option Line
 line_with None = None
 line_with (Some (name, rows)) = named_line name rows
 
--- what is found, where there is no fault
+-- what was found, where there is no fault
 abbrev pub unless_faulty : {A : Type 0} → Kinds → Option A → Option A
 unless_faulty [] found = found
 unless_faulty (fault ∷ faults) found = None
@@ -406,8 +406,7 @@ unfoldable pub line_in : List Text → Option Line
 line_in words =
     unless_faulty (fault_of docs_app words) (line_with (subcommand_of docs_app words))
 
--- the definition's value is answered; a fault of usage comes only where it has none, and out of
--- memory anywhere
+-- the answer is the definition's value; a fault of usage comes only where the definition has none, and out of memory anywhere
 abbrev pub ReadsOrUsage : {A : Type 0} → Option A → Result A LineFault → Type 0
 ReadsOrUsage spec (Ok value) = spec ≡ Some value
 ReadsOrUsage spec (Err Usage) = spec ≡ None
@@ -420,8 +419,8 @@ MatchesWords words (Ok matches) =
 MatchesWords words (Err Usage) = fault_of docs_app words ≢ []
 MatchesWords words (Err Memory) = ⊤
 
--- the words are the line that orders this and names no store; with `--store FILE` behind them they
--- are the line that orders the same over the store in FILE, where FILE is plain
+-- the words are a line with this order and no store; with `--store FILE` behind them they are the line with this order over the
+-- store in FILE, where FILE is plain
 abbrev pub OrdersLine : List Text → Order → Type 0
 OrdersLine words order = (line_in words ≡ Some (as_line None order))
     × ((file : Text) → is_plain file ≡ true
@@ -432,12 +431,12 @@ abbrev pub OrdersOnVersion : Text → (Text → CommandChange) → Type 0
 OrdersOnVersion name change = (host slug : Text) → ArePlain (host ∷ slug ∷ [])
     → OrdersLine (name ∷ host ∷ slug ∷ []) (Act (asking host (change slug)))
 
--- and so `NAME HOST PASS`
+-- `NAME HOST PASS` orders this change, where the words that the caller chooses are plain
 abbrev pub OrdersOnPass : Text → (Text → CommandChange) → Type 0
 OrdersOnPass name change = (host pass : Text) → ArePlain (host ∷ pass ∷ [])
     → OrdersLine (name ∷ host ∷ pass ∷ []) (Act (asking host (change pass)))
 
--- and `NAME HOST PASS SLUG`
+-- `NAME HOST PASS SLUG` orders this change, where the words that the caller chooses are plain
 abbrev pub OrdersOnGrant : Text → (Text → Text → CommandChange) → Type 0
 OrdersOnGrant name change = (host pass slug : Text) → ArePlain (host ∷ pass ∷ slug ∷ [])
     → OrdersLine (name ∷ host ∷ pass ∷ slug ∷ []) (Act (asking host (change pass slug)))
@@ -453,11 +452,11 @@ OrdersRedirectBy more force word kind =
     ∷ more)
     (Act (asking host (AddRedirect place (redirect_of kind status source target force))))
 
--- a redirect without force, of the words alone
+-- these words without `--force` order a redirect without force
 abbrev pub OrdersRedirect : Text → RedirectKind → Type 0
 OrdersRedirect word kind = OrdersRedirectBy [] false word kind
 
--- a redirect with force, where `--force` stands behind them
+-- these words with `--force` behind them order a redirect with force
 abbrev pub OrdersForced : Text → RedirectKind → Type 0
 OrdersForced word kind = OrdersRedirectBy (codes "--force" ∷ []) true word kind
 
@@ -471,7 +470,7 @@ OrdersRuleOf kind_word kind action_word action =
     ∷ action_word ∷ [])
     (Act (asking host (AddRule place (rule_of kind pattern action))))
 
--- and so for branches and for tags
+-- `add-rule` with this word orders this action, for branches and for tags
 abbrev pub OrdersRule : Text → Action → Type 0
 OrdersRule word action =
     OrdersRuleOf (codes "branch") Branch word action × OrdersRuleOf (codes "tag") Tag word action
@@ -489,7 +488,7 @@ ServesAt more port log = (file count_word : Text) (count : ℕ) → ArePlain (fi
     → line_in (codes "serve" ∷ codes "--store" ∷ file ∷ codes "--count" ∷ count_word ∷ more)
     ≡ Some (as_line (Some file) (Serve count port log))
 
--- and so with `--port P` before these words, where P is plain and digits of the port
+-- the line serves so, too, with `--port P` before these words, where P is plain and digits of the port
 abbrev pub ServesAtPort : List Text → Bool → Type 0
 ServesAtPort more log = (port_word : Text) (port : ℕ) → is_plain port_word ≡ true
     → port_of port_word ≡ Some port → ServesAt (codes "--port" ∷ port_word ∷ more) port log

@@ -98,7 +98,7 @@ fn form_command<'a>(alloc: Global, form: &Form<'a>) -> Result<Syntax<'a>, AllocE
     with_options(with_words(syntax, form.ids)?, form.more)
 }
 
-/// A command that may name the file of its records, as each may that reads or changes them.
+/// A command that may name the file of its records, as each command may that reads or changes records.
 fn store_command<'a>(alloc: Global, form: &Form<'a>) -> Result<Syntax<'a>, AllocError>
     ensures { IfOk result (λ syntax. syntax ≡ store_app_of form.now) }
 {
@@ -150,7 +150,7 @@ fn bare_command<'a>(alloc: Global) -> Syntax<'a>
     syntax.as_program()
 }
 
-/// The lines of scripts, what lists, and what the program does with its input.
+/// The forms of the lines of scripts, of the words that list, and of what the program does with its input.
 const FORMS: [Form<'static>; 32] = [
     Form {
         name: "new-project",
@@ -398,7 +398,7 @@ const FORMS: [Form<'static>; 32] = [
     },
 ];
 
-/// What makes a file of records: it takes no `--store`.
+/// The form that makes a file of records; it takes no `--store`.
 const INIT: Form<'static> = Form {
     name: "init",
     about: "Makes a file of records, with no project: none may be there by its name",
@@ -407,7 +407,7 @@ const INIT: Form<'static> = Form {
     more: &[],
 };
 
-/// What brings a file of records of an earlier schema to this one: it takes no `--store`.
+/// The form that brings a file of records of an earlier schema to the program's schema; it takes no `--store`.
 const MIGRATE: Form<'static> = Form {
     name: "migrate",
     about: "Brings a file of records that an earlier docs_host made to the schema of this one",

@@ -1,6 +1,5 @@
-//! Laws of lines: the words of each form are its line, which names no store, and with
-//! `--store FILE` behind them the same over the store in FILE. A word that the caller chooses is
-//! plain: it does not begin with `-`.
+//! Laws of lines: the words of each form are its line, which names no store; with `--store FILE` behind them they are the same
+//! line over the store in FILE. A word that the caller chooses is plain: it does not begin with `-`.
 
 ghost use Rattle.std.specs.Prelude.{◌≡◌, ℕ, true, false, Some, None, codes, ◌∷◌, [], List};
 ghost use Rattle.clap.specs.Walk.{Text};
@@ -124,8 +123,8 @@ pub fn rule_lines()
         (Act (asking host (DropRule place))) }
 {}
 
-/// The lines that read, without a pass, and with it behind or before the other words; with the moment of the
-/// read, and without it.
+/// The lines that read: without a pass, and with a pass behind or before the other words; with and without the moment of the
+/// read.
 pub fn get_lines()
     ensures get { (host target : Text) → ArePlain (host ∷ target ∷ [])
         → OrdersLine (codes "get" ∷ host ∷ target ∷ []) (Get host target None None) }
@@ -172,7 +171,7 @@ pub fn program_lines()
     ensures answer { OrdersLine (codes "answer" ∷ []) Answer }
 {}
 
-/// The words that make a store, and those that migrate one, which name no other.
+/// The words that make a store, and the words that migrate one; both name no other store.
 pub fn init_lines()
     ensures init { (file : Text) → is_plain file ≡ true
         → line_in (codes "init" ∷ file ∷ []) ≡ Some (as_line None (Init file)) }

@@ -18,46 +18,46 @@ use thiserror::Error;
 pub enum Order {
     /// A command of the desk.
     Act(Command),
-    /// A read.
+    /// A read of the desk.
     Get {
-        /// Counts whatever host the target gives.
+        /// The host of the read, whatever host the target gives.
         host: Text,
-        /// As it came: `Target::read` may refuse it.
+        /// The target as it came: `Target::read` may refuse it.
         target: Text,
         pass: Option<Text>,
         /// The moment of the read, in seconds since 1970, where it is given.
         moment: Option<u64>,
     },
-    /// To add the redirects of a list to those of a project.
+    /// Adds the redirects of a list to those of a project.
     Import {
         host: Text,
         /// The file of the list.
         list: Text,
     },
-    /// To list what the records hold.
+    /// Lists what the records hold.
     List(ListWord),
-    /// To make a store in a file.
+    /// Makes a store in a file.
     Init {
         file: Text,
     },
-    /// To bring a store in a file to the schema of this program.
+    /// Brings a store in a file to the schema of this program.
     Migrate {
         file: Text,
     },
-    /// To run the lines of standard input.
+    /// Runs the lines of standard input.
     Script,
-    /// To answer the request of standard input.
+    /// Answers the request of standard input.
     Answer,
-    /// To answer so many connections at a port: any free one where it is 0.
+    /// Answers this many connections at a port: any free one where it is 0.
     Serve {
         count: u32,
         port: u16,
-        /// Whether each request is told.
+        /// Whether the log tells each request.
         log: bool,
     },
 }
 
-/// A line.
+/// A line: what it orders, and over which store.
 #[derive(Drop)]
 pub struct Line {
     pub order: Order,
@@ -68,7 +68,7 @@ pub struct Line {
 /// Why words gave no line.
 #[derive(Clone, Copy, Debug, PartialEq, Eq, Error)]
 pub enum LineFault {
-    /// They are none.
+    /// The words are no line.
     #[error("Usage")]
     Usage,
     /// Out of memory.
@@ -112,7 +112,7 @@ fn value<'a>(matches: &ArgMatches<'a>, id: &str) -> Option<&'a str>
     matches.get_str(id)
 }
 
-/// A word that has to be there.
+/// Reads a word that has to be there.
 fn word(alloc: Global, matches: &ArgMatches<'_>, id: &str) -> Result<Text, LineFault>
     ensures { ReadsOrUsage (first_of id.now (rows_of (found_of matches.now))) result }
 {
@@ -122,7 +122,7 @@ fn word(alloc: Global, matches: &ArgMatches<'_>, id: &str) -> Result<Text, LineF
     }
 }
 
-/// The bytes of a word that has to be there.
+/// Reads the bytes of a word that has to be there.
 fn word_bytes(alloc: Global, matches: &ArgMatches<'_>, id: &str) -> Result<Bytes, LineFault>
     ensures { ReadsOrUsage (first_of id.now (rows_of (found_of matches.now))) result }
 {
@@ -132,7 +132,7 @@ fn word_bytes(alloc: Global, matches: &ArgMatches<'_>, id: &str) -> Result<Bytes
     }
 }
 
-/// The value of an option, where it is given.
+/// Reads the value of an option, where it is given.
 fn option_value(
     alloc: Global,
     matches: &ArgMatches<'_>,
@@ -204,7 +204,7 @@ fn is_pattern(alloc: Global, text: &str) -> Result<bool, AllocError>
     Ok(Pattern::read(alloc, text)?.is_some())
 }
 
-/// Whether a line reads this value of the word with this id. Of a word that may have any it reads each.
+/// Whether a line accepts this value for the word with this id. A word without a limit accepts each value.
 pub fn reads(alloc: Global, id: &str, value: &str) -> Result<bool, AllocError>
     ensures { IfOk result (λ is_read. is_read ≡ spec_reads id.now value.now) }
 {
@@ -229,7 +229,7 @@ fn text_meant(word: &str) -> &str
     if word == "none" { "" } else { word }
 }
 
-/// The text that a word stands for which has to be there.
+/// Reads the text that a word stands for; the word has to be there.
 fn meant(alloc: Global, matches: &ArgMatches<'_>, id: &str) -> Result<Text, LineFault>
     ensures { ReadsOrUsage (option_map meant_by (first_of id.now (rows_of (found_of matches.now))))
         result }
@@ -311,7 +311,7 @@ fn upload(alloc: Global, matches: &ArgMatches<'_>) -> Result<CommandChange, Line
     })
 }
 
-/// The change of this name of one version.
+/// The change of one version that this name orders.
 fn named_on(name: &str, slug: Text) -> Option<CommandChange>
     ensures { result ≡ change_on name.now slug }
 {
@@ -338,7 +338,7 @@ fn version(alloc: Global, name: &str, matches: &ArgMatches<'_>) -> Result<Comman
     }
 }
 
-/// The moment that an option gives, or none where it is left out.
+/// Reads the moment that an option gives, or none where it is left out.
 fn moment(matches: &ArgMatches<'_>, id: &str) -> Result<Option<u64>, LineFault>
     ensures { ReadsOrUsage (moment_in id.now (rows_of (found_of matches.now))) result }
 {
@@ -510,7 +510,7 @@ fn count(matches: &ArgMatches<'_>) -> Option<u32>
     }
 }
 
-/// The port, which is 0 where it is left out.
+/// Reads the port, which is 0 where it is left out.
 fn port(matches: &ArgMatches<'_>) -> Option<u16>
     ensures { result ≡ port_in (rows_of (found_of matches.now)) }
 {
@@ -681,7 +681,7 @@ fn read_line(alloc: Global, matches: &ArgMatches<'_>) -> Result<Line, LineFault>
     }
 }
 
-/// What `clap` matches in the words.
+/// Matches the words, by `clap`.
 fn read_words<'a>(
     program: &mut clap::Command<'a>,
     words: &'a [String],
@@ -700,8 +700,8 @@ fn read_words<'a>(
     Err(LineFault::Usage)
 }
 
-/// The line that the words are, by a program that `docs_command` made: it is built at the first
-/// call, and the words of each call live as long as it.
+/// Reads the line that the words are, by a program that `docs_command` made. The program is built at the first call, and the
+/// words of each call live as long as the program.
 ///
 /// `Usage`: the words are no line, or ask for help. `Memory`: an allocation was refused.
 pub fn line_by<'a>(
@@ -717,8 +717,8 @@ pub fn line_by<'a>(
     read_line(alloc, &matches)
 }
 
-/// The line that the words are: the program's words without its own name, or those of a script's
-/// line. For line after line `line_by` is faster.
+/// Reads the line that the words are: the program's words without its own name, or those of a script's line. For line after line
+/// `line_by` is faster.
 ///
 /// `Usage`: the words are no line, or ask for help. `Memory`: an allocation was refused.
 pub fn line_of(alloc: Global, words: &[String]) -> Result<Line, LineFault>

@@ -1,4 +1,4 @@
--- What a list word finds in the records.
+-- What a list word finds in sound records.
 use Rattle.std.specs.Prelude.{◌≡◌, Option, Some, option_and_then, option_map, true}
 use Rattle.std.specs.FinMap.{get}
 use Rattle.dh_world.specs.World.{Text}

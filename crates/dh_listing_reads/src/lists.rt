@@ -116,7 +116,7 @@ fn list_projects<S: Alter>(tables: &mut Tables<S>, alloc: Global) -> Found<Text>
     Ok(Some(records_text(alloc, rows.as_slice())?))
 }
 
-/// The text as the name of a host, if it is.
+/// The text as the name of a host, where the text is one.
 fn host_in(alloc: Global, text: &Text) -> Found<HostName>
     ensures value { IfOk result (λ found. found ≡ host_named text.now) }
     ensures told { OnStore result ⊥ }
@@ -146,7 +146,7 @@ fn list_under<S: Alter>(
     }
 }
 
-/// The same, where the text is the name of a host.
+/// The text of a list of the project of a host, where the text is the name of a host that has one.
 fn list_named<S: Alter>(
     tables: &mut Tables<S>,
     alloc: Global,

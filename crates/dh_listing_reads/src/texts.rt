@@ -14,10 +14,10 @@ use std::alloc::{AllocError, Global};
 
 /// A record that is a row of a list.
 pub trait RowText {
-    // Its row,
+    // The text of the record's row.
     ghost shown: { Self → List ℕ };
 
-    /// which is put behind an LF.
+    /// Puts the row behind an LF.
     fn put(&self, alloc: Global, out: &mut String) -> Result<(), AllocError>
         ensures { OnOk result (string_bytes out.new ≡ string_bytes out.old ++ 10 ∷ shown self.now) };
 }

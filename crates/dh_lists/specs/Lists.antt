@@ -1,4 +1,4 @@
--- The redirects that a list in CSV writes: a record is kind, status, force, From and To.
+-- The redirects that a list in CSV writes. The fields of a record are kind, status, force, From and To.
 use Rattle.std.specs.Prelude.{◌≡◌, ℕ, ◌+◌, ◌&&◌, Bool, true, false, if◌then◌else◌, List, [], ◌∷◌}
 use Rattle.std.specs.Prelude.{codes, Option, Some, None, Result, Ok, Err, ⊤}
 use Rattle.std.specs.Str.{bytes_eq, is_utf8}
@@ -21,8 +21,8 @@ force_of text =
     else if bytes_eq text (codes "no") then Some false
     else None
 
--- the redirect of what was read of kind, status and force, as it is written now; or the first of
--- them that was not read
+-- the redirect of the kind, the status and the force that were read, converted to its present form; or the first of the three
+-- that was not read
 abbrev pub redirect_read : Option RedirectKind → Option ℕ → Option Bool → List ℕ → List ℕ
     → Result Redirect RecordFault
 redirect_read None status force source target = Err BadKind
@@ -62,18 +62,18 @@ abbrev pub listed_from : ℕ → Result Redirect RecordFault → Result (List Re
 listed_from n (Ok x) rest = with_first x rest
 listed_from n (Err fault) rest = Err (BadRecord n fault)
 
--- the redirects of records, which are counted from a number on; or the first that writes none
+-- the redirects of records, which are counted from this number on; or the first record that writes none
 abbrev pub listed : ℕ → List (List (List ℕ)) → Result (List Redirect) ListFault
 listed n [] = Ok []
 listed n (row ∷ rows) = listed_from n (read_row row) (listed (n + 1) rows)
 
--- what is said of the records is told; out of memory may come anywhere
+-- the answer is what the definition says, but that memory may be out anywhere
 abbrev pub IsListed : Result (List Redirect) ListFault → Result (List Redirect) ListFault
     → Type 0
 IsListed said (Err Memory) = ⊤
 IsListed said result = said ≡ result
 
--- the records of the text are told so; out of memory may come anywhere
+-- the answer is what the records of the text say, but that memory may be out anywhere
 abbrev pub ReadsList : List ℕ → Result (List Redirect) ListFault → Type 0
 ReadsList text (Err Memory) = ⊤
 ReadsList text result =

@@ -1,4 +1,4 @@
-//! Lists of redirects in CSV, without a header line: a record is kind, status, force, From and To.
+//! Lists of redirects in CSV, without a header line. The fields of a record are kind, status, force, From and To.
 
 ghost use Rattle.std.specs.Prelude.{◌≡◌, ◌∷◌, [], IfOk, MatchOption, map, true, false};
 ghost use Rattle.std.specs.Str.{is_utf8};
@@ -15,7 +15,7 @@ use dh_redirects::{Redirect, RedirectKind, from_old, read_status};
 use std::alloc::{AllocError, Global};
 use thiserror::Error;
 
-/// Why a record writes no redirect. The first that is true is told.
+/// Why a record writes no redirect. The first fault that applies is told.
 #[derive(Clone, Copy, Debug, PartialEq, Eq, Error)]
 pub enum RecordFault {
     #[error("it has not five fields: kind, status, force, From and To")]
@@ -50,7 +50,7 @@ impl From<AllocError> for ListFault {
     }
 }
 
-/// All records, each of any number of fields. Over a text in memory `csv` can want memory alone.
+/// Reads all records, each of any number of fields. Over a text in memory `csv` can fail for lack of memory alone.
 fn read_rows(alloc: Global, list: &[u8]) -> Result<Vec<ByteRecord>, AllocError>
     ensures { IfOk result (λ rows. AreRecords default_config StartRecord (strip_bom list.now)
         (map fields_of rows.items)) }
@@ -79,7 +79,7 @@ fn read_force(text: &str) -> Option<bool>
     }
 }
 
-/// The text of bytes, where they are one.
+/// The text that some bytes are, where they are UTF-8.
 fn as_text(bytes: &[u8]) -> Option<&str>
     ensures { MatchOption result (is_utf8 bytes.now ≡ false)
         (λ text. (text.now ≡ bytes.now) × (is_utf8 bytes.now ≡ true)) }
@@ -90,7 +90,7 @@ fn as_text(bytes: &[u8]) -> Option<&str>
     }
 }
 
-/// The redirect that five texts write, or what is wrong with them.
+/// Reads the redirect that five texts write, or what is wrong with them.
 fn read_texts(
     alloc: Global,
     kind: &str,
@@ -121,7 +121,7 @@ fn read_texts(
     Ok(Ok(from_old(alloc, old)?))
 }
 
-/// The redirect that five fields write, or what is wrong with them.
+/// Reads the redirect that five fields write, or what is wrong with them.
 fn read_fields(
     alloc: Global,
     kind: &[u8],
@@ -147,7 +147,7 @@ fn read_fields(
     }
 }
 
-/// The redirect that a record writes, or what is wrong with it.
+/// Reads the redirect that a record writes, or what is wrong with the record.
 fn read_row(alloc: Global, row: &ByteRecord) -> Result<Result<Redirect, RecordFault>, AllocError>
     ensures { IfOk result (λ read. read ≡ spec.read_row (fields_of row.now)) }
 {
@@ -162,7 +162,7 @@ fn read_row(alloc: Global, row: &ByteRecord) -> Result<Result<Redirect, RecordFa
     }
 }
 
-/// The redirects of records, or the first record that writes none.
+/// Reads the redirects of records, or tells the first record that writes none.
 fn redirects_in(alloc: Global, rows: &[ByteRecord]) -> Result<Items<Redirect>, ListFault>
     ensures { IsListed (spec.listed 1 (map fields_of rows.now)) result }
 {
@@ -180,9 +180,8 @@ fn redirects_in(alloc: Global, rows: &[ByteRecord]) -> Result<Items<Redirect>, L
     Ok(Items::wrap(redirects))
 }
 
-/// The redirects of a list, in its order and converted: one whose From ends in `$rest` comes as it
-/// is written now (`from_old`), so a command takes them as they are. A byte order mark is no part of
-/// the list.
+/// Reads the redirects of a list, in its order. A redirect whose From ends in `$rest` is converted to its present form
+/// (`from_old`), so a command takes all of them as they are. A byte order mark is no part of the list.
 pub fn read_list(alloc: Global, list: &[u8]) -> Result<Items<Redirect>, ListFault>
     ensures { ReadsList list.now result }
 {

@@ -24,11 +24,11 @@ use Rattle.dh_world.specs.World.{Text, Project, UsedKey, op_code}
 abbrev pub asked_key : Option RetryKey → Option UsedKey
 asked_key = option_map (λ k. (k.slug.now, (op_code k.operation, k.key.now)))
 
--- so it is of each project that stands under the host
+-- P holds of the project that stands under the host, where there is one
 abbrev pub OfProject : Text → (Project → Type 0) → Lists → Type 0
 OfProject host P l = (p : Project) → get (world_of l) host ≡ Some p → P p
 
--- the version with the slug, where one is asked for, whose slug comes from its name
+-- the version with the slug, where one is asked for; its own slug is this, and comes from its name
 pub record IsVersionAsked (slug : Option Text) (version : Option Version)
     (p : Project) : Type 0 where
   pub is : option_and_then (get p.versions) slug ≡ version
@@ -40,11 +40,11 @@ pub record AreListed {X : Type 0} (ask : Bool) (most : ℕ) (IsGood : X → Type
   pub few : length found ≤ most
   pub good : AllByRecursion IsGood found
 
--- the rules
+-- the rules of the project, where they are asked for
 abbrev pub AreRulesAsked : Bool → List Rule → Project → Type 0
 AreRulesAsked ask rules p = AreListed ask 50 (λ r. IsTrue (is_allowed r.pattern)) p.rules rules
 
--- the redirects
+-- the redirects of the project, where they are asked for
 abbrev pub AreRedirectsAsked : Bool → List Redirect → Project → Type 0
 AreRedirectsAsked ask redirects p =
     AreListed ask 100 (λ r. first_fault r ≡ None) p.redirects redirects

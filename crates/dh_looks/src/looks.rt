@@ -130,7 +130,7 @@ fn pass_count<S: Alter>(
     }
 }
 
-/// What stands under a key, and how many passes there are.
+/// What was found: the version, the first answer and the passes, as far as they are asked for.
 #[derive(Drop)]
 struct FoundAt {
     version: Option<Version>,
@@ -161,7 +161,7 @@ fn look_at<S: Alter>(
     })
 }
 
-/// The lists of the project.
+/// What was found: the lists of the project that are asked for.
 #[derive(Drop)]
 struct FoundLists {
     languages: Vec<Lang>,

@@ -25,7 +25,7 @@ pub record CanConvert (schema : Schema) : Type 0 where
   pub unshared : IsUnshared schema (codes "pass")
   pub counted : lacks_sequence schema ≡ false
 
--- Schema 1, as far as it changes: the table of passes stands, can be dropped, and the number is 1.
+-- What converting needs of schema 1: the table of passes stands and can be dropped, and the number is 1.
 pub record IsConvertible (db : Database) : Type 0 where
   pub sound : IsDatabase db
   pub passes : StandsInSchema db.schema old_pass_table
@@ -54,7 +54,7 @@ pub record IsGone (before db : Database) : Type 0 where
   pub others : SparesOthers (codes "pass") before db
   pub addable : StaysAddable before db
 
--- a new one has these passes
+-- a new table of passes has these records
 pub record HasPasses (rows : List PassRow) (before db : Database) : Type 0 where
   pub keeps : KeepsTable pass_table coding.passes db
   pub passes : records_of coding.passes (codes "pass") db ≡ rows
@@ -76,7 +76,7 @@ pub record IsConverted (rows : List PassRow) (before db : Database) : Type 0 whe
       → StandsInSchema db.schema u × (rows_of db u.name ≡ rows_of before u.name)
   pub addable : StaysAddable before db
 
--- What statements in turn leave, or none: answered, a transaction stays as it was, and P is true of what is seen.
+-- What statements in turn leave, or none: once answered, a transaction stays as it was, and P is true of what is seen.
 pub record CarriesTo {S : Type 0} (g : Ghosts S) (old new : Held S) (result : Result (Unit {0}) Fault) (P : Database → Type 0) : Type 0 where
   pub goes : MakesNoCommitInside g old new
   pub made

@@ -24,7 +24,7 @@ old_passes = record {
   key = λ x. Text x.host ∷ Text x.pass ∷ [];
 }
 
--- it can be read again
+-- the pass can be read again
 pub record IsOldPass (x : OldPassRow) : Type 0 where
   pub host : PassesTest is_host_name x.host
   pub pass : PassesTest is_token x.pass

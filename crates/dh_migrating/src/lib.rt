@@ -1,4 +1,4 @@
-//! Tables of schema 1, whose passes have no end, made tables of schema 2, where each has one or none.
+//! Converts tables of schema 1, whose passes have no end, to tables of schema 2, where each pass has an end or none.
 #![tactic(auto)]
 
 pub mod old_pass;

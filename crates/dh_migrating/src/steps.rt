@@ -1,4 +1,4 @@
-//! What makes schema 2 of schema 1, one statement after the other. A caller puts them into one transaction.
+//! The statements that convert schema 1 to schema 2, one after the other. A caller puts them into one transaction.
 
 ghost use Rattle.std.specs.Prelude.{◌≡◌, ◌↔◌, [], filter, not, IsTrue};
 ghost use Rattle.sqlite.specs.Effect.{Database};
@@ -36,7 +36,7 @@ fn drop_old<S: Alter>(conn: &mut Connection<S>) -> Result<(), Fault>
     change(conn, "DROP TABLE pass", &[])
 }
 
-/// Makes it anew, with an end for each pass.
+/// Makes the table of passes anew, with a column for the end.
 fn make_new<S: Alter>(conn: &mut Connection<S>) -> Result<(), Fault>
     requires { IsHonest S.Store conn.old → (before : Database)
         × IsGone before (state S.Store conn.old).now }
@@ -76,7 +76,7 @@ fn write_each<S: Alter>(conn: &mut Connection<S>, rows: &[PassRow]) -> Result<()
     Ok(())
 }
 
-/// Takes the number of schema 1 away.
+/// Removes the number of schema 1.
 fn unnumber<S: Alter>(conn: &mut Connection<S>) -> Result<(), Fault>
     requires { IsHonest S.Store conn.old → KeepsTable meta_table meta (state S.Store conn.old).now }
     ensures carries { CarriesTo S.Store conn.old conn.new result
@@ -85,7 +85,7 @@ fn unnumber<S: Alter>(conn: &mut Connection<S>) -> Result<(), Fault>
     change(conn, "DELETE FROM meta WHERE schema = ?1", params![1i64])
 }
 
-/// Writes that of schema 2.
+/// Writes the number of schema 2.
 fn number<S: Alter>(conn: &mut Connection<S>) -> Result<(), Fault>
     requires { IsHonest S.Store conn.old → KeepsTable meta_table meta (state S.Store conn.old).now
         × (records_of meta meta_table.name (state S.Store conn.old).now ≡ []) }
@@ -95,7 +95,7 @@ fn number<S: Alter>(conn: &mut Connection<S>) -> Result<(), Fault>
     change(conn, "INSERT INTO meta VALUES (?1)", params![2i64])
 }
 
-/// Makes schema 2 of schema 1, with these passes, in the order of their keys.
+/// Converts schema 1 to schema 2, with these passes, in the order of their keys.
 pub fn convert<S: Alter>(conn: &mut Connection<S>, rows: &[PassRow]) -> Result<(), Fault>
     requires order { InOrder passes.key rows.now }
     requires old { IsHonest S.Store conn.old → IsConvertible (state S.Store conn.old).now }

@@ -13,7 +13,7 @@ use Rattle.dh_opening.specs.declared.fault.TablesFault.{TablesFault}
 use Rattle.dh_opening.specs.declared.fault.TablesFault.TheVariants.{NotOurs, OldSchema, Failed}
 use Rattle.dh_opening.specs.Opening.{HasDerived, IsNumbered, IsOurs, OnFailed, OnNotOurs, OnOldSchema}
 
--- where they can be added they are, and else all is as it was
+-- the tables of derived records are added where they can be, and else all is as it was
 abbrev pub IsFilled : Database → Database → Type 0
 IsFilled before after =
     (CanAdd before.schema × IsAdded added_tables [] before after) ⊎ ((¬ CanAdd before.schema) × (after ≡ before))
@@ -31,7 +31,7 @@ pub record IsBrought (lists : Lists) (before after : Database) : Type 0 where
   pub base : base_of (lists_of after) ≡ lists
   pub derived : KeepsDerived before (lists_of after)
 
--- Tables that were ours, with their records.
+-- The tables were ours before, and have their records after.
 abbrev pub IsOpened : Database → Database → Type 0
 IsOpened before after = IsOurs before × IsBrought (base_of (lists_of before)) before after
 
@@ -45,7 +45,7 @@ AddsNothing NotOurs db = ⊤
 AddsNothing OldSchema db = ⊤
 AddsNothing (Failed fault) db = ¬ CanAdd db.schema
 
--- the same of an answer
+-- nothing is added, by the answer
 abbrev pub IsNothingAdded : {T : Type 0} → Result T TablesFault → Database → Type 0
 IsNothingAdded (Ok x) db = ¬ CanAdd db.schema
 IsNothingAdded (Err e) db = AddsNothing e db
@@ -58,17 +58,17 @@ module _ {S : Type 0} (g : Ghosts S) where
     pub settled : (state g h).now ≡ (state g h).committed
 
   module _ (old new : Held S) where
-    -- A crash leaves what it could leave before, or the trees of a database to which the one before stands so.
+    -- A crash leaves what it could leave before, or the trees of a database that R relates to the one before.
     abbrev pub LeavesBrought : (Database → Database → Type 0) → Type 0
     LeavesBrought R =
         LeavesTrees g old new (λ trees. (after : Database) × (trees ≡ after.trees) × R (state g old).now after)
 
-    -- the trees of tables that were ours and have their records
+    -- a crash leaves what it could leave before, or the trees of tables that were ours, with their records
     abbrev pub LeavesOpened : Type 0
     LeavesOpened = LeavesBrought IsOpened
 
-    -- What changes leave that bring a database to another, in a transaction of their own. Where the tables are told not
-    -- to be ours, N; and F, where what changes them may be refused at any store.
+    -- What bringing a database to another by R leaves, in a transaction of its own. N holds where the tables are told not to be
+    -- ours; where F holds, a change may be refused at any store.
     pub record BringsBy (result : Result (Unit {0}) TablesFault) (R : Database → Database → Type 0) (N F : Type 0) : Type 0 where
       pub lasts : KeepsFaults g old new
       pub done

@@ -21,7 +21,7 @@ module _ {S : Type 0} (g : Ghosts S) (sql : List ℕ) where
     TakesOn given true = (row : Row) × HasTaken new (given ++ row ∷ []) × Took after (given ++ row ∷ [])
     TakesOn given false = Took after given
 
-    -- What it leaves to take the next row of the query, if it has given these.
+    -- What taking the next row of a query leaves, once the query has given these rows.
     pub record TakesNext (result : Result Bool TablesFault) : Type 0 where
       pub opens
           : (given : List Row) → HasTaken old given

@@ -33,8 +33,8 @@ pub record IsOld (db : Database) : Type 0 where
 abbrev pub IsBehind : Database → Type 0
 IsBehind db = IsOld db ⊎ LacksDerived db
 
--- What migrated tables show: if they were ours, what they showed, and if they were of schema 1, their records, each pass
--- without an end; of derived records those that were there.
+-- What migrated tables show: the records of tables that were ours, or those of tables of schema 1, each pass without an end; and
+-- the derived records that were there.
 abbrev pub IsShown : Database → Lists → Type 0
 IsShown before lists =
     ((IsOurs before × (base_of lists ≡ base_of (lists_of before)))

@@ -1,4 +1,4 @@
--- What an open of the tables finds.
+-- What opening the tables finds.
 use Rattle.std.specs.Prelude.{◌≡◌, ◌⊎◌, ℕ, ◌<◌, ◌^◌, Bool, true, false, None, List, [], ◌∷◌, codes, map, Result, Err, IfOk, ⊤}
 use Rattle.std.specs.List.{AllByRecursion}
 use Rattle.std.specs.declared.cmp.Ordering.TheVariants.{Less}
@@ -28,12 +28,12 @@ use Rattle.dh_opening.specs.declared.fault.TablesFault.TheVariants.{NotOurs, Old
 -- ---- records
 
 module _ {X : Type 0} (c : Coding X) (IsTyped : X → Type 0) where
-  -- the row is the record's, which can be read again
+  -- the row keeps the record, which can be read again
   pub record IsKeptAs (row : Row) (x : X) : Type 0 where
     pub is : row ≡ c.encode x
     pub typed : IsTyped x
 
-  -- the rows are those of these records, which can be read again, and whose keys rise
+  -- the rows keep these records, which can be read again and whose keys rise
   pub record AreKept (rows : List Row) (xs : List X) : Type 0 where
     pub are : rows ≡ map c.encode xs
     pub typed : AllByRecursion IsTyped xs
@@ -62,7 +62,7 @@ abbrev pub other_tables : List Table
 other_tables =
     rule_table ∷ redirect_table ∷ project_table ∷ lang_table ∷ version_table ∷ page_table ∷ used_table ∷ pick_table ∷ holds_table ∷ []
 
--- The rows of these stand for these records. Nothing is said of passes.
+-- The rows of our tables stand for these records; nothing is said of passes.
 pub record AreSpelled (db : Database) (l : Lists) : Type 0 where
   pub projects : StandFor coding.projects IsProject (codes "project") db l.projects
   pub langs : StandFor coding.langs IsLanguage (codes "lang") db l.langs
@@ -74,7 +74,7 @@ pub record AreSpelled (db : Database) (l : Lists) : Type 0 where
   pub rules : StandFor coding.rules IsRule (codes "rule") db l.rules
   pub redirects : StandFor coding.redirects IsRedirect (codes "redirect") db l.redirects
 
--- These are their records, and keep the constraints.
+-- The rows of our tables stand for these records, which keep the constraints.
 pub record AreKeptIn (db : Database) (l : Lists) : Type 0 where
   pub spelled : AreSpelled db l
   pub keeps : KeepsConstraints l
@@ -85,12 +85,12 @@ pub record HasDerived (db : Database) : Type 0 where
   pub aliases : StandFor coding.aliases IsAlias (codes "alias") db (lists_of db).aliases
   pub routes : StandFor coding.routes IsRoute (codes "route") db (lists_of db).routes
 
--- They do, or can be added.
+-- The tables of derived records stand alone, and their rows stand for records; or they can be added.
 abbrev pub MayDerive : Database → Type 0
 MayDerive db = HasDerived db ⊎ CanAdd db.schema
 
--- Our tables stand alone, their rows stand for records, and these keep the constraints; those of derived records do, or
--- can be added.
+-- Our tables stand alone, and their rows stand for records which keep the constraints; the tables of derived records stand so,
+-- too, or can be added.
 pub record IsOurs (db : Database) : Type 0 where
   pub number : IsNumbered db 2
   pub alone : AllByRecursion (StandsAlone db.schema) (pass_table ∷ other_tables)
@@ -98,7 +98,7 @@ pub record IsOurs (db : Database) : Type 0 where
   pub kept : AreKeptIn db (base_of (lists_of db))
   pub derived : MayDerive db
 
--- What is known of a database whose number is that of this program, or else of schema 1.
+-- By the answer, the database is ours, or the number of its schema is 1.
 abbrev pub IsOursOrOld : Bool → Database → Type 0
 IsOursOrOld true db = IsOurs db
 IsOursOrOld false db = IsNumbered db 1
@@ -136,7 +136,7 @@ OnFailed (Err (Failed fault.Store)) P = P
 OnFailed _ P = ⊤
 
 module _ {S : Type 0} (g : Ghosts S) (old new : Held S) {T : Type 0} (result : Result T TablesFault) where
-  -- What a look at the database leaves: an answer has P, and one that is not ours has N.
+  -- What a look at the database leaves: P holds of what is answered, and N of a database that is told not to be ours.
   pub record JudgesTables (P : Database → T → Type 0) (N : Database → Type 0) : Type 0 where
     -- nothing is committed, and a crash leaves nothing more
     pub goes : MakesNoCommit g old new

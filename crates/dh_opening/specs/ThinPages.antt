@@ -27,7 +27,7 @@ thinned l = record l { pages = map thin l.pages }
 abbrev pub IsFit : PageRow → Type 0
 IsFit x = IsTrue (is_content x.page.media x.page.body)
 
--- the rows are those of these pages, each of which may have its content
+-- the rows keep these pages, each of which may have its content
 pub record AreFitPages (rows : List Row) (xs : List PageRow) : Type 0 where
   pub kept : AreKept pages IsPage rows xs
   pub fit : AllByRecursion IsFit xs
@@ -48,11 +48,11 @@ pub record HasFound (p : ThinPages) (rows : List Row) : Type 0 where
 abbrev pub IsNext : Option Row → Row → Type 0
 IsNext last row = IfSome last (λ l. row_cmp (part (0 ∷ 1 ∷ 2 ∷ 3 ∷ []) l) (part (0 ∷ 1 ∷ 2 ∷ 3 ∷ []) row) ≡ Less)
 
--- the row is this page's, which may have its content
+-- the row keeps this page, which may have its content
 abbrev pub KeepsFit : Row → PageRow → Type 0
 KeepsFit row x = IsKeptAs pages IsPage row x × IsFit x
 
--- The row keeps the next page, which is found.
+-- The row keeps the next page, which is added without its body.
 pub record FindsNext (old new : ThinPages) (row : Row) : Type 0 where
   pub next : IsNext old.last row
   pub page : PageRow
@@ -60,7 +60,7 @@ pub record FindsNext (old new : ThinPages) (row : Row) : Type 0 where
   pub found : new.found.items ≡ old.found.items ++ thin page ∷ []
   pub last : new.last ≡ Some row
 
--- What is known of rows that were taken.
+-- What is known of pages once these rows were taken.
 pub record TookPages (p : ThinPages) (rows : List Row) : Type 0 where
   pub kept : IsTrue p.are_kept → HasFound p rows
   pub none : p.are_kept ≡ false → (xs : List PageRow) → ¬ AreFitPages rows xs
@@ -72,11 +72,11 @@ pub record HasPages (db : Database) (xs : List PageRow) : Type 0 where
   pub stand : StandFor pages IsPage (codes "page") db xs
   pub fit : AllByRecursion IsFit xs
 
--- these are its pages without their bodies
+-- these are the pages of the database, without their bodies
 abbrev pub HasThin : Database → List PageRow → Type 0
 HasThin db xs = (all : List PageRow) × HasPages db all × (xs ≡ map thin all)
 
--- the lists with these pages, which have their bodies
+-- the lists with these pages, bodies and all
 abbrev pub with_bodies : List PageRow → Lists → Lists
 with_bodies all l = record l { pages = all }
 

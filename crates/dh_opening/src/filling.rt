@@ -27,7 +27,8 @@ pub(crate) fn fill<S: Alter>(conn: &mut Connection<S>) -> Result<(), Fault>
     }
 }
 
-/// The same in a transaction of its own, of tables that were found ours. A connection that is refused may still be in it.
+/// Adds the missing tables in a transaction of its own, to tables that were found ours. After a refusal the connection may still
+/// be in it.
 fn fill_at_once<S: Alter>(conn: &mut Connection<S>) -> Result<(), TablesFault>
     requires ours { IsHonest S.Store conn.old → IsOurs (state S.Store conn.old).now }
     ensures lasts { KeepsFaults S.Store conn.old conn.new }
@@ -47,7 +48,7 @@ fn fill_at_once<S: Alter>(conn: &mut Connection<S>) -> Result<(), TablesFault>
     Ok(())
 }
 
-/// The same where they are missing; else it does nothing.
+/// Adds the tables of derived records where they are missing, in a transaction of its own; else does nothing.
 pub(crate) fn complete<S: Alter>(conn: &mut Connection<S>) -> Result<(), TablesFault>
     requires rests { HasCleanDisk (state S.Store conn.old) → IsAtRest S.Store conn.old }
     requires ours { IsHonest S.Store conn.old → IsOurs (state S.Store conn.old).now }

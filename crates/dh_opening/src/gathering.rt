@@ -15,10 +15,10 @@ use std::alloc::{AllocError, Global};
 
 /// What takes the rows of an answer in turn.
 pub trait Taker {
-    // What is known of it once it took these rows.
+    // What is known of the taker once it took these rows.
     ghost took: { Self → List Values → Type 0 };
 
-    /// Takes one row more. Out of memory it is of no more use.
+    /// Takes the next row. A taker that ran out of memory is of no more use.
     fn take(&mut self, alloc: Global, row: &Row) -> Result<(), AllocError>
         ensures { OnOk result ((rows : List Values) → took self.old rows
             → took self.new (rows ++ row.now ∷ [])) };
@@ -46,7 +46,8 @@ fn take_next<S: Alter, G: Taker>(
     }
 }
 
-/// Takes all rows that a query answers, each before the next is read. More than can be counted are out of memory.
+/// Takes all rows that a query answers, each before the next is read. More rows than can be counted are refused as out of
+/// memory.
 pub fn gather<S: Alter, G: Taker>(
     conn: &mut Connection<S>,
     alloc: Global,

@@ -1,4 +1,4 @@
-//! Records as their rows keep them: read, and found to be no other's.
+//! Records read from rows that keep them, and whether a row keeps a record.
 
 ghost use Rattle.std.specs.Prelude.{◌≡◌, ◌↔◌, ◌<◌, ◌^◌, ℕ, List, [], ◌∷◌, None, IfOk, IfSome, IsTrue};
 ghost use Rattle.sqlite_schema.specs.declared.schema.Table.{Table};
@@ -21,7 +21,7 @@ use sqlite::types::ToSql;
 use sqlite::{Row, params};
 use std::alloc::{AllocError, Global};
 
-/// That a number fits 16 bits, as its type says. It does nothing.
+/// States that a number fits 16 bits, as its type says; does nothing.
 fn show_status(n: u16)
     ensures { n < 2 ^ 16 }
 {
@@ -39,10 +39,10 @@ pub trait Kept: Record {
 
     ghost order: { List ℕ };
 
-    // How it is kept in its columns, once more.
+    // How a record is kept in its columns, which is the coding of `Record`.
     ghost kept: { Coding Self };
 
-    // The texts are such queries, and records of this kind are rows of the table.
+    // The texts are queries of all rowids and all rows, and records of this kind are rows of the table.
     ghost reads: { AreTextsOf table ids rows order };
 
     ghost suits: { IsCodingOf table kept order };
@@ -61,7 +61,7 @@ pub trait Kept: Record {
         ensures { (x : Self)
             → part result.now (Self.Record.coding.encode x) ≡ Self.Record.coding.key x };
 
-    /// Whether the row is this record's, which can be read again.
+    /// Whether the row keeps this record, and the record can be read again.
     fn is_kept_as(&self, alloc: Global, row: &Row) -> Result<bool, AllocError>
         ensures { IfOk result (λ b. IsTrue b
             ↔ IsKeptAs Self.Record.coding Self.Record.typed row.now self.now) };
@@ -499,7 +499,7 @@ impl Kept for RouteRow {
     }
 }
 
-/// The record that a row keeps; none where it keeps none that can be read again.
+/// Reads the record that a row keeps; none where the row keeps no record that can be read again.
 pub fn record_in<R: Kept>(alloc: Global, row: &Row) -> Result<Option<R>, AllocError>
     ensures some { IfOk result (λ o. IfSome o (λ x. IsKeptAs R.Record.coding R.Record.typed row.now x)) }
     ensures none { IfOk result (λ o. o ≡ None → (x : R) → ¬ IsKeptAs R.Record.coding R.Record.typed row.now x) }
@@ -517,8 +517,8 @@ pub fn record_in<R: Kept>(alloc: Global, row: &Row) -> Result<Option<R>, AllocEr
     }
 }
 
-/// The records that some rows keep, whose keys rise; none where the rows keep none such. Each row's memory is given back as
-/// soon as its record is read.
+/// Reads the records that some rows keep, whose keys rise; none where the rows keep no such records. Each row's memory is given
+/// back as soon as its record is read.
 pub fn records_in<R: Kept>(alloc: Global, rows: Vec<Row>) -> Result<Option<Vec<R>>, AllocError>
     ensures some { IfOk result (λ o. IfSome o (λ v. AreKept R.Record.coding R.Record.typed rows.items v.items)) }
     ensures none { IfOk result (λ o. o ≡ None → (xs : List R) → ¬ AreKept R.Record.coding R.Record.typed rows.items xs) }

@@ -1,5 +1,5 @@
-//! Our tables in a database: how it is found out whether one that was opened is ours, by its tables, what their rows spell, and the
-//! constraints that these keep; and how tables of schema 1 are brought up.
+//! Our tables in a database: finding out whether an opened database is ours, by its tables, the records that their rows spell,
+//! and the constraints on these; and converting tables of schema 1.
 #![tactic(auto)]
 
 mod fault;

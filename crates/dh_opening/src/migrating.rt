@@ -1,4 +1,4 @@
-//! Tables of schema 1 made tables of schema 2.
+//! Converting tables of schema 1 to schema 2.
 
 ghost use Rattle.std.specs.Prelude.{◌≡◌, ◌≢◌, ◌⊎◌, false, List, None, IfErr, IfOk, IsTrue, OnErr, OnOk};
 ghost use Rattle.sqlite.specs.Effect.{Database, IsDatabase};
@@ -32,7 +32,7 @@ use dh_store::Tables;
 use sqlite::{Alter, Connection};
 use std::alloc::Global;
 
-/// The records of tables of schema 1, each pass without an end, where they are ours.
+/// Reads the records of tables of schema 1 where the tables are ours, each pass without an end.
 fn old_records<S: Alter>(conn: &mut Connection<S>, alloc: Global) -> Result<Records, TablesFault>
     requires unlimited { conn.old.step_limit ≡ None }
     ensures opens { JudgesTables S.Store conn.old conn.new result
@@ -50,7 +50,7 @@ fn old_records<S: Alter>(conn: &mut Connection<S>, alloc: Global) -> Result<Reco
     Ok(records)
 }
 
-/// Makes schema 2 of schema 1, with these passes, and adds the tables of derived records where they are missing.
+/// Converts schema 1 to schema 2, with these passes, and adds the tables of derived records where they are missing.
 fn convert_and_fill<S: Alter>(conn: &mut Connection<S>, rows: &[PassRow]) -> Result<(), Fault>
     requires order { InOrder passes.key rows.now }
     requires old { IsHonest S.Store conn.old → IsConvertible (state S.Store conn.old).now }
@@ -61,7 +61,7 @@ fn convert_and_fill<S: Alter>(conn: &mut Connection<S>, rows: &[PassRow]) -> Res
     fill(conn)
 }
 
-/// Makes them tables of schema 2, within a transaction.
+/// Converts the tables to schema 2, within a transaction.
 fn convert_tables<S: Alter>(conn: &mut Connection<S>, alloc: Global) -> Result<(), TablesFault>
     requires unlimited { conn.old.step_limit ≡ None }
     requires number { IsHonest S.Store conn.old → IsNumbered (state S.Store conn.old).now 1 }
@@ -83,7 +83,7 @@ fn convert_tables<S: Alter>(conn: &mut Connection<S>, alloc: Global) -> Result<(
     }
 }
 
-/// The same in a transaction of its own. A connection that is refused may still be in it.
+/// Converts the tables to schema 2, in a transaction of its own. After a refusal the connection may still be in it.
 fn migrate_tables<S: Alter>(conn: &mut Connection<S>, alloc: Global) -> Result<(), TablesFault>
     requires outside { HasCleanDisk (state S.Store conn.old) → conn.old.in_transaction ≡ false }
     requires unlimited { conn.old.step_limit ≡ None }
@@ -109,7 +109,7 @@ fn migrate_tables<S: Alter>(conn: &mut Connection<S>, alloc: Global) -> Result<(
     Ok(())
 }
 
-/// Finds tables of schema 2 ours, and makes those of schema 1 tables of schema 2. Those of derived records are added where
+/// Checks that tables of schema 2 are ours, or converts tables of schema 1 to schema 2; adds the tables of derived records where
 /// they are missing.
 fn update<S: Alter>(conn: &mut Connection<S>, alloc: Global) -> Result<(), TablesFault>
     requires outside { conn.old.in_transaction ≡ false }
@@ -125,10 +125,9 @@ fn update<S: Alter>(conn: &mut Connection<S>, alloc: Global) -> Result<(), Table
     }
 }
 
-/// Opens the tables that stand in a database, as `open` does. Where they are of schema 1 it makes them tables of schema 2
-/// before, in one transaction: the same records, each pass without an end. The tables of derived records are added where
-/// they are missing. Where they are not ours it changes nothing. A connection that is handed back may still be in the
-/// transaction.
+/// Opens the tables that stand in a database, as `open` does. Tables of schema 1 are first converted to schema 2, in one
+/// transaction: the same records, each pass without an end. The tables of derived records are added where they are missing.
+/// Tables that are not ours are left as they are. A connection that is handed back may still be in the transaction.
 pub fn migrate<S: Alter>(
     alloc: Global,
     conn: Connection<S>,

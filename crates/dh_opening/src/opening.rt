@@ -26,8 +26,8 @@ use dh_store::Tables;
 use sqlite::{Alter, Connection};
 use std::alloc::Global;
 
-/// The records of all tables, of which the passes were read before, and the pages have no bodies, where with their bodies they
-/// keep the constraints.
+/// Reads the records of all tables where they keep the constraints with the bodies of their pages. The passes were read before,
+/// and the pages that are answered have no bodies.
 pub(crate) fn kept_records<S: Alter>(
     conn: &mut Connection<S>,
     alloc: Global,
@@ -48,7 +48,7 @@ pub(crate) fn kept_records<S: Alter>(
     }
 }
 
-/// Whether the tables of derived records are as they are made and their rows spell records, or can be added.
+/// Checks that the tables of derived records are as they are made and their rows spell records, or that they can be added.
 pub(crate) fn check_derived<S: Alter>(
     conn: &mut Connection<S>,
     alloc: Global,
@@ -69,7 +69,7 @@ pub(crate) fn check_derived<S: Alter>(
     Ok(())
 }
 
-/// Whether tables of schema 2 are ours.
+/// Checks that tables of schema 2 are ours.
 fn check_tables<S: Alter>(conn: &mut Connection<S>, alloc: Global) -> Result<(), TablesFault>
     requires unlimited { conn.old.step_limit ≡ None }
     ensures opens { JudgesTables S.Store conn.old conn.new result
@@ -84,8 +84,8 @@ fn check_tables<S: Alter>(conn: &mut Connection<S>, alloc: Global) -> Result<(),
 }
 
 /// Whether a database is ours: the number of the schema, the tables as they are made and nothing of others on them, and rows
-/// that spell records which keep the constraints; the tables of derived records may be missing. Where the number is 1 it is
-/// not, and nothing else is looked at. It changes nothing.
+/// that spell records which keep the constraints; the tables of derived records may be missing. Answers false for the number 1,
+/// and then reads nothing else. Changes nothing.
 pub(crate) fn is_current<S: Alter>(
     conn: &mut Connection<S>,
     alloc: Global,
@@ -104,8 +104,8 @@ pub(crate) fn is_current<S: Alter>(
     }
 }
 
-/// Makes the tables, in a transaction of their own. A connection that is handed back may still be in it. The limit on
-/// a statement's steps is cleared, also of one that is handed back.
+/// Makes the tables, in a transaction of their own. A connection that is handed back may still be in it. The limit on a
+/// statement's steps is cleared, also on a connection that is handed back.
 pub fn create<S: Alter>(conn: Connection<S>) -> Result<Tables<S>, (TablesFault, Connection<S>)>
     ensures was { IfOk result (λ t. IsHonest S.Store t → IsHonest S.Store conn) }
     ensures honest { IfOk result (λ t. IsHonest S.Store conn → HasCleanDisk (state S.Store t)
@@ -136,7 +136,7 @@ pub fn create<S: Alter>(conn: Connection<S>) -> Result<Tables<S>, (TablesFault, 
     }
 }
 
-/// That outside a transaction what is seen was committed. It does nothing.
+/// States that outside a transaction what is seen was committed; does nothing.
 pub(crate) fn show_settled<S: Alter>(conn: &Connection<S>)
     requires { conn.now.in_transaction ≡ false }
     ensures { IsTrue (state S.Store conn.now).is_open
@@ -145,7 +145,7 @@ pub(crate) fn show_settled<S: Alter>(conn: &Connection<S>)
     let _ = conn.is_autocommit();
 }
 
-/// Tables that were found ours, or brought up: `open` and `migrate` end in it.
+/// Makes the tables of a connection that was found ours, or brought up: `open` and `migrate` end with this call.
 pub(crate) fn finish<S: Alter>(conn: Connection<S>) -> Tables<S>
     requires ours { AreOurs HoldsTables (state S.Store conn) }
     ensures { result ≡ conn }
@@ -153,7 +153,7 @@ pub(crate) fn finish<S: Alter>(conn: Connection<S>) -> Tables<S>
     Tables::over(conn)
 }
 
-/// Finds tables of schema 2 ours, and adds those of derived records where they are missing.
+/// Checks that tables of schema 2 are ours, and adds those of derived records where they are missing.
 fn open_tables<S: Alter>(conn: &mut Connection<S>, alloc: Global) -> Result<(), TablesFault>
     requires outside { conn.old.in_transaction ≡ false }
     requires unlimited { conn.old.step_limit ≡ None }
@@ -168,11 +168,11 @@ fn open_tables<S: Alter>(conn: &mut Connection<S>, alloc: Global) -> Result<(), 
     }
 }
 
-/// Opens the tables that stand in a database, of a connection that is in no transaction: as they are made and nothing of
-/// others on them, with rows that spell records which keep the constraints. They spell what they spelt. It reads each
-/// table whole. Where the number says schema 1 it looks at nothing else. Where the tables of derived records are missing,
-/// it adds them, in one transaction; else it changes nothing. A connection that is handed back may still be in the
-/// transaction. The limit on a statement's steps is cleared, also of a connection that is handed back.
+/// Opens the tables that stand in a database, over a connection in no transaction. The tables must be as they are made, with
+/// nothing of others on them, and their rows must spell records which keep the constraints; the records stay. Reads each table
+/// whole, and nothing else where the number says schema 1. Where the tables of derived records are missing it adds them, in one
+/// transaction; else it changes nothing. A connection that is handed back may still be in the transaction. The limit on a
+/// statement's steps is cleared, also on a connection that is handed back.
 pub fn open<S: Alter>(
     alloc: Global,
     conn: Connection<S>,

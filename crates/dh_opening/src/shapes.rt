@@ -13,14 +13,14 @@ use dh_migrating::can_convert;
 use dh_rows::{Shape, is_table};
 use sqlite_schema::schema::{Kind, Schema};
 
-/// The table of the number.
+/// The shape of the table of the number.
 const META: Shape<'static> = Shape {
     name: b"meta",
     primary: &[],
     columns: &[(b"schema", Kind::Integer)],
 };
 
-/// The table of passes.
+/// The shape of the table of passes.
 const PASS: Shape<'static> = Shape {
     name: b"pass",
     primary: &[1, 2],
@@ -31,14 +31,14 @@ const PASS: Shape<'static> = Shape {
     ],
 };
 
-/// The table of passes as schema 1 made it.
+/// The shape of the table of passes as schema 1 made it.
 const OLD_PASS: Shape<'static> = Shape {
     name: b"pass",
     primary: &[1, 2],
     columns: &[(b"host", Kind::Text), (b"pass", Kind::Text)],
 };
 
-/// The tables of derived records.
+/// The shapes of the tables of derived records.
 const DERIVED: [Shape<'static>; 2] = [
     Shape {
         name: b"alias",
@@ -62,7 +62,7 @@ const DERIVED: [Shape<'static>; 2] = [
     },
 ];
 
-/// Our other tables, in the order in which they are made.
+/// The shapes of our other tables, in the order in which they are made.
 const OTHERS: [Shape<'static>; 9] = [
     Shape {
         name: b"rule",
@@ -182,35 +182,35 @@ pub fn has_number(schema: &Schema) -> bool
     is_table(schema, &META)
 }
 
-/// Whether our other tables do.
+/// Whether our other tables stand in the schema as they are made, alone.
 fn others_stand(schema: &Schema) -> bool
     ensures { IsTrue result ↔ AllByRecursion (StandsAlone schema.now) other_tables }
 {
     all_stand(schema, &OTHERS)
 }
 
-/// Whether the tables of derived records do.
+/// Whether the tables of derived records stand in the schema as they are made, alone.
 pub fn derived_stand(schema: &Schema) -> bool
     ensures { IsTrue result ↔ AllByRecursion (StandsAlone schema.now) derived_tables }
 {
     all_stand(schema, &DERIVED)
 }
 
-/// Whether the table of passes and the others do.
+/// Whether the table of passes and our other tables stand in the schema as they are made, alone.
 pub fn are_ours(schema: &Schema) -> bool
     ensures { IsTrue result ↔ AllByRecursion (StandsAlone schema.now) (pass_table ∷ other_tables) }
 {
     is_table(schema, &PASS) && others_stand(schema)
 }
 
-/// Whether the table of passes of schema 1 and the others do.
+/// Whether the table of passes of schema 1 and our other tables stand in the schema as they are made, alone.
 fn old_stand(schema: &Schema) -> bool
     ensures { IsTrue result ↔ AllByRecursion (StandsAlone schema.now) (old_pass_table ∷ other_tables) }
 {
     is_table(schema, &OLD_PASS) && others_stand(schema)
 }
 
-/// Whether they do, and the table of passes can be dropped.
+/// Whether the tables of schema 1 stand in the schema as they are made, alone, and the table of passes can be dropped.
 pub fn are_old(schema: &Schema) -> bool
     ensures { IsTrue result ↔ AreOldIn schema.now }
 {

@@ -24,7 +24,7 @@ use dh_rows::are_rowids;
 use sqlite::{Alter, Connection, Row};
 use std::alloc::{AllocError, Global};
 
-/// All rows that a query answers.
+/// Reads all rows that a query answers.
 fn select<S: Alter>(conn: &mut Connection<S>, sql: &str) -> Result<Vec<Row>, TablesFault>
     requires whole { IsHonest S.Store conn.old → IsWhole (state S.Store conn.old) sql.now }
     ensures opens { JudgesTables S.Store conn.old conn.new result
@@ -36,7 +36,7 @@ fn select<S: Alter>(conn: &mut Connection<S>, sql: &str) -> Result<Vec<Row>, Tab
     }
 }
 
-/// The records that the rows of a table keep, by its rowids and its rows; none where it is no table of such records.
+/// Reads the records of a table from its rowids and its rows; none where they are not those of such records.
 fn records_of<R: Kept>(
     alloc: Global,
     ids: &[Row],
@@ -54,7 +54,7 @@ fn records_of<R: Kept>(
     }
 }
 
-/// The records of a whole table.
+/// Reads the records of a whole table.
 pub fn read_table<S: Alter, R: Kept>(
     conn: &mut Connection<S>,
     alloc: Global,
@@ -75,7 +75,7 @@ pub fn read_table<S: Alter, R: Kept>(
     }
 }
 
-/// The records of two whole tables.
+/// Reads the records of two whole tables.
 pub fn read_two<S: Alter, A: Kept, B: Kept>(
     conn: &mut Connection<S>,
     alloc: Global,
@@ -96,7 +96,7 @@ pub fn read_two<S: Alter, A: Kept, B: Kept>(
     Ok((first, second))
 }
 
-/// The pages of a whole table, judged row by row, and kept without their bodies.
+/// Reads the pages of a whole table, judges each row, and keeps the pages without their bodies.
 fn read_pages<S: Alter>(
     conn: &mut Connection<S>,
     alloc: Global,
@@ -118,7 +118,7 @@ fn read_pages<S: Alter>(
     }
 }
 
-/// The number of the schema.
+/// Reads the number of the schema.
 pub fn number_of<S: Alter>(conn: &mut Connection<S>, alloc: Global) -> Result<u32, TablesFault>
     requires unlimited { conn.old.step_limit ≡ None }
     ensures opens { JudgesTables S.Store conn.old conn.new result
@@ -134,7 +134,7 @@ pub fn number_of<S: Alter>(conn: &mut Connection<S>, alloc: Global) -> Result<u3
     }
 }
 
-/// The records of all our tables, of which the passes were read before, and the pages have no bodies.
+/// Reads the records of all our tables but the passes, which were read before; the pages have no bodies.
 pub fn all_records<S: Alter>(
     conn: &mut Connection<S>,
     alloc: Global,

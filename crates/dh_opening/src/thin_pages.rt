@@ -16,7 +16,7 @@ use dh_world::is_content;
 use sqlite::Row;
 use std::alloc::{AllocError, Global};
 
-/// The pages of some rows, without their bodies, as long as each row keeps one that may have its content.
+/// The pages of some rows, without their bodies, as long as each row keeps a page that may have its content.
 #[derive(Drop)]
 pub struct ThinPages {
     last: Option<Row>,
@@ -34,7 +34,7 @@ fn is_next(last: Option<&Row>, row: &Row) -> bool
     }
 }
 
-/// The page that a row keeps, without its body; none where it keeps none that may have its content.
+/// Reads the page that a row keeps, without its body; none where the row keeps no page that may have its content.
 fn thin_page_in(alloc: Global, row: &Row) -> Result<Option<PageRow>, AllocError>
     ensures some { IfOk result (λ o. IfSome o (λ x. (y : PageRow)
         × IsKeptAs pages IsPage row.now y × IsFit y × (x ≡ thin y))) }
@@ -60,7 +60,7 @@ fn thin_page_in(alloc: Global, row: &Row) -> Result<Option<PageRow>, AllocError>
 }
 
 impl ThinPages {
-    /// None yet. It takes no memory.
+    /// Starts with no page. Takes no memory.
     pub fn new(alloc: Global) -> ThinPages
         ensures { TookPages result [] }
     {
@@ -71,7 +71,7 @@ impl ThinPages {
         }
     }
 
-    /// Whether the row keeps the next page, which is then found.
+    /// Adds the page that the row keeps, where the row keeps the next page; answers whether it does.
     fn finds(&mut self, alloc: Global, row: &Row) -> Result<bool, AllocError>
         ensures some { IfOk result (λ b. IsTrue b → FindsNext self.old self.new row.now) }
         ensures none { IfOk result (λ b. b ≡ false → IsNext self.old.last row.now
@@ -88,7 +88,7 @@ impl ThinPages {
         Ok(true)
     }
 
-    /// The pages; none where a row kept none.
+    /// Gives the pages; none where some row kept no next page.
     pub fn into_pages(self) -> Option<Vec<PageRow>>
         ensures some { IfSome result (λ v. IsTrue self.are_kept × (v ≡ self.found)) }
         ensures none { result ≡ None → self.are_kept ≡ false }

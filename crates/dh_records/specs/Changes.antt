@@ -22,7 +22,7 @@ use Rattle.dh_records.specs.declared.records.AliasRow.{AliasRow}
 use Rattle.dh_records.specs.declared.records.Route.{Route}
 use Rattle.dh_records.specs.declared.records.RouteRow.{RouteRow}
 
--- ---- a record more, whose key is free
+-- ---- adding a record whose key is free
 
 abbrev pub add_project : ProjectRow → Lists → Lists
 add_project row l = record l { projects = added coding.projects.key row l.projects }
@@ -42,7 +42,7 @@ add_pass row l = record l { passes = added coding.passes.key row l.passes }
 abbrev pub add_grant : HeldRow → Lists → Lists
 add_grant row l = record l { held = added coding.held.key row l.held }
 
--- ---- a record, in place of the one with its key
+-- ---- putting a record in place of the one with its key
 
 abbrev pub put_version : VersionRow → Lists → Lists
 put_version row l = record l { versions = put coding.versions.key row l.versions }
@@ -62,19 +62,19 @@ put_alias row l = record l { aliases = put coding.aliases.key row l.aliases }
 abbrev pub put_route : RouteRow → Lists → Lists
 put_route row l = record l { routes = put coding.routes.key row l.routes }
 
--- a grant, unless it is there
+-- adds a grant, unless it is there
 abbrev pub grant : HeldRow → Lists → Lists
 grant row l = record l { held = granted row l.held }
 
--- defaults, added one after the other
+-- adds these defaults, one after the other
 abbrev pub with_picks : List PickRow → Lists → Lists
 with_picks rows l = record l { picks = lists.with_picks rows l.picks }
 
--- the defaults of a host, in place of those that it had
+-- puts these defaults of a host in place of those that the host had
 abbrev pub set_picks : Text → List Text → Lists → Lists
 set_picks host names l = record l { picks = lists.set_picks host names l.picks }
 
--- the rules of a host, in place of those that it had
+-- puts these rules of a host in place of those that the host had
 abbrev pub set_rules : Text → List Rule → Lists → Lists
 set_rules host rules l = record l { rules = lists.set_rules host rules l.rules }
 
@@ -83,24 +83,24 @@ set_redirects host redirects l = record l {
   redirects = lists.set_redirects host redirects l.redirects;
 }
 
--- routes at their places, in place of those that stand there
+-- puts these routes at their places, in place of those that stand there
 abbrev pub put_routes : Text → List Route → Lists → Lists
 put_routes host routes l = record l {
   routes = lists.put_all coding.routes.key (lists.placed (lists.route_row host) 1 routes) l.routes;
 }
 
--- the routes of a host, in place of those that it had
+-- puts these routes of a host in place of those that the host had
 abbrev pub set_routes : Text → List Route → Lists → Lists
 set_routes host routes l = record l { routes = lists.set_routes host routes l.routes }
 
--- ---- fewer records
+-- ---- removing records
 
 abbrev pub drop_version : Text → Text → Lists → Lists
 drop_version host slug l = record l {
   versions = filter (λ x. not (is_version host slug x)) l.versions;
 }
 
--- the pages of a version, and of this language where one is given
+-- removes the pages of a version, or those in one language where a language is given
 abbrev pub drop_pages : Text → Text → Option Text → Lists → Lists
 drop_pages host slug lang l = record l {
   pages = filter (λ x. not (is_page_under host slug lang x)) l.pages;
@@ -119,19 +119,19 @@ revoke host pass slug l = record l {
   held = filter (λ x. not (is_held host pass slug x)) l.held;
 }
 
--- all grants on a version
+-- removes all grants on a version
 abbrev pub drop_grants_of : Text → Text → Lists → Lists
 drop_grants_of host slug l = record l {
   held = filter (λ x. not (is_held_on host slug x)) l.held;
 }
 
--- all grants of a pass
+-- removes all grants of a pass
 abbrev pub drop_grants_by : Text → Text → Lists → Lists
 drop_grants_by host pass l = record l {
   held = filter (λ x. not (is_held_by host pass x)) l.held;
 }
 
--- those behind the first so many
+-- removes the rules of a host at places above the count
 abbrev pub drop_rules_behind : Text → ℕ → Lists → Lists
 drop_rules_behind host count l = record l {
   rules = filter (λ x. not (is_rule_behind host count x)) l.rules;

@@ -91,7 +91,7 @@ AreRedirects = HavePlaces (λ r. r.place) 100
 
 -- ---- the constraints of the records, in four parts
 
--- every host has its project; that of a grant by its pass
+-- every record stands under the host of a project; a grant does so by its pass
 pub record HaveProjects (lists : Lists) : Type 0 where
   pub langs : AllByRecursion (λ l. IsTrue (has_project lists l.host)) lists.langs
   pub versions : AllByRecursion (λ v. IsTrue (has_project lists v.host)) lists.versions
@@ -102,7 +102,7 @@ pub record HaveProjects (lists : Lists) : Type 0 where
   pub rules : AllByRecursion (λ r. IsTrue (has_project lists r.host)) lists.rules
   pub redirects : AllByRecursion (λ r. IsTrue (has_project lists r.host)) lists.redirects
 
--- what each project has
+-- each project has languages, defaults, rules and redirects as they may be, and at most 1,000 passes
 pub record KeepProjects (lists : Lists) : Type 0 where
   pub languages : AllByRecursion (λ r. AreLanguages r.main (filter (is_lang_of r.host) lists.langs)) lists.projects
   -- a project has at most 1,000 passes
@@ -111,7 +111,7 @@ pub record KeepProjects (lists : Lists) : Type 0 where
   pub rule_places : AllByRecursion (λ r. AreRules (filter (is_rule_of r.host) lists.rules)) lists.projects
   pub places : AllByRecursion (λ r. AreRedirects (filter (is_redirect_of r.host) lists.redirects)) lists.projects
 
--- what the other records stand on, and that a page is fit and no redirect has a fault
+-- pages, defaults and grants name what is there, each page is fit, and no redirect has a fault
 pub record KeepRecords (lists : Lists) : Type 0 where
   -- a page's version is there and active, and its language is one of the project's
   pub active : AllByRecursion (λ x. IsTrue (has_active lists x.host x.slug)) lists.pages
@@ -124,7 +124,7 @@ pub record KeepRecords (lists : Lists) : Type 0 where
   pub granted : AllByRecursion (λ x. IsTrue (has_pass lists x.host x.pass && has_version lists x.host x.slug)) lists.held
   pub good : AllByRecursion (λ r. first_fault r.redirect ≡ None) lists.redirects
 
--- what takes memory to decide
+-- slugs come from names, kept answers are read again, and rules may be added; deciding this takes memory
 pub record KeepTexts (lists : Lists) : Type 0 where
   -- a version's slug comes from its name
   pub slugs : AllByRecursion (λ v. slug_from v.version.name ≡ Some v.version.slug) lists.versions

@@ -73,7 +73,7 @@ is_page_of host slug r = bytes_eq r.host host && bytes_eq r.slug slug
 abbrev pub is_page_in : Text → Text → Text → PageRow → Bool
 is_page_in host slug lang r = bytes_eq r.host host && bytes_eq r.slug slug && bytes_eq r.lang lang
 
--- of the version, and of this language where one is given
+-- the page is of the version, and of this language where one is given
 abbrev pub is_page_under : Text → Text → Option Text → PageRow → Bool
 is_page_under host slug None r = is_page_of host slug r
 is_page_under host slug (Some lang) r = is_page_in host slug lang r
@@ -101,11 +101,11 @@ is_pass host pass r = bytes_eq r.host host && bytes_eq r.pass pass
 abbrev pub is_held : Text → Text → Text → HeldRow → Bool
 is_held host pass slug r = bytes_eq r.host host && bytes_eq r.pass pass && bytes_eq r.slug slug
 
--- a grant of this pass
+-- the grant is of this pass
 abbrev pub is_held_by : Text → Text → HeldRow → Bool
 is_held_by host pass r = bytes_eq r.host host && bytes_eq r.pass pass
 
--- a grant on this version
+-- the grant is on this version
 abbrev pub is_held_on : Text → Text → HeldRow → Bool
 is_held_on host slug r = bytes_eq r.host host && bytes_eq r.slug slug
 
@@ -121,7 +121,7 @@ is_redirect_of host r = bytes_eq r.host host
 abbrev pub redirect_row : Text → ℕ → Redirect → RedirectRow
 redirect_row host place redirect = record { host = host; place = place; redirect = redirect }
 
--- callers by the pass that they show, where it is one of the project's
+-- the text of a class of callers: their pass, or the empty text for callers with none
 abbrev pub class_text : Option Text → Text
 class_text None = []
 class_text (Some pass) = pass
@@ -141,14 +141,14 @@ is_alias_at host class name r = bytes_eq r.host host && bytes_eq r.class class &
 abbrev pub is_route_of : Text → RouteRow → Bool
 is_route_of host r = bytes_eq r.host host
 
--- of this segment
+-- the route is of this segment
 abbrev pub is_route_in : Text → Text → RouteRow → Bool
 is_route_in host seg r = bytes_eq r.host host && bytes_eq r.route.seg seg
 
 abbrev pub route_row : Text → ℕ → Route → RouteRow
 route_row host place route = record { host = host; place = place; route = route }
 
--- behind the first so many
+-- the rule stands at a place above the count
 abbrev pub is_rule_behind : Text → ℕ → RuleRow → Bool
 is_rule_behind host count r = bytes_eq r.host host && nat_lt count r.place
 
@@ -167,12 +167,12 @@ abbrev pub ranked : Text → ℕ → List Text → List PickRow
 ranked host n [] = []
 ranked host n (name ∷ names) = record { host = host; name = name; rank = n } ∷ ranked host (n + 1) names
 
--- records added one after the other
+-- the list with these records added one after the other
 abbrev pub with_picks : List PickRow → List PickRow → List PickRow
 with_picks [] rows = rows
 with_picks (x ∷ xs) rows = with_picks xs (added coding.picks.key x rows)
 
--- the defaults of a host, in place of those that it had
+-- the list with these defaults of a host in place of those that the host had
 abbrev pub set_picks : Text → List Text → List PickRow → List PickRow
 set_picks host names rows = with_picks (ranked host 1 names) (filter (λ r. not (is_pick_of host r)) rows)
 
@@ -181,12 +181,12 @@ abbrev pub placed : {X V : Type 0} → (ℕ → V → X) → ℕ → List V → 
 placed row n [] = []
 placed row n (v ∷ vs) = row n v ∷ placed row (n + 1) vs
 
--- records put one after the other
+-- the list with these records put in one after the other, each in place of one with its key
 abbrev pub put_all : {X : Type 0} → (X → Row) → List X → List X → List X
 put_all key [] rows = rows
 put_all key (x ∷ xs) rows = put_all key xs (put key x rows)
 
--- the rules of a host: each at its place, and none behind them
+-- the list with these rules of a host at their places, and none of the host behind them
 abbrev pub set_rules : Text → List Rule → List RuleRow → List RuleRow
 set_rules host rules rows =
     put_all coding.rules.key (placed (rule_row host) 1 rules)
@@ -197,13 +197,13 @@ set_redirects host redirects rows =
     put_all coding.redirects.key (placed (redirect_row host) 1 redirects)
     (filter (λ r. not (is_redirect_behind host (length redirects) r)) rows)
 
--- the routes of a host: each at its place, and no others
+-- the list with these routes of a host at their places, and no others of the host
 abbrev pub set_routes : Text → List Route → List RouteRow → List RouteRow
 set_routes host routes rows =
     put_all coding.routes.key (placed (route_row host) 1 routes)
     (filter (λ r. not (is_route_of host r)) rows)
 
--- a grant is added, unless it is there
+-- the list with the grant added, unless it is there
 abbrev pub granted : HeldRow → List HeldRow → List HeldRow
 granted row rows = if list_any (is_held row.host row.pass row.slug) rows then rows else added coding.held.key row rows
 

@@ -44,24 +44,24 @@ module _ (row : Row) (at : ℕ) where
   abbrev pub IsRank : Type 0
   IsRank = (n : ℕ) × (column row at ≡ Int (pos n))
 
-  -- -1, or a number that fits
+  -- the column holds the end of a pass, which fits, or -1 for none
   abbrev pub IsUntil : Type 0
   IsUntil = (until : Option ℕ) × (column row at ≡ Int (end_number until)) × IfSome until (λ end. end < 2 ^ 63)
 
   abbrev pub IsBody : Type 0
   IsBody = (b : List ℕ) × (column row at ≡ Blob b)
 
-  -- the text of a pattern
+  -- the column holds the text of a pattern
   abbrev pub IsPattern : Type 0
   IsPattern = (p : Pattern) × (column row at ≡ Text (pattern_text p)) × IsUtf8 (pattern_text p)
 
--- a text that passes the test of its type
+-- the column holds a text that passes the test of its type
 abbrev pub IsOf : (List ℕ → Bool) → Row → ℕ → Type 0
 IsOf test row at = (t : List ℕ) × (column row at ≡ Text t) × IsUtf8 t × IsTrue (test t)
 
 -- A column is read as a text of a type, or refused where it is none.
 pub record ReadsAs (test : List ℕ → Bool) (row : Row) (at : ℕ) (result : Result (List ℕ) Fault) : Type 0 where
-  -- it is the column's text
+  -- an answer is the column's text
   pub value : IfOk result (λ t. text_in row at ≡ t)
   -- `Store` is told only where the column has no such text
   pub told : OnStore result (¬ IsOf test row at)
@@ -95,7 +95,7 @@ pub record IsPage (x : PageRow) : Type 0 where
   pub path : PassesTest is_page_path x.path
   pub media : IsUtf8 x.page.media
 
--- the text is that of an answer
+-- the text stands for an answer
 abbrev pub TellsAnswer : List ℕ → Type 0
 TellsAnswer text = (a : Answer) × IsAnswer a × (json_of a ≡ Some text)
 

@@ -26,14 +26,14 @@ use dh_world::{Answer, Operation, PassEnd};
 use sqlite::{Error, Row};
 use std::alloc::Global;
 
-/// Why a column was not read.
+/// Tells why a column was not read, as a fault.
 fn fault_of_column(error: Error) -> Fault
     ensures { result ≡ rows.fault_of error }
 {
     fault_of(error)
 }
 
-/// A text that is no value of its type breaks a constraint of the rows, so it is a fault of the store.
+/// Tells why a text was not read, as a fault: a text that is no value of its type breaks a constraint of the rows.
 fn fault_of_text(fault: TextFault) -> Fault
     ensures { fault ≡ TextFault.Memory → result ≡ Fault.Memory }
 {
@@ -43,7 +43,7 @@ fn fault_of_text(fault: TextFault) -> Fault
     }
 }
 
-/// The answer that a kept text tells.
+/// Reads the answer that a kept text stands for.
 pub fn kept_answer(alloc: Global, text: &str) -> Found<Answer>
     ensures told { IfOk result (λ o. o ≡ answer_of text.now) }
     ensures some { IfOk result (λ o. IsSome o) }
@@ -85,7 +85,7 @@ fn status_at(row: &Row, at: usize) -> Result<u16, Fault>
     u16::try_from(number_at(row, at)?).map_err(|_| Fault::Store)
 }
 
-/// The kind whose number this is.
+/// The kind of redirect that has this number.
 fn stored_kind(number: u32) -> RedirectKind
     ensures { result ≡ spec.stored_kind number }
 {
@@ -97,7 +97,7 @@ fn stored_kind(number: u32) -> RedirectKind
     }
 }
 
-/// The action whose number this is.
+/// The action that has this number.
 fn stored_action(number: u32) -> Action
     ensures { result ≡ spec.stored_action number }
 {
@@ -110,7 +110,7 @@ fn stored_action(number: u32) -> Action
     }
 }
 
-/// The name of a stored alias whose number this is.
+/// The stored name that has this number.
 fn stored_alias(number: u32) -> AliasName
     ensures { result ≡ spec.stored_alias number }
 {
@@ -128,7 +128,7 @@ fn rank_at(row: &Row, at: usize) -> Result<u64, Fault>
     row.get(at).map_err(fault_of_column)
 }
 
-/// The end of a pass, or none where the number is below 0.
+/// Reads the end of a pass, or none where the number is below 0.
 fn until_at(row: &Row, at: usize) -> Result<Option<PassEnd>, Fault>
     ensures value { IfOk result (λ until. spec.end_in (column row.now at) ≡ until) }
     ensures told { OnStore result (¬ typed.IsUntil row.now at) }
@@ -147,7 +147,7 @@ fn body_at(row: &Row, at: usize) -> Result<Bytes, Fault>
     Ok(Bytes::wrap(row.get(at).map_err(fault_of_column)?))
 }
 
-/// The text in a column, as one of a kind.
+/// Reads the text in a column, as a text of a kind.
 fn checked_at<K: Kind>(alloc: Global, row: &Row, at: usize) -> Result<Checked<K>, Fault>
     ensures reads { typed.ReadsAs K.test row.now at result }
 {
@@ -167,12 +167,12 @@ fn pattern_at(alloc: Global, row: &Row, at: usize) -> Result<Pattern, Fault>
 
 /// A record of a table.
 pub trait Record: Drop {
-    // How it is kept in its columns, and that it can be read from them.
+    // How a record is kept in its columns, and that it can be read from them.
     ghost coding: { Coding Self };
 
     ghost typed: { Self → Type 0 };
 
-    /// The record whose columns these are. `Store` where a column is not of its type.
+    /// Reads the record from its columns; `Store` where a column is not of its type.
     fn read(alloc: Global, row: &Row) -> Result<Self, Fault>
         ensures value { IfOk result (λ x. (y : Self) → row.now ≡ coding.encode y → x ≡ y) }
         ensures told { (y : Self) → row.now ≡ coding.encode y → OnStore result (¬ typed y) };
@@ -414,7 +414,7 @@ impl Record for RouteRow {
     }
 }
 
-/// The record of the first row, where there is one.
+/// Reads the record of the first row, where there is one.
 pub fn first<R: Record>(alloc: Global, rows: &[Row]) -> Found<R>
     ensures value { IfOk result (λ o. (xs : List R) → rows.now ≡ map R.coding.encode xs
         → o ≡ slice_get xs 0) }
@@ -427,7 +427,7 @@ pub fn first<R: Record>(alloc: Global, rows: &[Row]) -> Found<R>
     }
 }
 
-/// The records of all rows.
+/// Reads the records of all rows.
 pub fn all<R: Record>(alloc: Global, rows: &[Row]) -> Result<Vec<R>, Fault>
     ensures value { IfOk result (λ v. (xs : List R) → rows.now ≡ map R.coding.encode xs
         → v.items ≡ xs) }

@@ -30,7 +30,7 @@ pub struct ProjectRow {
 pub struct LangRow {
     pub host: HostName,
     pub lang: Lang,
-    /// From 1, which is the main one's.
+    /// The place of the language, from 1; the main language has place 1.
     pub place: u32,
 }
 
@@ -57,7 +57,7 @@ pub struct PickRow {
     pub host: HostName,
     /// The slug of a version, or the name of an alias.
     pub name: Slug,
-    /// From 1, which is the newest's.
+    /// The rank of the default, from 1; the newest default has rank 1.
     pub rank: u64,
 }
 
@@ -78,7 +78,7 @@ pub struct HeldRow {
     pub slug: Slug,
 }
 
-/// Whether a version was made of a tag, as its column says it.
+/// Whether a version was made of a tag, as its column holds it.
 pub fn is_tag(kind: Kind) -> bool
     ensures { result ≡ coding.is_tag kind }
 {
@@ -92,7 +92,7 @@ pub struct UsedRow {
     pub slug: Slug,
     pub op: Operation,
     pub retry: Token,
-    /// As JSON.
+    /// The answer, as JSON.
     pub answer: Text,
 }
 
@@ -100,12 +100,12 @@ pub struct UsedRow {
 #[derive(Drop)]
 pub struct RuleRow {
     pub host: HostName,
-    /// From 1; a project's rules run in this order.
+    /// The place of the rule, from 1; a project's rules run in the order of places.
     pub place: u32,
     pub rule: Rule,
 }
 
-/// The action of a rule, as its column says it.
+/// The number of an action in its column.
 pub fn action_number(action: Action) -> u32
     ensures { result ≡ coding.action_number action }
 {
@@ -122,12 +122,12 @@ pub fn action_number(action: Action) -> u32
 #[derive(Drop)]
 pub struct RedirectRow {
     pub host: HostName,
-    /// From 1; a project's redirects are tried in this order.
+    /// The place of the redirect, from 1; a project's redirects are tried in the order of places.
     pub place: u32,
     pub redirect: Redirect,
 }
 
-/// The kind of a redirect, as its column says it.
+/// The number of a redirect's kind in its column.
 pub fn kind_number(kind: RedirectKind) -> u32
     ensures { result ≡ coding.kind_number kind }
 {
@@ -148,7 +148,7 @@ pub enum AliasName {
     Default,
 }
 
-/// The name of a stored alias, as its column says it.
+/// The number of a stored name in its column.
 pub fn alias_number(name: AliasName) -> u32
     ensures { result ≡ coding.alias_number name }
 {
@@ -159,7 +159,7 @@ pub fn alias_number(name: AliasName) -> u32
     }
 }
 
-/// The class of the callers with this pass, or of those with none, as its column says it.
+/// The text of a class of callers in its column: their pass, or '' for callers with none.
 pub fn class_text(pass: Option<&Token>) -> &str
     ensures { result.now ≡ spec.class_text (option_map (λ t. t.now) pass.entry) }
 {
@@ -176,7 +176,7 @@ pub struct AliasRow {
     /// The pass of its callers, or '' for those with none.
     pub class: Text,
     pub name: AliasName,
-    /// Of the version that the name stands for.
+    /// The slug of the version that the name stands for.
     pub slug: Slug,
 }
 

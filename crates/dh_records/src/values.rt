@@ -12,7 +12,7 @@ use crate::records::{
 use dh_world::PassEnd;
 use sqlite::types::{ToSql, ValueRef};
 
-/// That a number fits 32 bits, as its type says. It does nothing.
+/// States that a number fits 32 bits, as its type says; does nothing.
 pub fn show_number(n: u32)
     ensures { n < 2 ^ 32 }
 {

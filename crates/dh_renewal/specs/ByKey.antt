@@ -8,6 +8,6 @@ use Rattle.dh_records.specs.declared.records.VersionRow.{VersionRow}
 abbrev pub versions_at : Text → Lists → List VersionRow
 versions_at host l = filter (is_version_of host) l.versions
 
--- its defaults, in their order
+-- the defaults of a host, in their order
 abbrev pub defaults_at : Text → Lists → List Text
 defaults_at host l = map (λ d. d.name) (filter (is_pick_of host) l.picks)

@@ -16,7 +16,7 @@ use Rattle.dh_world.specs.declared.refusal.Refusal.{Refusal}
 abbrev pub AreDerivedRows : Lists → List AliasRow → List RouteRow → Type 0
 AreDerivedRows l aliases routes = (aliases ≡ l.aliases) × (routes ≡ l.routes)
 
--- The records that others are derived from stay, and those are what they say.
+-- The records that others are derived from stay, and the derived ones are what they say.
 pub record IsDerived (before after : Lists) : Type 0 where
   pub base : base_of after ≡ base_of before
   pub right : AreRight after

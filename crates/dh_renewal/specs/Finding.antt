@@ -1,4 +1,4 @@
--- What an edit leaves to be made right, of sound records whose stored rows are right.
+-- Which rows must be made right after an edit, of sound records whose stored rows are right.
 use Rattle.std.specs.Prelude.{◌≡◌, List, [], Option, Some, None}
 use Rattle.std.specs.FinMap.{get}
 use Rattle.dh_texts.specs.SlugOfName.{slug_from}
@@ -20,7 +20,7 @@ use Rattle.dh_derived.specs.Renewals.{CoversChange}
 use Rattle.dh_derived.specs.declared.renewals.Renewal.{Renewal}
 use Rattle.dh_renewal.specs.ByKey.{versions_at}
 
--- so it is of the project of a host, where the records are sound and the host's stored rows are right
+-- P holds of the project of the host, where the records are sound and the host's stored rows are right
 abbrev pub OfRightProject : Text → (Project → Type 0) → Lists → Type 0
 OfRightProject host P l = AreSound l → AreRightAt l host → (p : Project) → get (world_of l) host ≡ Some p → P p
 
@@ -28,7 +28,8 @@ OfRightProject host P l = AreSound l → AreRightAt l host → (p : Project) →
 abbrev pub IsStableKept : Text → Lists → Project → Type 0
 IsStableKept host l p = kept_at l host [] Stable ≡ (names_of p None).stable
 
--- so it is of the project of a host, where the records are sound and that is right
+-- P holds of the project of the host, where the records are sound and what is stored of `stable` for callers with no pass is
+-- right
 abbrev pub OfKeptProject : Text → (Project → Type 0) → Lists → Type 0
 OfKeptProject host P l = AreSound l → (p : Project) → get (world_of l) host ≡ Some p → IsStableKept host l p → P p
 
@@ -36,7 +37,7 @@ OfKeptProject host P l = AreSound l → (p : Project) → get (world_of l) host 
 abbrev pub IsStable : Text → Lists → Option Version → Type 0
 IsStable host l o = OfKeptProject host (λ p. stable_version (versions_for p None) ≡ o) l
 
--- the version that it stands for, to who has these grants
+-- the version that `stable` stands for, to a caller who has these grants
 abbrev pub IsStableWith : Text → List HeldRow → Lists → Option Version → Type 0
 IsStableWith host grants l o = OfKeptProject host (λ p. IsHighest (IsSeenWith (versions_at host l) grants) o) l
 
@@ -45,11 +46,11 @@ abbrev pub CoversPut : Text → Version → Lists → Renewal → Type 0
 CoversPut host v l r =
     OfRightProject host (λ p. slug_from v.name ≡ Some v.slug → CoversChange r p (with_version p v.slug v)) l
 
--- the same, where its slug is free
+-- the renewal covers what changes once the version is put under a free slug
 abbrev pub CoversNew : Text → Version → Lists → Renewal → Type 0
 CoversNew host v l r =
     OfRightProject host (λ p. slug_from v.name ≡ Some v.slug → get p.versions v.slug ≡ None → CoversChange r p (with_version p v.slug v)) l
 
--- once the edit is made that may be made
+-- the renewal covers what changes once an edit is made that may be made
 abbrev pub CoversEdit : Text → Edit → Lists → Renewal → Type 0
 CoversEdit host e l r = OfRightProject host (λ p. MayEdit e p → CoversChange r p (edited e p)) l

@@ -16,7 +16,7 @@ use Rattle.dh_derived.specs.declared.renewals.Renewal.{Renewal}
 abbrev pub set_class : Text → ClassNames → Lists → Lists
 set_class host x l = set_names host (class_text x.class) x.names l
 
--- the last first
+-- sets the names of several classes, the last first
 abbrev pub set_all : Text → List ClassNames → Lists → Lists
 set_all host [] l = l
 set_all host (x ∷ xs) l = set_class host x (set_all host xs l)
@@ -27,11 +27,11 @@ pub record HasBranch (host branch : Text) (l : Lists) : Type 0 where
   pub found : get (world_of l) host ≡ Some project
   pub branch_is : project.branch ≡ branch
 
--- so it is of the project of the host, with this default branch
+-- P holds of the project of the host, where it has this default branch
 abbrev pub OfBranch : Text → Text → (Project → Type 0) → Lists → Type 0
 OfBranch host branch P l = (p : Project) → get (world_of l) host ≡ Some p → p.branch ≡ branch → P p
 
--- these are the names of who shows a pass, where these are its grants
+-- where these are the grants of a pass, these are the names of the callers who show it
 abbrev pub IsOfGrants : Text → List HeldRow → Lists → Project → Names → Type 0
 IsOfGrants host grants l p names =
     (pass : Text) → grants ≡ filter (is_held_by host pass) l.held → names ≡ names_of p (Some pass)
@@ -40,13 +40,13 @@ IsOfGrants host grants l p names =
 abbrev pub LacksRenewal : Renewal → Text → Lists → Type 0
 LacksRenewal r host l = (p : Project) × (get (world_of l) host ≡ Some p) × AreRightBut r l host p
 
--- the default branch of the host's project, or that it has none
+-- the default branch of the host's project, or none where the host has no project
 abbrev pub FindsBranch : Text → Lists → Option Text → Type 0
 FindsBranch host l None = get (world_of l) host ≡ None
 FindsBranch host l (Some branch) = HasBranch host branch l
 
--- The stored rows of a host are right, if it has a project, and those of each other host that were. Where it has none
--- nothing has changed, and nowhere the records that the others are derived from.
+-- If the host has a project, its stored rows are right; else nothing has changed. Rows of other hosts that were right are so,
+-- and the records that others are derived from stay.
 pub record RightOf (host : Text) (old new : Lists) : Type 0 where
   pub base : base_of new ≡ base_of old
   pub none : get (world_of old) host ≡ None → new ≡ old

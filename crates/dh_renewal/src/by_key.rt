@@ -1,4 +1,4 @@
-//! The names of who has some grants, by keys: the versions that are looked up are few, however many there are.
+//! The names of a caller who has some grants, looked up by keys: few versions are read, however many there are.
 
 ghost use Rattle.std.specs.Prelude.{◌≡◌, [], map, option_map};
 ghost use Rattle.dh_schema.specs.Calling.{AnswersBy};
@@ -17,7 +17,7 @@ use dh_world::Refusal;
 use sqlite::Alter;
 use std::alloc::Global;
 
-/// The version under a slug, where who has these grants sees it.
+/// The version under a slug, where a caller who has these grants sees it.
 fn seen_version<S: Alter>(
     tables: &mut Tables<S>,
     alloc: Global,
@@ -66,7 +66,7 @@ fn latest_with<S: Alter>(
     }
 }
 
-/// Whether the name stands for a version, where the aliases do or do not.
+/// Whether the name stands for a version; `latest` and `stable` say whether each alias does.
 fn stands<S: Alter>(
     tables: &mut Tables<S>,
     alloc: Global,
@@ -137,7 +137,7 @@ fn default_with<S: Alter>(
     default_alias(tables, alloc, host, grants, latest, stable)
 }
 
-/// The default, where the aliases stand for a version or do not.
+/// The default; `latest` and `stable` say whether each alias stands for a version.
 fn default_name<S: Alter>(
     tables: &mut Tables<S>,
     alloc: Global,
@@ -163,7 +163,7 @@ fn default_name<S: Alter>(
     )
 }
 
-/// The names for who has these grants, where this version is the stable one.
+/// The names of a caller who has these grants, where `stable` stands for this version.
 pub fn names_with_grants<S: Alter>(
     tables: &mut Tables<S>,
     alloc: Global,

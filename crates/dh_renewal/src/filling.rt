@@ -1,4 +1,4 @@
-//! The stored rows of all hosts made right, in a transaction of their own.
+//! Making the stored rows of all hosts right, in a transaction of their own.
 
 ghost use Rattle.std.specs.Prelude.{◌≡◌, false, IfErr, IfOk, IsTrue, OnOk};
 ghost use Rattle.sqlite.specs.Held.{state};
@@ -26,7 +26,7 @@ fn is_text(one: &str, two: &str) -> bool
 
 /// A record that is derived from others.
 trait Derived: Record {
-    /// Whether both are one record.
+    /// Whether the two are the same record.
     fn is_same(&self, other: &Self) -> bool
         ensures { IsTrue result → self.now ≡ other.now };
 }
@@ -49,7 +49,7 @@ impl Derived for RouteRow {
     }
 }
 
-/// Whether these are the same records.
+/// Whether the two lists are the same records.
 fn are_same<R: Derived>(one: &[R], two: &[R]) -> bool
     ensures { IsTrue result → one.now ≡ two.now }
 {
@@ -99,7 +99,7 @@ fn clear<S: Alter>(tables: &mut Tables<S>) -> Result<(), Refusal>
     Ok(tables.clear_routes()?)
 }
 
-/// Makes the derived records of these projects anew, which are all, where there are none of any.
+/// Makes the derived records of these projects, which are all, where there are no derived records yet.
 fn renew_projects<S: Alter>(
     tables: &mut Tables<S>,
     alloc: Global,
@@ -138,7 +138,7 @@ fn renew_all<S: Alter>(tables: &mut Tables<S>, alloc: Global) -> Result<(), Refu
     renew_projects(tables, alloc, projects)
 }
 
-/// Makes all derived records anew, and tells whether they are others than before.
+/// Makes all derived records anew, and answers whether they differ from those before.
 fn renew_and_compare<S: Alter>(tables: &mut Tables<S>, alloc: Global) -> Result<bool, Refusal>
     requires within { IsWithin S.Store tables.old }
     requires sound { HasRecords S.Store tables.old AreSound }
@@ -159,8 +159,8 @@ fn renew_and_compare<S: Alter>(tables: &mut Tables<S>, alloc: Global) -> Result<
     Ok(!(aliases && routes))
 }
 
-/// Makes the stored rows of all hosts right, whatever they are, of tables outside a transaction, and leaves one open: of what
-/// was written, or where nothing has changed an empty one.
+/// Begins a transaction and makes the stored rows of all hosts right in it, whatever they are. Leaves the transaction open: with
+/// what was written, or empty where nothing has changed.
 fn prepare<S: Alter>(tables: &mut Tables<S>, alloc: Global) -> Result<(), Refusal>
     requires settled { IsHonest S.Store tables.old → IsSettled S.Store tables.old }
     requires sound { IsHonest S.Store tables.old → AreSound (last_records S.Store tables.old) }
@@ -178,8 +178,8 @@ fn prepare<S: Alter>(tables: &mut Tables<S>, alloc: Global) -> Result<(), Refusa
     Ok(())
 }
 
-/// Makes the stored rows of all hosts right, whatever they are, of tables outside a transaction, in one of its own. Where
-/// they were right nothing is written. A call that is refused may leave it open.
+/// Makes the stored rows of all hosts right, whatever they are, in a transaction of its own. Where they were right nothing is
+/// written. A call that is refused may leave the transaction open.
 pub fn derive<S: Alter>(tables: &mut Tables<S>, alloc: Global) -> Result<(), Refusal>
     requires settled { IsHonest S.Store tables.old → IsSettled S.Store tables.old }
     requires sound { IsHonest S.Store tables.old → AreSound (last_records S.Store tables.old) }

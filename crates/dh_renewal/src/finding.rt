@@ -1,4 +1,4 @@
-//! Which rows an edit leaves to be made right, by what is looked up of the project before it.
+//! Which rows must be made right after an edit, by what is looked up of the project before it.
 
 ghost use Rattle.std.specs.Prelude.{IfErr, IfOk};
 ghost use Rattle.dh_schema.specs.Calling.{AnswersBy};
@@ -30,7 +30,7 @@ fn added(
     Ok(renewal_of_added(alloc, version, branch, stable.as_ref())?)
 }
 
-/// After a version is put under a free slug.
+/// Tells which rows must be made right after a version is put under a free slug.
 fn renewal_of_new<S: Alter>(
     tables: &mut Tables<S>,
     alloc: Global,
@@ -51,7 +51,7 @@ fn renewal_of_new<S: Alter>(
     added(alloc, version, &branch, stable)
 }
 
-/// After a version is put.
+/// Tells which rows must be made right after a version is put.
 fn renewal_of_put<S: Alter>(
     tables: &mut Tables<S>,
     alloc: Global,
@@ -68,8 +68,8 @@ fn renewal_of_put<S: Alter>(
     }
 }
 
-/// Which stored rows of the host the edit of its project will leave to be made right, if those are right now. It is asked
-/// before the edit. Only for a version that is put something is looked up: what it replaces; and for a new one that all
+/// Tells which stored rows of the host must be made right after an edit of its project, if they are right before it; ask before
+/// the edit. Reads the tables only for a version that is put: the version that it replaces; and for a new version that all
 /// callers see, the project and its stable version.
 pub fn renewal_for<S: Alter>(
     tables: &mut Tables<S>,

@@ -1,4 +1,4 @@
-//! Stored rows of a host made right, on the tables: which an edit leaves to be made so, and how they are.
+//! Making stored rows of a host right, on the tables: which rows an edit leaves to be made right, and how they are made so.
 #![tactic(auto)]
 
 mod by_key;

@@ -1,4 +1,4 @@
-//! What is looked up of a project.
+//! Looking up records of a project.
 
 ghost use Rattle.std.specs.Prelude.{◌≡◌, filter, find, option_map};
 ghost use Rattle.dh_schema.specs.Calling.{AnswersBy};
@@ -15,7 +15,7 @@ use dh_world::Refusal;
 use sqlite::Alter;
 use std::alloc::Global;
 
-/// The name of the default branch of the host's project, if it has one.
+/// The name of the default branch of the host's project, if the host has one.
 pub fn branch_of<S: Alter>(
     tables: &mut Tables<S>,
     alloc: Global,

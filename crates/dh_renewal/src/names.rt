@@ -1,4 +1,4 @@
-//! What the names of a project are, by its records.
+//! The names of a project, from its records.
 
 ghost use Rattle.std.specs.Prelude.{◌≡◌, Some, map};
 ghost use Rattle.dh_schema.specs.Calling.{AnswersBy};
@@ -21,7 +21,7 @@ use dh_world::Refusal;
 use sqlite::Alter;
 use std::alloc::Global;
 
-/// The names of the callers with no pass, and of those with each of these, by all records of the project.
+/// The names of the callers with no pass, and of the callers with each of these passes, from all records of the project.
 fn names_with<S: Alter>(
     tables: &mut Tables<S>,
     alloc: Global,
@@ -90,8 +90,8 @@ fn names_of_grants<S: Alter>(
     names_with_grants(tables, alloc, host, branch, grants, stable)
 }
 
-/// The names of the callers with a pass; none, where the project has no such pass. What is stored of `stable` for
-/// callers with no pass is right, and of the versions few are looked up, however many there are.
+/// The names of the callers with a pass; none, where the project has no such pass. What is stored of `stable` for callers with
+/// no pass must be right. Looks up few versions, however many there are.
 pub fn names_of_pass<S: Alter>(
     tables: &mut Tables<S>,
     alloc: Global,

@@ -1,4 +1,4 @@
-//! Stored rows of a host made right, within a transaction.
+//! Making stored rows of a host right, within a transaction.
 
 ghost use Rattle.std.specs.Prelude.{◌≡◌, OnOk};
 ghost use Rattle.dh_rows.specs.Calls.{IsHonest};
@@ -98,8 +98,8 @@ fn renew_within<S: Alter>(
     }
 }
 
-/// Makes right what a renewal covers of the stored rows of a host, where all others are, within a transaction. A call that
-/// is refused may leave some of it until the transaction ends.
+/// Makes right the stored rows of a host that a renewal covers, where all others are right, within a transaction. A call that is
+/// refused may leave some of the change until the transaction ends.
 pub fn renew<S: Alter>(
     tables: &mut Tables<S>,
     alloc: Global,
@@ -165,8 +165,8 @@ fn renew_host_within<S: Alter>(
     }
 }
 
-/// Makes all stored rows of a host right, whatever they are, within a transaction, if the host has a project. A call that
-/// is refused may leave some of it until the transaction ends.
+/// Makes all stored rows of a host right, whatever they are, within a transaction, if the host has a project. A call that is
+/// refused may leave some of the change until the transaction ends.
 pub fn renew_host<S: Alter>(
     tables: &mut Tables<S>,
     alloc: Global,

@@ -87,7 +87,7 @@ fn set_class<S: Alter>(
     set_names(tables, alloc, host, class_text(class.as_ref()), names)
 }
 
-/// Sets those of several classes, the last first.
+/// Sets what the names of several classes stand for, the last class first.
 pub fn set_all<S: Alter>(
     tables: &mut Tables<S>,
     alloc: Global,
@@ -101,7 +101,7 @@ pub fn set_all<S: Alter>(
     while let Some(names) = all.pop() {
         set_class(tables, alloc, host, names)?;
     }
-    // The proof learns by it that none is left.
+    // This borrow shows the proof that none is left.
     let _ = all.as_slice();
     Ok(())
 }

@@ -31,7 +31,7 @@ pub fn stable_version<S: Alter>(
     version_under(tables, alloc, host, &slug)
 }
 
-/// The highest release of those that all callers see, which is known, and of those that the grants open.
+/// The highest release that all callers see or the grants open, from the highest that all callers see.
 fn highest_with<S: Alter>(
     tables: &mut Tables<S>,
     alloc: Global,
@@ -52,7 +52,7 @@ fn highest_with<S: Alter>(
     Ok(best)
 }
 
-/// The version that `stable` stands for, to who has these grants.
+/// The version that `stable` stands for, to a caller who has these grants.
 pub fn stable_with<S: Alter>(
     tables: &mut Tables<S>,
     alloc: Global,

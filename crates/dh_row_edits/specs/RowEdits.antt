@@ -1,4 +1,4 @@
--- What edits make of the records, and when they may be made of them.
+-- What edits make of the records, and which records allow them.
 use Rattle.std.specs.Prelude.{◌≡◌, ℕ, false, List, [], ◌∷◌, Option, Some, None}
 use Rattle.std.specs.List.{IsDistinct}
 use Rattle.std.specs.Str.{bytes_eq}
@@ -67,12 +67,12 @@ rows_edited host (Grant pass slug) l = change.grant (grant_row host pass slug) l
 rows_edited host (Revoke pass slug) l = change.revoke host pass slug l
 rows_edited host (PutAnswer a) l = change.add_used (answer_row host a) l
 
--- one after the other
+-- what edits make of the records, one after the other
 abbrev pub all_rows_edited : Text → List Edit → Lists → Lists
 all_rows_edited host [] l = l
 all_rows_edited host (e ∷ es) l = all_rows_edited host es (rows_edited host e l)
 
--- what is added has a free key, a language is new, and no default stands twice
+-- the records allow the edit: what it adds has a free key, a language is new, and no default stands twice
 abbrev pub RowsMay : Text → Edit → Lists → Type 0
 RowsMay host (AddLang lang place) l =
     IsFreeKey coding.langs.key (lang_row host lang place) l.langs

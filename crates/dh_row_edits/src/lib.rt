@@ -1,2 +1,2 @@
-//! What the edits of a plan make of the records, and, by proof, that this is what they make of the world. It has no code.
+//! What the edits of a plan make of the records, and the proof that they make the same of the world. The crate has no code.
 #![tactic(auto)]

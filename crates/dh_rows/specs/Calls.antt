@@ -1,4 +1,4 @@
--- What a call on a database shows of it: words over a view, which is what the caller reads of the database.
+-- What a call leaves of a database, by a view: the part of the database that the caller reads.
 use Rattle.std.specs.Prelude.{◌≡◌, ◌⊎◌, ℕ, ◌≤◌, Bool, true, false, if◌then◌else◌, Result, Ok, Err, OnOk, OnErr, IfOk, IfErr, IsTrue, List, [], codes, None, ⊤}
 use Rattle.sqlite_disk.specs.Disk.{MoreFaults}
 use Rattle.sqlite_value.specs.Order.{Row}
@@ -19,7 +19,7 @@ use Rattle.dh_faults.specs.declared.fault.Fault.{Fault}
 use Rattle.dh_faults.specs.Faults.{OnStore}
 use Rattle.dh_rows.specs.Faults.{fault_of}
 
--- what a text means
+-- the command that a text stands for, or `Nothing` where it does not compile
 abbrev pub command_of : Result Compiled CompileError → Command
 command_of (Ok c) = c.command
 command_of (Err e) = Nothing
@@ -57,12 +57,12 @@ IsEditText s sql = IsEdit (command_of (understood s.now.schema sql))
 abbrev pub SparesListing : State → List ℕ → Type 0
 SparesListing s sql = reads_listing s.now.schema sql ≡ false
 
--- what a look asks of its text
+-- what the text of a look must be: plain, and with no reading of the schema's listing
 pub record IsPlainLook (s : State) (sql : List ℕ) : Type 0 where
   pub plain : IsPlainText s sql
   pub listing : SparesListing s sql
 
--- what an edit asks of its text
+-- what the text of an edit must be: plain, and an INSERT, a DELETE, a CREATE TABLE or a DROP TABLE
 pub record IsPlainEdit (s : State) (sql : List ℕ) : Type 0 where
   pub plain : IsPlainText s sql
   pub edits : IsEditText s sql
@@ -85,7 +85,7 @@ pub record Keep (Holds : Database → Type 0) (s : State) : Type 0 where
   pub settled : s.in_transaction ≡ false → s.now ≡ s.committed
   pub unlimited : s.step_limit ≡ None
 
--- as long as the store is honest and open
+-- as long as the store is honest and open, its databases keep their form
 abbrev pub AreOurs : (Database → Type 0) → State → Type 0
 AreOurs Holds s = HasCleanDisk s → IsTrue s.is_open → Keep Holds s
 
@@ -122,7 +122,7 @@ module _ {S : Type 0} (g : Ghosts S) where
   pub record KeepsFaults (old new : Held S) : Type 0 where
     -- what the disk returned before the call was right, if what it returned after it was
     pub clean : HasCleanDisk (state g new) → HasCleanDisk (state g old)
-    -- a store that is honest was honest
+    -- a store that is honest after the call was honest before it
     pub was : IsHonest new → IsHonest old
     -- no fault is forgotten
     pub counts : (state g old).faults ≤ (state g new).faults
@@ -144,11 +144,11 @@ module _ {S : Type 0} (g : Ghosts S) where
     pub quiet : old.in_transaction ≡ true → IsHonest old → LeavesNoMore old new
 
   module _ {T : Type 0} (old new : Held S) where
-    -- What an answered look finds. Only an honest store answers.
+    -- An answered look finds a value that has P, and only an honest store answers.
     abbrev pub FindsSuch : {E : Type 0} → Result T E → (T → Type 0) → Type 0
     FindsSuch r P = HasCleanDisk (state g new) → IfOk r (λ x. IsHonest old × P x)
 
-    -- A refusal is the store's own, but where P holds.
+    -- A fault of the store is told only where the store counted a fault or was shut before, or P holds.
     abbrev pub StoreFaultHasCause : Result T Fault → Type 0 → Type 0
     StoreFaultHasCause r P = HasCleanDisk (state g new) → OnStore r (IsBlamed old new ⊎ P)
 
@@ -169,7 +169,7 @@ module _ {S : Type 0} (g : Ghosts S) where
     abbrev pub RunsStatement : {E : Type 0} → Result (Unit {0}) E → Type 0
     RunsStatement r = HasCleanDisk (state g new) → OnOk r ((n : ℕ) × Executes sql params (state g old) (state g new) (Ok n))
 
-    -- an answered edit made of what was seen what is seen now
+    -- an answered edit has made the database that is seen now of the one that was seen before
     abbrev pub EditsWhatIsSeen : {E : Type 0} → Result (Unit {0}) E → Type 0
     EditsWhatIsSeen r = IsHonest old → HasCleanDisk (state g new) → OnOk r (EditsTo (state g old) sql params (state g new).now)
 
@@ -229,7 +229,7 @@ module _ {S : Type 0} (g : Ghosts S) where
       pub record NowShows (next : W) : Type 0 where
         -- the store is as honest as it was
         pub live : IsHonest old → HasCleanDisk (state g new) → IsHonest new
-        -- this is seen
+        -- the view shows this
         pub now_is : IsHonest new → seen new ≡ next
         -- a transaction stays open
         pub mode : IsHonest new → new.in_transaction ≡ old.in_transaction
@@ -240,7 +240,7 @@ module _ {S : Type 0} (g : Ghosts S) where
       abbrev pub RefusalUndoes : {T E : Type 0} → Result T E → Type 0
       RefusalUndoes r = IsHonest new → OnErr r IsRefused
 
-      -- An answered call leaves a honest store, whose transaction began, was committed, or left nothing.
+      -- An answered call leaves an honest store whose transaction began, was committed, or was undone.
       abbrev pub BeginsTransaction : {T E : Type 0} → Result T E → Type 0
       BeginsTransaction r =
           HasCleanDisk (state g new) → OnOk r (ShowsHonestly (seen old) (committed old) true)

@@ -1,11 +1,11 @@
--- Which refusal an error of the database is told as.
+-- Which fault an error of the database is told as.
 use Rattle.sqlite.specs.declared.error.Error.{Error}
 use Rattle.sqlite.specs.declared.error.Error.TheVariants.{SqliteFailure}
 use Rattle.sqlite.specs.declared.error.ErrorCode.TheVariants.{OutOfMemory}
 use Rattle.dh_faults.specs.declared.fault.Fault.{Fault}
 use Rattle.dh_faults.specs.declared.fault.Fault.TheVariants.{Store, Memory}
 
--- out of memory, or any other fault of the store
+-- `Memory` where memory is out, and `Store` for any other error
 abbrev pub fault_of : Error → Fault
 fault_of (SqliteFailure OutOfMemory) = Memory
 fault_of _ = Store

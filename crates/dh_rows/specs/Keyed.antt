@@ -40,16 +40,16 @@ module _ {X : Type 0} (key : X → Row) where
   abbrev pub IsFreeKey : X → List X → Type 0
   IsFreeKey x = AllByRecursion (λ y. same_key x y ≡ false)
 
-  -- the record stands in its place by its key
+  -- the list with the record put in, in the order of keys
   abbrev pub added : X → List X → List X
   added = insert_sorted by_key
 
-  -- the record stands in its place, instead of one that has its key
+  -- the list with the record in place of one that has its key, in the order of keys
   abbrev pub put : X → List X → List X
   put x xs = insert_sorted by_key x (filter (λ y. not (same_key x y)) xs)
 
 module _ {X : Type 0} (c : Coding X) where
-  -- a rowid, and then the columns of the record that the row stands for
+  -- the row is a rowid and then the columns of the record that it stands for
   abbrev pub IsCoded : Row → Type 0
   IsCoded row = row ≡ Int (id_in (rowid row)) ∷ c.encode (c.decode row)
 

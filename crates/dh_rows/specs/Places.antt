@@ -37,18 +37,18 @@ keyed_table name places columns = record {
   is_counted = false;
 }
 
--- the name is of no table, index or view
+-- no table, index or view has the name
 pub record IsFree (schema : Schema) (name : List ℕ) : Type 0 where
   pub tables : table_named schema name ≡ None
   pub indexes : index_named schema name ≡ None
   pub views : view_named schema name ≡ None
 
--- the name is of no index and no view
+-- no index and no view has the name
 pub record IsUnshared (schema : Schema) (name : List ℕ) : Type 0 where
   pub indexes : index_named schema name ≡ None
   pub views : view_named schema name ≡ None
 
--- the name is of the table at this place, which alone has its tree
+-- the table at this place has the name, and its tree is its own
 pub record HasTable (schema : Schema) (name : List ℕ) (at : ℕ) (table : Table) : Type 0 where
   pub named : table_named schema name ≡ Some at
   pub stands : slice_get schema.tables at ≡ Some table
@@ -67,7 +67,7 @@ IsUnreferred schema tree = AllByRecursion (λ t. AllByRecursion (λ ref. is_at t
 abbrev pub IsUnmentioned : Schema → List ℕ → Type 0
 IsUnmentioned schema name = AllByRecursion (λ t. AllByRecursion (λ ref. same_name name ref.parent ≡ false) t.references) schema.tables
 
--- the tree that has the rows of the table with this name
+-- the tree of the table with this name
 abbrev pub tree_of : Schema → List ℕ → ℕ
 tree_of schema name = unwrap_or (option_map (λ t. t.tree) (option_and_then (slice_get schema.tables) (table_named schema name))) 0
 

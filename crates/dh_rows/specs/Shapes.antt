@@ -26,7 +26,7 @@ pub record StandsAlone (schema : Schema) (t : Table) : Type 0 where
   pub stands : StandsInSchema schema t
   -- no foreign key names it
   pub unmentioned : IsUnmentioned schema t.name
-  -- its tree is of no table of another name
+  -- no table of another name has its tree
   pub lone : IsLone schema (tree_of schema t.name) t.name
   -- it has no index that is not unique: since it stands, all are those of its own keys
   pub indexed : IsUniquelyIndexed schema (tree_of schema t.name)

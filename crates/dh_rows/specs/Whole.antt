@@ -23,14 +23,14 @@ module _ {X : Type 0} (c : Coding X) where
     pub rows_are : rows ≡ map c.encode xs
     pub rise : IsAscending (λ x y. by_key c.key x y ≡ Less) xs
 
--- ---- what tells rowids, one row after the other
+-- ---- deciding whether rows are rowids, one row after the other
 
 -- the integer that is all of a row
 abbrev pub lone_int : Row → Option ℤ
 lone_int (Int n ∷ []) = Some n
 lone_int _ = None
 
--- it is above the last one, if there was one
+-- the rowid is above the last one, if there was one
 abbrev pub is_above : Option ℤ → ℤ → Bool
 is_above None id = true
 is_above (Some last) id = int_lt last id

@@ -6,7 +6,7 @@ ghost use Rattle.dh_rows.specs.Faults as spec;
 use dh_faults::Fault;
 use sqlite::{Error, ErrorCode};
 
-/// The fault that an error of the database is told as.
+/// Tells an error of the database as a fault: `Memory` where memory is out, else `Store`.
 pub fn fault_of(error: Error) -> Fault
     ensures { result ≡ spec.fault_of error }
 {

@@ -1,4 +1,4 @@
-//! Laws of the words, for every store.
+//! Laws of the definitions of calls, for every store.
 ghost use Rattle.sqlite.specs.Held.{Held};
 ghost use Rattle.sqlite.specs.Steps.{over_memory};
 ghost use Rattle.sqlite_trees.specs.declared.memory.MemStore.{MemStore};

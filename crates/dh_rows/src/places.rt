@@ -11,10 +11,10 @@ ghost use Rattle.dh_rows.specs.Places.{IsFree, IsUnmentioned, HasTable, IsUnrefe
 use sqlite_schema::names::same_name;
 use sqlite_schema::schema::{Reference, Schema, Table};
 
-/// The trees from here on are those of tables that a statement computes.
+/// The first number of the trees of tables that a statement computes; a stored table has a smaller one.
 pub(crate) const COMPUTED: u32 = 1 << 31;
 
-/// Whether the name is of no table, index or view.
+/// Whether no table, index or view has the name.
 pub fn is_free(schema: &Schema, name: &[u8]) -> bool
     ensures { IsTrue result ↔ IsFree schema.now name.now }
 {

@@ -67,7 +67,7 @@ fn has_orders(table: &Table, places: &[usize]) -> bool
     }
 }
 
-/// Whether the table has this key and no other, or none at no places.
+/// Whether the table has the key at these places and no other; with no places, whether it has no key.
 fn is_keyed(table: &Table, places: &[usize]) -> bool
     ensures { let made = keyed_table [] places.now [] in
         IsTrue result ↔ ((table.now.primary ≡ made.primary)
@@ -88,7 +88,7 @@ fn has_no_stamp(stamps: &Stamps) -> bool
     stamps.places.is_empty() && has_no_term(&stamps.terms) && stamps.formats.is_empty()
 }
 
-/// Whether the table has no more than columns and a key.
+/// Whether the table has nothing but columns and a key.
 fn is_bare(table: &Table) -> bool
     ensures { IsTrue result ↔ ((table.now.key ≡ None) × (table.now.checks ≡ [])
         × (table.now.references ≡ []) × (table.now.computed ≡ [])
@@ -102,7 +102,7 @@ fn is_bare(table: &Table) -> bool
         && !table.is_counted
 }
 
-/// Whether the table is as it is made, whatever its tree is.
+/// Whether the table is the one that the shape makes, but for its tree.
 fn is_made(table: &Table, shape: &Shape<'_>) -> bool
     ensures { IsTrue result ↔ (table.now ≡ record (table_of shape.now) { tree = table.now.tree }) }
 {
@@ -147,7 +147,7 @@ fn count_on(schema: &Schema, tree: u32) -> usize
         .count()
 }
 
-/// Whether the indexes on this tree are that of a key at these places, or none at no places.
+/// Whether the tree's indexes are that of a key at these places alone; with no places, whether it has none.
 fn has_own_indexes(schema: &Schema, tree: u32, places: &[usize]) -> bool
     ensures { let keys = map (λ key. (key, plain)) (keyed_table [] places.now []).uniques in
         IsTrue result ↔ ((unique_keys schema.now tree ≡ keys) × IsUniquelyIndexed schema.now tree) }

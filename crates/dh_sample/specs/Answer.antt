@@ -8,7 +8,7 @@ use Rattle.dh_sample.specs.SampleWorld.{sample_world}
 use Rattle.dh_sample.specs.declared.answer.SampleFault.{SampleFault}
 use Rattle.dh_sample.specs.declared.answer.SampleFault.TheVariants.{Engine, Store}
 
--- the answer at a moment to the request that the source is, by a desk that has the sample alone
+-- the answer at a moment to the request of a source, by a desk that has the sample alone
 abbrev pub AnswersSample : ℕ → Option (List ℕ) → ℕ → List ℕ → Type 0
 AnswersSample moment left status text =
     (after : World) × engine.AnswersSource moment left sample_world after status text

@@ -39,7 +39,7 @@ upload_sample =
     of_sample (Upload (codes "sample-key") (codes "s2") (codes "main") (codes "en") false
     sample_uploads)
 
--- the world after a step, and what comes behind it; or the refusal
+-- what `next` makes of the world after a step; or the step's refusal
 abbrev pub on_step : Result (World × Answer) Refusal → (World → Result World Refusal) → Result World Refusal
 on_step (Ok (w, answer)) next = next w
 on_step (Err refusal) next = Err refusal
@@ -57,7 +57,8 @@ sample_commands = make_sample ∷ push_sample ∷ upload_sample ∷ []
 unfoldable pub sample_world : World
 sample_world = result_unwrap_or (after_all sample_commands empty) empty
 
--- so many commands were done, the next one was refused, by its step or by what is set aside, and none behind it was done
+-- the first of the commands were done, this many, and the next was refused, by its step or by being set aside; none behind it
+-- was done
 pub record StopsBehind (cs : List Command) (before after : World) (e : Refusal) (done : ℕ) : Type 0 where
   pub only_those : after_all (take done cs) before ≡ Ok after
   pub command : Command

@@ -54,7 +54,7 @@ fn push_command(alloc: Global) -> Result<Command, AllocError>
     command(alloc, change)
 }
 
-/// The text and LF.
+/// The body of a page: the text and LF.
 fn body(alloc: Global, text: &str) -> Result<Bytes, AllocError>
     ensures { IfOk result (λ body. body ≡ text.now ++ 10 ∷ []) }
 {
@@ -97,7 +97,7 @@ fn upload_command(alloc: Global) -> Result<Command, AllocError>
     command(alloc, change)
 }
 
-/// Does a command of the sample, and lets it go.
+/// Does a command of the sample, and frees it.
 fn perform<S: Alter>(alloc: Global, desk: &mut Desk<S>, command: Command) -> Result<Answer, Refusal>
     ensures step { WorldGoesBy S.Store desk.old desk.new
         (λ before after. IsStep before after command result) }
@@ -129,7 +129,7 @@ fn store_pages<S: Alter>(alloc: Global, desk: &mut Desk<S>) -> Result<Answer, Re
     perform(alloc, desk, upload_command(alloc)?)
 }
 
-/// Makes the sample project, pushes its branch and stores its pages: three commands. The first refusal is answered: what was done
+/// Makes the sample project, pushes its branch and stores its pages, by three commands. Answers the first refusal: what was done
 /// before it stays, and the rest is not done.
 pub fn fill_sample<S: Alter>(alloc: Global, desk: &mut Desk<S>) -> Result<(), Refusal>
     ensures fills { WorldGoesBy S.Store desk.old desk.new
@@ -141,7 +141,7 @@ pub fn fill_sample<S: Alter>(alloc: Global, desk: &mut Desk<S>) -> Result<(), Re
     Ok(())
 }
 
-/// A desk in memory, with no project.
+/// Makes a desk in memory, with no project.
 pub fn empty_desk(alloc: Global) -> Result<Desk<MemStore>, Fault>
     ensures { IfOk result (λ desk. world over_memory desk ≡ empty) }
 {
@@ -151,7 +151,7 @@ pub fn empty_desk(alloc: Global) -> Result<Desk<MemStore>, Fault>
     }
 }
 
-/// A desk in memory, with the sample project alone.
+/// Makes a desk in memory, with the sample project alone.
 pub fn sample_desk(alloc: Global) -> Result<Desk<MemStore>, Refusal>
     ensures { IfOk result (λ desk. world over_memory desk ≡ sample_world) }
 {

@@ -1,4 +1,4 @@
--- What a call on the tables leaves, in the words of `dh_rows`, over the lists that the tables spell.
+-- What a call on the tables leaves, in the definitions of `dh_rows`, over the lists that the tables spell.
 use Rattle.std.specs.Prelude.{◌≡◌, ◌⊎◌, ℕ, List, true, false, map, Result, Vec, IfOk, OnOk}
 use Rattle.std.specs.List.{AllByRecursion}
 use Rattle.sqlite_value.specs.Order.{Row}
@@ -12,11 +12,11 @@ use Rattle.dh_rows.specs.Keyed.{Coding, IsFreeKey}
 use Rattle.dh_records.specs.Lists.{Lists}
 use Rattle.dh_schema.specs.Tables.{lists_of}
 
--- each list of rows that answers the text is that of these records
+-- every answer to the query is the rows of these records
 abbrev pub AreAsked : {R : Type 0} → (R → Row) → State → List ℕ → Row → List R → Type 0
 AreAsked encode s sql params xs = (rows : List Row) → AreRows s sql params rows → rows ≡ map encode xs
 
--- The query does not fit, or a record that it asks for is not of its types.
+-- The query does not fit, or a record that it asks for has a column of a wrong type.
 abbrev pub IsUnread
     : {R : Type 0} → (R → Row) → (R → Type 0) → State → List ℕ → Row → Type 0
 IsUnread encode typed s sql params =
@@ -24,16 +24,16 @@ IsUnread encode typed s sql params =
     ⊎ ((xs : List _) → AreAsked encode s sql params xs → ¬ AllByRecursion typed xs)
 
 module _ {S : Type 0} (g : Ghosts S) where
-  -- The committed tables stay those that they were, whatever stands in them.
+  -- The schema of the committed tables stays, whatever rows stand in them.
   abbrev pub KeepsSchema : Held S → Held S → Type 0
   KeepsSchema old new =
       IsHonest g new → (state g new).committed.schema ≡ (state g old).committed.schema
 
-  -- Where the store is honest, this holds of the records.
+  -- Where the store is honest, the fact holds of the records.
   abbrev pub HasRecords : Held S → (Lists → Type 0) → Type 0
   HasRecords h fact = IsHonest g h → fact (seen g lists_of h)
 
-  -- Where the store is honest, no record of a list has this one's key.
+  -- Where the store is honest, no record of the list has the key of this one.
   abbrev pub LacksKey : {R : Type 0} → Held S → Coding R → (Lists → List R) → R → Type 0
   LacksKey h coding part row = HasRecords h (λ l. IsFreeKey coding.key row (part l))
 
@@ -53,7 +53,7 @@ module _ {S : Type 0} (g : Ghosts S) where
       pub goes : MakesNoCommit g old new
       -- one that was answered was at an honest store, and left all as it was
       pub same : LeavesAllAsItWas g lists_of old new result
-      -- one that was refused did too, or within a transaction undid all since its begin
+      -- one that was refused left all as it was, or undid the transaction
       pub err : RefusalUndoes g lists_of old new result
       -- `Store` is told for a fault of the store alone
       pub told : StoreFaultHasCause g old new result ⊥
@@ -69,27 +69,27 @@ module _ {S : Type 0} (g : Ghosts S) where
       -- a crash leaves what it could leave before, or outside a transaction the changed lists
       pub crash : CommitsAtMost g lists_of old new (change (seen g lists_of old))
 
-    -- The same of changes in turn, within a transaction. If it is refused, some may be made.
+    -- What changes in turn leave, within a transaction; where they are refused, some may be made.
     pub record ChangesListsInside (change : Lists → Lists) : Type 0 where
       pub goes : MakesNoCommit g old new
       pub sees : OnOk result (NowShows g lists_of old new (change (seen g lists_of old)))
 
   module _ {T E : Type 0} (old new : Held S) (result : Result T E) where
-    -- Where the store is honest, an answer and the records before stand so to each other.
+    -- Where the store is honest, the fact holds of the records before the call and its answer.
     abbrev pub AnswersBy : (Lists → T → Type 0) → Type 0
     AnswersBy fact = IsHonest g new → IfOk result (fact (seen g lists_of old))
 
   module _ {T : Type 0} (old new : Held S) (result : Result T Fault) where
-    -- What a look leaves, whose answer and the records before stand so to each other.
+    -- What a look leaves, and that the fact holds of the records before it and its answer.
     pub record LearnsFact (fact : Lists → T → Type 0) : Type 0 where
       pub asks : LooksAtLists old new result
       pub value : AnswersBy old new result fact
 
-    -- What a look leaves that answers this of the records before.
+    -- What a look leaves, and that it answers this value of the records before it.
     abbrev pub ReadsValue : (Lists → T) → Type 0
     ReadsValue value = LearnsFact (λ l read. read ≡ value l)
 
-  -- the same of a list
+  -- what a look leaves, and that it answers this list of the records before it
   abbrev pub ReadsAll
       : {U Z : Type 0} → Held S → Held S → Result (Vec U Z) Fault → (Lists → List U) → Type 0
   ReadsAll old new result value = LearnsFact old new result (λ l read. read.items ≡ value l)

@@ -60,7 +60,7 @@ module _ {S : Type 0} {g : Ghosts S} where
         | inr was ↦ inr was
       ]
 
-  -- A later call's blame is that of both.
+  -- Where the store is to blame for the second of two calls, it is to blame for both together.
   pub blamed_before
       : {a b c : Held S} → KeepsFaults g a b → KeepsFaults g b c → HasCleanDisk (state g c)
       → IsBlamed g b c
@@ -72,7 +72,7 @@ module _ {S : Type 0} {g : Ghosts S} where
   pub goes_none : (h : Held S) → MakesNoCommit g h h
   goes_none h = record { lasts = lasts_none h; kept = λ _. refl; quiet = λ _ _ db may. may }
 
-  -- where an honest store stays honest over the first
+  -- two calls commit nothing where each commits nothing and an honest store stays honest over the first
   pub goes_on
       : {a b c : Held S}
       → MakesNoCommit g a b → (IsHonest g a → HasCleanDisk (state g b) → IsHonest g b)
@@ -90,7 +90,7 @@ module _ {S : Type 0} {g : Ghosts S} where
   pub goes_anywhere : {a b : Held S} → MakesNoCommit g a b → MakesNoCommitInside g a b
   goes_anywhere p = record { lasts = p.lasts; kept = λ _. p.kept; quiet = λ _. p.quiet }
 
-  -- calls within a transaction
+  -- a call that commits nothing within a transaction commits nothing where one is open
   pub goes_within
       : {a b : Held S} → MakesNoCommitInside g a b → (IsHonest g a → a.in_transaction ≡ true)
       → MakesNoCommit g a b

@@ -47,7 +47,7 @@ our_tables =
     pass_table ∷
     holds_table ∷ []
 
--- the same, the last made first
+-- the tables, the last made first
 abbrev pub made_tables : List Table
 made_tables =
     holds_table ∷
@@ -64,14 +64,14 @@ made_tables =
     alias_table ∷
     meta_table ∷ []
 
--- what makes those of derived records
+-- the statements that make the tables of derived records
 abbrev pub aliases_text : List ℕ
 aliases_text = codes "CREATE TABLE alias (host TEXT NOT NULL, class TEXT NOT NULL, name INTEGER NOT NULL, slug TEXT NOT NULL, PRIMARY KEY (host, class, name)) STRICT"
 
 abbrev pub routes_text : List ℕ
 routes_text = codes "CREATE TABLE route (host TEXT NOT NULL, seg TEXT NOT NULL, place INTEGER NOT NULL, force INTEGER NOT NULL, PRIMARY KEY (host, seg, place)) STRICT"
 
--- what makes them all
+-- the statements that make all tables
 abbrev pub table_texts : List (List ℕ)
 table_texts =
     codes "CREATE TABLE meta (schema INTEGER NOT NULL) STRICT" ∷
@@ -94,16 +94,16 @@ table_texts =
 abbrev pub CanMake : Schema → Type 0
 CanMake schema = AllByRecursion (λ t. IsFree schema t.name × IsUnmentioned schema t.name) our_tables × (lacks_sequence schema ≡ false)
 
--- ---- the tables of records that are derived, added to the others
+-- ---- the tables of derived records, added to the others
 
 abbrev pub derived_tables : List Table
 derived_tables = alias_table ∷ route_table ∷ []
 
--- the same, the last made first
+-- the tables of derived records, the last made first
 abbrev pub added_tables : List Table
 added_tables = route_table ∷ alias_table ∷ []
 
--- neither name is taken or mentioned, and tables can be made
+-- no name of a table of derived records is taken or mentioned, and tables can be made
 abbrev pub CanAdd : Schema → Type 0
 CanAdd schema = AllByRecursion (λ t. IsFree schema t.name × IsUnmentioned schema t.name) derived_tables × (lacks_sequence schema ≡ false)
 
@@ -111,7 +111,7 @@ CanAdd schema = AllByRecursion (λ t. IsFree schema t.name × IsUnmentioned sche
 abbrev pub SparesAll : Database → Database → Type 0
 SparesAll before after = (u : Table) → StandsInSchema before.schema u → StandsInSchema after.schema u × (rows_of after u.name ≡ rows_of before u.name)
 
--- Beside those that stood some tables are made, and others are left to make.
+-- Some tables are made, others are left to make, and all that stood before stand with their rows.
 pub record IsAdded (made left : List Table) (before after : Database) : Type 0 where
   pub ready : IsReady made left after
   pub others : SparesAll before after
@@ -129,12 +129,12 @@ module _ {S : Type 0} (g : Ghosts S) (old new : Held S) where
   CommitsNothing = IsHonest g old × (committed g whole new ≡ committed g whole old)
 
   module _ (result : Result (Unit {0}) Fault) where
-    -- What making leaves, of one table or of several in turn; answered, P is true of what is seen.
+    -- What making one table or several in turn leaves; where it is answered, P is true of what is seen.
     pub record BuildsTables (P : Database → Type 0) : Type 0 where
       pub goes : MakesNoCommitInside g old new
       pub made : IsHonest g old → HasCleanDisk (state g new) → OnOk result (GoesOn × P (state g new).now)
 
-    -- The same of one statement: refused, it left all as it was, or undid the transaction.
+    -- What one statement that makes a table leaves; where it is refused, it left all as it was, or undid the transaction.
     pub record BuildsOne (P : Database → Type 0) : Type 0 where
       pub builds : BuildsTables P
       pub err : RefusalUndoes g whole old new result

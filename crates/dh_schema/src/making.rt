@@ -14,15 +14,15 @@ use dh_rows::{begin, change, commit, is_free, is_unmentioned, keeps_counts};
 use sqlite::{Alter, Connection, params};
 use sqlite_schema::schema::Schema;
 
-/// What makes the table of aliases.
+/// The statement that makes the table of aliases.
 const ALIASES: &str =
     "CREATE TABLE alias (host TEXT NOT NULL, class TEXT NOT NULL, name INTEGER NOT NULL, slug TEXT NOT NULL, PRIMARY KEY (host, class, name)) STRICT";
 
-/// What makes the table of routes.
+/// The statement that makes the table of routes.
 const ROUTES: &str =
     "CREATE TABLE route (host TEXT NOT NULL, seg TEXT NOT NULL, place INTEGER NOT NULL, force INTEGER NOT NULL, PRIMARY KEY (host, seg, place)) STRICT";
 
-/// What makes our tables, in this order.
+/// The statements that make our tables, in this order.
 const TABLES: [&str; 13] = [
     "CREATE TABLE meta (schema INTEGER NOT NULL) STRICT",
     ALIASES,
@@ -39,7 +39,7 @@ const TABLES: [&str; 13] = [
     "CREATE TABLE holds (host TEXT NOT NULL, pass TEXT NOT NULL, slug TEXT NOT NULL, PRIMARY KEY (host, pass, slug)) STRICT",
 ];
 
-/// Their names, in the same order.
+/// The names of our tables, in the same order.
 const NAMES: [&[u8]; 13] = [
     b"meta",
     b"alias",
@@ -56,7 +56,7 @@ const NAMES: [&[u8]; 13] = [
     b"holds",
 ];
 
-/// The names of those whose records are derived.
+/// The names of the tables whose records are derived.
 const DERIVED: [&[u8]; 2] = [b"alias", b"route"];
 
 /// Makes the tables, one after the other.

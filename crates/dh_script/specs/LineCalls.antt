@@ -14,20 +14,20 @@ use Rattle.dh_lines.specs.declared.lines.Order.TheVariants as order
 use Rattle.dh_script.specs.Outcomes.{text_of_outcome}
 use Rattle.dh_script.specs.Running.{RunsLines}
 
--- a read of this target, or what is printed where there is none
+-- a read of this target, or what is printed where there is no target
 abbrev pub read_of_target : Text → Option Text → ℕ → Option Target → Result Call Text
 read_of_target host pass moment None = Err (codes "bad target")
 read_of_target host pass moment (Some t) =
     Ok (Ask host pass moment (record { path = t.path; query = t.query }))
 
--- the call that an order is at this moment, or what is printed for one that is none
+-- the call that an order is at this moment, or what is printed for an order that is no call
 abbrev pub call_of_order : ℕ → Order → Result Call Text
 call_of_order moment (order.Act c) = Ok (Act c)
 call_of_order moment (order.Get host target pass own) =
     read_of_target host pass (unwrap_or own moment) (target_of target)
 call_of_order moment _ = Err (codes "usage")
 
--- a line that names a store of its own is none of a script
+-- the call of an order; a line that names a store of its own is no line of a script, and prints `usage`
 abbrev pub call_over : ℕ → Option Text → Order → Result Call Text
 call_over moment None order = call_of_order moment order
 call_over moment (Some file) order = Err (codes "usage")
@@ -46,20 +46,20 @@ calls_of_lines moment [] = []
 calls_of_lines moment (words ∷ more) =
     add_call (call_of_line moment (line_in words)) (calls_of_lines moment more)
 
--- what a line prints, and what follows prints of the outcomes that it leaves
+-- what a line prints, and then what `rest` makes of the outcomes that it leaves
 abbrev pub print_first : Result Call Text → (List Outcome → Text) → List Outcome → Text
 print_first (Err text) rest outcomes = text ++ 10 ∷ rest outcomes
 print_first (Ok call) rest [] = []
 print_first (Ok call) rest (outcome ∷ outcomes) = text_of_outcome outcome ++ 10 ∷ rest outcomes
 
--- what these lines print, whose calls come to these outcomes: each the text of its outcome, or `bad target` or
--- `usage`, and LF
+-- what these lines print, where their calls have these outcomes: each the text of its outcome, or `bad target` or `usage`, and
+-- LF
 abbrev pub printed_by : ℕ → List (List Text) → List Outcome → Text
 printed_by moment [] outcomes = []
 printed_by moment (words ∷ more) outcomes =
     print_first (call_of_line moment (line_in words)) (printed_by moment more) outcomes
 
--- lines that ran are calls that were done, and print what comes of them
+-- lines that ran are calls that were done, and print the texts of their outcomes
 abbrev pub LinesAreCalls : Type 0
 LinesAreCalls =
     (moment : ℕ) (before after : World) (lines : List (List Text)) (text : Text)

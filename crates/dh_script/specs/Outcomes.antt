@@ -58,7 +58,7 @@ text_of_outcome (Refused refusal) = text_of_refusal refusal
 text_of_outcome (Replied reply) = text_of_reply reply
 text_of_outcome (Failed fault) = text_of_fault fault
 
--- whether the outcome is none that was asked for: a refusal or a failure
+-- the outcome is a refusal or a failure
 abbrev pub is_refusal : Outcome → Bool
 is_refusal (Applied answer) = false
 is_refusal (Refused refusal) = true

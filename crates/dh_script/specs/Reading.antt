@@ -25,7 +25,7 @@ writer_failed (Err fault) = is_write fault
 abbrev pub most_script : ℕ
 most_script = 1048576
 
--- what is true of an input, of which so many bytes may be read, whose reading ends in a fault
+-- what the fault says of an input, of which at most this many bytes may be read
 abbrev pub IsCauseOver : ℕ → ScriptFault → List ℕ → Type 0
 IsCauseOver most TooLong input = most < length input
 IsCauseOver most NotText input = IsUtf8 input → ⊥
@@ -34,7 +34,7 @@ IsCauseOver most (Unread Read) input = ⊤
 IsCauseOver most (Unread Memory) input = ⊤
 IsCauseOver most (Run fault) input = ⊤
 
--- the same of a script
+-- what the fault says of the input of a script
 abbrev pub IsCause : ScriptFault → List ℕ → Type 0
 IsCause = IsCauseOver most_script
 

@@ -11,27 +11,27 @@ use Rattle.dh_script.specs.Outcomes.{text_of_refusal, text_of_fault}
 use Rattle.dh_script.specs.declared.reasons.Reason.{Reason}
 use Rattle.dh_script.specs.declared.reasons.Reason.TheVariants.{Refused, Failed, BadTarget, Usage}
 
--- why an outcome is none that was asked for
+-- why an outcome is a refusal or a failure
 abbrev pub reason_of : Outcome → Option Reason
 reason_of (outcome.Applied answer) = None
 reason_of (outcome.Refused refusal) = Some (Refused refusal)
 reason_of (outcome.Replied reply) = None
 reason_of (outcome.Failed fault) = Some (Failed fault)
 
--- why a list that is answered so is none
+-- why a list was refused or failed
 abbrev pub reason_of_list : Result (Option Text) Fault → Option Reason
 reason_of_list (Ok (Some listed)) = None
 reason_of_list (Ok None) = Some (Refused NoProject)
 reason_of_list (Err fault) = Some (Failed fault)
 
--- what a line prints that was refused for this
+-- what a line prints that was refused for this reason
 abbrev pub text_of_reason : Reason → Text
 text_of_reason (Refused refusal) = text_of_refusal refusal
 text_of_reason (Failed fault) = text_of_fault fault
 text_of_reason BadTarget = codes "bad target"
 text_of_reason Usage = codes "usage"
 
--- the reason of what was refused is that which is printed, and of what was not there is none
+-- what was refused has a reason, whose text is printed; what was not refused has none
 abbrev pub ExplainsRefusal : Option Reason → Text → Bool → Type 0
 ExplainsRefusal None text refused = refused ≡ false
 ExplainsRefusal (Some reason) text refused = (text ≡ text_of_reason reason) × (refused ≡ true)

@@ -28,7 +28,7 @@ is_filled (x ∷ xs) = true
 unfoldable pub words_in : Text → List Text
 words_in line = if slice_index line 0 == 35 then [] else filter is_filled (slice_split is_gap line)
 
--- of these lines those that have words, each by its words
+-- the lines that have words, each by its words
 unfoldable pub worded : List Text → List (List Text)
 worded texts = filter is_filled (map words_in texts)
 
@@ -40,8 +40,7 @@ lines_in script = worded (lines script)
 abbrev pub seen : {Y Z : Type 0} → List (Vec (String Y) Z) → List (List Text)
 seen lines = map (λ words. map string_bytes words.items) lines
 
--- these lines run one after another: what each does to the world, and what all print, each its
--- text and LF
+-- these lines run one after another, from the world before to the world after, and print this text: that of each line, and LF
 abbrev pub RunsLines : ℕ → World → List (List Text) → World → Text → Type 0
 RunsLines moment before [] after text = (after ≡ before) × (text ≡ [])
 RunsLines moment before (words ∷ more) after text =
@@ -56,8 +55,8 @@ pub record RunsInto (moment : ℕ) (before : World) (lines : List (List Text)) (
   pub ran : RunsLines moment before lines after text
   pub written : Appends held now text
 
--- where a run ended early: of these lines nothing was done and written, or the first one was done,
--- and a front of what it prints was written, but not all
+-- a run ended early before these lines: none of them was done and written, or the first was done and a front of what it prints
+-- was written, but not all
 abbrev pub StopsAt : ℕ → World → List (List Text) → World → Text → Type 0
 StopsAt moment before [] after text = (after ≡ before) × (text ≡ [])
 StopsAt moment before (words ∷ more) after text =
@@ -67,7 +66,7 @@ StopsAt moment before (words ∷ more) after text =
     × (n < length (line ++ 10 ∷ []))
     × (text ≡ take n (line ++ 10 ∷ [])))
 
--- some of these lines ran, from the first on, and what they print was written; there the run ended
+-- the first of these lines ran, and what they print was written; then the run ended
 pub record RunsSome (moment : ℕ) (before : World) (lines : List (List Text)) (after : World) (held now : Option Text) : Type 0 where
   pub done : List (List Text)
   pub more : List (List Text)
@@ -79,12 +78,12 @@ pub record RunsSome (moment : ℕ) (before : World) (lines : List (List Text)) (
   pub stops : StopsAt moment between more after front
   pub written : Appends held now (text ++ front)
 
--- all of these lines ran where the answer is Ok, and else some
+-- all of these lines ran where the answer is Ok, and else the first of them
 abbrev pub Ran : {T E : Type 0} → ℕ → World → List (List Text) → World → Option Text → Option Text → Result T E → Type 0
 Ran moment before lines after held now (Ok value) = RunsInto moment before lines after held now
 Ran moment before lines after held now (Err fault) = RunsSome moment before lines after held now
 
--- these lines ran but for those that wait; and where the answer is a fault, some of them
+-- these lines ran, but for those that wait; where the answer is a fault, the first of them ran
 pub record RunsBut (moment : ℕ) (before : World) (lines : List (List Text)) (after : World) (held now : Option Text) (waiting : List (List Text)) : Type 0 where
   pub done : List (List Text)
   pub parts : lines ≡ done ++ waiting
@@ -94,7 +93,7 @@ abbrev pub RanBut : {T : Type 0} → ℕ → World → List (List Text) → Worl
 RanBut moment before lines after held now waiting (Ok value) = RunsBut moment before lines after held now waiting
 RanBut moment before lines after held now waiting (Err fault) = RunsSome moment before lines after held now
 
--- a script ran, which is what the source had left, where it tells that
+-- a script ran; it is what the source had left, where the source tells that
 pub record RunsScript {T E : Type 0} (moment : ℕ) (left : Option Text) (before after : World) (held now : Option Text) (result : Result T E) : Type 0 where
   pub script : Text
   pub read : IfSome left (λ input. script ≡ input)

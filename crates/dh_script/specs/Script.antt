@@ -24,7 +24,7 @@ use Rattle.dh_lines.specs.declared.lines.Order.{Order}
 use Rattle.dh_lines.specs.declared.lines.Order.TheVariants as order
 use Rattle.dh_script.specs.declared.fault.ScriptFault.{ScriptFault}
 use Rattle.dh_script.specs.declared.fault.ScriptFault.TheVariants.{Run}
--- what comes of a command and of a read, by how it is answered
+-- the outcome of a command and of a read, by its answer
 pub use Rattle.dh_histories.specs.CallsDone.{outcome_of, outcome_of_read}
 
 -- an outcome's text is printed, and whether it is a refusal is told
@@ -38,9 +38,8 @@ PerformsCommand before c after text refused =
     (answer : Result Answer Refusal) × IsStep before after c answer
     × TellsOutcome (outcome_of answer) text refused
 
--- a read of a target that is none prints `bad target` and is refused; any other prints the outcome
--- of the read under the host named, whatever host the target gives: its reply is the definition's
--- over what the caller sees at the moment
+-- a read of a target that cannot be read prints `bad target` and is refused; any other prints the outcome of the read under the
+-- host named, whatever host the target gives: the reply to what the caller sees at the moment
 abbrev pub GetsAt : World → Text → Option Text → ℕ → Option Target → Text → Bool → Type 0
 GetsAt w host pass moment None text refused = (text ≡ codes "bad target") × (refused ≡ true)
 GetsAt w host pass moment (Some t) text refused =
@@ -49,13 +48,12 @@ GetsAt w host pass moment (Some t) text refused =
     (seen w (host_named host) (caller_named pass moment)) t.path t.query)
     × TellsOutcome (outcome_of_read reply) text refused
 
--- an order that is none of a desk is refused
+-- an order that is no command and no read prints `usage` and is refused
 abbrev pub IsUsage : Text → Bool → Type 0
 IsUsage text refused = (text ≡ codes "usage") × (refused ≡ true)
 
--- what an order does to the world at a moment, what it prints, and whether it is refused; a read that
--- gives its own moment is one of that. An order that is none of a desk prints `usage`, and neither that
--- nor a read changes the world
+-- what an order does to the world at a moment, or a read at its own, what it prints, and whether it is refused; an order that is
+-- no command and no read prints `usage`, and a command alone changes the world
 abbrev pub PerformsOrder : ℕ → World → Order → World → Text → Bool → Type 0
 PerformsOrder moment before (order.Act c) after text refused =
     PerformsCommand before c after text refused
@@ -77,24 +75,23 @@ PerformsOrder moment before order.Answer after text refused =
 PerformsOrder moment before (order.Serve count port log) after text refused =
     (after ≡ before) × IsUsage text refused
 
--- and so, whether it is refused or not
+-- what an order does to the world at a moment and what it prints, whether it is refused or not
 abbrev pub DoesOrder : ℕ → World → Order → World → Text → Type 0
 DoesOrder moment before order after text =
     (refused : Bool) × PerformsOrder moment before order after text refused
 
--- a line that names a store of its own is none of a script
+-- what the order of a line does and prints; a line that names a store of its own prints `usage`, and changes nothing
 abbrev pub DoesOver : ℕ → World → Option Text → Order → World → Text → Type 0
 DoesOver moment before None order after text = DoesOrder moment before order after text
 DoesOver moment before (Some file) order after text = (after ≡ before) × (text ≡ codes "usage")
 
--- what a line of a script does to the world at a moment, and prints; what is none prints `usage`, and
--- changes nothing
+-- what a line of a script does to the world at a moment, and prints; words that are no line print `usage`, and change nothing
 abbrev pub DoesLine : ℕ → World → Option Line → World → Text → Type 0
 DoesLine moment before None after text = (after ≡ before) × (text ≡ codes "usage")
 DoesLine moment before (Some line) after text =
     DoesOver moment before line.store line.order after text
 
--- what was listed is printed; where there is no project that is refused, and of a fault the failure is told
+-- the list is printed; where there is no project, the refusal is printed, and for a fault the failure
 abbrev pub TellsList : Result (Option Text) Fault → Text → Bool → Type 0
 TellsList (Ok (Some listed)) text refused = (text ≡ listed) × (refused ≡ false)
 TellsList (Ok None) text refused = TellsOutcome (outcome.Refused NoProject) text refused
@@ -106,8 +103,8 @@ ListsAt w word text refused =
     (listed : Result (Option Text) Fault) × IfOk listed (λ found. found ≡ listing_text w word)
     × TellsList listed text refused
 
--- what a single order does to the world at a moment, what it prints, and whether it is refused: one that lists changes
--- nothing, and prints the list; any other is performed as that of a line
+-- what a single order does to the world at a moment, what it prints, and whether it is refused: an order that lists changes
+-- nothing, and prints the list; any other is performed as in a line
 abbrev pub PerformsSingle : ℕ → World → Order → World → Text → Bool → Type 0
 PerformsSingle moment before (order.List word) after text refused =
     (after ≡ before) × ListsAt before word text refused

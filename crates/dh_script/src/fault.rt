@@ -9,7 +9,7 @@ use dh_ports::Stop;
 use std::alloc::AllocError;
 use thiserror::Error;
 
-/// Why the lines of a script did not all run. The commands so far are done.
+/// Why the lines of a script did not all run. The commands before the fault are done.
 #[derive(Clone, Copy, Debug, PartialEq, Eq, Error)]
 pub enum RunFault {
     #[error("out of memory in a line")]
@@ -21,16 +21,16 @@ pub enum RunFault {
 /// Why a script was not run to its end.
 #[derive(Clone, Copy, Debug, PartialEq, Eq, Error)]
 pub enum ScriptFault {
-    /// Reading it stopped. No line ran.
+    /// Reading the script stopped. No line ran.
     #[error("{0}")]
     Unread(Stop),
-    /// It has more than 1,048,576 bytes. No line ran.
+    /// The script has more than 1,048,576 bytes. No line ran.
     #[error("too long")]
     TooLong,
-    /// It is not UTF-8. No line ran.
+    /// The script is not UTF-8. No line ran.
     #[error("not text")]
     NotText,
-    /// Its lines did not all run. The commands so far are done.
+    /// The lines of the script did not all run. The commands before the fault are done.
     #[error("{0}")]
     Run(RunFault),
 }

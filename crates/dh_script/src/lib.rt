@@ -1,4 +1,4 @@
-//! Lines over a desk: what one does and prints, and how a whole script is read and run.
+//! Lines over a desk: what a line does and prints, and how a whole script is read and run.
 #![tactic(auto)]
 
 mod fault;

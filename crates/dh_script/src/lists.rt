@@ -1,4 +1,4 @@
-//! What a word prints that lists.
+//! What a word that lists prints.
 
 ghost use Rattle.std.specs.Prelude.{◌≡◌, string_bytes, false, None, IfOk};
 ghost use Rattle.dh_desk.specs.Desk.{WorldGoesBy};
@@ -27,7 +27,7 @@ fn listed(alloc: Global, text: &Text) -> Result<Printed, AllocError>
     })
 }
 
-/// What is told of what was listed.
+/// What is printed for a list, or for its failure.
 fn told_list(alloc: Global, answer: &Found<Text>) -> Result<Printed, AllocError>
     ensures tells { IfOk result (λ p. TellsList answer.now (string_bytes p.text) p.refused) }
     ensures explains { IfOk result (λ p. ExplainsRefusal p.reason (string_bytes p.text) p.refused) }
@@ -40,7 +40,7 @@ fn told_list(alloc: Global, answer: &Found<Text>) -> Result<Printed, AllocError>
     }
 }
 
-/// Lists what a word asks for.
+/// Does a word that lists.
 pub fn list<S: Alter>(
     alloc: Global,
     desk: &mut Desk<S>,

@@ -23,15 +23,15 @@ use std::alloc::{AllocError, Global};
 /// What an order prints.
 #[derive(Drop)]
 pub struct Printed {
-    /// Without the end of its line.
+    /// The text, without the end of its line.
     pub text: String,
-    /// Whether what was asked for was refused, or failed.
+    /// Whether the order was refused, or failed.
     pub refused: bool,
-    /// Why, where it was.
+    /// Why the order was refused, where it was.
     pub reason: Option<Reason>,
 }
 
-/// What is told of an outcome.
+/// What is printed for an outcome.
 pub(crate) fn told(alloc: Global, outcome: &Outcome) -> Result<Printed, AllocError>
     ensures tells { IfOk result (λ p. TellsOutcome outcome.now (string_bytes p.text) p.refused) }
     ensures explains { IfOk result (λ p. ExplainsRefusal p.reason (string_bytes p.text) p.refused) }
@@ -60,7 +60,7 @@ fn refusal(alloc: Global, text: &str, reason: Reason) -> Result<Printed, AllocEr
     })
 }
 
-/// What is told of what is no command and no read.
+/// What is printed for an order that is no command and no read.
 pub fn usage(alloc: Global) -> Result<Printed, AllocError>
     ensures tells { IfOk result (λ p. IsUsage (string_bytes p.text) p.refused) }
     ensures explains { IfOk result (λ p. ExplainsRefusal p.reason (string_bytes p.text) p.refused) }
@@ -115,7 +115,7 @@ fn do_get<S: Alter>(
     }
 }
 
-/// Whether a target is none that can be read.
+/// Whether a target cannot be read.
 pub fn is_bad_target(alloc: Global, target: &Text) -> Result<bool, AllocError>
     ensures { IfOk result (λ bad. bad ≡ is_none (target_of target.now)) }
 {
@@ -126,9 +126,9 @@ pub fn is_bad_target(alloc: Global, target: &Text) -> Result<bool, AllocError>
     }
 }
 
-/// Does what the order of a line says over a desk: a command or a read. It is refused where its outcome is a
-/// refusal or a failure, where the target of a read is none (`bad target`), and where the order is
-/// neither (`usage`). `now` is the moment of a read that gives none of its own, in seconds since 1970.
+/// Does what the order of a line says over a desk: a command or a read. The order is refused where its outcome is a refusal or a
+/// failure, where the target of a read cannot be read (`bad target`), and where it is no command and no read (`usage`). `now` is
+/// the moment of a read that gives none of its own, in seconds since 1970.
 pub fn perform<S: Alter>(
     alloc: Global,
     desk: &mut Desk<S>,
@@ -160,8 +160,8 @@ pub fn perform<S: Alter>(
     }
 }
 
-/// The same of an order that is no line of a script: it may list, too. That is refused where there is no project, and
-/// where the store or memory failed.
+/// Does a single order, as `perform` does the order of a line, but the order may also list. A list is refused where there is no
+/// project, and where the store or memory failed.
 pub fn perform_single<S: Alter>(
     alloc: Global,
     desk: &mut Desk<S>,

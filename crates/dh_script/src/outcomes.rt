@@ -143,7 +143,7 @@ fn fault_text(fault: Fault) -> &'static str
     }
 }
 
-/// What a line of a script prints for what came of it, without the end of the line.
+/// What a line of a script prints for an outcome, without the end of the line.
 pub fn outcome_text(alloc: Global, outcome: &Outcome) -> Result<String, AllocError>
     ensures { IfOk result (λ text. string_bytes text ≡ text_of_outcome outcome.now) }
 {
@@ -155,7 +155,7 @@ pub fn outcome_text(alloc: Global, outcome: &Outcome) -> Result<String, AllocErr
     }
 }
 
-/// Whether it is none that was asked for: a refusal or a failure.
+/// Whether the outcome is a refusal or a failure.
 pub fn is_refusal(outcome: &Outcome) -> bool
     ensures { result ≡ refuses outcome.now }
 {
@@ -167,7 +167,7 @@ pub fn is_refusal(outcome: &Outcome) -> bool
     }
 }
 
-/// Why it is none that was asked for.
+/// Why the outcome is a refusal or a failure, where it is one.
 pub fn reason_of(outcome: &Outcome) -> Option<Reason>
     ensures { result ≡ spec_reason outcome.now }
 {

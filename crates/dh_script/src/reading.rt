@@ -1,4 +1,4 @@
-//! How a whole script is read.
+//! Reading a whole script.
 
 ghost use Rattle.std.specs.Prelude.{◌≡◌, ◌≤◌, ◌+◌, false, length, IfSome, IfOk, IfErr, IsErrOf};
 ghost use Rattle.dh_ports.specs.Ports.{CountsUpTo, CountsAtLeast};
@@ -9,7 +9,7 @@ use crate::fault::ScriptFault;
 use dh_ports::{Intake, Source, Stop};
 use std::alloc::Global;
 
-/// All bytes of a script, or of a message that has one, in at most 100,000 reads: `most` bytes, and no more.
+/// Reads all bytes of a script, or of a message that has one, in at most 100,000 reads and at most `most` bytes.
 pub fn read_script<R: Source>(
     alloc: Global,
     source: &mut R,

@@ -10,9 +10,9 @@ pub enum Reason {
     Refused(Refusal),
     /// A read failed.
     Failed(Fault),
-    /// The target of a read is none.
+    /// The target of a read cannot be read.
     BadTarget,
-    /// It is no command and no read.
+    /// The line is no command and no read.
     Usage,
 }
 
@@ -33,7 +33,7 @@ impl Reason {
     }
 }
 
-/// What a refusal says: of a text that is none what it may be, and else what is there or missing.
+/// What a refusal says: what the refused text may be, or else what is there or missing.
 fn refusal_sentence(refusal: Refusal) -> &'static str {
     match refusal {
         Refusal::BadHost
@@ -72,7 +72,7 @@ fn refusal_sentence(refusal: Refusal) -> &'static str {
     }
 }
 
-/// What a text, a page or a redirect may be, which one that was refused is not.
+/// What a text, a page or a redirect may be, where one was refused.
 fn text_sentence(refusal: Refusal) -> &'static str {
     match refusal {
         Refusal::BadHost => {

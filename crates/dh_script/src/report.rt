@@ -11,18 +11,18 @@ pub struct RefusedLine {
     pub reason: Reason,
 }
 
-/// Which lines of a script were refused. Where memory is out, lines are left out of it.
+/// Which lines of a script were refused. Where memory is out, lines are left out of the report.
 #[derive(Drop)]
 pub struct Report {
     /// The numbers of the lines that have words.
     numbers: Vec<usize>,
-    /// How many of them ran.
+    /// How many of these lines ran.
     ran: usize,
     refused: Vec<RefusedLine>,
 }
 
 impl Report {
-    /// Of no line.
+    /// Makes a report of no line.
     pub fn new(alloc: Global) -> Report {
         Report {
             numbers: Vec::new(alloc),
@@ -36,12 +36,12 @@ impl Report {
         self.refused.as_slice()
     }
 
-    /// That the line of this number has words: it will run.
+    /// Notes that the line of this number has words, and so will run.
     pub(crate) fn expect(&mut self, number: usize) {
         let _ = self.numbers.push(number);
     }
 
-    /// That the next of the lines ran, and whether it was refused.
+    /// Notes that the next of the lines ran, and why it was refused, where it was.
     pub(crate) fn note(&mut self, reason: Option<Reason>) {
         let number = self.numbers.get(self.ran).copied();
         self.ran = self.ran.saturating_add(1);

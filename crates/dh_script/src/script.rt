@@ -24,10 +24,10 @@ use std::alloc::{AllocError, Global};
 /// The most bytes of a script.
 const MOST_BYTES: usize = 1_048_576;
 
-/// The most lines that one program of words reads, since their words live as long as it.
+/// The most lines that one program of words reads, since their words live as long as the program.
 const BATCH: usize = 1024;
 
-/// Does what a line orders that names no store of its own.
+/// Does what a line orders, where the line names no store.
 fn own_line<S: Alter>(
     alloc: Global,
     desk: &mut Desk<S>,
@@ -124,7 +124,7 @@ fn run_batch<'a, S: Alter, W: Sink>(
     Ok(())
 }
 
-/// The words of a line, which stand between its spaces and tabs. A comment has none.
+/// Splits a line into its words, which stand between spaces and tabs. A comment has none.
 fn words_of(alloc: Global, line: &str) -> Result<Vec<String>, AllocError>
     ensures { IfOk result (λ words. map string_bytes words.items ≡ words_in line.now) }
 {
@@ -167,7 +167,7 @@ fn add_line(alloc: Global, batch: &mut Vec<Vec<String>>, line: &str) -> Result<(
     Ok(())
 }
 
-/// Adds a line to a batch, which runs and is empty again once it is full.
+/// Adds a line to a batch; a full batch runs and is empty again.
 fn take_line<S: Alter, W: Sink>(
     alloc: Global,
     desk: &mut Desk<S>,
@@ -215,12 +215,11 @@ fn run_lines<S: Alter, W: Sink>(
     run_batch(alloc, desk, batch.as_slice(), sink, report, now)
 }
 
-/// Runs the lines of a script, which is read whole before its first line runs: at most 1,048,576
-/// bytes in at most 100,000 reads. A line ends with LF or CR LF, and the last may lack its end; its
-/// words stand between spaces and tabs. A line without words is passed over, and so is one that
-/// begins with `#`. Each other line writes one line: what came of its command or read, `bad target`
-/// for a read whose target is none, or `usage`, also where it names a store. The report has those lines that were
-/// refused or failed. `now` is the moment of each read that gives none of its own, in seconds since 1970.
+/// Runs the lines of a script, which is read whole before its first line runs: at most 1,048,576 bytes in at most 100,000 reads.
+/// A line ends with LF or CR LF, and the last may lack its end; its words stand between spaces and tabs. A line without words is
+/// passed over, and so is a line that begins with `#`. Each other line writes a line: what came of its command or read, or
+/// `bad target` for a read whose target cannot be read, or `usage`, also where it names a store. The report has the lines that
+/// were refused, or failed. `now` is the moment of each read that gives none of its own, in seconds since 1970.
 pub fn run_script<S: Alter, R: Source, W: Sink>(
     alloc: Global,
     desk: &mut Desk<S>,

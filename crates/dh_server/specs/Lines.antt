@@ -13,16 +13,16 @@ is_space byte = nat_eq byte 32
 abbrev pub shown_byte : ℕ → ℕ
 shown_byte byte = if nat_le 33 byte && nat_le byte 126 then byte else 63
 
--- a word as it is shown, `-` where there is none
+-- a word as it is shown; `-` for an empty word
 abbrev pub shown_word : List ℕ → List ℕ
 shown_word word = if nat_eq (length word) 0 then codes "-" else map shown_byte word
 
--- what stands before that place, or all where there is none
+-- what stands before the place, or all where there is no place
 abbrev pub up_to : Option ℕ → List ℕ → List ℕ
 up_to None bytes = bytes
 up_to (Some at) bytes = take at bytes
 
--- what stands behind it
+-- what stands behind the place, or nothing where there is no place
 abbrev pub behind_space : Option ℕ → List ℕ → List ℕ
 behind_space None line = []
 behind_space (Some at) line = drop (at + 1) line
@@ -40,8 +40,8 @@ ends_line byte = nat_eq byte 13 || nat_eq byte 10
 abbrev pub first_line : List ℕ → List ℕ
 first_line bytes = take 2048 (up_to (position ends_line bytes) bytes)
 
--- what came of a connection, the method and the target of its first line, how many bytes it took, in how many microseconds, the
--- host that was asked for, when, and why that was a bad request
+-- the outcome of a connection, the method and the target of its first line, how many bytes it took, in how many microseconds,
+-- the host that was asked for, when, and why the request was a bad one
 abbrev pub log_line : List ℕ → Entry → ℕ → ℕ → List ℕ
 log_line told entry bytes micros =
     told ++ codes " " ++ shown_word (first_word entry.line.now)
@@ -50,7 +50,7 @@ log_line told entry bytes micros =
     ++ codes " " ++ shown_word entry.host.now ++ codes " " ++ decimal entry.moment
     ++ codes " " ++ shown_word entry.reason.now ++ codes "\n"
 
--- what came of a connection, or of none
+-- how the outcome of a connection is told, or that there was none to answer
 abbrev pub told_as : Option (Result Done EngineFault) → List ℕ
 told_as None = codes "Accept"
 told_as (Some (Ok done)) = decimal done.status

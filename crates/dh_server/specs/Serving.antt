@@ -11,8 +11,8 @@ use Rattle.dh_http.specs.declared.fault.EngineFault.TheVariants as fault
 use Rattle.dh_server.specs.declared.listening.Came.{Came}
 use Rattle.dh_server.specs.declared.listening.Came.TheVariants as came
 
--- the request of a source was answered at a moment, and all of the answer stands behind what the sink held; or the answer was
--- made and not all of it went out; or no whole request was read, and nothing was done
+-- the request of a source was answered at a moment, and the whole answer stands behind what the sink held; or not all of the
+-- answer went out; or no whole request was read, and nothing was done
 abbrev pub AnswersConnection
     : ℕ → Option (List ℕ) → Option (List ℕ) → Option (List ℕ) → World → World
     → Result Done EngineFault → Type 0
@@ -25,7 +25,7 @@ AnswersConnection moment left held now before after (Err (fault.Write n)) =
 AnswersConnection moment left held now before after (Err fault.Read) = after ≡ before
 AnswersConnection moment left held now before after (Err fault.TooManyTurns) = after ≡ before
 
--- some request was answered, at such a moment
+-- some request was answered, at a moment that `IsMoment` holds of
 abbrev pub AnswersSome : (ℕ → Type 0) → World → World → Type 0
 AnswersSome IsMoment before after =
     (moment : ℕ) × IsMoment moment
@@ -36,8 +36,8 @@ AnswersSome IsMoment before after =
 abbrev pub Turn : (ℕ → Type 0) → World → World → Type 0
 Turn IsMoment before after = (after ≡ before) ⊎ AnswersSome IsMoment before after
 
--- what passed over a connection: what it had left to read, what it held before it was answered and after it, and whether its
--- writing has failed
+-- what passed over a connection: what was left to read, what its sink held before and after the answer, and whether writing to
+-- it has failed
 pub record Talk : Type 0 where
   pub left : Option (List ℕ)
   pub held : Option (List ℕ)
@@ -48,13 +48,13 @@ abbrev pub talk_of : Option (List ℕ) → Option (List ℕ) → Option (List �
 talk_of left held now has_failed =
     record { left = left; held = held; now = now; has_failed = has_failed }
 
--- one connection of either kind, at such a moment: of the port; or of a control socket, which does what `Does` says
+-- one connection at a moment that `IsMoment` holds of: of the port; or of a control socket, which does what `Does` says
 abbrev pub MayTurn : (ℕ → Type 0) → (ℕ → Talk → World → World → Type 0) → World → World → Type 0
 MayTurn IsMoment Does before after =
     Turn IsMoment before after
     ⊎ ((moment : ℕ) × IsMoment moment × (talk : Talk) × Does moment talk before after)
 
--- so many connections, one after another
+-- this many connections, one after another
 abbrev pub ServesInTurn
     : (ℕ → Type 0) → (ℕ → Talk → World → World → Type 0) → ℕ → World → World → Type 0
 ServesInTurn IsMoment Does zero before after = after ≡ before
@@ -65,11 +65,11 @@ ServesInTurn IsMoment Does (suc count) before after =
 abbrev pub GivenBy : {C : Type 0} → (C → ℕ → Type 0) → ℕ → Type 0
 GivenBy {C} gives moment = (clock : C) × gives clock moment
 
--- it was asked so many times, where that is counted
+-- the count rose by exactly this much, where it is kept
 abbrev pub CountsExactly : Option ℕ → Option ℕ → ℕ → Type 0
 CountsExactly old new n = CountsUpTo old new n × CountsAtLeast old new n
 
--- how many connections of a control socket came
+-- the connection came to the control socket
 abbrev pub is_message : Came → Bool
 is_message (came.Message stream) = true
 is_message (came.Request stream) = false
@@ -78,7 +78,7 @@ abbrev pub messages_in : Option Came → ℕ
 messages_in None = 0
 messages_in (Some it) = if is_message it then 1 else 0
 
--- so many connections of a control socket came, and as many were handed on, where both are counted
+-- some connections of a control socket came, and as many were handed on, where both are counted
 abbrev pub HandsOn : Option ℕ → Option ℕ → Option ℕ → Option ℕ → Type 0
 HandsOn came more handed now =
     (count : ℕ) × CountsExactly came more count × CountsExactly handed now count
@@ -88,7 +88,7 @@ abbrev pub StepsOnce : World → World → Type 0
 StepsOnce before after =
     (after ≡ before) ⊎ ((command : Command) × MayApply before after command)
 
--- so many of these, one after another
+-- this many steps, one after another
 abbrev pub StepsInTurn : ℕ → World → World → Type 0
 StepsInTurn zero before after = after ≡ before
 StepsInTurn (suc count) before after =
@@ -99,7 +99,7 @@ abbrev pub ChangesNothing : (ℕ → Talk → World → World → Type 0) → Ty
 ChangesNothing Does =
     (moment : ℕ) (talk : Talk) (before after : World) → Does moment talk before after → after ≡ before
 
--- beside such a socket so many connections are so many steps
+-- with a control socket that changes nothing, this many connections are this many steps
 abbrev pub PortSteps : (ℕ → Type 0) → (ℕ → Talk → World → World → Type 0) → Type 0
 PortSteps IsMoment Does =
     ChangesNothing Does → (count : ℕ) (before after : World) → ServesInTurn IsMoment Does count before after → StepsInTurn count before after

@@ -12,11 +12,11 @@ module _ {S : Type 0} (broken : S → Bool) (held : S → Option (List ℕ)) whe
     pub live : broken new ≡ false → broken old ≡ false
     pub said : broken new ≡ false → Appends (held old) (held new) text
 
-  -- some text
+  -- some text stands behind what the sink held, unless the sink has failed
   abbrev pub TellsSome : S → S → Type 0
   TellsSome old new = (text : List ℕ) × WritesUnlessBroken old new text
 
-  -- the line of a connection, in some microseconds; or none
+  -- the line of a connection was written, in some microseconds; or nothing was
   abbrev pub TellsLine : S → S → Option (Result Done EngineFault) → Entry → ℕ → Type 0
   TellsLine old new outcome entry bytes =
       WritesUnlessBroken old new [] ⊎ ((micros : ℕ) × WritesUnlessBroken old new (log_line (told_as outcome) entry bytes micros))

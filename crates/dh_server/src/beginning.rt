@@ -6,7 +6,7 @@ ghost use Rattle.dh_server.specs.Lines as spec;
 use dh_ports::{Failed, Source};
 use std::alloc::Global;
 
-/// The most bytes that are kept: those of the longest head.
+/// The most bytes that are kept: as many as the longest head has.
 const MOST: usize = 16_384;
 
 /// The most bytes of a line that is told.
@@ -19,7 +19,7 @@ const MOST_HOST: usize = 255;
 #[derive(Drop)]
 pub struct Beginning {
     bytes: Vec<u8>,
-    /// It stays at 2^64 - 1.
+    /// How many bytes came; the count stays at 2^64 - 1.
     count: u64,
     ghost few: { vec_len bytes ≤ 16384 },
 }
@@ -31,7 +31,7 @@ fn line_end(bytes: &[u8]) -> Option<usize>
     bytes.iter().position(|b| matches!(*b, b'\r' | b'\n'))
 }
 
-/// What came up to there.
+/// What stands before the end of the first line.
 fn line_of(bytes: &[u8]) -> &[u8]
     ensures { result.now ≡ spec.up_to (position spec.ends_line bytes.now) bytes.now }
 {
@@ -41,7 +41,7 @@ fn line_of(bytes: &[u8]) -> &[u8]
     }
 }
 
-/// What stands behind the name, in any case, with which a line begins.
+/// What stands behind this name, in any case, where the line begins with it.
 fn behind_name<'b>(line: &'b [u8], name: &[u8]) -> Option<&'b [u8]> {
     if line.len() < name.len() {
         return None;
@@ -65,10 +65,10 @@ fn is_blank(line: &[u8]) -> bool {
     matches!(line, b"\n" | b"\r\n")
 }
 
-/// How often the lines stand in a head that it is judged by.
+/// How often a head has the lines by which it is judged.
 #[derive(Clone, Copy)]
 struct HeadLines {
-    /// All of them.
+    /// How many lines the head has.
     lines: u32,
     hosts: u32,
     passes: u32,
@@ -77,7 +77,7 @@ struct HeadLines {
 }
 
 impl HeadLines {
-    /// With one more line.
+    /// Counts one more line.
     fn count(&mut self, line: &[u8]) {
         self.lines = self.lines.saturating_add(1);
         if value_of(line, b"Host").is_some() {
@@ -95,7 +95,7 @@ impl HeadLines {
     }
 }
 
-/// The lines of a head; none where it does not end there.
+/// Counts the lines of a head; none where the head does not end in these bytes.
 fn head_lines(bytes: &[u8]) -> Option<HeadLines> {
     let mut head = HeadLines {
         lines: 0,
@@ -114,7 +114,7 @@ fn head_lines(bytes: &[u8]) -> Option<HeadLines> {
     None
 }
 
-/// How many bytes of a body a line of a head announces; none where it does not say how many.
+/// How many bytes of a body a line of a head announces; none where the line does not say how many.
 fn announced(line: &[u8]) -> Option<u64> {
     if behind_name(line, b"Transfer-Encoding").is_some() {
         return None;
@@ -128,8 +128,8 @@ fn announced(line: &[u8]) -> Option<u64> {
     }
 }
 
-/// How many bytes a request has that begins so: its head, and the body that this announces. None where the head does not end
-/// there, or does not say it.
+/// How many bytes a request has that begins with these: its head, and the body that the head announces. None where the head does
+/// not end in these bytes, or does not say how long the body is.
 fn request_size(bytes: &[u8]) -> Option<u64> {
     let mut size: u64 = 0;
     for line in bytes.split_inclusive(|b| *b == b'\n') {
@@ -143,7 +143,7 @@ fn request_size(bytes: &[u8]) -> Option<u64> {
 }
 
 impl Beginning {
-    /// Nothing yet.
+    /// Starts with no bytes.
     pub fn new(alloc: Global) -> Beginning {
         Beginning {
             bytes: Vec::new(alloc),
@@ -151,7 +151,7 @@ impl Beginning {
         }
     }
 
-    /// Goes on with the bytes that came next.
+    /// Keeps the bytes that came next, as far as there is room.
     fn keep(&mut self, came: &[u8]) {
         if self.bytes.len() as u64 == self.count {
             let room = MOST.saturating_sub(self.bytes.len());
@@ -160,7 +160,7 @@ impl Beginning {
         self.count = self.count.saturating_add(came.len() as u64);
     }
 
-    /// The first line, without its end and as far as it came, and no more of it than 2,048 bytes.
+    /// The first line, without its end, as far as it came, and at most 2,048 bytes of it.
     pub fn first_line(&self) -> &[u8]
         ensures line { result.now ≡ spec.first_line self.now.bytes.items }
         ensures few { length result.now ≤ 2048 }
@@ -169,8 +169,8 @@ impl Beginning {
         &line[..MOST_TOLD.min(line.len())]
     }
 
-    /// The value of the first `Host` line of the head, as far as that came, and no more of it than 255 bytes; empty where there is
-    /// none.
+    /// The value of the first `Host` line of the head, as far as the head came, and at most 255 bytes of it; empty where there
+    /// is no such line.
     pub fn host(&self) -> &[u8]
         ensures { length result.now ≤ 255 }
     {
@@ -185,8 +185,8 @@ impl Beginning {
         &[]
     }
 
-    /// Why what came is a bad request, where it is one: `NoEnd`, its head has no end; `NoHost`, that has no `Host` line; `TwoLines`,
-    /// a line stands twice that may stand once; `ShortBody`, the body ends before it should; and else `Form`.
+    /// Why what came is a bad request, where it is one: `NoEnd`, its head has no end; `NoHost`, the head has no `Host` line;
+    /// `TwoLines`, a line stands twice that may stand once; `ShortBody`, the body ends before it should; and else `Form`.
     pub fn bad_part(&self) -> &'static str {
         let is_post = self.first_line().starts_with(b"POST ");
         let Some(head) = head_lines(self.bytes.as_slice()) else {
@@ -204,8 +204,8 @@ impl Beginning {
         }
     }
 
-    /// Whether just one request came: its head, the body that this announces, and nothing behind it. Where a head is not read as
-    /// this says, or is no head, it did not.
+    /// Whether exactly one request came: its head, the body that the head announces, and nothing behind it. Answers false where
+    /// there is no head that says how long its request is.
     pub fn is_whole(&self) -> bool {
         request_size(self.bytes.as_slice()) == Some(self.count)
     }
@@ -219,7 +219,7 @@ pub struct Heard<R> {
 }
 
 impl<R> Heard<R> {
-    /// Nothing heard yet.
+    /// Makes a source of which nothing was heard yet.
     pub fn new(alloc: Global, inner: R) -> Heard<R>
         ensures { result.inner ≡ inner }
     {

@@ -10,12 +10,12 @@ use dh_ports::{Sink, Source};
 use sqlite::Alter;
 use std::alloc::Global;
 
-/// What is done with a connection of a control socket: orders come over it that the rights of its file let in.
+/// What answers the connections of a control socket. The rights of the socket's file decide who can send orders over it.
 pub trait Control {
-    // What it does at a moment to the world, by what passes over the connection.
+    // What a connection does to the world at a moment, by what passes over it.
     ghost does: { ℕ → Talk → World → World → Type 0 };
 
-    // How many connections it was handed, where it counts. A count stays at 2^64 - 1.
+    // How many connections were handed to it, where it counts. A count stays at 2^64 - 1.
     ghost handed: { Self → Option ℕ };
 
     /// Does what a connection asks for at a moment, in seconds since 1970, and answers it.
@@ -34,7 +34,7 @@ pub trait Control {
         ensures counts { CountsExactly (handed self.old) (handed self.new) 1 };
 }
 
-/// Where there is no socket: nothing is done.
+/// The control of a server without a socket: nothing is done.
 #[derive(Drop)]
 pub struct NoControl;
 

@@ -8,12 +8,12 @@ use dh_ports::{Failed, Sink};
 #[derive(Drop)]
 pub struct Counted<W> {
     inner: W,
-    /// It stays at 2^64 - 1.
+    /// How many bytes the sink took; the count stays at 2^64 - 1.
     count: u64,
 }
 
 impl<W> Counted<W> {
-    /// Nothing counted yet.
+    /// Makes a sink that has counted nothing yet.
     pub fn new(inner: W) -> Counted<W>
         ensures inner { result.inner ≡ inner }
         ensures none { result.count ≡ 0 }

@@ -22,7 +22,7 @@ pub struct Joined<W> {
 }
 
 impl<W> Joined<W> {
-    /// Nothing kept yet.
+    /// Makes a sink that keeps nothing yet.
     pub fn new(alloc: Global, inner: W) -> Joined<W>
         ensures inner { result.inner ≡ inner }
         ensures empty { drop result.gone result.kept.items ≡ [] }
@@ -54,7 +54,7 @@ impl<W> Joined<W> {
 }
 
 impl<W: Sink> Joined<W> {
-    /// Hands on what was kept, after which nothing is. At `Err(n)` exactly the first n bytes of it went out.
+    /// Hands on what was kept, and keeps it no more. At `Err(n)` exactly the first n bytes of it went out.
     pub fn hand_on(&mut self) -> Result<(), usize>
         requires { W.broken self.old.inner ≡ false }
         ensures ok { OnOk result (Keeps

@@ -55,7 +55,7 @@ fn put(out: &mut Vec<u8>, text: &str) -> Result<(), AllocError>
     out.extend_from_slice(text.as_bytes())
 }
 
-/// A space and a word.
+/// Puts a space and a word.
 fn put_word(out: &mut Vec<u8>, word: &[u8]) -> Result<(), AllocError>
     ensures { OnOk result (out.new.items
         ≡ out.old.items ++ codes " " ++ spec.shown_word word.now) }
@@ -68,7 +68,7 @@ fn put_word(out: &mut Vec<u8>, word: &[u8]) -> Result<(), AllocError>
     }
 }
 
-/// A space and a number.
+/// Puts a space and a number.
 fn put_number(alloc: Global, out: &mut Vec<u8>, number: u64) -> Result<(), AllocError>
     ensures { OnOk result (out.new.items ≡ out.old.items ++ codes " " ++ decimal number) }
 {
@@ -76,21 +76,21 @@ fn put_number(alloc: Global, out: &mut Vec<u8>, number: u64) -> Result<(), Alloc
     put(out, format!(in alloc; "{number}")?.as_str())
 }
 
-/// What a line of the log tells of a request, beside what came of it.
+/// What a line of the log tells of a request, beside its outcome.
 #[derive(Clone, Copy)]
 pub struct Entry<'a> {
-    /// Its first line.
+    /// The first line of the request.
     pub line: &'a [u8],
-    /// The host that its head names.
+    /// The host that the head of the request names.
     pub host: &'a [u8],
-    /// When it came, in seconds since 1970.
+    /// When the request came, in seconds since 1970.
     pub moment: u64,
-    /// Why it is a bad request; empty where it is none.
+    /// Why the request is a bad one; empty where it is none.
     pub reason: &'a str,
 }
 
 impl<'a> Entry<'a> {
-    /// Where no request came.
+    /// Makes the entry for a connection with no request.
     pub fn none(moment: u64) -> Entry<'a>
         ensures { result.moment ≡ moment }
     {
@@ -103,7 +103,7 @@ impl<'a> Entry<'a> {
     }
 }
 
-/// The host, the moment and the reason.
+/// Puts the host, the moment and the reason.
 fn put_entry(alloc: Global, out: &mut Vec<u8>, entry: &Entry<'_>) -> Result<(), AllocError>
     ensures { OnOk result (out.new.items
         ≡ out.old.items ++ codes " " ++ spec.shown_word entry.now.host.now
@@ -115,7 +115,7 @@ fn put_entry(alloc: Global, out: &mut Vec<u8>, entry: &Entry<'_>) -> Result<(), 
     put_word(out, entry.reason.as_bytes())
 }
 
-/// The line for a connection.
+/// Makes the line for a connection.
 pub fn log_line(
     alloc: Global,
     told: &str,

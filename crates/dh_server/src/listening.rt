@@ -9,20 +9,20 @@ use std::io;
 use std::net::{TcpListener, TcpStream};
 use std::os::unix::net::{UnixListener, UnixStream};
 
-/// How many accepts may fail, one behind the other, until none is told: a second of them.
+/// How many accepts in a row may fail before none is answered; with their pauses they take a second.
 const MOST_TRIES: u32 = 20;
 
 /// A connection that came.
 #[derive(Drop)]
 pub enum Came {
-    /// To the port.
+    /// A connection to the port.
     Request(TcpStream),
-    /// To the control socket.
+    /// A connection to the control socket.
     Message(UnixStream),
 }
 
 impl Came {
-    /// Whether it came to the control socket.
+    /// Whether the connection came to the control socket.
     fn is_message(&self) -> bool
         ensures { result ≡ spec.is_message self.now }
     {
@@ -35,21 +35,20 @@ impl Came {
 
 /// Where connections come from.
 pub trait Listen {
-    // How often it was asked for one, where it counts. A count stays at 2^64 - 1.
+    // How often a connection was asked for, where that is counted. A count stays at 2^64 - 1.
     ghost asked: { Self → Option ℕ };
 
-    // How many it gave that came to the control socket, where it counts. A count stays at 2^64 - 1.
+    // How many connections came to the control socket, where that is counted. A count stays at 2^64 - 1.
     ghost messages: { Self → Option ℕ };
 
-    /// The next connection, which it waits for. None where there was none to be had, or it was lost before it could be answered.
+    /// Waits for the next connection. None where there was none to be had, or it was lost before it could be answered.
     fn accept(&mut self) -> Option<Came>
         ensures asks { CountsExactly (asked self.old) (asked self.new) 1 }
         ensures gives { CountsExactly (messages self.old) (messages self.new)
             (messages_in result) };
 }
 
-/// The connections that come in at a port, and at a control socket where there is one: now from the one and now from the other
-/// where both have some.
+/// The connections that come in at a port, and at a control socket where there is one: from each in turn where both have some.
 #[derive(Drop)]
 pub struct Listening<'a> {
     port: &'a TcpListener,
@@ -61,7 +60,7 @@ pub struct Listening<'a> {
 }
 
 impl<'a> Listening<'a> {
-    /// Those of a port. None asked for yet.
+    /// Takes connections from a port. None is asked for yet.
     pub fn new(port: &'a TcpListener) -> Listening<'a> {
         Listening {
             port,
@@ -72,7 +71,7 @@ impl<'a> Listening<'a> {
         }
     }
 
-    /// Those of a port and of a socket, whose accepts wait no more from then on. None asked for yet.
+    /// Takes connections from a port and a socket, whose accepts wait no more from then on. None is asked for yet.
     pub fn with_socket(
         port: &'a TcpListener,
         socket: &'a UnixListener,
@@ -88,7 +87,8 @@ impl<'a> Listening<'a> {
         })
     }
 
-    /// Waits for a connection of either, and accepts it: from the socket, unless that was tried last and the port has one, too.
+    /// Waits for a connection of the port or the socket, and accepts it: from the socket, unless the socket was tried last and
+    /// the port has a connection, too.
     fn accept_either(&mut self, socket: &UnixListener) -> Option<Came>
         ensures asked { self.new.asked ≡ self.old.asked }
         ensures messages { self.new.messages ≡ self.old.messages }
@@ -103,7 +103,7 @@ impl<'a> Listening<'a> {
         }
     }
 
-    /// One accept.
+    /// Accepts one connection.
     fn accept_once(&mut self) -> Option<Came>
         ensures asked { self.new.asked ≡ self.old.asked }
         ensures messages { self.new.messages ≡ self.old.messages }
@@ -114,8 +114,8 @@ impl<'a> Listening<'a> {
         }
     }
 
-    /// The next connection. An accept that failed is tried again after a pause, for a second: the system may have been out of
-    /// descriptors, and then each further one fails at once.
+    /// Gives the next connection. An accept that failed is tried again after a pause, for a second: the system may have been out
+    /// of descriptors, and then each further accept fails at once.
     fn next_came(&mut self) -> Option<Came>
         ensures asked { self.new.asked ≡ self.old.asked }
         ensures messages { self.new.messages ≡ self.old.messages }

@@ -40,7 +40,7 @@ fn told_text(
     }
 }
 
-/// The line for a connection.
+/// Makes the line for a connection.
 fn line_text(
     alloc: Global,
     outcome: Option<Result<Done, EngineFault>>,
@@ -56,7 +56,7 @@ fn line_text(
 }
 
 impl<T: Clock + Copy> Log<T> {
-    /// A log that tells each connection; or, where it is off, none, and then it does not ask the clock.
+    /// Makes a log that tells each connection; one that is off tells none, and does not ask the clock.
     pub fn new(clock: T, is_on: bool) -> Log<T>
         ensures { result.is_on ≡ is_on }
     {
@@ -68,7 +68,7 @@ impl<T: Clock + Copy> Log<T> {
         self.clock
     }
 
-    /// The time, where it is wanted and the clock tells it.
+    /// Answers the time, where the log is on and the clock tells it.
     pub fn start(&self) -> Option<Instant> {
         if self.is_on {
             Instant::now(&self.clock).ok()
@@ -87,7 +87,7 @@ impl<T: Clock + Copy> Log<T> {
         }
     }
 
-    /// Tells a connection.
+    /// Writes the line for a connection.
     pub fn tell<L: Sink>(
         &self,
         alloc: Global,

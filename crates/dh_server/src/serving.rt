@@ -28,8 +28,8 @@ use std::time::Clock;
 /// How many seconds reading and writing may take.
 const MOST_SECONDS: u64 = 60;
 
-/// Answers one request at a moment, in seconds since 1970, and hands on what the sink kept. The count of a `Write` is of bytes that
-/// the sink took, of which it may not have handed on all.
+/// Answers one request at a moment, in seconds since 1970, and hands on what the sink kept. The count of a `Write` is of bytes
+/// that the sink took; it may not have handed on all of them.
 pub fn answer_joined<S: Alter, R: Source, W: Sink>(
     alloc: Global,
     desk: &mut Desk<S>,
@@ -68,7 +68,7 @@ fn reason_of(answered: Result<Done, EngineFault>, came: &Beginning) -> &'static 
     }
 }
 
-/// Answers the request of a connection at a moment, and tells it.
+/// Answers the request of a connection at a moment, and writes its line to the log.
 fn answer_stream<S: Alter, T: Clock + Copy, L: Sink>(
     alloc: Global,
     desk: &mut Desk<S>,
@@ -109,8 +109,8 @@ fn answer_stream<S: Alter, T: Clock + Copy, L: Sink>(
     }
 }
 
-/// Has what comes over a connection of the control socket done and answered, at a moment. What it asks for may take longer than
-/// it may take to come.
+/// Has what comes over a connection of the control socket done and answered, at a moment. Doing it may take longer than it may
+/// take to come.
 fn answer_control<S: Alter, K: Control, T: Clock + Copy>(
     alloc: Global,
     desk: &mut Desk<S>,
@@ -177,10 +177,10 @@ fn serve_next<S: Alter, N: Listen, K: Control, C: FnMut() -> u64, T: Clock + Cop
     }
 }
 
-/// Accepts connections, one after another, and answers one request on each of the port, which the log tells to `errors`; what is
-/// done with those of a control socket is handed in. The clock gives the seconds since 1970. It asks for so many connections, and
-/// for no more once a fault of the store has closed the desk, which is when the reply that tells of it is out. It answers for how
-/// many it asked.
+/// Accepts connections, one after another, and answers one request on each of the port, which the log tells to `errors`;
+/// `control` answers those of a control socket. The clock gives the seconds since 1970. Asks for `count` connections, and for no
+/// more once a fault of the store has closed the desk, when the reply that tells the fault is out. Answers how many it asked
+/// for.
 pub fn serve_on<S: Alter, N: Listen, K: Control, C: FnMut() -> u64, T: Clock + Copy, L: Sink>(
     alloc: Global,
     desk: &mut Desk<S>,

@@ -3,18 +3,18 @@
 use std::io;
 use std::io::{ErrorKind, Read, Write};
 
-/// How often a call is made again.
+/// How often a call that a signal cut is made again.
 const MOST_CUTS: u32 = 1000;
 
-/// A stream whose calls are made again where a signal cut them: a process that is stopped while it waits in a read with a limit
-/// finds that read cut when it goes on.
+/// A stream whose calls are made again where a signal cut them: in a process that is stopped during a read with a limit and goes
+/// on, the read is cut.
 #[derive(Drop)]
 pub struct Steady<S> {
     inner: S,
 }
 
 impl<S> Steady<S> {
-    /// The stream, from here on.
+    /// Makes the stream steady.
     pub fn new(inner: S) -> Steady<S> {
         Steady { inner }
     }

@@ -11,19 +11,19 @@ use std::os::fd::{AsRawFd, RawFd};
 use std::os::unix::net::UnixListener;
 use std::time::{Clock, Duration};
 
-/// How many milliseconds pass behind an accept that failed.
+/// How many milliseconds to wait after an accept that failed.
 const PAUSE: i32 = 50;
 
-/// No limit of a wait.
+/// The limit of a wait that has none.
 const FOREVER: i32 = -1;
 
 /// How many seconds one read or one write may wait.
 const PATIENCE: u64 = 10;
 
-/// How many seconds one read waits whose bytes nobody wants.
+/// How many seconds a read waits whose bytes are thrown away.
 const SHORT_PATIENCE: u64 = 1;
 
-/// For how many seconds such reads begin; so the last of them ends within three.
+/// For how many seconds such reads may begin; so the last of them ends within three seconds.
 const READING_OUT: u64 = 2;
 
 /// How many bytes one such read asks for.
@@ -43,7 +43,7 @@ fn asking(fd: RawFd) -> pollfd {
     }
 }
 
-/// Waits until a port or a socket has a connection, and tells which of them has. Neither where the wait was cut.
+/// Waits until a port or a socket has a connection, and tells which of them has one. Neither where the wait was cut.
 pub fn ready(port: &TcpListener, socket: &UnixListener) -> (bool, bool) {
     let mut asked = [asking(port.as_raw_fd()), asking(socket.as_raw_fd())];
     if poll(&mut asked, FOREVER) < 1 {
@@ -52,19 +52,19 @@ pub fn ready(port: &TcpListener, socket: &UnixListener) -> (bool, bool) {
     (asked[0].revents != 0, asked[1].revents != 0)
 }
 
-/// The next connection of the port.
+/// Accepts the next connection of the port.
 pub fn accept_request(port: &TcpListener) -> Option<Came> {
     let (stream, _) = port.accept().ok()?;
     Some(Came::Request(stream))
 }
 
-/// The next connection of the socket.
+/// Accepts the next connection of the socket.
 pub fn accept_message(socket: &UnixListener) -> Option<Came> {
     let (stream, _) = socket.accept().ok()?;
     Some(Came::Message(stream))
 }
 
-/// A connection whose reads and writes wait for ten seconds at most. One whose limits cannot be set is let go.
+/// Limits the reads and writes of a connection to ten seconds each. A connection whose limits cannot be set is closed.
 pub fn limited(came: Came) -> Option<Came> {
     let patience = Some(Duration::from_secs(PATIENCE));
     match &came {
@@ -81,8 +81,8 @@ pub fn limited(came: Came) -> Option<Came> {
     Some(came)
 }
 
-/// Ends the writing, and reads on until the client is done, or sends nothing for a second, three seconds in all: a stream that is
-/// closed while input waits loses what was written.
+/// Ends the writing, and reads on until the client is done, or sends nothing for a second, three seconds in all. A stream that
+/// is closed while input waits would lose what was written.
 pub fn read_out<T: Clock + Copy>(clock: T, stream: &TcpStream) {
     let patience = Some(Duration::from_secs(SHORT_PATIENCE));
     if stream.shutdown(Shutdown::Write).is_err() || stream.set_read_timeout(patience).is_err() {

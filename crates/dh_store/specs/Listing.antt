@@ -11,7 +11,8 @@ use Rattle.dh_records.specs.Lists.{Lists, placed, put_all, rule_row, redirect_ro
 use Rattle.dh_records.specs.declared.records.RuleRow.{RuleRow}
 use Rattle.dh_records.specs.declared.records.RedirectRow.{RedirectRow}
 
--- what is put among all lists is there, what is there can be put there, and the last counts
+-- one list among all is read by `part` and set by `with`: what is set is read, setting what is read changes nothing, and the
+-- last setting counts
 abbrev pub IsPart : {X : Type 0} → (Lists → List X) → (List X → Lists → Lists) → Type 0
 IsPart part with =
     ((xs : List _) (l : Lists) → part (with xs l) ≡ xs)
@@ -70,20 +71,20 @@ module _ {X V : Type 0} (l : Listing X V) where
   abbrev pub is_own : List ℕ → X → Bool
   is_own host r = bytes_eq (l.host_of r) host
 
-  -- a record in place of the one that stands at its place
+  -- puts a record in place of the one that stands at its place
   abbrev pub put_one : X → Lists → Lists
   put_one x lists = l.with (put key_of x (l.part lists)) lists
 
-  -- the items at their places, in place of what stands there
+  -- puts items of a host at their places, in place of what stands there
   abbrev pub all_put : List ℕ → List V → Lists → Lists
   all_put host vs lists = l.with (put_all key_of (placed (l.row host) 1 vs) (l.part lists)) lists
 
-  -- without the records of a host that stand behind the first so many
+  -- removes the records of a host at places above the count
   abbrev pub without_behind : List ℕ → ℕ → Lists → Lists
   without_behind host count lists =
       l.with (filter (λ r. not (is_own host r && nat_lt count (l.place_of r))) (l.part lists)) lists
 
-  -- these items at the places from 1 on, and none of the host behind them
+  -- puts these items of a host at the places from 1 on, and removes those behind them
   abbrev pub list_set : List ℕ → List V → Lists → Lists
   list_set host vs lists = all_put host vs (without_behind host (length vs) lists)
 

@@ -13,7 +13,7 @@ use Rattle.dh_records.specs.Typed.{AreTyped}
 use Rattle.dh_schema.specs.Tables.{HoldsTables, lists_of}
 use Rattle.dh_schema.proofs.CallLemmas.{Changed}
 
--- Of tables of ours the text asks for those records of a list that pass a test.
+-- The text asks tables of ours for the records of a list that pass a test.
 pub record AsksFor {X : Type 0} (encode : X → Row) (typed : X → Type 0) (part : Lists → List X) (test : X → Bool) (s : State) (sql : List ℕ) (params : Row) : Type 0 where
   pub kept : (l : Lists) → AreTyped l → AllByRecursion typed (part l)
   pub answers : HoldsTables s.now → AnswersWith s sql params (map encode (filter test (part (lists_of s.now))))
@@ -28,7 +28,7 @@ pub record AltersLists (s : State) (sql : List ℕ) (params : Row)
   pub changed : (after : Database) → EditsTo s sql params after → Changed s.now after change
 
 module _ {S : Type 0} (g : Ghosts S) (h : Held S) (sql : List ℕ) (params : Row) where
-  -- It does so to the tables of an honest store.
+  -- The text does so to the tables of an honest store.
   abbrev pub AltersWhereHonest : (Lists → Lists) → Type 0
   AltersWhereHonest change =
       IsHonest g h → HoldsTables (state g h).now → AltersLists (state g h) sql params change

@@ -75,7 +75,7 @@ impl<S: Alter> Tables<S> {
         commit(&mut self.conn)
     }
 
-    /// Goes back to the begin. Outside a transaction it does nothing.
+    /// Undoes what was changed since the begin. Outside a transaction it does nothing.
     pub fn back(&mut self) -> Result<(), Fault>
         ensures { OnlyUndoes S.Store lists_of self.old self.new result }
     {
@@ -100,7 +100,7 @@ impl<S: Alter> Tables<S> {
 }
 
 impl<S: Alter> Tables<S> {
-    /// The tables that stand in the database of a connection, in no transaction and with no limit on a statement's steps.
+    /// Takes the tables that stand in the database of a connection, in no transaction and with no limit on a statement's steps.
     pub fn over(conn: Connection<S>) -> Tables<S>
         requires ours { AreOurs HoldsTables (state S.Store conn) }
         ensures { result ≡ conn }
@@ -110,7 +110,7 @@ impl<S: Alter> Tables<S> {
 }
 
 impl<S: Alter> Tables<S> {
-    /// The connection as it stands.
+    /// Gives back the connection, as it stands.
     pub fn into_conn(self) -> Connection<S>
         ensures { result ≡ self }
     {
@@ -120,7 +120,7 @@ impl<S: Alter> Tables<S> {
 }
 
 impl Tables<MemStore> {
-    /// Tables in memory, with no record.
+    /// Makes the tables in memory, with no record.
     pub fn in_memory(alloc: Global) -> Result<Tables<MemStore>, Fault>
         ensures honest { IfOk result (λ t. IsHonest over_memory t) }
         ensures settled { IfOk result (λ t. t.in_transaction ≡ false) }
@@ -132,13 +132,13 @@ impl Tables<MemStore> {
         let mut conn = Connection::open_in_memory(alloc)?;
         make_tables(&mut conn)?;
         let mut tables = Tables { conn };
-        // A later one takes no memory.
+        // Once the store was asked, asking it again takes no memory.
         tables.ask()?;
         Ok(tables)
     }
 }
 
-/// A number as a place. No list in memory is longer than places count.
+/// Converts a number to a place; `Memory` where the number is too great, which no list in memory reaches.
 fn as_place(number: usize) -> Result<u32, Fault>
     ensures { IfOk result (λ place. place ≡ number) }
 {

@@ -1,4 +1,4 @@
--- How calls on the tables go, one after the other.
+-- What calls on the tables leave, one after the other.
 use Rattle.std.specs.Prelude.{◌≡◌, ◌⊎◌, false, Result, Ok, Err, OnOk, IfErr}
 use Rattle.sqlite_trees.specs.declared.store.Store.{Ghosts}
 use Rattle.sqlite.specs.Held.{Held, state}
@@ -20,7 +20,7 @@ module _ {S : Type 0} (g : Ghosts S) where
   last_records h = committed g lists_of h
 
   module _ (old new : Held S) where
-    -- Calls that were answered.
+    -- What calls that were answered leave.
     pub record NowShowsRecords (next : Lists) : Type 0 where
       -- the store is as honest as it was
       pub live : IsHonest g old → HasCleanDisk (state g new) → IsHonest g new

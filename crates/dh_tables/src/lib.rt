@@ -1,4 +1,4 @@
-//! The records of a documentation host in SQL tables over any store, and how calls on them go, one after the other.
+//! The records of a documentation host in SQL tables over any store, and what calls on them in turn leave.
 #![tactic(auto)]
 
 pub use dh_records::{

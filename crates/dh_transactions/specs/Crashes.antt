@@ -34,8 +34,8 @@ module _ {S : Type 0} (g : Ghosts S) where
         → (db : Trees) → g.recovers new.store db
         → (spelled old db ≡ last_records g old) ⊎ IsAfter command db
 
-    -- The same with no honest store before it: what a crash may leave it could leave before, or
-    -- the store was honest then, and it is what the step leaves.
+    -- What a crash may leave over a command at any store: what it could leave before, or, where the store was honest before,
+    -- what the one step leaves.
     abbrev pub LeavesStep : Command → Type 0
     LeavesStep command =
         HasCleanDisk (state g new)

@@ -11,7 +11,7 @@ use Rattle.dh_world.specs.CheckResults.{IsFault}
 use Rattle.dh_world.specs.World.{Text, Project}
 use Rattle.dh_world.specs.declared.refusal.Refusal.{Refusal}
 
--- The records are consistent, and the host has a project of which this holds.
+-- The records are consistent, and the host has a project that `may` holds of.
 pub record MayChange (host : Text) (may : Project → Type 0) (l : Lists) : Type 0 where
   pub project : Project
   pub found : get (world_of l) host ≡ Some project
@@ -33,9 +33,9 @@ pub record EditsProject {S : Type 0} (g : Ghosts S) {T : Type 0} (old new : Held
     (result : Result T Refusal) (host : Text) (change : Project → Project) : Type 0 where
   -- nothing is committed, and a crash leaves nothing more
   pub goes : MakesNoCommitInside g old new
-  -- those that were made left the store as honest as it was
+  -- where they are answered, the store is as honest as it was
   pub sees : OnOk result (NowShowsRecords g old new (records g new))
-  -- and the project changed so, its stored rows with it
+  -- where they are answered, the project is changed so, and its stored rows with it
   pub made
       : IsHonest g new → OnOk result (ChangesProject host change (records g old) (records g new))
   pub err : IfErr result IsFault

@@ -16,7 +16,7 @@ project_row host x = record {
   new_private = x.settings.new_private;
 }
 
--- its main language stands first
+-- the record of the main language, which stands first
 abbrev pub main_lang : Text → Text → LangRow
 main_lang host lang = record { host = host; lang = lang; place = 1 }
 

@@ -16,7 +16,7 @@ use Rattle.dh_world.specs.declared.answer.Answer.{Answer}
 use Rattle.dh_world.specs.declared.command.Command.{Command}
 use Rattle.dh_world.specs.declared.refusal.Refusal.{Refusal}
 
--- a command whose texts are right, before its commit
+-- what a command whose texts are right makes of the records, before its commit
 abbrev pub TakesTurn : Lists → Lists → Command → Result Answer Refusal → Type 0
 TakesTurn before after c (Ok answer) =
     (turn (world_of before) c ≡ Ok (world_of after, answer)) × AreConsistent after
@@ -24,7 +24,7 @@ TakesTurn before after c (Err e) =
     IsFault e
     ⊎ (PushRefusedAt c.change (get (world_of before) c.host) e ⊎ (turn (world_of before) c ≡ Err e))
 
--- a command in whole, by what is committed
+-- what a whole command makes of the committed records
 abbrev pub TakesStep : Lists → Lists → Command → Result Answer Refusal → Type 0
 TakesStep before after c (Ok answer) =
     (step (world_of before) c ≡ Ok (world_of after, answer)) × AreConsistent after
@@ -39,15 +39,15 @@ IsNotEnded g old new e =
 -- What a command leaves that is done as one transaction.
 pub record IsOneTransaction {S : Type 0} (g : Ghosts S) (old new : Held S) (c : Command)
     (result : Result Answer Refusal) : Type 0 where
-  -- an answer is its one step of what is committed, and a refusal leaves that
+  -- an answered command is its one step of the committed records, and a refused one leaves them
   pub steps : IsHonest g new → TakesStep (last_records g old) (last_records g new) c result
   -- no transaction is open, but after a fault
   pub outside : IsHonest g new → IsOver g new result
   -- a crash leaves what was committed before, or what the step makes of it
   pub crash : LeavesStep g old new c
-  -- and nothing more, where the command was refused without a fault
+  -- where the command was refused without a fault, a crash leaves nothing more
   pub refused : IfErr result (λ e. IsFault e ⊎ LeavesNoMore g old new)
-  -- an answer comes of an honest store alone
+  -- only an honest store answers
   pub live : HasCleanDisk (state g new) → OnOk result (IsHonest g new)
   -- no fault is forgotten, and only one shuts the store
   pub lasts : KeepsFaults g old new

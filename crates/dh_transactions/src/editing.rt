@@ -1,4 +1,4 @@
-//! The edits of a plan, each with the stored rows that it leaves to be made right.
+//! Making the edits of a plan, and the stored rows right after each.
 ghost use Rattle.dh_plans.specs.Edits.{MayEdit, MayEditAll, all_edited, edited};
 ghost use Rattle.dh_tables.specs.Going.{HasRecords, IsWithin};
 ghost use Rattle.dh_transactions.specs.Editing.{EditsProject, MayChange};
@@ -12,7 +12,7 @@ use dh_world::Refusal;
 use sqlite::Alter;
 use std::alloc::Global;
 
-/// Makes one edit, and then the rows right that it left to be made so. Which those are is asked before it.
+/// Makes one edit, and then makes right the stored rows that the edit's renewal covers, which is looked up before the edit.
 fn edit_once<S: Alter>(
     tables: &mut Tables<S>,
     alloc: Global,

@@ -19,7 +19,7 @@ use dh_world::{Answer, Refusal};
 use sqlite::Alter;
 use std::alloc::{AllocError, Global};
 
-/// The record of a project, and its main language.
+/// The record of a project, and the record of its main language.
 fn rows_of(
     alloc: Global,
     host: &HostName,

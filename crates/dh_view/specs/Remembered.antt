@@ -15,28 +15,28 @@ use Rattle.dh_classes.specs.Classes.{class_of}
 abbrev pub project_in : Lists → Option Text → Option Project
 project_in l host = option_and_then (get (world_of l)) host
 
--- whether there is one
+-- there is a project under the host
 abbrev pub has_project : Lists → Option Text → Bool
 has_project l host = is_some (project_in l host)
 
--- the caller sees a version of it with this slug
+-- the caller sees a version of the project with this slug
 abbrev pub sees : Lists → Option Text → Caller → Text → Bool
 sees l host caller slug = option_map_or (λ p. is_visible p caller slug) (project_in l host) false
 
--- the slug, where he does
+-- the slug, where the caller sees a version with it
 abbrev pub slug_in : Lists → Option Text → Caller → Text → Option Text
 slug_in l host caller slug = if sees l host caller slug then Some slug else None
 
--- its languages
+-- the languages of the project
 abbrev pub languages_in : Lists → Option Text → List Text
 languages_in l host = option_map_or (λ p. p.languages) (project_in l host) []
 
--- the pass that the caller shows, or none, is his class in it
+-- in the project under the host the class of the caller is the pass that he shows, or none
 abbrev pub ShowsClass : Lists → Option Text → Caller → Type 0
 ShowsClass l host caller = (p : Project) → project_in l host ≡ Some p → class_of p caller ≡ caller.pass
 
 module _ {S : Type 0} (g : Ghosts S) (h : Held S) (host : Option Text) where
-  -- a project that was found stands
+  -- where a project was found, there is one
   abbrev pub IsKnown : Bool → Type 0
   IsKnown known = known ≡ true → HasRecords g h (λ l. has_project l host ≡ true)
 

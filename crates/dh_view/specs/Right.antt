@@ -15,6 +15,6 @@ pub record IsRightIn (l : Lists) (host : Text) : Type 0 where
   pub places : map (λ r. r.place) (filter (is_redirect_of host) l.redirects) ≡ range_with_len 1 (length (filter (is_redirect_of host) l.redirects))
   pub first : is_some (slice_get (languages_of l host) 0) ≡ has_project l host
 
--- Where the store is honest that holds of the host, where there is one.
+-- Where the store is honest, the stored rows of the host are right, if there is a host.
 abbrev pub IsRightAt : {S : Type 0} → Ghosts S → Held S → Option Text → Type 0
 IsRightAt g h o = (host : Text) → o ≡ Some host → HasRecords g h (λ l. IsRightIn l host)

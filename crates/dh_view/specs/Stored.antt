@@ -30,11 +30,11 @@ abbrev pub is_before_best : ℕ → Option Led → Bool
 is_before_best place None = true
 is_before_best place (Some led) = nat_lt place led.0
 
--- the redirect of a route is asked for: it may be better than the best so far, and has force where it is to have it
+-- the redirect of a route is to be read: it may come before the best so far, and has force where only those with force count
 abbrev pub is_asked : Bool → RouteRow → Option Led → Bool
 is_asked forced x best = (not forced || x.route.force) && is_before_best x.place best
 
--- where it leads is better than the best so far, if it leads anywhere
+-- where the redirect leads, with its place, or else the best so far
 abbrev pub led_or : ℕ → Option Location → Option Led → Option Led
 led_or place at best = option_or (option_map (λ to. (place, to)) at) best
 
@@ -42,7 +42,7 @@ module _ (lead : ℕ → Option Location) (forced : Bool) where
   abbrev pub better : RouteRow → Option Led → Option Led
   better x best = if is_asked forced x best then led_or x.place (lead x.place) best else best
 
-  -- the best of several, and of the best so far: that with the lowest place
+  -- the one with the lowest place of the best so far and of where the redirects of routes lead
   abbrev pub best_of : List RouteRow → Option Led → Option Led
   best_of [] best = best
   best_of (x ∷ xs) best = best_of xs (better x best)
@@ -53,10 +53,10 @@ module _ (l : Lists) (host : Text) (forced : Bool) (asked : Asked) where
   led_at place =
       option_and_then (λ r. result_in forced r.redirect asked) (find (is_redirect_at host place) l.redirects)
 
-  -- the best of those of a segment, and of the best so far
+  -- the best of the best so far and of the redirects whose routes have a segment
   abbrev pub best_in : Text → Option Led → Option Led
   best_in seg best = best_of led_at forced (filter (is_route_in host seg) l.routes) best
 
-  -- the best of those of the path's first segment, and of those of any
+  -- the best of the redirects whose routes have the path's first segment, or may have any
   abbrev pub best_at : Option Led
   best_at = best_in [] (best_in (first_segment asked.path) None)

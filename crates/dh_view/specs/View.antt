@@ -1,4 +1,4 @@
--- What a view of the tables shows, and what looks at them leave.
+-- What a view of the tables shows, and what looks at a view leave.
 use Rattle.std.specs.Prelude.{◌≡◌, ◌⊎◌, ℕ, Bool, ◌&&◌, if◌then◌else◌, List, [], map, filter, Option, None, Result, OnOk, is_some, true, false}
 use Rattle.std.proofs.Common.{inl, inr, ◌∙◌, sym}
 use Rattle.std.proofs.lemmas.Bool.{cases_Bool}
@@ -44,7 +44,7 @@ is_shown grants row = may_see row.version (opens grants row.version.slug)
 abbrev pub OpensAs : List HeldRow → (Text → Bool) → Type 0
 OpensAs grants held = (slug : Text) → opens grants slug ≡ held slug
 
--- of these versions they show those that a caller who holds that may see
+-- of these versions a caller may see the same by the grants as by what `held` says
 abbrev pub ShowsAs : List VersionRow → List HeldRow → (Text → Bool) → Type 0
 ShowsAs rows grants held =
     AllByRecursion (λ r. is_shown grants r ≡ may_see r.version (held r.version.slug)) rows
@@ -53,7 +53,7 @@ ShowsAs rows grants held =
 abbrev pub host_in : Lists → Option Text → Option Text
 host_in l host = if has_project l host then host else None
 
--- the same as the caller sees it
+-- the project under the host, as the caller sees it
 abbrev pub shown_under : Lists → Option Text → Caller → Option SeenProject
 shown_under l host caller = sight.seen (world_of l) host caller
 
@@ -70,7 +70,7 @@ module _ (l : Lists) (host : Text) (class : Option Text) where
   abbrev pub version_in : Text → Option Version
   version_in slug = get (versions_for (project_of l (row_of host)) class) slug
 
-  -- the versions that it sees
+  -- the versions that the class sees
   abbrev pub versions_in : List Version
   versions_in =
       map (λ r. r.version)
@@ -92,7 +92,7 @@ module _ {S : Type 0} (g : Ghosts S) where
   abbrev pub shown : Held S → Option Text → Caller → Option SeenProject
   shown h host caller = shown_under (seen g lists_of h) host caller
 
-  -- The lists are those of before, and a crash leaves nothing that it could not leave before.
+  -- The lists are as before, and a crash leaves nothing that it could not leave before.
   pub record IsUnmoved (old new : Held S) : Type 0 where
     pub same : IsSame g lists_of old new
     pub left : CrashLeaves g lists_of old new (λ w. ⊥)
@@ -115,17 +115,17 @@ module _ {S : Type 0} (g : Ghosts S) where
       pub goes : MakesNoCommit g old new
       -- those that were answered left all as it was, at a store that was honest
       pub same : IsHonest g old → LeavesAllAsItWas g lists_of old new result
-      -- one that was refused did too, or within a transaction undid all since its begin
+      -- one that was refused left all as it was, or undid the transaction
       pub err : RefusalUndoes g lists_of old new result
       -- `Store` is told for a fault of the store alone
       pub told : StoreFaultHasCause g old new result ⊥
 
-    -- What such looks leave, whose answer and the records before stand so to each other.
+    -- What looks in turn leave, and that the fact holds of the records before them and their answer.
     pub record LearnsInTurn (fact : Lists → T → Type 0) : Type 0 where
       pub asks : LooksInTurn
       pub value : AnswersBy g old new result fact
 
-    -- What such looks leave that answer this of the records before.
+    -- What looks in turn leave, and that they answer this value of the records before them.
     abbrev pub ReadsInTurn : (Lists → T) → Type 0
     ReadsInTurn value = LearnsInTurn (λ l read. read ≡ value l)
 
@@ -140,8 +140,8 @@ module _ {S : Type 0} (g : Ghosts S) where
     fails = λ a b. FailsWithCause a.tables.now b.tables.now;
   }
 
-  -- What looks at a view's tables outside a transaction leave, whose answer and the records before
-  -- stand so to each other.
+  -- What looks at a view's tables outside a transaction leave, and that the fact holds of the records before them and their
+  -- answer.
   pub record LooksUp
       {T : Type 0} (old new : View S g) (result : Result T Fault) (fact : Lists → T → Type 0)
       : Type 0 where
@@ -158,7 +158,7 @@ module _ {S : Type 0} (g : Ghosts S) where
   pub looks_none : (h : Held S) → LeavesUnmoved h h
   looks_none h = record { lasts = lasts_none h; unmoved = unmoved_none h }
 
--- what holds over two looks in turn
+-- looks in turn that leave the lists as they were leave them so together
 pub unmoved_on
     : {S : Type 0} {g : Ghosts S} {a b c : Held S}
     → IsUnmoved g a b → IsUnmoved g b c → IsUnmoved g a c
@@ -179,7 +179,7 @@ looks_on p q = record {
 
 -- ---- why looks in turn answer `Store`
 
--- A cause of the last look is one of all.
+-- A cause of the last look is a cause of all of them.
 pub fails_on
     : {S : Type 0} {g : Ghosts S} {a b c : Held S} → LeavesUnmoved g a b → FailsWithCause g b c
     → FailsWithCause g a c

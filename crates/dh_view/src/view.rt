@@ -17,11 +17,10 @@ pub use looking::doubt_is_of_the_store;
 use sqlite::Alter;
 use std::alloc::Global;
 
-/// The project under a host, as a caller sees it. Within a transaction each look answers `Store`.
-/// Outside one a look does so only where the store counted a fault in it or was shut before it.
-/// What a look was told once the tables are not asked again, where there was memory to keep it. What names stand for and
-/// where redirects lead is read from the rows that are derived, which are right. Whether the caller's pass is live is
-/// not asked: he shows one that is, or none.
+/// The project under a host, as a caller sees it. Within a transaction each look answers `Store`. Outside one a look does so
+/// only where the store counted a fault in it or was shut before it. The tables are not asked again for what a look was told,
+/// where there was memory to keep it. What names stand for and where redirects lead is read from the derived rows, which are
+/// right. The view does not ask whether the caller's pass is live: the caller shows one that is, or none.
 #[derive(Drop)]
 pub struct View<'a, S: Alter> {
     tables: &'a mut Tables<S>,
@@ -42,7 +41,8 @@ pub struct View<'a, S: Alter> {
 }
 
 impl<'a, S: Alter> View<'a, S> {
-    /// What the caller sees under the host, who shows his class in its project as his pass; no host has no project.
+    /// Makes the view of a caller under the host, who shows his class in its project as his pass. Without a host there is no
+    /// project.
     pub fn new(
         alloc: Global,
         tables: &'a mut Tables<S>,
@@ -67,7 +67,7 @@ impl<'a, S: Alter> View<'a, S> {
         }
     }
 
-    /// The tables again. A view that is dropped in place of this tells nothing of them.
+    /// Gives back the tables. A view that is dropped in place of this tells nothing of them.
     pub fn close(self) -> &'a mut Tables<S>
         ensures same { result.ghost_name ≡ self.entry.tables.ghost_name }
         ensures now { result.now ≡ self.entry.tables.now }

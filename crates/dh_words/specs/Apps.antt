@@ -7,7 +7,7 @@ use Rattle.clap.specs.declared.builder.action.ArgAction.TheVariants.{SetTrue}
 use Rattle.clap.specs.declared.builder.command.Command.{Command}
 use Rattle.clap.specs.declared.builder.command.Command.TheViews.{out-Command}
 
--- no argument of the command is one of its subcommands' too
+-- the command shares no argument with its subcommands
 abbrev pub HasNoGlobals : Command → Type 0
 HasNoGlobals c = (out-Command c).has_globals ≡ false
 

@@ -10,8 +10,7 @@ use clap::{Arg, ArgAction, Command};
 use std::alloc::{AllocError, Global};
 use std::marker::Model;
 
-/// A command of `clap`, of which no argument is one of its subcommands' too. Contracts see what it
-/// matches.
+/// A command of `clap` that shares no argument with its subcommands. Contracts see what it matches.
 #[derive(Drop)]
 pub struct Syntax<'a> {
     alloc: Global,
@@ -30,8 +29,7 @@ impl<'a> Model for Syntax<'a> {
 }
 
 impl<'a> Syntax<'a> {
-    /// A command of this name with no words of its own. `about` is its line of help, and `example`
-    /// ends its help.
+    /// Makes a command of this name with no words of its own. `about` is its line of help, and `example` ends its help.
     pub fn named(alloc: Global, name: &'a str, about: &'a str, example: &'a str) -> Self
         ensures { result ≡ new_app name.entry.now }
     {
@@ -52,7 +50,7 @@ impl<'a> Syntax<'a> {
         })
     }
 
-    /// `ID`: a word that has to be there.
+    /// Adds `ID`, a word that has to be there.
     pub fn with_word(self, id: &'a str, help: &'a str) -> Result<Self, AllocError>
         ensures { IfOk result (λ new. new ≡ with_rule self.entry (word_rule id.entry.now)) }
     {
@@ -60,7 +58,7 @@ impl<'a> Syntax<'a> {
         self.with_argument(word.help(help))
     }
 
-    /// `--id VALUE`, which may be left out.
+    /// Adds `--id VALUE`, which may be left out.
     pub fn with_option(self, id: &'a str, help: &'a str) -> Result<Self, AllocError>
         ensures { IfOk result (λ new. new ≡ with_rule self.entry (option_rule id.entry.now)) }
     {
@@ -68,7 +66,7 @@ impl<'a> Syntax<'a> {
         self.with_argument(option.help(help))
     }
 
-    /// `--id VALUE`, which has to be there.
+    /// Adds `--id VALUE`, which has to be there.
     pub fn with_required_option(self, id: &'a str, help: &'a str) -> Result<Self, AllocError>
         ensures { IfOk result (λ new.
             new ≡ with_rule self.entry (required_option_rule id.entry.now)) }
@@ -77,7 +75,7 @@ impl<'a> Syntax<'a> {
         self.with_argument(option.help(help))
     }
 
-    /// `--id`, which may be left out.
+    /// Adds `--id`, which may be left out.
     pub fn with_flag(self, id: &'a str, help: &'a str) -> Result<Self, AllocError>
         ensures { IfOk result (λ new. new ≡ with_rule self.entry (flag_rule id.entry.now)) }
     {
@@ -85,7 +83,7 @@ impl<'a> Syntax<'a> {
         self.with_argument(flag.help(help))
     }
 
-    /// The command with one more subcommand.
+    /// Adds a subcommand.
     pub fn with_command(self, sub: Self) -> Result<Self, AllocError>
         ensures { IfOk result (λ new. new ≡ with_subcommand self.entry sub.entry.top) }
     {
@@ -95,8 +93,8 @@ impl<'a> Syntax<'a> {
         })
     }
 
-    /// The command of a whole program: one of its subcommands, of which `help` is none, has to be
-    /// named, and its words come without the program's own name. With no words it tells its help.
+    /// Turns the command into that of a whole program: one of its subcommands has to be named, where `help` is none of them, and
+    /// its words come without the program's own name. With no words it tells its help.
     pub fn as_program(self) -> Self
         ensures { result ≡ program_of self.entry }
     {
@@ -110,7 +108,7 @@ impl<'a> Syntax<'a> {
         }
     }
 
-    /// As `clap` takes it.
+    /// Gives the command to `clap`.
     pub fn into_command(self) -> Command<'a>
         ensures { IsApp self.entry result }
     {

@@ -1,5 +1,4 @@
-//! Commands of `clap` put together, and what their forms match: nothing here knows which commands
-//! there are.
+//! Commands of `clap` put together, and what their forms match. Nothing here knows which commands the program has.
 #![tactic(auto)]
 
 mod building;

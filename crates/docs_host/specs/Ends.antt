@@ -1,5 +1,5 @@
--- How the program ends, by its words. Of a run, `left` is what its source had left, and `held` and
--- `now` are what its sink held before and holds after it; each is `None` where it does not tell that.
+-- How the program ends, by its words. Of a run, `left` is what its source had left, and `held` and `now` are what its sink held
+-- before and holds after it; each is `None` where the source or the sink does not tell that.
 use Rattle.std.specs.Prelude.{◌≡◌, ◌⊎◌, ⊤, ℕ, Bool, true, false, ◌||◌, IsTrue, List, [], ◌∷◌, ◌++◌, drop, codes}
 use Rattle.std.specs.Prelude.{Option, Some, None, Result, Ok, Err}
 use Rattle.std.specs.FinMap.{empty}
@@ -43,29 +43,28 @@ status_after failure.Write = Faulty
 status_after (failure.Script fault) = Faulty
 status_after (failure.Request fault) = Unanswered
 
--- the statuses that a failure alone ends with
+-- the program ends with this status only after a failure
 abbrev pub is_fault : Status → Bool
 is_fault Faulty = true
 is_fault Unanswered = true
 is_fault _ = false
 
--- the status of a run, its own, which is no failure's, or that of its failure, is one of these, and
--- its failure is of these
+-- the status of a run, or of the failure that ended it, is one that `IsEnd` holds of; a failure that ended it is one of `is_of`
 abbrev pub Ended : (Status → Type 0) → (Failure → Bool) → Result Status Failure → Type 0
 Ended IsEnd is_of (Ok status) = IsEnd status × (is_fault status ≡ false)
 Ended IsEnd is_of (Err failure) = IsEnd (status_after failure) × IsTrue (may_fail is_of failure)
 
 -- ---- without a file
 
--- 0: all lines of the script ran, from no project on, and what they print was written; 3: the first
--- so many did, and of what the next one prints a front was written, not all of it; or nothing was
+-- 0: all lines of the script ran, from no project on, and what they print was written; 3: nothing was written, or the first
+-- lines ran, and a front of what the next one prints may be written, too
 abbrev pub EndsScript : ℕ → Option Text → Option Text → Option Text → Status → Type 0
 EndsScript moment left held now Done = (after : World) × RunsScript {T = Status} {E = Status} moment left empty after held now (Ok Done)
 EndsScript moment left held now Faulty =
     (now ≡ held) ⊎ ((after : World) × RunsScript {T = Status} {E = Status} moment left empty after held now (Err Faulty))
 EndsScript moment left held now _ = ⊥
 
--- 0: an answer over the sample, or a 503, was written; 4: not all of it; 3: nothing
+-- 0: an answer over the sample, or a 503, was written; 4: the request got no whole reply; 3: nothing was written
 abbrev pub EndsRequest : ℕ → Option Text → Option Text → Option Text → Status → Type 0
 EndsRequest moment left held now Done =
     (done : Answered) × WritesTold (AnswersSample moment left) held now (engine_told (Ok done))
@@ -76,18 +75,18 @@ EndsRequest moment left held now _ = ⊥
 
 -- ---- which statuses a run can end with
 
--- 0 or 3
+-- a run may end with 0 or 3
 abbrev pub may_end : Status → Bool
 may_end Done = true
 may_end Faulty = true
 may_end _ = false
 
--- a single command or read: 1, too
+-- a single command, read or list may also end with 1
 abbrev pub may_end_single : Status → Bool
 may_end_single Refused = true
 may_end_single status = may_end status
 
--- a request: 4, too
+-- a request may also end with 4
 abbrev pub may_end_request : Status → Bool
 may_end_request Unanswered = true
 may_end_request status = may_end status
@@ -100,7 +99,7 @@ may_end_order _ status = may_end_single status
 
 -- ---- over a file, by this run or by the server that has it
 
--- a read of a bad target is told and refused
+-- a read of a bad target prints `bad target`, and is refused
 abbrev pub EndsBadTarget : Option Text → Option Text → Status → Type 0
 EndsBadTarget held now Refused = Appends held now (codes "bad target" ++ 10 ∷ [])
 EndsBadTarget held now status = status ≡ Faulty
@@ -112,15 +111,15 @@ EndsChecked false order held now status = IsTrue (may_end_order order status)
 abbrev pub EndsOver : Order → Option Text → Option Text → Status → Type 0
 EndsOver order = EndsChecked (has_bad_target order) order
 
--- of what a list orders: its command ended so; a record that writes no redirect was told and refused, or
--- 3; or memory was out, and nothing was written
+-- how an import ended: its command ended so; or the list's bad record was told, and refused, or the run failed; or memory was
+-- out, and nothing was written
 abbrev pub EndsOrdered : Result Order ListFault → Option Text → Option Text → Status → Type 0
 EndsOrdered (Ok order) held now status = EndsOver order held now status
 EndsOrdered (Err (list.BadRecord number fault)) held now status =
     ((status ≡ Refused) × Appends held now (bad_record number ++ 10 ∷ [])) ⊎ (status ≡ Faulty)
 EndsOrdered (Err list.Memory) held now status = (now ≡ held) × (status ≡ Faulty)
 
--- what a list of these bytes orders of a project ended so
+-- how an import of a list of these bytes into a project ended
 abbrev pub EndsList : Text → List ℕ → Option Text → Option Text → Status → Type 0
 EndsList host bytes held now status =
     (ordered : Result Order ListFault) × OrdersImport host bytes ordered
@@ -128,7 +127,7 @@ EndsList host bytes held now status =
 
 -- ---- by the words
 
--- without a file a command, a read, an import and a server are mistakes
+-- without a file, a command, a read, a list, an import and a server are mistakes
 abbrev pub EndsWithoutFile : ℕ → Order → Option Text → Option Text → Option Text → Status → Type 0
 EndsWithoutFile moment order.Script left held now status = EndsScript moment left held now status
 EndsWithoutFile moment order.Answer left held now status = EndsRequest moment left held now status
@@ -141,26 +140,26 @@ abbrev pub EndsBy : ℕ → Option Text → Order → Option Text → Option Tex
 EndsBy moment None order left held now status = EndsWithoutFile moment order left held now status
 EndsBy moment (Some file) order left held now status = EndsOver order held now status
 
--- 0 comes only where `clap` finds that the words ask for help; 2, or 3
+-- 0 comes only where `clap` finds that the words ask for help; else 2 or 3
 abbrev pub EndsHelp : List Text → Status → Type 0
 EndsHelp words Done = IsAmong DisplayHelp (fault_of docs_app words)
 EndsHelp words Usage = ⊤
 EndsHelp words Faulty = ⊤
 EndsHelp words _ = ⊥
 
--- what `clap` tells of words that are no line: help where its error is that, and else a mistake
+-- what is told of words that are no line: help where `clap`'s error is that, and else a mistake
 abbrev pub EndsError : ErrorKind → Result Status Failure → Type 0
 EndsError kind (Ok Done) = kind ≡ DisplayHelp
 EndsError kind (Ok Usage) = ⊤
 EndsError kind (Ok status) = ⊥
 EndsError kind (Err failure) = IsTrue (may_fail is_of_output failure)
 
--- the run of the words' line; of words that are none, help or a mistake
+-- how the run of the words' line ended; for words that are no line, help or a mistake
 abbrev pub EndsLine : ℕ → Option Line → List Text → Option Text → Option Text → Option Text → Status → Type 0
 EndsLine moment None words left held now status = EndsHelp words status
 EndsLine moment (Some line) words left held now status = EndsBy moment line.store line.order left held now status
 
--- 0: the version was written; or 3
+-- 0: the version was written; 3: a failure
 abbrev pub EndsVersion : Option Text → Option Text → Status → Type 0
 EndsVersion held now Done = Appends held now (codes "docs_host 0.1.0" ++ 10 ∷ [])
 EndsVersion held now Faulty = ⊤
@@ -182,14 +181,14 @@ line_asked false words = line_in words
 abbrev pub line_run : List Text → Option Line
 line_run words = line_asked (asks_version words || asks_help words) words
 
--- the first word is `help`, and those behind it with `--help` ask for it; or the words' line ended so,
--- or 3, and nothing was written
+-- the first word is `help`, and the words behind it ask for help as with `--help`; or the words' line ended so; or with 3, and
+-- nothing was written
 abbrev pub EndsAsked : ℕ → Bool → List Text → Option Text → Option Text → Option Text → Status → Type 0
 EndsAsked moment true words left held now status = EndsHelp (drop 1 words ++ codes "--help" ∷ []) status
 EndsAsked moment false words left held now status =
     EndsLine moment (line_in words) words left held now status ⊎ ((now ≡ held) × (status ≡ Faulty))
 
--- the first word is `--version`, which was written, or 3; or the words ended so
+-- the first word is `--version`, and the version was written, or 3; or the words ended so
 abbrev pub EndsFirst : ℕ → Bool → List Text → Option Text → Option Text → Option Text → Status → Type 0
 EndsFirst moment true words left held now status = EndsVersion held now status
 EndsFirst moment false words left held now status = EndsAsked moment (asks_help words) words left held now status

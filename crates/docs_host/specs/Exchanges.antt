@@ -6,7 +6,7 @@ use Rattle.dh_world.specs.World.{Text}
 use Rattle.docs_host.specs.declared.sending.Answer.{Answer}
 use Rattle.docs_host.specs.declared.sending.Silence.{Silence}
 
--- all of a message went out; or the sink failed, and a front of it did
+-- all of a message went out; or the sink failed, and a front of the message went out
 abbrev pub SendsMessage : Option Text → Option Text → Bool → Text → Type 0
 SendsMessage held now false message = Appends held now message
 SendsMessage held now true message = (count : ℕ) × PutsFirst held now message count
@@ -25,7 +25,7 @@ abbrev pub exchange_of : Text → Text → Result Answer Silence → Exchange
 exchange_of file message result =
     record { file = file; message = message; answer = answer_of result }
 
--- there is one more of them, where they are told
+-- there is one more exchange, where exchanges are told
 abbrev pub OneMore : Option (List Exchange) → Option (List Exchange) → Exchange → Type 0
 OneMore None now exchange = ⊤
 OneMore (Some made) now exchange = now ≡ Some (made ++ exchange ∷ [])

@@ -1,4 +1,4 @@
--- Which failures may end a run, by what is ordered: memory may be out in each, and it may fail of these.
+-- Which failures may end a run, by what is ordered. Memory may be out in every run.
 use Rattle.std.specs.Prelude.{◌≡◌, Bool, true, false, IsTrue, Option, Some, None, Result, Ok, Err}
 use Rattle.dh_lines.specs.declared.lines.Line.{Line}
 use Rattle.dh_lines.specs.declared.lines.Order.{Order}
@@ -15,12 +15,12 @@ abbrev pub may_fail : (Failure → Bool) → Failure → Bool
 may_fail is_of Memory = true
 may_fail is_of failure = is_of failure
 
--- it is done, or such a failure ended it
+-- the run is done, or a failure of `is_of`, or of memory, ended it
 abbrev pub IsDoneOr : (Failure → Bool) → Result Status Failure → Type 0
 IsDoneOr is_of (Ok status) = status ≡ Done
 IsDoneOr is_of (Err failure) = IsTrue (may_fail is_of failure)
 
--- ---- of which failures
+-- ---- kinds of failures
 
 abbrev pub is_of_output : Failure → Bool
 is_of_output Write = true
@@ -34,33 +34,33 @@ abbrev pub is_of_request : Failure → Bool
 is_of_request (Request fault) = true
 is_of_request failure = false
 
--- its port, or its control socket
+-- a failure of a server: its port, its control socket, or its output
 abbrev pub is_of_server : Failure → Bool
 is_of_server Bind = true
 is_of_server (Socket fault) = true
 is_of_server failure = is_of_output failure
 
--- the file alone
+-- a failure of making or migrating a file: the file's
 abbrev pub is_of_init : Failure → Bool
 is_of_init (File fault) = true
 is_of_init failure = false
 
--- the file of a list has too many bytes
+-- the failure that the file of a list has too many bytes
 abbrev pub is_too_long : Failure → Bool
 is_too_long (List TooLong) = true
 is_too_long failure = false
 
--- the file of a list alone
+-- a failure of the file of a list
 abbrev pub is_of_list : Failure → Bool
 is_of_list (List fault) = true
 is_of_list failure = false
 
--- a command over a file
+-- a failure of a command over a file: the file's, or the output's
 abbrev pub is_of_command : Failure → Bool
 is_of_command (File fault) = true
 is_of_command failure = is_of_output failure
 
--- over a desk
+-- a failure of an order over a desk
 abbrev pub is_of_order : Order → Failure → Bool
 is_of_order order.Script failure = is_of_script failure
 is_of_order order.Answer failure = is_of_request failure
@@ -68,12 +68,12 @@ is_of_order (order.Serve count port log) failure = is_of_server failure
 is_of_order (order.Import host list) (List fault) = true
 is_of_order order failure = is_of_output failure
 
--- over a file that this run opens
+-- a failure of an order over a file that this run opens
 abbrev pub is_of_opened : Order → Failure → Bool
 is_of_opened order (File fault) = true
 is_of_opened order failure = is_of_order order failure
 
--- what a server is asked for that has the file
+-- the order is one that the server that has a file may be asked for
 abbrev pub may_be_sent : Order → Bool
 may_be_sent (order.Act command) = true
 may_be_sent (order.Get host target pass own) = true
@@ -81,12 +81,12 @@ may_be_sent (order.List word) = true
 may_be_sent order.Script = true
 may_be_sent order = false
 
--- over a file that a server may have
+-- a failure of an order over a file that a server may have
 abbrev pub is_of_sent : Order → Failure → Bool
 is_of_sent order (Control fault) = may_be_sent order
 is_of_sent order failure = is_of_opened order failure
 
--- over a file, which is not opened for a read of a bad target, nor is a server asked
+-- a failure of an order over a file; a read of a bad target opens no file, and asks no server
 abbrev pub is_of_checked : Bool → Order → Failure → Bool
 is_of_checked true order failure = is_of_output failure
 is_of_checked false order failure = is_of_sent order failure
@@ -94,7 +94,7 @@ is_of_checked false order failure = is_of_sent order failure
 abbrev pub is_of_file : Order → Failure → Bool
 is_of_file order = is_of_checked (has_bad_target order) order
 
--- without a file
+-- a failure of an order without a file
 abbrev pub is_of_memory : Order → Failure → Bool
 is_of_memory order.Script Store = true
 is_of_memory order.Script failure = is_of_script failure
@@ -108,7 +108,7 @@ abbrev pub is_of_run : Option Text → Order → Failure → Bool
 is_of_run None = is_of_memory
 is_of_run (Some file) = is_of_file
 
--- of words that are no line, what is told of them may not be written
+-- a failure of a line; for words that are no line, the output's
 abbrev pub is_of_line : Option Line → Failure → Bool
 is_of_line None = is_of_output
 is_of_line (Some line) = is_of_run line.store line.order

@@ -39,7 +39,7 @@ socket_name socket.Taken = codes "Bind"
 socket_name socket.Unbound = codes "Bind"
 socket_name socket.Memory = codes "Memory"
 
--- that of the fault which a server told
+-- `Control`, or the name of the fault that the server told
 abbrev pub control_name : ControlFault → Text
 control_name control.Untold = codes "Control"
 control_name control.OtherVersion = codes "Control"

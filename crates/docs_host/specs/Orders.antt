@@ -42,8 +42,8 @@ single_status false = Done
 abbrev pub import_order : Text → List Redirect → Order
 import_order host list = order.Act (asking host (ImportRedirects list))
 
--- what a list of these bytes orders of a project: the command that adds the redirects that it writes; or
--- what is wrong with it
+-- what an import of a list of these bytes into a project orders: the command that adds the list's redirects; or what is wrong
+-- with the list
 abbrev pub OrdersImport : Text → List ℕ → Result Order ListFault → Type 0
 OrdersImport host bytes (Ok order) =
     (redirects : List Redirect) × ReadsList bytes (Ok redirects)
@@ -63,7 +63,7 @@ pub record RunsSingle (moment : ℕ) (before : World) (order : Order) (after : W
   pub written : Appends held now (text ++ 10 ∷ [])
   pub told : status ≡ single_status refused
 
--- the request was answered, and the answer was written, wholly or in part
+-- the request was answered, and the answer was written, whole or in part
 abbrev pub RunsRequest : ℕ → World → World → Option Text → Option Text → Option Text → Result Status Failure → Type 0
 RunsRequest moment before after left held now (Ok status) =
     (done : Answered) × WritesAnswer (AnswersSource moment left before after) held now (Ok done)
@@ -79,13 +79,13 @@ AnswersOne moment talk before after =
     × AnswersMessage moment talk.left before after talk.held talk.now result
     × (talk.has_failed ≡ writer_failed result)
 
--- so many connections, one after another, each at some moment: of the port, with one request; or of the control socket, with one
--- message
+-- this many connections, one after another, each at some moment: of the port, with one request; or of the control socket, with
+-- one message
 abbrev pub ServesBoth : ℕ → World → World → Type 0
 ServesBoth = ServesInTurn (λ moment. ⊤) AnswersOne
 
--- an order was run: the lines of a script, whole or in part; a request, which was answered, wholly or
--- in part; so many connections, each with one request or one message; or a single command, read or list
+-- an order was run: the lines of a script, whole or in part; a request, which was answered, whole or in part; this many
+-- connections, each with one request or one message; or a single command, read or list
 abbrev pub RunsOrder : ℕ → World → Order → World → Option Text → Option Text → Option Text → Result Status Failure → Type 0
 RunsOrder moment before order.Script after left held now result = RunsScript moment left before after held now result
 RunsOrder moment before order.Answer after left held now result = RunsRequest moment before after left held now result

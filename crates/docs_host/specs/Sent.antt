@@ -25,12 +25,12 @@ use Rattle.docs_host.specs.declared.failure.Status.TheVariants.{Done, Refused}
 
 -- ---- the message
 
--- of a script its lines, and of another order the words that the run was given
+-- the message of an order: the lines of a script, or the words that the run was given
 abbrev pub message_of : List Text → Order → Text → Text
 message_of words order.Script script = script_message script
 message_of words order script = words_message words
 
--- there is none of an order that no server is asked for
+-- the message of an order; none of an order that no server is asked for
 abbrev pub AsksByMessage : List Text → Order → Text → Option Text → Type 0
 AsksByMessage words order script None = may_be_sent order ≡ false
 AsksByMessage words order script (Some message) =
@@ -43,7 +43,7 @@ abbrev pub word_told : Bool → Text → Option Text
 word_told true word = Some word
 word_told false word = None
 
--- what of an answer is printed, and that word; of one that was cut its whole lines are, and it has no such word
+-- what is printed of an answer, and the word of its end; of an answer that was cut, its whole lines and no word
 abbrev pub parts_by : Text → Bool → Option (Text × Text) → Text × Option Text
 parts_by answer is_whole None = (whole_lines answer, None)
 parts_by answer is_whole (Some parts) = (parts.0, word_told is_whole parts.1)
@@ -64,18 +64,18 @@ ends_as order (Some (Ok end.Refused)) = refused_as order
 ends_as order (Some (Ok end.Unknown)) = Err (Control OtherVersion)
 ends_as order (Some (Err fault)) = Err (Control (Met fault))
 
--- by the word that tells it; nobody knows the end where there is no such word, or it tells none
+-- how a run ends by the word of the answer; where there is no word, or it tells no end, nobody knows the end
 abbrev pub EndsTold : Order → Option Text → Result Status Failure → Type 0
 EndsTold order None result = result ≡ ends_as order None
 EndsTold order (Some word) result =
     (told : Option (Result End ScriptFault)) × ReadsEnd word told × (result ≡ ends_as order told)
 
--- what standard output is that takes no more
+-- the failure of standard output that takes no more
 abbrev pub unwritten : Order → Failure
 unwritten order.Script = Script (script.Run run.Write)
 unwritten order = Write
 
--- what is to be printed was, and the run ends as it was told; or standard output took a front of it alone
+-- what is to be printed was, and the run ends as the answer tells; or standard output took only a front of it
 abbrev pub PrintsParts : Order → Text × Option Text → Option Text → Option Text → Result Status Failure → Type 0
 PrintsParts order parts held now result =
     (Appends held now parts.0 × EndsTold order parts.1 result)
@@ -85,7 +85,7 @@ PrintsParts order parts held now result =
 abbrev pub EndsSent : Order → Result Status Failure → Type 0
 EndsSent order = Ended (λ status. IsTrue (may_end_order order status)) (is_of_sent order)
 
--- what came back was printed so; where nobody answered the file is another program's, and nothing was printed
+-- the answer was printed so; where nobody answered, another program has the file, and nothing was printed
 abbrev pub PrintsAnswer : Order → Option (Text × Bool) → Option Text → Option Text → Result Status Failure → Type 0
 PrintsAnswer order None held now result = (result ≡ Err (File Busy)) × (now ≡ held)
 PrintsAnswer order (Some answer) held now result =
@@ -101,7 +101,7 @@ pub record SendsOrder (sent more : Option (List Exchange)) (words : List Text) (
   pub told : OneMore sent more (record { file = file; message = message_of words ordered script; answer = answer })
   pub prints : PrintsAnswer ordered answer held now result
 
--- or no server was asked, and nothing was printed
+-- the order was sent to the server of the file; or no server was asked, and nothing was printed
 abbrev pub AsksServer
     : Option (List Exchange) → Option (List Exchange) → List Text → Order → Text → Option Text → Option Text → Option Text
     → Result Status Failure → Type 0

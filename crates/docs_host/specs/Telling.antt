@@ -15,13 +15,13 @@ use Rattle.docs_host.specs.declared.failure.Status.TheVariants.{Faulty, Unanswer
 
 -- ---- the file that is named beside a failure
 
--- of the records
+-- the file of the records
 abbrev pub file_in : Order → Option Text → Option Text
 file_in (Init file) store = Some file
 file_in (Migrate file) store = Some file
 file_in order store = store
 
--- of the list, where the failure is the list's
+-- the file of the list, where the failure is the list's; else the file of the records
 abbrev pub file_by : Failure → Order → Option Text → Option Text
 file_by (List fault) (Import host list) store = Some list
 file_by failure order store = file_in order store
@@ -29,7 +29,7 @@ file_by failure order store = file_in order store
 abbrev pub file_of : Failure → Line → Option Text
 file_of failure line = file_by failure line.order line.store
 
--- where the failure is a file's
+-- the file, where the failure is of a file
 abbrev pub file_named : Failure → Option Text → Option Text
 file_named (File fault) file = file
 file_named (List fault) file = file
@@ -38,7 +38,7 @@ file_named failure file = None
 
 -- ---- texts
 
--- for programs
+-- the line for programs
 abbrev pub name_text : Failure → Text
 name_text failure = codes "fault " ++ name_of failure ++ 10 ∷ []
 
@@ -46,16 +46,16 @@ abbrev pub file_text : Option Text → Text
 file_text None = []
 file_text (Some file) = file ++ codes ": "
 
--- for people
+-- the line for people
 abbrev pub cause_text : Option Text → Text → Text
 cause_text file cause = codes "docs_host: " ++ file_text file ++ cause ++ 10 ∷ []
 
--- two lines
+-- the line for programs and the line for people
 abbrev pub fault_text : Failure → Option Text → Text → Text
 fault_text failure file cause = name_text failure ++ cause_text (file_named failure file) cause
 
 module _ {S : Type 0} (broken : S → Bool) (held : S → Option Text) where
-  -- some cause, and which file it is of
+  -- the line for people was told, with some cause and the file that it is of
   abbrev pub TellsCause : S → S → Option Text → Type 0
   TellsCause old new file =
       (cause : Text) × WritesUnlessBroken broken held old new (cause_text file cause)
@@ -64,14 +64,14 @@ module _ {S : Type 0} (broken : S → Bool) (held : S → Option Text) where
   TellsFault old new failure file =
       (cause : Text) × WritesUnlessBroken broken held old new (fault_text failure file cause)
 
-  -- last of all a failure was told that ends the program so, and that may end the run of this line
+  -- the last that was told is a failure that ends the program with this status, and that may end the run of this line
   abbrev pub TellsLast : Option Line → S → S → Status → Type 0
   TellsLast line old new status =
       (front : Text) × (failure : Failure) × (cause : Text)
       × (status ≡ status_after failure) × IsTrue (may_fail (is_of_line line) failure)
       × WritesUnlessBroken broken held old new (front ++ fault_text failure (option_and_then (file_of failure) line) cause)
 
-  -- and of another end nothing is said here
+  -- where the program ends as after a failure, the failure was told last; of another end nothing is said
   abbrev pub TellsEnd : Option Line → S → S → Status → Type 0
   TellsEnd line old new Faulty = TellsLast line old new Faulty
   TellsEnd line old new Unanswered = TellsLast line old new Unanswered

@@ -1,4 +1,4 @@
-//! Runs over a file that a server has open: the server does what is ordered, and the run ends as it tells.
+//! Runs over a file that a server has open: the server does what is ordered, and the run ends as the server's answer says.
 
 ghost use Rattle.std.specs.Prelude.{◌≡◌, true, false, map, string_bytes, option_map, IfErr, IfOk, IfSome};
 ghost use Rattle.dh_server.specs.Telling.{TellsSome};
@@ -25,11 +25,11 @@ const MOST_SCRIPT: usize = 1_048_576;
 /// Why a server did not do what it was asked, or may not have.
 #[derive(Clone, Copy, Debug, PartialEq, Eq)]
 pub enum ControlFault {
-    /// It did not tell how it ended.
+    /// The server did not tell how it ended.
     Untold,
-    /// It found no message of its version.
+    /// The server found no message of its version.
     OtherVersion,
-    /// It met a fault.
+    /// The server met a fault.
     Met(ScriptFault),
 }
 
@@ -60,7 +60,7 @@ impl ControlFault {
     }
 }
 
-/// The whole script of the input.
+/// Reads the whole input, as a script.
 fn whole_script<R: Source>(alloc: Global, source: &mut R) -> Result<Vec<u8>, ScriptFault>
     requires { R.broken source.old ≡ false }
     ensures { IfOk result (λ script. IfSome (R.left source.old) (λ input. script.items ≡ input)) }
@@ -72,7 +72,7 @@ fn whole_script<R: Source>(alloc: Global, source: &mut R) -> Result<Vec<u8>, Scr
     Ok(script)
 }
 
-/// The script that goes with an order, which is the whole input; nothing with any other.
+/// Reads the script that goes with an order, which is the whole input; nothing with any other order.
 fn script_for<R: Source>(
     alloc: Global,
     order: &Order,
@@ -89,7 +89,7 @@ fn script_for<R: Source>(
     }
 }
 
-/// The message of an order. None of one that is no server's to do.
+/// Makes the message of an order. None of an order that no server is asked for.
 fn message_for(
     alloc: Global,
     words: &[String],
@@ -113,8 +113,8 @@ fn message_for(
     }
 }
 
-/// What of an answer is printed, and the word that tells its end: none where it was cut, and then its whole lines are printed. One
-/// that did not come to its end tells none, though it looks so.
+/// What is printed of an answer, and the word that tells its end. Where the answer was cut, its whole lines are printed, and
+/// there is no such word; nor is there where the answer was not read to its end.
 fn parts_of(answer: &[u8], is_whole: bool) -> (&[u8], Option<&[u8]>)
     ensures { (result.0.now, option_map (λ word. word.now) result.1)
         ≡ spec.parts_of answer.now is_whole }
@@ -126,7 +126,7 @@ fn parts_of(answer: &[u8], is_whole: bool) -> (&[u8], Option<&[u8]>)
     }
 }
 
-/// How a run of an order ends whose server tells this end.
+/// How a run of an order ends, by the end that its server tells.
 fn ended_as(order: &Order, told: Option<Result<End, ScriptFault>>) -> Result<Status, Failure>
     ensures { result ≡ ends_as order.now told }
 {
@@ -143,7 +143,7 @@ fn ended_as(order: &Order, told: Option<Result<End, ScriptFault>>) -> Result<Sta
     }
 }
 
-/// How a run of an order ends whose answer has this word for its end.
+/// How a run of an order ends, by the word that its answer has for the end.
 fn ended(order: &Order, word: Option<&[u8]>) -> Result<Status, Failure>
     ensures { EndsTold order.now (option_map (λ word. word.now) word.entry) result }
 {
@@ -153,7 +153,7 @@ fn ended(order: &Order, word: Option<&[u8]>) -> Result<Status, Failure>
     }
 }
 
-/// What standard output is when it takes no more.
+/// The failure of standard output that takes no more.
 fn unwritten(order: &Order) -> Failure
     ensures { result ≡ spec.unwritten order.now }
 {
@@ -163,7 +163,7 @@ fn unwritten(order: &Order) -> Failure
     }
 }
 
-/// Prints what an answer says was printed, and ends as it tells.
+/// Prints what an answer has to print, and ends as the answer tells.
 fn tell_answer<W: Sink>(
     order: &Order,
     answer: &[u8],
@@ -197,7 +197,7 @@ fn tell_silence<E: Sink>(silence: Silence, errors: &mut E)
     }
 }
 
-/// Has the server that has a file open do what is ordered. Where nobody answers the file is another program's, and nothing is
+/// Has the server that has a file open do what is ordered. Where nobody answers, another program has the file, and nothing is
 /// done.
 pub fn run_beside<A: Ask, R: Source, W: Sink, E: Sink>(
     alloc: Global,

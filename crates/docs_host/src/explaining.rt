@@ -1,4 +1,4 @@
-//! Why a server refused what it was asked for, by what it printed.
+//! Why a server refused what was asked for, by what it printed.
 
 ghost use Rattle.std.specs.Prelude.{◌≡◌, IfSome};
 ghost use Rattle.dh_server.specs.Telling.{TellsSome};
@@ -13,7 +13,7 @@ use dh_script::Reason;
 use dh_world::Refusal;
 use std::alloc::Global;
 
-/// The refusals that a line which was printed tells. That of a redirect lacks the number of its fault.
+/// The refusals that a printed line names, but for that of a redirect, whose line lacks the number of its fault.
 const REFUSALS: [Refusal; 24] = [
     Refusal::BadHost,
     Refusal::BadLang,
@@ -63,7 +63,7 @@ fn refusal_sentence(name: &str) -> Option<&'static str> {
     }
 }
 
-/// Why what printed this line was refused. None where it was not.
+/// Why the order or line that printed this was refused. None where it was not.
 fn sentence_for(printed: &str) -> Option<&'static str> {
     match printed {
         "bad target" => Some(Reason::BadTarget.sentence()),
@@ -82,7 +82,7 @@ fn has_words(line: &str) -> bool {
     !line.starts_with('#') && line.bytes().any(|byte| byte != b' ' && byte != b'\t')
 }
 
-/// Tells why a line of a script was refused, where it was, by what it printed.
+/// Writes why a line of a script was refused, where it was, by what the line printed.
 fn explain_line<E: Sink>(alloc: Global, number: usize, printed: &str, errors: &mut E)
     ensures { TellsSome E.broken E.held errors.old errors.new }
 {
@@ -91,7 +91,7 @@ fn explain_line<E: Sink>(alloc: Global, number: usize, printed: &str, errors: &m
     }
 }
 
-/// Tells which lines of a script were refused, and why. Each of its lines that has words printed one of these, in turn.
+/// Writes which lines of a script were refused, and why. Each line of the script that has words printed one line, in turn.
 fn explain_script<E: Sink>(alloc: Global, script: &str, printed: &str, errors: &mut E)
     ensures { TellsSome E.broken E.held errors.old errors.new }
 {
@@ -104,7 +104,7 @@ fn explain_script<E: Sink>(alloc: Global, script: &str, printed: &str, errors: &
     }
 }
 
-/// Tells why an order was refused, by the first line that it printed.
+/// Writes why an order was refused, by the first line that it printed.
 fn explain_order<E: Sink>(printed: &str, errors: &mut E)
     ensures { TellsSome E.broken E.held errors.old errors.new }
 {
@@ -113,7 +113,7 @@ fn explain_order<E: Sink>(printed: &str, errors: &mut E)
     }
 }
 
-/// Tells why what a server was asked for was refused: an order that ended so, or lines of a script.
+/// Writes why a server refused what was asked for: a single order, by how the run ended, or lines of a script.
 pub fn explain<E: Sink>(
     alloc: Global,
     order: &Order,

@@ -26,10 +26,9 @@ pub enum Status {
     Done,
     /// A single command was refused, or failed, or its target was bad.
     Refused,
-    /// A mistake in the words.
+    /// The words are no line.
     Usage,
-    /// A fault of a store, a file, a script, a port or an output; or memory was out where no reply and no
-    /// line says so.
+    /// A fault of a store, a file, a script, a port or an output; or memory was out where no reply and no line says so.
     Faulty,
     /// A request got no whole reply.
     Unanswered,
@@ -53,21 +52,21 @@ impl Status {
 /// Why the program ends with a fault.
 #[derive(Clone, Copy, Debug, PartialEq, Eq)]
 pub enum Failure {
-    /// The file of the records.
+    /// A fault of the file of the records.
     File(FileFault),
-    /// The file of a list.
+    /// A fault of the file of a list.
     List(ListFileFault),
-    /// The records in memory.
+    /// A fault of the store of records in memory.
     Store,
     /// Out of memory.
     Memory,
     /// No connection can come in at the port.
     Bind,
-    /// The file's control socket.
+    /// A fault of the file's control socket.
     Socket(SocketFault),
-    /// The server that has the file.
+    /// A fault of the server that has the file.
     Control(ControlFault),
-    /// Standard output.
+    /// Standard output takes no more.
     Write,
     Script(ScriptFault),
     Request(EngineFault),
@@ -82,7 +81,7 @@ impl From<FileFault> for Failure {
 }
 
 impl Failure {
-    /// How the program ends after it.
+    /// How the program ends after this failure.
     pub fn status(self) -> Status
         ensures { result ≡ status_after self }
     {
@@ -223,15 +222,14 @@ impl From<AllocError> for Failure {
     }
 }
 
-/// Writes a text, unless the sink has failed. What standard error does not take is lost: there is nowhere
-/// else to tell it.
+/// Writes a text, unless the sink has failed. What standard error does not take is lost: there is nowhere else to tell it.
 pub fn put<E: Sink>(errors: &mut E, text: &str)
     ensures { WritesUnlessBroken E.broken E.held errors.old errors.new text.now }
 {
     put_or_lose(errors, text.as_bytes());
 }
 
-/// The line that programs read.
+/// Writes the line that programs read.
 fn tell_name<E: Sink>(errors: &mut E, failure: Failure)
     ensures { WritesUnlessBroken E.broken E.held errors.old errors.new (name_text failure) }
 {
@@ -240,7 +238,7 @@ fn tell_name<E: Sink>(errors: &mut E, failure: Failure)
     put(errors, "\n");
 }
 
-/// The file, where the failure is its.
+/// The file, where the failure is of a file.
 fn named_file(failure: Failure, file: Option<&str>) -> Option<&str>
     ensures { option_map (λ name. name.now) result
         ≡ file_named failure (option_map (λ name. name.now) file.entry) }
@@ -251,7 +249,7 @@ fn named_file(failure: Failure, file: Option<&str>) -> Option<&str>
     }
 }
 
-/// The file, where there is one to name.
+/// Writes the file, where there is one to name.
 fn tell_file<E: Sink>(errors: &mut E, file: Option<&str>)
     ensures { WritesUnlessBroken E.broken E.held errors.old errors.new
         (file_text (option_map (λ name. name.now) file.entry)) }
@@ -262,7 +260,7 @@ fn tell_file<E: Sink>(errors: &mut E, file: Option<&str>)
     }
 }
 
-/// What is wrong, and with which file.
+/// Writes what is wrong, and with which file.
 fn tell_cause<E: Sink>(errors: &mut E, failure: Failure, file: Option<&str>)
     ensures { TellsCause E.broken E.held errors.old errors.new
         (file_named failure (option_map (λ name. name.now) file.entry)) }
@@ -273,7 +271,7 @@ fn tell_cause<E: Sink>(errors: &mut E, failure: Failure, file: Option<&str>)
     put(errors, "\n");
 }
 
-/// Tells a fault: its name on the first line, and on the second what is wrong, and with which file.
+/// Writes a fault: its name on the first line, and on the second what is wrong, and with which file.
 pub fn tell<E: Sink>(errors: &mut E, failure: Failure, file: Option<&str>) -> Status
     ensures status { result ≡ status_after failure }
     ensures told { TellsFault E.broken E.held errors.old errors.new failure
@@ -284,7 +282,7 @@ pub fn tell<E: Sink>(errors: &mut E, failure: Failure, file: Option<&str>) -> St
     failure.status()
 }
 
-/// Tells a sentence.
+/// Writes a sentence.
 pub fn tell_sentence<E: Sink>(errors: &mut E, sentence: &str)
     ensures { WritesUnlessBroken E.broken E.held errors.old errors.new
         (codes "docs_host: " ++ sentence.now ++ 10 ∷ []) }
@@ -294,7 +292,7 @@ pub fn tell_sentence<E: Sink>(errors: &mut E, sentence: &str)
     put(errors, "\n");
 }
 
-/// Tells why what was asked for was not done, where it was not.
+/// Writes why an order was not done, where it was not.
 pub fn tell_reason<E: Sink>(errors: &mut E, reason: Option<Reason>)
     ensures { TellsSome E.broken E.held errors.old errors.new }
 {
@@ -303,7 +301,7 @@ pub fn tell_reason<E: Sink>(errors: &mut E, reason: Option<Reason>)
     }
 }
 
-/// Tells why a line of a script was refused, unless memory is out.
+/// Writes why a line of a script was refused, unless memory is out.
 pub fn tell_line<E: Sink>(alloc: Global, errors: &mut E, number: usize, sentence: &str)
     ensures { TellsSome E.broken E.held errors.old errors.new }
 {
@@ -312,7 +310,7 @@ pub fn tell_line<E: Sink>(alloc: Global, errors: &mut E, number: usize, sentence
     }
 }
 
-/// Tells which lines of a script were refused, and why.
+/// Writes which lines of a script were refused, and why.
 pub fn tell_report<E: Sink>(alloc: Global, errors: &mut E, report: &Report)
     ensures { TellsSome E.broken E.held errors.old errors.new }
 {
@@ -321,7 +319,7 @@ pub fn tell_report<E: Sink>(alloc: Global, errors: &mut E, report: &Report)
     }
 }
 
-/// Tells a mistake in the words.
+/// Writes what is wrong with the words.
 pub fn tell_usage<E: Sink>(errors: &mut E, mistake: &str) -> Status
     ensures status { result ≡ Status.Usage }
     ensures told { WritesUnlessBroken E.broken E.held errors.old errors.new

@@ -27,13 +27,13 @@ const MOST_BYTES: usize = 1_048_576;
 /// Why the file of a list was not read.
 #[derive(Clone, Copy, Debug, PartialEq, Eq)]
 pub enum ListFileFault {
-    /// There is none of this name.
+    /// There is no file of this name.
     Missing,
-    /// It may not be read.
+    /// The file may not be read.
     Forbidden,
-    /// It cannot be opened, or a read failed.
+    /// The file cannot be opened, or a read failed.
     Unread,
-    /// It has more than 1,048,576 bytes.
+    /// The file has more than 1,048,576 bytes.
     TooLong,
 }
 
@@ -87,8 +87,8 @@ fn read_failure(stop: Stop) -> Failure
     }
 }
 
-/// All bytes of a source, of which at most 4,096 more are asked for than a list may have: the length that
-/// the system tells of a file is no promise.
+/// Reads all bytes of a source, and asks for at most 4,096 more than a list may have: the length that the system tells of a file
+/// is no promise.
 fn read_whole<R: Source>(alloc: Global, source: &mut R) -> Result<Vec<u8>, Failure>
     requires { R.broken source.old ≡ false }
     ensures fails { IfErr result (λ failure. IsTrue (may_fail is_of_list failure)) }
@@ -111,7 +111,7 @@ fn read_whole<R: Source>(alloc: Global, source: &mut R) -> Result<Vec<u8>, Failu
     }
 }
 
-/// The bytes of a list's file, at most 1,048,576.
+/// Reads the bytes of a list's file, at most 1,048,576.
 pub fn read_list_file(rt: &HostRuntime, path: &str) -> Result<Vec<u8>, Failure>
     ensures { IfErr result (λ failure. IsTrue (may_fail is_of_list failure)) }
 {
@@ -121,7 +121,7 @@ pub fn read_list_file(rt: &HostRuntime, path: &str) -> Result<Vec<u8>, Failure>
     }
 }
 
-/// The command that adds these redirects to those of a project.
+/// Makes the command that adds these redirects to those of a project.
 fn import_order(alloc: Global, host: &Text, list: Redirects) -> Result<Order, AllocError>
     ensures { IfOk result (λ order. order ≡ spec.import_order host.now list) }
 {
@@ -131,7 +131,7 @@ fn import_order(alloc: Global, host: &Text, list: Redirects) -> Result<Order, Al
     }))
 }
 
-/// The command that adds the redirects of a list to those of a project, or the record of it that writes none.
+/// Makes the command that adds the redirects of a list to those of a project, or tells the list's record that writes none.
 pub fn order_in(alloc: Global, host: &Text, bytes: &[u8]) -> Result<Order, ListFault>
     ensures { OrdersImport host.now bytes.now result }
 {
@@ -141,7 +141,7 @@ pub fn order_in(alloc: Global, host: &Text, bytes: &[u8]) -> Result<Order, ListF
     }
 }
 
-/// Says which record of a list writes no redirect, and tells why.
+/// Writes which record of a list writes no redirect, and why.
 pub fn refuse_record<R: Source, W: Sink, E: Sink>(
     alloc: Global,
     list: &str,

@@ -34,7 +34,7 @@ fn words_of<R: Env + AllocGlobal>(rt: &R) -> io::Result<Vec<String>> {
     Ok(words)
 }
 
-/// Tells that there are no words, as memory is out or one is no text.
+/// Writes that the words were not read: memory is out, or one of them is no text.
 fn tell_unread(rt: &HostRuntime, error: &io::Error) -> Status {
     let mut errors = Port::new(rt.stderr());
     if error.kind() == ErrorKind::OutOfMemory {

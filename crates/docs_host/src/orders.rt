@@ -1,4 +1,4 @@
-//! What a line orders, over a desk.
+//! Doing what a line orders, over a desk.
 
 ghost use Rattle.std.specs.Prelude.{◌≡◌, false, [], ◌∷◌, ◌++◌, IfOk, IfErr, OnOk, OnErr, IsTrue};
 ghost use Rattle.std.specs.Io.KnownBytes.{Appends};
@@ -45,7 +45,7 @@ fn status_told(refused: bool) -> Status
     }
 }
 
-/// Does a single command or read, writes what came of it, and tells why it was refused where it was.
+/// Does a single command, read or list, writes its outcome, and tells why it was refused where it was.
 fn run_single<S: Alter, W: Sink, E: Sink>(
     alloc: Global,
     desk: &mut Desk<S>,
@@ -68,7 +68,7 @@ fn run_single<S: Alter, W: Sink, E: Sink>(
     Ok(status_told(printed.refused))
 }
 
-/// Runs a script, and tells then which of its lines were refused.
+/// Runs a script, and then tells which of its lines were refused.
 fn run_reported<S: Alter, R: Source, W: Sink, E: Sink>(
     alloc: Global,
     desk: &mut Desk<S>,
@@ -127,8 +127,8 @@ fn answer_request<S: Alter, R: Source, W: Sink>(
     Ok(Status::Done)
 }
 
-/// Does what is ordered over a desk. `now` is the moment of a read that gives none of its own, in seconds
-/// since 1970; a server asks the clock for each of its connections.
+/// Does what is ordered over a desk. `now` is the moment of a read that gives none of its own, in seconds since 1970; a server
+/// asks the clock for each of its connections.
 pub fn run_order<S: Alter, R: Source, W: Sink, E: Sink>(
     rt: &HostRuntime,
     desk: &mut Desk<S>,

@@ -1,4 +1,4 @@
-//! The program over its words.
+//! What the program does with its words.
 
 ghost use Rattle.std.specs.Prelude.{◌≡◌, true, false, map, drop, string_bytes, option_map, IfOk, IsTrue, MatchOption, Some};
 ghost use Rattle.dh_server.specs.Telling.{TellsSome};
@@ -30,7 +30,7 @@ use dh_script::{Reason, is_bad_target};
 use sqlite::Start;
 use std::alloc::{AllocError, Global};
 
-/// Whether what is ordered is a read whose target is none.
+/// Whether the order is a read whose target cannot be read.
 fn has_bad_target(alloc: Global, order: &Order) -> Result<bool, AllocError>
     ensures { IfOk result (λ bad. bad ≡ spec.has_bad_target order.now) }
 {
@@ -70,7 +70,7 @@ fn run_opened<S: Start, R: Source, W: Sink, E: Sink>(
     Ok(status)
 }
 
-/// Says what an import wants of a file that another program has.
+/// Tells an import of a file that another program has open what it needs.
 fn tell_held<E: Sink>(fault: FileFault, errors: &mut E)
     ensures { TellsSome E.broken E.held errors.old errors.new }
 {
@@ -83,7 +83,7 @@ fn tell_held<E: Sink>(fault: FileFault, errors: &mut E)
     }
 }
 
-/// Imports what is ordered over the records of a file, which no other program may have.
+/// Does an import over the records of a file, which no other program may have open.
 fn run_alone<S: Start, R: Source, W: Sink, E: Sink>(
     rt: &HostRuntime,
     start: S,
@@ -106,7 +106,7 @@ fn run_alone<S: Start, R: Source, W: Sink, E: Sink>(
     }
 }
 
-/// Does what is ordered over the records of a file; where a server has it, that is asked to.
+/// Does what is ordered over the records of a file; where a server has the file, asks that server to do it.
 fn run_over<S: Start, R: Source, W: Sink, E: Sink>(
     rt: &HostRuntime,
     start: S,
@@ -188,8 +188,8 @@ fn migrate<S: Start>(rt: &HostRuntime, start: S, file: &str) -> Result<Status, F
     Ok(Status::Done)
 }
 
-/// Adds the redirects of a list to those of a project, over the records of a file; or says which record of
-/// the list writes none.
+/// Adds the redirects of a list to those of a project, over the records of a file; or tells which record of the list writes
+/// none.
 fn import_list<S: Start, R: Source, W: Sink, E: Sink>(
     rt: &HostRuntime,
     start: S,
@@ -213,8 +213,7 @@ fn import_list<S: Start, R: Source, W: Sink, E: Sink>(
     }
 }
 
-/// Adds the redirects of a list's file to those of a project, over the records of a file, which is opened
-/// once the list is read.
+/// Adds the redirects of a list's file to those of a project, over the records of a file, which is opened once the list is read.
 fn import<S: Start, R: Source, W: Sink, E: Sink>(
     rt: &HostRuntime,
     start: S,
@@ -238,7 +237,7 @@ fn import<S: Start, R: Source, W: Sink, E: Sink>(
     import_list(rt, start, host, read, file, streams, now)
 }
 
-/// Does a line of the program, of which these are the words.
+/// Does the line that these words are.
 fn run_line<S: Start, R: Source, W: Sink, E: Sink>(
     rt: &HostRuntime,
     start: S,
@@ -330,7 +329,7 @@ fn run_told<S: Start, R: Source, W: Sink, E: Sink>(
     }
 }
 
-/// Does what the words ask for, and tells how it ended.
+/// Does what the words ask for, and answers how it ended.
 fn run_words<S: Start, R: Source, W: Sink, E: Sink>(
     rt: &HostRuntime,
     start: S,
@@ -357,7 +356,7 @@ fn run_words<S: Start, R: Source, W: Sink, E: Sink>(
     run_told(rt, start, words, &line, streams, now)
 }
 
-/// The file that is named beside a failure: that of the list, or that of the records.
+/// The file that is named beside a failure: the file of the list, or that of the records.
 fn file_of(line: &Line, failure: Failure) -> Option<&str>
     ensures { option_map (λ file. file.now) result ≡ telling.file_of failure line.now }
 {
@@ -369,7 +368,7 @@ fn file_of(line: &Line, failure: Failure) -> Option<&str>
     }
 }
 
-/// Gives the help that the words ask for, or does what they order.
+/// Writes the help that the words ask for, or does what they order.
 fn run_or_help<S: Start, R: Source, W: Sink, E: Sink>(
     rt: &HostRuntime,
     start: S,
@@ -391,7 +390,7 @@ fn run_or_help<S: Start, R: Source, W: Sink, E: Sink>(
     }
 }
 
-/// Says which version this is, gives the help that the words ask for, or does what they order.
+/// Writes which version of the program this is, or the help that the words ask for, or does what they order.
 fn run_asked<S: Start, R: Source, W: Sink, E: Sink>(
     rt: &HostRuntime,
     start: S,
@@ -411,15 +410,14 @@ fn run_asked<S: Start, R: Source, W: Sink, E: Sink>(
     run_or_help(rt, start, words, streams, now)
 }
 
-/// The whole program over its words, without its own name: its streams are given, and `start` stands for what
-/// the file of the records holds. It gives the exit status: 0 done, 1 a single command was refused or failed,
-/// 2 a mistake in the words, 3 a fault of a store, file, script, port or output, 4 a request without a whole
-/// reply.
+/// Runs the whole program over its words, without its own name. Its streams are given, and `start` stands for what the file of
+/// the records holds. Answers the exit status: 0 done, 1 a single command was refused or failed, 2 a mistake in the words, 3 a
+/// fault of a store, file, script, port or output, 4 a request without a whole reply.
 ///
-/// A command, a read, a list or a script over a file that a server has open is sent to that server, and the run ends as it tells.
-/// Faults are found in this order: the words, the target of a read, the list, the file, the control socket, the port, the
-/// run; where the file is a server's, the script before the file.
-/// `now` is the moment of each read that gives none of its own, in seconds since 1970; a server asks the clock.
+/// A command, a read, a list or a script over a file that a server has open is sent to that server, and the run ends as the
+/// server's answer tells. Faults are found in this order: the words, the target of a read, the list, the file, the control
+/// socket, the port, the run; where the file is a server's, the script before the file. `now` is the moment of each read that
+/// gives none of its own, in seconds since 1970; a server asks the clock.
 pub fn run_program<S: Start, R: Source, W: Sink, E: Sink>(
     rt: &HostRuntime,
     start: S,

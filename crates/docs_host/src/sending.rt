@@ -1,4 +1,4 @@
-//! A message to the server that has a file, and what it answers.
+//! Sending a message to the server that has a file, and reading the answer.
 
 ghost use Rattle.std.specs.Prelude.{◌≡◌, ◌++◌, true, false, List, Option, None, IfSome};
 ghost use Rattle.docs_host.specs.Exchanges.{Exchange, OneMore, SendsMessage, exchange_of};
@@ -16,7 +16,7 @@ const PIECE: usize = 16_384;
 #[derive(Drop)]
 pub struct Answer {
     pub bytes: Vec<u8>,
-    /// Whether they came to their end.
+    /// Whether the bytes came to their end.
     pub is_whole: bool,
 }
 
@@ -25,22 +25,22 @@ pub struct Answer {
 pub enum Silence {
     /// The file can have no control socket: its path would have too many bytes.
     TooLong,
-    /// Nobody listens there.
+    /// Nobody listens at the file's control socket.
     Nobody,
 }
 
 /// What asks the servers that have files.
 pub trait Ask {
-    // What it sent so far and to whom, and what came back, the last one last, where that is told.
+    // The messages that were sent, to which files, and what came back, in order, where that is told.
     ghost sent: { Self → Option (List Exchange) };
 
-    /// Sends a message to the server that has a file, and gives what that answers.
+    /// Sends a message to the server that has a file, and gives its answer.
     fn ask(&mut self, alloc: Global, file: &str, message: &[u8]) -> Result<Answer, Silence>
         ensures { OneMore (sent self.old) (sent self.new)
             (exchange_of file.now message.now result) };
 }
 
-/// Reads on to the end of an answer, and says whether that came.
+/// Reads on to the end of an answer, and tells whether the end came.
 fn read_answer<R: Source>(source: &mut R, answer: &mut Vec<u8>) -> bool
     requires { R.broken source.old ≡ false }
     ensures { result ≡ true → IfSome (R.left source.old)
@@ -61,8 +61,8 @@ fn read_answer<R: Source>(source: &mut R, answer: &mut Vec<u8>) -> bool
     false
 }
 
-/// Sends a message, ends the sending, and gives what is answered. A message that does not go out whole is cut, and a server does
-/// nothing for it; what it says stands in its answer.
+/// Sends a message, ends the sending, and gives the answer. A message that does not go out whole is cut, and a server does
+/// nothing for it; the answer says so.
 fn exchange<W: Sink, R: Source, F: FnOnce()>(
     alloc: Global,
     message: &[u8],
@@ -84,7 +84,7 @@ fn exchange<W: Sink, R: Source, F: FnOnce()>(
     Answer { bytes, is_whole }
 }
 
-/// What asks servers through the control sockets of their files.
+/// Asks servers through the control sockets of their files.
 #[derive(Drop)]
 pub struct Sockets<'a> {
     pub rt: &'a HostRuntime,

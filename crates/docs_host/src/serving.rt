@@ -1,4 +1,4 @@
-//! The server.
+//! Serving a file.
 
 ghost use Rattle.std.specs.Prelude.{◌≡◌, ◌≤◌, ◌-◌, true, false, unwrap_or, IfErr, IfOk, OnOk, OnErr, IsTrue, MatchOption, Some};
 ghost use Rattle.dh_http.specs.Desk.{WorldGoesBy};
@@ -24,14 +24,14 @@ use std::io;
 use std::net::{SocketAddr, TcpListener};
 use std::os::unix::net::UnixListener;
 
-/// What a fault of the store left to serve, over the same port and socket.
+/// What was left to serve when the store failed, over the same port and socket.
 #[derive(Drop)]
 pub struct Rest {
     listener: TcpListener,
     socket: Option<UnixListener>,
     /// How many connections are still to be answered.
     count: u32,
-    /// Whether each is told.
+    /// Whether the log tells each connection.
     log: bool,
 }
 
@@ -40,11 +40,11 @@ pub struct Rest {
 pub struct Served<'a> {
     pub file: &'a str,
     pub projects: i64,
-    /// What a fault of the store left to serve.
+    /// What was left to serve when the store failed.
     pub rest: Option<Rest>,
 }
 
-/// Says which file is served, unless memory is out.
+/// Tells which file is served, unless memory is out.
 fn tell_served<E: Sink>(alloc: Global, file: &str, projects: i64, errors: &mut E)
     ensures { TellsSome E.broken E.held errors.old errors.new }
 {
@@ -53,7 +53,7 @@ fn tell_served<E: Sink>(alloc: Global, file: &str, projects: i64, errors: &mut E
     }
 }
 
-/// Binds a port of this machine, any free one for 0, and says which.
+/// Binds a port of this machine, any free one for 0, and tells which.
 fn bind<W: Sink>(rt: &HostRuntime, port: u16, sink: &mut W) -> Result<TcpListener, Failure>
     requires { W.broken sink.old ≡ false }
     ensures { IfErr result (λ failure. IsTrue (may_fail is_of_server failure)) }
@@ -71,7 +71,7 @@ fn bind<W: Sink>(rt: &HostRuntime, port: u16, sink: &mut W) -> Result<TcpListene
     Ok(listener)
 }
 
-/// Says that a file is opened again, unless memory is out.
+/// Tells that a file is opened again, unless memory is out.
 fn tell_again<E: Sink>(alloc: Global, file: &str, errors: &mut E)
     ensures { TellsSome E.broken E.held errors.old errors.new }
 {
@@ -80,10 +80,10 @@ fn tell_again<E: Sink>(alloc: Global, file: &str, errors: &mut E)
     }
 }
 
-/// What comes in at the control socket: messages.
+/// Answers what comes in at the control socket: messages.
 #[derive(Drop)]
 struct Messages {
-    /// How many came; it stays at 2^64 - 1.
+    /// How many messages came; the count stays at 2^64 - 1.
     count: u64,
 }
 
@@ -101,12 +101,12 @@ impl Control for Messages {
         now: u64,
     ) {
         self.count = self.count.saturating_add(1);
-        // What came of it is told to the client, where it is there to be told.
+        // The result is told to the client, if it is still there.
         let _ = answer_message(alloc, desk, source, sink, now);
     }
 }
 
-/// Answers so many connections over a desk. Where a fault of the store closes it, it answers how many are left.
+/// Answers `count` connections over a desk. Where a fault of the store closes the desk, gives how many are left.
 fn serve_desk<S: Alter, N: Listen, E: Sink>(
     rt: &HostRuntime,
     desk: &mut Desk<S>,
@@ -141,7 +141,7 @@ fn serve_desk<S: Alter, N: Listen, E: Sink>(
     None
 }
 
-/// What comes in at a port, and at a control socket where there is one.
+/// Takes connections from a port, and from a control socket where there is one.
 fn listening_at<'a>(
     port: &'a TcpListener,
     socket: Option<&'a UnixListener>,
@@ -152,8 +152,8 @@ fn listening_at<'a>(
     }
 }
 
-/// Answers so many connections at a port and at a socket. Where a fault of the store closes the desk, what is left of
-/// them is for `serve_rest`.
+/// Answers `count` connections at a port and at a socket. Where a fault of the store closes the desk, those that are left are
+/// for `serve_rest`.
 fn serve_at<S: Alter, R: Source, W: Sink, E: Sink>(
     rt: &HostRuntime,
     desk: &mut Desk<S>,
@@ -198,7 +198,7 @@ fn serve_at<S: Alter, R: Source, W: Sink, E: Sink>(
     Ok(Status::Done)
 }
 
-/// Says that a file is served without a control socket, unless memory is out.
+/// Tells that a file is served without a control socket, unless memory is out.
 fn tell_without_socket<E: Sink>(alloc: Global, file: &str, errors: &mut E)
     ensures { TellsSome E.broken E.held errors.old errors.new }
 {
@@ -209,7 +209,7 @@ fn tell_without_socket<E: Sink>(alloc: Global, file: &str, errors: &mut E)
     }
 }
 
-/// Makes the control socket of a file, or says that it has none.
+/// Makes the control socket of a file, or tells that the file has none.
 fn open_socket<E: Sink>(
     rt: &HostRuntime,
     file: &str,
@@ -224,9 +224,9 @@ fn open_socket<E: Sink>(
     Ok(socket)
 }
 
-/// Answers so many connections: of a port, one request each, which the log tells to standard error; and of the control
-/// socket beside the file, where it may have one, one message each. Where a fault of the store closes the desk, what is left of them is for
-/// `serve_rest`, and the socket stays; else it is removed.
+/// Answers `count` connections: of a port, one request each, which the log tells to standard error; and of the control socket
+/// beside the file, where the file may have one, one message each. Where a fault of the store closes the desk, the connections
+/// that are left are for `serve_rest`, and the socket stays; else the socket is removed.
 pub fn serve<S: Alter, R: Source, W: Sink, E: Sink>(
     rt: &HostRuntime,
     desk: &mut Desk<S>,
@@ -259,9 +259,9 @@ fn remove_at_end(rt: &HostRuntime, file: &str, left: Option<u32>) {
     }
 }
 
-/// Opens a file again whose store has failed, and answers so many connections over it. Where the store fails once
-/// more it answers how many are left, and the control socket stays; else that is removed. It stays, too, where the file
-/// does not open: another program may have it by now, and the socket may be that one's.
+/// Opens a file again whose store has failed, and answers `count` connections over it. Where the store fails once more, gives
+/// how many are left, and the control socket stays; else the socket is removed. The socket also stays where the file does not
+/// open: another program may have the file by then, and the socket may be that program's.
 fn serve_again<N: Listen, E: Sink>(
     rt: &HostRuntime,
     file: &str,
@@ -289,8 +289,8 @@ fn serve_again<N: Listen, E: Sink>(
     Ok(left)
 }
 
-/// Answers so many connections over a file whose store has failed: it is opened again, and once more where its
-/// store fails again. It is done when all were asked for, over a file that was opened and has not failed since.
+/// Answers `count` connections over a file whose store has failed: the file is opened again, and once more each time its store
+/// fails. The run is done when all connections were asked for, over a file that was opened and has not failed since.
 fn serve_left<N: Listen, E: Sink>(
     rt: &HostRuntime,
     file: &str,
@@ -315,7 +315,7 @@ fn serve_left<N: Listen, E: Sink>(
     Err(Failure::File(FileFault::Failed))
 }
 
-/// Answers what a fault of the store left to answer, over the file, which is opened again. Clients of both kinds wait
+/// Answers what was left to serve when the store failed, over the file, which is opened again. Clients of both kinds wait
 /// meanwhile.
 pub fn serve_rest<E: Sink>(
     rt: &HostRuntime,
@@ -326,7 +326,7 @@ pub fn serve_rest<E: Sink>(
     ensures ends { IsDoneOr is_of_init result }
     ensures tells { TellsSome E.broken E.held errors.old errors.new }
 {
-    // (both were made so before, and stay so)
+    // (the port and the socket were made so before, and stay so)
     let Ok(mut listening) = listening_at(&rest.listener, rest.socket.as_ref()) else {
         return Err(Failure::File(FileFault::Failed));
     };

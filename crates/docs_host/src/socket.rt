@@ -17,15 +17,15 @@ const MOST_BYTES: usize = 107;
 /// Who may connect: the owner.
 const MODE: u32 = 0o600;
 
-/// How many connections are let go that came before the file was closed to others.
+/// How many connections are dropped that came before the socket was closed to others.
 const MOST_EARLY: u32 = 4096;
 
-/// Why a file has no control socket that should have one.
+/// Why the control socket of a file could not be made.
 #[derive(Clone, Copy, Debug, PartialEq, Eq)]
 pub enum SocketFault {
-    /// Something else stands there.
+    /// Something else stands at the socket's path.
     Taken,
-    /// The system makes none there.
+    /// The system makes no socket at the path.
     Unbound,
     /// Out of memory.
     Memory,
@@ -71,8 +71,8 @@ impl From<io::Error> for SocketFault {
     }
 }
 
-/// Where the control socket of a file of records stands: beside it, by the name by which the file is given. None where that path
-/// has too many bytes for a socket.
+/// The path of the control socket of a file of records: beside the file, by the name by which the file is given. None where that
+/// path has too many bytes for a socket.
 fn socket_path(alloc: Global, file: &str) -> Result<Option<String>, AllocError> {
     let path = format!(in alloc; "{file}.control")?;
     if path.len() > MOST_BYTES {
@@ -81,7 +81,7 @@ fn socket_path(alloc: Global, file: &str) -> Result<Option<String>, AllocError> 
     Ok(Some(path))
 }
 
-/// Removes a socket: this program's own, or that of a server that was killed, since one that runs has the file open.
+/// Removes a socket: this program's own, or that of a server that was killed, since a server that runs has the file open.
 /// Anything else stays.
 fn clear(rt: &HostRuntime, path: &str) -> Result<(), SocketFault> {
     match fs::symlink_metadata(rt, path) {
@@ -99,7 +99,7 @@ fn clear(rt: &HostRuntime, path: &str) -> Result<(), SocketFault> {
     }
 }
 
-/// Lets go what has connected so far: it may have come before the file was closed to others.
+/// Drops the connections so far: they may have come before the socket was closed to others.
 fn let_go(listener: &UnixListener) -> Result<(), SocketFault> {
     listener.set_nonblocking(true)?;
     for _ in 0..MOST_EARLY {
@@ -124,8 +124,8 @@ fn close_to_others(
     let_go(listener)
 }
 
-/// Makes the control socket of a file that this program has open, for its owner alone. Its accepts do not wait. None where its path
-/// would have too many bytes.
+/// Makes the control socket of a file that this program has open, for its owner alone. Accepts at the socket do not wait. None
+/// where its path would have too many bytes.
 pub fn bind_socket(rt: &HostRuntime, file: &str) -> Result<Option<UnixListener>, SocketFault> {
     let Some(path) = socket_path(rt.alloc(), file)? else {
         return Ok(None);
@@ -141,14 +141,15 @@ pub fn bind_socket(rt: &HostRuntime, file: &str) -> Result<Option<UnixListener>,
     }
 }
 
-/// Removes the control socket of a file that this program has open. One that stays is taken for that of a server that was killed.
+/// Removes the control socket of a file that this program has open. A socket that stays is taken for that of a server that was
+/// killed.
 pub fn remove_socket(rt: &HostRuntime, file: &str) {
     if let Ok(Some(path)) = socket_path(rt.alloc(), file) {
         let _ = clear(rt, path.as_str());
     }
 }
 
-/// A connection to the server that has a file open.
+/// Connects to the server that has a file open.
 pub fn connect_socket(rt: &HostRuntime, file: &str) -> Result<UnixStream, Silence> {
     match socket_path(rt.alloc(), file) {
         Ok(Some(path)) => match UnixStream::connect(rt, path.as_str()) {

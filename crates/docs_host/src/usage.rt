@@ -14,7 +14,7 @@ use dh_lines::{docs_command, reads};
 use dh_ports::{Sink, put_all};
 use std::alloc::{AllocError, Global};
 
-/// The words of lines that may have some values alone, and which.
+/// The words that may have only some values, and these values.
 const LIMITED: [(&str, &str); 11] = [
     ("privacy", "public or private"),
     ("kind", "branch or tag"),
@@ -52,7 +52,7 @@ fn tell_limit<E: Sink>(alloc: Global, id: &str, value: &str, values: &str, error
     put(errors, "\n");
 }
 
-/// Tells of each limited word that has another value what it may be.
+/// Tells of each limited word with another value what it may be.
 fn tell_limits<E: Sink>(alloc: Global, matches: &ArgMatches<'_>, errors: &mut E) {
     for (id, values) in &LIMITED {
         if let Some(value) = matches.get_str(*id) {
@@ -61,8 +61,7 @@ fn tell_limits<E: Sink>(alloc: Global, matches: &ArgMatches<'_>, errors: &mut E)
     }
 }
 
-/// Tells what is wrong with words that `clap` takes and that are no line: a word that may have some values
-/// alone has another.
+/// Tells what is wrong with words that `clap` takes and that are no line: a limited word has a value that it may not have.
 fn tell_values<E: Sink>(alloc: Global, matches: &ArgMatches<'_>, errors: &mut E) -> Status
     ensures { result ≡ Status.Usage }
 {
@@ -81,7 +80,7 @@ fn tell_values<E: Sink>(alloc: Global, matches: &ArgMatches<'_>, errors: &mut E)
     }
 }
 
-/// A text of `clap`, whose line on usage begins with the program's own name, too, where a command is meant.
+/// Adds the program's own name to the line on usage in a text of `clap`, where a command is meant.
 fn with_program_name(alloc: Global, text: String) -> Result<String, AllocError> {
     match text.as_str().split_once("\nUsage: ") {
         Some((front, usage)) if !usage.starts_with("docs_host") => {
@@ -117,7 +116,7 @@ fn tell_error<W: Sink, E: Sink>(
     }
 }
 
-/// What `clap` says of the words.
+/// Writes what `clap` tells of the words.
 fn tell_words<W: Sink, E: Sink>(
     alloc: Global,
     words: &[String],
@@ -164,7 +163,7 @@ fn write_help<W: Sink, E: Sink>(
     tell_words(alloc, words.as_slice(), sink, errors)
 }
 
-/// The status of a run that writes help, whose failure is told.
+/// The status of a run that writes help, and tells the failure that ended it.
 fn ended<E: Sink>(run: Result<Status, Failure>, errors: &mut E) -> Status
     requires { Ended (λ status. ⊤) is_of_output run }
     ensures ends { Ended (λ status. result ≡ status) is_of_output run }
@@ -206,7 +205,7 @@ pub fn tell_mistake<W: Sink, E: Sink>(
     ended(told, errors)
 }
 
-/// Writes which version of the program this is. Of the commit that it was built from it knows nothing.
+/// Writes which version of the program this is. The program does not know the commit that it was built from.
 fn write_version<W: Sink>(sink: &mut W) -> Result<Status, Failure>
     requires { W.broken sink.old ≡ false }
     ensures ends { Ended (EndsVersion (W.held sink.old) (W.held sink.new)) is_of_output result }

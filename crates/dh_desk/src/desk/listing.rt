@@ -41,8 +41,8 @@ fn is_unlisted_in(answer: &Found<Text>) -> bool
 }
 
 impl<S: Alter> Desk<S> {
-    /// What a list word prints, without the end of its last line; none, where there is no project. After a fault of
-    /// the store the desk answers it to each call.
+    /// Answers what a list word prints, without the end of its last line; none, where there is no project. After a fault of the
+    /// store the desk answers `Store` to each call.
     pub fn list(&mut self, alloc: Global, word: &ListWord) -> Found<Text>
         ensures value { IsHonest S.Store self.new.tables
             → IfOk result (λ text. text ≡ listing_text (world S.Store self.old) word.now) }

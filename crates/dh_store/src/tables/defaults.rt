@@ -16,7 +16,7 @@ use dh_records::PickRow;
 use sqlite::{Alter, params};
 use std::alloc::Global;
 
-/// The rank as SQL counts. No list in memory is longer.
+/// Converts a rank to a number of SQL; `Memory` where the rank is too great, which no list in memory reaches.
 fn signed(rank: u64) -> Result<i64, Fault>
     ensures { IfOk result (λ n. n ≡ pos rank) }
 {

@@ -15,7 +15,7 @@ use sqlite::{Alter, params};
 use std::alloc::Global;
 
 impl<S: Alter> Tables<S> {
-    /// What a name of a project stands for, to the callers with this pass, or with none where it is ''.
+    /// Reads what a name of a project stands for, to the callers with this pass, or to those with none where it is ''.
     pub fn alias(
         &mut self,
         alloc: Global,
@@ -34,7 +34,7 @@ impl<S: Alter> Tables<S> {
         )
     }
 
-    /// What the names of a project stand for, to each class of callers.
+    /// Reads what the names of a project stand for, to each class of callers.
     pub fn aliases(&mut self, alloc: Global, host: &HostName) -> Result<Vec<AliasRow>, Fault>
         ensures { ReadsAll S.Store self.old self.new result
             (λ l. filter (spec.is_alias_of host.now) l.aliases) }
@@ -53,7 +53,7 @@ impl<S: Alter> Tables<S> {
         self.write(sql, &row.values())
     }
 
-    /// Removes what a name stands for, to the callers with this pass, or with none where it is ''.
+    /// Removes what a name stands for, to the callers with this pass, or to those with none where it is ''.
     pub fn drop_alias(&mut self, host: &HostName, class: &str, name: AliasName) -> Result<(), Fault>
         ensures writes { ChangesLists S.Store self.old self.new result
             (change.drop_alias host.now class.now name) }
@@ -98,7 +98,7 @@ impl<S: Alter> Tables<S> {
         )
     }
 
-    /// That routes stand in the order of their keys. It does nothing.
+    /// States that routes stand in the order of their keys; does nothing.
     pub fn show_order(&self)
         ensures { HasRecords S.Store self.now (λ l. InOrder coding.routes.key l.routes) }
     {

@@ -36,7 +36,7 @@ impl<S: Alter> Tables<S> {
     pub fn grant(&mut self, row: &HeldRow) -> Result<(), Fault>
         ensures writes { ChangesLists S.Store self.old self.new result (change.grant row.now) }
     {
-        // The proof learns by it that what is seen outside a transaction is committed.
+        // This borrow shows the proof that what is seen outside a transaction is committed.
         let _ = &self.conn;
         match self.held(&row.host, &row.pass, &row.slug) {
             Ok(true) => Ok(()),

@@ -1,4 +1,4 @@
-//! How a list of a project is read, and set as a whole, whichever it is.
+//! How any list of a project is read, and how some are set as a whole.
 
 ghost use Rattle.std.specs.Prelude.{◌≡◌, ◌↔◌, ℕ, Bool, List, map, filter, slice_get, IfOk, IsSomeAnd, IsTrue};
 ghost use Rattle.dh_schema.specs.Calling.{HasRecords, IsWithin, ReadsAll, ChangesLists, ChangesListsInside};
@@ -36,7 +36,7 @@ pub trait Listed: Record {
         ensures { ReadsAll S.Store tables.old tables.new result
             (λ l. filter (is_of host.now) (all l)) };
 
-    /// The item that it holds.
+    /// Gives the item that the record holds.
     fn into_item(self) -> Self::Item
         ensures { result ≡ item self };
 }
@@ -93,10 +93,10 @@ pub(crate) trait Placed: Listed {
     ghost is_list: { (host : List ℕ) (l : Lists) → filter (Self.is_of host) (Self.all l)
         ≡ filter (spec.is_own listing host) (listing.part l) };
 
-    // and so is what they hold;
+    // the item of a record is that of the list;
     ghost is_item: { (r : Self) → Self.item r ≡ listing.value_of r };
 
-    // they stand in order.
+    // the records of the list stand in order.
     ghost ordered: { (l : Lists) → AreInOrder l → InOrder (spec.key_of listing) (listing.part l) };
 }
 
@@ -111,7 +111,7 @@ fn stands_at<R: Placed>(rows: &[R], index: usize, place: u32, item: &R::Item) ->
     }
 }
 
-/// Puts items at their places, but for those that stand there. These are the records of the project.
+/// Puts items at their places, but for those that stand there: `rows` are the records of the project.
 fn put_others<S: Alter, R: Placed>(
     tables: &mut Tables<S>,
     alloc: Global,
@@ -125,7 +125,7 @@ fn put_others<S: Alter, R: Placed>(
     ensures writes { ChangesListsInside S.Store tables.old tables.new result
         (spec.all_put R.listing host.now items.now) }
 {
-    // The proof learns by it that the records stand in order.
+    // This borrow shows the proof that the records stand in order.
     let _ = &tables.conn;
     for (i, item) in items.iter().enumerate() {
         let place = as_place(i + 1)?;

@@ -182,7 +182,7 @@ impl Placed for RuleRow {
     ghost ordered = { λ l order. order.rules };
 }
 
-/// That a status fits 16 bits, as its type says. It does nothing.
+/// States that a status fits 16 bits, as its type says; does nothing.
 fn show_status(status: u16)
     ensures { status < 2 ^ 16 }
 {

@@ -16,7 +16,7 @@ use dh_world::{Answer, Operation};
 use sqlite::{Alter, params};
 use std::alloc::Global;
 
-/// That the slug of an answer is one, and its count fits, as their types say. It does nothing.
+/// States that the slug of an answer is one, and its count fits, as their types say; does nothing.
 fn show_parts(answer: &Answer)
     ensures { IsAnswer answer.now }
 {
@@ -47,7 +47,7 @@ impl<S: Alter> Tables<S> {
             (λ l o. (o ≡ find (spec.is_used host.now slug.now op retry.now) l.used)
             × IfSome o (λ row. TellsAnswer row.answer)) }
     {
-        // The proof learns by it that a kept text is an answer's.
+        // This borrow shows the proof that a kept text is an answer's.
         let _ = &self.conn;
         self.first_record(
             alloc,

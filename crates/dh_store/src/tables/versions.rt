@@ -20,7 +20,7 @@ impl<S: Alter> Tables<S> {
             (λ l o. (o.items ≡ filter (spec.is_version_of host.now) l.versions)
             × RiseBySlug o.items) }
     {
-        // The proof learns by it that the records stand in order.
+        // This borrow shows the proof that the records stand in order.
         let _ = &self.conn;
         self.all_records(
             alloc,

@@ -1,4 +1,4 @@
-//! The calls on tables of all hosts: what is read of them whole, and derived records removed.
+//! The calls on tables of all hosts: reading a table whole, and removing all derived records of a kind.
 
 ghost use Rattle.sqlite.specs.Held.{state};
 ghost use Rattle.dh_rows.specs.Calls.{AreOurs};
@@ -13,7 +13,7 @@ use sqlite::Alter;
 use std::alloc::Global;
 
 impl<S: Alter> Tables<S> {
-    /// That they are ours. It does nothing.
+    /// States that the tables are ours; does nothing.
     pub fn show_ours(&self)
         ensures { AreOurs HoldsTables (state S.Store self.now) }
     {

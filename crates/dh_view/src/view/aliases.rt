@@ -13,7 +13,7 @@ use dh_store::Tables;
 use sqlite::Alter;
 use std::alloc::{AllocError, Global};
 
-/// The text of a class: its pass, or the empty one.
+/// The text of a class: its pass, or '' for callers with none.
 pub fn class_text(class: &Option<Token>) -> &str
     ensures { class_in result.now ≡ class.now }
 {
@@ -42,7 +42,7 @@ pub fn as_text(alloc: Global, name: Option<Slug>) -> Result<Option<Text>, AllocE
 }
 
 impl HostView<'_> {
-    /// What the row of a class and a name says.
+    /// Reads what the row of a class and a name says.
     pub fn kept<S: Alter>(
         &self,
         tables: &mut Tables<S>,

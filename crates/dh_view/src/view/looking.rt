@@ -25,7 +25,7 @@ use std::alloc::{AllocError, Global};
 
 // ---- the project
 
-/// Whether there is one.
+/// Whether there is a first language, as each project has.
 fn has_first(langs: &[Lang]) -> bool
     ensures { result ≡ is_some (slice_get langs.now 0) }
 {
@@ -33,7 +33,7 @@ fn has_first(langs: &[Lang]) -> bool
 }
 
 impl<'a, S: Alter> View<'a, S> {
-    /// Whether there is a project under the host, asked of the tables: it has languages, which are kept.
+    /// Asks the tables whether there is a project under the host: it has languages, which are kept.
     fn ask_known(&mut self) -> Result<bool, Fault>
         ensures { LooksUp S.Store self.old self.new result
             (λ l o. o ≡ view.has_project l self.old.host) }
@@ -42,7 +42,7 @@ impl<'a, S: Alter> View<'a, S> {
         Ok(has_first(langs.as_slice()))
     }
 
-    /// Whether there is one; the tables are asked until there is.
+    /// Whether there is a project under the host; the tables are asked until there is one.
     fn has_project(&mut self) -> Result<bool, Fault>
         ensures { LooksUp S.Store self.old self.new result
             (λ l o. o ≡ view.has_project l self.old.host) }
@@ -71,7 +71,7 @@ impl<'a, S: Alter> View<'a, S> {
 // ---- the version that a name stands for
 
 impl<'a, S: Alter> View<'a, S> {
-    /// The slug of the version that was found last, if it is this one.
+    /// The slug of the version that was found last, if it is this text.
     fn noted_slug(&self, alloc: Global, name: &str) -> Result<Option<Slug>, AllocError>
         ensures same { IfOk result (λ o. IfSome o (λ slug. slug ≡ name.now)) }
         ensures seen { IfOk result
@@ -100,7 +100,7 @@ impl<'a, S: Alter> View<'a, S> {
         }
     }
 
-    /// The slug, where the caller sees a version with it, asked of the tables.
+    /// Asks the tables for the slug, where the caller sees a version with it.
     fn ask_slug(&mut self, alloc: Global, name: &str) -> Found<Slug>
         ensures { LooksUp S.Store self.old self.new result
             (λ l o. o ≡ view.slug_in l self.old.host self.old.caller name.now) }
@@ -113,7 +113,7 @@ impl<'a, S: Alter> View<'a, S> {
         }
     }
 
-    /// The same, which is kept.
+    /// Asks the tables for the slug, where the caller sees a version with it, and keeps what is found.
     fn find_slug(&mut self, alloc: Global, name: &str) -> Found<Slug>
         ensures { LooksUp S.Store self.old self.new result
             (λ l o. o ≡ view.slug_in l self.old.host self.old.caller name.now) }
@@ -123,7 +123,7 @@ impl<'a, S: Alter> View<'a, S> {
         Ok(found)
     }
 
-    /// The slug, where the caller sees a version with it.
+    /// Answers the slug, where the caller sees a version with it.
     fn seen_slug(&mut self, alloc: Global, name: &str) -> Found<Slug>
         ensures { LooksUp S.Store self.old self.new result
             (λ l o. o ≡ view.slug_in l self.old.host self.old.caller name.now) }
@@ -223,7 +223,7 @@ impl<'a, S: Alter> View<'a, S> {
         }
     }
 
-    /// The languages, asked of the tables.
+    /// Asks the tables for the languages.
     fn ask_langs(&mut self) -> Result<Vec<Lang>, Fault>
         ensures { LooksUp S.Store self.old self.new result
             (λ l langs. langs.items ≡ view.languages_in l self.old.host) }
@@ -237,7 +237,7 @@ impl<'a, S: Alter> View<'a, S> {
         }
     }
 
-    /// The same, which are kept.
+    /// Asks the tables for the languages, and keeps them.
     fn find_langs(&mut self) -> Result<Vec<Lang>, Fault>
         ensures { LooksUp S.Store self.old self.new result
             (λ l langs. langs.items ≡ view.languages_in l self.old.host) }
@@ -251,7 +251,7 @@ impl<'a, S: Alter> View<'a, S> {
 // ---- redirects
 
 impl<'a, S: Alter> View<'a, S> {
-    /// Where the first redirect leads that has a result: of all, or of those with force alone.
+    /// Finds where the first redirect leads that has a result: of all, or of those with force alone.
     fn redirect(&mut self, alloc: Global, forced: bool, asked: &Asked) -> Found<Location>
         ensures asks { IsLook (meaning_of S.Store) self.old self.new result }
         ensures value { AnswersMaybe (meaning_of S.Store) self.old self.new result

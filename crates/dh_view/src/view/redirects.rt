@@ -24,14 +24,15 @@ fn is_before_best(place: u32, best: &Option<(u32, Location)>) -> bool
     }
 }
 
-/// Whether the redirect of a route is asked for: it may be better, and has force where it is to have it.
+/// Whether the redirect of a route is to be read: it may come before the best so far, and has force where only those with force
+/// count.
 fn is_asked(forced: bool, route: &RouteRow, best: &Option<(u32, Location)>) -> bool
     ensures { result ≡ spec.is_asked forced route.now best.now }
 {
     (!forced || route.route.force) && is_before_best(route.place, best)
 }
 
-/// The better of two, of which the first is better where there is one.
+/// Answers where the redirect at this place leads, or else the best so far.
 fn led_or(
     place: u32,
     at: Option<Location>,
@@ -155,7 +156,7 @@ impl HostView<'_> {
         Ok(best)
     }
 
-    /// The same of the routes of a segment.
+    /// The best of the best so far and where the redirects of the routes of a segment lead.
     fn best_in<S: Alter>(
         &self,
         tables: &mut Tables<S>,
@@ -191,8 +192,8 @@ impl HostView<'_> {
         self.best_in(tables, forced, "", asked, own)
     }
 
-    /// Where the first of the redirects leads that has a result: of all, or of those with force alone.
-    /// None is read that stands behind the best so far, or that may not lead away from the path.
+    /// Finds where the first redirect leads that has a result: of all, or of those with force alone. Reads no redirect that
+    /// stands behind the best so far, or that may not lead away from the path.
     pub fn redirected<S: Alter>(
         &self,
         tables: &mut Tables<S>,

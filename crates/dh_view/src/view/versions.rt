@@ -76,7 +76,7 @@ impl HostView<'_> {
         }
     }
 
-    /// Whether the class may see a version of the project. Only of a private one are its grants asked.
+    /// Whether the class may see a version of the project. Asks for grants of a private version alone.
     fn is_seen<S: Alter>(&self, tables: &mut Tables<S>, version: &Version) -> Result<bool, Fault>
         ensures { ReadsInTurn S.Store tables.old tables.new result
             (λ l. visibility.may_see version.now
@@ -111,7 +111,7 @@ impl HostView<'_> {
         }
     }
 
-    /// What the class holds.
+    /// Reads the grants of the class.
     fn grants_of<S: Alter>(&self, tables: &mut Tables<S>) -> Result<Vec<HeldRow>, Fault>
         ensures { LearnsInTurn S.Store tables.old tables.new result
             (λ l grants. OpensAs grants.items (held_in l self.now.host.now self.now.class.now)) }
@@ -122,8 +122,8 @@ impl HostView<'_> {
         }
     }
 
-    /// The grants that decide which of these versions the class may see. Where none is private no
-    /// grant does, and none is looked for.
+    /// Reads the grants that decide which of these versions the class may see. Where no version is private no grant decides, and
+    /// none is read.
     fn grants_for<S: Alter>(
         &self,
         tables: &mut Tables<S>,
