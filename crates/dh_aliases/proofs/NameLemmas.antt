@@ -8,8 +8,8 @@ use Rattle.std.proofs.lemmas.Slice.Eq.{bytes_eq-Decides}
 use Rattle.dh_texts.specs.SlugOfName.{slug_from}
 use Rattle.dh_versions.specs.declared.version.Version.{Version}
 use Rattle.dh_versions.specs.Aliases.{is_branch, latest_of}
-use Rattle.dh_lookup.specs.declared.found.Named.{Named}
-use Rattle.dh_lookup.specs.SeenProject.{own_name, alias_to, resolved}
+use Rattle.dh_seen.specs.declared.found.Named.{Named}
+use Rattle.dh_seen.specs.SeenProject.{own_name, alias_to, resolved}
 use Rattle.dh_world.specs.World.{Text, Project}
 use Rattle.dh_world.specs.Visibility.{may_see}
 use Rattle.dh_world.specs.Seen.{default_of, without_default}

@@ -15,6 +15,7 @@ use Rattle.dh_world.specs.declared.refusal.Refusal.{Refusal}
 use Rattle.dh_checks.specs.declared.checking.CheckedChange.{CheckedChange}
 use Rattle.dh_checks.specs.declared.checking.CheckedCommand.{CheckedCommand}
 use Rattle.dh_checks.specs.declared.checking.CheckedChange.TheVariants.{NewProject, AddLang, Push, Upload, SetProperty, Deactivate, Gone, SetDefault, AddRule, DropRule, AddRedirect, DropRedirect, ImportRedirects, AddPass, DropPass, Grant, Revoke}
+use Rattle.dh_world.specs.declared.limits.TheConstants.{MOST_PAGES}
 
 -- ---- the change
 
@@ -54,7 +55,7 @@ command_of host c = record { host = host; change = change_of c }
 -- the checked pages are those of the upload, at most 256, and each may have its media type and body
 abbrev pub AreRightPages : List UploadedPage → List UploadedPage → Type 0
 AreRightPages pages checked =
-    (checked ≡ pages) × (length checked ≤ 256) × IsTrue (have_contents checked)
+    (checked ≡ pages) × (length checked ≤ MOST_PAGES) × IsTrue (have_contents checked)
 
 -- what is wrong with the pages of an upload: that there are too many, or the first bad one
 abbrev pub bad_upload : List UploadedPage → Option Refusal

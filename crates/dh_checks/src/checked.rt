@@ -5,6 +5,7 @@ ghost use Rattle.dh_texts.specs.SlugOfName.{slug_from};
 ghost use Rattle.dh_rules.specs.Rules.{is_allowed};
 ghost use Rattle.dh_redirects.specs.Redirects.{first_fault};
 ghost use Rattle.dh_world.specs.WrongTexts.{bad_redirects, have_contents};
+ghost use Rattle.dh_world.specs.declared.limits.TheConstants.{MOST_PAGES};
 
 use dh_paths::{Lang, PagePath, RefName, Slug, Token};
 use dh_redirects::Redirect;
@@ -74,7 +75,7 @@ pub struct CheckedUpload<'c> {
     /// Whether the pages that are there are removed first.
     pub replace: bool,
     pub pages: Vec<CheckedPage<'c>>,
-    ghost few: { length pages.items ≤ 256 },
+    ghost few: { length pages.items ≤ MOST_PAGES },
     ghost fit: { IsTrue (have_contents pages.items) } by { Prim.hlevel props },
 }
 

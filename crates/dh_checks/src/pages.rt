@@ -7,11 +7,8 @@ ghost use Rattle.dh_checks.specs.Commands.{AreRightPages, bad_upload};
 
 use crate::checked::CheckedPage;
 use dh_paths::{PagePath, Text};
-use dh_world::{Pages, Refusal, UploadedPage, is_content};
+use dh_world::{MOST_PAGES, Pages, Refusal, UploadedPage, is_content};
 use std::alloc::{AllocError, Global};
-
-/// The most pages of an upload.
-const MOST_PAGES: usize = 256;
 
 fn stands_in(path: &Text, pages: &[UploadedPage]) -> bool
     ensures { result ≡ has_path path.now pages.now }

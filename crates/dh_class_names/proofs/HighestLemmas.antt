@@ -12,7 +12,7 @@ use Rattle.dh_aliases.specs.Tops.{IsMember}
 use Rattle.dh_aliases.proofs.AboveLemmas.{not_above_itself, above_is_release, other_is_not_above, not_above_higher}
 use Rattle.dh_aliases.proofs.MemberLemmas.{in_none}
 use Rattle.dh_records.specs.declared.records.VersionRow.{VersionRow}
-use Rattle.dh_records.specs.declared.records.HeldRow.{HeldRow}
+use Rattle.dh_records.specs.declared.records.GrantRow.{GrantRow}
 use Rattle.dh_class_names.specs.Rows.{version_under}
 use Rattle.dh_class_names.specs.Highest.{IsHighestOf, IsHighest, higher_of, with_public, with_opened, IsPublic, IsSeenWith}
 
@@ -104,7 +104,7 @@ module _ (rows : List VersionRow) where
   pub none_opened : (o : Option Version) → IsHighest (IsPublic rows) o → IsHighest (IsSeenWith rows []) o
   none_opened = same_highest (IsPublic rows) (IsSeenWith rows []) (λ w it. inl it) (λ w it. ⊎_elim (λ public. public) (λ opened. absurd (in_none opened.grant opened.among)) it)
 
-  module _ (grants : List HeldRow) (x : HeldRow) where
+  module _ (grants : List GrantRow) (x : GrantRow) where
     stays : (w : Version) → IsSeenWith rows grants w → IsSeenWith rows (grants ++ (x ∷ [])) w
     stays w it = ⊎_elim (λ public. inl public)
         (λ opened. inr (record { grant = opened.grant; among = among_front grants (x ∷ []) opened.grant opened.among; stands = opened.stands; active = opened.active })) it
@@ -113,7 +113,7 @@ module _ (rows : List VersionRow) where
     was w it = ⊎_elim (λ public. inl (inl public))
         (λ opened. ⊎_elim
         (λ at. inl (inr (record { grant = opened.grant; among = at; stands = opened.stands; active = opened.active })))
-        (λ same. inr (ap (λ (y : HeldRow). version_under rows y.slug) (sym same) ∙ opened.stands, opened.active))
+        (λ same. inr (ap (λ (y : GrantRow). version_under rows y.slug) (sym same) ∙ opened.stands, opened.active))
         (front_or_last grants x opened.grant opened.among)) it
 
     pub opened_step : (best : Option Version) → IsHighest (IsSeenWith rows grants) best → IsHighest (IsSeenWith rows (grants ++ (x ∷ []))) (with_opened best (version_under rows x.slug))
@@ -154,8 +154,8 @@ public_more rows i x within is old new e it =
     subst (λ xs. IsHighest (IsPublic xs) new) (sym (take_more rows i x within ∙ ap (λ (y : VersionRow). take i rows ++ (y ∷ [])) (sym is)))
     (subst (IsHighest (IsPublic (take i rows ++ (x ∷ [])))) (sym e) (public_step (take i rows) x old it))
 
-pub granted_more : (rows : List VersionRow) (grants : List HeldRow) (i : ℕ) (x : HeldRow) → i < length grants → x ≡ get_or grants i x → (old new : Option Version) → new ≡ with_opened old (version_under rows x.slug)
+pub granted_more : (rows : List VersionRow) (grants : List GrantRow) (i : ℕ) (x : GrantRow) → i < length grants → x ≡ get_or grants i x → (old new : Option Version) → new ≡ with_opened old (version_under rows x.slug)
     → IsHighest (IsSeenWith rows (take i grants)) old → IsHighest (IsSeenWith rows (take (i + 1) grants)) new
 granted_more rows grants i x within is old new e it =
-    subst (λ xs. IsHighest (IsSeenWith rows xs) new) (sym (take_more grants i x within ∙ ap (λ (y : HeldRow). take i grants ++ (y ∷ [])) (sym is)))
+    subst (λ xs. IsHighest (IsSeenWith rows xs) new) (sym (take_more grants i x within ∙ ap (λ (y : GrantRow). take i grants ++ (y ∷ [])) (sym is)))
     (subst (IsHighest (IsSeenWith rows (take i grants ++ (x ∷ [])))) (sym e) (opened_step rows (take i grants) x old it))

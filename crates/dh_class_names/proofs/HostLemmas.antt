@@ -21,7 +21,7 @@ use Rattle.dh_records.specs.Constraints.{InOrder, AreSound}
 use Rattle.dh_records.specs.Lists.{Lists, project_of, world_of, of_host, is_version}
 use Rattle.dh_records.specs.declared.records.ProjectRow.{ProjectRow}
 use Rattle.dh_records.specs.declared.records.VersionRow.{VersionRow}
-use Rattle.dh_records.specs.declared.records.HeldRow.{HeldRow}
+use Rattle.dh_records.specs.declared.records.GrantRow.{GrantRow}
 use Rattle.dh_records.proofs.OrderLemmas.{filtered_in_order}
 use Rattle.dh_records.proofs.SlugOrder.{host_rises}
 use Rattle.dh_records.proofs.WorldLemmas.{row_of, version_in}
@@ -30,17 +30,17 @@ use Rattle.dh_class_names.specs.ClassNames.{AreRowsOf}
 
 -- ---- the grants of one host are in the order of their passes
 
-abbrev rest_of : HeldRow → Row
+abbrev rest_of : GrantRow → Row
 rest_of x = text_value x.pass ∷ text_value x.slug ∷ []
 
 second_less : (o q : Ordering) → o ≡ Equal → ordering_then o q ≡ Less → q ≡ Less
 second_less o q tied less = sym (ap (λ r. ordering_then r q) tied) ∙ less
 
 module _ (host : Text) where
-  abbrev AreOwn : List HeldRow → Type 0
-  AreOwn xs = AllByRecursion (λ (x : HeldRow). x.host ≡ host) xs
+  abbrev AreOwn : List GrantRow → Type 0
+  AreOwn xs = AllByRecursion (λ (x : GrantRow). x.host ≡ host) xs
 
-  kept_own : (xs : List HeldRow) → AreOwn (of_host (λ x. x.host) host xs)
+  kept_own : (xs : List GrantRow) → AreOwn (of_host (λ x. x.host) host xs)
   kept_own [] = tt
   kept_own (x ∷ xs) = go (bytes_eq x.host host) refl (kept_own xs)
     where
@@ -48,22 +48,22 @@ module _ (host : Text) where
       go true e more = ((bytes_eq-Decides x.host host).0 e, more)
       go false e more = more
 
-  rest_less : (x y : HeldRow) → x.host ≡ host → y.host ≡ host → by_key coding.held.key x y ≡ Less → by_key rest_of x y ≡ Less
+  rest_less : (x y : GrantRow) → x.host ≡ host → y.host ≡ host → by_key coding.held.key x y ≡ Less → by_key rest_of x y ≡ Less
   rest_less x y own other less =
       second_less (value_cmp (text_value x.host) (text_value y.host)) (row_cmp (rest_of x) (rest_of y))
       (value_cmp-Text x.host y.host ∙ ap (text_cmp x.host) (other ∙ sym own) ∙ tied_itself text_total x.host) less
 
-  behind : (x : HeldRow) → x.host ≡ host → (ys : List HeldRow) → AreOwn ys → AllByRecursion (λ y. by_key coding.held.key x y ≡ Less) ys → AllByRecursion (λ y. by_key rest_of x y ≡ Less) ys
+  behind : (x : GrantRow) → x.host ≡ host → (ys : List GrantRow) → AreOwn ys → AllByRecursion (λ y. by_key coding.held.key x y ≡ Less) ys → AllByRecursion (λ y. by_key rest_of x y ≡ Less) ys
   behind x own [] others less = tt
   behind x own (y ∷ ys) others less = (rest_less x y own others.0 less.0, behind x own ys others.1 less.1)
 
-  rest_in_order : (xs : List HeldRow) → AreOwn xs → InOrder coding.held.key xs → InOrder rest_of xs
+  rest_in_order : (xs : List GrantRow) → AreOwn xs → InOrder coding.held.key xs → InOrder rest_of xs
   rest_in_order [] own up = tt
   rest_in_order (x ∷ xs) own up = (behind x own.0 xs own.1 up.0, rest_in_order xs own.1 up.1)
 
-  by_pass : (xs : List HeldRow) → InOrder coding.held.key xs → IsSortedByKey (λ (x : HeldRow). x.pass) text_cmp (of_host (λ x. x.host) host xs)
+  by_pass : (xs : List GrantRow) → InOrder coding.held.key xs → IsSortedByKey (λ (x : GrantRow). x.pass) text_cmp (of_host (λ x. x.host) host xs)
   by_pass xs up =
-      by_host (λ (x : HeldRow). x.pass) (λ (x : HeldRow). text_value x.slug ∷ []) (of_host (λ x. x.host) host xs) (of_host (λ x. x.host) host xs) refl
+      by_host (λ (x : GrantRow). x.pass) (λ (x : GrantRow). text_value x.slug ∷ []) (of_host (λ x. x.host) host xs) (of_host (λ x. x.host) host xs) refl
       (rest_in_order (of_host (λ x. x.host) host xs) (kept_own xs) (filtered_in_order coding.held.key (λ r. bytes_eq r.host host) xs up))
 
 -- ---- the versions stand under their own slugs

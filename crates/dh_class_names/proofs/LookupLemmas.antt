@@ -9,7 +9,7 @@ use Rattle.dh_world.specs.Visibility.{may_see}
 use Rattle.dh_world.proofs.MapLemmas.{text_total}
 use Rattle.dh_records.specs.Constraints.{RiseBySlug}
 use Rattle.dh_records.specs.declared.records.VersionRow.{VersionRow}
-use Rattle.dh_records.specs.declared.records.HeldRow.{HeldRow}
+use Rattle.dh_records.specs.declared.records.GrantRow.{GrantRow}
 use Rattle.dh_constraints.proofs.RunLemmas as run
 use Rattle.dh_class_names.specs.Rows.{is_granted, seen_under}
 
@@ -65,10 +65,10 @@ module _ (rows : List VersionRow) (slug : Text) (up : RiseBySlug rows) where
     none_there = run.found_not order has_slug (run.host_ties slug_in slug) rows rising n at.0 at.1
 
 -- what is seen of a record that was found, or of none
-pub seen_of : (rows : List VersionRow) (grants : List HeldRow) (slug : Text) (o : Option VersionRow) → o ≡ find (λ r. bytes_eq r.version.slug slug) rows
+pub seen_of : (rows : List VersionRow) (grants : List GrantRow) (slug : Text) (o : Option VersionRow) → o ≡ find (λ r. bytes_eq r.version.slug slug) rows
     → option_and_then (λ v. cond (may_see v (is_granted grants slug)) (Some v) None) (option_map (λ (r : VersionRow). r.version) o) ≡ seen_under rows grants slug
 seen_of rows grants slug o e = ap (λ (f : Option VersionRow). option_and_then (λ v. cond (may_see v (is_granted grants slug)) (Some v) None) (option_map (λ (r : VersionRow). r.version) f)) e
 
-pub seen_one : (rows : List VersionRow) (grants : List HeldRow) (slug : Text) (r : VersionRow) → Some r ≡ find (λ r. bytes_eq r.version.slug slug) rows
+pub seen_one : (rows : List VersionRow) (grants : List GrantRow) (slug : Text) (r : VersionRow) → Some r ≡ find (λ r. bytes_eq r.version.slug slug) rows
     → (b : Bool) → may_see r.version (is_granted grants slug) ≡ b → cond b (Some r.version) None ≡ seen_under rows grants slug
 seen_one rows grants slug r e b is = ap (λ c. cond c (Some r.version) None) (sym is) ∙ seen_of rows grants slug (Some r) e

@@ -13,8 +13,8 @@ use Rattle.dh_aliases.specs.Tops.{Versions, stable_in}
 use Rattle.dh_aliases.specs.Names.{names_of, slug_of_branch, latest_in, stands_in, names_in}
 use Rattle.dh_aliases.proofs.PassLemmas.{names_by_key}
 use Rattle.dh_records.specs.declared.records.VersionRow.{VersionRow}
-use Rattle.dh_records.specs.declared.records.HeldRow.{HeldRow}
-use Rattle.dh_records.specs.declared.records.PickRow.{PickRow}
+use Rattle.dh_records.specs.declared.records.GrantRow.{GrantRow}
+use Rattle.dh_records.specs.declared.records.DefaultRow.{DefaultRow}
 use Rattle.dh_records.specs.declared.records.PassRow.{PassRow}
 use Rattle.dh_class_names.specs.Rows.{seen_under, latest_by, stands_by, names_by}
 use Rattle.dh_class_names.specs.declared.class_names.ClassNames.{ClassNames}
@@ -22,11 +22,11 @@ use Rattle.dh_class_names.specs.Highest.{IsHighest, IsPublic, IsSeenWith}
 use Rattle.dh_class_names.specs.ClassNames.{AreRowsOf, grants_of, class_names, classes_of}
 use Rattle.dh_class_names.proofs.RowLemmas.{grants_for, seen_is, public_stable, pass_stable}
 
-module _ (p : Project) (branch : Text) (rows : List VersionRow) (held : List HeldRow) (picks : List PickRow) (it : AreRowsOf p branch rows held picks) (class : Option Text) (stable : Option Text) (same : stable_in (versions_for p class) ≡ stable) where
+module _ (p : Project) (branch : Text) (rows : List VersionRow) (held : List GrantRow) (picks : List DefaultRow) (it : AreRowsOf p branch rows held picks) (class : Option Text) (stable : Option Text) (same : stable_in (versions_for p class) ≡ stable) where
   abbrev m : Versions
   m = versions_for p class
 
-  abbrev grants : List HeldRow
+  abbrev grants : List GrantRow
   grants = grants_for held class
 
   abbrev found : Text → Option Text
@@ -48,8 +48,8 @@ module _ (p : Project) (branch : Text) (rows : List VersionRow) (held : List Hel
   by_rows : (names : List Text) → names_in m branch names ≡ names_by rows grants branch names stable
   by_rows names = λ i. record { latest = latest_is i; stable = same i; «default» = default_of (λ name. stands_is name i) names }
 
-  pub names_are : names_by rows (grants_for held class) branch (map (λ (d : PickRow). d.name) picks) stable ≡ names_of p class
-  names_are = sym (names_by_key p class it.named ∙ (λ i. names_in m (it.branch_is i) (it.defaults i)) ∙ by_rows (map (λ (d : PickRow). d.name) picks))
+  pub names_are : names_by rows (grants_for held class) branch (map (λ (d : DefaultRow). d.name) picks) stable ≡ names_of p class
+  names_are = sym (names_by_key p class it.named ∙ (λ i. names_in m (it.branch_is i) (it.defaults i)) ∙ by_rows (map (λ (d : DefaultRow). d.name) picks))
 
 -- ---- of one class
 
@@ -59,22 +59,22 @@ named_for class names = record { class = class; names = names }
 pub same_named : (a b : Option Text) (m n : Names) → a ≡ b → m ≡ n → named_for a m ≡ named_for b n
 same_named a b m n e f = λ i. named_for (e i) (f i)
 
-module _ (p : Project) (branch : Text) (rows : List VersionRow) (held : List HeldRow) (picks : List PickRow) (it : AreRowsOf p branch rows held picks) (o : Option Version) where
+module _ (p : Project) (branch : Text) (rows : List VersionRow) (held : List GrantRow) (picks : List DefaultRow) (it : AreRowsOf p branch rows held picks) (o : Option Version) where
   abbrev defaults : List Text
-  defaults = map (λ (d : PickRow). d.name) picks
+  defaults = map (λ (d : DefaultRow). d.name) picks
 
   abbrev slug_in : Option Text
   slug_in = option_map (λ (v : Version). v.slug) o
 
-  pub public_are : IsHighest (IsPublic rows) o → names_by rows [] branch (map (λ (d : PickRow). d.name) picks) (option_map (λ (v : Version). v.slug) o) ≡ names_of p None
+  pub public_are : IsHighest (IsPublic rows) o → names_by rows [] branch (map (λ (d : DefaultRow). d.name) picks) (option_map (λ (v : Version). v.slug) o) ≡ names_of p None
   public_are highest = names_are p branch rows held picks it None slug_in (public_stable p branch rows held picks it o highest)
 
   -- the grants of the pass as they were found
-  pub pass_are : (pass : Text) (read : List HeldRow) → read ≡ grants_of pass held → IsHighest (IsSeenWith rows read) o
-      → names_by rows read branch (map (λ (d : PickRow). d.name) picks) (option_map (λ (v : Version). v.slug) o) ≡ names_of p (Some pass)
+  pub pass_are : (pass : Text) (read : List GrantRow) → read ≡ grants_of pass held → IsHighest (IsSeenWith rows read) o
+      → names_by rows read branch (map (λ (d : DefaultRow). d.name) picks) (option_map (λ (v : Version). v.slug) o) ≡ names_of p (Some pass)
   pass_are pass read found highest =
-      ap (λ (g : List HeldRow). names_by rows g branch defaults slug_in) found
-      ∙ names_are p branch rows held picks it (Some pass) slug_in (pass_stable p branch rows held picks it pass o (subst (λ (g : List HeldRow). IsHighest (IsSeenWith rows g) o) found highest))
+      ap (λ (g : List GrantRow). names_by rows g branch defaults slug_in) found
+      ∙ names_are p branch rows held picks it (Some pass) slug_in (pass_stable p branch rows held picks it pass o (subst (λ (g : List GrantRow). IsHighest (IsSeenWith rows g) o) found highest))
 
 -- ---- of all classes up to a place
 

@@ -18,8 +18,8 @@ use Rattle.dh_aliases.proofs.SlugLemmas.{found_at_key, key_found}
 use Rattle.dh_aliases.proofs.TopLemmas.{stable_is_one, stable_is_top}
 use Rattle.dh_aliases.proofs.PassLemmas.{seen_at, is_there, seen_named, wider, bare_or_private}
 use Rattle.dh_records.specs.declared.records.VersionRow.{VersionRow}
-use Rattle.dh_records.specs.declared.records.HeldRow.{HeldRow}
-use Rattle.dh_records.specs.declared.records.PickRow.{PickRow}
+use Rattle.dh_records.specs.declared.records.GrantRow.{GrantRow}
+use Rattle.dh_records.specs.declared.records.DefaultRow.{DefaultRow}
 use Rattle.dh_class_names.specs.Rows.{version_under, is_granted, seen_under}
 use Rattle.dh_class_names.specs.Highest.{IsHighest, IsHighestOf, IsPublic, IsOpenedByGrant, IsSeenWith}
 use Rattle.dh_class_names.specs.ClassNames.{AreRowsOf, grants_of}
@@ -70,11 +70,11 @@ values_of : (rows : List VersionRow) → map (λ (e : Entry). e.1) (map entry_in
 values_of [] = refl
 values_of (r ∷ rows) = ap (λ (vs : List Version). r.version ∷ vs) (values_of rows)
 
-abbrev pub grants_for : List HeldRow → Option Text → List HeldRow
+abbrev pub grants_for : List GrantRow → Option Text → List GrantRow
 grants_for held None = []
 grants_for held (Some pass) = grants_of pass held
 
-module _ (p : Project) (branch : Text) (rows : List VersionRow) (held : List HeldRow) (picks : List PickRow) (it : AreRowsOf p branch rows held picks) where
+module _ (p : Project) (branch : Text) (rows : List VersionRow) (held : List GrantRow) (picks : List DefaultRow) (it : AreRowsOf p branch rows held picks) where
   stands_at : (slug : Text) → get p.versions slug ≡ finite.find text_cmp slug (map entry_in rows)
   stands_at slug = ap (λ (m : Versions). get m slug) it.versions ∙ get-from_entries text_total (map entry_in rows) slug
 
@@ -85,9 +85,9 @@ module _ (p : Project) (branch : Text) (rows : List VersionRow) (held : List Hel
   holds_is None slug = refl
   holds_is (Some pass) slug =
       ap (λ m. is_some (get m (pass, slug))) it.held_is
-      ∙ ap is_some (get-from_entries held_total (map (λ (x : HeldRow). ((x.pass, x.slug), tt)) held) (pass, slug)
-      ∙ found_in held_cmp (λ (x : HeldRow). (x.pass, x.slug)) (λ (x : HeldRow). tt) (pass, slug) (λ x. bytes_eq x.pass pass && bytes_eq x.slug slug) (λ x. tied_held pass slug (x.pass, x.slug)) held)
-      ∙ some_mapped (λ (x : HeldRow). tt) (find (λ (x : HeldRow). bytes_eq x.pass pass && bytes_eq x.slug slug) held)
+      ∙ ap is_some (get-from_entries held_total (map (λ (x : GrantRow). ((x.pass, x.slug), tt)) held) (pass, slug)
+      ∙ found_in held_cmp (λ (x : GrantRow). (x.pass, x.slug)) (λ (x : GrantRow). tt) (pass, slug) (λ x. bytes_eq x.pass pass && bytes_eq x.slug slug) (λ x. tied_held pass slug (x.pass, x.slug)) held)
+      ∙ some_mapped (λ (x : GrantRow). tt) (find (λ (x : GrantRow). bytes_eq x.pass pass && bytes_eq x.slug slug) held)
       ∙ any_kept (λ x. bytes_eq x.pass pass) (λ x. bytes_eq x.slug slug) held
 
   pub seen_is : (class : Option Text) (slug : Text) → get (versions_for p class) slug ≡ seen_under rows (grants_for held class) slug

@@ -8,14 +8,14 @@ use Rattle.dh_aliases.specs.Tops.{AreNamed}
 use Rattle.dh_aliases.specs.Names.{names_of}
 use Rattle.dh_records.specs.Constraints.{RiseBySlug}
 use Rattle.dh_records.specs.declared.records.VersionRow.{VersionRow}
-use Rattle.dh_records.specs.declared.records.HeldRow.{HeldRow}
+use Rattle.dh_records.specs.declared.records.GrantRow.{GrantRow}
 use Rattle.dh_records.specs.declared.records.PassRow.{PassRow}
-use Rattle.dh_records.specs.declared.records.PickRow.{PickRow}
+use Rattle.dh_records.specs.declared.records.DefaultRow.{DefaultRow}
 use Rattle.dh_class_names.specs.declared.class_names.ClassNames.{ClassNames}
 
 -- The project has this default branch, and these are the records of its versions, its grants and its defaults, in
 -- order; each version stands under its own slug, which comes from its name.
-pub record AreRowsOf (p : Project) (branch : Text) (rows : List VersionRow) (held : List HeldRow) (picks : List PickRow)
+pub record AreRowsOf (p : Project) (branch : Text) (rows : List VersionRow) (held : List GrantRow) (picks : List DefaultRow)
     : Type 0 where
   pub branch_is : p.branch ≡ branch
   pub versions : p.versions ≡ from_entries (map (λ r. (r.version.slug, r.version)) rows)
@@ -26,7 +26,7 @@ pub record AreRowsOf (p : Project) (branch : Text) (rows : List VersionRow) (hel
   pub by_pass : IsSortedByKey (λ x. x.pass) text_cmp held
 
 -- the grants of a pass
-abbrev pub grants_of : Text → List HeldRow → List HeldRow
+abbrev pub grants_of : Text → List GrantRow → List GrantRow
 grants_of pass held = filter (λ x. bytes_eq x.pass pass) held
 
 -- a class with its names

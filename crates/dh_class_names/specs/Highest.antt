@@ -5,7 +5,7 @@ use Rattle.dh_versions.specs.Aliases.{is_release, is_above}
 use Rattle.dh_world.specs.Visibility.{may_see}
 use Rattle.dh_aliases.specs.Tops.{IsMember}
 use Rattle.dh_records.specs.declared.records.VersionRow.{VersionRow}
-use Rattle.dh_records.specs.declared.records.HeldRow.{HeldRow}
+use Rattle.dh_records.specs.declared.records.GrantRow.{GrantRow}
 use Rattle.dh_class_names.specs.Rows.{version_under}
 
 -- the version is a release of the set, and no version of the set is above it
@@ -44,13 +44,13 @@ pub record IsPublic (rows : List VersionRow) (w : Version) : Type 0 where
   pub seen : may_see w false ≡ true
 
 -- one of these grants is on the version, which is active
-pub record IsOpenedByGrant (rows : List VersionRow) (grants : List HeldRow)
+pub record IsOpenedByGrant (rows : List VersionRow) (grants : List GrantRow)
     (w : Version) : Type 0 where
-  pub grant : HeldRow
+  pub grant : GrantRow
   pub among : IsMember grants grant
   pub stands : version_under rows grant.slug ≡ Some w
   pub active : w.active ≡ true
 
 -- all callers see the version, or one of these grants opens it
-abbrev pub IsSeenWith : List VersionRow → List HeldRow → Version → Type 0
+abbrev pub IsSeenWith : List VersionRow → List GrantRow → Version → Type 0
 IsSeenWith rows grants w = IsPublic rows w ⊎ IsOpenedByGrant rows grants w

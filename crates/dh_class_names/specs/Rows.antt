@@ -10,23 +10,23 @@ use Rattle.dh_world.specs.Seen.{default_of}
 use Rattle.dh_aliases.specs.declared.names.Names.{Names}
 use Rattle.dh_aliases.specs.Names.{slug_of_branch}
 use Rattle.dh_records.specs.declared.records.VersionRow.{VersionRow}
-use Rattle.dh_records.specs.declared.records.HeldRow.{HeldRow}
+use Rattle.dh_records.specs.declared.records.GrantRow.{GrantRow}
 
 -- the version under a slug
 abbrev pub version_under : List VersionRow → Text → Option Version
 version_under rows slug = option_map (λ r. r.version) (find (λ r. bytes_eq r.version.slug slug) rows)
 
 -- one of these grants is on the version
-abbrev pub is_granted : List HeldRow → Text → Bool
+abbrev pub is_granted : List GrantRow → Text → Bool
 is_granted grants slug = list_any (λ x. bytes_eq x.slug slug) grants
 
 -- the version under a slug, where a caller who has these grants sees it
-abbrev pub seen_under : List VersionRow → List HeldRow → Text → Option Version
+abbrev pub seen_under : List VersionRow → List GrantRow → Text → Option Version
 seen_under rows grants slug =
     option_and_then (λ v. if may_see v (is_granted grants slug) then Some v else None) (version_under rows slug)
 
 -- the slug that `latest` stands for
-abbrev pub latest_by : List VersionRow → List HeldRow → Text → Option Text
+abbrev pub latest_by : List VersionRow → List GrantRow → Text → Option Text
 latest_by rows grants branch =
     option_and_then (λ slug. option_and_then (slug_of_branch branch) (seen_under rows grants slug)) (slug_from branch)
 
@@ -38,12 +38,12 @@ is_standing_alias latest stable name =
     else false
 
 -- the name stands for a version
-abbrev pub stands_by : List VersionRow → List HeldRow → Bool → Bool → Text → Bool
+abbrev pub stands_by : List VersionRow → List GrantRow → Bool → Bool → Text → Bool
 stands_by rows grants latest stable name =
     is_some (seen_under rows grants name) || is_standing_alias latest stable name
 
 -- the names, where `stable` stands for this slug
-abbrev pub names_by : List VersionRow → List HeldRow → Text → List Text → Option Text → Names
+abbrev pub names_by : List VersionRow → List GrantRow → Text → List Text → Option Text → Names
 names_by rows grants branch defaults stable =
     let latest = latest_by rows grants branch in record {
       latest = latest;

@@ -8,7 +8,7 @@ ghost use Rattle.dh_class_names.specs.Highest as spec;
 ghost use Rattle.dh_class_names.specs.Highest.{IsHighest, IsPublic, IsSeenWith};
 
 use crate::lookups::row_under;
-use dh_records::{HeldRow, VersionRow};
+use dh_records::{GrantRow, VersionRow};
 use dh_versions::{Version, higher, release};
 use std::alloc::{AllocError, Global};
 
@@ -75,7 +75,7 @@ fn with_grant<'a>(
     alloc: Global,
     rows: &'a [VersionRow],
     best: Option<&'a Version>,
-    grant: &HeldRow,
+    grant: &GrantRow,
 ) -> Result<Option<&'a Version>, AllocError>
     ensures { RiseBySlug rows.now → IfOk result (λ o. option_copied o
         ≡ spec.with_opened (option_copied best.entry) (version_under rows.now grant.now.slug)) }
@@ -116,7 +116,7 @@ pub fn with_opened(
 pub fn granted_top<'a>(
     alloc: Global,
     rows: &'a [VersionRow],
-    grants: &[HeldRow],
+    grants: &[GrantRow],
     public: Option<&'a Version>,
 ) -> Result<Option<&'a Version>, AllocError>
     ensures { RiseBySlug rows.now → IsHighest (IsPublic rows.now) (option_copied public.entry)

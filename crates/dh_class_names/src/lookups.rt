@@ -9,7 +9,7 @@ ghost use Rattle.dh_class_names.specs.Rows as spec;
 ghost use Rattle.dh_class_names.specs.ClassNames as spec_of;
 
 use dh_paths::Token;
-use dh_records::{HeldRow, VersionRow};
+use dh_records::{GrantRow, VersionRow};
 use dh_versions::Version;
 
 fn has_slug(row: &VersionRow, slug: &str) -> bool
@@ -31,7 +31,7 @@ pub fn row_under<'a>(rows: &'a [VersionRow], slug: &str) -> Option<&'a VersionRo
 }
 
 /// The grants of a pass, which stand side by side.
-pub fn grants_of<'a>(held: &'a [HeldRow], pass: &Token) -> &'a [HeldRow]
+pub fn grants_of<'a>(held: &'a [GrantRow], pass: &Token) -> &'a [GrantRow]
     ensures { IsSortedByKey (λ x. x.pass) text_cmp held.now
         → result.now ≡ spec_of.grants_of pass.now held.now }
 {
@@ -41,14 +41,14 @@ pub fn grants_of<'a>(held: &'a [HeldRow], pass: &Token) -> &'a [HeldRow]
     &rest[..count]
 }
 
-fn is_granted(grants: &[HeldRow], slug: &str) -> bool
+fn is_granted(grants: &[GrantRow], slug: &str) -> bool
     ensures { result ≡ spec.is_granted grants.now slug.now }
 {
     grants.iter().any(|x| x.slug.as_str() == slug)
 }
 
 /// Whether a caller who has these grants sees the version under this slug.
-pub fn is_seen(version: &Version, grants: &[HeldRow], slug: &str) -> bool
+pub fn is_seen(version: &Version, grants: &[GrantRow], slug: &str) -> bool
     ensures { result ≡ may_see version.now (spec.is_granted grants.now slug.now) }
 {
     version.active && (!version.private || is_granted(grants, slug))
@@ -57,7 +57,7 @@ pub fn is_seen(version: &Version, grants: &[HeldRow], slug: &str) -> bool
 /// The record of the version under a slug, where a caller who has these grants sees it.
 pub fn seen_under<'a>(
     rows: &'a [VersionRow],
-    grants: &[HeldRow],
+    grants: &[GrantRow],
     slug: &str,
 ) -> Option<&'a VersionRow>
     ensures { RiseBySlug rows.now → option_map (λ r. r.now.version) result

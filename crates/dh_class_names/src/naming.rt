@@ -6,7 +6,7 @@ ghost use Rattle.dh_world.specs.World.{Project};
 ghost use Rattle.dh_world.specs.Seen.{default_of};
 ghost use Rattle.dh_aliases.specs.Names as names;
 ghost use Rattle.dh_records.specs.Constraints.{RiseBySlug};
-ghost use Rattle.dh_records.specs.declared.records.HeldRow as held_row;
+ghost use Rattle.dh_records.specs.declared.records.GrantRow as grant_row;
 ghost use Rattle.dh_class_names.specs.Rows as spec;
 ghost use Rattle.dh_class_names.specs.Highest.{IsHighest, IsPublic};
 ghost use Rattle.dh_class_names.specs.ClassNames.{AreRowsOf, class_names, classes_of};
@@ -16,7 +16,7 @@ use crate::highest::{granted_top, public_top};
 use crate::lookups::{grants_of, seen_under};
 use dh_aliases::Names;
 use dh_paths::{RefName, Slug, TextFault, Token, slug_of};
-use dh_records::{HeldRow, PassRow, PickRow, VersionRow};
+use dh_records::{DefaultRow, GrantRow, PassRow, VersionRow};
 use dh_versions::{Kind, Version};
 use std::alloc::{AllocError, Global};
 
@@ -42,7 +42,7 @@ pub fn is_of_branch(version: &Version, branch: &RefName) -> bool
 fn latest_for(
     alloc: Global,
     rows: &[VersionRow],
-    grants: &[HeldRow],
+    grants: &[GrantRow],
     branch: &RefName,
 ) -> Result<Option<Slug>, AllocError>
     ensures { RiseBySlug rows.now
@@ -73,7 +73,7 @@ pub fn is_standing_alias(name: &str, latest: bool, stable: bool) -> bool
 }
 
 /// Whether the name stands for a version; `latest` and `stable` say whether each alias does.
-fn stands(rows: &[VersionRow], grants: &[HeldRow], latest: bool, stable: bool, name: &str) -> bool
+fn stands(rows: &[VersionRow], grants: &[GrantRow], latest: bool, stable: bool, name: &str) -> bool
     ensures { RiseBySlug rows.now
         → result ≡ spec.stands_by rows.now grants.now latest stable name.now }
 {
@@ -94,7 +94,7 @@ pub fn alias_slug(alloc: Global, name: &str) -> Result<Slug, AllocError>
 fn default_alias(
     alloc: Global,
     rows: &[VersionRow],
-    grants: &[HeldRow],
+    grants: &[GrantRow],
     latest: bool,
     stable: bool,
 ) -> Result<Option<Slug>, AllocError>
@@ -114,8 +114,8 @@ fn default_alias(
 fn default_for(
     alloc: Global,
     rows: &[VersionRow],
-    grants: &[HeldRow],
-    picks: &[PickRow],
+    grants: &[GrantRow],
+    picks: &[DefaultRow],
     latest: bool,
     stable: bool,
 ) -> Result<Option<Slug>, AllocError>
@@ -144,8 +144,8 @@ fn names_for(
     alloc: Global,
     branch: &RefName,
     rows: &[VersionRow],
-    grants: &[HeldRow],
-    picks: &[PickRow],
+    grants: &[GrantRow],
+    picks: &[DefaultRow],
     stable: Option<&Version>,
 ) -> Result<Names, AllocError>
     ensures { RiseBySlug rows.now → IfOk result (λ names. names ≡ spec.names_by rows.now
@@ -173,10 +173,10 @@ fn public_names(
     alloc: Global,
     branch: &RefName,
     rows: &[VersionRow],
-    picks: &[PickRow],
+    picks: &[DefaultRow],
     public: Option<&Version>,
 ) -> Result<ClassNames, AllocError>
-    ensures { (p : Project) (held : List held_row.HeldRow)
+    ensures { (p : Project) (held : List grant_row.GrantRow)
         → AreRowsOf p branch.now rows.now held picks.now
         → IsHighest (IsPublic rows.now) (option_copied public.entry)
         → IfOk result (λ names. names ≡ class_names p None) }
@@ -192,8 +192,8 @@ fn pass_names(
     alloc: Global,
     branch: &RefName,
     rows: &[VersionRow],
-    held: &[HeldRow],
-    picks: &[PickRow],
+    held: &[GrantRow],
+    picks: &[DefaultRow],
     public: Option<&Version>,
     pass: &Token,
 ) -> Result<ClassNames, AllocError>
@@ -217,8 +217,8 @@ pub fn names_by_class(
     alloc: Global,
     branch: &RefName,
     rows: &[VersionRow],
-    held: &[HeldRow],
-    picks: &[PickRow],
+    held: &[GrantRow],
+    picks: &[DefaultRow],
     passes: &[PassRow],
 ) -> Result<Vec<ClassNames>, AllocError>
     ensures { (p : Project) → AreRowsOf p branch.now rows.now held.now picks.now

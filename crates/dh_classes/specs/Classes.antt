@@ -3,7 +3,7 @@ use Rattle.std.specs.Prelude.{Bool, false, Option}
 use Rattle.std.specs.Option.{option_map_or}
 use Rattle.std.specs.FinMap.{FinMap, get, retain_keys}
 use Rattle.dh_versions.specs.declared.version.Version.{Version}
-use Rattle.dh_lookup.specs.declared.seen_project.SeenProject.{SeenProject}
+use Rattle.dh_seen.specs.declared.seen_project.SeenProject.{SeenProject}
 use Rattle.dh_world.specs.declared.caller.Caller.{Caller}
 use Rattle.dh_world.specs.World.{Text, text_cmp, Project}
 use Rattle.dh_world.specs.Visibility.{live_pass, holds, may_see}

@@ -2,3 +2,4 @@ pub mod ListLemmas
 pub mod OrderLemmas
 pub mod RunLemmas
 pub mod PlaceLemmas
+pub mod PatternLemmas

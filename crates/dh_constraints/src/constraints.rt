@@ -14,29 +14,21 @@ ghost use Rattle.dh_records.specs.Constraints.{AreLanguages, AreDefaults, AreRul
 ghost use Rattle.dh_records.specs.Constraints.{HaveProjects, KeepProjects, KeepRecords, KeepTexts, KeepsConstraints};
 ghost use Rattle.dh_constraints.specs.Lists.{lists_in};
 
+use crate::answers::tells_answer;
 use crate::lookups::{
     has_active, has_language, has_pass, has_project, has_version, langs_of, passes_of, picks_of,
     redirects_of, rules_of,
 };
+use crate::patterns::is_allowed;
 use crate::places::{are_defaults, are_languages, have_places};
 use crate::records::Records;
 use crate::rows::Hosted;
 use dh_paths::{Slug, TextFault, slug_of};
 use dh_records::{PageRow, ProjectRow};
 use dh_redirects::Redirect;
-use dh_stored_texts::{is_allowed, tells_answer};
 use dh_versions::Version;
-use dh_world::is_content;
+use dh_world::{MOST_PASSES, MOST_REDIRECTS, MOST_RULES, is_content};
 use std::alloc::{AllocError, Global};
-
-/// The most passes of a project.
-const MOST_PASSES: usize = 1_000;
-
-/// The most automation rules of a project.
-const MOST_RULES: usize = 50;
-
-/// The most redirects of a project.
-const MOST_REDIRECTS: usize = 100;
 
 // ---- every host has its project
 
@@ -75,7 +67,7 @@ fn projects_have_languages(records: &Records) -> bool
 
 fn projects_have_few_passes(records: &Records) -> bool
     ensures { let lists = lists_in records.now in IsTrue result ↔ AllByRecursion
-        (λ r. length (filter (is_pass_of r.host) lists.passes) ≤ 1000) lists.projects }
+        (λ r. length (filter (is_pass_of r.host) lists.passes) ≤ MOST_PASSES) lists.projects }
 {
     records
         .projects

@@ -9,7 +9,7 @@ use crate::places::is_among;
 use crate::records::Records;
 use crate::runs::{named_in, run_of};
 use dh_paths::{HostName, Lang, Slug, Token};
-use dh_records::{LangRow, PassRow, PickRow, RedirectRow, RuleRow, VersionRow};
+use dh_records::{DefaultRow, LangRow, PassRow, RedirectRow, RuleRow, VersionRow};
 
 pub fn has_project(records: &Records, host: &HostName) -> bool
     ensures { result ≡ kept.has_project (lists_in records.now) host.now }
@@ -23,7 +23,7 @@ pub fn langs_of<'a>(records: &'a Records, host: &HostName) -> &'a [LangRow]
     run_of(records.langs.as_slice(), host)
 }
 
-pub fn picks_of<'a>(records: &'a Records, host: &HostName) -> &'a [PickRow]
+pub fn picks_of<'a>(records: &'a Records, host: &HostName) -> &'a [DefaultRow]
     ensures { result.now ≡ filter (is_pick_of host.now) (lists_in records.now).picks }
 {
     run_of(records.picks.as_slice(), host)

@@ -7,10 +7,8 @@ ghost use Rattle.dh_records.specs.Constraints.{AreDefaults, AreLanguages, HavePl
 
 use crate::rows::{Named, Placed};
 use dh_paths::Lang;
-use dh_records::{LangRow, PickRow};
-
-/// The most languages of a project.
-const MOST_LANGUAGES: usize = 30;
+use dh_records::{DefaultRow, LangRow};
+use dh_world::MOST_LANGUAGES;
 
 /// Whether a record has this name.
 pub fn is_among<R: Named>(rows: &[R], name: &str) -> bool
@@ -66,7 +64,7 @@ pub fn are_languages(langs: &[LangRow], main: &Lang) -> bool
     have_places(langs, MOST_LANGUAGES) && is_first(langs, main) && are_apart(langs)
 }
 
-pub fn are_defaults(picks: &[PickRow]) -> bool
+pub fn are_defaults(picks: &[DefaultRow]) -> bool
     ensures { IsTrue result ↔ AreDefaults picks.now }
 {
     have_all_places(picks) && are_apart(picks)

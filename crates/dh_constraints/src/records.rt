@@ -5,7 +5,7 @@ ghost use Rattle.dh_records.specs.Constraints.{AreInOrder};
 ghost use Rattle.dh_constraints.specs.Order.{AreInOrder-prop};
 
 use dh_records::{
-    HeldRow, LangRow, PageRow, PassRow, PickRow, ProjectRow, RedirectRow, RuleRow, UsedRow,
+    DefaultRow, GrantRow, LangRow, PageRow, PassRow, ProjectRow, RedirectRow, RetryRow, RuleRow,
     VersionRow,
 };
 
@@ -16,10 +16,10 @@ pub struct Records {
     pub langs: Vec<LangRow>,
     pub versions: Vec<VersionRow>,
     pub pages: Vec<PageRow>,
-    pub used: Vec<UsedRow>,
-    pub picks: Vec<PickRow>,
+    pub used: Vec<RetryRow>,
+    pub picks: Vec<DefaultRow>,
     pub passes: Vec<PassRow>,
-    pub held: Vec<HeldRow>,
+    pub held: Vec<GrantRow>,
     pub rules: Vec<RuleRow>,
     pub redirects: Vec<RedirectRow>,
     pub ghost in_order: { AreInOrder (record {

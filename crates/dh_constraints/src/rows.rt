@@ -4,7 +4,7 @@ ghost use Rattle.std.specs.Prelude.{◌≡◌, ℕ, List};
 
 use dh_paths::HostName;
 use dh_records::{
-    LangRow, PageRow, PassRow, PickRow, ProjectRow, RedirectRow, RuleRow, UsedRow, VersionRow,
+    DefaultRow, LangRow, PageRow, PassRow, ProjectRow, RedirectRow, RetryRow, RuleRow, VersionRow,
 };
 
 /// A record that stands under a host.
@@ -47,7 +47,7 @@ impl Hosted for PageRow {
     }
 }
 
-impl Hosted for UsedRow {
+impl Hosted for RetryRow {
     ghost host_of = { λ r. r.host };
 
     fn host(&self) -> &HostName {
@@ -55,7 +55,7 @@ impl Hosted for UsedRow {
     }
 }
 
-impl Hosted for PickRow {
+impl Hosted for DefaultRow {
     ghost host_of = { λ r. r.host };
 
     fn host(&self) -> &HostName {
@@ -111,7 +111,7 @@ impl Named for VersionRow {
     }
 }
 
-impl Named for PickRow {
+impl Named for DefaultRow {
     ghost name_of = { λ r. r.name };
 
     fn name(&self) -> &str {
@@ -143,7 +143,7 @@ impl Placed for LangRow {
     }
 }
 
-impl Placed for PickRow {
+impl Placed for DefaultRow {
     ghost place_of = { λ r. r.rank };
 
     fn place(&self) -> u64 {

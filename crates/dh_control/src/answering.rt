@@ -14,7 +14,7 @@ ghost use Rattle.dh_control.specs.Ends.{end_line};
 ghost use Rattle.dh_control.specs.Messages.{most_reads, most_taken};
 
 use crate::end::{End, end_name, end_number, end_of};
-use crate::message::{MOST_BYTES, SCRIPT, WORDS, behind, body_of, words_of};
+use crate::message::{MOST_MESSAGE_BYTES, SCRIPT, WORDS, behind, body_of, words_of};
 use dh_desk::Desk;
 use dh_lines::{LineFault, Order, line_of};
 use dh_ports::{Port, Sink, Source, put_both};
@@ -212,7 +212,7 @@ fn take_message<S: Alter, R: Source, W: Sink>(
     ensures taken { TookAtMost (R.left source.old) (R.left source.new) most_taken }
     ensures reads { CountsUpTo (R.fills source.old) (R.fills source.new) most_reads }
 {
-    match read_script(alloc, source, MOST_BYTES) {
+    match read_script(alloc, source, MOST_MESSAGE_BYTES) {
         Ok(message) => do_message(alloc, desk, message.as_slice(), sink, now),
         Err(fault) => Err(fault),
     }

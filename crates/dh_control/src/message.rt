@@ -17,7 +17,7 @@ pub const SCRIPT: &str = "docs_host 1 script\n";
 pub const LAST: u8 = 255;
 
 /// The most bytes of a message: those of a script, and 64 beside it.
-pub const MOST_BYTES: usize = 1_048_640;
+pub const MOST_MESSAGE_BYTES: usize = 1_048_640;
 
 /// Takes the end off a message. None where a message has no end, as one that was cut.
 pub fn body_of(message: &[u8]) -> Option<&[u8]>

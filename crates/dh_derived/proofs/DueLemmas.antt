@@ -11,7 +11,7 @@ use Rattle.dh_aliases.specs.Names.{names_of}
 use Rattle.dh_aliases.proofs.NameLemmas.{same_names}
 use Rattle.dh_plans.specs.Edits.{edited}
 use Rattle.dh_plans.specs.declared.edits.Edit.{Edit}
-use Rattle.dh_plans.specs.declared.edits.Edit.TheVariants.{AddLang, PutVersion, PutWithoutPages, RemoveVersion, PutPage, RemovePages, SetDefaults, SetRules, SetRedirects, AddPass, RemovePass, Grant, Revoke, PutAnswer}
+use Rattle.dh_plans.specs.declared.edits.Edit.TheVariants.{AddLang, PutVersion, PutWithoutPages, RemoveVersion, PutPage, RemovePages, SetDefaults, SetRules, SetRedirects, AddPass, RemovePass, Grant, Revoke, PutRetryAnswer}
 use Rattle.dh_records.proofs.Keys.{turned}
 use Rattle.dh_records.specs.declared.records.AliasName.{AliasName}
 use Rattle.dh_derived.specs.Rightness.{has_class, named, due_in}
@@ -113,4 +113,4 @@ edit_fits (AddPass pass until) p is may = class_covers p (insert p.passes pass u
 edit_fits (RemovePass pass) p is may = class_covers p (remove p.passes pass) (retain_keys p.held (λ key. not (bytes_eq key.0 pass))) pass (pass_removed p pass) (grants_removed p pass)
 edit_fits (Grant pass slug) p is may = class_covers p p.passes (insert p.held (pass, slug) tt) pass (λ c _. refl) (granted p pass slug)
 edit_fits (Revoke pass slug) p is may = class_covers p p.passes (remove p.held (pass, slug)) pass (λ c _. refl) (revoked p pass slug)
-edit_fits (PutAnswer a) p is may = unasked p (edited (PutAnswer a) p) (λ _. refl) refl refl refl (λ _ _. refl) refl
+edit_fits (PutRetryAnswer a) p is may = unasked p (edited (PutRetryAnswer a) p) (λ _. refl) refl refl refl (λ _ _. refl) refl

@@ -13,8 +13,8 @@ use Rattle.dh_texts.specs.SlugOfName.{slug_from}
 use Rattle.dh_records.specs.Lists.{Lists, world_of, is_version, is_held, is_pick_of}
 use Rattle.dh_records.specs.Constraints.{AreSound, has_version, has_pass}
 use Rattle.dh_records.specs.declared.records.VersionRow.{VersionRow}
-use Rattle.dh_records.specs.declared.records.HeldRow.{HeldRow}
-use Rattle.dh_records.specs.declared.records.PickRow.{PickRow}
+use Rattle.dh_records.specs.declared.records.GrantRow.{GrantRow}
+use Rattle.dh_records.specs.declared.records.DefaultRow.{DefaultRow}
 use Rattle.dh_records.proofs.ConstraintLemmas.{all_found}
 use Rattle.dh_records.proofs.Keys.{are_both}
 use Rattle.dh_records.proofs.RecordLemmas.{found_passes}
@@ -33,28 +33,28 @@ module _ (l : Lists) (host : Text) (p : Project) (sound : AreSound l) (was : get
           let own = all_found (λ (x : VersionRow). slug_from x.version.name ≡ Some x.version.slug) (is_version host slug) l.versions r found sound.constraints.texts.slugs in
           subst (IsNamed slug) same (its, own ∙ ap Some its)
 
-  marked : HeldRow → Unit {0}
+  marked : GrantRow → Unit {0}
   marked x = tt
 
   granted : (pass slug : Text) → contains_key p.held (pass, slug) ≡ true → contains_key p.versions slug ≡ true
   granted pass slug e = has_version_in l host p was slug ∙ go (find (is_held host pass slug) l.held) refl (sym (ap is_some (held_in l host p was pass slug)) ∙ e)
     where
-      go : (o : Option HeldRow) → find (is_held host pass slug) l.held ≡ o → is_some (option_map marked o) ≡ true → has_version l host slug ≡ true
+      go : (o : Option GrantRow) → find (is_held host pass slug) l.held ≡ o → is_some (option_map marked o) ≡ true → has_version l host slug ≡ true
       go None found f = absurd (true≢false (sym f))
       go (Some x) found f =
           let both = and_parts (bytes_eq x.host host && bytes_eq x.pass pass) (bytes_eq x.slug slug) (found_passes (is_held host pass slug) l.held x found) in
           let host_is : x.host ≡ host = (are_both x.host x.pass host pass both.0).0 in
           let slug_is : x.slug ≡ slug = (bytes_eq-Decides x.slug slug).0 both.1 in
-          let there = all_found (λ (y : HeldRow). IsTrue (has_pass l y.host y.pass && has_version l y.host y.slug)) (is_held host pass slug) l.held x found sound.constraints.records.granted in
+          let there = all_found (λ (y : GrantRow). IsTrue (has_pass l y.host y.pass && has_version l y.host y.slug)) (is_held host pass slug) l.held x found sound.constraints.records.granted in
           ap₂ (has_version l) (sym host_is) (sym slug_is) ∙ (and_parts (has_pass l x.host x.pass) (has_version l x.host x.slug) there).1
 
-  picked : (rows : List PickRow) → AllByRecursion (λ d. IsTrue (is_alias d.name || has_version l d.host d.name)) rows
-      → AllByRecursion (λ name. IsTrue (is_alias name || contains_key p.versions name)) (map (λ (d : PickRow). d.name) (filter (is_pick_of host) rows))
+  picked : (rows : List DefaultRow) → AllByRecursion (λ d. IsTrue (is_alias d.name || has_version l d.host d.name)) rows
+      → AllByRecursion (λ name. IsTrue (is_alias name || contains_key p.versions name)) (map (λ (d : DefaultRow). d.name) (filter (is_pick_of host) rows))
   picked [] all = tt
   picked (d ∷ rows) all = go (is_pick_of host d) refl (picked rows all.1)
     where
-      go : (b : Bool) → is_pick_of host d ≡ b → AllByRecursion (λ name. IsTrue (is_alias name || contains_key p.versions name)) (map (λ (x : PickRow). x.name) (filter (is_pick_of host) rows))
-          → AllByRecursion (λ name. IsTrue (is_alias name || contains_key p.versions name)) (map (λ (x : PickRow). x.name) (cond b (d ∷ filter (is_pick_of host) rows) (filter (is_pick_of host) rows)))
+      go : (b : Bool) → is_pick_of host d ≡ b → AllByRecursion (λ name. IsTrue (is_alias name || contains_key p.versions name)) (map (λ (x : DefaultRow). x.name) (filter (is_pick_of host) rows))
+          → AllByRecursion (λ name. IsTrue (is_alias name || contains_key p.versions name)) (map (λ (x : DefaultRow). x.name) (cond b (d ∷ filter (is_pick_of host) rows) (filter (is_pick_of host) rows)))
       go true e more =
           (ap (λ b. is_alias d.name || b) (has_version_in l host p was d.name ∙ ap (λ h. has_version l h d.name) (sym ((bytes_eq-Decides d.host host).0 e))) ∙ all.0, more)
       go false e more = more

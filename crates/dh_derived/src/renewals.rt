@@ -31,7 +31,7 @@ fn by_edit(alloc: Global, edit: &Edit<'_>) -> Result<Renewal, AllocError>
         | Edit::PutPage { .. }
         | Edit::RemovePages { .. }
         | Edit::SetRules(_)
-        | Edit::PutAnswer(_) => Renewal::Nothing,
+        | Edit::PutRetryAnswer(_) => Renewal::Nothing,
         Edit::SetRedirects(_) => Renewal::Routes,
         Edit::AddPass { pass, .. }
         | Edit::RemovePass(pass)

@@ -12,7 +12,7 @@ use Rattle.dh_classes.specs.Classes.{class_of}
 use Rattle.dh_classes.specs.Replies.{IsOfClass, reply_for}
 use Rattle.dh_classes.proofs.ClassLemmas.{class_stays}
 use Rattle.dh_classes.proofs.ReplyLemmas.{class_replies}
-use Rattle.dh_faults.specs.declared.fault.Fault.{Fault}
+use Rattle.dh_ports.specs.declared.fault.Fault.{Fault}
 use Rattle.dh_records.specs.Lists.{Lists, is_pass, is_project, project_of, world_of}
 use Rattle.dh_records.specs.declared.records.PassRow.{PassRow}
 use Rattle.dh_records.specs.declared.records.ProjectRow.{ProjectRow}

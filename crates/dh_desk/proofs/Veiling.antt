@@ -1,7 +1,7 @@
 -- The reply to a read is that of the world behind the veil.
 use Rattle.std.proofs.Common.{◌≡◌, ℕ, Option, Result, IfOk, sym, ap, subst}
 use Rattle.dh_reply.specs.Replies.{reply_to}
-use Rattle.dh_faults.specs.declared.fault.Fault.{Fault}
+use Rattle.dh_ports.specs.declared.fault.Fault.{Fault}
 use Rattle.dh_wire.specs.declared.reply.Read.{Read}
 use Rattle.dh_wire.specs.declared.reply.Reply.{Reply}
 use Rattle.dh_world.specs.World.{Text, World}

@@ -1,7 +1,7 @@
 -- What a list of calls does over a desk, which a fault of the store may close on the way.
 use Rattle.std.specs.Prelude.{◌≡◌, ◌⊎◌, ℕ, suc, Bool, true, false, List, [], ◌∷◌, ◌++◌, map, take, slice_get, Some}
 use Rattle.sqlite_trees.specs.declared.store.Store.{Ghosts}
-use Rattle.dh_faults.specs.declared.fault.Fault.TheVariants as fault
+use Rattle.dh_ports.specs.declared.fault.Fault.TheVariants as fault
 use Rattle.dh_world.specs.World.{World}
 use Rattle.dh_world.specs.declared.answer.Answer.{Answer}
 use Rattle.dh_world.specs.declared.outcome.Outcome.{Outcome}

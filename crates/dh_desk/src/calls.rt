@@ -7,7 +7,8 @@ ghost use Rattle.dh_desk.specs.DeskRuns.{DoesWhileOpen, is_applied, is_faulted, 
 use crate::desk::Desk;
 use dh_histories::Call;
 use dh_paths::Text;
-use dh_reply::{Fault, Reply};
+use dh_ports::Fault;
+use dh_reply::Reply;
 use dh_world::{Answer, Outcome, Refusal};
 use sqlite::Alter;
 use std::alloc::{AllocError, Global};

@@ -6,8 +6,8 @@ ghost use Rattle.dh_records.specs.Lists.{world_of};
 ghost use Rattle.dh_view.specs.View.{LearnsInTurn};
 ghost use Rattle.dh_world.specs.Visibility as visibility;
 
-use dh_faults::Found;
 use dh_paths::{HostName, Token};
+use dh_ports::Found;
 use dh_tables::{PassRow, Tables};
 use dh_world::{Caller, PassEnd};
 use sqlite::Alter;

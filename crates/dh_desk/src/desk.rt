@@ -13,18 +13,19 @@ ghost use Rattle.dh_world.specs.CheckResults.{IsFault};
 ghost use Rattle.dh_world.specs.Reads as spec;
 ghost use Rattle.dh_world.specs.Step.{IsStep};
 ghost use Rattle.dh_desk.specs.Desk.{StoreFaultHasCause, HasCleanDisk, IsHonest, IsRefused, last_records, lists_of};
-ghost use Rattle.dh_faults.specs.declared.fault.Fault.TheVariants as fault;
+ghost use Rattle.dh_ports.specs.declared.fault.Fault.TheVariants as fault;
 ghost use Rattle.dh_replies.specs.declared.replies.TheConstants.{MOST_REPLIES};
 ghost use Rattle.dh_desk.specs.Desk.{IsKept, TellsMemory, is_fault, reply_in, state, veil_of, world};
 
 mod listing;
 
 use crate::reads::read;
+use dh_ports::Fault;
 use dh_renewal::derive;
 use dh_replies::Replies;
-use dh_reply::{Fault, Read, Reply};
+use dh_reply::{Read, Reply};
 use dh_tables::Tables;
-use dh_transactions::run;
+use dh_transactions::run_transaction;
 use dh_world::{Answer, Command, Refusal};
 use sqlite::{Alter, Connection};
 use std::alloc::Global;
@@ -92,7 +93,7 @@ fn ask_and_derive<S: Alter>(tables: &mut Tables<S>, alloc: Global) -> Result<(),
 }
 
 /// Does a command on tables that may have a transaction open, which is undone first.
-fn act<S: Alter>(
+fn undo_then_run<S: Alter>(
     tables: &mut Tables<S>,
     alloc: Global,
     command: &Command,
@@ -101,11 +102,11 @@ fn act<S: Alter>(
     ensures { IsOneTransaction S.Store tables.old tables.new command.now result }
 {
     tables.back()?;
-    run(tables, alloc, command)
+    run_transaction(tables, alloc, command)
 }
 
 /// Does a command, and tells out of memory only where the store is open.
-fn apply<S: Alter>(
+fn run_or_ask_store<S: Alter>(
     tables: &mut Tables<S>,
     alloc: Global,
     command: &Command,
@@ -114,7 +115,7 @@ fn apply<S: Alter>(
     ensures transacts { IsOneTransaction S.Store tables.old tables.new command.now result }
     ensures open { TellsMemory S.Store tables.new result }
 {
-    match act(tables, alloc, command) {
+    match undo_then_run(tables, alloc, command) {
         Err(Refusal::OutOfMemory) => Err(ask_store(tables)),
         answer => answer,
     }
@@ -231,7 +232,7 @@ impl<S: Alter> Desk<S> {
         if self.closed {
             return Err(Refusal::Store);
         }
-        let answer = apply(&mut self.tables, alloc, command);
+        let answer = run_or_ask_store(&mut self.tables, alloc, command);
         self.closed = has_failed(&answer);
         if answer.is_ok() {
             self.replies.clear();

@@ -2,10 +2,10 @@
 ghost use Rattle.std.specs.Prelude.{◌≡◌, true, List, Option, Result};
 ghost use Rattle.sqlite.specs.Steps.{over_memory};
 ghost use Rattle.sqlite_trees.specs.declared.memory.MemStore.{MemStore};
-ghost use Rattle.dh_faults.specs.Faults.{OnStore};
+ghost use Rattle.dh_ports.specs.Faults.{OnStore};
 ghost use Rattle.dh_reply.specs.Replies.{reply_to};
 ghost use Rattle.dh_wire.specs.declared.reply.Reply.{Reply};
-ghost use Rattle.dh_faults.specs.declared.fault.Fault.{Fault};
+ghost use Rattle.dh_ports.specs.declared.fault.Fault.{Fault};
 ghost use Rattle.dh_schema.specs.Calling.{StoreFaultHasCause};
 ghost use Rattle.dh_world.specs.declared.caller.Caller.{Caller};
 ghost use Rattle.dh_world.specs.World.{Text, World};

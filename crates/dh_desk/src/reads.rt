@@ -1,7 +1,7 @@
 //! Reads.
 ghost use Rattle.std.specs.Prelude.{◌≡◌, ◌⊎◌, Some, None, false, IfOk, IsTrue, OnErr, OnOk, if◌then◌else◌};
 ghost use Rattle.std.specs.Option.{option_map};
-ghost use Rattle.dh_faults.specs.Faults.{OnStore};
+ghost use Rattle.dh_ports.specs.Faults.{OnStore};
 ghost use Rattle.dh_reply.specs.Replies.{reply_to};
 ghost use Rattle.dh_classes.specs.Replies.{reply_for};
 ghost use Rattle.dh_replies.specs.Kept.{AreRepliesRight, question_for};
@@ -16,8 +16,8 @@ ghost use Rattle.dh_world.specs.Reads.{host_named, caller_named};
 ghost use Rattle.dh_world.specs.Seen.{seen};
 
 use crate::classes::class_in;
-use dh_faults::{Fault, Found};
 use dh_paths::{HostName, TextFault};
+use dh_ports::{Fault, Found};
 use dh_replies::{Key, Replies};
 use dh_reply::{Read, Reply, reply};
 use dh_tables::Tables;

@@ -5,13 +5,13 @@ ghost use Rattle.std.specs.Str.{bytes_eq};
 ghost use Rattle.dh_rows.specs.Calls.{IsHonest};
 ghost use Rattle.dh_records.specs.Changes as change;
 ghost use Rattle.dh_tables.specs.Going.{HasRecords, IsWithin, ChangesRecords};
-ghost use Rattle.dh_row_edits.specs.RowEdits.{RowsMay, rows_edited, version_row};
+ghost use Rattle.dh_edits.specs.RowEdits.{RowsMay, rows_edited, version_row};
 
 use dh_checks::CheckedPage;
-use dh_lookup::Page;
 use dh_paths::{Bytes, HostName, Lang, Slug, Text, Token};
-use dh_plans::{Edit, FirstAnswer};
-use dh_tables::{HeldRow, LangRow, PageRow, PassRow, Tables, VersionRow};
+use dh_plans::{Edit, RetryAnswer};
+use dh_seen::Page;
+use dh_tables::{GrantRow, LangRow, PageRow, PassRow, Tables, VersionRow};
 use dh_versions::Version;
 use dh_world::{PassEnd, Refusal};
 use sqlite::Alter;
@@ -207,7 +207,7 @@ fn grant<S: Alter>(
     ensures makes { ChangesRecords S.Store tables.old tables.new result
         (rows_edited host.now (Edit.Grant pass slug)) }
 {
-    let row = HeldRow {
+    let row = GrantRow {
         host: host.try_copy(alloc)?,
         pass,
         slug,
@@ -231,13 +231,13 @@ fn put_answer<S: Alter>(
     tables: &mut Tables<S>,
     alloc: Global,
     host: &HostName,
-    first: FirstAnswer,
+    first: RetryAnswer,
 ) -> Result<(), Refusal>
-    requires may { HasRecords S.Store tables.old (RowsMay host.now (Edit.PutAnswer first)) }
+    requires may { HasRecords S.Store tables.old (RowsMay host.now (Edit.PutRetryAnswer first)) }
     ensures makes { ChangesRecords S.Store tables.old tables.new result
-        (rows_edited host.now (Edit.PutAnswer first)) }
+        (rows_edited host.now (Edit.PutRetryAnswer first)) }
 {
-    let FirstAnswer {
+    let RetryAnswer {
         slug,
         operation,
         key,
@@ -276,6 +276,6 @@ pub fn make_edit<S: Alter>(
         Edit::RemovePass(pass) => remove_pass(tables, host, &pass),
         Edit::Grant { pass, slug } => grant(tables, alloc, host, pass, slug),
         Edit::Revoke { pass, slug } => revoke(tables, host, &pass, &slug),
-        Edit::PutAnswer(first) => put_answer(tables, alloc, host, first),
+        Edit::PutRetryAnswer(first) => put_answer(tables, alloc, host, first),
     }
 }

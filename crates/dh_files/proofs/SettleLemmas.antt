@@ -10,7 +10,7 @@ use Rattle.dh_schema.specs.Tables.{lists_of}
 use Rattle.dh_renewal.specs.Filling.{IsLeft}
 use Rattle.dh_renewal.proofs.SameBase.{same_sound}
 use Rattle.dh_opening.specs.Filling.{IsOpened}
-use Rattle.dh_faults.specs.declared.fault.Fault.TheVariants as below
+use Rattle.dh_ports.specs.declared.fault.Fault.TheVariants as below
 use Rattle.dh_opening.specs.declared.fault.TablesFault.{TablesFault}
 use Rattle.dh_opening.specs.declared.fault.TablesFault.TheVariants as tables
 use Rattle.dh_files.specs.Faults.{fault_of}

@@ -3,7 +3,7 @@ use Rattle.std.specs.Prelude.{ℕ, List, codes}
 use Rattle.sqlite.specs.declared.error.Error.{Error}
 use Rattle.sqlite.specs.declared.error.Error.TheVariants.{SqliteFailure}
 use Rattle.sqlite.specs.declared.error.ErrorCode.TheVariants as code
-use Rattle.dh_faults.specs.declared.fault.Fault.TheVariants as below
+use Rattle.dh_ports.specs.declared.fault.Fault.TheVariants as below
 use Rattle.dh_opening.specs.declared.fault.TablesFault.{TablesFault}
 use Rattle.dh_opening.specs.declared.fault.TablesFault.TheVariants as tables
 use Rattle.dh_files.specs.declared.fault.FileFault.{FileFault}

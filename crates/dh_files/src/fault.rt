@@ -3,8 +3,8 @@
 ghost use Rattle.std.specs.Prelude.{◌≡◌};
 ghost use Rattle.dh_files.specs.Faults.{name_of, fault_of, fault_of_error};
 
-use dh_faults::Fault;
 use dh_opening::TablesFault;
+use dh_ports::Fault;
 use sqlite::{Error, ErrorCode};
 use std::io;
 

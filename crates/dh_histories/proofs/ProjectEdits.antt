@@ -6,7 +6,7 @@ use Rattle.std.specs.Ordering.{eq_by_cmp}
 use Rattle.std.proofs.lemmas.Map.Lookups.{exact_bytes}
 use Rattle.std.proofs.lemmas.Slice.Eq.{bytes_eq-Decides}
 use Rattle.dh_versions.specs.declared.version.Version.{Version}
-use Rattle.dh_lookup.specs.declared.found.Page.{Page}
+use Rattle.dh_seen.specs.declared.found.Page.{Page}
 use Rattle.dh_world.specs.declared.answer.Answer.{Answer}
 use Rattle.dh_world.specs.declared.pages.UploadedPage.{UploadedPage}
 use Rattle.dh_world.specs.World.{Text, text_cmp, page_cmp, held_cmp, used_cmp, UsedKey, lies_under, Project}

@@ -12,8 +12,8 @@ use Rattle.std.proofs.lemmas.Cmp.{tied_itself}
 use Rattle.std.proofs.lemmas.Map.Lookups.{exact_bytes}
 use Rattle.std.proofs.lemmas.Slice.Eq.{bytes_eq-Decides}
 use Rattle.dh_versions.specs.declared.version.Version.{Version}
-use Rattle.dh_lookup.specs.declared.seen_project.SeenProject.{SeenProject}
-use Rattle.dh_lookup.specs.SeenProject.{resolved, own_name, alias_of, alias_to}
+use Rattle.dh_seen.specs.declared.seen_project.SeenProject.{SeenProject}
+use Rattle.dh_seen.specs.SeenProject.{resolved, own_name, alias_of, alias_to}
 use Rattle.dh_world.specs.declared.caller.Caller.{Caller}
 use Rattle.dh_world.specs.World.{Text, text_cmp, Project}
 use Rattle.dh_world.specs.Visibility.{live_pass, holds, may_see, is_visible}

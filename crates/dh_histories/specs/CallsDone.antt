@@ -1,7 +1,7 @@
 -- What calls of a desk do to the world; the outcomes of some calls may be set aside.
 use Rattle.std.specs.Prelude.{◌≡◌, Bool, true, false, if◌then◌else◌, List, [], ◌∷◌, Result, Ok, Err, IfOk}
 use Rattle.std.specs.Option.{is_none}
-use Rattle.dh_faults.specs.declared.fault.Fault.{Fault}
+use Rattle.dh_ports.specs.declared.fault.Fault.{Fault}
 use Rattle.dh_wire.specs.declared.reply.Reply.{Reply}
 use Rattle.dh_world.specs.World.{World}
 use Rattle.dh_world.specs.Step.{IsStep}

@@ -17,7 +17,7 @@ use crate::fault::{Done, EngineFault};
 use crate::sending::{answer_unavailable, send_reply};
 use dh_desk::Desk;
 use dh_paths::{Bytes, HostName};
-use dh_ports::{Sink, Source};
+use dh_ports::{MOST_READS, READ_SIZE, Sink, Source};
 use dh_reply::{Read, Reply, fault_reply, head_bytes};
 use dh_requests::{Request, Stop, read_request};
 use dh_world::Command;
@@ -150,12 +150,12 @@ pub fn answer<S: Alter, R: Source, W: Sink>(
     ensures reader_fault { R.broken source.new ≡ spec.reader_failed result }
     ensures writer_fault { W.broken sink.new ≡ spec.writer_failed result }
     ensures needed { IsNeeded (R.left source.old) (R.left source.new)
-        (if spec.reader_failed result then 0 else 4096) }
+        (if spec.reader_failed result then 0 else READ_SIZE) }
     ensures turns { IsErrOf result EngineFault.TooManyTurns
-        → TookAtLeast (R.left source.old) (R.left source.new) 100000 }
+        → TookAtLeast (R.left source.old) (R.left source.new) MOST_READS }
     ensures full { IsErrOf result EngineFault.TooManyTurns
-        → CountsAtLeast (R.fills source.old) (R.fills source.new) 100000 }
-    ensures reads { CountsUpTo (R.fills source.old) (R.fills source.new) 100000 }
+        → CountsAtLeast (R.fills source.old) (R.fills source.new) MOST_READS }
+    ensures reads { CountsUpTo (R.fills source.old) (R.fills source.new) MOST_READS }
 {
     match read_request(alloc, source) {
         Ok(request) => answer_request(alloc, desk, &request, sink, now),

@@ -17,11 +17,11 @@ use Rattle.dh_rules.specs.declared.rule.Action.{Action}
 use Rattle.dh_redirects.specs.declared.redirect.RedirectKind.{RedirectKind}
 use Rattle.dh_world.specs.declared.command.CommandChange.{CommandChange}
 use Rattle.dh_world.specs.declared.command.CommandChange.TheVariants.{AddRedirect, AddRule}
-use Rattle.dh_words.specs.Words.{is_plain, ArePlain, has_command}
-use Rattle.dh_words.proofs.NameLemmas.{IsQuiet}
-use Rattle.dh_words.proofs.TokenLemmas.{Token, chosen, written, text_of, Fits, tokens_rows}
-use Rattle.dh_words.proofs.TokenLemmas.{tokens_level}
-use Rattle.dh_words.proofs.FormLemmas.{form_matches, form_fails, stray_fails}
+use Rattle.dh_word_tables.specs.Words.{is_plain, ArePlain, has_command}
+use Rattle.dh_word_tables.proofs.NameLemmas.{IsQuiet}
+use Rattle.dh_word_tables.proofs.TokenLemmas.{Token, chosen, written, text_of, Fits, tokens_rows}
+use Rattle.dh_word_tables.proofs.TokenLemmas.{tokens_level}
+use Rattle.dh_word_tables.proofs.FormLemmas.{form_matches, form_fails, stray_fails}
 use Rattle.dh_lines.specs.App.{docs_app, bare_app, with_store}
 use Rattle.dh_lines.specs.Lines.{line_in, as_line, asking, named_line, line_with, unless_faulty}
 use Rattle.dh_lines.specs.Lines.{change_in, access_in, redirect_change_in, rule_change_in}

@@ -9,7 +9,7 @@ use Rattle.clap.specs.Walk.{Text}
 use Rattle.dh_rules.specs.Patterns.{pattern_text, expression_mark, IsPatternOf}
 use Rattle.dh_rules.specs.declared.pattern.Pattern.{Pattern}
 use Rattle.dh_rules.specs.declared.pattern.Pattern.TheVariants.{All, SemVer, Custom}
-use Rattle.dh_words.specs.Words.{is_plain}
+use Rattle.dh_word_tables.specs.Words.{is_plain}
 use Rattle.dh_lines.specs.Lines.{pattern_of}
 
 pub pattern_of-text : (pattern : Pattern) → pattern_of (pattern_text pattern) ≡ Some pattern

@@ -37,7 +37,7 @@ use Rattle.dh_listings.specs.declared.words.ListWord.TheVariants.{Projects, OfPr
 use Rattle.dh_listings.specs.declared.words.ProjectList.{ProjectList}
 use Rattle.dh_listings.specs.declared.words.ProjectList.TheVariants.{Langs, Versions, Defaults, Rules}
 use Rattle.dh_listings.specs.declared.words.ProjectList.TheVariants.{Redirects, Passes, Pages}
-use Rattle.dh_words.specs.Words.{is_plain, ArePlain}
+use Rattle.dh_word_tables.specs.Words.{is_plain, ArePlain}
 use Rattle.dh_lines.specs.App.{docs_app}
 use Rattle.dh_lines.specs.declared.lines.Line.{Line}
 use Rattle.dh_lines.specs.declared.lines.Order.{Order}

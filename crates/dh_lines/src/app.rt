@@ -1,14 +1,14 @@
 //! The words of the program and of a script's line, as `clap` sees them.
 
 ghost use Rattle.std.specs.Prelude.{◌≡◌, IfOk, map, fold, [], ◌∷◌};
-ghost use Rattle.dh_words.specs.Apps.{IsApp, with_apps};
-ghost use Rattle.dh_words.specs.Apps.{with_words as words_added};
+ghost use Rattle.dh_word_tables.specs.Apps.{IsApp, with_apps};
+ghost use Rattle.dh_word_tables.specs.Apps.{with_words as words_added};
 ghost use Rattle.dh_lines.specs.App.{bare_app, docs_app, init_app, migrate_app, serve_app};
 ghost use Rattle.dh_lines.specs.App.{store_apps, with_store};
 ghost use Rattle.dh_lines.specs.Forms.{app_of_form, store_app_of, with_more};
 
 use clap::Command;
-use dh_words::Syntax;
+use dh_word_tables::Syntax;
 use std::alloc::{AllocError, Global};
 
 /// What a form may take beside its words.

@@ -19,7 +19,7 @@ ghost use Rattle.dh_world.specs.declared.command.CommandChange.TheVariants.{Revo
 ghost use Rattle.dh_world.specs.declared.command.CommandChange.TheVariants.{DropRule};
 ghost use Rattle.dh_listings.specs.declared.words.ListWord.TheVariants.{Projects, OfProject};
 ghost use Rattle.dh_listings.specs.declared.words.ProjectList.TheVariants as lists;
-ghost use Rattle.dh_words.specs.Words.{is_plain, ArePlain, has_command};
+ghost use Rattle.dh_word_tables.specs.Words.{is_plain, ArePlain, has_command};
 ghost use Rattle.dh_lines.specs.App.{docs_app};
 ghost use Rattle.dh_lines.specs.Lines.{line_in, asking, OrdersLine, OrdersOnVersion, OrdersOnPass};
 ghost use Rattle.dh_lines.specs.Lines.{OrdersOnGrant, OrdersRedirect, OrdersForced, OrdersRule};

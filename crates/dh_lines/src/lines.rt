@@ -90,7 +90,7 @@ ghost use Rattle.std.specs.Prelude.{◌≡◌, ◌∷◌, [], IfOk, is_some, opt
 ghost use Rattle.clap.specs.Walk.{first_of, rows_of};
 ghost use Rattle.clap.specs.Matches.{found_of};
 ghost use Rattle.clap.specs.Simple.{subcommand_rows_of};
-ghost use Rattle.dh_words.specs.Apps.{StandsFor};
+ghost use Rattle.dh_word_tables.specs.Apps.{StandsFor};
 ghost use Rattle.dh_lines.specs.App.{docs_app};
 ghost use Rattle.dh_lines.specs.Lines.{one_page as pages_of};
 ghost use Rattle.dh_lines.specs.Lines.{is_set, privacy_of, kind_of, new_project_in, add_lang_in};

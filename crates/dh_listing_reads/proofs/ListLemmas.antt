@@ -14,7 +14,7 @@ use Rattle.dh_records.specs.Lists.{Lists, project_of, world_of, is_project, is_v
 use Rattle.dh_records.specs.declared.records.ProjectRow.{ProjectRow}
 use Rattle.dh_records.specs.declared.records.PageRow.{PageRow}
 use Rattle.dh_records.specs.declared.records.PassRow.{PassRow}
-use Rattle.dh_records.specs.declared.records.HeldRow.{HeldRow}
+use Rattle.dh_records.specs.declared.records.GrantRow.{GrantRow}
 use Rattle.dh_records.proofs.ConstraintLemmas.{of_project}
 use Rattle.dh_records.proofs.KeyLemmas.{page_place}
 use Rattle.dh_records.proofs.RecordLemmas.{found_passes}
@@ -63,11 +63,11 @@ module _ {A X : Type 0} (place : A → ℕ) (value : A → X) (row : ℕ → X �
       let more = placed_are (n + 1) xs (ap tail_of at) in
       rw more (ap (λ k. row k (value x) ∷ map (λ x. row (place x) (value x)) xs) (sym here))
 
-abbrev grant_entry : HeldRow → (Text × Text) × Unit {0}
+abbrev grant_entry : GrantRow → (Text × Text) × Unit {0}
 grant_entry x = ((x.pass, x.slug), tt)
 
 -- the slugs of the grants of a pass
-slugs_are : (pass : Text) (xs : List HeldRow) → map (λ e. e.0.1) (filter (λ e. bytes_eq e.0.0 pass) (map grant_entry xs)) ≡ rows.slugs_for xs pass
+slugs_are : (pass : Text) (xs : List GrantRow) → map (λ e. e.0.1) (filter (λ e. bytes_eq e.0.0 pass) (map grant_entry xs)) ≡ rows.slugs_for xs pass
 slugs_are pass [] = refl
 slugs_are pass (x ∷ xs) = go (bytes_eq x.pass pass) (slugs_are pass xs)
   where
@@ -115,7 +115,7 @@ module _ (l : Lists) (host : Text) (sound : AreSound l) where
   abbrev passes : List PassRow
   passes = filter (is_pass_of host) l.passes
 
-  abbrev grants : List HeldRow
+  abbrev grants : List GrantRow
   grants = filter (λ x. bytes_eq x.host host) l.held
 
   pub versions_are : rows_listed p Versions ≡ map (λ r. version_words r.version) (filter (is_version_of host) l.versions)

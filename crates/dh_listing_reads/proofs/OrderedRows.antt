@@ -17,7 +17,7 @@ use Rattle.dh_records.specs.Constraints.{InOrder}
 use Rattle.dh_records.specs.declared.records.ProjectRow.{ProjectRow}
 use Rattle.dh_records.specs.declared.records.PageRow.{PageRow}
 use Rattle.dh_records.specs.declared.records.PassRow.{PassRow}
-use Rattle.dh_records.specs.declared.records.HeldRow.{HeldRow}
+use Rattle.dh_records.specs.declared.records.GrantRow.{GrantRow}
 use Rattle.dh_records.proofs.KeyLemmas.{page_place}
 
 -- ---- a map of entries in order
@@ -97,8 +97,8 @@ page_key x y = rw (value_cmp-Text x.host y.host, value_cmp-Text x.slug y.slug, v
 pub pages_rise : (host : Text) (x y : PageRow) → bytes_eq x.host host ≡ true → bytes_eq y.host host ≡ true → by_key coding.pages.key x y ≡ Less → T (is_lt (page_cmp (page_place x) (page_place y)))
 pages_rise host x y own other less = less_three (text_cmp x.slug y.slug) (text_cmp x.lang y.lang) (text_cmp x.path y.path) (behind host x.host y.host _ own other (sym (page_key x y) ∙ less))
 
-held_key : (x y : HeldRow) → by_key coding.held.key x y ≡ ordering_then (text_cmp x.host y.host) (ordering_then (text_cmp x.pass y.pass) (ordering_then (text_cmp x.slug y.slug) Equal))
+held_key : (x y : GrantRow) → by_key coding.held.key x y ≡ ordering_then (text_cmp x.host y.host) (ordering_then (text_cmp x.pass y.pass) (ordering_then (text_cmp x.slug y.slug) Equal))
 held_key x y = rw (value_cmp-Text x.host y.host, value_cmp-Text x.pass y.pass, value_cmp-Text x.slug y.slug) refl
 
-pub grants_rise : (host : Text) (x y : HeldRow) → bytes_eq x.host host ≡ true → bytes_eq y.host host ≡ true → by_key coding.held.key x y ≡ Less → T (is_lt (held_cmp (x.pass, x.slug) (y.pass, y.slug)))
+pub grants_rise : (host : Text) (x y : GrantRow) → bytes_eq x.host host ≡ true → bytes_eq y.host host ≡ true → by_key coding.held.key x y ≡ Less → T (is_lt (held_cmp (x.pass, x.slug) (y.pass, y.slug)))
 grants_rise host x y own other less = less_two _ _ (behind host x.host y.host _ own other (sym (held_key x y) ∙ less))

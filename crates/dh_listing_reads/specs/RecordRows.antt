@@ -5,7 +5,7 @@ use Rattle.dh_world.specs.World.{Text}
 use Rattle.dh_records.specs.declared.records.ProjectRow.{ProjectRow}
 use Rattle.dh_records.specs.declared.records.PageRow.{PageRow}
 use Rattle.dh_records.specs.declared.records.PassRow.{PassRow}
-use Rattle.dh_records.specs.declared.records.HeldRow.{HeldRow}
+use Rattle.dh_records.specs.declared.records.GrantRow.{GrantRow}
 use Rattle.dh_listings.specs.ListingTexts.{project_words, page_words, pass_words}
 
 abbrev pub of_project : ProjectRow → Text
@@ -15,9 +15,9 @@ abbrev pub of_page : PageRow → Text
 of_page r = page_words r.path r.page.media (length r.page.body)
 
 -- the slugs of those grants that are of the pass
-abbrev pub slugs_for : List HeldRow → Text → List Text
+abbrev pub slugs_for : List GrantRow → Text → List Text
 slugs_for grants pass = map (λ r. r.slug) (filter (λ r. bytes_eq r.pass pass) grants)
 
 -- a pass with what it holds of these grants
-abbrev pub of_pass : List HeldRow → PassRow → Text
+abbrev pub of_pass : List GrantRow → PassRow → Text
 of_pass grants r = pass_words r.pass r.until (slugs_for grants r.pass)

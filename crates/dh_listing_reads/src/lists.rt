@@ -1,7 +1,7 @@
 //! Lists, looked up in the tables.
 
 ghost use Rattle.std.specs.Prelude.{◌≡◌, Some, IfOk, filter, map};
-ghost use Rattle.dh_faults.specs.Faults.{OnStore};
+ghost use Rattle.dh_ports.specs.Faults.{OnStore};
 ghost use Rattle.dh_listings.specs.ListingTexts as spec;
 ghost use Rattle.dh_listings.specs.declared.words.ListWord.TheVariants as word;
 ghost use Rattle.dh_listings.specs.declared.words.ProjectList.TheVariants as part;
@@ -11,10 +11,10 @@ ghost use Rattle.dh_world.specs.Reads.{host_named};
 
 use crate::passes::passes_text;
 use crate::texts::{RowText, records_text};
-use dh_faults::{Fault, Found};
 use dh_listings::{ListWord, ProjectList};
 use dh_paths::{HostName, Text, TextFault};
-use dh_tables::{HeldRow, LangRow, Listed, PassRow, PickRow, RedirectRow, RuleRow, Tables};
+use dh_ports::{Fault, Found};
+use dh_tables::{DefaultRow, GrantRow, LangRow, Listed, PassRow, RedirectRow, RuleRow, Tables};
 use sqlite::Alter;
 use std::alloc::Global;
 
@@ -41,7 +41,7 @@ fn list_defaults<S: Alter>(tables: &mut Tables<S>, alloc: Global, host: &HostNam
     ensures { LearnsInTurn S.Store tables.old tables.new result
         (ListsProject host.now part.Defaults) }
 {
-    list_rows::<S, PickRow>(tables, alloc, host)
+    list_rows::<S, DefaultRow>(tables, alloc, host)
 }
 
 fn list_rules<S: Alter>(tables: &mut Tables<S>, alloc: Global, host: &HostName) -> Found<Text>
@@ -70,7 +70,7 @@ fn list_passes<S: Alter>(tables: &mut Tables<S>, alloc: Global, host: &HostName)
         (ListsProject host.now part.Passes) }
 {
     let passes = PassRow::rows(tables, alloc, host)?;
-    let grants = HeldRow::rows(tables, alloc, host)?;
+    let grants = GrantRow::rows(tables, alloc, host)?;
     Ok(Some(passes_text(alloc, passes.as_slice(), grants.as_slice())?))
 }
 

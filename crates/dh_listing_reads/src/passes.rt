@@ -6,11 +6,11 @@ ghost use Rattle.dh_listing_reads.specs.RecordRows as rows;
 
 use dh_listings::{append_grant, append_pass, listed_head};
 use dh_paths::{Text, Token};
-use dh_tables::{HeldRow, PassRow};
+use dh_tables::{GrantRow, PassRow};
 use std::alloc::{AllocError, Global};
 
 /// The slugs that a pass is granted, each behind a tab.
-fn put_grants(out: &mut String, grants: &[HeldRow], pass: &Token) -> Result<(), AllocError>
+fn put_grants(out: &mut String, grants: &[GrantRow], pass: &Token) -> Result<(), AllocError>
     ensures { OnOk result (string_bytes out.new
         ≡ string_bytes out.old ++ flat_map (λ slug. 9 ∷ slug) (rows.slugs_for grants.now pass.now)) }
 {
@@ -22,7 +22,7 @@ fn put_grants(out: &mut String, grants: &[HeldRow], pass: &Token) -> Result<(), 
     Ok(())
 }
 
-fn put_row(out: &mut String, grants: &[HeldRow], row: &PassRow) -> Result<(), AllocError>
+fn put_row(out: &mut String, grants: &[GrantRow], row: &PassRow) -> Result<(), AllocError>
     ensures { OnOk result (string_bytes out.new
         ≡ string_bytes out.old ++ 10 ∷ rows.of_pass grants.now row.now) }
 {
@@ -34,7 +34,7 @@ fn put_row(out: &mut String, grants: &[HeldRow], row: &PassRow) -> Result<(), Al
 pub fn passes_text(
     alloc: Global,
     passes: &[PassRow],
-    grants: &[HeldRow],
+    grants: &[GrantRow],
 ) -> Result<Text, AllocError>
     ensures { IfOk result
         (λ text. text ≡ spec.listed_text (map (rows.of_pass grants.now) passes.now)) }

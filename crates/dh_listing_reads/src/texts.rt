@@ -9,7 +9,7 @@ use dh_listings::{
     append_version, listed_head,
 };
 use dh_paths::Text;
-use dh_tables::{LangRow, PageRow, PickRow, ProjectRow, RedirectRow, RuleRow, VersionRow};
+use dh_tables::{DefaultRow, LangRow, PageRow, ProjectRow, RedirectRow, RuleRow, VersionRow};
 use std::alloc::{AllocError, Global};
 
 /// A record that is a row of a list.
@@ -38,7 +38,7 @@ impl RowText for LangRow {
     }
 }
 
-impl RowText for PickRow {
+impl RowText for DefaultRow {
     ghost shown = { λ r. r.name };
 
     fn put(&self, _alloc: Global, out: &mut String) -> Result<(), AllocError> {

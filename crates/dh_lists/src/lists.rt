@@ -9,9 +9,9 @@ ghost use Rattle.dh_lists.specs.Lists as spec;
 ghost use Rattle.dh_lists.specs.Lists.{IsListed, ReadsList};
 
 use csv::{ByteRecord, ReaderBuilder};
-use dh_lookup::Items;
 use dh_paths::Text;
 use dh_redirects::{Redirect, RedirectKind, from_old, read_status};
+use dh_seen::Items;
 use std::alloc::{AllocError, Global};
 use thiserror::Error;
 

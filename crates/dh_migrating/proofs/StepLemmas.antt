@@ -20,7 +20,7 @@ use Rattle.sqlite_tied.specs.Compute.{everything}
 use Rattle.sqlite.specs.Effect.{Database, IsDatabase}
 use Rattle.sqlite.specs.State.{State}
 use Rattle.sqlite.specs.Held.{Held, state}
-use Rattle.dh_faults.specs.declared.fault.Fault.{Fault}
+use Rattle.dh_ports.specs.declared.fault.Fault.{Fault}
 use Rattle.dh_rows.specs.Calls.{EditsTo, IsHonest, IsPlainEdit, MakesNoCommitInside, OnlyEdits, NowShows, whole}
 use Rattle.sqlite.specs.State.{HasCleanDisk}
 use Rattle.dh_schema.specs.InTurn.{lasts_on}

@@ -9,7 +9,7 @@ use Rattle.sqlite.specs.Effect.{Database, IsDatabase}
 use Rattle.sqlite.specs.Held.{Held, state}
 use Rattle.sqlite.specs.State.{HasCleanDisk}
 use Rattle.sqlite_trees.specs.declared.store.Store.{Ghosts}
-use Rattle.dh_faults.specs.declared.fault.Fault.{Fault}
+use Rattle.dh_ports.specs.declared.fault.Fault.{Fault}
 use Rattle.dh_rows.specs.Calls.{IsHonest, MakesNoCommitInside}
 use Rattle.dh_rows.specs.Keyed.{same_value}
 use Rattle.dh_rows.specs.Places.{IsFree, IsUnshared, IsUnmentioned, ArePlaced, StandsInSchema, KeepsTable, records_of, rows_of, tree_of}

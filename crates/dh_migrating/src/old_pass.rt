@@ -3,13 +3,13 @@
 ghost use Rattle.std.specs.Prelude.{◌≡◌, map, string_bytes, IfOk};
 ghost use Rattle.sqlite_value.specs.declared.value.Value.TheVariants.{Text as SqlText};
 ghost use Rattle.sqlite_value.specs.Order.{column};
-ghost use Rattle.dh_faults.specs.Faults.{OnStore};
+ghost use Rattle.dh_ports.specs.Faults.{OnStore};
 ghost use Rattle.dh_records.specs.Codings.{AreValuesOf};
 ghost use Rattle.dh_records.specs.Typed as typed;
 ghost use Rattle.dh_migrating.specs.OldPasses as spec;
 
-use dh_lookup::Fault;
 use dh_paths::{HostName, TextFault, Token};
+use dh_ports::Fault;
 use dh_records::{PassRow, Record};
 use dh_rows::fault_of;
 use dh_texts::{Checked, Kind};

@@ -12,7 +12,7 @@ ghost use Rattle.dh_records.specs.Constraints.{InOrder};
 ghost use Rattle.dh_schema.specs.Tables.{meta, meta_table, pass_table};
 ghost use Rattle.dh_migrating.specs.Converting.{CanConvert, CarriesTo, HasPasses, IsConverted, IsConvertible, IsGone, is_one};
 
-use dh_lookup::Fault;
+use dh_ports::Fault;
 use dh_records::PassRow;
 use dh_rows::{change, keeps_counts};
 use sqlite::{Alter, Connection, params};

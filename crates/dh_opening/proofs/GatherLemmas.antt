@@ -11,8 +11,8 @@ use Rattle.sqlite.specs.Listing.{understood, reads_listing}
 use Rattle.sqlite.specs.State.{HasCleanDisk, Survives, CommitsShowing, FailsToQuery, IsUnchanged, Shown}
 use Rattle.sqlite.proofs.Callers.{begun_plain, never_commits}
 use Rattle.sqlite.proofs.StateLemmas.{survives_weaker}
-use Rattle.dh_faults.specs.declared.fault.Fault.{Fault}
-use Rattle.dh_faults.specs.declared.fault.Fault.TheVariants as fault
+use Rattle.dh_ports.specs.declared.fault.Fault.{Fault}
+use Rattle.dh_ports.specs.declared.fault.Fault.TheVariants as fault
 use Rattle.dh_rows.specs.Calls.{IsHonest, IsPlainLook, IsUnfit, OnlyLooks}
 use Rattle.dh_rows.specs.Faults.{fault_of}
 use Rattle.dh_rows.proofs.Calls.{answered_looks, back_clean, lasts, leaves_no_more, query_blames, read, refused_looks, shown_was}

@@ -7,8 +7,8 @@ use Rattle.sqlite_trees.specs.declared.store.Store.{Ghosts}
 use Rattle.sqlite.specs.Effect.{Database, IsDatabase}
 use Rattle.sqlite.specs.Held.{Held, state}
 use Rattle.sqlite.specs.State.{State, HasCleanDisk}
-use Rattle.dh_faults.specs.declared.fault.Fault.{Fault}
-use Rattle.dh_faults.specs.declared.fault.Fault.TheVariants as fault
+use Rattle.dh_ports.specs.declared.fault.Fault.{Fault}
+use Rattle.dh_ports.specs.declared.fault.Fault.TheVariants as fault
 use Rattle.dh_rows.specs.Calls.{AreRows, StoreFaultHasCause, FindsSuch, IsHonest, IsUnfit, OnlyLooks}
 use Rattle.dh_rows.specs.Shapes.{StandsAlone}
 use Rattle.sqlite_schema.specs.declared.schema.Table.{Table}

@@ -1,6 +1,6 @@
 -- What is said of a refusal that is a certain one.
 use Rattle.std.proofs.Common.{◌≡◌, Err, subst}
-use Rattle.dh_faults.specs.declared.fault.Fault.TheVariants as fault
+use Rattle.dh_ports.specs.declared.fault.Fault.TheVariants as fault
 use Rattle.dh_opening.specs.declared.fault.TablesFault.{TablesFault}
 use Rattle.dh_opening.specs.declared.fault.TablesFault.TheVariants.{NotOurs, OldSchema, Failed}
 use Rattle.dh_opening.specs.Opening.{OnFailed, OnNotOurs, OnOldSchema}

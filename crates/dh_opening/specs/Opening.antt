@@ -21,7 +21,7 @@ use Rattle.dh_records.specs.Typed.{IsProject, IsLanguage, IsVersion, IsPage, IsU
 use Rattle.sqlite_schema.specs.declared.schema.Table.{Table}
 use Rattle.dh_schema.specs.Tables.{lists_of, meta, meta_table, rule_table, redirect_table, project_table, lang_table, version_table, page_table, used_table, pick_table, pass_table, holds_table}
 use Rattle.dh_schema.specs.Making.{CanAdd, derived_tables}
-use Rattle.dh_faults.specs.declared.fault.Fault.TheVariants as fault
+use Rattle.dh_ports.specs.declared.fault.Fault.TheVariants as fault
 use Rattle.dh_opening.specs.declared.fault.TablesFault.{TablesFault}
 use Rattle.dh_opening.specs.declared.fault.TablesFault.TheVariants.{NotOurs, OldSchema, Failed}
 

@@ -1,10 +1,10 @@
 //! Why tables could not be made or opened.
 
 ghost use Rattle.std.specs.Prelude.{◌≡◌};
-ghost use Rattle.dh_faults.specs.declared.fault.Fault.TheVariants.{Memory};
+ghost use Rattle.dh_ports.specs.declared.fault.Fault.TheVariants.{Memory};
 ghost use Rattle.dh_opening.specs.declared.fault.TablesFault.TheVariants.{Failed};
 
-use dh_lookup::Fault;
+use dh_ports::Fault;
 use std::alloc::AllocError;
 use thiserror::Error;
 

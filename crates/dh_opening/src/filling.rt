@@ -10,7 +10,7 @@ ghost use Rattle.dh_opening.specs.Opening.{IsOurs, OnNotOurs, OnOldSchema};
 ghost use Rattle.dh_opening.specs.Filling.{BringsBy, IsAtRest, IsFilled, IsOpened, LacksDerived, LeavesOpened};
 
 use crate::fault::TablesFault;
-use dh_lookup::Fault;
+use dh_ports::Fault;
 use dh_rows::{begin, commit};
 use dh_schema::{can_add, make_derived};
 use sqlite::{Alter, Connection};

@@ -8,7 +8,7 @@ ghost use Rattle.dh_opening.specs.Gathering.{TakesNext};
 ghost use Rattle.dh_opening.specs.Opening.{AnswersQuery, IsWhole, JudgesTables};
 
 use crate::fault::TablesFault;
-use dh_lookup::Fault;
+use dh_ports::Fault;
 use dh_rows::fault_of;
 use sqlite::{Alter, Connection, Row, Rows};
 use std::alloc::{AllocError, Global};

@@ -11,10 +11,10 @@ ghost use Rattle.dh_opening.specs.Rows.{part};
 ghost use Rattle.dh_opening.specs.Opening.{IsKeptAs, AreKept};
 
 use crate::rows::{has_values, is_number, rise, value_at};
-use dh_lookup::Fault;
+use dh_ports::Fault;
 use dh_records::{
-    AliasRow, HeldRow, LangRow, PageRow, PassRow, PickRow, ProjectRow, Record, RedirectRow,
-    RouteRow, RuleRow, UsedRow, VersionRow, action_number, is_tag, kind_number, show_number,
+    AliasRow, DefaultRow, GrantRow, LangRow, PageRow, PassRow, ProjectRow, Record, RedirectRow,
+    RetryRow, RouteRow, RuleRow, VersionRow, action_number, is_tag, kind_number, show_number,
 };
 use dh_world::{Answer, Operation};
 use sqlite::types::ToSql;
@@ -195,7 +195,7 @@ impl Kept for PassRow {
     }
 }
 
-impl Kept for HeldRow {
+impl Kept for GrantRow {
     ghost table = { spec.holds_table };
 
     ghost ids = { readings.holds_ids };
@@ -304,7 +304,7 @@ impl Kept for RedirectRow {
     }
 }
 
-impl Kept for UsedRow {
+impl Kept for RetryRow {
     ghost table = { spec.used_table };
 
     ghost ids = { readings.used_ids };
@@ -349,7 +349,7 @@ impl Kept for UsedRow {
     }
 }
 
-impl Kept for PickRow {
+impl Kept for DefaultRow {
     ghost table = { spec.pick_table };
 
     ghost ids = { readings.pick_ids };

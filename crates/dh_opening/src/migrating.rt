@@ -24,11 +24,11 @@ use crate::opening::{check_derived, finish, is_current, kept_records, show_settl
 use crate::shapes::are_old;
 use crate::tables::read_table;
 use dh_constraints::Records;
-use dh_lookup::Fault;
 use dh_migrating::{OldPassRow, convert, without_ends};
+use dh_ports::Fault;
 use dh_records::PassRow;
 use dh_rows::{begin, commit};
-use dh_store::Tables;
+use dh_tables::Tables;
 use sqlite::{Alter, Connection};
 use std::alloc::Global;
 

@@ -2,7 +2,7 @@
 
 ghost use Rattle.std.specs.Prelude.{◌≡◌, ℕ, ◌<◌, ◌^◌, [], IfOk};
 ghost use Rattle.sqlite_value.specs.Order.{column};
-ghost use Rattle.dh_faults.specs.Faults.{OnStore};
+ghost use Rattle.dh_ports.specs.Faults.{OnStore};
 ghost use Rattle.dh_records.specs.Codings.{number_in};
 ghost use Rattle.dh_records.specs.Typed.{IsNumber};
 ghost use Rattle.dh_schema.specs.Tables as spec;
@@ -10,7 +10,7 @@ ghost use Rattle.dh_opening.specs.Readings as readings;
 
 use crate::kept::Kept;
 use crate::rows::has_values;
-use dh_lookup::Fault;
+use dh_ports::Fault;
 use dh_records::{Record, number_at, show_number};
 use sqlite::{Row, params};
 use std::alloc::{AllocError, Global};

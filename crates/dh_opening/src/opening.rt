@@ -19,10 +19,10 @@ use crate::filling::complete;
 use crate::shapes::{are_ours, derived_stand};
 use crate::tables::{all_records, number_of, read_table, read_two};
 use dh_constraints::{Records, keep_constraints};
-use dh_lookup::Fault;
+use dh_ports::Fault;
 use dh_records::{AliasRow, PassRow, RouteRow};
 use dh_schema::{can_add, can_make, make_at_once};
-use dh_store::Tables;
+use dh_tables::Tables;
 use sqlite::{Alter, Connection};
 use std::alloc::Global;
 

@@ -9,9 +9,9 @@ ghost use Rattle.dh_opening.specs.ThinPages.{FindsNext, IsFit, IsNext, KeepsFit,
 use crate::gathering::Taker;
 use crate::kept::record_in;
 use crate::rows::compare_at;
-use dh_lookup::Page;
 use dh_paths::Bytes;
 use dh_records::PageRow;
+use dh_seen::Page;
 use dh_world::is_content;
 use sqlite::Row;
 use std::alloc::{AllocError, Global};

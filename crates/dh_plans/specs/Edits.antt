@@ -16,7 +16,8 @@ use Rattle.dh_world.specs.declared.refusal.Refusal.{Refusal}
 use Rattle.dh_world.specs.declared.refusal.Refusal.TheVariants.{OutOfMemory, TooMany}
 use Rattle.dh_plans.specs.Planned.{Planned}
 use Rattle.dh_plans.specs.declared.edits.Edit.{Edit}
-use Rattle.dh_plans.specs.declared.edits.Edit.TheVariants.{AddLang, PutVersion, PutWithoutPages, RemoveVersion, PutPage, RemovePages, SetDefaults, SetRules, SetRedirects, AddPass, RemovePass, Grant, Revoke, PutAnswer}
+use Rattle.dh_plans.specs.declared.edits.Edit.TheVariants.{AddLang, PutVersion, PutWithoutPages, RemoveVersion, PutPage, RemovePages, SetDefaults, SetRules, SetRedirects, AddPass, RemovePass, Grant, Revoke, PutRetryAnswer}
+use Rattle.dh_world.specs.declared.limits.TheConstants.{MOST_LANGUAGES, MOST_PASSES, MOST_REDIRECTS, MOST_RULES}
 
 abbrev pub edited : Edit → Project → Project
 edited (AddLang lang place) p = record p { languages = p.languages ++ lang ∷ [] }
@@ -32,7 +33,7 @@ edited (AddPass pass until) p = record p { passes = insert p.passes pass until }
 edited (RemovePass pass) p = record p { passes = remove p.passes pass; held = retain_keys p.held (λ key. not (bytes_eq key.0 pass)) }
 edited (Grant pass slug) p = record p { held = insert p.held (pass, slug) tt }
 edited (Revoke pass slug) p = record p { held = remove p.held (pass, slug) }
-edited (PutAnswer a) p = record p { used = insert p.used (a.slug, (op_code a.operation, a.key)) a.answer }
+edited (PutRetryAnswer a) p = record p { used = insert p.used (a.slug, (op_code a.operation, a.key)) a.answer }
 
 -- the project after edits, one after the other
 abbrev pub all_edited : List Edit → Project → Project
@@ -55,20 +56,20 @@ pub record IsNewFront (p : Project) (names : List Text) : Type 0 where
 -- there, a page may have its media type and body; lists are no longer than they may be, their rules and redirects pass their
 -- checks; and a first answer is one of its operation that has a JSON, under a free key.
 abbrev pub MayEdit : Edit → Project → Type 0
-MayEdit (AddLang lang place) p = (has_lang p lang ≡ false) × (place ≡ length p.languages + 1) × (place ≤ 30)
+MayEdit (AddLang lang place) p = (has_lang p lang ≡ false) × (place ≡ length p.languages + 1) × (place ≤ MOST_LANGUAGES)
 MayEdit (PutVersion v) p = (slug_from v.name ≡ Some v.slug) × (v.active ≡ false → is_active p v.slug ≡ false)
 MayEdit (PutWithoutPages v) p = slug_from v.name ≡ Some v.slug
 MayEdit (RemoveVersion slug defaults) p = defaults ≡ without_name slug p.defaults
 MayEdit (PutPage slug lang x) p = IsTrue (is_active p slug) × IsTrue (has_lang p lang) × IsTrue (is_content x.media x.body)
 MayEdit (RemovePages slug lang) p = Unit {0}
 MayEdit (SetDefaults names) p = IsNewFront p names
-MayEdit (SetRules rules) p = (length rules ≤ 50) × AllByRecursion (λ r. IsTrue (is_allowed r.pattern)) rules
-MayEdit (SetRedirects redirects) p = (length redirects ≤ 100) × AllByRecursion (λ r. first_fault r ≡ None) redirects
-MayEdit (AddPass pass until) p = (contains_key p.passes pass ≡ false) × (len p.passes < 1000)
+MayEdit (SetRules rules) p = (length rules ≤ MOST_RULES) × AllByRecursion (λ r. IsTrue (is_allowed r.pattern)) rules
+MayEdit (SetRedirects redirects) p = (length redirects ≤ MOST_REDIRECTS) × AllByRecursion (λ r. first_fault r ≡ None) redirects
+MayEdit (AddPass pass until) p = (contains_key p.passes pass ≡ false) × (len p.passes < MOST_PASSES)
 MayEdit (RemovePass pass) p = Unit {0}
 MayEdit (Grant pass slug) p = IsTrue (contains_key p.passes pass) × IsTrue (contains_key p.versions slug)
 MayEdit (Revoke pass slug) p = Unit {0}
-MayEdit (PutAnswer a) p = (get p.used (a.slug, (op_code a.operation, a.key)) ≡ None) × IsAnswer a.answer × IsSome (json_of a.answer) × IsTrue (answers_to a.operation a.answer)
+MayEdit (PutRetryAnswer a) p = (get p.used (a.slug, (op_code a.operation, a.key)) ≡ None) × IsAnswer a.answer × IsSome (json_of a.answer) × IsTrue (answers_to a.operation a.answer)
 
 abbrev pub MayEditAll : List Edit → Project → Type 0
 MayEditAll [] p = Unit {0}

@@ -18,6 +18,7 @@ use Rattle.dh_plans.specs.Questions.{Asked}
 use Rattle.dh_checks.specs.declared.checking.CheckedChange.{CheckedChange}
 use Rattle.dh_plans.specs.declared.facts.Facts.{Facts}
 use Rattle.dh_checks.specs.declared.checked.ProjectSettings.{ProjectSettings}
+use Rattle.dh_world.specs.declared.limits.TheConstants.{MOST_REDIRECTS, MOST_RULES}
 
 -- the settings are this project's
 pub record HasSettings (p : Project) (s : ProjectSettings) : Type 0 where
@@ -35,11 +36,11 @@ pub record AnswersAsked (q : Asked) (f : Facts) (p : Project) : Type 0 where
   pub defaults : (if q.defaults then p.defaults else []) ≡ f.defaults.items
   pub rules : (if q.rules then p.rules else []) ≡ f.rules.items
   -- the rules are at most 50, and each passes its check
-  pub few_rules : length f.rules.items ≤ 50
+  pub few_rules : length f.rules.items ≤ MOST_RULES
   pub good_rules : AllByRecursion (λ r. IsTrue (is_allowed r.pattern)) f.rules.items
   pub redirects : (if q.redirects then p.redirects else []) ≡ f.redirects.items
   -- the redirects are at most 100, and each passes its check
-  pub few_redirects : length f.redirects.items ≤ 100
+  pub few_redirects : length f.redirects.items ≤ MOST_REDIRECTS
   pub good_redirects : AllByRecursion (λ r. first_fault r ≡ None) f.redirects.items
   pub has_pass : option_map_or (contains_key p.passes) q.pass false ≡ f.has_pass
   pub pass_count : (if q.pass_count then len p.passes else 0) ≡ f.pass_count

@@ -1,4 +1,4 @@
-pub mod KeptAnswer
+pub mod AnsweredKey
 pub mod Planned
 pub mod Questions
 pub mod Asking

@@ -25,7 +25,7 @@ use Rattle.dh_checks.specs.declared.checked.CheckedPush.{CheckedPush}
 use Rattle.dh_checks.specs.declared.checked.CheckedUpload.{CheckedUpload}
 use Rattle.dh_checks.specs.declared.checked.NewProject.{NewProject}
 use Rattle.dh_plans.specs.declared.edits.Edit.{Edit}
-use Rattle.dh_plans.specs.declared.edits.Edit.TheVariants.{PutVersion, PutWithoutPages, PutPage, RemovePages, SetDefaults, SetRedirects, PutAnswer}
+use Rattle.dh_plans.specs.declared.edits.Edit.TheVariants.{PutVersion, PutWithoutPages, PutPage, RemovePages, SetDefaults, SetRedirects, PutRetryAnswer}
 use Rattle.dh_checks.specs.declared.checked.ProjectSettings.{ProjectSettings}
 
 -- ---- where the host has no project
@@ -60,7 +60,7 @@ chosen_put false slug defaults = []
 
 -- keeps the answer as the first one to the retry key of the push
 abbrev pub push_answered : CheckedPush → Answer → Edit
-push_answered x answer = PutAnswer (record { slug = x.slug; operation = operation.Push; key = x.key; answer = answer })
+push_answered x answer = PutRetryAnswer (record { slug = x.slug; operation = operation.Push; key = x.key; answer = answer })
 
 -- the plan of a push that makes a version, as the rules left it
 abbrev pub plan_made : CheckedPush → List Text → Fresh → Planned
@@ -88,7 +88,7 @@ pages_cleared true slug lang = RemovePages slug lang ∷ []
 pages_cleared false slug lang = []
 
 abbrev pub upload_answered : CheckedUpload → Edit
-upload_answered x = PutAnswer (record { slug = x.slug; operation = operation.Upload; key = x.key; answer = Stored (length x.pages.items) })
+upload_answered x = PutRetryAnswer (record { slug = x.slug; operation = operation.Upload; key = x.key; answer = Stored (length x.pages.items) })
 
 abbrev pub plan_stored : CheckedUpload → Planned
 plan_stored x = record {

@@ -1,16 +1,16 @@
 //! The changes of a project that plans are made of.
 use dh_checks::CheckedPage;
-use dh_lookup::Items;
 use dh_paths::{Lang, Slug, Token};
 use dh_redirects::Redirect;
 use dh_rules::Rule;
+use dh_seen::Items;
 use dh_versions::Version;
 use dh_world::{Answer, Operation, PassEnd};
 use std::marker::Model;
 
 /// The first answer to a retry key, which has a JSON.
 #[derive(Drop)]
-pub struct FirstAnswer {
+pub struct RetryAnswer {
     /// The slug that was asked for.
     pub slug: Slug,
     pub operation: Operation,
@@ -18,12 +18,12 @@ pub struct FirstAnswer {
     pub answer: Answer,
 }
 
-impl Model for FirstAnswer {
+impl Model for RetryAnswer {
     ghost use Rattle.std.specs.Prelude.{IsSome};
     ghost use Rattle.dh_world.specs.Answers.{json_of};
-    ghost use Rattle.dh_plans.specs.KeptAnswer.{KeptAnswer};
+    ghost use Rattle.dh_plans.specs.AnsweredKey.{AnsweredKey};
 
-    ghost Value = { KeptAnswer };
+    ghost Value = { AnsweredKey };
 
     ghost view = { λ x. record { slug = x.slug; operation = x.operation; key = x.key; answer = x.answer } };
 
@@ -84,5 +84,5 @@ pub enum Edit<'c> {
         slug: Slug,
     },
     /// Keeps the answer under its retry key.
-    PutAnswer(FirstAnswer),
+    PutRetryAnswer(RetryAnswer),
 }

@@ -10,7 +10,7 @@ mod plan;
 mod questions;
 
 pub use asking::questions_of;
-pub use edits::{Edit, FirstAnswer};
+pub use edits::{Edit, RetryAnswer};
 pub use facts::{Facts, take_list};
 pub use names::{is_alias, names_but, with_first};
 pub use plan::Plan;

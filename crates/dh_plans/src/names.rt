@@ -3,8 +3,8 @@ ghost use Rattle.std.specs.Prelude.{◌≡◌, ◌∷◌, IfOk};
 ghost use Rattle.dh_world.specs.Changes.{without_name};
 ghost use Rattle.dh_world.specs.Seen as names;
 
-use dh_lookup::Items;
 use dh_paths::Slug;
+use dh_seen::Items;
 use std::alloc::{AllocError, Global};
 
 /// Whether the name is an alias's, which may stand for no version.

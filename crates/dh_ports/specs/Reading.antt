@@ -3,6 +3,7 @@ use Rattle.std.specs.Prelude.{◌≡◌, ℕ, ◌≤◌, ◌<◌, Bool, true, fa
 use Rattle.std.specs.Io.KnownBytes.{Consumes, IsAtEnd}
 use Rattle.dh_ports.specs.declared.stop.Stop.{Stop}
 use Rattle.dh_ports.specs.declared.stop.Stop.TheVariants.{Read, TooManyTurns, Memory}
+use Rattle.dh_ports.specs.declared.intake.TheConstants.{MOST_READS, READ_SIZE}
 
 -- the reader failed
 abbrev pub reader_failed : {A : Type 0} → Result A Stop → Bool
@@ -27,13 +28,13 @@ AddsSome old new before after came =
     × Consumes old new bytes
     × (after ≡ before ++ bytes)
     × CameOrEnded new bytes came
-    × (length bytes ≤ 4096)
+    × (length bytes ≤ READ_SIZE)
 
 -- the most bytes that the source gave to a read that stopped
 abbrev pub most_lost : Stop → ℕ
 most_lost Read = 0
 most_lost TooManyTurns = 0
-most_lost Memory = 4096
+most_lost Memory = READ_SIZE
 
 -- one read: the bytes that came are put behind those that were there; a read that stopped leaves these as they were
 abbrev pub AddsOneRead
@@ -43,5 +44,5 @@ AddsOneRead old new before after (Err stop) = (after ≡ before) × TookAtMost o
 
 -- all 100,000 reads were made, and each of them brought a byte at least
 pub record IsFull (reads : ℕ) (bytes : List ℕ) : Type 0 where
-  pub reads_made : reads ≡ 100000
-  pub bytes_came : 100000 ≤ length bytes
+  pub reads_made : reads ≡ MOST_READS
+  pub bytes_came : MOST_READS ≤ length bytes

@@ -2,6 +2,7 @@
 
 ghost use Rattle.std.specs.Prelude.{◌≡◌, ◌+◌, ◌-◌, ◌≤◌, false, [], min, vec_len, IfOk, OnOk, IsErrOf, if◌then◌else◌};
 ghost use Rattle.dh_ports.specs.Ports.{CountsUpTo, CountsAtLeast};
+ghost use Rattle.dh_ports.specs.declared.intake.TheConstants.{MOST_READS};
 ghost use Rattle.dh_ports.specs.Reading.{reader_failed, AddsOneRead, IsFull};
 
 use crate::source::Source;
@@ -9,10 +10,10 @@ use crate::stop::Stop;
 use std::alloc::Global;
 
 /// The most reads that may bring bytes.
-const MOST_READS: u32 = 100_000;
+pub const MOST_READS: u32 = 100_000;
 
 /// The most bytes that one read asks for.
-const PIECE: usize = 4096;
+pub const READ_SIZE: usize = 4096;
 
 /// What was read so far, and in how many reads that brought bytes: at most 100,000.
 #[derive(Drop)]
@@ -20,7 +21,7 @@ pub struct Intake {
     pub bytes: Vec<u8>,
     pub reads: u32,
     ghost counted: { reads ≤ vec_len bytes },
-    ghost bounded: { reads ≤ 100000 },
+    ghost bounded: { reads ≤ MOST_READS },
 }
 
 impl Intake {
@@ -47,14 +48,14 @@ impl Intake {
         ensures full { IsErrOf result Stop.TooManyTurns
             → IsFull self.old.reads self.old.bytes.items × (source.new ≡ source.old) }
         ensures reads { CountsUpTo (R.fills source.old) (R.fills source.new)
-            (min 1 (100000 - self.old.reads)) }
+            (min 1 (MOST_READS - self.old.reads)) }
         ensures asked { OnOk result (CountsAtLeast (R.fills source.old) (R.fills source.new) 1) }
-        ensures few { self.new.reads ≤ 100000 }
+        ensures few { self.new.reads ≤ MOST_READS }
     {
         if self.reads == MOST_READS {
             return Err(Stop::TooManyTurns);
         }
-        let mut room = [0u8; PIECE];
+        let mut room = [0u8; READ_SIZE];
         match source.fill(&mut room) {
             Err(_) => Err(Stop::Read),
             Ok(0) => Ok(false),

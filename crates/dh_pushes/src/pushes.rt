@@ -12,7 +12,7 @@ ghost use Rattle.dh_plans.specs.Plans.{push_answered, plan_made, plan_known};
 
 use dh_checks::{CheckedChange, CheckedPush, ProjectSettings};
 use dh_paths::{RefName, Slug};
-use dh_plans::{Edit, Facts, FirstAnswer, Plan, is_write_key, take_list, with_first};
+use dh_plans::{Edit, Facts, Plan, RetryAnswer, is_write_key, take_list, with_first};
 use dh_rules::{Fresh, Rule, RuleFault, apply};
 use dh_versions::{Kind, Version};
 use dh_world::{Answer, Operation, Refusal};
@@ -116,7 +116,7 @@ fn answer_first(
     requires { IsSome (json_of answer) }
     ensures { IfOk result (λ e. e ≡ push_answered push.now answer) }
 {
-    Ok(Edit::PutAnswer(FirstAnswer {
+    Ok(Edit::PutRetryAnswer(RetryAnswer {
         slug: push.slug.try_copy(alloc)?,
         operation: Operation::Push,
         key: push.key.try_copy(alloc)?,

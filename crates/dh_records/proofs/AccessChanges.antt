@@ -9,7 +9,7 @@ use Rattle.std.specs.FinMap as finite
 use Rattle.std.proofs.lemmas.Slice.Eq.{bytes_eq-Decides}
 use Rattle.dh_rows.specs.Keyed.{by_key, IsFreeKey, added}
 use Rattle.dh_records.specs.declared.records.PassRow.{PassRow}
-use Rattle.dh_records.specs.declared.records.HeldRow.{HeldRow}
+use Rattle.dh_records.specs.declared.records.GrantRow.{GrantRow}
 use Rattle.dh_records.specs.Codings as coding
 use Rattle.dh_world.specs.World.{Text, text_cmp, HeldKey, held_cmp, Project, lies_under}
 use Rattle.dh_records.specs.Lists.{Lists, world_of, is_version, is_page_under, is_pass_of, is_pass, is_held, is_held_by, is_held_on, set_picks, granted}
@@ -76,11 +76,11 @@ there_already m key e = same_map held_total held_exact _ _ (λ q. get-insert hel
     go q false t = refl
 
 -- a grant is added, unless it is there
-pub world_with_grant : (lists : Lists) (row : HeldRow) (p : Project) → get (world_of lists) row.host ≡ Some p
+pub world_with_grant : (lists : Lists) (row : GrantRow) (p : Project) → get (world_of lists) row.host ≡ Some p
     → world_of (record lists { held = granted row lists.held }) ≡ insert (world_of lists) row.host (record p { held = insert p.held (row.pass, row.slug) tt })
 world_with_grant lists row p was = go (find (is_held row.host row.pass row.slug) lists.held) refl
   where
-    go : (o : Option HeldRow) → find (is_held row.host row.pass row.slug) lists.held ≡ o
+    go : (o : Option GrantRow) → find (is_held row.host row.pass row.slug) lists.held ≡ o
         → world_of (record lists { held = granted row lists.held }) ≡ insert (world_of lists) row.host (record p { held = insert p.held (row.pass, row.slug) tt })
     go None e =
         ap (λ rows. world_of (record lists { held = rows })) (granted_new row lists.held (ap is_some e))

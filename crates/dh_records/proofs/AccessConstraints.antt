@@ -11,9 +11,9 @@ use Rattle.sqlite_keyed.proofs.ListLemmas.{all_weaker, all_both, all_of, all-fil
 use Rattle.dh_rows.specs.Keyed.{by_key, IsFreeKey, added}
 use Rattle.dh_records.specs.declared.records.ProjectRow.{ProjectRow}
 use Rattle.dh_records.specs.declared.records.VersionRow.{VersionRow}
-use Rattle.dh_records.specs.declared.records.PickRow.{PickRow}
+use Rattle.dh_records.specs.declared.records.DefaultRow.{DefaultRow}
 use Rattle.dh_records.specs.declared.records.PassRow.{PassRow}
-use Rattle.dh_records.specs.declared.records.HeldRow.{HeldRow}
+use Rattle.dh_records.specs.declared.records.GrantRow.{GrantRow}
 use Rattle.dh_records.specs.Codings as coding
 use Rattle.dh_world.specs.World.{Text, Project}
 use Rattle.dh_world.specs.Seen.{is_alias}
@@ -65,10 +65,10 @@ and_first a b c h e = let both = and_parts a b e in and_from c b (h both.0) both
 -- ---- grants
 
 -- some grants less
-pub constraints_without_grants : (lists : Lists) (keep : HeldRow → Bool) → KeepsConstraints lists → KeepsConstraints (record lists { held = filter keep lists.held })
+pub constraints_without_grants : (lists : Lists) (keep : GrantRow → Bool) → KeepsConstraints lists → KeepsConstraints (record lists { held = filter keep lists.held })
 constraints_without_grants lists keep constraints = assumption (all-filter _ keep lists.held constraints.records.granted)
 
-all_granted : (P : HeldRow → Type 0) (row : HeldRow) (rows : List HeldRow) → P row → AllByRecursion P rows → AllByRecursion P (granted row rows)
+all_granted : (P : GrantRow → Type 0) (row : GrantRow) (rows : List GrantRow) → P row → AllByRecursion P rows → AllByRecursion P (granted row rows)
 all_granted P row rows new old = go (list_any (is_held row.host row.pass row.slug) rows)
   where
     go : (b : Bool) → AllByRecursion P (cond b rows (added coding.held.key row rows))
@@ -76,7 +76,7 @@ all_granted P row rows new old = go (list_any (is_held row.host row.pass row.slu
     go false = all_added P (by_key coding.held.key) row rows new old
 
 -- a grant of a pass and on a version that are there
-pub constraints_with_grant : (lists : Lists) (row : HeldRow) → KeepsConstraints lists → IsTrue (has_pass lists row.host row.pass) → IsTrue (has_version lists row.host row.slug) → KeepsConstraints (record lists { held = granted row lists.held })
+pub constraints_with_grant : (lists : Lists) (row : GrantRow) → KeepsConstraints lists → IsTrue (has_pass lists row.host row.pass) → IsTrue (has_version lists row.host row.slug) → KeepsConstraints (record lists { held = granted row lists.held })
 constraints_with_grant lists row constraints pass version = assumption (all_granted (λ x. IsTrue (has_pass lists x.host x.pass && has_version lists x.host x.slug)) row lists.held (and_from _ _ pass version) constraints.records.granted)
 
 -- ---- passes
@@ -113,7 +113,7 @@ constraints_without_pass lists host pass constraints none =
     next : Lists
     next = record lists { passes = filter (λ x. not (is_pass host pass x)) lists.passes }
 
-    kept : (x : HeldRow) → is_held_by host pass x ≡ false → IsTrue (has_pass lists x.host x.pass) → IsTrue (has_pass next x.host x.pass)
+    kept : (x : GrantRow) → is_held_by host pass x ≡ false → IsTrue (has_pass lists x.host x.pass) → IsTrue (has_pass next x.host x.pass)
     kept x out was =
         ap is_some (found_without (is_pass x.host x.pass) (is_pass host pass) (λ y. not_others y.host y.pass x.host x.pass host pass out) lists.passes) ∙ was
 
@@ -143,13 +143,13 @@ constraints_with_defaults lists host names constraints up has apart may =
         (λ name apart. subst AreDefaults (sym (set_elsewhere host name apart names lists.picks))) r.host
 
 -- a name that is not among the new defaults of a host is none of its defaults
-pub set_unnamed : (host slug : Text) (names : List Text) (rows : List PickRow) → AllByRecursion (λ n. bytes_eq n slug ≡ false) names → AllByRecursion (λ d. (is_pick_of host d && bytes_eq d.name slug) ≡ false) (set_picks host names rows)
+pub set_unnamed : (host slug : Text) (names : List Text) (rows : List DefaultRow) → AllByRecursion (λ n. bytes_eq n slug ≡ false) names → AllByRecursion (λ d. (is_pick_of host d && bytes_eq d.name slug) ≡ false) (set_picks host names rows)
 set_unnamed host slug names rows none =
     all_with host IsOther 1 names (filter (λ r. not (is_pick_of host r)) rows)
     (all_ranked host IsOther 1 names (all_weaker _ (λ name. (rank : ℕ) → IsOther (record { host = host; name = name; rank = rank })) (λ name out rank. Rattle.std.proofs.lemmas.Bool.and_right (bytes_eq host host) (bytes_eq name slug) out) names none))
     (all_weaker _ IsOther (λ d out. ap (λ b. b && bytes_eq d.name slug) out) _ (taken_out (is_pick_of host) rows))
   where
-    IsOther : PickRow → Type 0
+    IsOther : DefaultRow → Type 0
     IsOther d = (is_pick_of host d && bytes_eq d.name slug) ≡ false
 
 -- ---- lists of names
@@ -253,12 +253,12 @@ module _ (lists : Lists) (up : AreInOrder lists) where
   pub order_without_pass : (keep : PassRow → Bool) → AreInOrder (record lists { passes = filter keep lists.passes })
   order_without_pass keep = assumption (filtered_in_order coding.passes.key keep lists.passes up.passes)
 
-  pub order_without_grants : (keep : HeldRow → Bool) → AreInOrder (record lists { held = filter keep lists.held })
+  pub order_without_grants : (keep : GrantRow → Bool) → AreInOrder (record lists { held = filter keep lists.held })
   order_without_grants keep = assumption (filtered_in_order coding.held.key keep lists.held up.held)
 
-  pub order_with_grant : (row : HeldRow) → AreInOrder (record lists { held = granted row lists.held })
+  pub order_with_grant : (row : GrantRow) → AreInOrder (record lists { held = granted row lists.held })
   order_with_grant row = assumption (go (find (is_held row.host row.pass row.slug) lists.held) refl)
     where
-      go : (o : Option HeldRow) → find (is_held row.host row.pass row.slug) lists.held ≡ o → InOrder coding.held.key (granted row lists.held)
+      go : (o : Option GrantRow) → find (is_held row.host row.pass row.slug) lists.held ≡ o → InOrder coding.held.key (granted row lists.held)
       go None e = subst (InOrder coding.held.key) (sym (granted_new row lists.held (ap is_some e))) (added_in_order coding.held.key row lists.held (grant_is_free row lists.held (ap is_some e)) up.held)
       go (Some x) e = subst (InOrder coding.held.key) (sym (granted_there row lists.held (ap is_some e))) up.held

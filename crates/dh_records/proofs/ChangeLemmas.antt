@@ -12,7 +12,7 @@ use Rattle.dh_records.specs.declared.records.ProjectRow.{ProjectRow}
 use Rattle.dh_records.specs.declared.records.LangRow.{LangRow}
 use Rattle.dh_records.specs.declared.records.VersionRow.{VersionRow}
 use Rattle.dh_records.specs.declared.records.PageRow.{PageRow}
-use Rattle.dh_records.specs.declared.records.UsedRow.{UsedRow}
+use Rattle.dh_records.specs.declared.records.RetryRow.{RetryRow}
 use Rattle.dh_records.specs.Codings as coding
 use Rattle.dh_world.specs.World.{Text, op_code, Project, lies_under}
 use Rattle.dh_records.specs.Lists.{Lists, project_of, world_of, kept_answer, is_project, is_lang_of, is_version, is_page_under}
@@ -60,7 +60,7 @@ world_without_pages lists host slug lang p = world_dropped parts.page_maps parts
 -- ---- used keys
 
 -- the answer to a retry key that was free is kept
-pub world_with_used : (lists : Lists) (row : UsedRow) (p : Project) → IsFreeKey coding.used.key row lists.used → get (world_of lists) row.host ≡ Some p
+pub world_with_used : (lists : Lists) (row : RetryRow) (p : Project) → IsFreeKey coding.used.key row lists.used → get (world_of lists) row.host ≡ Some p
     → world_of (record lists { used = added coding.used.key row lists.used })
     ≡ insert (world_of lists) row.host (record p { used = insert p.used (row.slug, (op_code row.op, row.retry)) (kept_answer row) })
 world_with_used = world_added parts.used_maps parts.used

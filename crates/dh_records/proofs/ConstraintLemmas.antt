@@ -17,9 +17,9 @@ use Rattle.dh_records.specs.declared.records.ProjectRow.{ProjectRow}
 use Rattle.dh_records.specs.declared.records.LangRow.{LangRow}
 use Rattle.dh_records.specs.declared.records.VersionRow.{VersionRow}
 use Rattle.dh_records.specs.declared.records.PageRow.{PageRow}
-use Rattle.dh_records.specs.declared.records.UsedRow.{UsedRow}
+use Rattle.dh_records.specs.declared.records.RetryRow.{RetryRow}
 use Rattle.dh_records.specs.declared.records.PassRow.{PassRow}
-use Rattle.dh_records.specs.declared.records.HeldRow.{HeldRow}
+use Rattle.dh_records.specs.declared.records.GrantRow.{GrantRow}
 use Rattle.dh_records.specs.Codings as coding
 use Rattle.dh_world.specs.Answers.{tells}
 use Rattle.dh_world.specs.WrongTexts.{is_content}
@@ -130,7 +130,7 @@ constraints_without lists p constraints =
 
 -- ---- used keys
 
-pub constraints_with_used : (lists : Lists) (row : UsedRow) → KeepsConstraints lists → IsTrue (has_project lists row.host) → IsTrue (tells row.op row.answer)
+pub constraints_with_used : (lists : Lists) (row : RetryRow) → KeepsConstraints lists → IsTrue (has_project lists row.host) → IsTrue (tells row.op row.answer)
     → KeepsConstraints (record lists { used = added coding.used.key row lists.used })
 constraints_with_used lists row constraints host read =
     assumption (
@@ -160,7 +160,7 @@ of_project P lists host all = go (find (is_project host) lists.projects) refl
 pub grants_owned : (lists : Lists) → KeepsConstraints lists → AllByRecursion (λ x. IsTrue (has_project lists x.host)) lists.held
 grants_owned lists constraints = all_weaker _ (λ x. IsTrue (has_project lists x.host)) owned lists.held constraints.records.granted
   where
-    owned : (x : HeldRow) → IsTrue (has_pass lists x.host x.pass && has_version lists x.host x.slug) → IsTrue (has_project lists x.host)
+    owned : (x : GrantRow) → IsTrue (has_pass lists x.host x.pass && has_version lists x.host x.slug) → IsTrue (has_project lists x.host)
     owned x h = go (find (is_pass x.host x.pass) lists.passes) refl (and_parts _ _ h).0
       where
         go : (o : Option PassRow) → find (is_pass x.host x.pass) lists.passes ≡ o → is_some o ≡ true → IsTrue (has_project lists x.host)

@@ -16,9 +16,9 @@ use Rattle.dh_rows.proofs.Lists.{by_key_total}
 use Rattle.dh_records.specs.declared.records.ProjectRow.{ProjectRow}
 use Rattle.dh_records.specs.declared.records.VersionRow.{VersionRow}
 use Rattle.dh_records.specs.declared.records.PageRow.{PageRow}
-use Rattle.dh_records.specs.declared.records.UsedRow.{UsedRow}
+use Rattle.dh_records.specs.declared.records.RetryRow.{RetryRow}
 use Rattle.dh_records.specs.declared.records.PassRow.{PassRow}
-use Rattle.dh_records.specs.declared.records.HeldRow.{HeldRow}
+use Rattle.dh_records.specs.declared.records.GrantRow.{GrantRow}
 use Rattle.dh_world.specs.declared.operation.Operation.{Operation}
 use Rattle.dh_world.specs.declared.operation.Operation.TheVariants.{Push, Upload}
 use Rattle.dh_records.specs.Codings as coding
@@ -45,7 +45,7 @@ page_key x y =
 pub pass_key : (x y : PassRow) → same_key coding.passes.key x y ≡ is_pass x.host x.pass y
 pass_key x y = texts_key (x.host ∷ x.pass ∷ []) (y.host ∷ y.pass ∷ []) ∙ two (bytes_eq y.host x.host) (bytes_eq y.pass x.pass)
 
-pub held_key : (x y : HeldRow) → same_key coding.held.key x y ≡ is_held x.host x.pass x.slug y
+pub held_key : (x y : GrantRow) → same_key coding.held.key x y ≡ is_held x.host x.pass x.slug y
 held_key x y = texts_key (x.host ∷ x.pass ∷ x.slug ∷ []) (y.host ∷ y.pass ∷ y.slug ∷ []) ∙ three (bytes_eq y.host x.host) (bytes_eq y.pass x.pass) (bytes_eq y.slug x.slug)
 
 -- ---- a host, and the key of a map of its project
@@ -53,7 +53,7 @@ held_key x y = texts_key (x.host ∷ x.pass ∷ x.slug ∷ []) (y.host ∷ y.pas
 abbrev pub page_place : PageRow → PageKey
 page_place x = (x.slug, (x.lang, x.path))
 
-abbrev pub held_place : HeldRow → HeldKey
+abbrev pub held_place : GrantRow → HeldKey
 held_place x = (x.pass, x.slug)
 
 pub same_version : (x y : VersionRow) → same_key coding.versions.key x y ≡ (bytes_eq y.host x.host && eq_by_cmp text_cmp x.version.slug y.version.slug)
@@ -67,7 +67,7 @@ same_page x y =
 pub same_pass : (x y : PassRow) → same_key coding.passes.key x y ≡ (bytes_eq y.host x.host && eq_by_cmp text_cmp x.pass y.pass)
 same_pass x y = pass_key x y ∙ ap (λ b. bytes_eq y.host x.host && b) (sym (tied_text x.pass y.pass))
 
-pub same_held : (x y : HeldRow) → same_key coding.held.key x y ≡ (bytes_eq y.host x.host && eq_by_cmp held_cmp (held_place x) (held_place y))
+pub same_held : (x y : GrantRow) → same_key coding.held.key x y ≡ (bytes_eq y.host x.host && eq_by_cmp held_cmp (held_place x) (held_place y))
 same_held x y =
     held_key x y ∙ host_first (bytes_eq y.host x.host) (bytes_eq y.pass x.pass) (bytes_eq y.slug x.slug)
     ∙ ap (λ b. bytes_eq y.host x.host && b) (sym (tied_held x.pass x.slug (held_place y)))
@@ -119,7 +119,7 @@ module _ {X : Type 0} (host_of : X → List ℕ) (place_of : X → ℕ) where
 
 -- ---- used keys
 
-abbrev pub used_place : UsedRow → UsedKey
+abbrev pub used_place : RetryRow → UsedKey
 used_place x = (x.slug, (op_code x.op, x.retry))
 
 same_flag : (a b : Operation) → is_eq (value_cmp (flag (is_upload a)) (flag (is_upload b))) ≡ eq_by_cmp nat_cmp (op_code a) (op_code b)
@@ -140,21 +140,21 @@ four_then h s o r =
     eq_then h (ordering_then s (ordering_then o (ordering_then r Equal)))
     ∙ ap (λ b. is_eq h && b) (eq_then s (ordering_then o (ordering_then r Equal)) ∙ ap (λ b. is_eq s && b) (eq_then o (ordering_then r Equal) ∙ ap (λ b. is_eq o && is_eq b) (then-Equal r)))
 
-tied_used : (slug : List ℕ) (op : Operation) (retry : List ℕ) (y : UsedRow) → eq_by_cmp used_cmp (slug, (op_code op, retry)) (used_place y) ≡ (bytes_eq y.slug slug && (eq_by_cmp nat_cmp (op_code op) (op_code y.op) && bytes_eq y.retry retry))
+tied_used : (slug : List ℕ) (op : Operation) (retry : List ℕ) (y : RetryRow) → eq_by_cmp used_cmp (slug, (op_code op, retry)) (used_place y) ≡ (bytes_eq y.slug slug && (eq_by_cmp nat_cmp (op_code op) (op_code y.op) && bytes_eq y.retry retry))
 tied_used slug op retry y =
     eq_then (text_cmp slug y.slug) _
     ∙ ap (λ b. is_eq (text_cmp slug y.slug) && b) (eq_then (nat_cmp (op_code op) (op_code y.op)) (text_cmp retry y.retry))
     ∙ rw (tied_text slug y.slug, tied_text retry y.retry) refl
 
-pub tied_used_key : (slug : List ℕ) (op : Operation) (retry : List ℕ) (y : UsedRow) → eq_by_cmp used_cmp (slug, (op_code op, retry)) (used_place y) ≡ (bytes_eq y.slug slug && (same_op y.op op && bytes_eq y.retry retry))
+pub tied_used_key : (slug : List ℕ) (op : Operation) (retry : List ℕ) (y : RetryRow) → eq_by_cmp used_cmp (slug, (op_code op, retry)) (used_place y) ≡ (bytes_eq y.slug slug && (same_op y.op op && bytes_eq y.retry retry))
 tied_used_key slug op retry y = tied_used slug op retry y ∙ ap (λ b. bytes_eq y.slug slug && (b && bytes_eq y.retry retry)) (same_ops op y.op)
 
-pub same_used : (x y : UsedRow) → same_key coding.used.key x y ≡ (bytes_eq y.host x.host && eq_by_cmp used_cmp (used_place x) (used_place y))
+pub same_used : (x y : RetryRow) → same_key coding.used.key x y ≡ (bytes_eq y.host x.host && eq_by_cmp used_cmp (used_place x) (used_place y))
 same_used x y =
     four_then (value_cmp (Text x.host) (Text y.host)) (value_cmp (Text x.slug) (Text y.slug)) (value_cmp (flag (is_upload x.op)) (flag (is_upload y.op))) (value_cmp (Text x.retry) (Text y.retry))
     ∙ rw (same_text x.host y.host, same_text x.slug y.slug, same_flag x.op y.op, same_text x.retry y.retry) (ap (λ b. bytes_eq y.host x.host && b) (sym (tied_used x.slug x.op x.retry y)))
 
-pub used_key : (x y : UsedRow) → same_key coding.used.key x y ≡ is_used x.host x.slug x.op x.retry y
+pub used_key : (x y : RetryRow) → same_key coding.used.key x y ≡ is_used x.host x.slug x.op x.retry y
 used_key x y =
     same_used x y ∙ ap (λ b. bytes_eq y.host x.host && b) (tied_used_key x.slug x.op x.retry y)
     ∙ sym (host_first_of_four (bytes_eq y.host x.host) (bytes_eq y.slug x.slug) (same_op y.op x.op) (bytes_eq y.retry x.retry))
@@ -166,7 +166,7 @@ pub project_is_free : (x : ProjectRow) (rows : List ProjectRow) → find (is_pro
 project_is_free x = free_if_missing coding.projects.key x (is_project x.host) (project_key x)
 
 -- a retry key that was not used is a free key
-pub used_is_free : (x : UsedRow) (rows : List UsedRow) → find (is_used x.host x.slug x.op x.retry) rows ≡ None → IsFreeKey coding.used.key x rows
+pub used_is_free : (x : RetryRow) (rows : List RetryRow) → find (is_used x.host x.slug x.op x.retry) rows ≡ None → IsFreeKey coding.used.key x rows
 used_is_free x = free_if_missing coding.used.key x (is_used x.host x.slug x.op x.retry) (used_key x)
 
 -- a pass that is not there is a free key

@@ -9,7 +9,7 @@ use Rattle.dh_records.specs.declared.records.ProjectRow.{ProjectRow}
 use Rattle.dh_records.specs.declared.records.LangRow.{LangRow}
 use Rattle.dh_records.specs.declared.records.VersionRow.{VersionRow}
 use Rattle.dh_records.specs.declared.records.PageRow.{PageRow}
-use Rattle.dh_records.specs.declared.records.UsedRow.{UsedRow}
+use Rattle.dh_records.specs.declared.records.RetryRow.{RetryRow}
 use Rattle.dh_records.specs.Codings as coding
 use Rattle.dh_records.specs.Lists.{Lists}
 use Rattle.dh_records.specs.Constraints.{InOrder, AreInOrder}
@@ -50,5 +50,5 @@ module _ (lists : Lists) (up : AreInOrder lists) where
   pub order_without : (p : PageRow → Bool) → AreInOrder (record lists { pages = filter p lists.pages })
   order_without p = assumption (filtered_in_order coding.pages.key p lists.pages up.pages)
 
-  pub order_with_used : (row : UsedRow) → IsFreeKey coding.used.key row lists.used → AreInOrder (record lists { used = added coding.used.key row lists.used })
+  pub order_with_used : (row : RetryRow) → IsFreeKey coding.used.key row lists.used → AreInOrder (record lists { used = added coding.used.key row lists.used })
   order_with_used row free = assumption (added_in_order coding.used.key row lists.used free up.used)

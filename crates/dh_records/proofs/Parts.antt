@@ -2,16 +2,16 @@
 use Rattle.std.proofs.Common.{◌≡◌, ℕ, Option, List, map, refl}
 use Rattle.std.proofs.lemmas.Map.Lookups.{exact_bytes}
 use Rattle.dh_versions.specs.declared.version.Version.{Version}
-use Rattle.dh_lookup.specs.declared.found.Page.{Page}
+use Rattle.dh_seen.specs.declared.found.Page.{Page}
 use Rattle.dh_world.specs.declared.answer.Answer.{Answer}
 use Rattle.dh_records.specs.declared.records.ProjectRow.{ProjectRow}
 use Rattle.dh_records.specs.declared.records.LangRow.{LangRow}
 use Rattle.dh_records.specs.declared.records.VersionRow.{VersionRow}
 use Rattle.dh_records.specs.declared.records.PageRow.{PageRow}
-use Rattle.dh_records.specs.declared.records.UsedRow.{UsedRow}
-use Rattle.dh_records.specs.declared.records.PickRow.{PickRow}
+use Rattle.dh_records.specs.declared.records.RetryRow.{RetryRow}
+use Rattle.dh_records.specs.declared.records.DefaultRow.{DefaultRow}
 use Rattle.dh_records.specs.declared.records.PassRow.{PassRow}
-use Rattle.dh_records.specs.declared.records.HeldRow.{HeldRow}
+use Rattle.dh_records.specs.declared.records.GrantRow.{GrantRow}
 use Rattle.dh_records.specs.declared.records.RuleRow.{RuleRow}
 use Rattle.dh_records.specs.declared.records.RedirectRow.{RedirectRow}
 use Rattle.dh_records.specs.Codings as coding
@@ -29,13 +29,13 @@ version_maps = record { total = text_total; exact = exact_bytes; code = coding.v
 abbrev pub page_maps : MapOf PageRow Page page_cmp
 page_maps = record { total = page_total; exact = page_exact; code = coding.pages.key; host_of = λ x. x.host; place = page_place; value = λ x. x.page; same = same_page }
 
-abbrev pub used_maps : MapOf UsedRow Answer used_cmp
+abbrev pub used_maps : MapOf RetryRow Answer used_cmp
 used_maps = record { total = used_total; exact = used_exact; code = coding.used.key; host_of = λ x. x.host; place = used_place; value = kept_answer; same = same_used }
 
 abbrev pub pass_maps : MapOf PassRow (Option ℕ) text_cmp
 pass_maps = record { total = text_total; exact = exact_bytes; code = coding.passes.key; host_of = λ x. x.host; place = λ x. x.pass; value = λ x. x.until; same = same_pass }
 
-abbrev pub held_maps : MapOf HeldRow (Unit {0}) held_cmp
+abbrev pub held_maps : MapOf GrantRow (Unit {0}) held_cmp
 held_maps = record { total = held_total; exact = held_exact; code = coding.held.key; host_of = λ x. x.host; place = held_place; value = λ x. tt; same = same_held }
 
 -- ---- lists of which it makes lists
@@ -94,7 +94,7 @@ held = record { rows = λ l. l.held; replaced = λ rows l. record l { held = row
 abbrev pub langs : Part (list_of (λ (l : LangRow). l.host) (λ l. l.lang))
 langs = record { rows = λ l. l.langs; replaced = λ rows l. record l { langs = rows }; of = λ x. x.languages; set = λ m x. record x { languages = m }; projects_stay = λ rows l. refl; project_stays = λ x. refl; is_told = λ l r. refl; turns = λ rows l r. refl }
 
-abbrev pub picks : Part (list_of (λ (d : PickRow). d.host) (λ d. d.name))
+abbrev pub picks : Part (list_of (λ (d : DefaultRow). d.host) (λ d. d.name))
 picks = record { rows = λ l. l.picks; replaced = λ rows l. record l { picks = rows }; of = λ x. x.defaults; set = λ m x. record x { defaults = m }; projects_stay = λ rows l. refl; project_stays = λ x. refl; is_told = λ l r. refl; turns = λ rows l r. refl }
 
 abbrev pub rules : Part (list_of (λ (r : RuleRow). r.host) (λ r. r.rule))

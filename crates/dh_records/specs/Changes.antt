@@ -11,10 +11,10 @@ use Rattle.dh_records.specs.declared.records.ProjectRow.{ProjectRow}
 use Rattle.dh_records.specs.declared.records.LangRow.{LangRow}
 use Rattle.dh_records.specs.declared.records.VersionRow.{VersionRow}
 use Rattle.dh_records.specs.declared.records.PageRow.{PageRow}
-use Rattle.dh_records.specs.declared.records.UsedRow.{UsedRow}
-use Rattle.dh_records.specs.declared.records.PickRow.{PickRow}
+use Rattle.dh_records.specs.declared.records.RetryRow.{RetryRow}
+use Rattle.dh_records.specs.declared.records.DefaultRow.{DefaultRow}
 use Rattle.dh_records.specs.declared.records.PassRow.{PassRow}
-use Rattle.dh_records.specs.declared.records.HeldRow.{HeldRow}
+use Rattle.dh_records.specs.declared.records.GrantRow.{GrantRow}
 use Rattle.dh_records.specs.declared.records.RuleRow.{RuleRow}
 use Rattle.dh_records.specs.declared.records.RedirectRow.{RedirectRow}
 use Rattle.dh_records.specs.declared.records.AliasName.{AliasName}
@@ -30,16 +30,16 @@ add_project row l = record l { projects = added coding.projects.key row l.projec
 abbrev pub add_lang : LangRow → Lists → Lists
 add_lang row l = record l { langs = added coding.langs.key row l.langs }
 
-abbrev pub add_used : UsedRow → Lists → Lists
+abbrev pub add_used : RetryRow → Lists → Lists
 add_used row l = record l { used = added coding.used.key row l.used }
 
-abbrev pub add_pick : PickRow → Lists → Lists
+abbrev pub add_pick : DefaultRow → Lists → Lists
 add_pick row l = record l { picks = added coding.picks.key row l.picks }
 
 abbrev pub add_pass : PassRow → Lists → Lists
 add_pass row l = record l { passes = added coding.passes.key row l.passes }
 
-abbrev pub add_grant : HeldRow → Lists → Lists
+abbrev pub add_grant : GrantRow → Lists → Lists
 add_grant row l = record l { held = added coding.held.key row l.held }
 
 -- ---- putting a record in place of the one with its key
@@ -63,11 +63,11 @@ abbrev pub put_route : RouteRow → Lists → Lists
 put_route row l = record l { routes = put coding.routes.key row l.routes }
 
 -- adds a grant, unless it is there
-abbrev pub grant : HeldRow → Lists → Lists
+abbrev pub grant : GrantRow → Lists → Lists
 grant row l = record l { held = granted row l.held }
 
 -- adds these defaults, one after the other
-abbrev pub with_picks : List PickRow → Lists → Lists
+abbrev pub with_picks : List DefaultRow → Lists → Lists
 with_picks rows l = record l { picks = lists.with_picks rows l.picks }
 
 -- puts these defaults of a host in place of those that the host had

@@ -21,10 +21,10 @@ use Rattle.dh_records.specs.declared.records.ProjectRow.{ProjectRow}
 use Rattle.dh_records.specs.declared.records.LangRow.{LangRow}
 use Rattle.dh_records.specs.declared.records.VersionRow.{VersionRow}
 use Rattle.dh_records.specs.declared.records.PageRow.{PageRow}
-use Rattle.dh_records.specs.declared.records.UsedRow.{UsedRow}
-use Rattle.dh_records.specs.declared.records.PickRow.{PickRow}
+use Rattle.dh_records.specs.declared.records.RetryRow.{RetryRow}
+use Rattle.dh_records.specs.declared.records.DefaultRow.{DefaultRow}
 use Rattle.dh_records.specs.declared.records.PassRow.{PassRow}
-use Rattle.dh_records.specs.declared.records.HeldRow.{HeldRow}
+use Rattle.dh_records.specs.declared.records.GrantRow.{GrantRow}
 use Rattle.dh_records.specs.declared.records.RuleRow.{RuleRow}
 use Rattle.dh_records.specs.declared.records.RedirectRow.{RedirectRow}
 use Rattle.dh_records.specs.declared.records.AliasRow.{AliasRow}
@@ -125,7 +125,7 @@ pages = record {
   key = λ x. Text x.host ∷ Text x.slug ∷ Text x.lang ∷ Text x.path ∷ [];
 }
 
-abbrev pub used : Coding UsedRow
+abbrev pub used : Coding RetryRow
 used = record {
   encode = λ x. Text x.host ∷ Text x.slug ∷ flag (is_upload x.op) ∷ Text x.retry ∷ Text x.answer ∷ [];
   decode = λ r. record { host = text_in r 1; slug = text_in r 2; op = if flag_in r 3 then Upload else Push; retry = text_in r 4; answer = text_in r 5 };
@@ -133,7 +133,7 @@ used = record {
 }
 
 -- a default's key is its rank, so that the records of a host stand in the order of ranks
-abbrev pub picks : Coding PickRow
+abbrev pub picks : Coding DefaultRow
 picks = record {
   encode = λ x. Text x.host ∷ Text x.name ∷ Int (pos x.rank) ∷ [];
   decode = λ r. record { host = text_in r 1; name = text_in r 2; rank = number_in (column r 3) };
@@ -147,7 +147,7 @@ passes = record {
   key = λ x. Text x.host ∷ Text x.pass ∷ [];
 }
 
-abbrev pub held : Coding HeldRow
+abbrev pub held : Coding GrantRow
 held = record {
   encode = λ x. Text x.host ∷ Text x.pass ∷ Text x.slug ∷ [];
   decode = λ r. record { host = text_in r 1; pass = text_in r 2; slug = text_in r 3 };

@@ -18,10 +18,11 @@ use Rattle.dh_world.specs.Seen.{is_alias}
 use Rattle.dh_records.specs.Codings as coding
 use Rattle.dh_records.specs.Lists.{Lists, is_project, is_lang_of, is_version, is_pick_of, is_pass_of, is_pass, is_rule_of, is_redirect_of}
 use Rattle.dh_records.specs.declared.records.LangRow.{LangRow}
-use Rattle.dh_records.specs.declared.records.PickRow.{PickRow}
+use Rattle.dh_records.specs.declared.records.DefaultRow.{DefaultRow}
 use Rattle.dh_records.specs.declared.records.RuleRow.{RuleRow}
 use Rattle.dh_records.specs.declared.records.RedirectRow.{RedirectRow}
 use Rattle.dh_records.specs.declared.records.VersionRow.{VersionRow}
+use Rattle.dh_world.specs.declared.limits.TheConstants.{MOST_LANGUAGES, MOST_PASSES, MOST_REDIRECTS, MOST_RULES}
 
 -- no two records have one key, and each stands before those with a greater key
 abbrev pub InOrder : {X : Type 0} → (X → Row) → List X → Type 0
@@ -65,7 +66,7 @@ abbrev pub has_pass : Lists → Text → Text → Bool
 has_pass lists host pass = is_some (find (is_pass host pass) lists.passes)
 
 -- The defaults of one project: they have the ranks 1 to n without gaps, and no name stands twice.
-pub record AreDefaults (picks : List PickRow) : Type 0 where
+pub record AreDefaults (picks : List DefaultRow) : Type 0 where
   pub ranks : map (λ d. d.rank) picks ≡ range_with_len 1 (length picks)
   pub apart : IsDistinct bytes_eq (map (λ d. d.name) picks)
 
@@ -74,7 +75,7 @@ pub record AreLanguages (main : Text) (langs : List LangRow) : Type 0 where
   pub places : map (λ l. l.place) langs ≡ range_with_len 1 (length langs)
   pub apart : IsDistinct bytes_eq (map (λ l. l.lang) langs)
   pub first : slice_get (map (λ l. l.lang) langs) 0 ≡ Some main
-  pub few : length langs ≤ 30
+  pub few : length langs ≤ MOST_LANGUAGES
 
 -- The records of one project that stand at places: they have the places 1 to n without gaps, and there are at most so many.
 pub record HavePlaces {X : Type 0} (place_of : X → ℕ) (most : ℕ) (rows : List X) : Type 0 where
@@ -83,11 +84,11 @@ pub record HavePlaces {X : Type 0} (place_of : X → ℕ) (most : ℕ) (rows : L
 
 -- the rules of one project: at most 50
 abbrev pub AreRules : List RuleRow → Type 0
-AreRules = HavePlaces (λ r. r.place) 50
+AreRules = HavePlaces (λ r. r.place) MOST_RULES
 
 -- the redirects of one project: at most 100
 abbrev pub AreRedirects : List RedirectRow → Type 0
-AreRedirects = HavePlaces (λ r. r.place) 100
+AreRedirects = HavePlaces (λ r. r.place) MOST_REDIRECTS
 
 -- ---- the constraints of the records, in four parts
 
@@ -106,7 +107,7 @@ pub record HaveProjects (lists : Lists) : Type 0 where
 pub record KeepProjects (lists : Lists) : Type 0 where
   pub languages : AllByRecursion (λ r. AreLanguages r.main (filter (is_lang_of r.host) lists.langs)) lists.projects
   -- a project has at most 1,000 passes
-  pub few_passes : AllByRecursion (λ r. length (filter (is_pass_of r.host) lists.passes) ≤ 1000) lists.projects
+  pub few_passes : AllByRecursion (λ r. length (filter (is_pass_of r.host) lists.passes) ≤ MOST_PASSES) lists.projects
   pub defaults : AllByRecursion (λ r. AreDefaults (filter (is_pick_of r.host) lists.picks)) lists.projects
   pub rule_places : AllByRecursion (λ r. AreRules (filter (is_rule_of r.host) lists.rules)) lists.projects
   pub places : AllByRecursion (λ r. AreRedirects (filter (is_redirect_of r.host) lists.redirects)) lists.projects

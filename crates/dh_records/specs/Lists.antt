@@ -16,10 +16,10 @@ use Rattle.dh_records.specs.declared.records.ProjectRow.{ProjectRow}
 use Rattle.dh_records.specs.declared.records.LangRow.{LangRow}
 use Rattle.dh_records.specs.declared.records.VersionRow.{VersionRow}
 use Rattle.dh_records.specs.declared.records.PageRow.{PageRow}
-use Rattle.dh_records.specs.declared.records.UsedRow.{UsedRow}
-use Rattle.dh_records.specs.declared.records.PickRow.{PickRow}
+use Rattle.dh_records.specs.declared.records.RetryRow.{RetryRow}
+use Rattle.dh_records.specs.declared.records.DefaultRow.{DefaultRow}
 use Rattle.dh_records.specs.declared.records.PassRow.{PassRow}
-use Rattle.dh_records.specs.declared.records.HeldRow.{HeldRow}
+use Rattle.dh_records.specs.declared.records.GrantRow.{GrantRow}
 use Rattle.dh_records.specs.declared.records.RuleRow.{RuleRow}
 use Rattle.dh_records.specs.declared.records.RedirectRow.{RedirectRow}
 use Rattle.dh_records.specs.declared.records.AliasRow.{AliasRow}
@@ -36,10 +36,10 @@ pub record Lists : Type 0 where
   pub langs : List LangRow
   pub versions : List VersionRow
   pub pages : List PageRow
-  pub used : List UsedRow
-  pub picks : List PickRow
+  pub used : List RetryRow
+  pub picks : List DefaultRow
   pub passes : List PassRow
-  pub held : List HeldRow
+  pub held : List GrantRow
   pub rules : List RuleRow
   pub redirects : List RedirectRow
   pub aliases : List AliasRow
@@ -86,10 +86,10 @@ same_op Push Push = true
 same_op Upload Upload = true
 same_op _ _ = false
 
-abbrev pub is_used : Text → Text → Operation → Text → UsedRow → Bool
+abbrev pub is_used : Text → Text → Operation → Text → RetryRow → Bool
 is_used host slug op retry r = bytes_eq r.host host && bytes_eq r.slug slug && same_op r.op op && bytes_eq r.retry retry
 
-abbrev pub is_pick_of : Text → PickRow → Bool
+abbrev pub is_pick_of : Text → DefaultRow → Bool
 is_pick_of host r = bytes_eq r.host host
 
 abbrev pub is_pass_of : Text → PassRow → Bool
@@ -98,15 +98,15 @@ is_pass_of host r = bytes_eq r.host host
 abbrev pub is_pass : Text → Text → PassRow → Bool
 is_pass host pass r = bytes_eq r.host host && bytes_eq r.pass pass
 
-abbrev pub is_held : Text → Text → Text → HeldRow → Bool
+abbrev pub is_held : Text → Text → Text → GrantRow → Bool
 is_held host pass slug r = bytes_eq r.host host && bytes_eq r.pass pass && bytes_eq r.slug slug
 
 -- the grant is of this pass
-abbrev pub is_held_by : Text → Text → HeldRow → Bool
+abbrev pub is_held_by : Text → Text → GrantRow → Bool
 is_held_by host pass r = bytes_eq r.host host && bytes_eq r.pass pass
 
 -- the grant is on this version
-abbrev pub is_held_on : Text → Text → HeldRow → Bool
+abbrev pub is_held_on : Text → Text → GrantRow → Bool
 is_held_on host slug r = bytes_eq r.host host && bytes_eq r.slug slug
 
 abbrev pub is_rule_of : Text → RuleRow → Bool
@@ -155,25 +155,25 @@ is_rule_behind host count r = bytes_eq r.host host && nat_lt count r.place
 abbrev pub is_redirect_behind : Text → ℕ → RedirectRow → Bool
 is_redirect_behind host count r = bytes_eq r.host host && nat_lt count r.place
 
-abbrev pub pick_row : Text → Text → ℕ → PickRow
-pick_row host name rank = record { host = host; name = name; rank = rank }
+abbrev pub default_row : Text → Text → ℕ → DefaultRow
+default_row host name rank = record { host = host; name = name; rank = rank }
 
-abbrev pub used_row : Text → Text → Operation → Text → List ℕ → UsedRow
-used_row host slug op retry answer =
+abbrev pub retry_row : Text → Text → Operation → Text → List ℕ → RetryRow
+retry_row host slug op retry answer =
     record { host = host; slug = slug; op = op; retry = retry; answer = answer }
 
 -- the records of a list of defaults, ranked from a number on
-abbrev pub ranked : Text → ℕ → List Text → List PickRow
+abbrev pub ranked : Text → ℕ → List Text → List DefaultRow
 ranked host n [] = []
 ranked host n (name ∷ names) = record { host = host; name = name; rank = n } ∷ ranked host (n + 1) names
 
 -- the list with these records added one after the other
-abbrev pub with_picks : List PickRow → List PickRow → List PickRow
+abbrev pub with_picks : List DefaultRow → List DefaultRow → List DefaultRow
 with_picks [] rows = rows
 with_picks (x ∷ xs) rows = with_picks xs (added coding.picks.key x rows)
 
 -- the list with these defaults of a host in place of those that the host had
-abbrev pub set_picks : Text → List Text → List PickRow → List PickRow
+abbrev pub set_picks : Text → List Text → List DefaultRow → List DefaultRow
 set_picks host names rows = with_picks (ranked host 1 names) (filter (λ r. not (is_pick_of host r)) rows)
 
 -- the records of a list in order, at the places from a number on
@@ -204,16 +204,16 @@ set_routes host routes rows =
     (filter (λ r. not (is_route_of host r)) rows)
 
 -- the list with the grant added, unless it is there
-abbrev pub granted : HeldRow → List HeldRow → List HeldRow
+abbrev pub granted : GrantRow → List GrantRow → List GrantRow
 granted row rows = if list_any (is_held row.host row.pass row.slug) rows then rows else added coding.held.key row rows
 
 -- the answer that a row keeps; of a text that is no answer's it is `Done`, which no call keeps
-abbrev pub kept_answer : UsedRow → Answer
+abbrev pub kept_answer : RetryRow → Answer
 kept_answer r = unwrap_or (answer_of r.answer) Done
 
 -- the row that keeps an answer
-abbrev pub keeping : Text → Text → Operation → Text → Answer → UsedRow
-keeping host slug op retry answer = record { host = host; slug = slug; op = op; retry = retry; answer = unwrap_or (json_of answer) [] }
+abbrev pub answered_row : Text → Text → Operation → Text → Answer → RetryRow
+answered_row host slug op retry answer = record { host = host; slug = slug; op = op; retry = retry; answer = unwrap_or (json_of answer) [] }
 
 -- the project of a row, from the records of its host
 unfoldable pub project_of : Lists → ProjectRow → Project

@@ -9,18 +9,18 @@ use Rattle.dh_rules.specs.Patterns.{pattern_text}
 use Rattle.dh_rules.specs.declared.pattern.Pattern.{Pattern}
 use Rattle.dh_world.specs.declared.answer.Answer.{Answer}
 use Rattle.dh_world.specs.Answers.{IsAnswer, json_of}
-use Rattle.dh_faults.specs.Faults.{OnStore}
-use Rattle.dh_faults.specs.declared.fault.Fault.{Fault}
+use Rattle.dh_ports.specs.Faults.{OnStore}
+use Rattle.dh_ports.specs.declared.fault.Fault.{Fault}
 use Rattle.dh_records.specs.Codings.{text_in, end_number}
 use Rattle.dh_records.specs.Lists.{Lists}
 use Rattle.dh_records.specs.declared.records.ProjectRow.{ProjectRow}
 use Rattle.dh_records.specs.declared.records.LangRow.{LangRow}
 use Rattle.dh_records.specs.declared.records.VersionRow.{VersionRow}
 use Rattle.dh_records.specs.declared.records.PageRow.{PageRow}
-use Rattle.dh_records.specs.declared.records.UsedRow.{UsedRow}
-use Rattle.dh_records.specs.declared.records.PickRow.{PickRow}
+use Rattle.dh_records.specs.declared.records.RetryRow.{RetryRow}
+use Rattle.dh_records.specs.declared.records.DefaultRow.{DefaultRow}
 use Rattle.dh_records.specs.declared.records.PassRow.{PassRow}
-use Rattle.dh_records.specs.declared.records.HeldRow.{HeldRow}
+use Rattle.dh_records.specs.declared.records.GrantRow.{GrantRow}
 use Rattle.dh_records.specs.declared.records.RuleRow.{RuleRow}
 use Rattle.dh_records.specs.declared.records.RedirectRow.{RedirectRow}
 use Rattle.dh_records.specs.declared.records.AliasRow.{AliasRow}
@@ -99,14 +99,14 @@ pub record IsPage (x : PageRow) : Type 0 where
 abbrev pub TellsAnswer : List ℕ → Type 0
 TellsAnswer text = (a : Answer) × IsAnswer a × (json_of a ≡ Some text)
 
-pub record IsUsed (x : UsedRow) : Type 0 where
+pub record IsUsed (x : RetryRow) : Type 0 where
   pub host : PassesTest is_host_name x.host
   pub slug : PassesTest is_slug x.slug
   pub retry : PassesTest is_token x.retry
   pub answer : IsUtf8 x.answer
   pub tells : TellsAnswer x.answer
 
-pub record IsPick (x : PickRow) : Type 0 where
+pub record IsPick (x : DefaultRow) : Type 0 where
   pub host : PassesTest is_host_name x.host
   pub name : PassesTest is_slug x.name
 
@@ -115,7 +115,7 @@ pub record IsPass (x : PassRow) : Type 0 where
   pub pass : PassesTest is_token x.pass
   pub until : IfSome x.until (λ end. end < 2 ^ 63)
 
-pub record IsHeld (x : HeldRow) : Type 0 where
+pub record IsHeld (x : GrantRow) : Type 0 where
   pub host : PassesTest is_host_name x.host
   pub pass : PassesTest is_token x.pass
   pub slug : PassesTest is_slug x.slug

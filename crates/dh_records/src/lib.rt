@@ -7,8 +7,8 @@ mod values;
 
 pub use reading::{Record, all, first, kept_answer, number_at};
 pub use records::{
-    AliasName, AliasRow, HeldRow, LangRow, PageRow, PassRow, PickRow, ProjectRow, RedirectRow,
-    Route, RouteRow, RuleRow, UsedRow, VersionRow, action_number, alias_number, class_text, is_tag,
-    kind_number,
+    AliasName, AliasRow, DefaultRow, GrantRow, LangRow, PageRow, PassRow, ProjectRow, RedirectRow,
+    RetryRow, Route, RouteRow, RuleRow, VersionRow, action_number, alias_number, class_text,
+    is_tag, kind_number,
 };
 pub use values::show_number;

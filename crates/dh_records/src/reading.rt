@@ -2,7 +2,7 @@
 
 ghost use Rattle.std.specs.Prelude.{◌≡◌, List, map, slice_get, string_bytes, IfOk, IsSome};
 ghost use Rattle.std.specs.List.{AllByRecursion};
-ghost use Rattle.dh_faults.specs.Faults.{OnStore};
+ghost use Rattle.dh_ports.specs.Faults.{OnStore};
 ghost use Rattle.sqlite_value.specs.declared.value.Value.TheVariants.{Int, Text as SqlText, Blob};
 ghost use Rattle.sqlite_value.specs.Order.{column};
 ghost use Rattle.dh_rows.specs.Faults as rows;
@@ -12,14 +12,15 @@ ghost use Rattle.dh_records.specs.Codings as spec;
 ghost use Rattle.dh_records.specs.Typed as typed;
 
 use crate::records::{
-    AliasName, AliasRow, HeldRow, LangRow, PageRow, PassRow, PickRow, ProjectRow, RedirectRow,
-    Route, RouteRow, RuleRow, UsedRow, VersionRow,
+    AliasName, AliasRow, DefaultRow, GrantRow, LangRow, PageRow, PassRow, ProjectRow, RedirectRow,
+    RetryRow, Route, RouteRow, RuleRow, VersionRow,
 };
-use dh_lookup::{Fault, Found, Page};
 use dh_paths::{Bytes, Text, TextFault};
+use dh_ports::{Fault, Found};
 use dh_redirects::{Redirect, RedirectKind};
 use dh_rows::fault_of;
 use dh_rules::{Action, Pattern, Rule};
+use dh_seen::Page;
 use dh_texts::{Checked, Kind};
 use dh_versions::{Kind as VersionKind, Version};
 use dh_world::{Answer, Operation, PassEnd};
@@ -260,13 +261,13 @@ impl Record for PageRow {
     }
 }
 
-impl Record for UsedRow {
+impl Record for RetryRow {
     ghost coding = { spec.used };
 
     ghost typed = { typed.IsUsed };
 
-    fn read(alloc: Global, row: &Row) -> Result<UsedRow, Fault> {
-        Ok(UsedRow {
+    fn read(alloc: Global, row: &Row) -> Result<RetryRow, Fault> {
+        Ok(RetryRow {
             host: checked_at(alloc, row, 0)?,
             slug: checked_at(alloc, row, 1)?,
             op: if flag_at(row, 2)? {
@@ -280,13 +281,13 @@ impl Record for UsedRow {
     }
 }
 
-impl Record for PickRow {
+impl Record for DefaultRow {
     ghost coding = { spec.picks };
 
     ghost typed = { typed.IsPick };
 
-    fn read(alloc: Global, row: &Row) -> Result<PickRow, Fault> {
-        Ok(PickRow {
+    fn read(alloc: Global, row: &Row) -> Result<DefaultRow, Fault> {
+        Ok(DefaultRow {
             host: checked_at(alloc, row, 0)?,
             name: checked_at(alloc, row, 1)?,
             rank: rank_at(row, 2)?,
@@ -308,13 +309,13 @@ impl Record for PassRow {
     }
 }
 
-impl Record for HeldRow {
+impl Record for GrantRow {
     ghost coding = { spec.held };
 
     ghost typed = { typed.IsHeld };
 
-    fn read(alloc: Global, row: &Row) -> Result<HeldRow, Fault> {
-        Ok(HeldRow {
+    fn read(alloc: Global, row: &Row) -> Result<GrantRow, Fault> {
+        Ok(GrantRow {
             host: checked_at(alloc, row, 0)?,
             pass: checked_at(alloc, row, 1)?,
             slug: checked_at(alloc, row, 2)?,

@@ -4,10 +4,10 @@ ghost use Rattle.std.specs.Prelude.{◌≡◌, option_map};
 ghost use Rattle.dh_records.specs.Codings as coding;
 ghost use Rattle.dh_records.specs.Lists as spec;
 
-use dh_lookup::Page;
 use dh_paths::{HostName, Lang, PagePath, RefName, Slug, Text, Token};
 use dh_redirects::{Redirect, RedirectKind};
 use dh_rules::{Action, Rule};
+use dh_seen::Page;
 use dh_versions::{Kind, Version};
 use dh_world::{Operation, PassEnd};
 
@@ -53,7 +53,7 @@ pub struct PageRow {
 
 /// A name in a project's list of defaults.
 #[derive(Drop)]
-pub struct PickRow {
+pub struct DefaultRow {
     pub host: HostName,
     /// The slug of a version, or the name of an alias.
     pub name: Slug,
@@ -72,7 +72,7 @@ pub struct PassRow {
 
 /// A grant: the pass opens the version.
 #[derive(Drop)]
-pub struct HeldRow {
+pub struct GrantRow {
     pub host: HostName,
     pub pass: Token,
     pub slug: Slug,
@@ -87,7 +87,7 @@ pub fn is_tag(kind: Kind) -> bool
 
 /// The first answer to a retry key.
 #[derive(Drop)]
-pub struct UsedRow {
+pub struct RetryRow {
     pub host: HostName,
     pub slug: Slug,
     pub op: Operation,

@@ -6,7 +6,7 @@ ghost use Rattle.dh_records.specs.Codings.{AreValuesOf};
 ghost use Rattle.dh_records.specs.Typed.{IsAlias, IsHeld, IsLanguage, IsPage, IsPass, IsProject, IsRoute, IsVersion};
 
 use crate::records::{
-    AliasRow, HeldRow, LangRow, PageRow, PassRow, ProjectRow, RouteRow, VersionRow, alias_number,
+    AliasRow, GrantRow, LangRow, PageRow, PassRow, ProjectRow, RouteRow, VersionRow, alias_number,
     is_tag,
 };
 use dh_world::PassEnd;
@@ -109,7 +109,7 @@ impl PassRow {
     }
 }
 
-impl HeldRow {
+impl GrantRow {
     /// Its columns, in the order of the table.
     pub fn values(&self) -> [ValueRef<'_>; 3]
         ensures encoded { AreValuesOf result (coding.held.encode self.now) }

@@ -10,6 +10,7 @@ use Rattle.dh_redirects.specs.declared.redirect.RedirectKind.TheVariants.{Page, 
 use Rattle.dh_redirects.specs.declared.redirect.Redirect.{Redirect}
 use Rattle.dh_redirects.specs.declared.redirect.BadRedirect.{BadRedirect}
 use Rattle.dh_redirects.specs.declared.redirect.BadRedirect.TheVariants.{BadSource, EarlyStar, BadTarget, SplatWithoutStar, BadStatus, UnusedText}
+use Rattle.dh_redirects.specs.declared.texts.TheConstants.{MOST_REDIRECT_BYTES}
 
 -- the needle stands somewhere in the text
 abbrev pub holds : List ℕ → List ℕ → Bool
@@ -37,7 +38,7 @@ is_absolute target =
 
 -- the most bytes of From and of To
 abbrev pub most_text : ℕ
-most_text = 512
+most_text = MOST_REDIRECT_BYTES
 
 -- short enough, no control byte
 abbrev pub is_short_text : List ℕ → Bool

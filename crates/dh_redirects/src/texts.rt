@@ -49,13 +49,13 @@ pub fn absolute(target: &str) -> bool
 }
 
 /// The most bytes of From and of To.
-const MOST_TEXT: usize = 512;
+pub const MOST_REDIRECT_BYTES: usize = 512;
 
 /// Whether the text has at most 512 bytes and no control byte.
 pub fn short_text(text: &str) -> bool
     ensures { result ≡ is_short_text text.now }
 {
-    text.len() <= MOST_TEXT && all_no_control(text.as_bytes())
+    text.len() <= MOST_REDIRECT_BYTES && all_no_control(text.as_bytes())
 }
 
 /// Whether the last byte is a `*`.

@@ -21,8 +21,8 @@ use Rattle.dh_class_names.proofs.NamingLemmas.{pass_are}
 use Rattle.dh_class_names.proofs.RowLemmas.{stable_is_public}
 use Rattle.dh_records.specs.Constraints.{AreSound}
 use Rattle.dh_records.specs.Lists.{Lists, world_of, is_held_by, is_pick_of, is_version, is_version_of}
-use Rattle.dh_records.specs.declared.records.HeldRow.{HeldRow}
-use Rattle.dh_records.specs.declared.records.PickRow.{PickRow}
+use Rattle.dh_records.specs.declared.records.GrantRow.{GrantRow}
+use Rattle.dh_records.specs.declared.records.DefaultRow.{DefaultRow}
 use Rattle.dh_records.specs.declared.records.VersionRow.{VersionRow}
 use Rattle.dh_renewal.specs.ByKey.{defaults_at, versions_at}
 use Rattle.dh_renewal.specs.Finding.{IsStable, IsStableKept, IsStableWith}
@@ -34,12 +34,12 @@ module _ (f : Text → Bool) where
   pub neither : f (codes "latest") ≡ false → f (codes "stable") ≡ false → None ≡ default_of f []
   neither one two = sym (λ i. cond (one i) (Some (codes "latest")) (cond (two i) (Some (codes "stable")) None))
 
-  module _ (picks : List PickRow) (i : ℕ) (x : PickRow) (within : i < length picks) (is : x ≡ get_or picks i x) where
-    abbrev names : List PickRow → List Text
+  module _ (picks : List DefaultRow) (i : ℕ) (x : DefaultRow) (within : i < length picks) (is : x ≡ get_or picks i x) where
+    abbrev names : List DefaultRow → List Text
     names = map (λ d. d.name)
 
     here : default_of f (names (drop i picks)) ≡ cond (f x.name) (Some x.name) (default_of f (names (drop (i + 1) picks)))
-    here = ap (λ ds. default_of f (names ds)) (drop_more picks i x within) ∙ ap (λ (d : PickRow). default_of f (names (d ∷ drop (i + 1) picks))) (sym is)
+    here = ap (λ ds. default_of f (names ds)) (drop_more picks i x within) ∙ ap (λ (d : DefaultRow). default_of f (names (d ∷ drop (i + 1) picks))) (sym is)
 
     pub first_stands : (copy : Text) → copy ≡ x.name → f x.name ≡ true → default_of f (map (λ d. d.name) picks) ≡ default_of f (map (λ d. d.name) (drop i picks))
         → Some copy ≡ default_of f (map (λ d. d.name) picks)
@@ -49,9 +49,9 @@ module _ (f : Text → Bool) where
         → default_of f (map (λ d. d.name) picks) ≡ default_of f (map (λ d. d.name) (drop (i + 1) picks))
     first_passed fails passed = passed ∙ here ∙ ap (λ b. cond b (Some x.name) (default_of f (names (drop (i + 1) picks)))) fails
 
-  pub all_passed : (picks : List PickRow) (i : ℕ) → length picks ≤ i → default_of f (map (λ d. d.name) picks) ≡ default_of f (map (λ d. d.name) (drop i picks))
+  pub all_passed : (picks : List DefaultRow) (i : ℕ) → length picks ≤ i → default_of f (map (λ d. d.name) picks) ≡ default_of f (map (λ d. d.name) (drop i picks))
       → default_of f [] ≡ default_of f (map (λ d. d.name) picks)
-  all_passed picks i past passed = sym (passed ∙ ap (λ (ds : List PickRow). default_of f (map (λ d. d.name) ds)) (drop_all i picks past))
+  all_passed picks i past passed = sym (passed ∙ ap (λ (ds : List DefaultRow). default_of f (map (λ d. d.name) ds)) (drop_all i picks past))
 
 -- ---- what stands in a part of a list
 
@@ -81,26 +81,26 @@ module _ (host : Text) (l : Lists) where
   pub under_slug : (slug : Text) (o : Option Version) → o ≡ option_map (λ r. r.version) (find (is_version host slug) l.versions) → o ≡ version_under (versions_at host l) slug
   under_slug slug o e = e ∙ ap (option_map (λ (r : VersionRow). r.version)) (found_here slug)
 
-  pub none_seen : (grants : List HeldRow) (slug : Text) → None ≡ find (is_version host slug) l.versions → None ≡ seen_under (versions_at host l) grants slug
+  pub none_seen : (grants : List GrantRow) (slug : Text) → None ≡ find (is_version host slug) l.versions → None ≡ seen_under (versions_at host l) grants slug
   none_seen grants slug e = seen_of (versions_at host l) grants slug None (e ∙ found_here slug)
 
-  pub row_seen : (grants : List HeldRow) (slug : Text) (r : VersionRow) → Some r ≡ find (is_version host slug) l.versions
+  pub row_seen : (grants : List GrantRow) (slug : Text) (r : VersionRow) → Some r ≡ find (is_version host slug) l.versions
       → (b : Bool) → may_see r.version (is_granted grants slug) ≡ b → cond b (Some r.version) None ≡ seen_under (versions_at host l) grants slug
   row_seen grants slug r e b is = seen_one (versions_at host l) grants slug r (e ∙ found_here slug) b is
 
   -- ---- of a sound project
 
-  pub with_public : (grants : List HeldRow) (public o : Option Version) → IsStable host l public
+  pub with_public : (grants : List GrantRow) (public o : Option Version) → IsStable host l public
       → (IsHighest (IsPublic (versions_at host l)) public → IsHighest (IsSeenWith (versions_at host l) grants) o) → IsStableWith host grants l o
   with_public grants public o is up sound p found kept =
       up (subst (IsHighest (IsPublic (versions_at host l))) (is sound p found kept) (stable_is_public p p.branch _ _ _ (rows_of_host l host p sound found)))
 
-  pub of_grants : (branch : Text) (grants : List HeldRow) (stable : Option Version) (names : Names) → IsStableWith host grants l stable
+  pub of_grants : (branch : Text) (grants : List GrantRow) (stable : Option Version) (names : Names) → IsStableWith host grants l stable
       → names ≡ names_by (versions_at host l) grants branch (defaults_at host l) (option_map (λ v. v.slug) stable)
       → AreSound l → OfBranch host branch (λ p. IsStableKept host l p → IsOfGrants host grants l p names) l
   of_grants branch grants stable names is named sound p found branch_is kept pass held =
       named ∙ pass_are p branch (versions_at host l) (filter (λ x. bytes_eq x.host host) l.held) (filter (is_pick_of host) l.picks)
       (subst (λ (b : Text). AreRowsOf p b (versions_at host l) (filter (λ x. bytes_eq x.host host) l.held) (filter (is_pick_of host) l.picks)) branch_is (rows_of_host l host p sound found))
       stable pass grants
-      (held ∙ sym (kept_twice (λ (x : HeldRow). bytes_eq x.host host) (λ x. bytes_eq x.pass pass) l.held))
+      (held ∙ sym (kept_twice (λ (x : GrantRow). bytes_eq x.host host) (λ x. bytes_eq x.pass pass) l.held))
       (is sound p found kept)

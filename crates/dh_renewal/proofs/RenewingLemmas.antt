@@ -18,8 +18,8 @@ use Rattle.dh_records.specs.Changes.{drop_aliases}
 use Rattle.dh_records.specs.Codings as coding
 use Rattle.dh_records.specs.Constraints.{InOrder, AreSound}
 use Rattle.dh_records.specs.Lists.{Lists, base_of, world_of, is_pass, is_pick_of, is_version_of}
-use Rattle.dh_records.specs.declared.records.HeldRow.{HeldRow}
-use Rattle.dh_records.specs.declared.records.PickRow.{PickRow}
+use Rattle.dh_records.specs.declared.records.GrantRow.{GrantRow}
+use Rattle.dh_records.specs.declared.records.DefaultRow.{DefaultRow}
 use Rattle.dh_records.specs.declared.records.VersionRow.{VersionRow}
 use Rattle.dh_records.proofs.WorldLemmas.{has_pass_in}
 use Rattle.dh_tables.specs.Going.{HasRecords, ChangesRecords, records}
@@ -47,15 +47,15 @@ all_set host p (c ∷ cs) l = ap (λ (k : Lists). set_class host (class_names p 
 
 -- the rows of a project, from looks that change nothing
 pub rows_found
-    : (host branch : Text) (l l1 l2 : Lists) (rows : List VersionRow) (held : List HeldRow) (picks : List PickRow)
+    : (host branch : Text) (l l1 l2 : Lists) (rows : List VersionRow) (held : List GrantRow) (picks : List DefaultRow)
     → l1 ≡ l → l2 ≡ l1 → AreSound l
     → rows ≡ filter (is_version_of host) l.versions → held ≡ filter (λ x. bytes_eq x.host host) l1.held → picks ≡ filter (is_pick_of host) l2.picks
     → OfBranch host branch (λ p. AreRowsOf p branch rows held picks) l
 rows_found host branch l l1 l2 rows held picks e1 e2 sound rows_are held_are picks_are p found branch_is =
     subst (λ (b : Text). AreRowsOf p b rows held picks) branch_is
     (subst (λ (xs : List VersionRow). AreRowsOf p p.branch xs held picks) (sym rows_are)
-    (subst (λ (xs : List HeldRow). AreRowsOf p p.branch (filter (is_version_of host) l.versions) xs picks) (sym (held_are ∙ ap (λ (k : Lists). filter (λ x. bytes_eq x.host host) k.held) e1))
-    (subst (λ (xs : List PickRow). AreRowsOf p p.branch (filter (is_version_of host) l.versions) (filter (λ x. bytes_eq x.host host) l.held) xs) (sym (picks_are ∙ ap (λ (k : Lists). filter (is_pick_of host) k.picks) (e2 ∙ e1)))
+    (subst (λ (xs : List GrantRow). AreRowsOf p p.branch (filter (is_version_of host) l.versions) xs picks) (sym (held_are ∙ ap (λ (k : Lists). filter (λ x. bytes_eq x.host host) k.held) e1))
+    (subst (λ (xs : List DefaultRow). AreRowsOf p p.branch (filter (is_version_of host) l.versions) (filter (λ x. bytes_eq x.host host) l.held) xs) (sym (picks_are ∙ ap (λ (k : Lists). filter (is_pick_of host) k.picks) (e2 ∙ e1)))
     (rows_of_host l host p sound found))))
 
 module _ (host pass : Text) (l : Lists) where

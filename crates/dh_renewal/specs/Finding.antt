@@ -14,7 +14,7 @@ use Rattle.dh_plans.specs.declared.edits.Edit.{Edit}
 use Rattle.dh_records.specs.Constraints.{AreSound}
 use Rattle.dh_records.specs.Lists.{Lists, world_of}
 use Rattle.dh_records.specs.declared.records.AliasName.TheVariants.{Stable}
-use Rattle.dh_records.specs.declared.records.HeldRow.{HeldRow}
+use Rattle.dh_records.specs.declared.records.GrantRow.{GrantRow}
 use Rattle.dh_derived.specs.Rightness.{AreRightAt, kept_at}
 use Rattle.dh_derived.specs.Renewals.{CoversChange}
 use Rattle.dh_derived.specs.declared.renewals.Renewal.{Renewal}
@@ -38,7 +38,7 @@ abbrev pub IsStable : Text → Lists → Option Version → Type 0
 IsStable host l o = OfKeptProject host (λ p. stable_version (versions_for p None) ≡ o) l
 
 -- the version that `stable` stands for, to a caller who has these grants
-abbrev pub IsStableWith : Text → List HeldRow → Lists → Option Version → Type 0
+abbrev pub IsStableWith : Text → List GrantRow → Lists → Option Version → Type 0
 IsStableWith host grants l o = OfKeptProject host (λ p. IsHighest (IsSeenWith (versions_at host l) grants) o) l
 
 -- the renewal covers what changes once the version is put

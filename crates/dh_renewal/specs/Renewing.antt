@@ -7,7 +7,7 @@ use Rattle.dh_aliases.specs.declared.names.Names.{Names}
 use Rattle.dh_aliases.specs.Names.{names_of}
 use Rattle.dh_class_names.specs.declared.class_names.ClassNames.{ClassNames}
 use Rattle.dh_records.specs.Lists.{Lists, base_of, world_of, class_text, is_held_by}
-use Rattle.dh_records.specs.declared.records.HeldRow.{HeldRow}
+use Rattle.dh_records.specs.declared.records.GrantRow.{GrantRow}
 use Rattle.dh_derived.specs.Rightness.{AreRightAt}
 use Rattle.dh_derived.specs.Renewals.{AreRightBut}
 use Rattle.dh_derived.specs.Renewed.{set_names}
@@ -32,7 +32,7 @@ abbrev pub OfBranch : Text → Text → (Project → Type 0) → Lists → Type 
 OfBranch host branch P l = (p : Project) → get (world_of l) host ≡ Some p → p.branch ≡ branch → P p
 
 -- where these are the grants of a pass, these are the names of the callers who show it
-abbrev pub IsOfGrants : Text → List HeldRow → Lists → Project → Names → Type 0
+abbrev pub IsOfGrants : Text → List GrantRow → Lists → Project → Names → Type 0
 IsOfGrants host grants l p names =
     (pass : Text) → grants ≡ filter (is_held_by host pass) l.held → names ≡ names_of p (Some pass)
 

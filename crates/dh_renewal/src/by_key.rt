@@ -11,7 +11,7 @@ use crate::looks::rows_of;
 use dh_aliases::Names;
 use dh_class_names::{alias_slug, branch_slug, is_of_branch, is_seen, is_standing_alias};
 use dh_paths::{HostName, RefName, Slug};
-use dh_tables::{HeldRow, PickRow, Tables};
+use dh_tables::{DefaultRow, GrantRow, Tables};
 use dh_versions::Version;
 use dh_world::Refusal;
 use sqlite::Alter;
@@ -22,7 +22,7 @@ fn seen_version<S: Alter>(
     tables: &mut Tables<S>,
     alloc: Global,
     host: &HostName,
-    grants: &[HeldRow],
+    grants: &[GrantRow],
     slug: &str,
 ) -> Result<Option<Version>, Refusal>
     ensures asks { LooksAtRecords S.Store tables.old tables.new result }
@@ -47,7 +47,7 @@ fn latest_with<S: Alter>(
     alloc: Global,
     host: &HostName,
     branch: &RefName,
-    grants: &[HeldRow],
+    grants: &[GrantRow],
 ) -> Result<Option<Slug>, Refusal>
     ensures asks { LooksAtRecords S.Store tables.old tables.new result }
     ensures value { AnswersBy S.Store tables.old tables.new result
@@ -71,7 +71,7 @@ fn stands<S: Alter>(
     tables: &mut Tables<S>,
     alloc: Global,
     host: &HostName,
-    grants: &[HeldRow],
+    grants: &[GrantRow],
     latest: bool,
     stable: bool,
     name: &str,
@@ -89,7 +89,7 @@ fn default_alias<S: Alter>(
     tables: &mut Tables<S>,
     alloc: Global,
     host: &HostName,
-    grants: &[HeldRow],
+    grants: &[GrantRow],
     latest: bool,
     stable: bool,
 ) -> Result<Option<Slug>, Refusal>
@@ -111,8 +111,8 @@ fn default_with<S: Alter>(
     tables: &mut Tables<S>,
     alloc: Global,
     host: &HostName,
-    grants: &[HeldRow],
-    picks: &[PickRow],
+    grants: &[GrantRow],
+    picks: &[DefaultRow],
     latest: bool,
     stable: bool,
 ) -> Result<Option<Slug>, Refusal>
@@ -142,7 +142,7 @@ fn default_name<S: Alter>(
     tables: &mut Tables<S>,
     alloc: Global,
     host: &HostName,
-    grants: &[HeldRow],
+    grants: &[GrantRow],
     latest: bool,
     stable: bool,
 ) -> Result<Option<Slug>, Refusal>
@@ -151,7 +151,7 @@ fn default_name<S: Alter>(
         ≡ default_of (stands_by (versions_at host.now l) grants.now latest stable)
         (defaults_at host.now l)) }
 {
-    let picks = rows_of::<S, PickRow>(tables, alloc, host)?;
+    let picks = rows_of::<S, DefaultRow>(tables, alloc, host)?;
     default_with(
         tables,
         alloc,
@@ -169,7 +169,7 @@ pub fn names_with_grants<S: Alter>(
     alloc: Global,
     host: &HostName,
     branch: &RefName,
-    grants: &[HeldRow],
+    grants: &[GrantRow],
     stable: Option<Version>,
 ) -> Result<Names, Refusal>
     ensures asks { LooksAtRecords S.Store tables.old tables.new result }

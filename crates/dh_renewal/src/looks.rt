@@ -9,7 +9,7 @@ ghost use Rattle.dh_renewal.specs.Renewing.{FindsBranch};
 
 use dh_paths::{HostName, RefName, Slug, Token};
 use dh_records::AliasName;
-use dh_tables::{HeldRow, Listed, PassRow, Tables, VersionRow};
+use dh_tables::{GrantRow, Listed, PassRow, Tables, VersionRow};
 use dh_versions::Version;
 use dh_world::Refusal;
 use sqlite::Alter;
@@ -83,7 +83,7 @@ pub fn grants_of<S: Alter>(
     alloc: Global,
     host: &HostName,
     pass: &Token,
-) -> Result<Vec<HeldRow>, Refusal>
+) -> Result<Vec<GrantRow>, Refusal>
     ensures asks { LooksAtRecords S.Store tables.old tables.new result }
     ensures value { AnswersBy S.Store tables.old tables.new result
         (λ l rows. rows.items ≡ filter (lists.is_held_by host.now pass.now) l.held) }

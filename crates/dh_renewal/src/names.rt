@@ -16,7 +16,7 @@ use crate::stable::stable_with;
 use dh_aliases::Names;
 use dh_class_names::{ClassNames, names_by_class};
 use dh_paths::{HostName, RefName, Token};
-use dh_tables::{HeldRow, PassRow, PickRow, Tables};
+use dh_tables::{DefaultRow, GrantRow, PassRow, Tables};
 use dh_world::Refusal;
 use sqlite::Alter;
 use std::alloc::Global;
@@ -35,8 +35,8 @@ fn names_with<S: Alter>(
         (λ p. all.items ≡ map (class_names p) (classes_of passes.now)) l) }
 {
     let versions = versions_of(tables, alloc, host)?;
-    let held = rows_of::<S, HeldRow>(tables, alloc, host)?;
-    let picks = rows_of::<S, PickRow>(tables, alloc, host)?;
+    let held = rows_of::<S, GrantRow>(tables, alloc, host)?;
+    let picks = rows_of::<S, DefaultRow>(tables, alloc, host)?;
     Ok(names_by_class(
         alloc,
         branch,
@@ -79,7 +79,7 @@ fn names_of_grants<S: Alter>(
     alloc: Global,
     host: &HostName,
     branch: &RefName,
-    grants: &[HeldRow],
+    grants: &[GrantRow],
 ) -> Result<Names, Refusal>
     ensures asks { LooksAtRecords S.Store tables.old tables.new result }
     ensures value { AnswersBy S.Store tables.old tables.new result (λ l names. AreSound l

@@ -10,7 +10,7 @@ use crate::looks::{kept_alias, version_under};
 use dh_class_names::with_opened;
 use dh_paths::HostName;
 use dh_records::AliasName;
-use dh_tables::{HeldRow, Tables};
+use dh_tables::{GrantRow, Tables};
 use dh_versions::Version;
 use dh_world::Refusal;
 use sqlite::Alter;
@@ -36,7 +36,7 @@ fn highest_with<S: Alter>(
     tables: &mut Tables<S>,
     alloc: Global,
     host: &HostName,
-    grants: &[HeldRow],
+    grants: &[GrantRow],
     public: Option<Version>,
 ) -> Result<Option<Version>, Refusal>
     ensures asks { LooksAtRecords S.Store tables.old tables.new result }
@@ -57,7 +57,7 @@ pub fn stable_with<S: Alter>(
     tables: &mut Tables<S>,
     alloc: Global,
     host: &HostName,
-    grants: &[HeldRow],
+    grants: &[GrantRow],
 ) -> Result<Option<Version>, Refusal>
     ensures asks { LooksAtRecords S.Store tables.old tables.new result }
     ensures value { AnswersBy S.Store tables.old tables.new result

@@ -1,3 +1,4 @@
+pub mod Lookup
 pub mod Replies
 pub mod System
 pub mod Ports

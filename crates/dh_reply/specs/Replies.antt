@@ -10,11 +10,11 @@ use Rattle.dh_redirects.specs.declared.redirect.Asked.{Asked}
 use Rattle.dh_redirects.specs.declared.redirect.Location.{Location}
 use Rattle.dh_redirects.specs.declared.redirect.Parts.{Parts}
 use Rattle.dh_reply.specs.declared.address.GoodAddress.{GoodAddress}
-use Rattle.dh_lookup.specs.declared.found.Named.{Named}
-use Rattle.dh_lookup.specs.declared.found.Page.{Page as FoundPage}
+use Rattle.dh_seen.specs.declared.found.Named.{Named}
+use Rattle.dh_seen.specs.declared.found.Page.{Page as FoundPage}
 use Rattle.dh_wire.specs.declared.reply.Reply.{Reply}
-use Rattle.dh_lookup.specs.declared.seen_project.SeenProject.{SeenProject}
-use Rattle.dh_lookup.specs.SeenProject.{resolved, page_at, forced_result, not_found_result}
+use Rattle.dh_seen.specs.declared.seen_project.SeenProject.{SeenProject}
+use Rattle.dh_seen.specs.SeenProject.{resolved, page_at, forced_result, not_found_result}
 use Rattle.dh_wire.specs.Bodies.{body_reply}
 use Rattle.dh_wire.specs.Statuses.{host_not_found}
 use Rattle.dh_reply.specs.System.{robots, system}

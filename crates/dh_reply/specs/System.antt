@@ -8,9 +8,9 @@ use Rattle.serde_json.specs.Written.{compact_text}
 use Rattle.dh_versions.specs.declared.version.Kind.{Kind}
 use Rattle.dh_versions.specs.declared.version.Kind.TheVariants.{Branch, Tag}
 use Rattle.dh_versions.specs.declared.version.Version.{Version}
-use Rattle.dh_lookup.specs.declared.found.Named.{Named}
-use Rattle.dh_lookup.specs.declared.seen_project.SeenProject.{SeenProject}
-use Rattle.dh_lookup.specs.SeenProject.{resolved}
+use Rattle.dh_seen.specs.declared.found.Named.{Named}
+use Rattle.dh_seen.specs.declared.seen_project.SeenProject.{SeenProject}
+use Rattle.dh_seen.specs.SeenProject.{resolved}
 use Rattle.dh_wire.specs.declared.reply.Reply.{Reply}
 use Rattle.dh_wire.specs.Bodies.{plain_text, json, body_reply}
 use Rattle.dh_wire.specs.Statuses.{host_not_found}

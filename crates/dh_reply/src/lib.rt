@@ -3,17 +3,19 @@
 
 mod address;
 mod listing;
+pub mod lookup;
 mod make;
 pub mod ports;
 mod redirects;
 mod respond;
 mod robots;
+pub mod seen;
 mod system;
 
-pub use dh_lookup::{
-    Fault, Items, Lookup, Named, Page, Seen, SeenProject, StoredPage, first_result,
-};
+pub use dh_seen::{Items, Named, Page, SeenProject, StoredPage};
 pub use dh_wire::{
     Allow, Read, Reply, fault_reply, head_bytes, reply_bytes, text_reply, unavailable_bytes,
 };
+pub use lookup::Lookup;
 pub use respond::reply;
+pub use seen::{Seen, first_result};

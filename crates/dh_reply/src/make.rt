@@ -3,8 +3,8 @@
 ghost use Rattle.std.specs.Prelude.{◌≡◌, ◌++◌, IfOk, IsSome, OnErr, OnOk, string_bytes};
 ghost use Rattle.dh_reply.specs.Replies.{page_reply, with_query, redirect, address, indexed, slash_added};
 
-use dh_lookup::Page;
 use dh_paths::{Bytes, Text, encode_path};
+use dh_seen::Page;
 use dh_wire::Reply;
 use std::alloc::{AllocError, Global};
 

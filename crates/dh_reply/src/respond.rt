@@ -1,16 +1,18 @@
 //! The reply to a read: each case of the table is a function of its own.
 
 ghost use Rattle.dh_paths.specs.Places.{place};
-ghost use Rattle.dh_lookup.specs.Lookup.{IsLook, AnswersFor, AnswersMaybe, AnswersForProject};
+ghost use Rattle.dh_reply.specs.Lookup.{IsLook, AnswersFor, AnswersMaybe, AnswersForProject};
 ghost use Rattle.dh_reply.specs.Replies as spec;
 
 use crate::address::{GoodAddress, good_address, slug_of, take_lang};
+use crate::lookup::Lookup;
 use crate::make::{joined, make_home, make_indexed, make_page_reply, make_slashed};
 use crate::redirects::{asked_of, make_led};
 use crate::system::{robots, system};
-use dh_lookup::{Fault, Found, Lookup, Named, Page};
 use dh_paths::{Lang, Slug, Split, Text, split};
+use dh_ports::{Fault, Found};
 use dh_redirects::Asked;
+use dh_seen::{Named, Page};
 use dh_wire::{Read, Reply, fault_reply};
 use std::alloc::Global;
 

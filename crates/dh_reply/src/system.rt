@@ -2,13 +2,14 @@
 
 ghost use Rattle.std.specs.Prelude.{◌≡◌, false, IfOk, IfSome};
 ghost use Rattle.std.specs.Option.{option_map_or};
-ghost use Rattle.dh_lookup.specs.Lookup.{IsLook, AnswersFor, AnswersAll, AnswersForProject};
+ghost use Rattle.dh_reply.specs.Lookup.{IsLook, AnswersFor, AnswersAll, AnswersForProject};
 ghost use Rattle.dh_reply.specs.System as spec;
 
 use crate::listing::{names_where, versions_reply};
+use crate::lookup::Lookup;
 use crate::robots::robots_text;
-use dh_lookup::{Fault, Lookup};
 use dh_paths::{Lang, Text};
+use dh_ports::Fault;
 use dh_versions::Version;
 use dh_wire::{Reply, fault_reply, text_reply};
 use std::alloc::Global;

@@ -21,7 +21,7 @@ use Rattle.dh_requests.specs.Lengths.{is_number, limited, told_length, body_leng
 use Rattle.dh_paths.specs.Targets.{target_of}
 use Rattle.dh_wire.specs.declared.reply.Allow.TheVariants as allow
 use Rattle.dh_requests.specs.declared.request.Request.TheVariants.{Refused}
-use Rattle.dh_requests.specs.Request.{is_head, requested_host, not_allowed, post_at, read_by, posted, post_by, asked_at, asked_where_right, asked_of, HeadAsksFor}
+use Rattle.dh_requests.specs.Request.{is_head, requested_host, not_allowed, post_at, read_request_of, posted, command_head, request_at, request_where_right, asked_of, HeadAsksFor}
 use Rattle.dh_requests.specs.Needs.{NeedsMore, IsNeeded}
 use Rattle.dh_requests.proofs.Ends.{head_end_of-search}
 
@@ -69,7 +69,7 @@ or : (o : Option Asked) (d : Asked) → IfSome o IsLittle → IsLittle d → IsL
 or None d h k = k
 or (Some a) d h k = h
 
-post_little : (post : Post) (parts : Parts) (host key : Option (List ℕ)) → IsLittle (post_by post parts host key)
+post_little : (post : Post) (parts : Parts) (host key : Option (List ℕ)) → IsLittle (command_head post parts host key)
 post_little post parts host key =
     let length = body_length parts.coding parts.length in
     choose IsLittle (bytes_eq parts.method (codes "POST")) (posted post host key length) (Whole (not_allowed allow.Post parts.method)) (λ e. posted_little post host key length (length_little parts.coding parts.length)) (λ e. tt)
@@ -78,12 +78,12 @@ asked_little : (head : Option RequestHead) → IsLittle (asked_of head)
 asked_little None = tt
 asked_little (Some head) =
     let parts = parts_of head in
-    or (asked_where_right parts) (Whole (Refused 400 None (is_head parts.method)))
-    (and_then (target_of parts.target) (λ target. option_and_then (λ host. option_and_then (λ pass. option_map (λ key. asked_at parts target host pass key) parts.key) parts.pass) (requested_host target.host parts.host)) (λ target.
-    and_then (requested_host target.host parts.host) (λ host. option_and_then (λ pass. option_map (λ key. asked_at parts target host pass key) parts.key) parts.pass) (λ host.
-    and_then parts.pass (λ pass. option_map (λ key. asked_at parts target host pass key) parts.key) (λ pass.
-    mapped parts.key (λ key. asked_at parts target host pass key) (λ key.
-    map_or (post_at target.path) (λ post. post_by post parts host key) (Whole (read_by parts.method target host pass)) (λ post. post_little post parts host key) tt))))) tt
+    or (request_where_right parts) (Whole (Refused 400 None (is_head parts.method)))
+    (and_then (target_of parts.target) (λ target. option_and_then (λ host. option_and_then (λ pass. option_map (λ key. request_at parts target host pass key) parts.key) parts.pass) (requested_host target.host parts.host)) (λ target.
+    and_then (requested_host target.host parts.host) (λ host. option_and_then (λ pass. option_map (λ key. request_at parts target host pass key) parts.key) parts.pass) (λ host.
+    and_then parts.pass (λ pass. option_map (λ key. request_at parts target host pass key) parts.key) (λ pass.
+    mapped parts.key (λ key. request_at parts target host pass key) (λ key.
+    map_or (post_at target.path) (λ post. command_head post parts host key) (Whole (read_request_of parts.method target host pass)) (λ post. post_little post parts host key) tt))))) tt
 
 -- the body that a head asks for has at most 4,194,304 bytes
 pub asks_little : (text : List ℕ) (posted : Posted) → HeadAsksFor text (Command posted) → posted.length ≤ 4194304

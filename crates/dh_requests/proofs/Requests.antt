@@ -20,9 +20,9 @@ use Rattle.dh_requests.specs.Takes.{AddsUpTo}
 use Rattle.dh_requests.specs.Request.{asked_by, asked_of, HeadAsksFor, command_of, request_behind, IsRequestUpTo, IsRequest}
 
 -- the parts that were found ask for what the head does
-pub text_asks : (text : List ℕ) (found : Head) (r : Result Asked Stop) → IsReadAs text (Some found) → IfOk r (λ a. a ≡ asked_by (parts_found found)) → IfOk r (HeadAsksFor text)
-text_asks text found (Err e) read h = tt
-text_asks text found (Ok a) read h = (Some read.0, read.1, h ∙ ap asked_by read.2)
+pub parse_request_head : (text : List ℕ) (found : Head) (r : Result Asked Stop) → IsReadAs text (Some found) → IfOk r (λ a. a ≡ asked_by (parts_found found)) → IfOk r (HeadAsksFor text)
+parse_request_head text found (Err e) read h = tt
+parse_request_head text found (Ok a) read h = (Some read.0, read.1, h ∙ ap asked_by read.2)
 
 -- what the text of a head asks for, and what follows it, is a request
 pub request_text : (r : Result Request Stop) (left : Option (List ℕ)) (bytes text : List ℕ) (start : ℕ) (asked : Asked) → start ≤ length bytes → text ≡ take start bytes → HeadAsksFor text asked → IfOk r (λ q. IfSome left (λ more. q ≡ request_behind asked (drop start (bytes ++ more)))) → IfOk r (λ q. IfSome left (λ more. IsRequestUpTo (At start) (bytes ++ more) q))

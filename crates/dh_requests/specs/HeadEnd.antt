@@ -3,6 +3,8 @@ use Rattle.std.specs.Prelude.{◌≡◌, ℕ, ◌+◌, ◌≤◌, ◌<◌, Bool,
 use Rattle.std.specs.Option.{option_map}
 use Rattle.dh_requests.specs.declared.head_end.HeadEnd.{HeadEnd}
 use Rattle.dh_requests.specs.declared.head_end.HeadEnd.TheVariants.{At, TooLarge, CutShort}
+use Rattle.dh_ports.specs.declared.intake.TheConstants.{MOST_READS}
+use Rattle.dh_requests.specs.declared.head_end.TheConstants.{MOST_HEAD_BYTES, MOST_HEAD_LINES}
 
 -- puts the byte in front of the first line, where there is a line
 abbrev pub onto_first : ℕ → List (List ℕ) → List (List ℕ)
@@ -46,18 +48,18 @@ head_size (line ∷ lines) =
 
 -- a head of at most 65 lines, the request line and 64 more, ends there; a head without an end is too large at 16,384 bytes
 abbrev pub head_end_in : Option HeadSize → ℕ → HeadEnd
-head_end_in (Some size) len = if nat_le size.lines 65 then At size.bytes else TooLarge
-head_end_in None len = if nat_le 16384 len then TooLarge else CutShort
+head_end_in (Some size) len = if nat_le size.lines MOST_HEAD_LINES then At size.bytes else TooLarge
+head_end_in None len = if nat_le MOST_HEAD_BYTES len then TooLarge else CutShort
 
 -- where the head of the input ends, of which the first 16,384 bytes are looked at
 abbrev pub head_end_of : List ℕ → HeadEnd
-head_end_of input = head_end_in (head_size (lines_of (take 16384 input))) (length input)
+head_end_of input = head_end_in (head_size (lines_of (take MOST_HEAD_BYTES input))) (length input)
 
 -- the text is a head by its lines, and no more: at most 65 of them are not empty
 abbrev pub IsHeadText : List ℕ → Type 0
 IsHeadText text =
     (lines : ℕ)
-    × (lines ≤ 65)
+    × (lines ≤ MOST_HEAD_LINES)
     × (head_size (lines_of text) ≡ Some (record { bytes = length text; lines = lines }))
 
 -- the bytes up to the end are the text of a head
@@ -70,10 +72,10 @@ EndsHead CutShort bytes = Unit {0}
 -- ends, each read did
 abbrev pub most_spent : HeadEnd → ℕ → ℕ
 most_spent (At n) reads = reads
-most_spent TooLarge reads = 100000
-most_spent CutShort reads = 100000
+most_spent TooLarge reads = MOST_READS
+most_spent CutShort reads = MOST_READS
 
 -- the head of an input that begins with these bytes is not whole yet, and not too large
 pub record OpenHead (bytes : List ℕ) : Type 0 where
   pub open_head : head_size (lines_of bytes) ≡ None
-  pub room : length bytes < 16384
+  pub room : length bytes < MOST_HEAD_BYTES

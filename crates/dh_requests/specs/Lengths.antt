@@ -5,6 +5,7 @@ use Rattle.std.specs.Str.Parse.{digits_value}
 use Rattle.dh_texts.specs.Texts.{is_digit}
 use Rattle.dh_requests.specs.declared.length.LengthFault.{LengthFault}
 use Rattle.dh_requests.specs.declared.length.LengthFault.TheVariants.{Untold, Wrong, TooLarge}
+use Rattle.dh_requests.specs.declared.length.TheConstants.{MOST_BODY_BYTES}
 
 -- one or more digits
 abbrev pub is_number : List ℕ → Bool
@@ -13,7 +14,7 @@ is_number (b ∷ text) = is_digit b && list_all is_digit text
 
 -- the number, if a body may have this many bytes: at most 4,194,304
 abbrev pub limited : ℕ → Result ℕ LengthFault
-limited number = if nat_le number 4194304 then Ok number else Err TooLarge
+limited number = if nat_le number MOST_BODY_BYTES then Ok number else Err TooLarge
 
 -- the length that the value of a Content-Length line tells (RFC 9110, section 8.6)
 abbrev pub told_length : List ℕ → Result ℕ LengthFault

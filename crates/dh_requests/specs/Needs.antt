@@ -7,6 +7,7 @@ use Rattle.dh_requests.specs.HeadEnd.{head_end_of, OpenHead}
 use Rattle.dh_requests.specs.Request.{HeadAsksFor}
 use Rattle.std.specs.Io.KnownBytes.{Consumes}
 use Rattle.dh_requests.specs.Takes.{TookWhile}
+use Rattle.dh_ports.specs.declared.intake.TheConstants.{READ_SIZE}
 
 -- the bytes begin with a head that asks for a body, and the body is not whole
 pub record OpenBody (bytes : List ℕ) : Type 0 where
@@ -28,4 +29,4 @@ IsNeeded = TookWhile NeedsMore
 -- if it was needed to take these bytes, it was needed to take those behind them too
 abbrev pub StaysNeeded : List ℕ → Option (List ℕ) → Option (List ℕ) → ℕ → Type 0
 StaysNeeded bytes now new most =
-    (old : Option (List ℕ)) → Consumes old now bytes → IsNeeded old now 4096 → IsNeeded old new most
+    (old : Option (List ℕ)) → Consumes old now bytes → IsNeeded old now READ_SIZE → IsNeeded old new most

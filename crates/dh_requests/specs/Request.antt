@@ -48,8 +48,8 @@ abbrev pub not_allowed : Allow → List ℕ → Request
 not_allowed allowed method = Refused 405 (Some allowed) (is_head method)
 
 -- GET and HEAD read; any other method is refused
-abbrev pub read_by : List ℕ → Target → Option (List ℕ) → Option (List ℕ) → Request
-read_by method target host pass =
+abbrev pub read_request_of : List ℕ → Target → Option (List ℕ) → Option (List ℕ) → Request
+read_request_of method target host pass =
     if bytes_eq method (codes "GET") || is_head method
     then Read host pass (record { path = target.path; query = target.query }) (is_head method)
     else not_allowed allow.Get method
@@ -76,8 +76,8 @@ posted post host key (Ok count) =
 posted post host key (Err fault) = Whole (Refused (length_status fault) None false)
 
 -- POST is a command; any other method is refused
-abbrev pub post_by : Post → Parts → Option (List ℕ) → Option (List ℕ) → Asked
-post_by post parts host key =
+abbrev pub command_head : Post → Parts → Option (List ℕ) → Option (List ℕ) → Asked
+command_head post parts host key =
     if bytes_eq parts.method (codes "POST")
     then posted post host key (body_length parts.coding parts.length)
     else Whole (not_allowed allow.Post parts.method)
@@ -85,25 +85,25 @@ post_by post parts host key =
 -- ---- the head
 
 -- what is asked for at a target, by the host, the pass and the write key
-abbrev pub asked_at :
+abbrev pub request_at :
     Parts → Target → Option (List ℕ) → Option (List ℕ) → Option (List ℕ) → Asked
-asked_at parts target host pass key =
-    option_map_or (λ post. post_by post parts host key) (post_at target.path)
-    (Whole (read_by parts.method target host pass))
+request_at parts target host pass key =
+    option_map_or (λ post. command_head post parts host key) (post_at target.path)
+    (Whole (read_request_of parts.method target host pass))
 
 -- what a head asks for, where its target and its host are right, and it has no more than one line for the
 -- pass and one for the key
-abbrev pub asked_where_right : Parts → Option Asked
-asked_where_right parts =
+abbrev pub request_where_right : Parts → Option Asked
+request_where_right parts =
     option_and_then (λ target.
     option_and_then (λ host.
     option_and_then (λ pass.
-    option_map (λ key. asked_at parts target host pass key) parts.key) parts.pass)
+    option_map (λ key. request_at parts target host pass key) parts.key) parts.pass)
     (requested_host target.host parts.host)) (target_of parts.target)
 
 -- what a head asks for; a head in which something is wrong is a bad request
 abbrev pub asked_by : Parts → Asked
-asked_by parts = unwrap_or (asked_where_right parts) (Whole (Refused 400 None (is_head parts.method)))
+asked_by parts = unwrap_or (request_where_right parts) (Whole (Refused 400 None (is_head parts.method)))
 
 -- what a head of the grammar asks for; a text that is no such head is a bad request
 abbrev pub asked_of : Option RequestHead → Asked

@@ -6,6 +6,7 @@ use Rattle.dh_ports.specs.Reading.{reader_failed, TookAtMost, CameOrEnded}
 use Rattle.dh_ports.specs.declared.source.Source.{Ghosts}
 use Rattle.dh_ports.specs.declared.stop.Stop.{Stop}
 use Rattle.dh_ports.specs.declared.stop.Stop.TheVariants.{Read, TooManyTurns, Memory}
+use Rattle.dh_ports.specs.declared.intake.TheConstants.{READ_SIZE}
 
 -- at least this many bytes were taken, where the source tells its bytes
 abbrev pub TookAtLeast : Option (List ℕ) → Option (List ℕ) → ℕ → Type 0
@@ -52,7 +53,7 @@ AddsNear missing old new before after came =
     × Consumes old new bytes
     × (after ≡ before ++ bytes)
     × CameOrEnded new bytes came
-    × (length bytes < missing + 4096)
+    × (length bytes < missing + READ_SIZE)
 
 -- the most bytes that the source gave to a read that stopped, where this many were missing
 abbrev pub most_missed : ℕ → Stop → ℕ
@@ -74,7 +75,7 @@ module _ {S T : Type 0} (g : Ghosts S) (old new : S) (result : Result T Stop) wh
   pub record TakesNeeded
       (Needs : Option (List ℕ) → Option (List ℕ) → ℕ → Type 0) (bytes times : ℕ) : Type 0 where
     -- no more came than is needed, and then 4,096 bytes at most: none where the reader failed
-    pub needed : Needs (g.left old) (g.left new) (if reader_failed result then 0 else 4096)
+    pub needed : Needs (g.left old) (g.left new) (if reader_failed result then 0 else READ_SIZE)
     -- the source is broken exactly where the reader failed
     pub broken : g.broken new ≡ reader_failed result
     -- the call stops for too many turns only where this many bytes came, and all of these reads were made

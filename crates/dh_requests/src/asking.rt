@@ -13,7 +13,7 @@ use crate::fault::HeadFault;
 use crate::fields::Lines;
 use crate::head::{Head, head_of};
 use crate::length::{body_length, length_status};
-use crate::request::{Request, is_head, not_allowed, read_by, refused};
+use crate::request::{Request, is_head, not_allowed, read_request_of, refused};
 use dh_bodies::Post;
 use dh_paths::{HostName, Target, Text, host_name, host_part};
 use dh_ports::Stop;
@@ -93,7 +93,7 @@ fn key_text(key: Option<&[u8]>) -> &str
 }
 
 /// What a request to a path for posts asks for.
-fn post_by(
+fn command_head(
     alloc: Global,
     post: Post,
     head: &Head<'_>,
@@ -101,7 +101,7 @@ fn post_by(
     key: Option<&[u8]>,
 ) -> Result<Asked, AllocError>
     ensures { IfOk result (λ asked. asked
-        ≡ request.post_by post (parts_found head.now) host.now (option_copied key.entry)) }
+        ≡ request.command_head post (parts_found head.now) host.now (option_copied key.entry)) }
 {
     if head.method != b"POST".as_slice() {
         return Ok(Asked::Whole(not_allowed(Allow::Post, head.method)));
@@ -118,7 +118,7 @@ fn post_by(
 }
 
 /// What a head asks for at its target, by the values of its lines.
-fn asked_at(
+fn request_at(
     alloc: Global,
     head: &Head<'_>,
     target: Target,
@@ -127,31 +127,31 @@ fn asked_at(
     key: Option<&[u8]>,
 ) -> Result<Asked, AllocError>
     ensures { IfOk result (λ asked. asked
-        ≡ request.asked_at (parts_found head.now) target host
+        ≡ request.request_at (parts_found head.now) target host
         (option_copied pass.entry) (option_copied key.entry)) }
 {
     match post_at(target.path.as_str()) {
-        Some(post) => post_by(alloc, post, head, &host, key),
-        None => Ok(Asked::Whole(read_by(alloc, head.method, target, host, pass)?)),
+        Some(post) => command_head(alloc, post, head, &host, key),
+        None => Ok(Asked::Whole(read_request_of(alloc, head.method, target, host, pass)?)),
     }
 }
 
 /// What a head asks for, or the first fault in it.
-fn asked_where_right(alloc: Global, head: &Head<'_>) -> Result<Asked, HeadFault>
-    ensures { FindsInHead (request.asked_where_right (parts_found head.now)) result }
+fn request_where_right(alloc: Global, head: &Head<'_>) -> Result<Asked, HeadFault>
+    ensures { FindsInHead (request.request_where_right (parts_found head.now)) result }
 {
     let target = Target::read(alloc, head.target)?;
     let host = requested_host(alloc, &target.host, head.host)?;
     let pass = one_value(head.pass)?;
     let key = one_value(head.key)?;
-    Ok(asked_at(alloc, head, target, host, pass, key)?)
+    Ok(request_at(alloc, head, target, host, pass, key)?)
 }
 
-fn head_asks(alloc: Global, head: &Head<'_>) -> Result<Asked, Stop>
+fn request_of_head(alloc: Global, head: &Head<'_>) -> Result<Asked, Stop>
     ensures asked { IfOk result (λ asked. asked ≡ request.asked_by (parts_found head.now)) }
     ensures err { IfErr result (λ stop. stop ≡ Stop.Memory) }
 {
-    let fault = match asked_where_right(alloc, head) {
+    let fault = match request_where_right(alloc, head) {
         Ok(asked) => return Ok(asked),
         Err(fault) => fault,
     };
@@ -162,13 +162,13 @@ fn head_asks(alloc: Global, head: &Head<'_>) -> Result<Asked, Stop>
 }
 
 /// What the text of a head asks for.
-pub fn text_asks(alloc: Global, text: &[u8]) -> Result<Asked, Stop>
+pub fn parse_request_head(alloc: Global, text: &[u8]) -> Result<Asked, Stop>
     requires { IsHeadText text.now }
     ensures asked { IfOk result (request.HeadAsksFor text.now) }
     ensures err { IfErr result (λ stop. stop ≡ Stop.Memory) }
 {
     match head_of(text) {
-        Some(head) => head_asks(alloc, &head),
+        Some(head) => request_of_head(alloc, &head),
         None => Ok(Asked::Whole(refused(400, false))),
     }
 }

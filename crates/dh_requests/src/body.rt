@@ -5,13 +5,7 @@ ghost use Rattle.dh_ports.specs.Ports.{CountsUpTo, CountsAtLeast};
 ghost use Rattle.dh_ports.specs.Reading.{reader_failed, IsFull};
 ghost use Rattle.dh_requests.specs.Takes.{AddsPiece, AddsUpTo, FillsUpTo, TakesNeeded};
 
-use dh_ports::{Intake, Source, Stop};
-
-/// The most reads that may bring bytes.
-const MOST_READS: u32 = 100_000;
-
-/// Up to this many missing bytes are read as a head is read.
-const SMALL_PIECE: usize = 4_096;
+use dh_ports::{Intake, MOST_READS, READ_SIZE, Source, Stop};
 
 /// The most bytes that one read of a body asks for.
 const LARGE_PIECE: usize = 65_536;
@@ -29,9 +23,9 @@ fn read_large<R: Source>(intake: &mut Intake, source: &mut R, missing: usize) ->
     ensures full { IsErrOf result Stop.TooManyTurns
         → IsFull intake.old.reads intake.old.bytes.items × (source.new ≡ source.old) }
     ensures reads { CountsUpTo (R.fills source.old) (R.fills source.new)
-        (min 1 (100000 - intake.old.reads)) }
+        (min 1 (MOST_READS - intake.old.reads)) }
     ensures asked { OnOk result (CountsAtLeast (R.fills source.old) (R.fills source.new) 1) }
-    ensures few { intake.new.reads ≤ 100000 }
+    ensures few { intake.new.reads ≤ MOST_READS }
 {
     if intake.reads == MOST_READS {
         return Err(Stop::TooManyTurns);
@@ -63,11 +57,11 @@ fn read_piece<R: Source>(intake: &mut Intake, source: &mut R, missing: usize) ->
     ensures full { IsErrOf result Stop.TooManyTurns
         → IsFull intake.old.reads intake.old.bytes.items × (source.new ≡ source.old) }
     ensures reads { CountsUpTo (R.fills source.old) (R.fills source.new)
-        (min 1 (100000 - intake.old.reads)) }
+        (min 1 (MOST_READS - intake.old.reads)) }
     ensures asked { OnOk result (CountsAtLeast (R.fills source.old) (R.fills source.new) 1) }
-    ensures few { intake.new.reads ≤ 100000 }
+    ensures few { intake.new.reads ≤ MOST_READS }
 {
-    if missing > SMALL_PIECE {
+    if missing > READ_SIZE {
         return read_large(intake, source, missing);
     }
     intake.more(source)
@@ -85,7 +79,7 @@ pub fn read_up_to<R: Source>(
     ensures unread { count ≤ length intake.old.bytes.items → source.new ≡ source.old }
     ensures takes { TakesNeeded R.Source source.old source.new result
         (FillsUpTo (length intake.old.bytes.items) count)
-        (100000 - length intake.old.bytes.items) (100000 - intake.old.reads) }
+        (MOST_READS - length intake.old.bytes.items) (MOST_READS - intake.old.reads) }
 {
     'pieces: while intake.bytes.len() < count {
         let missing = count - intake.bytes.len();

@@ -7,7 +7,7 @@ ghost use Rattle.dh_requests.specs.HeadEnd.{head_end_of, EndsHead, OpenHead, mos
 ghost use Rattle.dh_requests.specs.Takes.{TookWhile, TakesNeeded};
 ghost use Rattle.dh_requests.specs.Scan.{after_byte, ScansTo, FindsEnd};
 
-use dh_ports::{Intake, Source, Stop};
+use dh_ports::{Intake, MOST_READS, READ_SIZE, Source, Stop};
 
 /// Where in its line the search stands.
 #[derive(Clone, Copy, Debug, PartialEq, Eq, Drop)]
@@ -40,10 +40,10 @@ pub enum HeadEnd {
 }
 
 /// The most bytes of a head.
-const MOST_BYTES: usize = 16_384;
+pub const MOST_HEAD_BYTES: usize = 16_384;
 
 /// The most lines of a head that are not empty: the request line and 64 more.
-const MOST_LINES: usize = 65;
+pub const MOST_HEAD_LINES: usize = 65;
 
 const FIRST: Scan = Scan {
     lines: 0,
@@ -105,9 +105,9 @@ pub fn read_head<R: Source>(intake: &mut Intake, source: &mut R) -> Result<HeadE
     ensures found { IfOk result (λ end. end ≡ head_end_of intake.new.bytes.items) }
     ensures text { IfOk result (λ end. EndsHead end intake.new.bytes.items) }
     ensures takes { TakesNeeded R.Source source.old source.new result
-        (TookWhile OpenHead) 100000 100000 }
+        (TookWhile OpenHead) MOST_READS MOST_READS }
     ensures turns { IsErrOf result Stop.TooManyTurns → ⊥ }
-    ensures little { OnOk result (length intake.new.bytes.items ≤ 20480) }
+    ensures little { OnOk result (length intake.new.bytes.items ≤ MOST_HEAD_BYTES + READ_SIZE) }
     ensures counted { OnOk result
         (CountsAtLeast (R.fills source.old) (R.fills source.new) intake.new.reads) }
     ensures spent { IfOk result (λ end.
@@ -117,15 +117,15 @@ pub fn read_head<R: Source>(intake: &mut Intake, source: &mut R) -> Result<HeadE
     let mut scan = FIRST;
     let mut seen = 0;
     'pieces: loop {
-        if seen == MOST_BYTES {
+        if seen == MOST_HEAD_BYTES {
             return Ok(HeadEnd::TooLarge);
         }
         if !intake.more(source)? {
             return Ok(HeadEnd::CutShort);
         }
-        let limit = intake.bytes.len().min(MOST_BYTES);
+        let limit = intake.bytes.len().min(MOST_HEAD_BYTES);
         if let Some(n) = find_end(&mut scan, &intake.bytes[seen..limit]) {
-            if scan.lines > MOST_LINES {
+            if scan.lines > MOST_HEAD_LINES {
                 return Ok(HeadEnd::TooLarge);
             }
             return Ok(HeadEnd::At(seen + n));

@@ -21,7 +21,7 @@ pub enum LengthFault {
 }
 
 /// The most bytes of a body.
-const MOST_BYTES: usize = 4_194_304;
+pub const MOST_BODY_BYTES: usize = 4_194_304;
 
 /// The status of a request that is refused for the length of its body.
 pub fn length_status(fault: LengthFault) -> u16
@@ -66,7 +66,7 @@ fn number_of(digits: &str) -> Result<usize, LengthFault>
     ensures { result ≡ lengths.limited (digits_value 10 digits.now) }
 {
     match digits.parse::<usize>() {
-        Ok(number) if number <= MOST_BYTES => Ok(number),
+        Ok(number) if number <= MOST_BODY_BYTES => Ok(number),
         Ok(_) => Err(LengthFault::TooLarge),
         Err(_) => Err(LengthFault::TooLarge),
     }
@@ -84,7 +84,7 @@ fn told_length(value: &[u8]) -> Result<usize, LengthFault>
 /// How many bytes the body has, by the lines of `Transfer-Encoding` and of `Content-Length`: at most 4,194,304.
 pub fn body_length(coding: Lines<'_>, length: Lines<'_>) -> Result<usize, LengthFault>
     ensures value { result ≡ lengths.body_length (one_of coding.entry) (one_of length.entry) }
-    ensures little { IfOk result (λ count. count ≤ 4194304) }
+    ensures little { IfOk result (λ count. count ≤ MOST_BODY_BYTES) }
 {
     match coding {
         Lines::Absent => {}

@@ -14,6 +14,7 @@ mod reading;
 pub mod request;
 
 pub use dh_ports::Stop;
+pub use head_end::MOST_HEAD_BYTES;
 pub use laws::{each_reading, one_reading, whole_head};
 pub use reading::read_request;
 pub use request::Request;

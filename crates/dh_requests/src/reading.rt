@@ -11,12 +11,13 @@ ghost use Rattle.dh_requests.specs.Takes.{FillsUpTo, TakesNeeded};
 ghost use Rattle.dh_requests.specs.Needs.{IsNeeded, StaysNeeded};
 
 use crate::asked::{Asked, Posted};
-use crate::asking::text_asks;
+use crate::asking::parse_request_head;
 use crate::body::read_up_to;
-use crate::head_end::{HeadEnd, read_head};
+use crate::head_end::{HeadEnd, MOST_HEAD_BYTES, read_head};
+use crate::length::MOST_BODY_BYTES;
 use crate::request::{Request, refused};
 use dh_bodies::read_change;
-use dh_ports::{Intake, Source, Stop};
+use dh_ports::{Intake, MOST_READS, READ_SIZE, Source, Stop};
 use dh_world::Command;
 use std::alloc::Global;
 
@@ -53,8 +54,8 @@ fn read_command<R: Source>(
 ) -> Taken
     requires fine { R.broken source.old ≡ false }
     requires within { start ≤ length intake.bytes.items }
-    requires little { length intake.bytes.items ≤ 20480 }
-    requires small { posted.length ≤ 4194304 }
+    requires little { length intake.bytes.items ≤ MOST_HEAD_BYTES + READ_SIZE }
+    requires small { posted.length ≤ MOST_BODY_BYTES }
     ensures request { IfOk result (λ r. IfSome (R.left source.old) (λ left.
         r ≡ request.request_behind (Asked.Command posted)
         (drop start (intake.bytes.items ++ left)))) }
@@ -62,7 +63,7 @@ fn read_command<R: Source>(
         → source.new ≡ source.old }
     ensures takes { TakesNeeded R.Source source.old source.new result
         (FillsUpTo (length intake.bytes.items) (start + posted.length))
-        (100000 - length intake.bytes.items) (100000 - intake.reads) }
+        (MOST_READS - length intake.bytes.items) (MOST_READS - intake.reads) }
 {
     let count = start + posted.length;
     if !read_up_to(&mut intake, source, count)? {
@@ -76,14 +77,14 @@ fn read_behind<R: Source>(alloc: Global, intake: Intake, source: &mut R, start: 
     requires fine { R.broken source.old ≡ false }
     requires head { At start ≡ head_end_of intake.bytes.items }
     requires text { EndsHead (At start) intake.bytes.items }
-    requires little { length intake.bytes.items ≤ 20480 }
+    requires little { length intake.bytes.items ≤ MOST_HEAD_BYTES + READ_SIZE }
     ensures request { IfOk result (λ r. IfSome (R.left source.old) (λ left.
         request.IsRequestUpTo (At start) (intake.bytes.items ++ left) r)) }
     ensures takes { TakesNeeded R.Source source.old source.new result
         (StaysNeeded intake.bytes.items)
-        (100000 - length intake.bytes.items) (100000 - intake.reads) }
+        (MOST_READS - length intake.bytes.items) (MOST_READS - intake.reads) }
 {
-    match text_asks(alloc, &intake.bytes[..start])? {
+    match parse_request_head(alloc, &intake.bytes[..start])? {
         Asked::Whole(request) => Ok(request),
         Asked::Command(posted) => read_command(alloc, intake, source, start, posted),
     }
@@ -94,14 +95,14 @@ fn read_on<R: Source>(alloc: Global, intake: Intake, source: &mut R, end: HeadEn
     requires fine { R.broken source.old ≡ false }
     requires head { end ≡ head_end_of intake.bytes.items }
     requires text { EndsHead end intake.bytes.items }
-    requires little { length intake.bytes.items ≤ 20480 }
+    requires little { length intake.bytes.items ≤ MOST_HEAD_BYTES + READ_SIZE }
     ensures request { IfOk result (λ r. IfSome (R.left source.old) (λ left.
         request.IsRequestUpTo end (intake.bytes.items ++ left) r)) }
     ensures takes { TakesNeeded R.Source source.old source.new result
         (StaysNeeded intake.bytes.items)
-        (100000 - length intake.bytes.items) (100000 - intake.reads) }
+        (MOST_READS - length intake.bytes.items) (MOST_READS - intake.reads) }
     ensures spent { CountsUpTo (R.fills source.old) (R.fills source.new)
-        (100000 - most_spent end intake.reads) }
+        (MOST_READS - most_spent end intake.reads) }
 {
     match end {
         HeadEnd::At(start) => read_behind(alloc, intake, source, start),
@@ -118,8 +119,9 @@ pub fn read_request<R: Source>(alloc: Global, source: &mut R) -> Result<Request,
     requires { R.broken source.old ≡ false }
     ensures asked { IfOk result (λ r.
         IfSome (R.left source.old) (λ input. request.IsRequest input r)) }
-    ensures taken { TookAtMost (R.left source.old) (R.left source.new) 4214784 }
-    ensures takes { TakesNeeded R.Source source.old source.new result IsNeeded 100000 100000 }
+    ensures taken { TookAtMost (R.left source.old) (R.left source.new)
+        (MOST_HEAD_BYTES + MOST_BODY_BYTES + READ_SIZE) }
+    ensures takes { TakesNeeded R.Source source.old source.new result IsNeeded MOST_READS MOST_READS }
 {
     let mut intake = Intake::new(alloc);
     let end = read_head(&mut intake, source)?;

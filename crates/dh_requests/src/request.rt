@@ -75,7 +75,7 @@ fn copied(alloc: Global, bytes: Option<&[u8]>) -> Result<Option<Bytes>, AllocErr
 }
 
 /// The read that GET or HEAD asks for; any other method is refused.
-pub fn read_by(
+pub fn read_request_of(
     alloc: Global,
     method: &[u8],
     target: Target,
@@ -83,7 +83,7 @@ pub fn read_by(
     pass: Option<&[u8]>,
 ) -> Result<Request, AllocError>
     ensures { IfOk result (λ r. r
-        ≡ request.read_by method.now target host (option_copied pass.entry)) }
+        ≡ request.read_request_of method.now target host (option_copied pass.entry)) }
 {
     let head = is_head(method);
     if !head && method != b"GET".as_slice() {

@@ -26,10 +26,10 @@ use Rattle.sqlite.specs.Clock.{timed}
 use Rattle.sqlite.specs.Held.{Held, state as state_of}
 use Rattle.sqlite.proofs.Callers as callers
 use Rattle.sqlite.proofs.Callers.{IsPlain, runs_as, reads_as, never_commits}
-use Rattle.dh_faults.specs.declared.fault.Fault.{Fault}
-use Rattle.dh_faults.specs.declared.fault.Fault.TheVariants.{Store, Memory}
+use Rattle.dh_ports.specs.declared.fault.Fault.{Fault}
+use Rattle.dh_ports.specs.declared.fault.Fault.TheVariants.{Store, Memory}
 use Rattle.dh_rows.specs.Faults.{fault_of}
-use Rattle.dh_faults.specs.Faults.{OnStore}
+use Rattle.dh_ports.specs.Faults.{OnStore}
 use Rattle.dh_rows.specs.Calls.{command_of, statement_of, IsEdit, EditsTo, EditsAs, whole, IsHonest, LeavesTrees, LeavesNoMore, KeepsFaults, MakesNoCommit, MakesNoCommitInside, NowShows, RunsStatement as Ran, EditsWhatIsSeen, EditsAtMost, ControlsTransaction, OnlyBegins, OnlyCommits, OnlyUndoes, OnlyLooks, OnlyEdits, BeginsTransaction, CommitsSeen, UndoesTransaction, RefusalUndoes, IsPlainLook, IsPlainEdit, AreRows, IsBlamed, StoreFaultHasCause, IsRejected, IsUnfit, ShowsHonestly, IsSame, IsUndone, IsRefused, BecomesSeen}
 
 -- ---- refusals

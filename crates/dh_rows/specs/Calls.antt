@@ -15,8 +15,8 @@ use Rattle.sqlite.specs.Given.{IsPlain}
 use Rattle.sqlite.specs.Listing.{understood, reads_listing}
 use Rattle.sqlite.specs.State.{State, HasCleanDisk, IsUnchanged, IsRolledBack, Executes, FailsToQuery, IsNoStatement, mode_of, text_of}
 use Rattle.sqlite.specs.Held.{Held, state}
-use Rattle.dh_faults.specs.declared.fault.Fault.{Fault}
-use Rattle.dh_faults.specs.Faults.{OnStore}
+use Rattle.dh_ports.specs.declared.fault.Fault.{Fault}
+use Rattle.dh_ports.specs.Faults.{OnStore}
 use Rattle.dh_rows.specs.Faults.{fault_of}
 
 -- the command that a text stands for, or `Nothing` where it does not compile

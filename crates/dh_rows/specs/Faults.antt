@@ -2,8 +2,8 @@
 use Rattle.sqlite.specs.declared.error.Error.{Error}
 use Rattle.sqlite.specs.declared.error.Error.TheVariants.{SqliteFailure}
 use Rattle.sqlite.specs.declared.error.ErrorCode.TheVariants.{OutOfMemory}
-use Rattle.dh_faults.specs.declared.fault.Fault.{Fault}
-use Rattle.dh_faults.specs.declared.fault.Fault.TheVariants.{Store, Memory}
+use Rattle.dh_ports.specs.declared.fault.Fault.{Fault}
+use Rattle.dh_ports.specs.declared.fault.Fault.TheVariants.{Store, Memory}
 
 -- `Memory` where memory is out, and `Store` for any other error
 abbrev pub fault_of : Error → Fault

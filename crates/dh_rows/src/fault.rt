@@ -3,7 +3,7 @@
 ghost use Rattle.std.specs.Prelude.{◌≡◌};
 ghost use Rattle.dh_rows.specs.Faults as spec;
 
-use dh_faults::Fault;
+use dh_ports::Fault;
 use sqlite::{Error, ErrorCode};
 
 /// Tells an error of the database as a fault: `Memory` where memory is out, else `Store`.

@@ -7,7 +7,7 @@ ghost use Rattle.sqlite.specs.Values.{bound};
 ghost use Rattle.dh_rows.specs.Calls.{AreRows, StoreFaultHasCause, FindsSuch, IsHonest, IsPlainEdit, IsPlainLook, IsRejected, IsUnanswered, IsUnfit, KeepsFaults, LeavesSeen, OnlyBegins, OnlyCommits, OnlyEdits, OnlyLooks, OnlyUndoes, RunsStatement, RefusalRollsBack, whole};
 
 use crate::fault::fault_of;
-use dh_faults::Fault;
+use dh_ports::Fault;
 use sqlite::types::ValueRef;
 use sqlite::{Alter, Connection, Row};
 

@@ -12,6 +12,7 @@ use Rattle.dh_rules.specs.declared.rule.Action.{Action}
 use Rattle.dh_rules.specs.declared.rule.Action.TheVariants.{Activate, Hide, Public, Private, Default}
 use Rattle.dh_rules.specs.declared.rule.Rule.{Rule}
 use Rattle.dh_rules.specs.declared.rule.Fresh.{Fresh}
+use Rattle.dh_rules.specs.declared.rule.TheConstants.{MOST_EXPRESSION_BYTES}
 
 -- whether the rule is for versions of this kind and its pattern matches this name
 abbrev pub is_met : Rule → Kind → List ℕ → Bool
@@ -63,7 +64,7 @@ after_rules rules fresh =
 
 -- the most bytes of a custom pattern's text
 abbrev pub most_expression : ℕ
-most_expression = 200
+most_expression = MOST_EXPRESSION_BYTES
 
 -- a custom text is short enough to be kept
 abbrev pub is_short : Pattern → Bool

@@ -9,7 +9,7 @@ use dh_versions::Kind;
 use std::alloc::{AllocError, Global};
 
 /// The most bytes that the text of a custom pattern may have.
-pub const MAX_EXPRESSION: usize = 200;
+pub const MOST_EXPRESSION_BYTES: usize = 200;
 
 /// What a rule does with a new version.
 #[derive(Clone, Copy, Debug, PartialEq, Eq)]
@@ -79,7 +79,7 @@ impl Rule {
         let Pattern::Custom(text) = &self.pattern else {
             return Ok(());
         };
-        if text.as_str().len() > MAX_EXPRESSION {
+        if text.as_str().len() > MOST_EXPRESSION_BYTES {
             return Err(CheckFault::BadPattern);
         }
         match compiled(alloc, text.as_str())? {

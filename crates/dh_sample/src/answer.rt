@@ -2,7 +2,7 @@
 
 use crate::filling::sample_desk;
 use dh_http::{Done, EngineFault, Refusal, answer, answer_unavailable};
-use dh_ports::{Sink, Source};
+use dh_ports::{MOST_READS, READ_SIZE, Sink, Source};
 use std::alloc::Global;
 use thiserror::Error;
 
@@ -52,12 +52,12 @@ pub fn answer_sample<R: Source, W: Sink>(
     ensures reader_fault { R.broken source.new ≡ reader_failed (engine_told result) }
     ensures writer_fault { W.broken sink.new ≡ writer_failed (engine_told result) }
     ensures needed { IsNeeded (R.left source.old) (R.left source.new)
-        (if reader_failed (engine_told result) then 0 else 4096) }
+        (if reader_failed (engine_told result) then 0 else READ_SIZE) }
     ensures turns { IsErrOf result (SampleFault.Engine EngineFault.TooManyTurns)
-        → TookAtLeast (R.left source.old) (R.left source.new) 100000 }
+        → TookAtLeast (R.left source.old) (R.left source.new) MOST_READS }
     ensures full { IsErrOf result (SampleFault.Engine EngineFault.TooManyTurns)
-        → CountsAtLeast (R.fills source.old) (R.fills source.new) 100000 }
-    ensures reads { CountsUpTo (R.fills source.old) (R.fills source.new) 100000 }
+        → CountsAtLeast (R.fills source.old) (R.fills source.new) MOST_READS }
+    ensures reads { CountsUpTo (R.fills source.old) (R.fills source.new) MOST_READS }
     ensures unasked { IsErrOf result SampleFault.Store
         → (source.new ≡ source.old) × (sink.new ≡ sink.old) }
 {

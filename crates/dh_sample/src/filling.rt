@@ -9,7 +9,7 @@ ghost use Rattle.sqlite.specs.Steps.{over_memory};
 
 use dh_http::{Answer, Command, CommandChange, Desk, Pages, Refusal, UploadedPage};
 use dh_paths::{Bytes, Text};
-use dh_reply::Fault;
+use dh_ports::Fault;
 use dh_tables::Tables;
 use dh_versions::Kind;
 use sqlite::{Alter, MemStore};

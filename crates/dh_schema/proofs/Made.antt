@@ -29,7 +29,7 @@ use Rattle.dh_rows.proofs.Texts.{ArePlain}
 use Rattle.dh_records.specs.Codings.{projects, langs, versions, pages, used, picks, passes, held, rules, redirects, aliases, routes}
 use Rattle.dh_records.specs.Typed.{AreTyped}
 use Rattle.dh_schema.specs.Tables.{lists_of, meta, meta_table, alias_table, route_table, rule_table, redirect_table, project_table, lang_table, version_table, page_table, used_table, pick_table, pass_table, holds_table}
-use Rattle.dh_faults.specs.declared.fault.Fault.{Fault}
+use Rattle.dh_ports.specs.declared.fault.Fault.{Fault}
 use Rattle.dh_schema.proofs.CallLemmas.{Since, built_one, builds_since, ready_since}
 use Rattle.dh_schema.specs.Making.{BuildsTables, IsAdded, IsReady, IsMade, added_tables, aliases_text, derived_tables, routes_text, no_lists, made_tables, our_tables, table_texts}
 

@@ -5,7 +5,7 @@ use Rattle.sqlite_value.specs.Order.{Row}
 use Rattle.sqlite_trees.specs.declared.store.Store.{Ghosts}
 use Rattle.sqlite.specs.State.{State}
 use Rattle.sqlite.specs.Held.{Held, state}
-use Rattle.dh_faults.specs.declared.fault.Fault.{Fault}
+use Rattle.dh_ports.specs.declared.fault.Fault.{Fault}
 use Rattle.dh_rows.specs.Calls.{AreRows, IsHonest, IsUnfit, MakesNoCommit, MakesNoCommitInside, LeavesAllAsItWas, RefusalUndoes, NowShows, CommitsAtMost, seen, committed}
 pub use Rattle.dh_rows.specs.Calls.{StoreFaultHasCause}
 use Rattle.dh_rows.specs.Keyed.{Coding, IsFreeKey}

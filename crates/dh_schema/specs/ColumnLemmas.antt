@@ -20,10 +20,10 @@ use Rattle.dh_records.specs.declared.records.ProjectRow.{ProjectRow}
 use Rattle.dh_records.specs.declared.records.LangRow.{LangRow}
 use Rattle.dh_records.specs.declared.records.VersionRow.{VersionRow}
 use Rattle.dh_records.specs.declared.records.PageRow.{PageRow}
-use Rattle.dh_records.specs.declared.records.UsedRow.{UsedRow}
-use Rattle.dh_records.specs.declared.records.PickRow.{PickRow}
+use Rattle.dh_records.specs.declared.records.RetryRow.{RetryRow}
+use Rattle.dh_records.specs.declared.records.DefaultRow.{DefaultRow}
 use Rattle.dh_records.specs.declared.records.PassRow.{PassRow}
-use Rattle.dh_records.specs.declared.records.HeldRow.{HeldRow}
+use Rattle.dh_records.specs.declared.records.GrantRow.{GrantRow}
 use Rattle.dh_records.specs.declared.records.RuleRow.{RuleRow}
 use Rattle.dh_records.specs.declared.records.RedirectRow.{RedirectRow}
 use Rattle.dh_records.specs.declared.records.AliasRow.{AliasRow}
@@ -127,7 +127,7 @@ used_simple = refl
 pub used_plain : ArePlain used_table.columns
 used_plain = ((refl, refl), ((refl, refl), ((refl, refl), ((refl, refl), ((refl, refl), tt)))))
 
-pub used_back : (x : UsedRow) (n : ℤ) → used.decode (Int n ∷ used.encode x) ≡ x
+pub used_back : (x : RetryRow) (n : ℤ) → used.decode (Int n ∷ used.encode x) ≡ x
 used_back x n = rw (op_back x.op) refl
 
 -- ---- pick
@@ -138,7 +138,7 @@ pick_simple = refl
 pub pick_plain : ArePlain pick_table.columns
 pick_plain = ((refl, refl), ((refl, refl), ((refl, refl), tt)))
 
-pub pick_back : (x : PickRow) (n : ℤ) → picks.decode (Int n ∷ picks.encode x) ≡ x
+pub pick_back : (x : DefaultRow) (n : ℤ) → picks.decode (Int n ∷ picks.encode x) ≡ x
 pick_back x n = refl
 
 -- ---- pass
@@ -160,7 +160,7 @@ holds_simple = refl
 pub holds_plain : ArePlain holds_table.columns
 holds_plain = ((refl, refl), ((refl, refl), ((refl, refl), tt)))
 
-pub holds_back : (x : HeldRow) (n : ℤ) → held.decode (Int n ∷ held.encode x) ≡ x
+pub holds_back : (x : GrantRow) (n : ℤ) → held.decode (Int n ∷ held.encode x) ≡ x
 holds_back x n = refl
 
 -- ---- rule

@@ -9,7 +9,7 @@ ghost use Rattle.dh_rows.specs.Places.{IsFree, IsUnmentioned, ArePlaced};
 ghost use Rattle.dh_schema.specs.Making.{CanMake, IsReady, IsMade, BuildsTables, BuildsOne, AreCommitted, CommitsNothing, CanAdd, IsAdded, added_tables, derived_tables, made_tables, our_tables, table_texts};
 ghost use Rattle.dh_schema.specs.Tables.{alias_table, route_table};
 
-use dh_lookup::Fault;
+use dh_ports::Fault;
 use dh_rows::{begin, change, commit, is_free, is_unmentioned, keeps_counts};
 use sqlite::{Alter, Connection, params};
 use sqlite_schema::schema::Schema;

@@ -6,7 +6,7 @@ ghost use Rattle.sqlite.specs.Values.{bound};
 ghost use Rattle.dh_rows.specs.Calls.{FindsSuch, IsHonest, IsPlainLook, OnlyLooks};
 ghost use Rattle.dh_schema.specs.Calling.{AreAsked, StoreFaultHasCause, IsUnread};
 
-use dh_lookup::{Fault, Found};
+use dh_ports::{Fault, Found};
 use dh_records::{Record, all, first};
 use dh_rows::select;
 use sqlite::types::ValueRef;

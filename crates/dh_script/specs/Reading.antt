@@ -6,6 +6,8 @@ use Rattle.dh_ports.specs.declared.stop.Stop.TheVariants.{Read, TooManyTurns, Me
 use Rattle.dh_script.specs.declared.fault.RunFault.TheVariants.{Write}
 use Rattle.dh_script.specs.declared.fault.ScriptFault.{ScriptFault}
 use Rattle.dh_script.specs.declared.fault.ScriptFault.TheVariants.{Unread, TooLong, NotText, Run}
+use Rattle.dh_ports.specs.declared.intake.TheConstants.{MOST_READS}
+use Rattle.dh_script.specs.declared.script.TheConstants.{MOST_SCRIPT_BYTES}
 
 -- whether the answer is that the reader failed
 abbrev pub reader_failed : {A : Type 0} → Result A ScriptFault → Bool
@@ -23,13 +25,13 @@ writer_failed (Err fault) = is_write fault
 
 -- the most bytes of a script
 abbrev pub most_script : ℕ
-most_script = 1048576
+most_script = MOST_SCRIPT_BYTES
 
 -- what the fault says of an input, of which at most this many bytes may be read
 abbrev pub IsCauseOver : ℕ → ScriptFault → List ℕ → Type 0
 IsCauseOver most TooLong input = most < length input
 IsCauseOver most NotText input = IsUtf8 input → ⊥
-IsCauseOver most (Unread TooManyTurns) input = 100000 ≤ length input
+IsCauseOver most (Unread TooManyTurns) input = MOST_READS ≤ length input
 IsCauseOver most (Unread Read) input = ⊤
 IsCauseOver most (Unread Memory) input = ⊤
 IsCauseOver most (Run fault) input = ⊤

@@ -1,7 +1,7 @@
 -- Why what a line asks for was not done.
 use Rattle.std.specs.Prelude.{◌≡◌, Bool, true, false, Option, Some, None, Result, Ok, Err, codes, ⊤}
 use Rattle.sqlite_trees.specs.declared.store.Store.{Ghosts}
-use Rattle.dh_faults.specs.declared.fault.Fault.{Fault}
+use Rattle.dh_ports.specs.declared.fault.Fault.{Fault}
 use Rattle.dh_desk.specs.Desk.{StoreFaultHasCause, Standing}
 use Rattle.dh_world.specs.World.{Text}
 use Rattle.dh_world.specs.declared.outcome.Outcome.{Outcome}

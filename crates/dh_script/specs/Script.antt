@@ -5,7 +5,7 @@ use Rattle.dh_paths.specs.Targets.{target_of}
 use Rattle.dh_paths.specs.declared.target.Target.{Target}
 use Rattle.dh_reply.specs.Replies.{reply_to}
 use Rattle.dh_wire.specs.declared.reply.Reply.{Reply}
-use Rattle.dh_faults.specs.declared.fault.Fault.{Fault}
+use Rattle.dh_ports.specs.declared.fault.Fault.{Fault}
 use Rattle.dh_world.specs.World.{Text, World}
 use Rattle.dh_world.specs.Seen.{seen}
 use Rattle.dh_world.specs.declared.answer.Answer.{Answer}

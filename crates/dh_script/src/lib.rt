@@ -18,4 +18,4 @@ pub use outcomes::outcome_text;
 pub use reading::read_script;
 pub use reasons::Reason;
 pub use report::{RefusedLine, Report};
-pub use script::run_script;
+pub use script::{MOST_SCRIPT_BYTES, run_script};

@@ -7,9 +7,9 @@ ghost use Rattle.dh_script.specs.Script.{ListsAt, TellsList};
 
 use crate::orders::{Printed, told};
 use dh_desk::Desk;
-use dh_faults::Found;
 use dh_listings::ListWord;
 use dh_paths::Text;
+use dh_ports::Found;
 use dh_world::{Outcome, Refusal};
 use sqlite::Alter;
 use std::alloc::{AllocError, Global};

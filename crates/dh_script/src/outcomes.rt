@@ -10,7 +10,8 @@ ghost use Rattle.dh_script.specs.Reasons.{reason_of as spec_reason};
 
 use crate::reasons::Reason;
 use dh_paths::{Slug, Text};
-use dh_reply::{Fault, Reply};
+use dh_ports::Fault;
+use dh_reply::Reply;
 use dh_world::{Answer, Outcome, Refusal};
 use std::alloc::{AllocError, Global};
 

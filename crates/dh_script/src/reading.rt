@@ -6,7 +6,7 @@ ghost use Rattle.dh_ports.specs.Reading.{TookAtMost};
 ghost use Rattle.dh_script.specs.Reading.{reader_failed, writer_failed, IsCauseOver};
 
 use crate::fault::ScriptFault;
-use dh_ports::{Intake, Source, Stop};
+use dh_ports::{Intake, MOST_READS, READ_SIZE, Source, Stop};
 use std::alloc::Global;
 
 /// Reads all bytes of a script, or of a message that has one, in at most 100,000 reads and at most `most` bytes.
@@ -21,11 +21,11 @@ pub fn read_script<R: Source>(
     ensures little { IfOk result (λ bytes. length bytes.items ≤ most) }
     ensures cause { IfErr result (λ fault. IfSome (R.left source.old) (IsCauseOver most fault)) }
     ensures reading { writer_failed result ≡ false }
-    ensures taken { TookAtMost (R.left source.old) (R.left source.new) (most + 4096) }
+    ensures taken { TookAtMost (R.left source.old) (R.left source.new) (most + READ_SIZE) }
     ensures broken { R.broken source.new ≡ reader_failed result }
-    ensures reads { CountsUpTo (R.fills source.old) (R.fills source.new) 100000 }
+    ensures reads { CountsUpTo (R.fills source.old) (R.fills source.new) MOST_READS }
     ensures full { IsErrOf result (ScriptFault.Unread Stop.TooManyTurns)
-        → CountsAtLeast (R.fills source.old) (R.fills source.new) 100000 }
+        → CountsAtLeast (R.fills source.old) (R.fills source.new) MOST_READS }
 {
     let mut intake = Intake::new(alloc);
     'pieces: loop {

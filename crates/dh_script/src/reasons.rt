@@ -1,6 +1,6 @@
 //! Why what a line asks for was not done, and what people are told of it.
 
-use dh_reply::Fault;
+use dh_ports::Fault;
 use dh_world::Refusal;
 
 /// Why what a line asks for was not done.

@@ -4,7 +4,7 @@ ghost use Rattle.std.specs.Prelude.{◌≡◌, true, false, map, string_bytes, S
 ghost use Rattle.std.specs.Prelude.{IfSome, IsErrOf, OnOk, OnErr, [], ◌∷◌, ◌++◌};
 ghost use Rattle.dh_ports.specs.Ports.{CountsAtLeast, CountsUpTo};
 ghost use Rattle.dh_desk.specs.Desk.{WorldGoesBy};
-ghost use Rattle.dh_words.specs.Apps.{StandsFor};
+ghost use Rattle.dh_word_tables.specs.Apps.{StandsFor};
 ghost use Rattle.dh_lines.specs.App.{docs_app};
 ghost use Rattle.dh_lines.specs.Lines.{line_in};
 ghost use Rattle.dh_script.specs.Reading.{IsCause, IsScript, TookAtMost, reader_failed, writer_failed};
@@ -17,12 +17,12 @@ use crate::reading::read_script;
 use crate::report::Report;
 use dh_desk::Desk;
 use dh_lines::{Line, LineFault, docs_command, line_by};
-use dh_ports::{Sink, Source, Stop, put_all};
+use dh_ports::{MOST_READS, Sink, Source, Stop, put_all};
 use sqlite::Alter;
 use std::alloc::{AllocError, Global};
 
 /// The most bytes of a script.
-const MOST_BYTES: usize = 1_048_576;
+pub const MOST_SCRIPT_BYTES: usize = 1_048_576;
 
 /// The most lines that one program of words reads, since their words live as long as the program.
 const BATCH: usize = 1024;
@@ -240,11 +240,11 @@ pub fn run_script<S: Alter, R: Source, W: Sink>(
         (λ before after. RunsScript now (R.left source.old) before after
         (W.held sink.old) (W.held sink.new) result) }
     ensures taken { TookAtMost (R.left source.old) (R.left source.new) 1052672 }
-    ensures reads { CountsUpTo (R.fills source.old) (R.fills source.new) 100000 }
+    ensures reads { CountsUpTo (R.fills source.old) (R.fills source.new) MOST_READS }
     ensures full { IsErrOf result (ScriptFault.Unread Stop.TooManyTurns)
-        → CountsAtLeast (R.fills source.old) (R.fills source.new) 100000 }
+        → CountsAtLeast (R.fills source.old) (R.fills source.new) MOST_READS }
 {
-    let bytes = read_script(alloc, source, MOST_BYTES)?;
+    let bytes = read_script(alloc, source, MOST_SCRIPT_BYTES)?;
     match str::from_utf8(bytes.as_slice()) {
         Ok(text) => Ok(run_lines(alloc, desk, text, sink, report, now)?),
         Err(_) => Err(ScriptFault::NotText),

@@ -5,6 +5,7 @@ use Rattle.dh_http.specs.declared.fault.Done.{Done}
 use Rattle.dh_http.specs.declared.fault.EngineFault.{EngineFault}
 use Rattle.dh_http.specs.declared.fault.EngineFault.TheVariants as fault
 use Rattle.dh_server.specs.declared.line.Entry.{Entry}
+use Rattle.dh_server.specs.declared.beginning.TheConstants.{MOST_LINE_TOLD}
 
 abbrev pub is_space : ℕ → Bool
 is_space byte = nat_eq byte 32
@@ -38,7 +39,7 @@ ends_line byte = nat_eq byte 13 || nat_eq byte 10
 
 -- what came up to the first CR or LF, but no more than 2,048 bytes
 abbrev pub first_line : List ℕ → List ℕ
-first_line bytes = take 2048 (up_to (position ends_line bytes) bytes)
+first_line bytes = take MOST_LINE_TOLD (up_to (position ends_line bytes) bytes)
 
 -- the outcome of a connection, the method and the target of its first line, how many bytes it took, in how many microseconds,
 -- the host that was asked for, when, and why the request was a bad one

@@ -2,18 +2,17 @@
 
 ghost use Rattle.std.specs.Prelude.{◌≡◌, ◌≤◌, length, position, vec_len};
 ghost use Rattle.dh_server.specs.Lines as spec;
+ghost use Rattle.dh_requests.specs.declared.head_end.TheConstants.{MOST_HEAD_BYTES};
 
 use dh_ports::{Failed, Source};
+use dh_requests::MOST_HEAD_BYTES;
 use std::alloc::Global;
 
-/// The most bytes that are kept: as many as the longest head has.
-const MOST: usize = 16_384;
-
 /// The most bytes of a line that is told.
-const MOST_TOLD: usize = 2048;
+pub const MOST_LINE_TOLD: usize = 2048;
 
 /// The most bytes of a host that is told.
-const MOST_HOST: usize = 255;
+pub const MOST_HOST_TOLD: usize = 255;
 
 /// The first bytes that came, at most 16,384, and how many came in all. Where memory is out, fewer are kept.
 #[derive(Drop)]
@@ -21,7 +20,7 @@ pub struct Beginning {
     bytes: Vec<u8>,
     /// How many bytes came; the count stays at 2^64 - 1.
     count: u64,
-    ghost few: { vec_len bytes ≤ 16384 },
+    ghost few: { vec_len bytes ≤ MOST_HEAD_BYTES },
 }
 
 /// Where the first line ends.
@@ -154,7 +153,7 @@ impl Beginning {
     /// Keeps the bytes that came next, as far as there is room.
     fn keep(&mut self, came: &[u8]) {
         if self.bytes.len() as u64 == self.count {
-            let room = MOST.saturating_sub(self.bytes.len());
+            let room = MOST_HEAD_BYTES.saturating_sub(self.bytes.len());
             let _ = self.bytes.extend_from_slice(&came[..came.len().min(room)]);
         }
         self.count = self.count.saturating_add(came.len() as u64);
@@ -163,20 +162,20 @@ impl Beginning {
     /// The first line, without its end, as far as it came, and at most 2,048 bytes of it.
     pub fn first_line(&self) -> &[u8]
         ensures line { result.now ≡ spec.first_line self.now.bytes.items }
-        ensures few { length result.now ≤ 2048 }
+        ensures few { length result.now ≤ MOST_LINE_TOLD }
     {
         let line = line_of(self.bytes.as_slice());
-        &line[..MOST_TOLD.min(line.len())]
+        &line[..MOST_LINE_TOLD.min(line.len())]
     }
 
     /// The value of the first `Host` line of the head, as far as the head came, and at most 255 bytes of it; empty where there
     /// is no such line.
     pub fn host(&self) -> &[u8]
-        ensures { length result.now ≤ 255 }
+        ensures { length result.now ≤ MOST_HOST_TOLD }
     {
         for line in self.bytes.split_inclusive(|b| *b == b'\n') {
             if let Some(value) = value_of(line, b"Host") {
-                return &value[..MOST_HOST.min(value.len())];
+                return &value[..MOST_HOST_TOLD.min(value.len())];
             }
             if is_blank(line) {
                 return &[];

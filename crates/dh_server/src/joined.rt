@@ -7,7 +7,7 @@ use dh_ports::{Failed, Sink, put_all};
 use std::alloc::Global;
 
 /// The most bytes that are kept.
-const MOST: usize = 16_384;
+const MOST_JOINED: usize = 16_384;
 
 /// A sink that keeps the first pieces, up to 16 KiB in all, and hands them on together: at the first piece that does not fit, or
 /// where `hand_on` is called. From then on it keeps none. A large piece is never copied.
@@ -41,7 +41,7 @@ impl<W> Joined<W> {
         ensures kept { drop self.new.gone self.new.kept.items
             ≡ drop self.old.gone self.old.kept.items ++ (if result then piece.now else []) }
     {
-        let room = MOST.saturating_sub(self.kept.len());
+        let room = MOST_JOINED.saturating_sub(self.kept.len());
         !self.direct && piece.len() <= room && self.kept.extend_from_slice(piece).is_ok()
     }
 

@@ -1,1 +1,4 @@
+pub mod Meanings
+pub mod Listing
+pub mod Clearing
 pub mod Going

@@ -1,8 +1,10 @@
-//! The records of a documentation host in SQL tables over any store, and what calls on them in turn leave.
+//! The records of a documentation host in SQL tables over any store: transactions, and calls that look records up and change them.
 #![tactic(auto)]
 
+pub mod tables;
+
 pub use dh_records::{
-    HeldRow, LangRow, PageRow, PassRow, PickRow, ProjectRow, RedirectRow, RuleRow, UsedRow,
+    DefaultRow, GrantRow, LangRow, PageRow, PassRow, ProjectRow, RedirectRow, RetryRow, RuleRow,
     VersionRow,
 };
-pub use dh_store::{Listed, Tables};
+pub use tables::{Listed, Tables};

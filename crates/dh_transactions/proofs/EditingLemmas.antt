@@ -6,7 +6,7 @@ use Rattle.sqlite_trees.specs.declared.store.Store.{Ghosts}
 use Rattle.sqlite.specs.Held.{Held}
 use Rattle.dh_plans.specs.Edits.{edited, all_edited, MayEdit, MayEditAll}
 use Rattle.dh_plans.specs.declared.edits.Edit.{Edit}
-use Rattle.dh_plans.specs.declared.edits.Edit.TheVariants.{AddLang, PutVersion, PutWithoutPages, RemoveVersion, PutPage, RemovePages, SetDefaults, SetRules, SetRedirects, AddPass, RemovePass, Grant, Revoke, PutAnswer}
+use Rattle.dh_plans.specs.declared.edits.Edit.TheVariants.{AddLang, PutVersion, PutWithoutPages, RemoveVersion, PutPage, RemovePages, SetDefaults, SetRules, SetRedirects, AddPass, RemovePass, Grant, Revoke, PutRetryAnswer}
 use Rattle.dh_rows.specs.Calls.{MakesNoCommit, MakesNoCommitInside, IsHonest}
 use Rattle.dh_records.specs.Constraints.{AreSound}
 use Rattle.dh_records.specs.Lists.{Lists, base_of, world_of}
@@ -21,8 +21,8 @@ use Rattle.dh_renewal.proofs.SameBase.{same_sound, same_world}
 use Rattle.dh_schema.specs.InTurn.{goes_anywhere}
 use Rattle.dh_tables.specs.Going.{HasRecords, ChangesRecords, NowShowsRecords, records}
 use Rattle.dh_tables.proofs.Together.{goes_within_on}
-use Rattle.dh_row_edits.specs.RowEdits.{rows_edited, RowsMay}
-use Rattle.dh_row_edits.proofs.EditLemmas.{SpellsEdited, all_may, all_spell}
+use Rattle.dh_edits.specs.RowEdits.{rows_edited, RowsMay}
+use Rattle.dh_edits.proofs.EditLemmas.{SpellsEdited, all_may, all_spell}
 use Rattle.dh_transactions.specs.Editing.{ChangesProject, EditsProject, MayChange}
 use Rattle.dh_world.proofs.MapLemmas.{get_back, put_same, put_twice}
 use Rattle.dh_world.specs.World.{Text, Project}
@@ -43,7 +43,7 @@ aliases_stay host (AddPass pass until) l = refl
 aliases_stay host (RemovePass pass) l = refl
 aliases_stay host (Grant pass slug) l = refl
 aliases_stay host (Revoke pass slug) l = refl
-aliases_stay host (PutAnswer a) l = refl
+aliases_stay host (PutRetryAnswer a) l = refl
 
 routes_stay : (host : Text) (e : Edit) (l : Lists) → (rows_edited host e l).routes ≡ l.routes
 routes_stay host (AddLang lang place) l = refl
@@ -59,7 +59,7 @@ routes_stay host (AddPass pass until) l = refl
 routes_stay host (RemovePass pass) l = refl
 routes_stay host (Grant pass slug) l = refl
 routes_stay host (Revoke pass slug) l = refl
-routes_stay host (PutAnswer a) l = refl
+routes_stay host (PutRetryAnswer a) l = refl
 
 -- ---- one edit
 

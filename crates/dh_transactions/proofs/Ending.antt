@@ -4,8 +4,8 @@ use Rattle.std.specs.Result.{IsErrAnd}
 use Rattle.std.proofs.lemmas.Result.{err_from_is_err_and}
 use Rattle.sqlite_trees.specs.declared.store.Store.{Ghosts}
 use Rattle.sqlite.specs.Held.{Held}
-use Rattle.dh_faults.specs.declared.fault.Fault.{Fault}
-use Rattle.dh_faults.specs.declared.fault.Fault.TheVariants as fault
+use Rattle.dh_ports.specs.declared.fault.Fault.{Fault}
+use Rattle.dh_ports.specs.declared.fault.Fault.TheVariants as fault
 use Rattle.dh_rows.specs.Calls.{IsNotCommitted, IsNotUndone, IsRefused}
 use Rattle.dh_records.specs.Lists.{Lists}
 use Rattle.dh_schema.specs.Tables.{lists_of}

@@ -33,7 +33,7 @@ use Rattle.dh_aliases.specs.Names.{names_of}
 use Rattle.dh_aliases.specs.declared.names.Names.{Names}
 use Rattle.dh_aliases.proofs.NameLemmas.{names_by_versions}
 use Rattle.dh_classes.specs.Classes.{sees}
-use Rattle.dh_lookup.specs.SeenProject.{alias_to, own_name}
+use Rattle.dh_seen.specs.SeenProject.{alias_to, own_name}
 use Rattle.dh_versions.specs.Aliases.{latest_of, stable_of}
 use Rattle.dh_versions.specs.declared.version.Version.{Version}
 use Rattle.dh_derived.specs.Renewed.{no_names}

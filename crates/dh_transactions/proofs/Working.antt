@@ -10,7 +10,7 @@ use Rattle.dh_checks.specs.declared.checking.CheckedChange.{CheckedChange}
 use Rattle.dh_plans.specs.declared.facts.Facts.{Facts}
 use Rattle.dh_records.specs.Lists.{Lists, world_of}
 use Rattle.dh_transactions.proofs.Turning.{turn_at}
-use Rattle.dh_looks.specs.Finding.{FindsFacts}
+use Rattle.dh_facts.specs.Finding.{FindsFacts}
 use Rattle.dh_transactions.specs.Editing.{ChangesProject, MayChange}
 use Rattle.dh_transactions.specs.Steps.{AreConsistent, TakesTurn}
 use Rattle.dh_world.specs.Changes as world

@@ -9,7 +9,7 @@ use Rattle.dh_records.specs.Lists.{Lists, world_of}
 use Rattle.dh_tables.specs.Going.{IsOver, last_records}
 pub use Rattle.dh_derived.specs.Consistent.{AreConsistent}
 use Rattle.dh_transactions.specs.Crashes.{LeavesStep}
-use Rattle.dh_faults.specs.declared.fault.Fault.{Fault}
+use Rattle.dh_ports.specs.declared.fault.Fault.{Fault}
 use Rattle.dh_world.specs.CheckResults.{IsFault, refusal_from}
 use Rattle.dh_world.specs.Step.{turn, step, PushRefusedAt, IsSetAside}
 use Rattle.dh_world.specs.declared.answer.Answer.{Answer}

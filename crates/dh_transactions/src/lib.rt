@@ -7,4 +7,4 @@ mod editing;
 mod opening;
 mod transaction;
 
-pub use transaction::run;
+pub use transaction::run_transaction;

@@ -12,7 +12,7 @@ ghost use Rattle.dh_records.specs.Constraints.{AreSound};
 ghost use Rattle.dh_transactions.specs.Steps.{AreConsistent, TakesTurn};
 
 use dh_checks::{CheckedChange, NewProject, ProjectSettings};
-use dh_commands::open;
+use dh_decisions::open;
 use dh_paths::{HostName, Lang};
 use dh_tables::{LangRow, ProjectRow, Tables};
 use dh_world::{Answer, Refusal};

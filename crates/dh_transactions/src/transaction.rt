@@ -12,8 +12,8 @@ ghost use Rattle.dh_transactions.specs.Steps.{AreConsistent, IsNotEnded, IsOneTr
 use crate::editing::edit_project;
 use crate::opening::open_project;
 use dh_checks::{CheckedChange, CheckedCommand, check};
-use dh_commands::decide;
-use dh_looks::look;
+use dh_decisions::decide;
+use dh_facts::look;
 use dh_paths::HostName;
 use dh_plans::Plan;
 use dh_tables::Tables;
@@ -23,7 +23,7 @@ use std::alloc::Global;
 
 /// Looks up what the command asks for, decides, and makes the edits that are decided on, and the stored rows right after
 /// each.
-fn work<S: Alter>(
+fn decide_and_edit<S: Alter>(
     tables: &mut Tables<S>,
     alloc: Global,
     host: &HostName,
@@ -46,7 +46,10 @@ fn work<S: Alter>(
 }
 
 /// Ends a transaction: it is committed where the command was accepted, and else undone.
-fn end<S: Alter>(tables: &mut Tables<S>, worked: Result<Answer, Refusal>) -> Result<Answer, Refusal>
+fn commit_or_undo<S: Alter>(
+    tables: &mut Tables<S>,
+    worked: Result<Answer, Refusal>,
+) -> Result<Answer, Refusal>
     ensures ok { IsHonest S.Store tables.new → IfOk result (λ answer. (worked ≡ Ok answer)
         × (last_records S.Store tables.new ≡ records S.Store tables.old)) }
     ensures err { IsHonest S.Store tables.new → IfErr result (λ e.
@@ -76,7 +79,7 @@ fn end<S: Alter>(tables: &mut Tables<S>, worked: Result<Answer, Refusal>) -> Res
 }
 
 /// Does a command on tables outside a transaction.
-pub fn run<S: Alter>(
+pub fn run_transaction<S: Alter>(
     tables: &mut Tables<S>,
     alloc: Global,
     command: &Command,
@@ -90,6 +93,6 @@ pub fn run<S: Alter>(
 {
     let CheckedCommand { host, change } = check(alloc, command)?;
     tables.begin()?;
-    let worked = work(tables, alloc, &host, change);
-    end(tables, worked)
+    let worked = decide_and_edit(tables, alloc, &host, change);
+    commit_or_undo(tables, worked)
 }

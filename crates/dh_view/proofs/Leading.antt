@@ -25,7 +25,7 @@ use Rattle.dh_records.specs.declared.records.ProjectRow.{ProjectRow}
 use Rattle.dh_records.specs.declared.records.RedirectRow.{RedirectRow}
 use Rattle.dh_records.specs.declared.records.RouteRow.{RouteRow}
 use Rattle.dh_derived.specs.Rightness.{route_of, routes_due}
-use Rattle.dh_store.specs.Listing.{is_redirect_at}
+use Rattle.dh_tables.specs.Listing.{is_redirect_at}
 use Rattle.dh_view.specs.Right.{IsRightIn}
 use Rattle.dh_view.specs.Stored.{Led, best_at, best_of, better, is_asked, is_before_best, led_at, led_or}
 

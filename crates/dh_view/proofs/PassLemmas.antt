@@ -6,7 +6,7 @@ use Rattle.std.specs.Str.{bytes_eq}
 use Rattle.dh_versions.specs.declared.version.Version.{Version}
 use Rattle.dh_records.specs.declared.records.ProjectRow.{ProjectRow}
 use Rattle.dh_records.specs.declared.records.VersionRow.{VersionRow}
-use Rattle.dh_records.specs.declared.records.HeldRow.{HeldRow}
+use Rattle.dh_records.specs.declared.records.GrantRow.{GrantRow}
 use Rattle.dh_world.specs.World.{Text}
 use Rattle.dh_world.specs.Visibility.{may_see}
 use Rattle.dh_classes.specs.Classes.{class_holds}
@@ -22,7 +22,7 @@ module _ (lists : Lists) (row : ProjectRow) (class : Option Text) (own : Text) (
   pub held_own : (slug : Text) → is_some (find (is_held row.host own slug) lists.held) ≡ held slug
   held_own slug = sym (ap (λ pass. class_holds (project_of lists row) pass slug) is ∙ holds_is lists row own slug)
 
-  opens_held : (slug : Text) (rows : List HeldRow) → opens (filter (is_held_by row.host own) rows) slug ≡ is_some (find (is_held row.host own slug) rows)
+  opens_held : (slug : Text) (rows : List GrantRow) → opens (filter (is_held_by row.host own) rows) slug ≡ is_some (find (is_held row.host own slug) rows)
   opens_held slug [] = refl
   opens_held slug (x ∷ rows) = go (is_held_by row.host own x) (bytes_eq x.slug slug) refl (opens_held slug rows)
     where
@@ -33,7 +33,7 @@ module _ (lists : Lists) (row : ProjectRow) (class : Option Text) (own : Text) (
       go false b e more = more
 
   -- the grants of the pass
-  pub grants_open : (grants : List HeldRow) → grants ≡ filter (is_held_by row.host own) lists.held → (slug : Text) → opens grants slug ≡ held slug
+  pub grants_open : (grants : List GrantRow) → grants ≡ filter (is_held_by row.host own) lists.held → (slug : Text) → opens grants slug ≡ held slug
   grants_open grants g slug = ap (λ l. opens l slug) g ∙ opens_held slug lists.held ∙ held_own slug
 
 -- without a pass nothing is held
@@ -41,11 +41,11 @@ pub held_none : (lists : Lists) (row : ProjectRow) (class : Option Text) → cla
 held_none lists row class is slug = sym (ap (λ pass. class_holds (project_of lists row) pass slug) is)
 
 -- no grants open nothing
-pub none_open : (grants : List HeldRow) → grants ≡ [] → (slug : Text) → opens grants slug ≡ false
+pub none_open : (grants : List GrantRow) → grants ≡ [] → (slug : Text) → opens grants slug ≡ false
 none_open grants none slug = ap (λ l. opens l slug) none
 
 -- where no version is private none is asked about
-pub none_private : (grants : List HeldRow) (held : Text → Bool) (rows : List VersionRow) → list_any (λ r. r.version.private) rows ≡ false
+pub none_private : (grants : List GrantRow) (held : Text → Bool) (rows : List VersionRow) → list_any (λ r. r.version.private) rows ≡ false
     → AllByRecursion (λ r. may_see r.version (opens grants r.version.slug) ≡ may_see r.version (held r.version.slug)) rows
 none_private grants held [] none = tt
 none_private grants held (r ∷ rows) none = go r.version.private refl none (none_private grants held rows)

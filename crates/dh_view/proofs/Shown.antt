@@ -13,13 +13,13 @@ use Rattle.std.proofs.lemmas.Map.Lookups.{exact_bytes}
 use Rattle.std.proofs.lemmas.Slice.Eq.{bytes_eq-Decides}
 use Rattle.dh_versions.specs.declared.version.Version.{Version}
 use Rattle.dh_versions.specs.Aliases.{latest_of, stable_of}
-use Rattle.dh_lookup.specs.declared.found.Named.{Named}
-use Rattle.dh_lookup.specs.declared.seen_project.SeenProject.{SeenProject}
-use Rattle.dh_lookup.specs.SeenProject.{resolved, alias_of, page_at}
+use Rattle.dh_seen.specs.declared.found.Named.{Named}
+use Rattle.dh_seen.specs.declared.seen_project.SeenProject.{SeenProject}
+use Rattle.dh_seen.specs.SeenProject.{resolved, alias_of, page_at}
 use Rattle.dh_records.specs.declared.records.ProjectRow.{ProjectRow}
 use Rattle.dh_records.specs.declared.records.VersionRow.{VersionRow}
-use Rattle.dh_records.specs.declared.records.PickRow.{PickRow}
-use Rattle.dh_records.specs.declared.records.HeldRow.{HeldRow}
+use Rattle.dh_records.specs.declared.records.DefaultRow.{DefaultRow}
+use Rattle.dh_records.specs.declared.records.GrantRow.{GrantRow}
 use Rattle.dh_world.specs.declared.caller.Caller.{Caller}
 use Rattle.dh_world.specs.World.{Text, text_cmp, Project}
 use Rattle.dh_world.specs.Visibility.{live_pass, holds, is_visible, may_see}
@@ -160,7 +160,7 @@ module _ (lists : Lists) (row : ProjectRow) (class : Option Text) where
   slug_is name o v e is = ap Some (slug_of (class_has name) row.host name lists.versions v (sym (visible_for lists row class name) ∙ sym e ∙ is)) ∙ ap (option_map (λ x. name)) (sym is ∙ e)
 
   -- what decides over the versions as the class does leaves those that it sees
-  pub kept_are : (at : Lists) (grants opened : List HeldRow) (rows asked kept : List VersionRow) → at ≡ lists → rows ≡ filter (is_version_of row.host) lists.versions → asked ≡ rows → opened ≡ grants
+  pub kept_are : (at : Lists) (grants opened : List GrantRow) (rows asked kept : List VersionRow) → at ≡ lists → rows ≡ filter (is_version_of row.host) lists.versions → asked ≡ rows → opened ≡ grants
       → kept ≡ filter (λ r. may_see r.version (opens opened r.version.slug)) rows
       → AllByRecursion (λ r. may_see r.version (opens grants r.version.slug) ≡ may_see r.version (class_holds (project_of at row) class r.version.slug)) asked
       → kept ≡ filter (λ r. may_see r.version (class_has r.version.slug)) (filter (is_version_of row.host) lists.versions)

@@ -7,11 +7,11 @@ use Rattle.sqlite_trees.specs.View.{doubt}
 use Rattle.sqlite_trees.specs.declared.store.Store.{Ghosts}
 use Rattle.sqlite.specs.State.{HasCleanDisk}
 use Rattle.sqlite.specs.Held.{Held, state}
-use Rattle.dh_faults.specs.declared.fault.Fault.{Fault}
-use Rattle.dh_faults.specs.declared.fault.Fault.TheVariants.{Store, Memory}
-use Rattle.dh_faults.specs.Faults.{OnStore, UnlessStore}
-use Rattle.dh_lookup.specs.Lookup as lookup
-use Rattle.dh_lookup.specs.declared.seen_project.SeenProject.{SeenProject}
+use Rattle.dh_ports.specs.declared.fault.Fault.{Fault}
+use Rattle.dh_ports.specs.declared.fault.Fault.TheVariants.{Store, Memory}
+use Rattle.dh_ports.specs.Faults.{OnStore, UnlessStore}
+use Rattle.dh_reply.specs.Lookup as lookup
+use Rattle.dh_seen.specs.declared.seen_project.SeenProject.{SeenProject}
 use Rattle.dh_rows.specs.Calls.{IsBlamed, IsHonest, IsSame, KeepsFaults, seen}
 use Rattle.dh_schema.specs.Tables.{lists_of}
 use Rattle.dh_world.specs.declared.caller.Caller.{Caller}

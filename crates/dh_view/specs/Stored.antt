@@ -1,12 +1,12 @@
 -- What the stored rows of a host tell: what names stand for, and where its redirects lead.
 use Rattle.std.specs.Prelude.{ℕ, Bool, true, not, ◌&&◌, ◌||◌, nat_lt, if◌then◌else◌, List, [], ◌∷◌, filter, find, Option, Some, None, option_map, option_and_then}
 use Rattle.std.specs.Option.{option_or}
-use Rattle.dh_lookup.specs.declared.seen_project.SeenProject.{SeenProject}
+use Rattle.dh_seen.specs.declared.seen_project.SeenProject.{SeenProject}
 use Rattle.dh_redirects.specs.declared.redirect.Asked.{Asked}
 use Rattle.dh_redirects.specs.declared.redirect.Location.{Location}
 use Rattle.dh_redirects.specs.FirstResult.{result_in}
 use Rattle.dh_segments.specs.Segments.{first_segment}
-use Rattle.dh_store.specs.Listing.{is_redirect_at}
+use Rattle.dh_tables.specs.Listing.{is_redirect_at}
 use Rattle.dh_records.specs.Lists.{Lists, is_route_in}
 use Rattle.dh_records.specs.declared.records.AliasName.{AliasName}
 use Rattle.dh_records.specs.declared.records.AliasName.TheVariants.{Latest, Stable, Default}

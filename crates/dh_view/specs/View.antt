@@ -11,12 +11,12 @@ use Rattle.sqlite.specs.State.{HasCleanDisk}
 use Rattle.sqlite.specs.Held.{Held, state}
 use Rattle.dh_rows.specs.Calls.{MakesNoCommit, IsBlamed, IsHonest, IsSame, KeepsFaults, CrashLeaves, RefusalUndoes, LeavesAllAsItWas, seen}
 use Rattle.dh_versions.specs.declared.version.Version.{Version}
-use Rattle.dh_lookup.specs.Lookup as lookup
-use Rattle.dh_lookup.specs.Lookup.{Meaning}
-use Rattle.dh_faults.specs.declared.fault.Fault.{Fault}
-use Rattle.dh_lookup.specs.declared.seen_project.SeenProject.{SeenProject}
+use Rattle.dh_reply.specs.Lookup as lookup
+use Rattle.dh_reply.specs.Lookup.{Meaning}
+use Rattle.dh_ports.specs.declared.fault.Fault.{Fault}
+use Rattle.dh_seen.specs.declared.seen_project.SeenProject.{SeenProject}
 use Rattle.dh_records.specs.declared.records.VersionRow.{VersionRow}
-use Rattle.dh_records.specs.declared.records.HeldRow.{HeldRow}
+use Rattle.dh_records.specs.declared.records.GrantRow.{GrantRow}
 use Rattle.dh_records.specs.declared.records.ProjectRow.{ProjectRow}
 use Rattle.dh_world.specs.declared.caller.Caller.{Caller}
 use Rattle.dh_world.specs.World.{Text}
@@ -33,19 +33,19 @@ use Rattle.dh_view.specs.declared.view.View.{View}
 -- ---- what a caller sees of the records
 
 -- one of the grants is on the version
-abbrev pub opens : List HeldRow → Text → Bool
+abbrev pub opens : List GrantRow → Text → Bool
 opens grants slug = list_any (λ x. bytes_eq x.slug slug) grants
 
 -- the caller who holds these grants may see the version
-abbrev pub is_shown : List HeldRow → VersionRow → Bool
+abbrev pub is_shown : List GrantRow → VersionRow → Bool
 is_shown grants row = may_see row.version (opens grants row.version.slug)
 
 -- the grants open those versions that are held
-abbrev pub OpensAs : List HeldRow → (Text → Bool) → Type 0
+abbrev pub OpensAs : List GrantRow → (Text → Bool) → Type 0
 OpensAs grants held = (slug : Text) → opens grants slug ≡ held slug
 
 -- of these versions a caller may see the same by the grants as by what `held` says
-abbrev pub ShowsAs : List VersionRow → List HeldRow → (Text → Bool) → Type 0
+abbrev pub ShowsAs : List VersionRow → List GrantRow → (Text → Bool) → Type 0
 ShowsAs rows grants held =
     AllByRecursion (λ r. is_shown grants r ≡ may_see r.version (held r.version.slug)) rows
 

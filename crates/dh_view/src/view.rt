@@ -9,9 +9,9 @@ mod looking;
 mod redirects;
 mod versions;
 
-use dh_lookup::Items;
 use dh_paths::{HostName, Lang, Slug, Token};
-use dh_store::Tables;
+use dh_seen::Items;
+use dh_tables::Tables;
 use dh_world::Caller;
 pub use looking::doubt_is_of_the_store;
 use sqlite::Alter;

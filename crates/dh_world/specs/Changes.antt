@@ -13,7 +13,7 @@ use Rattle.dh_rules.specs.declared.rule.Fresh.{Fresh}
 use Rattle.dh_rules.specs.declared.rule.Rule.{Rule}
 use Rattle.dh_redirects.specs.Redirects.{same_redirect}
 use Rattle.dh_redirects.specs.declared.redirect.Redirect.{Redirect}
-use Rattle.dh_lookup.specs.declared.found.Page.{Page}
+use Rattle.dh_seen.specs.declared.found.Page.{Page}
 use Rattle.dh_world.specs.declared.answer.Answer.{Answer}
 use Rattle.dh_world.specs.declared.answer.Answer.TheVariants.{Done, Made, Known, Stored, Added}
 use Rattle.dh_world.specs.declared.operation.Operation.TheVariants as operation
@@ -26,6 +26,7 @@ use Rattle.dh_world.specs.declared.property.Property.{Property}
 use Rattle.dh_world.specs.declared.property.Property.TheVariants as property
 use Rattle.dh_world.specs.declared.refusal.Refusal.{Refusal}
 use Rattle.dh_world.specs.declared.refusal.Refusal.TheVariants.{NoProject, ProjectTaken, WrongKey, LangTaken, NoLang, NoVersion, SlugTaken, Inactive, BadPlace, TooMany, PassTaken, NoPass}
+use Rattle.dh_world.specs.declared.limits.TheConstants.{MOST_LANGUAGES, MOST_PASSES, MOST_REDIRECTS, MOST_RULES}
 
 -- what a command gives: the changed project and the answer, or the refusal
 abbrev pub Change : Type 0
@@ -57,7 +58,7 @@ new_project lang branch private wkey = record {
 abbrev pub add_lang : Text → Project → Change
 add_lang lang p =
     if has_lang p lang then Err LangTaken
-    else if nat_lt (length p.languages) 30 then Ok (record p { languages = p.languages ++ lang ∷ [] }, Done)
+    else if nat_lt (length p.languages) MOST_LANGUAGES then Ok (record p { languages = p.languages ++ lang ∷ [] }, Done)
     else Err TooMany
 
 -- ---- retry keys
@@ -245,7 +246,7 @@ abbrev pub with_rules : Project → List Rule → Project
 with_rules p rules = record p { rules = rules }
 
 abbrev pub add_rule : ℕ → Rule → Project → Change
-add_rule place rule p = set_to (with_rules p) (added 50 place rule p.rules)
+add_rule place rule p = set_to (with_rules p) (added MOST_RULES place rule p.rules)
 
 abbrev pub drop_rule : ℕ → Project → Change
 drop_rule place p = set_to (with_rules p) (dropped place p.rules)
@@ -254,7 +255,7 @@ abbrev pub with_redirects : Project → List Redirect → Project
 with_redirects p redirects = record p { redirects = redirects }
 
 abbrev pub add_redirect : ℕ → Redirect → Project → Change
-add_redirect place redirect p = set_to (with_redirects p) (added 100 place redirect p.redirects)
+add_redirect place redirect p = set_to (with_redirects p) (added MOST_REDIRECTS place redirect p.redirects)
 
 abbrev pub drop_redirect : ℕ → Project → Change
 drop_redirect place p = set_to (with_redirects p) (dropped place p.redirects)
@@ -268,7 +269,7 @@ with_new (x ∷ xs) there =
 -- sets the redirects, where they are at most 100, and answers how many were added
 abbrev pub imported : List Redirect → Project → Change
 imported all p =
-    if nat_le (length all) 100 then Ok (with_redirects p all, Added (length all - length p.redirects))
+    if nat_le (length all) MOST_REDIRECTS then Ok (with_redirects p all, Added (length all - length p.redirects))
     else Err TooMany
 
 -- adds the redirects of a list that are not there, behind the others
@@ -281,7 +282,7 @@ import_redirects list p = imported (with_new list p.redirects) p
 abbrev pub add_pass : Text → Option ℕ → Project → Change
 add_pass pass until p =
     if contains_key p.passes pass then Err PassTaken
-    else if nat_lt (len p.passes) 1000 then Ok (record p { passes = insert p.passes pass until }, Done)
+    else if nat_lt (len p.passes) MOST_PASSES then Ok (record p { passes = insert p.passes pass until }, Done)
     else Err TooMany
 
 -- answers the changed project, where the project has the pass

@@ -3,8 +3,8 @@ use Rattle.std.specs.Prelude.{◌≡◌, ◌⊎◌, Bool, true, false, Option, S
 use Rattle.dh_world.specs.World.{Text}
 use Rattle.dh_texts.specs.declared.fault.TextFault.{TextFault}
 use Rattle.dh_texts.specs.declared.fault.TextFault.TheVariants as text
-use Rattle.dh_faults.specs.declared.fault.Fault.{Fault}
-use Rattle.dh_faults.specs.declared.fault.Fault.TheVariants as fault
+use Rattle.dh_ports.specs.declared.fault.Fault.{Fault}
+use Rattle.dh_ports.specs.declared.fault.Fault.TheVariants as fault
 use Rattle.dh_world.specs.declared.refusal.Refusal.{Refusal}
 use Rattle.dh_world.specs.declared.refusal.Refusal.TheVariants.{BadHost, BadLang, BadRef, BadPath, BadToken, Store, OutOfMemory}
 

@@ -2,8 +2,8 @@
 use Rattle.std.specs.Prelude.{ℕ, Bool, true, false, if◌then◌else◌, Option, Some, None, Result, Err, option_and_then}
 use Rattle.dh_texts.specs.Texts.{is_host_name, is_token}
 use Rattle.dh_wire.specs.declared.reply.Reply.{Reply}
-use Rattle.dh_faults.specs.declared.fault.Fault.{Fault}
-use Rattle.dh_faults.specs.declared.fault.Fault.TheVariants.{Store}
+use Rattle.dh_ports.specs.declared.fault.Fault.{Fault}
+use Rattle.dh_ports.specs.declared.fault.Fault.TheVariants.{Store}
 use Rattle.dh_world.specs.declared.caller.Caller.{Caller}
 use Rattle.dh_world.specs.World.{Text}
 

@@ -17,6 +17,7 @@ use Rattle.dh_world.specs.declared.pages.UploadedPage.{UploadedPage}
 use Rattle.dh_world.specs.declared.refusal.Refusal.{Refusal}
 use Rattle.dh_world.specs.declared.refusal.Refusal.TheVariants.{BadHost, BadLang, BadRef, BadPath, BadPage, BadPattern, BadRedirect, BadToken, BadKey, BadUntil}
 use Rattle.dh_world.specs.Refusals.{unless, or_else, first_of}
+use Rattle.dh_world.specs.declared.limits.TheConstants.{MOST_MEDIA_BYTES, MOST_PAGES, MOST_PAGE_BYTES}
 
 -- 0x20 to 0x7E
 abbrev pub is_media_byte : ℕ → Bool
@@ -24,11 +25,11 @@ is_media_byte b = nat_le 32 b && nat_le b 126
 
 -- a media type: 1 to 100 bytes of 0x20 to 0x7E, the first and the last not a space
 abbrev pub is_media : Text → Bool
-is_media text = is_within 1 100 is_media_byte text && not (first_byte text == 32) && not (last_byte text == 32)
+is_media text = is_within 1 MOST_MEDIA_BYTES is_media_byte text && not (first_byte text == 32) && not (last_byte text == 32)
 
 -- at most 1,048,576 bytes
 abbrev pub is_body : List ℕ → Bool
-is_body body = nat_le (length body) 1048576
+is_body body = nat_le (length body) MOST_PAGE_BYTES
 
 -- a page may have this media type and this body
 abbrev pub is_content : Text → List ℕ → Bool
@@ -40,7 +41,7 @@ have_contents = list_all (λ (x : UploadedPage). is_content x.media x.body)
 
 -- at most 256 pages
 abbrev pub is_count : List UploadedPage → Bool
-is_count pages = nat_le (length pages) 256
+is_count pages = nat_le (length pages) MOST_PAGES
 
 -- one of the pages has this path
 abbrev pub has_path : Text → List UploadedPage → Bool

@@ -3,11 +3,7 @@ ghost use Rattle.std.specs.Prelude.{◌≡◌};
 ghost use Rattle.std.specs.List.{list_all};
 ghost use Rattle.dh_world.specs.WrongTexts as spec;
 
-/// The most bytes of a page.
-const MOST_BYTES: usize = 1_048_576;
-
-/// The most bytes of a media type.
-const MOST_MEDIA: usize = 100;
+use crate::limits::{MOST_MEDIA_BYTES, MOST_PAGE_BYTES};
 
 fn all_media(bytes: &[u8]) -> bool
     ensures { result ≡ list_all spec.is_media_byte bytes.now }
@@ -19,7 +15,7 @@ fn is_media(bytes: &[u8]) -> bool
     ensures { result ≡ spec.is_media bytes.now }
 {
     1 <= bytes.len()
-        && bytes.len() <= MOST_MEDIA
+        && bytes.len() <= MOST_MEDIA_BYTES
         && all_media(bytes)
         && bytes[0] != b' '
         && bytes[bytes.len() - 1] != b' '
@@ -30,5 +26,5 @@ fn is_media(bytes: &[u8]) -> bool
 pub fn is_content(media: &str, body: &[u8]) -> bool
     ensures { result ≡ spec.is_content media.now body.now }
 {
-    is_media(media.as_bytes()) && body.len() <= MOST_BYTES
+    is_media(media.as_bytes()) && body.len() <= MOST_PAGE_BYTES
 }

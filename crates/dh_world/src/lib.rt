@@ -6,6 +6,7 @@ pub mod caller;
 pub mod command;
 mod content;
 mod laws;
+mod limits;
 pub mod operation;
 pub mod outcome;
 pub mod pages;
@@ -19,6 +20,10 @@ pub use caller::Caller;
 pub use command::{Command, CommandChange};
 pub use content::is_content;
 pub use laws::{answers_for_good, first_is_kept, kept_is_answered, kept_stays, veil_law};
+pub use limits::{
+    MOST_LANGUAGES, MOST_MEDIA_BYTES, MOST_PAGE_BYTES, MOST_PAGES, MOST_PASSES, MOST_REDIRECTS,
+    MOST_RULES,
+};
 pub use operation::Operation;
 pub use outcome::Outcome;
 pub use pages::{Pages, UploadedPage};

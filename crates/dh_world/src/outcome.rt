@@ -1,7 +1,7 @@
 //! The outcomes of calls of the desk.
 use crate::answer::Answer;
 use crate::refusal::Refusal;
-use dh_lookup::Fault;
+use dh_ports::Fault;
 use dh_wire::Reply;
 
 /// The outcome of a call of the desk.

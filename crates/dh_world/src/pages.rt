@@ -1,7 +1,7 @@
 //! The pages of an upload.
 
-use dh_lookup::Items;
 use dh_paths::{Bytes, Text};
+use dh_seen::Items;
 
 /// A page of an upload.
 #[derive(Drop)]

@@ -4,8 +4,8 @@ ghost use Rattle.dh_world.specs.Refusals.{number_of, name_of};
 ghost use Rattle.dh_world.specs.CheckResults.{refusal_of, refusal_from};
 ghost use Rattle.dh_world.specs.declared.refusal.Refusal.TheVariants.{OutOfMemory};
 
-use dh_lookup::Fault;
 use dh_paths::TextFault;
+use dh_ports::Fault;
 use std::alloc::AllocError;
 
 /// Why a command was refused.

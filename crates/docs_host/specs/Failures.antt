@@ -3,8 +3,8 @@ use Rattle.std.specs.Prelude.{codes}
 use Rattle.dh_files.specs.Faults as file
 use Rattle.dh_http.specs.declared.fault.EngineFault.{EngineFault}
 use Rattle.dh_http.specs.declared.fault.EngineFault.TheVariants as engine
-use Rattle.dh_faults.specs.declared.fault.Fault.{Fault}
-use Rattle.dh_faults.specs.declared.fault.Fault.TheVariants as lookup
+use Rattle.dh_ports.specs.declared.fault.Fault.{Fault}
+use Rattle.dh_ports.specs.declared.fault.Fault.TheVariants as lookup
 use Rattle.dh_sample.specs.declared.answer.SampleFault.{SampleFault}
 use Rattle.dh_sample.specs.declared.answer.SampleFault.TheVariants as sample
 use Rattle.dh_script.specs.Faults as script

@@ -16,11 +16,8 @@ use dh_control::{End, cut, read_end, script_message, whole_lines, words_message}
 use dh_files::FileFault;
 use dh_lines::Order;
 use dh_ports::{Sink, Source, put_all};
-use dh_script::{RunFault, ScriptFault, read_script};
+use dh_script::{MOST_SCRIPT_BYTES, RunFault, ScriptFault, read_script};
 use std::alloc::{AllocError, Global};
-
-/// The most bytes of a script.
-const MOST_SCRIPT: usize = 1_048_576;
 
 /// Why a server did not do what it was asked, or may not have.
 #[derive(Clone, Copy, Debug, PartialEq, Eq)]
@@ -65,7 +62,7 @@ fn whole_script<R: Source>(alloc: Global, source: &mut R) -> Result<Vec<u8>, Scr
     requires { R.broken source.old ≡ false }
     ensures { IfOk result (λ script. IfSome (R.left source.old) (λ input. script.items ≡ input)) }
 {
-    let script = read_script(alloc, source, MOST_SCRIPT)?;
+    let script = read_script(alloc, source, MOST_SCRIPT_BYTES)?;
     if str::from_utf8(script.as_slice()).is_err() {
         return Err(ScriptFault::NotText);
     }

@@ -22,7 +22,7 @@ use std::fs::File;
 use std::io;
 
 /// The most bytes of a list.
-const MOST_BYTES: usize = 1_048_576;
+const MOST_LIST_BYTES: usize = 1_048_576;
 
 /// Why the file of a list was not read.
 #[derive(Clone, Copy, Debug, PartialEq, Eq)]
@@ -94,9 +94,9 @@ fn read_whole<R: Source>(alloc: Global, source: &mut R) -> Result<Vec<u8>, Failu
     ensures fails { IfErr result (λ failure. IsTrue (may_fail is_of_list failure)) }
     ensures whole { IfOk result (λ bytes.
         IfSome (R.left source.old) (λ input. bytes.items ≡ input)) }
-    ensures little { IfOk result (λ bytes. length bytes.items ≤ 1048576) }
+    ensures little { IfOk result (λ bytes. length bytes.items ≤ MOST_LIST_BYTES) }
     ensures long { IfErr result (λ failure. is_too_long failure ≡ true
-        → IfSome (R.left source.old) (λ input. 1048576 < length input)) }
+        → IfSome (R.left source.old) (λ input. MOST_LIST_BYTES < length input)) }
 {
     let mut intake = Intake::new(alloc);
     'pieces: loop {
@@ -105,7 +105,7 @@ fn read_whole<R: Source>(alloc: Global, source: &mut R) -> Result<Vec<u8>, Failu
             Ok(false) => return Ok(intake.into_bytes()),
             Err(stop) => return Err(read_failure(stop)),
         }
-        if intake.bytes.len() > MOST_BYTES {
+        if intake.bytes.len() > MOST_LIST_BYTES {
             return Err(Failure::List(ListFileFault::TooLong));
         }
     }

@@ -12,7 +12,7 @@ use std::os::unix::net::{UnixListener, UnixStream};
 use std::{fs, io};
 
 /// The most bytes of a socket's path.
-const MOST_BYTES: usize = 107;
+const MOST_SOCKET_PATH_BYTES: usize = 107;
 
 /// Who may connect: the owner.
 const MODE: u32 = 0o600;
@@ -75,7 +75,7 @@ impl From<io::Error> for SocketFault {
 /// path has too many bytes for a socket.
 fn socket_path(alloc: Global, file: &str) -> Result<Option<String>, AllocError> {
     let path = format!(in alloc; "{file}.control")?;
-    if path.len() > MOST_BYTES {
+    if path.len() > MOST_SOCKET_PATH_BYTES {
         return Ok(None);
     }
     Ok(Some(path))

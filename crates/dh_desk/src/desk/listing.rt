@@ -1,6 +1,6 @@
 //! Lists of what the tables hold.
 ghost use Rattle.std.specs.Prelude.{◌≡◌, true, false, Err, IfOk, OnOk};
-ghost use Rattle.dh_faults.specs.declared.fault.Fault.TheVariants as fault;
+ghost use Rattle.dh_ports.specs.declared.fault.Fault.TheVariants as fault;
 ghost use Rattle.dh_desk.specs.Desk.{StoreFaultHasCause, IsHonest, IsKept, IsRefused, KeepsFaults, last_records, lists_of, world};
 ghost use Rattle.dh_desk.specs.DeskLists.{is_unlisted};
 ghost use Rattle.dh_listings.specs.ListingTexts.{listing_text};
@@ -8,10 +8,10 @@ ghost use Rattle.dh_records.specs.Lists.{world_of};
 ghost use Rattle.dh_rows.specs.Calls.{LeavesCommitted};
 
 use super::Desk;
-use dh_faults::{Fault, Found};
 use dh_listing_reads::listing_in;
 use dh_listings::ListWord;
 use dh_paths::Text;
+use dh_ports::{Fault, Found};
 use dh_tables::Tables;
 use sqlite::Alter;
 use std::alloc::Global;

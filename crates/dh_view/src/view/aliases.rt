@@ -2,14 +2,15 @@
 
 ghost use Rattle.std.specs.Prelude.{◌≡◌, IfOk};
 ghost use Rattle.dh_derived.specs.Rightness.{class_in, kept_at};
-ghost use Rattle.dh_lookup.specs.SeenProject.{alias_to};
+ghost use Rattle.dh_seen.specs.SeenProject.{alias_to};
 ghost use Rattle.dh_view.specs.View.{ReadsInTurn};
 
 use crate::view::HostView;
-use dh_lookup::{Found, Named};
 use dh_paths::{Slug, Text, Token};
+use dh_ports::Found;
 use dh_records::AliasName;
-use dh_store::Tables;
+use dh_seen::Named;
+use dh_tables::Tables;
 use sqlite::Alter;
 use std::alloc::{AllocError, Global};
 

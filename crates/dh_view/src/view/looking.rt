@@ -4,8 +4,8 @@ ghost use Rattle.std.specs.Prelude.{◌≡◌, ◌↔◌, IfOk, IfSome, IsTrue, 
 ghost use Rattle.std.proofs.Common.{◌∙◌, refl};
 ghost use Rattle.sqlite.specs.Held.{Held};
 ghost use Rattle.dh_rows.specs.Calls.{IsHonest};
-ghost use Rattle.dh_lookup.specs.Lookup.{IsLook, AnswersMaybe};
-ghost use Rattle.dh_lookup.specs.SeenProject.{alias_of, alias_to};
+ghost use Rattle.dh_reply.specs.Lookup.{IsLook, AnswersMaybe};
+ghost use Rattle.dh_seen.specs.SeenProject.{alias_of, alias_to};
 ghost use Rattle.dh_redirects.specs.FirstResult.{first_result};
 ghost use Rattle.dh_schema.specs.Calling.{HasRecords, IsSettled};
 ghost use Rattle.dh_view.specs.Remembered.{IsSeen};
@@ -15,10 +15,12 @@ ghost use Rattle.dh_view.specs.View.{LooksUp, doubt_of, fails_on, host_in, looks
 
 use super::aliases::{as_alias, as_text, class_text};
 use super::{HostView, View};
-use dh_lookup::{Fault, Found, Items, Lookup, Named, Page};
 use dh_paths::{HostName, Lang, Slug, Text};
+use dh_ports::{Fault, Found};
 use dh_records::{AliasName, LangRow};
 use dh_redirects::{Asked, Location};
+use dh_reply::Lookup;
+use dh_seen::{Items, Named, Page};
 use dh_versions::Version;
 use sqlite::Alter;
 use std::alloc::{AllocError, Global};

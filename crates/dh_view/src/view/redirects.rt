@@ -6,11 +6,11 @@ ghost use Rattle.dh_view.specs.Stored as spec;
 ghost use Rattle.dh_view.specs.View.{ReadsInTurn};
 
 use crate::view::HostView;
-use dh_lookup::Found;
+use dh_ports::Found;
 use dh_records::{RedirectRow, RouteRow};
 use dh_redirects::{Asked, Location, Redirect};
 use dh_segments::first_segment;
-use dh_store::Tables;
+use dh_tables::Tables;
 use sqlite::Alter;
 use std::alloc::{AllocError, Global};
 

@@ -10,10 +10,10 @@ ghost use Rattle.dh_view.specs.View.{LearnsInTurn, ReadsInTurn, OpensAs, ShowsAs
 ghost use Rattle.dh_world.specs.Visibility as visibility;
 
 use crate::view::HostView;
-use dh_lookup::{Fault, Found};
 use dh_paths::Slug;
-use dh_records::{HeldRow, VersionRow};
-use dh_store::Tables;
+use dh_ports::{Fault, Found};
+use dh_records::{GrantRow, VersionRow};
+use dh_tables::Tables;
 use dh_versions::Version;
 use sqlite::Alter;
 use std::alloc::{AllocError, Global};
@@ -24,7 +24,7 @@ fn may_see(version: &Version, held: bool) -> bool
     version.active && (!version.private || held)
 }
 
-fn opens(grants: &[HeldRow], slug: &Slug) -> bool
+fn opens(grants: &[GrantRow], slug: &Slug) -> bool
     ensures { result ≡ view.opens grants.now slug.now }
 {
     grants
@@ -32,7 +32,7 @@ fn opens(grants: &[HeldRow], slug: &Slug) -> bool
         .any(|grant| grant.slug.as_str() == slug.as_str())
 }
 
-fn no_grants(alloc: Global) -> Vec<HeldRow>
+fn no_grants(alloc: Global) -> Vec<GrantRow>
     ensures { result.items ≡ [] }
 {
     Vec::new(alloc)
@@ -44,13 +44,13 @@ fn any_private(rows: &[VersionRow]) -> bool
     rows.iter().any(|row| row.version.private)
 }
 
-fn is_visible(row: &VersionRow, grants: &[HeldRow]) -> bool
+fn is_visible(row: &VersionRow, grants: &[GrantRow]) -> bool
     ensures { result ≡ is_shown grants.now row.now }
 {
     may_see(&row.version, opens(grants, &row.version.slug))
 }
 
-fn only_visible(rows: Vec<VersionRow>, grants: &[HeldRow]) -> Vec<VersionRow>
+fn only_visible(rows: Vec<VersionRow>, grants: &[GrantRow]) -> Vec<VersionRow>
     ensures { result.items ≡ filter (is_shown grants.now) rows.items }
 {
     let mut rows = rows;
@@ -112,7 +112,7 @@ impl HostView<'_> {
     }
 
     /// Reads the grants of the class.
-    fn grants_of<S: Alter>(&self, tables: &mut Tables<S>) -> Result<Vec<HeldRow>, Fault>
+    fn grants_of<S: Alter>(&self, tables: &mut Tables<S>) -> Result<Vec<GrantRow>, Fault>
         ensures { LearnsInTurn S.Store tables.old tables.new result
             (λ l grants. OpensAs grants.items (held_in l self.now.host.now self.now.class.now)) }
     {
@@ -128,7 +128,7 @@ impl HostView<'_> {
         &self,
         tables: &mut Tables<S>,
         rows: &[VersionRow],
-    ) -> Result<Vec<HeldRow>, Fault>
+    ) -> Result<Vec<GrantRow>, Fault>
         ensures { LearnsInTurn S.Store tables.old tables.new result
             (λ l grants. ShowsAs rows.now grants.items
             (held_in l self.now.host.now self.now.class.now)) }

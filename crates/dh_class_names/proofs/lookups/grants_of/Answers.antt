@@ -3,15 +3,15 @@ use Rattle.std.specs.List.Sorted.{IsPartitionedBy}
 use Rattle.std.proofs.lemmas.List.{take_rest}
 use Rattle.std.proofs.lemmas.List.Sorted.{IsPartitionPoint-from_clause}
 use Rattle.dh_constraints.proofs.RunLemmas.{by_host, has_host, host_ties, hosts_rise, less_first, tied_first, run_is_filter}
-use Rattle.dh_records.specs.declared.records.HeldRow.{HeldRow}
+use Rattle.dh_records.specs.declared.records.GrantRow.{GrantRow}
 use Rattle.dh_class_names.proofs.lookups.grants_of.Goals as goal
 
 pub returns : goal.returns
 returns c = λ by_pass.
-    let order = by_host (λ (x : HeldRow). x.pass) c.args.pass.now in
-    let test = has_host (λ (x : HeldRow). x.pass) c.args.pass.now in
-    let ties = host_ties (λ (x : HeldRow). x.pass) c.args.pass.now in
-    let up = hosts_rise (λ (x : HeldRow). x.pass) c.args.pass.now c.args.held.now by_pass in
+    let order = by_host (λ (x : GrantRow). x.pass) c.args.pass.now in
+    let test = has_host (λ (x : GrantRow). x.pass) c.args.pass.now in
+    let ties = host_ties (λ (x : GrantRow). x.pass) c.args.pass.now in
+    let up = hosts_rise (λ (x : GrantRow). x.pass) c.args.pass.now c.args.held.now by_pass in
     let start = IsPartitionPoint-from_clause (λ x. is_lt (order x)) c.args.held.now c.partition_point-start.result c.partition_point-start.ensures.partitioned
     (less_first order test ties c.args.held.now up) (λ a r q k. search rules) in
     let whole = take_rest c.args.held.now c.partition_point-start.result in

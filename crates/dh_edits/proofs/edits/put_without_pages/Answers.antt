@@ -2,7 +2,7 @@ use Rattle.std.proofs.Common.{None}
 use Rattle.dh_tables.proofs.Together.{makes_on}
 use Rattle.dh_edits.proofs.edits.put_without_pages.Goals as goal
 use Rattle.dh_records.specs.Changes as change
-use Rattle.dh_row_edits.specs.RowEdits.{version_row}
+use Rattle.dh_edits.specs.RowEdits.{version_row}
 
 pub returns : goal.returns
 returns g c = record {

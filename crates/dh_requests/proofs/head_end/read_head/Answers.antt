@@ -6,13 +6,13 @@ use Rattle.dh_requests.proofs.Needs.{open_head}
 use Rattle.dh_requests.proofs.Takes.{needed_on, stopped, takes_stop}
 use Rattle.dh_requests.proofs.head_end.read_head.Goals as goal
 
-pub returns-then-seen-eq-MOST_BYTES-clause-end : goal.returns-then-seen-eq-MOST_BYTES-clause-end
-returns-then-seen-eq-MOST_BYTES-clause-end g c =
-    too_long _ _ c.pieces.intake.bytes.items c.pieces.seen c.pieces.scan c.pieces.invariant.seen c.if-seen-eq-MOST_BYTES.true c.pieces.invariant.taken c.pieces.invariant.scanned
+pub returns-then-seen-eq-MOST_HEAD_BYTES-clause-end : goal.returns-then-seen-eq-MOST_HEAD_BYTES-clause-end
+returns-then-seen-eq-MOST_HEAD_BYTES-clause-end g c =
+    too_long _ _ c.pieces.intake.bytes.items c.pieces.seen c.pieces.scan c.pieces.invariant.seen c.if-seen-eq-MOST_HEAD_BYTES.true c.pieces.invariant.taken c.pieces.invariant.scanned
 
 pub returns-then-not-branch-clause-end : goal.returns-then-not-branch-clause-end
 returns-then-not-branch-clause-end g c =
-    cut_short _ _ _ c.pieces.intake.bytes.items _ c.pieces.seen c.pieces.scan _ c.pieces.invariant.seen c.if-seen-eq-MOST_BYTES.false c.pieces.invariant.taken c.pieces.invariant.scanned c.in_ok-more.ensures.adds c.if-not-branch.true
+    cut_short _ _ _ c.pieces.intake.bytes.items _ c.pieces.seen c.pieces.scan _ c.pieces.invariant.seen c.if-seen-eq-MOST_HEAD_BYTES.false c.pieces.invariant.taken c.pieces.invariant.scanned c.in_ok-more.ensures.adds c.if-not-branch.true
 
 pub returns-then-scan-gt-MOST_LINES-clause-end : goal.returns-then-scan-gt-MOST_LINES-clause-end
 returns-then-scan-gt-MOST_LINES-clause-end g c =
@@ -34,7 +34,7 @@ pieces-preserved g c =
       asked = counts_on _ _ _ _ _ _ c.pieces.invariant.asked c.in_ok-more.ensures.reads (omega arith);
       counted = counts_from _ _ _ _ _ _ c.pieces.invariant.counted c.in_ok-more.ensures.asked (omega arith);
       few = c.in_ok-more.ensures.few;
-      needed = needed_on OpenHead _ _ _ _ _ _ _ c.pieces.invariant.taken (open_head _ _ _ c.pieces.invariant.seen c.if-seen-eq-MOST_BYTES.false c.pieces.invariant.scanned) c.in_ok-more.ensures.adds;
+      needed = needed_on OpenHead _ _ _ _ _ _ _ c.pieces.invariant.taken (open_head _ _ _ c.pieces.invariant.seen c.if-seen-eq-MOST_HEAD_BYTES.false c.pieces.invariant.scanned) c.in_ok-more.ensures.adds;
       little = omega (arith, adds_little _ _ _ _ _ c.in_ok-more.ensures.adds);
       fine = search rules;
       lines = lines_more _ _ c.pieces.intake.bytes.items c.more.new.self.bytes.items _ c.pieces.seen c.min-limit.result _ _ _ c.pieces.invariant.seen (search rules) (ap cut c.deref.ensures.value) c.in_ok-more.ensures.adds c.pieces.invariant.lines c.find_end.ensures.lines;
@@ -51,7 +51,7 @@ pub returns-in_err-more-clause-takes : goal.returns-in_err-more-clause-takes
 returns-in_err-more-clause-takes g c =
     let few : (bytes : List ℕ) → length bytes ≤ 20480 → 100000 ≤ length bytes → ⊥ = λ bytes le ge. omega (arith, le, ge) in
     takes_stop {A = Bool} c.in_err-more.field-0.0 _ c.from_residual.ensures.1 (record {
-      needed = stopped Bool OpenHead _ _ _ _ c.in_err-more.field-0.0 c.pieces.invariant.taken (open_head _ _ _ c.pieces.invariant.seen c.if-seen-eq-MOST_BYTES.false c.pieces.invariant.scanned) c.in_err-more.ensures.adds.1;
+      needed = stopped Bool OpenHead _ _ _ _ c.in_err-more.field-0.0 c.pieces.invariant.taken (open_head _ _ _ c.pieces.invariant.seen c.if-seen-eq-MOST_HEAD_BYTES.false c.pieces.invariant.scanned) c.in_err-more.ensures.adds.1;
       broken = c.in_err-more.ensures.broken;
       turns = λ full. absurd (few _ c.pieces.invariant.little (c.in_err-more.ensures.full full).0.bytes_came);
       full = λ full. absurd (few _ c.pieces.invariant.little (c.in_err-more.ensures.full full).0.bytes_came);
@@ -60,7 +60,7 @@ returns-in_err-more-clause-takes g c =
 
 pub returns-then-scan-gt-MOST_LINES-clause-takes : goal.returns-then-scan-gt-MOST_LINES-clause-takes
 returns-then-scan-gt-MOST_LINES-clause-takes g c = record {
-  needed = needed_on OpenHead _ _ _ _ _ _ _ c.pieces.invariant.taken (open_head _ _ _ c.pieces.invariant.seen c.if-seen-eq-MOST_BYTES.false c.pieces.invariant.scanned) c.in_ok-more.ensures.adds;
+  needed = needed_on OpenHead _ _ _ _ _ _ _ c.pieces.invariant.taken (open_head _ _ _ c.pieces.invariant.seen c.if-seen-eq-MOST_HEAD_BYTES.false c.pieces.invariant.scanned) c.in_ok-more.ensures.adds;
   broken = c.in_ok-more.ensures.broken;
   turns = λ full. absurd (cc);
   full = λ full. absurd (cc);
@@ -69,20 +69,20 @@ returns-then-scan-gt-MOST_LINES-clause-takes g c = record {
 
 pub returns-in-Some-clause-takes : goal.returns-in-Some-clause-takes
 returns-in-Some-clause-takes g c = record {
-  needed = needed_on OpenHead _ _ _ _ _ _ _ c.pieces.invariant.taken (open_head _ _ _ c.pieces.invariant.seen c.if-seen-eq-MOST_BYTES.false c.pieces.invariant.scanned) c.in_ok-more.ensures.adds;
+  needed = needed_on OpenHead _ _ _ _ _ _ _ c.pieces.invariant.taken (open_head _ _ _ c.pieces.invariant.seen c.if-seen-eq-MOST_HEAD_BYTES.false c.pieces.invariant.scanned) c.in_ok-more.ensures.adds;
   broken = c.in_ok-more.ensures.broken;
   turns = λ full. absurd (cc);
   full = λ full. absurd (cc);
   reads = counts_on _ _ _ _ _ _ c.pieces.invariant.asked c.in_ok-more.ensures.reads (omega arith);
 }
 
-pub returns-then-seen-eq-MOST_BYTES-clause-found : goal.returns-then-seen-eq-MOST_BYTES-clause-found
-returns-then-seen-eq-MOST_BYTES-clause-found g c =
-    too_long_alone c.pieces.intake.bytes.items c.pieces.seen c.pieces.scan c.pieces.invariant.seen c.if-seen-eq-MOST_BYTES.true c.pieces.invariant.scanned
+pub returns-then-seen-eq-MOST_HEAD_BYTES-clause-found : goal.returns-then-seen-eq-MOST_HEAD_BYTES-clause-found
+returns-then-seen-eq-MOST_HEAD_BYTES-clause-found g c =
+    too_long_alone c.pieces.intake.bytes.items c.pieces.seen c.pieces.scan c.pieces.invariant.seen c.if-seen-eq-MOST_HEAD_BYTES.true c.pieces.invariant.scanned
 
 pub returns-then-not-branch-clause-found : goal.returns-then-not-branch-clause-found
 returns-then-not-branch-clause-found g c =
-    cut_short_alone _ _ c.pieces.intake.bytes.items _ c.pieces.seen c.pieces.scan _ c.pieces.invariant.seen c.if-seen-eq-MOST_BYTES.false c.pieces.invariant.scanned c.in_ok-more.ensures.adds c.if-not-branch.true
+    cut_short_alone _ _ c.pieces.intake.bytes.items _ c.pieces.seen c.pieces.scan _ c.pieces.invariant.seen c.if-seen-eq-MOST_HEAD_BYTES.false c.pieces.invariant.scanned c.in_ok-more.ensures.adds c.if-not-branch.true
 
 pub returns-then-scan-gt-MOST_LINES-clause-found : goal.returns-then-scan-gt-MOST_LINES-clause-found
 returns-then-scan-gt-MOST_LINES-clause-found g c =

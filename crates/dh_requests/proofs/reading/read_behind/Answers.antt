@@ -8,8 +8,8 @@ use Rattle.dh_requests.proofs.Requests.{request_text, whole_text}
 use Rattle.dh_requests.proofs.Bodies.{stays_needed}
 use Rattle.dh_requests.proofs.reading.read_behind.Goals as goal
 
-pub text_asks-requires : goal.text_asks-requires
-text_asks-requires g c = subst (λ w. IsHeadText (take c.args.start w)) (sym c.deref.ensures.value) c.requires.text.1
+pub parse_request_head-requires : goal.parse_request_head-requires
+parse_request_head-requires g c = subst (λ w. IsHeadText (take c.args.start w)) (sym c.deref.ensures.value) c.requires.text.1
 
 pub read_command-requires-clause-small : goal.read_command-requires-clause-small
 read_command-requires-clause-small g c =

@@ -1,6 +1,6 @@
 use Rattle.std.proofs.Common.{sym, subst}
 use Rattle.dh_tables.specs.Going.{records}
-use Rattle.dh_row_edits.specs.RowEdits.{RowsMay}
+use Rattle.dh_edits.specs.RowEdits.{RowsMay}
 use Rattle.dh_transactions.proofs.EditingLemmas.{edit_made, lacks_then, rows_may, sound_then}
 use Rattle.dh_transactions.proofs.editing.edit_once.Goals as goal
 

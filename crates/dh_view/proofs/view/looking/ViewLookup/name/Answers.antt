@@ -1,5 +1,5 @@
 use Rattle.std.proofs.Common.{sym, ◌∙◌}
-use Rattle.dh_lookup.specs.SeenProject.{alias_of, resolved}
+use Rattle.dh_seen.specs.SeenProject.{alias_of, resolved}
 use Rattle.dh_rows.specs.Calls.{seen}
 use Rattle.dh_schema.specs.Tables.{lists_of}
 use Rattle.dh_view.proofs.Shown.{name_seen, name_unseen}

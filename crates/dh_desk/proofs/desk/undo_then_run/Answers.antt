@@ -1,0 +1,43 @@
+use Rattle.std.proofs.Common.{◌∙◌, rules, sym, subst}
+use Rattle.dh_desk.proofs.desk.undo_then_run.Goals as goal
+use Rattle.dh_records.specs.Lists.{Lists}
+use Rattle.dh_transactions.proofs.Crashing.{refused_after, step_after}
+use Rattle.dh_transactions.proofs.Ending.{over_aside, stays, steps_aside}
+use Rattle.dh_schema.specs.InTurn.{lasts_on}
+use Rattle.dh_tables.specs.Going.{last_records}
+use Rattle.dh_desk.specs.Desk.{AreConsistent}
+use Rattle.dh_transactions.specs.Steps.{TakesStep}
+
+pub returns-in_err-back : goal.returns-in_err-back
+returns-in_err-back g c = record {
+  steps = λ honest.
+      steps_aside (last_records g.S.Store c.args.tables.now) (last_records g.S.Store c.back.new.self) c.args.command.now _ _
+      (stays g.S.Store c.args.tables.now c.back.new.self (c.in_err-back.ensures.undone.err honest)) c.from_residual.ensures.1;
+  outside = λ honest. over_aside g.S.Store c.back.new.self _ _ c.from_residual.ensures.1;
+  crash = search rules;
+  refused = search rules;
+  live = search rules;
+  lasts = search rules;
+}
+
+pub run-requires : goal.run-requires
+run-requires g c = record {
+  outside = λ honest. (c.in_ok-back.ensures.undone.done honest).mode;
+  settled = λ honest. let it = c.in_ok-back.ensures.undone.done honest in it.now_is ∙ sym it.last_is;
+  consistent = λ honest. subst AreConsistent (sym (c.in_ok-back.ensures.undone.done honest).last_is) (c.requires (c.back.ensures.goes.lasts.was honest));
+}
+
+pub returns : goal.returns
+returns g c = record {
+  steps = λ honest.
+      let h1 = c.run.ensures.lasts.was honest in
+      let P : Lists → Type 0 = λ l. TakesStep l (last_records g.S.Store c.run.new.tables) c.args.command.now c.run.result in
+      subst P (c.in_ok-back.ensures.undone.done h1).last_is (c.run.ensures.steps honest);
+  outside = c.run.ensures.outside;
+  crash = step_after g.S.Store c.args.tables.now c.back.new.self c.run.new.tables c.args.command.now c.back.ensures.goes.lasts.was c.back.ensures.quiet c.back.ensures.goes.kept c.run.ensures.lasts.clean c.run.ensures.crash;
+  refused =
+      refused_after g.S.Store c.args.tables.now c.back.new.self c.run.new.tables c.run.result c.back.ensures.quiet
+      c.run.ensures.lasts.clean c.run.ensures.refused;
+  live = c.run.ensures.live;
+  lasts = lasts_on c.back.ensures.goes.lasts c.run.ensures.lasts;
+}

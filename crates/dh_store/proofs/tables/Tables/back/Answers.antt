@@ -1,5 +1,0 @@
-use Rattle.dh_schema.proofs.CallLemmas.{undone_ours}
-use Rattle.dh_store.proofs.tables.Tables.back.Goals as goal
-
-pub invariant_of-self : goal.invariant_of-self
-invariant_of-self g c = undone_ours g.S.Store c.self.inside.conn c.rollback.new.conn c.rollback.result c.self.invariant c.rollback.ensures.goes.lasts c.rollback.ensures.undone.done c.rollback.ensures.undone.err

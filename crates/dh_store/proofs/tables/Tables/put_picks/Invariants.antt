@@ -1,5 +1,0 @@
-use Rattle.dh_store.proofs.PickLemmas.{AreAdded}
-use Rattle.dh_store.proofs.tables.Tables.put_picks.Given as goal
-
-abbrev pub invariant-loop-i : goal.invariant-loop-i
-invariant-loop-i g l = AreAdded g.S.Store l.host l.names l.fn.self l.self l.i

@@ -1,8 +1,0 @@
-use Rattle.std.proofs.Common.{subst}
-use Rattle.sqlite.specs.Held.{state}
-use Rattle.dh_rows.specs.Calls.{AreOurs}
-use Rattle.dh_schema.specs.Tables.{HoldsTables}
-use Rattle.dh_store.proofs.tables.Tables.show_ours.Goals as goal
-
-pub returns : goal.returns
-returns g c = subst (λ h. AreOurs HoldsTables (state g.S.Store h)) c.self.view_is c.self.invariant

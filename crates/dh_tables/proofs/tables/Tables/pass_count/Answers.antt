@@ -1,0 +1,11 @@
+use Rattle.sqlite.specs.Held.{state}
+use Rattle.dh_records.specs.Lists.{is_pass_of}
+use Rattle.dh_tables.proofs.Asking.{asked_for}
+use Rattle.dh_tables.proofs.Statements.{passes_asked}
+use Rattle.dh_tables.proofs.tables.Tables.pass_count.Goals as goal
+
+pub count_records-requires : goal.count_records-requires
+count_records-requires g c = record { query = rw (c.params-to_sql.ensures, c.as_str.ensures.text) (asked_for (passes_asked (state g.S.Store c.args.self.now) c.args.host.now)) }
+
+pub returns : goal.returns
+returns g c = c.count_records.ensures (λ l. l.passes) (is_pass_of c.args.host.now) (rw (c.params-to_sql.ensures, c.as_str.ensures.text) (passes_asked (state g.S.Store c.args.self.now) c.args.host.now))

@@ -1,0 +1,11 @@
+use Rattle.sqlite.specs.Held.{state}
+use Rattle.dh_records.specs.Lists.{is_project}
+use Rattle.dh_tables.proofs.Asking.{asked_for}
+use Rattle.dh_tables.proofs.Statements.{project_asked}
+use Rattle.dh_tables.proofs.tables.Tables.project.Goals as goal
+
+pub first_record-requires : goal.first_record-requires
+first_record-requires g c = record { query = rw (c.params-to_sql.ensures, c.as_str.ensures.text) (asked_for (project_asked (state g.S.Store c.args.self.now) c.args.host.now)) }
+
+pub returns : goal.returns
+returns g c = c.first_record.ensures (λ l. l.projects) (is_project c.args.host.now) (rw (c.params-to_sql.ensures, c.as_str.ensures.text) (project_asked (state g.S.Store c.args.self.now) c.args.host.now))

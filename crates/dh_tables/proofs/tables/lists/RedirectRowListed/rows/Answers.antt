@@ -1,0 +1,11 @@
+use Rattle.sqlite.specs.Held.{state}
+use Rattle.dh_records.specs.Lists.{is_redirect_of}
+use Rattle.dh_tables.proofs.Asking.{asked_for}
+use Rattle.dh_tables.proofs.Statements.{redirects_asked}
+use Rattle.dh_tables.proofs.tables.lists.RedirectRowListed.rows.Goals as goal
+
+pub all_records-requires : goal.all_records-requires
+all_records-requires g c = record { query = rw (c.params-to_sql.ensures, c.as_str.ensures.text) (asked_for (redirects_asked (state g.S.Store c.args.tables.now) c.args.host.now)) }
+
+pub returns : goal.returns
+returns g c = c.all_records.ensures (λ l. l.redirects) (is_redirect_of c.args.host.now) (rw (c.params-to_sql.ensures, c.as_str.ensures.text) (redirects_asked (state g.S.Store c.args.tables.now) c.args.host.now))

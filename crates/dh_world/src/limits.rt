@@ -1,0 +1,22 @@
+//! The limits of a project and of what it takes in.
+
+/// The most languages of a project.
+pub const MOST_LANGUAGES: usize = 30;
+
+/// The most automation rules of a project.
+pub const MOST_RULES: usize = 50;
+
+/// The most redirects of a project.
+pub const MOST_REDIRECTS: usize = 100;
+
+/// The most passes of a project.
+pub const MOST_PASSES: usize = 1000;
+
+/// The most pages of an upload.
+pub const MOST_PAGES: usize = 256;
+
+/// The most bytes of a page.
+pub const MOST_PAGE_BYTES: usize = 1_048_576;
+
+/// The most bytes of a media type.
+pub const MOST_MEDIA_BYTES: usize = 100;
