@@ -2,6 +2,7 @@
 //!
 //! `decide` makes a plan for a checked command from what was found of its project; `open` decides where the
 //! host has no project. Both are pure: to look up, and to make the edits of a plan, is the work of a store.
+//! Pushes, and so the rules that a pushed branch or tag meets, are decided in `dh_pushes`.
 #![tactic(auto)]
 
 mod decision;

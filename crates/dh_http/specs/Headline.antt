@@ -1,4 +1,5 @@
--- The headline: what the reply to a read request is, and what it depends on.
+-- The headline, the promise of a read request: which bytes answer it, and what they depend on. `answer` has it as its clause
+-- `headline`, for each store that has counted no fault up to the end of the call.
 use Rattle.std.specs.Prelude.{◌≡◌, ◌⊎◌, ℕ, Bool, List, Option, Result, IfSome, OnOk}
 use Rattle.std.specs.Io.KnownBytes.{Appends}
 use Rattle.dh_wire.specs.Wire.{reply_bytes_of}
@@ -29,7 +30,8 @@ AnswersRead moment world input text =
     → IsRequest input (request.Read host pass read head)
     → (text ≡ read_bytes moment world host pass read head) ⊎ IsUnavailable text
 
--- where the whole reply was written, it answers the read request that the source held, if it held one
+-- Where the whole reply was written, it answers the read request that the source held, if it held one. `left` is what the
+-- source had left, `held` and `now` what the sink held before and holds after; nothing is said where one of these is not told.
 abbrev pub Headline
     : ℕ → World → Option (List ℕ) → Option (List ℕ) → Option (List ℕ) → Result Done EngineFault
     → Type 0

@@ -22,7 +22,8 @@ abbrev pub is_set : Value → Bool
 is_set (Int (pos zero)) = false
 is_set _ = true
 
--- How a record is kept: its columns after the rowid, the record that a stored row stands for, and its key part by part.
+-- How a record is kept: its columns, the record that a stored row stands for (whose column 0 is the rowid), and the key by which
+-- the list of records is in order, part by part.
 pub record Coding (X : Type 0) : Type 0 where
   pub encode : X → Row
   pub decode : Row → X

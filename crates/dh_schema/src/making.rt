@@ -23,6 +23,11 @@ const ROUTES: &str =
     "CREATE TABLE route (host TEXT NOT NULL, seg TEXT NOT NULL, place INTEGER NOT NULL, force INTEGER NOT NULL, PRIMARY KEY (host, seg, place)) STRICT";
 
 /// The statements that make our tables, in this order.
+///
+/// Where the parts of a table stand, with `pass` as the example: the statement here; its meaning, `pass_table` of
+/// `specs/Tables.antt`; its record, `PassRow` of `dh_records` (`records.rt`), with its columns (`specs/Codings.antt`), its values
+/// (`values.rt`) and how it is read (`reading.rt`); its typed calls (`tables/passes.rt` of `dh_tables`); its shape in a file that
+/// is opened (`shapes.rt` of `dh_opening`); and the constraints of its rows (`specs/Constraints.antt` of `dh_records`).
 const TABLES: [&str; 13] = [
     "CREATE TABLE meta (schema INTEGER NOT NULL) STRICT",
     ALIASES,

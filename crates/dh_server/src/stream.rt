@@ -27,7 +27,7 @@ const SHORT_PATIENCE: u64 = 1;
 const READING_OUT: u64 = 2;
 
 /// How many bytes one such read asks for.
-const PIECE: usize = 16_384;
+const REST_SIZE: usize = 16_384;
 
 /// Waits behind an accept that failed: a poll of nothing does no more, and needs no handle.
 pub fn pause() {
@@ -89,7 +89,7 @@ pub fn read_out<T: Clock + Copy>(clock: T, stream: &TcpStream) {
         return;
     }
     let mut rest = Timed::new(clock, READING_OUT, Port::new(Steady::new(stream)));
-    let mut room = [0u8; PIECE];
+    let mut room = [0u8; REST_SIZE];
     for _ in 0..u32::MAX {
         if !matches!(rest.fill(&mut room), Ok(1..)) {
             return;

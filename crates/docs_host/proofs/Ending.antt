@@ -32,7 +32,7 @@ use Rattle.docs_host.specs.Ends.{is_fault, status_after, may_end_order, may_end_
 use Rattle.docs_host.specs.Failing.{may_fail, IsDoneOr, is_of_output, is_of_init, is_of_list, is_of_script, is_of_command, is_of_opened, is_of_order, is_of_sent, may_be_sent, is_of_checked, is_of_file, is_of_memory}
 use Rattle.docs_host.specs.Failures.{failure_of}
 use Rattle.docs_host.specs.Orders.{OrdersImport, RunsRequest, AnswersOne, ServesBoth, bad_record, has_bad_target, import_order}
-use Rattle.docs_host.specs.declared.beside.ControlFault.{ControlFault}
+use Rattle.docs_host.specs.declared.by_server.ControlFault.{ControlFault}
 use Rattle.docs_host.specs.declared.failure.Failure.{Failure}
 use Rattle.docs_host.specs.declared.failure.Failure.TheVariants.{File, List as OfList, Store, Memory, Bind, Socket, Control, Write, Script, Request}
 use Rattle.docs_host.specs.declared.failure.Status.{Status}

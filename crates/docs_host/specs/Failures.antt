@@ -11,8 +11,8 @@ use Rattle.dh_script.specs.Faults as script
 use Rattle.dh_world.specs.World.{Text}
 use Rattle.docs_host.specs.declared.lists.ListFileFault.{ListFileFault}
 use Rattle.docs_host.specs.declared.lists.ListFileFault.TheVariants as list
-use Rattle.docs_host.specs.declared.beside.ControlFault.{ControlFault}
-use Rattle.docs_host.specs.declared.beside.ControlFault.TheVariants as control
+use Rattle.docs_host.specs.declared.by_server.ControlFault.{ControlFault}
+use Rattle.docs_host.specs.declared.by_server.ControlFault.TheVariants as control
 use Rattle.docs_host.specs.declared.failure.Failure.{Failure}
 use Rattle.docs_host.specs.declared.socket.SocketFault.{SocketFault}
 use Rattle.docs_host.specs.declared.socket.SocketFault.TheVariants as socket

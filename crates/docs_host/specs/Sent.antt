@@ -17,7 +17,7 @@ use Rattle.dh_control.specs.declared.end.End.TheVariants as end
 use Rattle.docs_host.specs.Ends.{Ended, may_end_order}
 use Rattle.docs_host.specs.Exchanges.{Exchange, OneMore}
 use Rattle.docs_host.specs.Failing.{is_of_sent, may_be_sent}
-use Rattle.docs_host.specs.declared.beside.ControlFault.TheVariants.{Untold, OtherVersion, Met}
+use Rattle.docs_host.specs.declared.by_server.ControlFault.TheVariants.{Untold, OtherVersion, Met}
 use Rattle.docs_host.specs.declared.failure.Failure.{Failure}
 use Rattle.docs_host.specs.declared.failure.Failure.TheVariants.{Control, File, Script, Write}
 use Rattle.docs_host.specs.declared.failure.Status.{Status}

@@ -8,7 +8,7 @@ ghost use Rattle.docs_host.specs.Failures.{failure_of, failure_of_sample};
 ghost use Rattle.docs_host.specs.Telling.{TellsCause, TellsFault, file_named, file_text, name_text};
 ghost use Rattle.docs_host.specs.declared.failure.Failure.TheVariants.{File, Memory, Script, Socket, Request};
 
-use crate::beside::ControlFault;
+use crate::by_server::ControlFault;
 use crate::lists::ListFileFault;
 use crate::socket::SocketFault;
 use dh_files::FileFault;

@@ -1,7 +1,7 @@
 //! A host of versioned documentation.
 #![tactic(auto)]
 
-mod beside;
+mod by_server;
 mod clock;
 mod explaining;
 mod failure;

@@ -46,7 +46,7 @@ fn status_told(refused: bool) -> Status
 }
 
 /// Does a single command, read or list, writes its outcome, and tells why it was refused where it was.
-fn run_single<S: Alter, W: Sink, E: Sink>(
+fn do_single_order<S: Alter, W: Sink, E: Sink>(
     alloc: Global,
     desk: &mut Desk<S>,
     order: &Order,
@@ -129,7 +129,7 @@ fn answer_request<S: Alter, R: Source, W: Sink>(
 
 /// Does what is ordered over a desk. `now` is the moment of a read that gives none of its own, in seconds since 1970; a server
 /// asks the clock for each of its connections.
-pub fn run_order<S: Alter, R: Source, W: Sink, E: Sink>(
+pub fn do_order<S: Alter, R: Source, W: Sink, E: Sink>(
     rt: &HostRuntime,
     desk: &mut Desk<S>,
     served: &mut Served<'_>,
@@ -169,7 +169,7 @@ pub fn run_order<S: Alter, R: Source, W: Sink, E: Sink>(
         | Order::Import { .. }
         | Order::List(_)
         | Order::Init { .. }
-        | Order::Migrate { .. } => run_single(
+        | Order::Migrate { .. } => do_single_order(
             rt.alloc(),
             desk,
             order,

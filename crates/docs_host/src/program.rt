@@ -12,10 +12,10 @@ ghost use Rattle.docs_host.specs.Orders.{AreUnbroken};
 ghost use Rattle.docs_host.specs.Telling.{TellsEnd};
 ghost use Rattle.docs_host.specs.Telling as telling;
 
-use crate::beside::run_beside;
+use crate::by_server::run_by_server;
 use crate::failure::{Failure, Status, tell, tell_reason, tell_sentence, tell_usage};
 use crate::lists::{ListFile, order_in, read_list_file, refuse_record};
-use crate::orders::{run_lines, run_order, say};
+use crate::orders::{do_order, run_lines, say};
 use crate::sending::Sockets;
 use crate::serving::{Served, serve_rest};
 use crate::streams::Streams;
@@ -41,7 +41,7 @@ fn has_bad_target(alloc: Global, order: &Order) -> Result<bool, AllocError>
 }
 
 /// Does what is ordered over the desk of a file, and closes the file.
-fn run_opened<S: Start, R: Source, W: Sink, E: Sink>(
+fn run_over_desk<S: Start, R: Source, W: Sink, E: Sink>(
     rt: &HostRuntime,
     opened: (FileDesk<S>, i64),
     order: &Order,
@@ -60,7 +60,7 @@ fn run_opened<S: Start, R: Source, W: Sink, E: Sink>(
         projects,
         rest: None,
     };
-    let ran = run_order(rt, &mut desk, &mut served, order, streams, now);
+    let ran = do_order(rt, &mut desk, &mut served, order, streams, now);
     let closed = close_desk(desk);
     let status = ran?;
     if let Some(rest) = served.rest {
@@ -84,7 +84,7 @@ fn tell_held<E: Sink>(fault: FileFault, errors: &mut E)
 }
 
 /// Does an import over the records of a file, which no other program may have open.
-fn run_alone<S: Start, R: Source, W: Sink, E: Sink>(
+fn import_over_file<S: Start, R: Source, W: Sink, E: Sink>(
     rt: &HostRuntime,
     start: S,
     order: &Order,
@@ -98,7 +98,7 @@ fn run_alone<S: Start, R: Source, W: Sink, E: Sink>(
     ensures tells { TellsSome E.broken E.held streams.old.errors streams.new.errors }
 {
     match open_desk(rt, file, start) {
-        Ok(opened) => run_opened(rt, opened, order, file, streams, now),
+        Ok(opened) => run_over_desk(rt, opened, order, file, streams, now),
         Err(fault) => {
             tell_held(fault, &mut streams.errors);
             Err(Failure::File(fault))
@@ -107,7 +107,7 @@ fn run_alone<S: Start, R: Source, W: Sink, E: Sink>(
 }
 
 /// Does what is ordered over the records of a file; where a server has the file, asks that server to do it.
-fn run_over<S: Start, R: Source, W: Sink, E: Sink>(
+fn run_over_file<S: Start, R: Source, W: Sink, E: Sink>(
     rt: &HostRuntime,
     start: S,
     words: &[String],
@@ -127,8 +127,8 @@ fn run_over<S: Start, R: Source, W: Sink, E: Sink>(
         return Ok(Status::Refused);
     }
     match open_desk(rt, file, start) {
-        Ok(opened) => run_opened(rt, opened, order, file, streams, now),
-        Err(FileFault::Busy) => run_beside(
+        Ok(opened) => run_over_desk(rt, opened, order, file, streams, now),
+        Err(FileFault::Busy) => run_by_server(
             rt.alloc(),
             &mut Sockets { rt },
             words,
@@ -205,7 +205,7 @@ fn import_list<S: Start, R: Source, W: Sink, E: Sink>(
     ensures tells { TellsSome E.broken E.held streams.old.errors streams.new.errors }
 {
     match order_in(rt.alloc(), host, list.bytes) {
-        Ok(order) => run_alone(rt, start, &order, file, streams, now),
+        Ok(order) => import_over_file(rt, start, &order, file, streams, now),
         Err(ListFault::BadRecord(number, fault)) => {
             refuse_record(rt.alloc(), list.path, number, fault, streams)
         }
@@ -271,7 +271,7 @@ fn run_line<S: Start, R: Source, W: Sink, E: Sink>(
         (Order::Import { host, list }, Some(file)) => {
             import(rt, start, host, list, file.as_str(), streams, now)
         }
-        (order, Some(file)) => run_over(rt, start, words, order, file.as_str(), streams, now),
+        (order, Some(file)) => run_over_file(rt, start, words, order, file.as_str(), streams, now),
         (
             Order::Act(_)
             | Order::Get { .. }
@@ -309,7 +309,7 @@ fn wants_version(words: &[String]) -> bool
 }
 
 /// Does a line of the program, and tells the failure that ended it.
-fn run_told<S: Start, R: Source, W: Sink, E: Sink>(
+fn run_and_tell<S: Start, R: Source, W: Sink, E: Sink>(
     rt: &HostRuntime,
     start: S,
     words: &[String],
@@ -330,7 +330,7 @@ fn run_told<S: Start, R: Source, W: Sink, E: Sink>(
 }
 
 /// Does what the words ask for, and answers how it ended.
-fn run_words<S: Start, R: Source, W: Sink, E: Sink>(
+fn run_line_of_words<S: Start, R: Source, W: Sink, E: Sink>(
     rt: &HostRuntime,
     start: S,
     words: &[String],
@@ -353,7 +353,7 @@ fn run_words<S: Start, R: Source, W: Sink, E: Sink>(
         ),
         Err(LineFault::Memory) => return tell(&mut streams.errors, Failure::Memory, None),
     };
-    run_told(rt, start, words, &line, streams, now)
+    run_and_tell(rt, start, words, &line, streams, now)
 }
 
 /// The file that is named beside a failure: the file of the list, or that of the records.
@@ -369,7 +369,7 @@ fn file_of(line: &Line, failure: Failure) -> Option<&str>
 }
 
 /// Writes the help that the words ask for, or does what they order.
-fn run_or_help<S: Start, R: Source, W: Sink, E: Sink>(
+fn tell_help_or_run<S: Start, R: Source, W: Sink, E: Sink>(
     rt: &HostRuntime,
     start: S,
     words: &[String],
@@ -386,12 +386,12 @@ fn run_or_help<S: Start, R: Source, W: Sink, E: Sink>(
 {
     match helped(words) {
         Some(names) => tell_help(rt.alloc(), names, &mut streams.sink, &mut streams.errors),
-        None => run_words(rt, start, words, streams, now),
+        None => run_line_of_words(rt, start, words, streams, now),
     }
 }
 
 /// Writes which version of the program this is, or the help that the words ask for, or does what they order.
-fn run_asked<S: Start, R: Source, W: Sink, E: Sink>(
+fn tell_version_or_run<S: Start, R: Source, W: Sink, E: Sink>(
     rt: &HostRuntime,
     start: S,
     words: &[String],
@@ -407,7 +407,7 @@ fn run_asked<S: Start, R: Source, W: Sink, E: Sink>(
     if wants_version(words) {
         return tell_version(&mut streams.sink, &mut streams.errors);
     }
-    run_or_help(rt, start, words, streams, now)
+    tell_help_or_run(rt, start, words, streams, now)
 }
 
 /// Runs the whole program over its words, without its own name. Its streams are given, and `start` stands for what the file of
@@ -431,5 +431,5 @@ pub fn run_program<S: Start, R: Source, W: Sink, E: Sink>(
         (TellsEnd E.broken E.held (line_run (map string_bytes words.now))
         streams.old.errors streams.new.errors) result }
 {
-    run_asked(rt, start, words, streams, now).code()
+    tell_version_or_run(rt, start, words, streams, now).code()
 }

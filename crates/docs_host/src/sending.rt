@@ -10,7 +10,7 @@ use std::alloc::Global;
 use std::net::Shutdown;
 
 /// How many bytes of an answer one read asks for.
-const PIECE: usize = 16_384;
+const ANSWER_SIZE: usize = 16_384;
 
 /// What a server answered.
 #[derive(Drop)]
@@ -46,7 +46,7 @@ fn read_answer<R: Source>(source: &mut R, answer: &mut Vec<u8>) -> bool
     ensures { result ≡ true → IfSome (R.left source.old)
         (λ input. answer.new.items ≡ answer.old.items ++ input) }
 {
-    let mut room = [0u8; PIECE];
+    let mut room = [0u8; ANSWER_SIZE];
     'pieces: for _ in 0..u64::MAX {
         match source.fill(&mut room) {
             Ok(0) => return true,

@@ -3,8 +3,8 @@ use Rattle.docs_host.proofs.program.import_list.Goals as goal
 
 pub returns-in-Ok-clause-ends : goal.returns-in-Ok-clause-ends
 returns-in-Ok-clause-ends g c =
-    command_ended c.args.host.now c.args.list.bytes.now (g.W.Sink.held c.args.streams.now.sink) (g.W.Sink.held c.run_alone.new.streams.sink)
-    c.in-Ok.order c.run_alone.result c.in-Ok.ensures c.run_alone.ensures.ends
+    command_ended c.args.host.now c.args.list.bytes.now (g.W.Sink.held c.args.streams.now.sink) (g.W.Sink.held c.import_over_file.new.streams.sink)
+    c.in-Ok.order c.import_over_file.result c.in-Ok.ensures c.import_over_file.ensures.ends
 
 pub returns-in-Err-BadRecord-clause-ends : goal.returns-in-Err-BadRecord-clause-ends
 returns-in-Err-BadRecord-clause-ends g c =

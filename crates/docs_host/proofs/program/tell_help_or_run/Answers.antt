@@ -4,7 +4,7 @@ use Rattle.dh_lines.specs.Lines.{line_in}
 use Rattle.docs_host.specs.Ends.{asks_help, line_asked}
 use Rattle.docs_host.proofs.Ending.{no_line, its_line, help_asked, line_asked_for}
 use Rattle.docs_host.proofs.Telling.{told_of}
-use Rattle.docs_host.proofs.program.run_or_help.Goals as goal
+use Rattle.docs_host.proofs.program.tell_help_or_run.Goals as goal
 
 pub returns-in-Some-clause-ends : goal.returns-in-Some-clause-ends
 returns-in-Some-clause-ends g c =
@@ -21,10 +21,10 @@ returns-in-Some-clause-told g c =
 pub returns-in-None-clause-ends : goal.returns-in-None-clause-ends
 returns-in-None-clause-ends g c =
     line_asked_for (map string_bytes c.args.words.now) c.args.now (g.R.Source.left c.args.streams.now.source) (g.W.Sink.held c.args.streams.now.sink)
-    (g.W.Sink.held c.run_words.new.streams.sink) c.run_words.result c.in-None.ensures c.run_words.ensures.ends
+    (g.W.Sink.held c.run_line_of_words.new.streams.sink) c.run_line_of_words.result c.in-None.ensures c.run_line_of_words.ensures.ends
 
 pub returns-in-None-clause-told : goal.returns-in-None-clause-told
 returns-in-None-clause-told g c =
-    told_of g.E.Sink.broken g.E.Sink.held c.args.streams.now.errors c.run_words.new.streams.errors c.run_words.result
+    told_of g.E.Sink.broken g.E.Sink.held c.args.streams.now.errors c.run_line_of_words.new.streams.errors c.run_line_of_words.result
     (line_asked (asks_help (map string_bytes c.args.words.now)) (map string_bytes c.args.words.now)) (line_in (map string_bytes c.args.words.now))
-    (its_line (map string_bytes c.args.words.now) c.in-None.ensures) c.run_words.ensures.told
+    (its_line (map string_bytes c.args.words.now) c.in-None.ensures) c.run_line_of_words.ensures.told

@@ -3,7 +3,7 @@ use Rattle.std.specs.Prelude.{None}
 use Rattle.docs_host.specs.Ends.{asks_help, line_asked, line_run}
 use Rattle.docs_host.proofs.Ending.{no_version, no_version_line, other_asked, version_asked}
 use Rattle.docs_host.proofs.Telling.{told_of}
-use Rattle.docs_host.proofs.program.run_asked.Goals as goal
+use Rattle.docs_host.proofs.program.tell_version_or_run.Goals as goal
 
 pub returns-then-wants_version-clause-ends : goal.returns-then-wants_version-clause-ends
 returns-then-wants_version-clause-ends g c =
@@ -19,11 +19,11 @@ returns-then-wants_version-clause-told g c =
 pub returns-clause-ends : goal.returns-clause-ends
 returns-clause-ends g c =
     other_asked (map string_bytes c.args.words.now) c.args.now (g.R.Source.left c.args.streams.now.source) (g.W.Sink.held c.args.streams.now.sink)
-    (g.W.Sink.held c.run_or_help.new.streams.sink) c.run_or_help.result (sym c.wants_version.ensures ∙ c.if-wants_version.false) c.run_or_help.ensures.ends
+    (g.W.Sink.held c.tell_help_or_run.new.streams.sink) c.tell_help_or_run.result (sym c.wants_version.ensures ∙ c.if-wants_version.false) c.tell_help_or_run.ensures.ends
 
 pub returns-clause-told : goal.returns-clause-told
 returns-clause-told g c =
-    told_of g.E.Sink.broken g.E.Sink.held c.args.streams.now.errors c.run_or_help.new.streams.errors c.run_or_help.result
+    told_of g.E.Sink.broken g.E.Sink.held c.args.streams.now.errors c.tell_help_or_run.new.streams.errors c.tell_help_or_run.result
     (line_run (map string_bytes c.args.words.now))
     (line_asked (asks_help (map string_bytes c.args.words.now)) (map string_bytes c.args.words.now))
-    (no_version (map string_bytes c.args.words.now) (sym c.wants_version.ensures ∙ c.if-wants_version.false)) c.run_or_help.ensures.told
+    (no_version (map string_bytes c.args.words.now) (sym c.wants_version.ensures ∙ c.if-wants_version.false)) c.tell_help_or_run.ensures.told

@@ -1,7 +1,7 @@
 use Rattle.std.proofs.Common.{map, string_bytes}
 use Rattle.dh_lines.specs.Lines.{line_in}
 use Rattle.docs_host.proofs.Telling.{told_memory}
-use Rattle.docs_host.proofs.program.run_words.Goals as goal
+use Rattle.docs_host.proofs.program.run_line_of_words.Goals as goal
 
 pub returns-in-Err-Memory-clause-told : goal.returns-in-Err-Memory-clause-told
 returns-in-Err-Memory-clause-told g c =

@@ -196,7 +196,7 @@ fn tell_silence<E: Sink>(silence: Silence, errors: &mut E)
 
 /// Has the server that has a file open do what is ordered. Where nobody answers, another program has the file, and nothing is
 /// done.
-pub fn run_beside<A: Ask, R: Source, W: Sink, E: Sink>(
+pub fn run_by_server<A: Ask, R: Source, W: Sink, E: Sink>(
     alloc: Global,
     asker: &mut A,
     words: &[String],
