@@ -1,5 +1,5 @@
 -- The headline, the promise of a read request: which bytes answer it, and what they depend on. `answer` has it as its clause
--- `headline`, for each store that has counted no fault up to the end of the call.
+-- `headline`, for each store that is honest after the call: its disk returned what was written, and no fault has shut it.
 use Rattle.std.specs.Prelude.{◌≡◌, ◌⊎◌, ℕ, Bool, List, Option, Result, IfSome, OnOk}
 use Rattle.std.specs.Io.KnownBytes.{Appends}
 use Rattle.dh_wire.specs.Wire.{reply_bytes_of}
