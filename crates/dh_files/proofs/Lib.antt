@@ -1,2 +1,1 @@
 pub mod SettleLemmas
-pub mod CountLemmas

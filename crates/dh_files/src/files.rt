@@ -11,8 +11,8 @@ ghost use Rattle.dh_files.specs.Settling.{IsServed, IsSettledBy};
 use crate::fault::FileFault;
 use crate::looking::{Found, cause_of, look, make};
 use dh_desk::Desk;
-use dh_opening::TablesFault;
-use sqlite::{Alter, Connection, Error, FileFrom, FileStore, Row, Start};
+use dh_opening::{TablesFault, count_projects};
+use sqlite::{Alter, Connection, FileFrom, FileStore, Start};
 use std::alloc::Global;
 
 /// A connection to a file, whose contents `S` stands for.
@@ -63,31 +63,6 @@ pub fn init_file<S: Start>(rt: &HostRuntime, path: &str, start: S) -> Result<(),
         Found::Empty | Found::Database => {}
     }
     close(make_tables(connect(rt, path, start)?)?)
-}
-
-/// Queries the count of the projects. Outside a transaction all that is seen stays.
-fn count_row<S: Alter>(conn: &mut Connection<S>) -> Result<Row, Error>
-    ensures outside { conn.old.in_transaction ≡ false → conn.new.in_transaction ≡ false }
-    ensures same { conn.old.in_transaction ≡ false → IsHonest S.Store conn.new
-        → IsHonest S.Store conn.old
-        × ((state S.Store conn.new).now ≡ (state S.Store conn.old).now) }
-{
-    // (this call shows the proof that what is seen was committed)
-    let _ = conn.is_autocommit();
-    conn.query_row("SELECT COUNT(*) FROM project", &[])
-}
-
-/// Counts the projects; 0 where there is no such table, which opening the tables tells.
-fn count_projects<S: Alter>(conn: &mut Connection<S>) -> i64
-    ensures outside { conn.old.in_transaction ≡ false → conn.new.in_transaction ≡ false }
-    ensures same { conn.old.in_transaction ≡ false → IsHonest S.Store conn.new
-        → IsHonest S.Store conn.old
-        × ((state S.Store conn.new).now ≡ (state S.Store conn.old).now) }
-{
-    match count_row(conn) {
-        Ok(row) => row.get(0).unwrap_or(0),
-        Err(_) => 0,
-    }
 }
 
 /// Opens the tables of a connection, makes the stored rows right, and counts the projects.

@@ -9,3 +9,4 @@ pub mod OpenLemmas
 pub mod FillLemmas
 pub mod BringLemmas
 pub mod MigrateLemmas
+pub mod CountLemmas

@@ -2,6 +2,7 @@
 //! and the constraints on these; and converting tables of schema 1.
 #![tactic(auto)]
 
+mod counting;
 mod fault;
 mod filling;
 mod gathering;
@@ -15,6 +16,7 @@ mod shapes;
 mod tables;
 mod thin_pages;
 
+pub use counting::count_projects;
 pub use fault::TablesFault;
 pub use migrating::migrate;
 pub use opening::{create, open};

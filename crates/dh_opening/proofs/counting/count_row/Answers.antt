@@ -1,6 +1,6 @@
 use Rattle.std.proofs.Common.{◌∙◌, [], not, arith, ap, refl, subst, sym, IsTrue}
-use Rattle.dh_files.proofs.CountLemmas.{counted, still}
-use Rattle.dh_files.proofs.files.count_row.Goals as goal
+use Rattle.dh_opening.proofs.CountLemmas.{counted, still}
+use Rattle.dh_opening.proofs.counting.count_row.Goals as goal
 
 pub returns-clause-same : goal.returns-clause-same
 returns-clause-same g c outside honest =
