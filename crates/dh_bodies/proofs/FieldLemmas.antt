@@ -5,7 +5,7 @@ use Rattle.serde_json.proofs.Views.{get_member-put, get_member-put_other}
 use Rattle.serde_json.specs.Data.{Data, object, Members, put}
 use Rattle.serde_json.specs.Find.{get, get_member, as_str, as_bool, as_array}
 use Rattle.dh_world.specs.Answers.{text_at}
-use Rattle.dh_bodies.specs.Bodies.{flag_from, pages_from, pages_in}
+use Rattle.dh_bodies.specs.Bodies.{flag_from, pages_from, posted_pages}
 use Rattle.dh_bodies.specs.Fields.{text_there}
 
 differs : (wanted name : List ℕ) → bytes_eq wanted name ≡ false → wanted ≡ name → ⊥
@@ -37,12 +37,12 @@ module _ (wanted name : List ℕ) (d : Data) (ms : Members) where
   flag_before s = ap flag_from (found_before wanted name d ms s)
 
 module _ (name : List ℕ) (d : Data) (ms : Members) where
-  pub pages_here : bytes_eq name (codes "pages") ≡ true → pages_in (object (put name d ms)) ≡ option_and_then pages_from (as_array d)
+  pub pages_here : bytes_eq name (codes "pages") ≡ true → posted_pages (object (put name d ms)) ≡ option_and_then pages_from (as_array d)
   pages_here s =
       let found : get_member (codes "pages") (put name d ms) ≡ Some d = rw ((bytes_eq-Decides name (codes "pages")).0 s) (get_member-put (codes "pages") d ms) in
       ap (λ found. option_and_then pages_from (option_and_then as_array found)) found
 
-  pub pages_before : bytes_eq name (codes "pages") ≡ false → pages_in (object (put name d ms)) ≡ pages_in (object ms)
+  pub pages_before : bytes_eq name (codes "pages") ≡ false → posted_pages (object (put name d ms)) ≡ posted_pages (object ms)
   pages_before s = ap (λ found. option_and_then pages_from (option_and_then as_array found))
       (get_member-put_other (codes "pages") name d ms (λ e. differs name (codes "pages") s (sym e)))
 

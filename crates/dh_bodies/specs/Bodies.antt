@@ -24,19 +24,19 @@ with_text name d f = option_and_then f (text_at name d)
 
 -- ---- `POST /_/push`
 
-abbrev pub kind_of : List ℕ → Option Kind
-kind_of text =
+abbrev pub posted_kind : List ℕ → Option Kind
+posted_kind text =
     if bytes_eq text (codes "branch") then Some Branch
     else if bytes_eq text (codes "tag") then Some Tag
     else None
 
 -- the push that an object asks for, with this write key
-abbrev pub push_in : List ℕ → Data → Option CommandChange
-push_in wkey d =
+abbrev pub posted_push : List ℕ → Data → Option CommandChange
+posted_push wkey d =
     with_text (codes "key") d (λ key.
     with_text (codes "kind") d (λ kind.
     with_text (codes "ref") d (λ name.
-    option_map (λ k. Push wkey key k name) (kind_of kind))))
+    option_map (λ k. Push wkey key k name) (posted_kind kind))))
 
 -- ---- `POST /_/upload`
 
@@ -63,8 +63,8 @@ pages_from no_items = Some []
 pages_from (item d ds) =
     option_and_then (λ page. option_map (λ pages. page ∷ pages) (pages_from ds)) (page_in d)
 
-abbrev pub pages_in : Data → Option (List UploadedPage)
-pages_in d = option_and_then pages_from (option_and_then as_array (get (codes "pages") d))
+abbrev pub posted_pages : Data → Option (List UploadedPage)
+posted_pages d = option_and_then pages_from (option_and_then as_array (get (codes "pages") d))
 
 -- a flag that may be missing, and then is not set
 abbrev pub flag_from : Option Data → Option Bool
@@ -72,23 +72,23 @@ flag_from None = Some false
 flag_from (Some d) = as_bool d
 
 -- the upload that an object asks for, with this write key
-abbrev pub upload_in : List ℕ → Data → Option CommandChange
-upload_in wkey d =
+abbrev pub posted_upload : List ℕ → Data → Option CommandChange
+posted_upload wkey d =
     with_text (codes "key") d (λ key.
     with_text (codes "version") d (λ slug.
     with_text (codes "language") d (λ lang.
-    option_and_then (λ replace. option_map (Upload wkey key slug lang replace) (pages_in d))
+    option_and_then (λ replace. option_map (Upload wkey key slug lang replace) (posted_pages d))
     (flag_from (get (codes "replace") d)))))
 
 -- ---- the change
 
-abbrev pub change_in : Post → List ℕ → Data → Option CommandChange
-change_in post.Push wkey d = push_in wkey d
-change_in post.Upload wkey d = upload_in wkey d
+abbrev pub posted_change : Post → List ℕ → Data → Option CommandChange
+posted_change post.Push wkey d = posted_push wkey d
+posted_change post.Upload wkey d = posted_upload wkey d
 
 -- the change that a body asks for, with the write key that came beside it: none where the body is no
 -- UTF-8, is no JSON (nesting over 127 levels, a number that no finite float holds and a lone
 -- surrogate are no JSON), or has not the form
-abbrev pub change_of : Post → List ℕ → List ℕ → Option CommandChange
-change_of post wkey body =
-    if is_utf8 body then option_and_then (change_in post wkey) (read body) else None
+abbrev pub body_change : Post → List ℕ → List ℕ → Option CommandChange
+body_change post wkey body =
+    if is_utf8 body then option_and_then (posted_change post wkey) (read body) else None

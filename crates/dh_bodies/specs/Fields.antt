@@ -3,7 +3,7 @@ use Rattle.std.specs.Prelude.{◌≡◌, ℕ, List, codes, Option, option_map, o
 use Rattle.serde_json.specs.Data.{Data}
 use Rattle.serde_json.specs.Find.{get, as_str, as_bool}
 use Rattle.dh_world.specs.Answers.{text_at}
-use Rattle.dh_bodies.specs.Bodies.{flag_from, pages_in}
+use Rattle.dh_bodies.specs.Bodies.{flag_from, posted_pages}
 use Rattle.dh_bodies.specs.declared.leaf.Leaf.{Leaf}
 use Rattle.dh_bodies.specs.declared.page.PageTexts.{PageTexts}
 use Rattle.dh_bodies.specs.declared.field.Fields.{Fields}
@@ -33,4 +33,4 @@ AreFieldsOf fields d =
     × (option_copied fields.slug ≡ text_at (codes "version") d)
     × (option_copied fields.lang ≡ text_at (codes "language") d)
     × (fields.replace ≡ flag_from (get (codes "replace") d))
-    × (option_map (λ v. v.items) fields.pages ≡ pages_in d)
+    × (option_map (λ v. v.items) fields.pages ≡ posted_pages d)

@@ -18,7 +18,7 @@ use std::alloc::{AllocError, Global};
 const MAX_DEPTH: usize = 127;
 
 fn kind_of(text: &str) -> Option<Kind>
-    ensures { result ≡ spec.kind_of text.now }
+    ensures { result ≡ spec.posted_kind text.now }
 {
     match text {
         "branch" => Some(Kind::Branch),
@@ -33,7 +33,7 @@ fn push_of(
     fields: &Fields<'_>,
 ) -> Result<Option<CommandChange>, AllocError>
     ensures { IfOk result (λ change. (d : Data) → AreFieldsOf fields.now d
-        → change ≡ spec.push_in wkey d) }
+        → change ≡ spec.posted_push wkey d) }
 {
     let (Some(key), Some(name)) = (fields.key, fields.name) else {
         return Ok(None);
@@ -55,7 +55,7 @@ fn upload_of(
     fields: Fields<'_>,
 ) -> Result<Option<CommandChange>, AllocError>
     ensures { IfOk result (λ change. (d : Data) → AreFieldsOf fields.entry d
-        → change ≡ spec.upload_in wkey d) }
+        → change ≡ spec.posted_upload wkey d) }
 {
     let (Some(key), Some(slug), Some(lang)) = (fields.key, fields.slug, fields.lang) else {
         return Ok(None);
@@ -80,7 +80,7 @@ fn change_of(
     fields: Fields<'_>,
 ) -> Result<Option<CommandChange>, AllocError>
     ensures { IfOk result (λ change. (d : Data) → AreFieldsOf fields.entry d
-        → change ≡ spec.change_in post wkey d) }
+        → change ≡ spec.posted_change post wkey d) }
 {
     match post {
         Post::Push => push_of(alloc, wkey, &fields),
@@ -96,7 +96,7 @@ pub fn read_change(
     key: Text,
     body: &[u8],
 ) -> Result<Option<CommandChange>, AllocError>
-    ensures { IfOk result (λ change. change ≡ spec.change_of post key body.now) }
+    ensures { IfOk result (λ change. change ≡ spec.body_change post key body.now) }
 {
     let Ok(text) = str::from_utf8(body) else {
         return Ok(None);

@@ -1,7 +1,7 @@
 -- The change that a checked change stands for, and what the checks of commands answer.
 use Rattle.std.specs.Prelude.{◌≡◌, ◌≤◌, List, [], ◌∷◌, length, Option, Result, IsTrue}
 use Rattle.dh_world.specs.CheckResults.{ChecksOr}
-use Rattle.dh_world.specs.Refusals.{first_of}
+use Rattle.dh_world.specs.Refusals.{first_refusal}
 use Rattle.dh_world.specs.Step.{RuleRefused}
 use Rattle.dh_world.specs.WrongTexts.{have_contents, bad_count, bad_pages, bad_change, bad_text}
 use Rattle.dh_world.specs.World.{Text}
@@ -59,7 +59,7 @@ AreRightPages pages checked =
 
 -- what is wrong with the pages of an upload: that there are too many, or the first bad one
 abbrev pub bad_upload : List UploadedPage → Option Refusal
-bad_upload pages = first_of (bad_count pages ∷ bad_pages [] pages ∷ [])
+bad_upload pages = first_refusal (bad_count pages ∷ bad_pages [] pages ∷ [])
 
 -- answers the change where its texts are right; refuses for the first wrong text, for memory, or a pattern by `regex`
 abbrev pub ChecksChange : CommandChange → Result CheckedChange Refusal → Type 0

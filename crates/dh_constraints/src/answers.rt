@@ -27,7 +27,7 @@ fn has_flag(value: &Value, key: &str) -> bool
 }
 
 fn has_slug(alloc: Global, value: &Value) -> Result<bool, AllocError>
-    ensures { IfOk result (λ b. b ≡ is_some (spec.slug_in (view value.now))) }
+    ensures { IfOk result (λ b. b ≡ is_some (spec.answered_slug (view value.now))) }
 {
     match text_at(value, "slug") {
         Some(text) => match Slug::parse(alloc, text) {

@@ -8,7 +8,7 @@ use Rattle.dh_script.specs.declared.fault.ScriptFault.{ScriptFault}
 use Rattle.dh_script.specs.declared.fault.ScriptFault.TheVariants.{Unread, TooLong, NotText, Run}
 use Rattle.dh_world.specs.World.{Text}
 use Rattle.dh_control.specs.Cutting.{own_line, onto_lines, whole_lines, AreLines, cut_front, cut}
-use Rattle.dh_control.specs.Ends.{end_line, end_word}
+use Rattle.dh_control.specs.Ends.{end_line, end_as_told}
 use Rattle.dh_control.specs.Messages.{behind}
 use Rattle.dh_control.specs.declared.end.End.{End}
 use Rattle.dh_control.specs.declared.end.End.TheVariants.{Done, Refused, Unknown}
@@ -71,9 +71,9 @@ cut_line printed line word are open_ told =
 
 abbrev EndIsTold : Result End ScriptFault → Type 0
 EndIsTold ended =
-    (end_line ended ≡ codes "end " ++ end_word ended ++ 10 ∷ [])
-    × (whole_lines (codes "end " ++ end_word ended) ≡ [])
-    × (behind (codes "end ") (codes "end " ++ end_word ended) ≡ Some (end_word ended))
+    (end_line ended ≡ codes "end " ++ end_as_told ended ++ 10 ∷ [])
+    × (whole_lines (codes "end " ++ end_as_told ended) ≡ [])
+    × (behind (codes "end ") (codes "end " ++ end_as_told ended) ≡ Some (end_as_told ended))
 
 tells : (ended : Result End ScriptFault) → EndIsTold ended
 tells (Ok Done) = (refl, refl, refl)
@@ -87,10 +87,10 @@ tells (Err NotText) = (refl, refl, refl)
 tells (Err (Run run.Memory)) = (refl, refl, refl)
 tells (Err (Run run.Write)) = (refl, refl, refl)
 
-pub answers_cut : (printed : Text) (ended : Result End ScriptFault) → AreLines printed → cut (printed ++ end_line ended) ≡ Some (printed, end_word ended)
+pub answers_cut : (printed : Text) (ended : Result End ScriptFault) → AreLines printed → cut (printed ++ end_line ended) ≡ Some (printed, end_as_told ended)
 answers_cut printed ended are =
-    let line = codes "end " ++ end_word ended in
+    let line = codes "end " ++ end_as_told ended in
     ap (λ last. cut (printed ++ last)) (tells ended).0
     ∙ ap cut (sym (append_assoc printed line (10 ∷ [])))
     ∙ cut_last (printed ++ line)
-    ∙ cut_line printed line (end_word ended) are (tells ended).1 (tells ended).2
+    ∙ cut_line printed line (end_as_told ended) are (tells ended).1 (tells ended).2

@@ -13,7 +13,7 @@ use Rattle.dh_lines.specs.Lines.{line_in}
 use Rattle.dh_script.specs.declared.fault.ScriptFault.{ScriptFault}
 use Rattle.dh_world.specs.World.{Text, World}
 use Rattle.dh_control.specs.Answers.{DoesBody, DoesBy, DoesMessage, DoesScript, DoesSent, DoesWords, IsWord}
-use Rattle.dh_control.specs.Messages.{behind, body_of, is_nul, joined, script_mark, script_message, words_mark, words_message}
+use Rattle.dh_control.specs.Messages.{behind, body_of, is_nul, words_joined, script_mark, script_message, words_mark, words_message}
 use Rattle.dh_control.specs.declared.end.End.{End}
 use Rattle.dh_control.proofs.Cuts.{length_more}
 use Rattle.dh_control.proofs.Words.{small_text}
@@ -25,21 +25,21 @@ flat_map_seen f mark [] = refl
 flat_map_seen f mark (x ∷ xs) = ap (λ rest. (mark ++ f x) ++ rest) (flat_map_seen f mark xs)
 
 -- words are joined as they are seen
-pub joined_seen : {X : Type 0} (f : X → Text) (xs : List X) → join_by f (0 ∷ []) xs ≡ joined (map f xs)
+pub joined_seen : {X : Type 0} (f : X → Text) (xs : List X) → join_by f (0 ∷ []) xs ≡ words_joined (map f xs)
 joined_seen f [] = refl
 joined_seen f (x ∷ xs) = ap (λ rest. f x ++ rest) (flat_map_seen f (0 ∷ []) xs)
 
 -- and found again
-split_joined : (word : Text) (words : List Text) → IsWord word → All IsWord words → slice_split is_nul (joined (word ∷ words)) ≡ word ∷ words
+split_joined : (word : Text) (words : List Text) → IsWord word → All IsWord words → slice_split is_nul (words_joined (word ∷ words)) ≡ word ∷ words
 split_joined word [] is are = ap (slice_split is_nul) (append-nil word) ∙ slice_split_none is_nul word is.1
 split_joined word (next ∷ words) is are =
-    slice_split_at is_nul word 0 (joined (next ∷ words)) is.1 refl ∙ ap (λ rest. word ∷ rest) (split_joined next words (All-head IsWord next words are) (All-tail IsWord next words are))
+    slice_split_at is_nul word 0 (words_joined (next ∷ words)) is.1 refl ∙ ap (λ rest. word ∷ rest) (split_joined next words (All-head IsWord next words are) (All-tail IsWord next words are))
 
-joined_text : (word : Text) (words : List Text) → IsWord word → All IsWord words → IsUtf8 (joined (word ∷ words))
+joined_text : (word : Text) (words : List Text) → IsWord word → All IsWord words → IsUtf8 (words_joined (word ∷ words))
 joined_text word [] is are = subst IsUtf8 (sym (append-nil word)) is.0
 joined_text word (next ∷ words) is are =
-    IsUtf8-append word (0 ∷ joined (next ∷ words)) is.0
-    (IsUtf8-append (0 ∷ []) (joined (next ∷ words)) (small_text (0 ∷ []) refl) (joined_text next words (All-head IsWord next words are) (All-tail IsWord next words are)))
+    IsUtf8-append word (0 ∷ words_joined (next ∷ words)) is.0
+    (IsUtf8-append (0 ∷ []) (words_joined (next ∷ words)) (small_text (0 ∷ []) refl) (joined_text next words (All-head IsWord next words are) (All-tail IsWord next words are)))
 
 -- ---- messages
 
@@ -71,7 +71,7 @@ module _ (moment : ℕ) (before after : World) (held now : Option Text) (result 
       → DoesMessage moment (words_message (word ∷ words)) before after held now result
       → DoesWords moment before (line_in (word ∷ words)) after held now result
   words_done word words is are does =
-      let sent = joined (word ∷ words) in
+      let sent = words_joined (word ∷ words) in
       let at = subst (λ s. DoesBy moment s (behind script_mark (words_mark ++ sent)) before after held now result) (behind_own words_mark sent) (body_done words_mark sent does) in
       sent_done sent (word ∷ words) (joined_text word words is are) (split_joined word words is are) at
 

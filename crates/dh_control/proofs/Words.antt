@@ -11,7 +11,7 @@ use Rattle.dh_script.specs.declared.fault.RunFault.TheVariants as run
 use Rattle.dh_script.specs.declared.fault.ScriptFault.{ScriptFault}
 use Rattle.dh_script.specs.declared.fault.ScriptFault.TheVariants.{Unread, TooLong, NotText, Run}
 use Rattle.dh_world.specs.World.{Text}
-use Rattle.dh_control.specs.Ends.{end_word, ReadsEnd}
+use Rattle.dh_control.specs.Ends.{end_as_told, ReadsEnd}
 use Rattle.dh_control.specs.declared.end.End.{End}
 use Rattle.dh_control.specs.declared.end.End.TheVariants.{Done, Refused, Unknown}
 
@@ -36,17 +36,17 @@ all_ascii (byte ∷ text) are =
 pub small_text : (text : Text) → list_all is_small text ≡ true → IsUtf8 text
 small_text text are = IsUtf8-from_ascii text (all_ascii text are)
 
-is_text : (ended : Result End ScriptFault) → IsUtf8 (end_word ended)
-is_text (Ok Done) = small_text (end_word (Ok Done)) refl
-is_text (Ok Refused) = small_text (end_word (Ok Refused)) refl
-is_text (Ok Unknown) = small_text (end_word (Ok Unknown)) refl
-is_text (Err (Unread Read)) = small_text (end_word (Err (Unread Read))) refl
-is_text (Err (Unread TooManyTurns)) = small_text (end_word (Err (Unread TooManyTurns))) refl
-is_text (Err (Unread Memory)) = small_text (end_word (Err (Unread Memory))) refl
-is_text (Err TooLong) = small_text (end_word (Err TooLong)) refl
-is_text (Err NotText) = small_text (end_word (Err NotText)) refl
-is_text (Err (Run run.Memory)) = small_text (end_word (Err (Run run.Memory))) refl
-is_text (Err (Run run.Write)) = small_text (end_word (Err (Run run.Write))) refl
+is_text : (ended : Result End ScriptFault) → IsUtf8 (end_as_told ended)
+is_text (Ok Done) = small_text (end_as_told (Ok Done)) refl
+is_text (Ok Refused) = small_text (end_as_told (Ok Refused)) refl
+is_text (Ok Unknown) = small_text (end_as_told (Ok Unknown)) refl
+is_text (Err (Unread Read)) = small_text (end_as_told (Err (Unread Read))) refl
+is_text (Err (Unread TooManyTurns)) = small_text (end_as_told (Err (Unread TooManyTurns))) refl
+is_text (Err (Unread Memory)) = small_text (end_as_told (Err (Unread Memory))) refl
+is_text (Err TooLong) = small_text (end_as_told (Err TooLong)) refl
+is_text (Err NotText) = small_text (end_as_told (Err NotText)) refl
+is_text (Err (Run run.Memory)) = small_text (end_as_told (Err (Run run.Memory))) refl
+is_text (Err (Run run.Write)) = small_text (end_as_told (Err (Run run.Write))) refl
 
 -- what is no text tells none
 pub no_text : (word : Text) → (IsUtf8 word → ⊥) → ReadsEnd word None

@@ -4,7 +4,7 @@ use Rattle.std.specs.Prelude.{length, take, drop, slice_index, codes, if◌then�
 use Rattle.std.specs.Option.{option_map}
 use Rattle.dh_script.specs.declared.fault.ScriptFault.{ScriptFault}
 use Rattle.dh_world.specs.World.{Text}
-use Rattle.dh_control.specs.Ends.{end_line, end_word}
+use Rattle.dh_control.specs.Ends.{end_line, end_as_told}
 use Rattle.dh_control.specs.Messages.{behind}
 use Rattle.dh_control.specs.declared.end.End.{End}
 
@@ -41,4 +41,4 @@ cut answer =
 abbrev pub AnswersAreCut : Type 0
 AnswersAreCut =
     (printed : Text) (ended : Result End ScriptFault) → AreLines printed
-    → cut (printed ++ end_line ended) ≡ Some (printed, end_word ended)
+    → cut (printed ++ end_line ended) ≡ Some (printed, end_as_told ended)

@@ -18,13 +18,13 @@ abbrev pub most_taken : ℕ
 most_taken = MOST_MESSAGE_BYTES + READ_SIZE
 
 -- the byte that ends a message; it stands in no text
-abbrev pub last_byte : ℕ
-last_byte = 255
+abbrev pub end_byte : ℕ
+end_byte = 255
 
 -- the message without its last byte; none where that byte does not end it, as in a message that was cut
 abbrev pub body_of : Text → Option Text
 body_of message =
-    if slice_index message (length message - 1) == last_byte then Some (take (length message - 1) message)
+    if slice_index message (length message - 1) == end_byte then Some (take (length message - 1) message)
     else None
 
 -- what stands behind a mark, where the bytes begin with it
@@ -44,12 +44,12 @@ abbrev pub is_nul : ℕ → Bool
 is_nul byte = nat_eq byte 0
 
 -- words, a NUL between each two
-abbrev pub joined : List Text → Text
-joined = join_by (λ word. word) (0 ∷ [])
+abbrev pub words_joined : List Text → Text
+words_joined = join_by (λ word. word) (0 ∷ [])
 
 -- what a client sends to have words of the program done, and a script run
 abbrev pub words_message : List Text → Text
-words_message words = words_mark ++ joined words ++ last_byte ∷ []
+words_message words = words_mark ++ words_joined words ++ end_byte ∷ []
 
 abbrev pub script_message : Text → Text
-script_message script = script_mark ++ script ++ last_byte ∷ []
+script_message script = script_mark ++ script ++ end_byte ∷ []

@@ -8,7 +8,8 @@ use std::alloc::{AllocError, Global};
 
 /// Joins the words, with a NUL between each two.
 fn joined(alloc: Global, words: &[String]) -> Result<String, AllocError>
-    ensures { IfOk result (λ text. string_bytes text ≡ spec.joined (map string_bytes words.now)) }
+    ensures { IfOk result
+        (λ text. string_bytes text ≡ spec.words_joined (map string_bytes words.now)) }
 {
     words.join(alloc, "\0")
 }

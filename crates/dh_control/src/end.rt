@@ -27,7 +27,7 @@ pub fn end_of(refused: bool) -> End
 
 /// The number that tells an end.
 pub fn end_number(ended: Result<End, ScriptFault>) -> &'static str
-    ensures { result.now ≡ spec.end_number ended }
+    ensures { result.now ≡ spec.end_code ended }
 {
     match ended {
         Ok(End::Done) => "0",

@@ -4,7 +4,7 @@ use Rattle.std.specs.Prelude.{IsTrue}
 use Rattle.std.specs.Option.{option_and_then}
 use Rattle.std.specs.FinMap.{get, contains_key}
 use Rattle.dh_versions.specs.declared.version.Version.{Version}
-use Rattle.dh_world.specs.Changes.{Change, at_version, set_default, with_default, without_name}
+use Rattle.dh_world.specs.Changes.{Change, at_version, set_default, with_first_default, without_name}
 use Rattle.dh_world.specs.Refusals.{unless}
 use Rattle.dh_world.specs.Seen.{is_alias}
 use Rattle.dh_world.specs.World.{Text, Project}
@@ -18,7 +18,7 @@ use Rattle.dh_plans.specs.declared.facts.Facts.{Facts}
 
 module _ (name : Text) (f : Facts) (p : Project) (k : KnowsProject (change.SetDefault name) f p) where
   accepted : Change
-  accepted = Ok (with_default name p, Done)
+  accepted = Ok (with_first_default name p, Done)
 
   -- by whether the version is active
   abbrev by_active : Bool → Change
@@ -26,7 +26,7 @@ module _ (name : Text) (f : Facts) (p : Project) (k : KnowsProject (change.SetDe
 
   -- the name may be a default: an alias, or an active version
   record MayBe : Type 0 where
-    decided : set_default name p ≡ Ok (with_default name p, Done)
+    decided : set_default name p ≡ Ok (with_first_default name p, Done)
     may : IsTrue (is_alias name || contains_key p.versions name)
 
   may_be : wrong_default name f.version ≡ None → MayBe

@@ -9,7 +9,7 @@ use Rattle.dh_rules.specs.Rules.{is_allowed}
 use Rattle.dh_rules.specs.declared.rule.Rule.{Rule}
 use Rattle.dh_redirects.specs.Redirects.{first_fault}
 use Rattle.dh_redirects.specs.declared.redirect.Redirect.{Redirect}
-use Rattle.dh_world.specs.Changes.{added, dropped, set_to, with_rules, with_redirects, is_place, with_one_at, without_place}
+use Rattle.dh_world.specs.Changes.{added_at, dropped, set_to, with_rules, with_redirects, is_place, with_one_at, without_place}
 use Rattle.dh_world.specs.World.{Project}
 use Rattle.dh_world.specs.declared.answer.Answer.TheVariants.{Done}
 use Rattle.dh_world.specs.declared.refusal.Refusal.{Refusal}
@@ -50,7 +50,7 @@ module _ {X : Type 0} (most : ℕ) (IsGood : X → Type 0) where
     abbrev before : List X
     before = take (place - 1) xs
 
-    may_add : (x : X) → IsGood x → (set : List X) → added most place x xs ≡ Ok set → MaySet set
+    may_add : (x : X) → IsGood x → (set : List X) → added_at most place x xs ≡ Ok set → MaySet set
     may_add x new set = go (is_place place (length xs + 1)) refl (nat_lt (length xs) most) refl
       where
         go : (b : Bool) → is_place place (length xs + 1) ≡ b → (c : Bool) → nat_lt (length xs) most ≡ c → cond (not b) (Err BadPlace) (cond c (Ok (with_one_at place x xs)) (Err TooMany)) ≡ Ok set → MaySet set
@@ -95,10 +95,10 @@ abbrev pub IsGoodRedirect : Redirect → Type 0
 IsGoodRedirect r = first_fault r ≡ None
 
 module _ (f : Facts) (p : Project) where
-  pub rule_added : (x : CheckedRule) → KnowsProject (change.AddRule x) f p → (set : List Rule) → added 50 x.place x.rule f.rules.items ≡ Ok set
-      → PlansChange p (set_to (with_rules p) (added 50 x.place x.rule p.rules)) (Ok (planned (SetRules set ∷ []) Done))
+  pub rule_added : (x : CheckedRule) → KnowsProject (change.AddRule x) f p → (set : List Rule) → added_at 50 x.place x.rule f.rules.items ≡ Ok set
+      → PlansChange p (set_to (with_rules p) (added_at 50 x.place x.rule p.rules)) (Ok (planned (SetRules set ∷ []) Done))
   rule_added x k set is = (
-    set_found (with_rules p) (added 50 x.place x.rule) p.rules f.rules.items (Ok set) k.answers.rules is,
+    set_found (with_rules p) (added_at 50 x.place x.rule) p.rules f.rules.items (Ok set) k.answers.rules is,
     (may_add 50 IsGoodRule x.place f.rules.items k.answers.good_rules x.rule x.good set is, tt),
   )
 
@@ -109,10 +109,10 @@ module _ (f : Facts) (p : Project) where
     (may_drop 50 IsGoodRule place f.rules.items k.answers.good_rules k.answers.few_rules set is, tt),
   )
 
-  pub redirect_added : (x : CheckedRedirect) → KnowsProject (change.AddRedirect x) f p → (set : List Redirect) → added 100 x.place x.redirect f.redirects.items ≡ Ok set
-      → PlansChange p (set_to (with_redirects p) (added 100 x.place x.redirect p.redirects)) (Ok (planned (SetRedirects set ∷ []) Done))
+  pub redirect_added : (x : CheckedRedirect) → KnowsProject (change.AddRedirect x) f p → (set : List Redirect) → added_at 100 x.place x.redirect f.redirects.items ≡ Ok set
+      → PlansChange p (set_to (with_redirects p) (added_at 100 x.place x.redirect p.redirects)) (Ok (planned (SetRedirects set ∷ []) Done))
   redirect_added x k set is = (
-    set_found (with_redirects p) (added 100 x.place x.redirect) p.redirects f.redirects.items (Ok set) k.answers.redirects is,
+    set_found (with_redirects p) (added_at 100 x.place x.redirect) p.redirects f.redirects.items (Ok set) k.answers.redirects is,
     (may_add 100 IsGoodRedirect x.place f.redirects.items k.answers.good_redirects x.redirect x.good set is, tt),
   )
 

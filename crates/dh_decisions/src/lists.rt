@@ -46,7 +46,7 @@ pub fn add_at<T: Drop>(
     entry: T,
     list: &mut Vec<T>,
 ) -> Result<Items<T>, Refusal>
-    ensures { ComesAsSaid (spec.added most place entry list.old.items) result }
+    ensures { ComesAsSaid (spec.added_at most place entry list.old.items) result }
 {
     if !is_place(place, list.len() + 1) {
         return Err(Refusal::BadPlace);

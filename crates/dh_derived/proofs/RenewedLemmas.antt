@@ -10,7 +10,7 @@ use Rattle.dh_world.specs.World.{Text, Project}
 use Rattle.dh_records.specs.Codings as coding
 use Rattle.dh_records.specs.Changes.{drop_aliases}
 use Rattle.dh_records.specs.Constraints.{InOrder}
-use Rattle.dh_records.specs.Lists.{Lists, base_of, world_of, class_text, is_pass_of, is_pass, is_redirect_of, is_route_in, placed, route_row, set_routes}
+use Rattle.dh_records.specs.Lists.{Lists, base_of, world_of, class_text, is_pass_of, is_pass, is_redirect_of, is_route_in, placed, route_row, routes_replaced}
 use Rattle.dh_records.specs.declared.records.AliasName.{AliasName}
 use Rattle.dh_records.specs.declared.records.AliasName.TheVariants.{Latest, Stable, Default}
 use Rattle.dh_records.specs.declared.records.PassRow.{PassRow}
@@ -199,7 +199,7 @@ module _ (host : Text) (p : Project) (l : Lists) (found : get (world_of l) host 
     here = right_at host p l found (host_renewed host p l) full_base
         (classes_due host p l found bare (λ b bs name e. kept_dropped host l host (b ∷ bs) name ∙ ap (λ d. cond d None (kept_at l host (b ∷ bs) name)) ((bytes_eq-Decides host host).1 refl)))
         (λ seg.
-        (λ i. filter (is_route_in host seg) (set_routes host (map route_of (map (λ r. r.redirect) (filter (is_redirect_of host) (same_redirects i)))) (full_routes i)))
+        (λ i. filter (is_route_in host seg) (routes_replaced host (map route_of (map (λ r. r.redirect) (filter (is_redirect_of host) (same_redirects i)))) (full_routes i)))
         ∙ routes_right host p l found up seg);
     others = λ other apart.
         stays_at (host_renewed host p l) l other full_base

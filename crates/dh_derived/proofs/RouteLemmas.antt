@@ -14,7 +14,7 @@ use Rattle.dh_rows.specs.Keyed.{by_key, same_key, IsFreeKey, added, put}
 use Rattle.dh_rows.proofs.Lists.{by_key_total}
 use Rattle.dh_records.specs.Codings as coding
 use Rattle.dh_records.specs.Constraints.{InOrder}
-use Rattle.dh_records.specs.Lists.{is_route_of, is_route_in, placed, put_all, route_row, set_routes}
+use Rattle.dh_records.specs.Lists.{is_route_of, is_route_in, placed, put_all, route_row, routes_replaced}
 use Rattle.dh_records.specs.declared.records.Route.{Route}
 use Rattle.dh_records.specs.declared.records.RouteRow.{RouteRow}
 use Rattle.dh_records.proofs.Keys.{eq_then, same_text}
@@ -108,7 +108,7 @@ module _ (host : List ℕ) where
         go true = refl
         go false = refl
 
-    pub routes_here : (vs : List Route) (rows : List RouteRow) → InOrder coding.routes.key rows → filter own (set_routes host vs rows) ≡ filter own (placed (route_row host) 1 vs)
+    pub routes_here : (vs : List Route) (rows : List RouteRow) → InOrder coding.routes.key rows → filter own (routes_replaced host vs rows) ≡ filter own (placed (route_row host) 1 vs)
     routes_here vs rows up =
         all_placed vs 1 others (filtered_in_order coding.routes.key (λ r. not (is_route_of host r)) rows up)
         (all_weaker _ (λ y. is_route_of host y ≡ true → y.place < 1) (λ y out e. absurd (true≢false (sym e ∙ out))) others (taken_out (is_route_of host) rows))
@@ -137,7 +137,7 @@ module _ (host : List ℕ) where
         ∙ filter-filter (is_route_in other seg) (λ y. not (same_key coding.routes.key (route_row host n v) y))
         (λ y e. ap not (other_key (route_row host n v) y (λ f. absurd (true≢false (sym (of_host_too v.seg y f) ∙ not_own y e))))) rows
 
-    pub routes_elsewhere : (vs : List Route) (rows : List RouteRow) → filter (is_route_in other seg) (set_routes host vs rows) ≡ filter (is_route_in other seg) rows
+    pub routes_elsewhere : (vs : List Route) (rows : List RouteRow) → filter (is_route_in other seg) (routes_replaced host vs rows) ≡ filter (is_route_in other seg) rows
     routes_elsewhere vs rows =
         placed_elsewhere vs 1 (filter (λ r. not (is_route_of host r)) rows)
         ∙ filter-filter (is_route_in other seg) (λ r. not (is_route_of host r)) (λ y e. ap not (not_own y e)) rows

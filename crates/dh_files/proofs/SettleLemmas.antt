@@ -13,7 +13,7 @@ use Rattle.dh_opening.specs.Filling.{IsOpened}
 use Rattle.dh_ports.specs.declared.fault.Fault.TheVariants as below
 use Rattle.dh_opening.specs.declared.fault.TablesFault.{TablesFault}
 use Rattle.dh_opening.specs.declared.fault.TablesFault.TheVariants as tables
-use Rattle.dh_files.specs.Faults.{fault_of}
+use Rattle.dh_files.specs.Faults.{file_fault}
 use Rattle.dh_files.specs.Settling.{IsServed, IsSettledBy}
 use Rattle.dh_files.specs.declared.fault.FileFault.{FileFault}
 use Rattle.dh_files.specs.declared.fault.FileFault.TheVariants as file
@@ -55,7 +55,7 @@ served_after g conn looked mid new same opened brought sound left clean =
     }
 
 -- a fault that is not of schema 1
-pub not_old : (told : FileFault) (fault : TablesFault) → told ≡ fault_of fault → fault ≢ tables.OldSchema → told ≢ file.OldSchema
+pub not_old : (told : FileFault) (fault : TablesFault) → told ≡ file_fault fault → fault ≢ tables.OldSchema → told ≢ file.OldSchema
 not_old told tables.NotOurs is other = λ same. absurd (let both : file.NotOurs ≡ file.OldSchema = cc in cc)
 not_old told tables.OldSchema is other = absurd (other refl)
 not_old told (tables.Failed below.Store) is other = λ same. absurd (let both : file.Failed ≡ file.OldSchema = cc in cc)

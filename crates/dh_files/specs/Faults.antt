@@ -11,8 +11,8 @@ use Rattle.dh_files.specs.declared.fault.FileFault.TheVariants.{Missing, Empty, 
 use Rattle.dh_files.specs.declared.fault.FileFault.TheVariants.{Damaged, Changed, Linked, LinkedLog, Journal, Busy}
 use Rattle.dh_files.specs.declared.fault.FileFault.TheVariants.{Taken, NotOurs, OldSchema, Full, Failed, Memory}
 
-abbrev pub name_of : FileFault → List ℕ
-name_of = elim [
+abbrev pub file_fault_name : FileFault → List ℕ
+file_fault_name = elim [
   | Missing ↦ codes "Store"
   | Empty ↦ codes "Store"
   | Folder ↦ codes "Store"
@@ -33,11 +33,11 @@ name_of = elim [
   | Memory ↦ codes "Memory"
 ]
 
-abbrev pub fault_of : TablesFault → FileFault
-fault_of tables.NotOurs = NotOurs
-fault_of tables.OldSchema = OldSchema
-fault_of (tables.Failed below.Store) = Failed
-fault_of (tables.Failed below.Memory) = Memory
+abbrev pub file_fault : TablesFault → FileFault
+file_fault tables.NotOurs = NotOurs
+file_fault tables.OldSchema = OldSchema
+file_fault (tables.Failed below.Store) = Failed
+file_fault (tables.Failed below.Memory) = Memory
 
 abbrev pub fault_of_error : Error → FileFault
 fault_of_error (SqliteFailure code.NotADatabase) = NoDatabase

@@ -1,7 +1,7 @@
 //! What is wrong with a file.
 
 ghost use Rattle.std.specs.Prelude.{◌≡◌};
-ghost use Rattle.dh_files.specs.Faults.{name_of, fault_of, fault_of_error};
+ghost use Rattle.dh_files.specs.Faults.{file_fault_name, file_fault, fault_of_error};
 
 use dh_opening::TablesFault;
 use dh_ports::Fault;
@@ -52,7 +52,7 @@ pub enum FileFault {
 impl FileFault {
     /// The name that programs read: `NotOurs`, `OldSchema`, `Store` or `Memory`.
     pub fn name(self) -> &'static str
-        ensures { result.now ≡ name_of self }
+        ensures { result.now ≡ file_fault_name self }
     {
         match self {
             FileFault::Taken | FileFault::NotOurs => "NotOurs",
@@ -132,7 +132,7 @@ impl From<Error> for FileFault {
 }
 
 impl From<TablesFault> for FileFault {
-    ghost from_gives = { λ fault file. file ≡ fault_of fault };
+    ghost from_gives = { λ fault file. file ≡ file_fault fault };
 
     fn from(fault: TablesFault) -> FileFault {
         match fault {

@@ -21,7 +21,7 @@ use Rattle.dh_world.specs.declared.property.Property.TheVariants as property
 use Rattle.dh_world.specs.declared.refusal.Refusal.{Refusal}
 use Rattle.dh_world.specs.World.{Text, UsedKey, Project}
 use Rattle.dh_world.specs.Seen.{is_alias}
-use Rattle.dh_world.specs.Changes.{Change, change, has_lang, with_new, set_to, with_rules, with_redirects, fresh, version_of, with_version, with_fresh, with_default, made, with_property, set_property, at_version, at_pass, once, pushed, push_key, uploaded, upload_key}
+use Rattle.dh_world.specs.Changes.{Change, change, has_lang, with_new, set_to, with_rules, with_redirects, fresh, version_from, with_version, with_fresh, with_first_default, made, with_property, set_property, at_version, at_pass, once, pushed, push_key, uploaded, upload_key}
 use Rattle.dh_world.proofs.MapLemmas.{used_exact}
 use Rattle.dh_histories.specs.Purge.{SlugSet, concerns, stripped, AreFiled}
 use Rattle.dh_histories.proofs.MapEdits.{get_passing}
@@ -110,10 +110,10 @@ module _ (purged : SlugSet) where
     makes : (slug : Text) (x : Fresh) → ProjectEdit purged (purged slug) (with_fresh slug x)
     makes slug x = go x.chosen
       where
-        puts : ProjectEdit purged (purged slug) (λ q. with_version q slug (version_of slug x))
-        puts = puts_version purged slug (version_of slug x) refl
+        puts : ProjectEdit purged (purged slug) (λ q. with_version q slug (version_from slug x))
+        puts = puts_version purged slug (version_from slug x) refl
 
-        go : (b : Bool) → ProjectEdit purged (purged slug) (λ q. cond b (with_default slug (with_version q slug (version_of slug x))) (with_version q slug (version_of slug x)))
+        go : (b : Bool) → ProjectEdit purged (purged slug) (λ q. cond b (with_first_default slug (with_version q slug (version_from slug x))) (with_version q slug (version_from slug x)))
         go true = then purged puts (names_first purged slug)
         go false = puts
 
@@ -131,7 +131,7 @@ module _ (purged : SlugSet) where
         go (Some v) is = by_test lost (same_kind v.kind kind && bytes_eq v.name name) _ _ _ _ (does lost (keeps_answer purged (push_key slug key) (Known v.slug)) (Known v.slug)) (refuses lost _)
         go None is =
             let x : Fresh = after_rules p.rules (fresh p kind name) in
-            let a : Answer = made (version_of slug x) in
+            let a : Answer = made (version_from slug x) in
             does lost (then purged (makes slug x) (keeps_answer purged (push_key slug key) a)) a
 
     uploads : (key slug lang : Text) (replace : Bool) (pages : List UploadedPage)

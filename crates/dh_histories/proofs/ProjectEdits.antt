@@ -10,7 +10,7 @@ use Rattle.dh_seen.specs.declared.found.Page.{Page}
 use Rattle.dh_world.specs.declared.answer.Answer.{Answer}
 use Rattle.dh_world.specs.declared.pages.UploadedPage.{UploadedPage}
 use Rattle.dh_world.specs.World.{Text, text_cmp, page_cmp, held_cmp, used_cmp, UsedKey, lies_under, Project}
-use Rattle.dh_world.specs.Changes.{with_version, without_name, with_default, without_pages, without_version, cleared, with_pages, stored}
+use Rattle.dh_world.specs.Changes.{with_version, without_name, with_first_default, without_pages, without_version, cleared, with_pages, stored}
 use Rattle.dh_world.proofs.MapLemmas.{tied_text, text_total, page_total, held_total, used_total, page_exact, held_exact, used_exact}
 use Rattle.dh_histories.specs.Purge.{SlugSet, stripped, AreFiled}
 use Rattle.dh_histories.proofs.MapEdits.{MapEdit, no_edit, both_edits, puts, takes, thins, of_part, of_rest}
@@ -116,7 +116,7 @@ module _ (purged : SlugSet) where
     files = λ p filed. filed;
   }
 
-  pub names_first : (name : Text) → ProjectEdit (purged name) (with_default name)
+  pub names_first : (name : Text) → ProjectEdit (purged name) (with_first_default name)
   names_first name = then (takes_name name) (puts_name name)
 
   -- ---- versions, pages, grants, used keys

@@ -20,7 +20,7 @@ use Rattle.dh_world.specs.declared.outcome.Outcome.{Outcome}
 use Rattle.dh_world.specs.declared.outcome.Outcome.TheVariants.{Replied}
 use Rattle.dh_world.specs.declared.refusal.Refusal.{Refusal}
 use Rattle.dh_world.specs.declared.refusal.Refusal.TheVariants.{BadRef}
-use Rattle.dh_world.specs.Refusals.{unless, first_of}
+use Rattle.dh_world.specs.Refusals.{unless, first_refusal}
 use Rattle.dh_world.specs.Changes.{Change, change as changed, opened, new_project}
 use Rattle.dh_world.specs.Reads.{host_named, caller_named}
 use Rattle.dh_world.specs.Retries.{left_by}
@@ -53,7 +53,7 @@ put_alone host (Some q) p = put_twice empty host q p
 
 -- ---- a push whose texts are right has a slug
 
-none_before : (checks : List (Option Refusal)) (last : Option Refusal) → first_of (checks ++ last ∷ []) ≡ None → last ≡ None
+none_before : (checks : List (Option Refusal)) (last : Option Refusal) → first_refusal (checks ++ last ∷ []) ≡ None → last ≡ None
 none_before [] None e = refl
 none_before [] (Some x) e = absurd (cc)
 none_before (None ∷ checks) last e = none_before checks last e

@@ -6,7 +6,7 @@ use Rattle.dh_wire.specs.declared.reply.Reply.{Reply}
 use Rattle.dh_wire.specs.Bodies.{json, body_reply}
 use Rattle.dh_wire.specs.Statuses.{fault_reply_of}
 use Rattle.dh_world.specs.Answers.{data_of}
-use Rattle.dh_world.specs.Refusals.{number_of}
+use Rattle.dh_world.specs.Refusals.{refusal_number}
 use Rattle.dh_world.specs.declared.answer.Answer.{Answer}
 use Rattle.dh_world.specs.declared.refusal.Refusal.{Refusal}
 use Rattle.dh_world.specs.declared.refusal.Refusal.TheVariants.{BadHost, BadLang, BadRef, BadPath, BadPage, BadPattern, BadRedirect, BadToken, BadKey, NoProject, WrongKey, ProjectTaken, LangTaken, NoLang, NoVersion, SlugTaken, Inactive, BadPlace, TooMany, PassTaken, NoPass, PatternRefused, Store, OutOfMemory, BadUntil}
@@ -60,7 +60,7 @@ refused_data n = object (member (codes "refused") (number (unsigned n)) no_membe
 -- the reply to a refused command; out of memory, the constant 503
 abbrev pub refused_reply : Refusal → Reply
 refused_reply OutOfMemory = unavailable
-refused_reply e = body_reply (status_of e) json (compact_text (refused_data (number_of e)))
+refused_reply e = body_reply (status_of e) json (compact_text (refused_data (refusal_number e)))
 
 -- the reply to a command
 abbrev pub command_reply : Result Answer Refusal → Reply

@@ -17,7 +17,7 @@ use Rattle.dh_rules.specs.declared.rule.Action.{Action}
 use Rattle.dh_redirects.specs.declared.redirect.RedirectKind.{RedirectKind}
 use Rattle.dh_world.specs.declared.command.CommandChange.{CommandChange}
 use Rattle.dh_world.specs.declared.command.CommandChange.TheVariants.{AddRedirect, AddRule}
-use Rattle.dh_word_tables.specs.Words.{is_plain, ArePlain, has_command}
+use Rattle.dh_word_tables.specs.Words.{is_plain_word, ArePlain, has_command}
 use Rattle.dh_word_tables.proofs.NameLemmas.{IsQuiet}
 use Rattle.dh_word_tables.proofs.TokenLemmas.{Token, chosen, written, text_of, Fits, tokens_rows}
 use Rattle.dh_word_tables.proofs.TokenLemmas.{tokens_level}
@@ -176,7 +176,7 @@ module _ (more : List Token) (force : Bool) where
       → ((host place kind status source target : Text) → ReadsAs (codes "add-redirect")
       (redirect_words host place kind status source target)
       (redirect_by host source target (place_of place) (redirect_kind_of kind) (redirect_status_of status)))
-      → (word : Text) (kind : RedirectKind) → is_plain word ≡ true
+      → (word : Text) (kind : RedirectKind) → is_plain_word word ≡ true
       → redirect_kind_of word ≡ Some kind → OrdersRedirectBy (map text_of more) force word kind
   redirect_line fits reads word kind word_plain is_kind host p s source target place status plain
       is_place is_status =
@@ -199,9 +199,9 @@ rule_reads : (host place kind pattern action : Text) → ReadsAs (codes "add-rul
 unfolding defaults_fault change_in access_in redirect_change_in rule_change_in
 rule_reads host place kind pattern action = (refl, λ file. refl)
 
-module _ (word : Text) (action : Action) (word_plain : is_plain word ≡ true)
+module _ (word : Text) (action : Action) (word_plain : is_plain_word word ≡ true)
     (is_action : action_of word ≡ Some action) where
-  rule_line_of : (kind_word : Text) (kind : Kind) → is_plain kind_word ≡ true
+  rule_line_of : (kind_word : Text) (kind : Kind) → is_plain_word kind_word ≡ true
       → kind_of kind_word ≡ Some kind → OrdersRuleOf kind_word kind word action
   rule_line_of kind_word kind kind_plain is_kind host p place pattern plain is_place =
       let text = pattern_text pattern in
@@ -217,7 +217,7 @@ module _ (word : Text) (action : Action) (word_plain : is_plain word ≡ true)
     rule_line_of (codes "tag") Tag refl refl,
   )
 
-pub stray_line : (name : Text) (rest : List Text) → is_plain name ≡ true
+pub stray_line : (name : Text) (rest : List Text) → is_plain_word name ≡ true
     → has_command docs_app name ≡ false → line_in (name ∷ rest) ≡ None
 unfolding line_in
 stray_line name rest plain none =

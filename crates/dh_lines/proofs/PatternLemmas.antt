@@ -9,7 +9,7 @@ use Rattle.clap.specs.Walk.{Text}
 use Rattle.dh_rules.specs.Patterns.{pattern_text, expression_mark, IsPatternOf}
 use Rattle.dh_rules.specs.declared.pattern.Pattern.{Pattern}
 use Rattle.dh_rules.specs.declared.pattern.Pattern.TheVariants.{All, SemVer, Custom}
-use Rattle.dh_word_tables.specs.Words.{is_plain}
+use Rattle.dh_word_tables.specs.Words.{is_plain_word}
 use Rattle.dh_lines.specs.Lines.{pattern_of}
 
 pub pattern_of-text : (pattern : Pattern) → pattern_of (pattern_text pattern) ≡ Some pattern
@@ -17,7 +17,7 @@ pattern_of-text All = refl
 pattern_of-text SemVer = refl
 pattern_of-text (Custom text) = refl
 
-pub pattern_is_plain : (pattern : Pattern) → is_plain (pattern_text pattern) ≡ true
+pub pattern_is_plain : (pattern : Pattern) → is_plain_word (pattern_text pattern) ≡ true
 pattern_is_plain All = refl
 pattern_is_plain SemVer = refl
 pattern_is_plain (Custom text) = refl

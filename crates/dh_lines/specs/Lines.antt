@@ -37,7 +37,7 @@ use Rattle.dh_listings.specs.declared.words.ListWord.TheVariants.{Projects, OfPr
 use Rattle.dh_listings.specs.declared.words.ProjectList.{ProjectList}
 use Rattle.dh_listings.specs.declared.words.ProjectList.TheVariants.{Langs, Versions, Defaults, Rules}
 use Rattle.dh_listings.specs.declared.words.ProjectList.TheVariants.{Redirects, Passes, Pages}
-use Rattle.dh_word_tables.specs.Words.{is_plain, ArePlain}
+use Rattle.dh_word_tables.specs.Words.{is_plain_word, ArePlain}
 use Rattle.dh_lines.specs.App.{docs_app}
 use Rattle.dh_lines.specs.declared.lines.Line.{Line}
 use Rattle.dh_lines.specs.declared.lines.Order.{Order}
@@ -52,12 +52,13 @@ abbrev pub with_word : {A : Type 0} → Text → List Row → (Text → Option A
 with_word id rows next = option_and_then next (first_of id rows)
 
 -- the flag is given: `clap` keeps the text `true` or `false` of a flag
-abbrev pub is_set : Text → List Row → Bool
-is_set id rows = option_map_or (λ text. bytes_eq text (codes "true")) (first_of id rows) false
+abbrev pub is_flag_given : Text → List Row → Bool
+is_flag_given id rows =
+    option_map_or (λ text. bytes_eq text (codes "true")) (first_of id rows) false
 
 -- whether new versions are private
-abbrev pub privacy_of : Text → Option Bool
-privacy_of text =
+abbrev pub privacy_word : Text → Option Bool
+privacy_word text =
     if bytes_eq text (codes "public") then Some false
     else if bytes_eq text (codes "private") then Some true
     else None
@@ -101,7 +102,7 @@ moment_of text = decimal_below (2 ^ 64) text
 -- the word with this id may have this value; a word without a limit may have any
 abbrev pub reads : Text → Text → Bool
 reads id value =
-    if bytes_eq id (codes "privacy") then is_some (privacy_of value)
+    if bytes_eq id (codes "privacy") then is_some (privacy_word value)
     else if bytes_eq id (codes "kind") then is_some (kind_of value)
     else if bytes_eq id (codes "redirect-kind") then is_some (redirect_kind_of value)
     else if bytes_eq id (codes "pattern") then is_some (pattern_of value)
@@ -127,7 +128,7 @@ new_project_in rows =
     with_word (codes "branch") rows (λ branch.
     with_word (codes "privacy") rows (λ privacy.
     with_word (codes "wkey") rows (λ wkey.
-    option_map (λ private. NewProject lang branch private wkey) (privacy_of privacy)))))
+    option_map (λ private. NewProject lang branch private wkey) (privacy_word privacy)))))
 
 -- `add-lang HOST LANG`
 abbrev pub add_lang_in : List Row → Option CommandChange
@@ -158,7 +159,7 @@ upload_in rows =
     with_word (codes "path") rows (λ path.
     with_word (codes "type") rows (λ media.
     with_word (codes "text") rows (λ body.
-    Some (Upload wkey key slug lang (is_set (codes "replace") rows)
+    Some (Upload wkey key slug lang (is_flag_given (codes "replace") rows)
     (one_page path media body)))))))))
 
 -- the change of one version that this name orders
@@ -175,8 +176,8 @@ change_on name slug =
     else None
 
 -- `NAME HOST SLUG`
-abbrev pub version_in : Text → List Row → Option CommandChange
-version_in name rows = with_word (codes "slug") rows (λ slug. change_on name slug)
+abbrev pub version_change : Text → List Row → Option CommandChange
+version_change name rows = with_word (codes "slug") rows (λ slug. change_on name slug)
 
 -- the moment that an option gives, or none where it is left out
 abbrev pub moment_in : Text → List Row → Option (Option ℕ)
@@ -230,7 +231,8 @@ redirect_in rows =
     with_word (codes "from") rows (λ source.
     with_word (codes "to") rows (λ target.
     option_and_then (λ kind.
-    option_map (λ status. redirect_of kind status source target (is_set (codes "force") rows))
+    option_map
+    (λ status. redirect_of kind status source target (is_flag_given (codes "force") rows))
     (redirect_status_of status)) (redirect_kind_of kind)))))
 
 -- `add-redirect HOST PLACE KIND STATUS FROM TO [--force]`
@@ -298,7 +300,7 @@ port_in rows = option_map_or port_of (first_of (codes "port") rows) (Some 0)
 abbrev pub serve_in : List Row → Option Order
 serve_in rows =
     option_and_then (λ count.
-    option_map (λ port. Serve count port (is_set (codes "log") rows)) (port_in rows))
+    option_map (λ port. Serve count port (is_flag_given (codes "log") rows)) (port_in rows))
     (count_in rows)
 
 -- the change of a line on rules, or on one version
@@ -306,7 +308,7 @@ unfoldable pub rule_change_in : Text → List Row → Option CommandChange
 rule_change_in name rows =
     if bytes_eq name (codes "add-rule") then add_rule_in rows
     else if bytes_eq name (codes "drop-rule") then drop_rule_in rows
-    else version_in name rows
+    else version_change name rows
 
 -- the change of a line on redirects, on rules, or on one version
 unfoldable pub redirect_change_in : Text → List Row → Option CommandChange
@@ -423,7 +425,7 @@ MatchesWords words (Err Memory) = ⊤
 -- store in FILE, where FILE is plain
 abbrev pub OrdersLine : List Text → Order → Type 0
 OrdersLine words order = (line_in words ≡ Some (as_line None order))
-    × ((file : Text) → is_plain file ≡ true
+    × ((file : Text) → is_plain_word file ≡ true
     → line_in (words ++ codes "--store" ∷ file ∷ []) ≡ Some (as_line (Some file) order))
 
 -- `NAME HOST SLUG` orders this change, where the words that the caller chooses are plain
@@ -477,7 +479,7 @@ OrdersRule word action =
 
 -- `NAME HOST` lists this, where HOST is plain
 abbrev pub OrdersList : Text → ProjectList → Type 0
-OrdersList name list = (host : Text) → is_plain host ≡ true
+OrdersList name list = (host : Text) → is_plain_word host ≡ true
     → OrdersLine (name ∷ host ∷ []) (order.List (OfProject host list))
 
 -- `serve --store FILE --count N` and these words serve N connections at this port over the store in
@@ -490,5 +492,5 @@ ServesAt more port log = (file count_word : Text) (count : ℕ) → ArePlain (fi
 
 -- the line serves so, too, with `--port P` before these words, where P is plain and digits of the port
 abbrev pub ServesAtPort : List Text → Bool → Type 0
-ServesAtPort more log = (port_word : Text) (port : ℕ) → is_plain port_word ≡ true
+ServesAtPort more log = (port_word : Text) (port : ℕ) → is_plain_word port_word ≡ true
     → port_of port_word ≡ Some port → ServesAt (codes "--port" ∷ port_word ∷ more) port log

@@ -19,7 +19,7 @@ ghost use Rattle.dh_world.specs.declared.command.CommandChange.TheVariants.{Revo
 ghost use Rattle.dh_world.specs.declared.command.CommandChange.TheVariants.{DropRule};
 ghost use Rattle.dh_listings.specs.declared.words.ListWord.TheVariants.{Projects, OfProject};
 ghost use Rattle.dh_listings.specs.declared.words.ProjectList.TheVariants as lists;
-ghost use Rattle.dh_word_tables.specs.Words.{is_plain, ArePlain, has_command};
+ghost use Rattle.dh_word_tables.specs.Words.{is_plain_word, ArePlain, has_command};
 ghost use Rattle.dh_lines.specs.App.{docs_app};
 ghost use Rattle.dh_lines.specs.Lines.{line_in, asking, OrdersLine, OrdersOnVersion, OrdersOnPass};
 ghost use Rattle.dh_lines.specs.Lines.{OrdersOnGrant, OrdersRedirect, OrdersForced, OrdersRule};
@@ -173,11 +173,11 @@ pub fn program_lines()
 
 /// The words that make a store, and the words that migrate one; both name no other store.
 pub fn init_lines()
-    ensures init { (file : Text) → is_plain file ≡ true
+    ensures init { (file : Text) → is_plain_word file ≡ true
         → line_in (codes "init" ∷ file ∷ []) ≡ Some (as_line None (Init file)) }
     ensures other { (file other : Text) → ArePlain (file ∷ other ∷ [])
         → line_in (codes "init" ∷ file ∷ codes "--store" ∷ other ∷ []) ≡ None }
-    ensures migrate { (file : Text) → is_plain file ≡ true
+    ensures migrate { (file : Text) → is_plain_word file ≡ true
         → line_in (codes "migrate" ∷ file ∷ []) ≡ Some (as_line None (Migrate file)) }
     ensures migrate_other { (file other : Text) → ArePlain (file ∷ other ∷ [])
         → line_in (codes "migrate" ∷ file ∷ codes "--store" ∷ other ∷ []) ≡ None }
@@ -190,14 +190,14 @@ pub fn serve_lines()
     ensures told { ServesAt (codes "--log" ∷ []) 0 true }
     ensures quiet_at { ServesAtPort [] false }
     ensures told_at { ServesAtPort (codes "--log" ∷ []) true }
-    ensures no_store { (count : Text) → is_plain count ≡ true
+    ensures no_store { (count : Text) → is_plain_word count ≡ true
         → line_in (codes "serve" ∷ codes "--count" ∷ count ∷ []) ≡ None }
-    ensures no_count { (file : Text) → is_plain file ≡ true
+    ensures no_count { (file : Text) → is_plain_word file ≡ true
         → line_in (codes "serve" ∷ codes "--store" ∷ file ∷ []) ≡ None }
 {}
 
 /// Words whose first is plain and names no command are no line.
 pub fn stray_lines()
-    ensures { (name : Text) (rest : List Text) → is_plain name ≡ true
+    ensures { (name : Text) (rest : List Text) → is_plain_word name ≡ true
         → has_command docs_app name ≡ false → line_in (name ∷ rest) ≡ None }
 {}

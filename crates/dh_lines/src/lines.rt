@@ -93,8 +93,8 @@ ghost use Rattle.clap.specs.Simple.{subcommand_rows_of};
 ghost use Rattle.dh_word_tables.specs.Apps.{StandsFor};
 ghost use Rattle.dh_lines.specs.App.{docs_app};
 ghost use Rattle.dh_lines.specs.Lines.{one_page as pages_of};
-ghost use Rattle.dh_lines.specs.Lines.{is_set, privacy_of, kind_of, new_project_in, add_lang_in};
-ghost use Rattle.dh_lines.specs.Lines.{push_in, upload_in, change_on, version_in, add_pass_in};
+ghost use Rattle.dh_lines.specs.Lines.{is_flag_given, privacy_word, kind_of, new_project_in, add_lang_in};
+ghost use Rattle.dh_lines.specs.Lines.{push_in, upload_in, change_on, version_change, add_pass_in};
 ghost use Rattle.dh_lines.specs.Lines.{drop_pass_in, grant_in, revoke_in, access_in, change_in};
 ghost use Rattle.dh_lines.specs.Lines.{place_in, moment_in, import_in, migrate_in};
 ghost use Rattle.dh_lines.specs.Lines.{reads as spec_reads};
@@ -148,7 +148,7 @@ fn option_value(
 
 /// Whether a flag is given.
 fn has_flag(matches: &ArgMatches<'_>, id: &str) -> bool
-    ensures { result ≡ is_set id.now (rows_of (found_of matches.now)) }
+    ensures { result ≡ is_flag_given id.now (rows_of (found_of matches.now)) }
 {
     match value(matches, id) {
         Some(text) => text == "true",
@@ -157,7 +157,7 @@ fn has_flag(matches: &ArgMatches<'_>, id: &str) -> bool
 }
 
 fn read_privacy(text: &str) -> Option<bool>
-    ensures { result ≡ privacy_of text.now }
+    ensures { result ≡ privacy_word text.now }
 {
     match text {
         "public" => Some(false),
@@ -329,7 +329,7 @@ fn named_on(name: &str, slug: Text) -> Option<CommandChange>
 }
 
 fn version(alloc: Global, name: &str, matches: &ArgMatches<'_>) -> Result<CommandChange, LineFault>
-    ensures { ReadsOrUsage (version_in name.now (rows_of (found_of matches.now))) result }
+    ensures { ReadsOrUsage (version_change name.now (rows_of (found_of matches.now))) result }
 {
     let slug = word(alloc, matches, "slug")?;
     match named_on(name, slug) {

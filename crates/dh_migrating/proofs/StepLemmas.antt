@@ -24,7 +24,7 @@ use Rattle.dh_ports.specs.declared.fault.Fault.{Fault}
 use Rattle.dh_rows.specs.Calls.{EditsTo, IsHonest, IsPlainEdit, MakesNoCommitInside, OnlyEdits, NowShows, whole}
 use Rattle.sqlite.specs.State.{HasCleanDisk}
 use Rattle.dh_schema.specs.InTurn.{lasts_on}
-use Rattle.dh_rows.specs.Keyed.{Coding, IsTableOf, records, by_key, same_key, IsFreeKey, added}
+use Rattle.dh_rows.specs.Keyed.{Coding, IsTableOf, records_in_rows, by_key, same_key, IsFreeKey, added}
 use Rattle.dh_rows.specs.Places.{StandsInSchema, KeepsTable, rows_of, records_of, IsUnmentioned, ArePlaced}
 use Rattle.dh_rows.proofs.Asks.{WritesTable, insert, delete}
 use Rattle.dh_rows.proofs.Create.{IsCreate, makes, MakesEmptyTable, Creates, creates}
@@ -89,7 +89,7 @@ created s gone after edits =
     let it = (create_asks s gone).made after edits in
     record {
       keeps = record { stands = it.stands; rows = subst (IsTableOf passes) (sym it.empty) (none passes) };
-      passes = ap (records passes) it.empty;
+      passes = ap (records_in_rows passes) it.empty;
       others = λ u was apart. it.others u was;
       addable = λ can. (wait pass_table refl s.now after it gone.unmentioned derived_tables no_spare can.0, it.counted);
     }
@@ -250,7 +250,7 @@ no_pass = refl
 pub meta_stays : (before wrote : Database) → IsConvertible before → SparesOthers (codes "pass") before wrote → KeepsTable meta_table meta wrote × (records_of meta (codes "meta") wrote ≡ 1 ∷ [])
 meta_stays before wrote old spares =
     let o = spares meta_table old.meta.stands no_meta in
-    (record { stands = o.0; rows = subst (IsTableOf meta) (sym o.1) old.meta.rows }, ap (records meta) o.1 ∙ old.number)
+    (record { stands = o.0; rows = subst (IsTableOf meta) (sym o.1) old.meta.rows }, ap (records_in_rows meta) o.1 ∙ old.number)
 
 pub spares_on : (name : List ℕ) (a b c : Database) → SparesOthers name a b → SparesOthers name b c → SparesOthers name a c
 spares_on name a b c p q u was other = let o = p u was other in let n = q u o.0 other in (n.0, n.1 ∙ o.1)

@@ -14,7 +14,7 @@ use Rattle.sqlite.proofs.StateLemmas.{survives_weaker}
 use Rattle.dh_ports.specs.declared.fault.Fault.{Fault}
 use Rattle.dh_ports.specs.declared.fault.Fault.TheVariants as fault
 use Rattle.dh_rows.specs.Calls.{IsHonest, IsPlainLook, IsUnfit, OnlyLooks}
-use Rattle.dh_rows.specs.Faults.{fault_of}
+use Rattle.dh_rows.specs.Faults.{statement_fault}
 use Rattle.dh_rows.proofs.Calls.{answered_looks, back_clean, lasts, leaves_no_more, query_blames, read, refused_looks, shown_was}
 use Rattle.dh_opening.specs.declared.fault.TablesFault.{TablesFault}
 use Rattle.dh_opening.specs.declared.fault.TablesFault.TheVariants.{Failed}
@@ -65,7 +65,7 @@ module _ {S : Type 0} (g : Ghosts S) (a b : Held S) where
       never honest db = never_commits sql [] (state g a) db (look honest).plain
 
       -- a query that is refused
-      pub failed_opens : {T : Type 0} {Q : Database → T → Type 0} {N : Database → Type 0} (e : Error) (fault : Fault) → fault ≡ fault_of e → (HasCleanDisk (state g b) → FailsToQuery sql [] (state g a) (state g b) e) → JudgesTables g a b {T = T} (Err (Failed fault)) Q N
+      pub failed_opens : {T : Type 0} {Q : Database → T → Type 0} {N : Database → Type 0} (e : Error) (fault : Fault) → fault ≡ statement_fault e → (HasCleanDisk (state g b) → FailsToQuery sql [] (state g a) (state g b) e) → JudgesTables g a b {T = T} (Err (Failed fault)) Q N
       failed_opens e fault is why =
           refused_as sql (Unit {0}) fault (refused_looks g a b sql [] survives look e why) (λ clean. query_blames g a b sql [] (back_clean g a b _ survives) look clean e fault is (why clean)) whole
 
@@ -118,7 +118,7 @@ module _ {S : Type 0} (g : Ghosts S) (a b : Held S) where
 -- ---- the next row, for what takes it
 
 module _ {S G : Type 0} (g : Ghosts S) (a b : Held S) (sql : List ℕ) (Took : G → List Row → Type 0) (before after : G) (survives : Survives (state g a) (state g b) (λ _. ⊥)) where
-  pub takes_failed : (e : Error) (fault : Fault) → fault ≡ fault_of e → (HasCleanDisk (state g b) → FailsToAdvance g a b e) → TakesNext g sql Took a b before after (Err (Failed fault))
+  pub takes_failed : (e : Error) (fault : Fault) → fault ≡ statement_fault e → (HasCleanDisk (state g b) → FailsToAdvance g a b e) → TakesNext g sql Took a b before after (Err (Failed fault))
   takes_failed e fault is why = record {
     opens = λ given taken. failed_opens g a b sql taken.whole (weaker g a b sql given taken survives) e fault is (λ clean. why clean sql [] given (taken.has (next_back g a b sql given taken survives clean)));
     on = λ given taken took. tt;

@@ -9,7 +9,7 @@ use Rattle.sqlite.specs.Effect.{Database, IsDatabase, Reads}
 use Rattle.sqlite.specs.Held.{Held, state}
 use Rattle.sqlite.specs.Listing.{understood}
 use Rattle.sqlite.specs.State.{State, HasCleanDisk}
-use Rattle.dh_rows.specs.Calls.{MakesNoCommit, LeavesAllAsItWas, RefusalUndoes, IsBlamed, IsHonest, IsPlainLook, IsUnfit, command_of, whole}
+use Rattle.dh_rows.specs.Calls.{MakesNoCommit, LeavesAllAsItWas, RefusalUndoes, IsBlamed, IsHonest, IsPlainLook, IsUnfit, compiled_command, whole}
 use Rattle.dh_rows.specs.Keyed.{Coding, IsTableOf, by_key}
 use Rattle.dh_rows.specs.Places.{records_of, rows_of}
 use Rattle.dh_rows.specs.Shapes.{StandsAlone}
@@ -111,7 +111,7 @@ pub record AreLaid (tables : List Table) (s : State) : Type 0 where
 
 -- the rows are what the query answers
 abbrev pub AnswersQuery : Database → List ℕ → List Row → Type 0
-AnswersQuery db sql rows = Reads (command_of (understood db.schema sql)) db [] rows
+AnswersQuery db sql rows = Reads (compiled_command (understood db.schema sql)) db [] rows
 
 -- a query of all rows of a table, which is refused for no reason of its own
 pub record IsWhole (s : State) (sql : List ℕ) : Type 0 where

@@ -12,10 +12,10 @@ use Rattle.dh_migrating.specs.OldPasses.{old_pass_table, old_passes}
 abbrev pub project_ids : List ℕ
 project_ids = codes "SELECT rowid FROM project ORDER BY rowid"
 
-abbrev pub project_rows : List ℕ
-project_rows = codes "SELECT host, main, branch, wkey, private FROM project ORDER BY host"
+abbrev pub project_rows_text : List ℕ
+project_rows_text = codes "SELECT host, main, branch, wkey, private FROM project ORDER BY host"
 
-pub project_reads : AreTextsOf project_table project_ids project_rows (0 ∷ [])
+pub project_reads : AreTextsOf project_table project_ids project_rows_text (0 ∷ [])
 unfolding everything
 project_reads = record { simple = columns.project_simple; plain = columns.project_plain; ids_read = refl; all_read = refl }
 

@@ -72,7 +72,7 @@ impl Kept for ProjectRow {
 
     ghost ids = { readings.project_ids };
 
-    ghost rows = { readings.project_rows };
+    ghost rows = { readings.project_rows_text };
 
     ghost order = { 0 ∷ [] };
 

@@ -4,7 +4,7 @@ ghost use Rattle.std.specs.Prelude.{◌≡◌, ◌≢◌, ◌⊎◌, false, List
 ghost use Rattle.sqlite.specs.Effect.{Database, IsDatabase};
 ghost use Rattle.sqlite.specs.Held.{state};
 ghost use Rattle.sqlite.specs.State.{HasCleanDisk};
-ghost use Rattle.dh_rows.specs.Calls.{MakesNoCommitInside, IsBlamed, IsHonest, KeepsFaults, LeavesCommitted, committed, seen};
+ghost use Rattle.dh_rows.specs.Calls.{MakesNoCommitInside, IsBlamed, IsHonest, KeepsFaults, LeavesCommitted, committed, seen_now};
 ghost use Rattle.dh_records.specs.Codings.{passes};
 ghost use Rattle.dh_records.specs.Constraints.{AreInOrder, InOrder, KeepsConstraints};
 ghost use Rattle.dh_schema.specs.Making.{CommitsNothing};
@@ -138,9 +138,9 @@ pub fn migrate<S: Alter>(
     ensures brought { IfOk result (λ t. HasCleanDisk (state S.Store t)
         → IsMigrated (state S.Store conn).now (state S.Store t).committed) }
     ensures shown { IfOk result (λ t. HasCleanDisk (state S.Store t)
-        → IsShown (state S.Store conn).now (seen S.Store lists_of t)) }
+        → IsShown (state S.Store conn).now (seen_now S.Store lists_of t)) }
     ensures last { IfOk result (λ t. HasCleanDisk (state S.Store t)
-        → committed S.Store lists_of t ≡ seen S.Store lists_of t) }
+        → committed S.Store lists_of t ≡ seen_now S.Store lists_of t) }
     ensures sound { IfOk result (λ t. HasCleanDisk (state S.Store t)
         → AreInOrder (committed S.Store lists_of t)
         × KeepsConstraints (committed S.Store lists_of t)) }

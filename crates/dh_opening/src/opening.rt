@@ -3,7 +3,7 @@
 ghost use Rattle.std.specs.Prelude.{◌≡◌, ◌≢◌, ◌⊎◌, false, None, IfErr, IfOk, IsTrue};
 ghost use Rattle.sqlite.specs.Held.{state};
 ghost use Rattle.sqlite.specs.State.{HasCleanDisk};
-ghost use Rattle.dh_rows.specs.Calls.{AreOurs, IsBlamed, IsHonest, LeavesCommitted, LeavesNoMore, committed, seen};
+ghost use Rattle.dh_rows.specs.Calls.{AreOurs, IsBlamed, IsHonest, LeavesCommitted, LeavesNoMore, committed, seen_now};
 ghost use Rattle.dh_records.specs.Codings as coding;
 ghost use Rattle.dh_records.specs.Constraints.{AreInOrder, InOrder, KeepsConstraints};
 ghost use Rattle.dh_records.specs.Lists.{Lists, base_of};
@@ -111,7 +111,7 @@ pub fn create<S: Alter>(conn: Connection<S>) -> Result<Tables<S>, (TablesFault, 
     ensures honest { IfOk result (λ t. IsHonest S.Store conn → HasCleanDisk (state S.Store t)
         → IsHonest S.Store t × (t.in_transaction ≡ false)) }
     ensures none { IfOk result (λ t. IsHonest S.Store conn → HasCleanDisk (state S.Store t)
-        → seen S.Store lists_of t ≡ no_lists) }
+        → seen_now S.Store lists_of t ≡ no_lists) }
     ensures last { IfOk result (λ t. IsHonest S.Store conn → HasCleanDisk (state S.Store t)
         → committed S.Store lists_of t ≡ no_lists) }
     ensures made { IfOk result (λ t. IsHonest S.Store conn → HasCleanDisk (state S.Store t)
@@ -183,11 +183,11 @@ pub fn open<S: Alter>(
     ensures brought { IfOk result (λ t. HasCleanDisk (state S.Store t)
         → IsOpened (state S.Store conn).now (state S.Store t).committed) }
     ensures seen { IfOk result (λ t. HasCleanDisk (state S.Store t)
-        → base_of (seen S.Store lists_of t) ≡ base_of (seen S.Store lists_of conn)) }
+        → base_of (seen_now S.Store lists_of t) ≡ base_of (seen_now S.Store lists_of conn)) }
     ensures derived { IfOk result (λ t. HasCleanDisk (state S.Store t)
-        → KeepsDerived (state S.Store conn).now (seen S.Store lists_of t)) }
+        → KeepsDerived (state S.Store conn).now (seen_now S.Store lists_of t)) }
     ensures last { IfOk result (λ t. HasCleanDisk (state S.Store t)
-        → committed S.Store lists_of t ≡ seen S.Store lists_of t) }
+        → committed S.Store lists_of t ≡ seen_now S.Store lists_of t) }
     ensures sound { IfOk result (λ t. HasCleanDisk (state S.Store t)
         → AreInOrder (committed S.Store lists_of t)
         × KeepsConstraints (committed S.Store lists_of t)) }

@@ -6,7 +6,7 @@ use Rattle.std.proofs.lemmas.List.{get_or_at, get_or_past, take_at, drop_at, tak
 use Rattle.std.proofs.lemmas.List.Folds.{length-prefix_len}
 use Rattle.std.proofs.lemmas.List.Sums.{prefix_len-le-length}
 use Rattle.dh_texts.specs.Bytes.{open_bracket, close_bracket}
-use Rattle.dh_paths.specs.Targets.{is_name_byte, is_address_byte, bracketed_len, name_len, is_port, host_named, host_of}
+use Rattle.dh_paths.specs.Targets.{is_name_byte, is_address_byte, bracketed_len, name_len, is_port, lowered_host, host_of}
 use Rattle.dh_paths.specs.Forms.{IsPlainName, IsBracketed, IsNameAndPort, IsHostPart}
 use Rattle.dh_paths.proofs.HostLemmas.{host_of-some}
 use Rattle.dh_paths.proofs.PartLemmas.{first, second, StopsAtOnce, prefix_len-seam, front_passes}
@@ -90,7 +90,7 @@ name_is (b ∷ bs) h =
 
 parted : (text : List ℕ) (host : Option (List ℕ)) → 0 < length text → host_of text ≡ Some host → IsNameAndPort text host
 parted text host some h =
-    elim (nat_lt 0 (name_len text) && is_port (drop (name_len text) text)) as (λ v. (nat_lt 0 (name_len text) && is_port (drop (name_len text) text)) ≡ v → cond v (Some (host_named (take (name_len text) text))) None ≡ Some host → IsNameAndPort text host) [
+    elim (nat_lt 0 (name_len text) && is_port (drop (name_len text) text)) as (λ v. (nat_lt 0 (name_len text) && is_port (drop (name_len text) text)) ≡ v → cond v (Some (lowered_host (take (name_len text) text))) None ≡ Some host → IsNameAndPort text host) [
       | true ↦ λ e told. (
         take (name_len text) text,
         drop (name_len text) text,
@@ -110,7 +110,7 @@ joined text host (name, port, whole, of_name, of_port, named) =
       | inr h ↦ omega (arith, ap length h.1)
     ] in
     let long : nat_lt 0 (length name) ≡ true = grind (arith, nat_tests) in
-    let read : host_of (name ++ port) ≡ Some (host_named name) =
+    let read : host_of (name ++ port) ≡ Some (lowered_host name) =
     host_of-some (name ++ port) (omega (arith, length-append name port, some))
     ∙ rw (len, take_at name port (length name) refl, drop_at name port (length name) refl, long, of_port) refl in
     ap host_of whole ∙ read ∙ ap Some (sym named)

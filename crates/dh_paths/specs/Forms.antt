@@ -4,7 +4,7 @@ use Rattle.std.specs.List.{list_all}
 use Rattle.std.specs.Str.{str_eq_ignore_ascii_case}
 use Rattle.dh_texts.specs.Bytes.{slash, question, open_bracket, close_bracket}
 use Rattle.dh_texts.specs.Texts.{first_byte}
-use Rattle.dh_paths.specs.Targets.{is_name_byte, is_address_byte, is_port, host_named, host_of, is_target_byte, is_question, path_of, rooted}
+use Rattle.dh_paths.specs.Targets.{is_name_byte, is_address_byte, is_port, lowered_host, host_of, is_target_byte, is_question, path_of, rooted}
 use Rattle.dh_paths.specs.declared.target.Target.{Target}
 
 -- one or more name bytes
@@ -19,7 +19,7 @@ IsBracketed name =
 -- the text is a name and a port or none, and names the host of that name in small letters
 abbrev pub IsNameAndPort : List ℕ → Option (List ℕ) → Type 0
 IsNameAndPort text host =
-    (name : List ℕ) × (port : List ℕ) × (text ≡ name ++ port) × (IsPlainName name ⊎ IsBracketed name) × IsTrue (is_port port) × (host ≡ host_named name)
+    (name : List ℕ) × (port : List ℕ) × (text ≡ name ++ port) × (IsPlainName name ⊎ IsBracketed name) × IsTrue (is_port port) × (host ≡ lowered_host name)
 
 -- the text is a host part: empty, which names no host, or a name and a port
 abbrev pub IsHostPart : List ℕ → Option (List ℕ) → Type 0

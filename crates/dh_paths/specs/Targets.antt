@@ -36,15 +36,15 @@ is_port [] = true
 is_port (b ∷ digits) = b == colon && list_all is_digit digits
 
 -- the name in small letters, where it is one that a project can have
-abbrev pub host_named : List ℕ → Option (List ℕ)
-host_named name = if is_host_name (map to_ascii_lowercase name) then Some (map to_ascii_lowercase name) else None
+abbrev pub lowered_host : List ℕ → Option (List ℕ)
+lowered_host name = if is_host_name (map to_ascii_lowercase name) then Some (map to_ascii_lowercase name) else None
 
 -- the host that a host part names, none where no project can have that name; nothing for a text that is no host part
 abbrev pub host_of : List ℕ → Option (Option (List ℕ))
 host_of [] = Some None
 host_of (b ∷ bs) =
     let len = name_len (b ∷ bs) in
-    if nat_lt 0 len && is_port (drop len (b ∷ bs)) then Some (host_named (take len (b ∷ bs))) else None
+    if nat_lt 0 len && is_port (drop len (b ∷ bs)) then Some (lowered_host (take len (b ∷ bs))) else None
 
 -- the text is a host part that is not empty, whatever host it names
 abbrev pub NamesSome : List ℕ → Type 0

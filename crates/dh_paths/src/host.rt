@@ -4,7 +4,7 @@ ghost use Rattle.std.specs.Prelude.{◌≡◌, ◌≤◌, ◌<◌, IfOk, Err, Is
 ghost use Rattle.std.specs.Char.{to_ascii_lowercase};
 ghost use Rattle.std.specs.List.{list_all, prefix_len};
 ghost use Rattle.dh_texts.specs.Texts.{is_digit, AnswersDefined};
-ghost use Rattle.dh_paths.specs.Targets.{is_name_byte, is_address_byte, bracketed_len, name_len, is_port, host_named, host_of, NamesSome};
+ghost use Rattle.dh_paths.specs.Targets.{is_name_byte, is_address_byte, bracketed_len, name_len, is_port, lowered_host, host_of, NamesSome};
 
 use dh_texts::{HostName, TextFault};
 use std::alloc::{AllocError, Global};
@@ -82,7 +82,7 @@ fn lowercase(alloc: Global, name: &[u8]) -> Result<Vec<u8>, AllocError>
 }
 
 fn named(alloc: Global, name: &[u8]) -> Result<Option<HostName>, TextFault>
-    ensures { AnswersDefined (Some (host_named name.now)) TextFault.BadHost result }
+    ensures { AnswersDefined (Some (lowered_host name.now)) TextFault.BadHost result }
 {
     let lowered = lowercase(alloc, name)?;
     let Ok(text) = str::from_utf8(lowered.as_slice()) else {

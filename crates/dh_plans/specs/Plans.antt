@@ -8,7 +8,7 @@ use Rattle.dh_rules.specs.Rules.{after_rules, IsCustomAt}
 use Rattle.dh_rules.specs.declared.rule.Fresh.{Fresh}
 use Rattle.dh_rules.specs.declared.rule.Rule.{Rule}
 use Rattle.dh_redirects.specs.declared.redirect.Redirect.{Redirect}
-use Rattle.dh_world.specs.Changes.{made, new_project, opened, version_of, without_name}
+use Rattle.dh_world.specs.Changes.{made, new_project, opened, version_from, without_name}
 use Rattle.dh_world.specs.Refusals.{unless}
 use Rattle.dh_world.specs.Seen.{is_alias}
 use Rattle.dh_world.specs.World.{Text}
@@ -65,7 +65,7 @@ push_answered x answer = PutRetryAnswer (record { slug = x.slug; operation = ope
 -- the plan of a push that makes a version, as the rules left it
 abbrev pub plan_made : CheckedPush → List Text → Fresh → Planned
 plan_made x defaults after =
-    let v : Version = version_of x.slug after in
+    let v : Version = version_from x.slug after in
     record { edits = PutVersion v ∷ (chosen_put after.chosen x.slug defaults ++ push_answered x (made v) ∷ []); answer = made v }
 
 -- the plan of a push that makes a version, after the rules; refused where they cannot run

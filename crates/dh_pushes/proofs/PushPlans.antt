@@ -11,7 +11,7 @@ use Rattle.dh_versions.specs.Kinds.{same_kind}
 use Rattle.dh_versions.specs.declared.version.Version.{Version}
 use Rattle.dh_rules.specs.Rules.{after_rules, IsCustomAt}
 use Rattle.dh_rules.specs.declared.rule.Fresh.{Fresh}
-use Rattle.dh_world.specs.Changes.{Change, push, pushed, once, push_key, fresh, version_of, with_fresh, with_default, made, keep, with_version}
+use Rattle.dh_world.specs.Changes.{Change, push, pushed, once, push_key, fresh, version_from, with_fresh, with_first_default, made, keep, with_version}
 use Rattle.dh_world.specs.Seen.{is_alias}
 use Rattle.dh_world.specs.World.{Text, Project}
 use Rattle.dh_world.specs.declared.answer.Answer.{Answer}
@@ -91,21 +91,21 @@ module _ (x : CheckedPush) (f : Facts) (p : Project) (k : KnowsProject (change.P
 
       -- the change over a fresh version that the rules left
       abbrev by_fresh : Fresh → Change
-      by_fresh y = keep (push_key x.slug x.key) (made (version_of x.slug y)) (with_fresh x.slug y p)
+      by_fresh y = keep (push_key x.slug x.key) (made (version_from x.slug y)) (with_fresh x.slug y p)
 
       made_is : push x.wkey x.key x.kind x.name p ≡ by_fresh after
       made_is =
           at_found None none
-          ∙ ap (λ s. keep (push_key s x.key) (made (version_of s (after_rules p.rules (fresh p x.kind x.name)))) (with_fresh s (after_rules p.rules (fresh p x.kind x.name)) p)) slug_is
+          ∙ ap (λ s. keep (push_key s x.key) (made (version_from s (after_rules p.rules (fresh p x.kind x.name)))) (with_fresh s (after_rules p.rules (fresh p x.kind x.name)) p)) slug_is
           ∙ ap by_fresh after_is
 
       module _ (y : Fresh) (named : y.name ≡ x.name) where
         abbrev v : Version
-        v = version_of x.slug y
+        v = version_from x.slug y
 
         -- whether a rule chose the version, or none did
         same : (b : Bool)
-            → keep (push_key x.slug x.key) (made v) (cond b (with_default x.slug (with_version p x.slug v)) (with_version p x.slug v))
+            → keep (push_key x.slug x.key) (made v) (cond b (with_first_default x.slug (with_version p x.slug v)) (with_version p x.slug v))
             ≡ Ok (all_edited (chosen_put b x.slug p.defaults ++ push_answered x (made v) ∷ []) (with_version p x.slug v), made v)
         same true = refl
         same false = refl

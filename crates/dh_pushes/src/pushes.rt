@@ -75,7 +75,7 @@ fn run_rules(alloc: Global, rules: &[Rule], fresh: Fresh) -> Result<Fresh, Refus
 
 /// The version under the slug of a push, as the rules left it.
 fn version_of(alloc: Global, push: &CheckedPush, fresh: &Fresh) -> Result<Version, AllocError>
-    ensures { IfOk result (λ v. v ≡ spec.version_of push.now.slug fresh.now) }
+    ensures { IfOk result (λ v. v ≡ spec.version_from push.now.slug fresh.now) }
 {
     Ok(Version {
         slug: push.slug.try_copy(alloc)?,
@@ -89,7 +89,7 @@ fn version_of(alloc: Global, push: &CheckedPush, fresh: &Fresh) -> Result<Versio
 
 /// The answer of a push that made a version, as the rules left it.
 fn made_answer(alloc: Global, push: &CheckedPush, fresh: &Fresh) -> Result<Answer, AllocError>
-    ensures { IfOk result (λ answer. answer ≡ made (spec.version_of push.now.slug fresh.now)) }
+    ensures { IfOk result (λ answer. answer ≡ made (spec.version_from push.now.slug fresh.now)) }
 {
     Ok(Answer::Made {
         slug: push.slug.try_copy(alloc)?,

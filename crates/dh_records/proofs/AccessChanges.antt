@@ -12,7 +12,7 @@ use Rattle.dh_records.specs.declared.records.PassRow.{PassRow}
 use Rattle.dh_records.specs.declared.records.GrantRow.{GrantRow}
 use Rattle.dh_records.specs.Codings as coding
 use Rattle.dh_world.specs.World.{Text, text_cmp, HeldKey, held_cmp, Project, lies_under}
-use Rattle.dh_records.specs.Lists.{Lists, world_of, is_version, is_page_under, is_pass_of, is_pass, is_held, is_held_by, is_held_on, set_picks, granted}
+use Rattle.dh_records.specs.Lists.{Lists, world_of, is_version, is_page_under, is_pass_of, is_pass, is_held, is_held_by, is_held_on, picks_replaced, granted}
 use Rattle.dh_records.specs.Constraints.{InOrder}
 use Rattle.dh_records.proofs.Keys.{host_first}
 use Rattle.dh_records.proofs.KeyLemmas.{same_pass}
@@ -30,9 +30,9 @@ use Rattle.dh_records.proofs.OrderLemmas.{filtered_in_order}
 
 -- the defaults are set
 pub world_with_defaults : (lists : Lists) (host : Text) (names : List Text) (p : Project) → InOrder coding.picks.key lists.picks → get (world_of lists) host ≡ Some p
-    → world_of (record lists { picks = set_picks host names lists.picks }) ≡ insert (world_of lists) host (record p { defaults = names })
+    → world_of (record lists { picks = picks_replaced host names lists.picks }) ≡ insert (world_of lists) host (record p { defaults = names })
 world_with_defaults lists host names p up =
-    part_changed parts.picks lists (set_picks host names lists.picks) host p (λ l. names)
+    part_changed parts.picks lists (picks_replaced host names lists.picks) host p (λ l. names)
     (λ name apart. ap (map (λ d. d.name)) (set_elsewhere host name apart names lists.picks))
     (ap (map (λ d. d.name)) (set_of_host host names lists.picks up) ∙ names_ranked host 1 names)
 
@@ -96,7 +96,7 @@ pub world_gone : (lists : Lists) (host slug : Text) (names : List Text) (p : Pro
     → world_of (record lists {
       versions = filter (λ v. not (is_version host slug v)) lists.versions;
       pages = filter (λ x. not (is_page_under host slug None x)) lists.pages;
-      picks = set_picks host names lists.picks;
+      picks = picks_replaced host names lists.picks;
       held = filter (λ x. not (is_held_on host slug x)) lists.held;
     })
     ≡ insert (world_of lists) host (record p {
@@ -106,7 +106,7 @@ pub world_gone : (lists : Lists) (host slug : Text) (names : List Text) (p : Pro
       held = retain_keys p.held (λ k. not (bytes_eq k.1 slug));
     })
 world_gone lists host slug names p up was =
-    let one = record lists { picks = set_picks host names lists.picks } in
+    let one = record lists { picks = picks_replaced host names lists.picks } in
     let two = record one { pages = filter (λ x. not (is_page_under host slug None x)) lists.pages } in
     let three = record two { held = filter (λ x. not (is_held_on host slug x)) lists.held } in
     let p_one = record p { defaults = names } in

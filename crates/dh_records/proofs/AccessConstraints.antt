@@ -17,7 +17,7 @@ use Rattle.dh_records.specs.declared.records.GrantRow.{GrantRow}
 use Rattle.dh_records.specs.Codings as coding
 use Rattle.dh_world.specs.World.{Text, Project}
 use Rattle.dh_world.specs.Seen.{is_alias}
-use Rattle.dh_records.specs.Lists.{Lists, world_of, is_version, is_page_of, is_page_under, is_pick_of, is_pass_of, is_pass, is_held, is_held_by, is_held_on, set_picks, ranked, granted}
+use Rattle.dh_records.specs.Lists.{Lists, world_of, is_version, is_page_of, is_page_under, is_pick_of, is_pass_of, is_pass, is_held, is_held_by, is_held_on, picks_replaced, ranked, granted}
 use Rattle.dh_records.specs.Constraints.{InOrder, AreInOrder, has_project, has_active, has_version, has_pass, AreDefaults, KeepsConstraints}
 use Rattle.dh_records.proofs.GrantLemmas.{grant_is_free, granted_new, granted_there}
 use Rattle.dh_records.proofs.PickLists.{set_of_host, set_elsewhere, set_in_order, all_set, all_with, all_ranked, names_ranked, ranks_ranked}
@@ -124,11 +124,11 @@ abbrev pub MayBeDefault : Lists → Text → Text → Type 0
 MayBeDefault lists host name = IsTrue (is_alias name || has_version lists host name)
 
 pub constraints_with_defaults : (lists : Lists) (host : Text) (names : List Text) → KeepsConstraints lists → InOrder coding.picks.key lists.picks → IsTrue (has_project lists host) → IsDistinct bytes_eq names → AllByRecursion (MayBeDefault lists host) names
-    → KeepsConstraints (record lists { picks = set_picks host names lists.picks })
+    → KeepsConstraints (record lists { picks = picks_replaced host names lists.picks })
 constraints_with_defaults lists host names constraints up has apart may =
     assumption (
       all_set host (λ d. IsTrue (has_project lists d.host)) names lists.picks (all_ranked host (λ d. IsTrue (has_project lists d.host)) 1 names (all_of _ (λ name rank. has) names)) constraints.hosts.picks,
-      all_weaker _ (λ r. AreDefaults (filter (is_pick_of r.host) (set_picks host names lists.picks))) still lists.projects constraints.projects.defaults,
+      all_weaker _ (λ r. AreDefaults (filter (is_pick_of r.host) (picks_replaced host names lists.picks))) still lists.projects constraints.projects.defaults,
       all_set host (λ d. MayBeDefault lists d.host d.name) names lists.picks
           (all_ranked host (λ d. MayBeDefault lists d.host d.name) 1 names (all_weaker _ (λ name. (rank : ℕ) → MayBeDefault lists host name) (λ name h rank. h) names may)) constraints.records.default_names,
     )
@@ -136,14 +136,14 @@ constraints_with_defaults lists host names constraints up has apart may =
     are : AreDefaults (ranked host 1 names)
     are = record { ranks = ranks_ranked host 1 names; apart = subst (IsDistinct bytes_eq) (sym (names_ranked host 1 names)) apart }
 
-    still : (r : ProjectRow) → AreDefaults (filter (is_pick_of r.host) lists.picks) → AreDefaults (filter (is_pick_of r.host) (set_picks host names lists.picks))
+    still : (r : ProjectRow) → AreDefaults (filter (is_pick_of r.host) lists.picks) → AreDefaults (filter (is_pick_of r.host) (picks_replaced host names lists.picks))
     still r =
-        of_each_host (λ name. AreDefaults (filter (is_pick_of name) lists.picks) → AreDefaults (filter (is_pick_of name) (set_picks host names lists.picks))) host
+        of_each_host (λ name. AreDefaults (filter (is_pick_of name) lists.picks) → AreDefaults (filter (is_pick_of name) (picks_replaced host names lists.picks))) host
         (λ were. subst AreDefaults (sym (set_of_host host names lists.picks up)) are)
         (λ name apart. subst AreDefaults (sym (set_elsewhere host name apart names lists.picks))) r.host
 
 -- a name that is not among the new defaults of a host is none of its defaults
-pub set_unnamed : (host slug : Text) (names : List Text) (rows : List DefaultRow) → AllByRecursion (λ n. bytes_eq n slug ≡ false) names → AllByRecursion (λ d. (is_pick_of host d && bytes_eq d.name slug) ≡ false) (set_picks host names rows)
+pub set_unnamed : (host slug : Text) (names : List Text) (rows : List DefaultRow) → AllByRecursion (λ n. bytes_eq n slug ≡ false) names → AllByRecursion (λ d. (is_pick_of host d && bytes_eq d.name slug) ≡ false) (picks_replaced host names rows)
 set_unnamed host slug names rows none =
     all_with host IsOther 1 names (filter (λ r. not (is_pick_of host r)) rows)
     (all_ranked host IsOther 1 names (all_weaker _ (λ name. (rank : ℕ) → IsOther (record { host = host; name = name; rank = rank })) (λ name out rank. Rattle.std.proofs.lemmas.Bool.and_right (bytes_eq host host) (bytes_eq name slug) out) names none))
@@ -212,12 +212,12 @@ pub constraints_gone : (lists : Lists) (host slug : Text) (p : Project) → Keep
     → KeepsConstraints (record lists {
       versions = filter (λ v. not (is_version host slug v)) lists.versions;
       pages = filter (λ x. not (is_page_under host slug None x)) lists.pages;
-      picks = set_picks host (filter (λ n. not (bytes_eq n slug)) p.defaults) lists.picks;
+      picks = picks_replaced host (filter (λ n. not (bytes_eq n slug)) p.defaults) lists.picks;
       held = filter (λ x. not (is_held_on host slug x)) lists.held;
     })
 constraints_gone lists host slug p constraints up was =
     let names = filter (λ n. not (bytes_eq n slug)) p.defaults in
-    let one = record lists { picks = set_picks host names lists.picks } in
+    let one = record lists { picks = picks_replaced host names lists.picks } in
     let two = record one { pages = filter (λ x. not (is_page_under host slug None x)) lists.pages } in
     let three = record two { held = filter (λ x. not (is_held_on host slug x)) lists.held } in
     let first : KeepsConstraints one = constraints_with_defaults lists host names constraints up (owned_by lists host p was) (filter_distinct _ p.defaults (defaults_distinct lists host p constraints was)) (all-filter _ _ p.defaults (defaults_named lists host p constraints was)) in
@@ -234,7 +234,7 @@ constraints_pass_gone lists host pass constraints =
 
 -- a name goes to the front of the defaults
 pub constraints_with_front : (lists : Lists) (host name : Text) (p : Project) → KeepsConstraints lists → InOrder coding.picks.key lists.picks → get (world_of lists) host ≡ Some p → MayBeDefault lists host name
-    → KeepsConstraints (record lists { picks = set_picks host (name ∷ filter (λ n. not (bytes_eq n name)) p.defaults) lists.picks })
+    → KeepsConstraints (record lists { picks = picks_replaced host (name ∷ filter (λ n. not (bytes_eq n name)) p.defaults) lists.picks })
 constraints_with_front lists host name p constraints up was may =
     constraints_with_defaults lists host _ constraints up (owned_by lists host p was) (front_distinct name p.defaults (defaults_distinct lists host p constraints was)) (may, all-filter _ (λ n. not (bytes_eq n name)) p.defaults (defaults_named lists host p constraints was))
 
@@ -244,7 +244,7 @@ module _ (lists : Lists) (up : AreInOrder lists) where
   pub order_without_version : (keep : VersionRow → Bool) → AreInOrder (record lists { versions = filter keep lists.versions })
   order_without_version keep = assumption (filtered_in_order coding.versions.key keep lists.versions up.versions)
 
-  pub order_with_defaults : (host : Text) (names : List Text) → AreInOrder (record lists { picks = set_picks host names lists.picks })
+  pub order_with_defaults : (host : Text) (names : List Text) → AreInOrder (record lists { picks = picks_replaced host names lists.picks })
   order_with_defaults host names = assumption (set_in_order host names lists.picks up.picks)
 
   pub order_with_pass : (row : PassRow) → IsFreeKey coding.passes.key row lists.passes → AreInOrder (record lists { passes = added coding.passes.key row lists.passes })

@@ -8,7 +8,7 @@ use Rattle.sqlite_keyed.proofs.ListLemmas.{all_weaker, all-filter, filter-filter
 use Rattle.dh_rows.specs.Keyed.{IsFreeKey, added, by_key}
 use Rattle.dh_records.specs.declared.records.DefaultRow.{DefaultRow}
 use Rattle.dh_records.specs.Codings as coding
-use Rattle.dh_records.specs.Lists.{is_pick_of, ranked, with_picks, set_picks}
+use Rattle.dh_records.specs.Lists.{is_pick_of, ranked, picks_added, picks_replaced}
 use Rattle.dh_records.specs.Constraints.{InOrder}
 use Rattle.dh_records.proofs.KeyLemmas.{turned, next_is_free, added_behind}
 use Rattle.dh_records.proofs.OrderLemmas.{added_in_order, filtered_in_order}
@@ -38,7 +38,7 @@ all_taken_out host rows = taken_out (is_pick_of host) rows
 
 module _ (host : List ℕ) where
   -- the defaults of the host are those that it had, and behind them those that were added
-  pub of_host_with : (n : ℕ) (names : List (List ℕ)) (rows : List DefaultRow) → InOrder coding.picks.key rows → AreBelow host n rows → filter (is_pick_of host) (with_picks (ranked host n names) rows) ≡ filter (is_pick_of host) rows ++ ranked host n names
+  pub of_host_with : (n : ℕ) (names : List (List ℕ)) (rows : List DefaultRow) → InOrder coding.picks.key rows → AreBelow host n rows → filter (is_pick_of host) (picks_added (ranked host n names) rows) ≡ filter (is_pick_of host) rows ++ ranked host n names
   of_host_with n [] rows up below = sym (append-nil (filter (is_pick_of host) rows))
   of_host_with n (name ∷ names) rows up below =
       let x : DefaultRow = record { host = host; name = name; rank = n } in
@@ -48,20 +48,20 @@ module _ (host : List ℕ) where
       ∙ append_assoc (filter (is_pick_of host) rows) (x ∷ []) (ranked host (n + 1) names)
 
   -- those of the others stay
-  pub elsewhere_with : (other : List ℕ) → bytes_eq host other ≡ false → (n : ℕ) (names : List (List ℕ)) (rows : List DefaultRow) → filter (is_pick_of other) (with_picks (ranked host n names) rows) ≡ filter (is_pick_of other) rows
+  pub elsewhere_with : (other : List ℕ) → bytes_eq host other ≡ false → (n : ℕ) (names : List (List ℕ)) (rows : List DefaultRow) → filter (is_pick_of other) (picks_added (ranked host n names) rows) ≡ filter (is_pick_of other) rows
   elsewhere_with other apart n [] rows = refl
   elsewhere_with other apart n (name ∷ names) rows =
       elsewhere_with other apart (n + 1) names (added coding.picks.key (record { host = host; name = name; rank = n }) rows)
       ∙ added_elsewhere (by_key coding.picks.key) (is_pick_of other) (record { host = host; name = name; rank = n }) rows apart
 
-  pub with_in_order : (n : ℕ) (names : List (List ℕ)) (rows : List DefaultRow) → InOrder coding.picks.key rows → AreBelow host n rows → InOrder coding.picks.key (with_picks (ranked host n names) rows)
+  pub with_in_order : (n : ℕ) (names : List (List ℕ)) (rows : List DefaultRow) → InOrder coding.picks.key rows → AreBelow host n rows → InOrder coding.picks.key (picks_added (ranked host n names) rows)
   with_in_order n [] rows up below = up
   with_in_order n (name ∷ names) rows up below =
       let x : DefaultRow = record { host = host; name = name; rank = n } in
       with_in_order (n + 1) names (added coding.picks.key x rows) (added_in_order coding.picks.key x rows (rank_is_free x rows below) up) (below_next x rows below)
 
   -- what holds of all records, and of those that are added
-  pub all_with : (P : DefaultRow → Type 0) (n : ℕ) (names : List (List ℕ)) (rows : List DefaultRow) → AllByRecursion P (ranked host n names) → AllByRecursion P rows → AllByRecursion P (with_picks (ranked host n names) rows)
+  pub all_with : (P : DefaultRow → Type 0) (n : ℕ) (names : List (List ℕ)) (rows : List DefaultRow) → AllByRecursion P (ranked host n names) → AllByRecursion P rows → AllByRecursion P (picks_added (ranked host n names) rows)
   all_with P n [] rows new old = old
   all_with P n (name ∷ names) rows new old = all_with P (n + 1) names _ new.1 (all_added P (by_key coding.picks.key) _ rows new.0 old)
 
@@ -85,16 +85,16 @@ module _ (host : List ℕ) where
 
   -- ---- setting the defaults of the host
 
-  pub set_of_host : (names : List (List ℕ)) (rows : List DefaultRow) → InOrder coding.picks.key rows → filter (is_pick_of host) (set_picks host names rows) ≡ ranked host 1 names
+  pub set_of_host : (names : List (List ℕ)) (rows : List DefaultRow) → InOrder coding.picks.key rows → filter (is_pick_of host) (picks_replaced host names rows) ≡ ranked host 1 names
   set_of_host names rows up =
       of_host_with 1 names (filter (λ r. not (is_pick_of host r)) rows) (filtered_in_order coding.picks.key (λ r. not (is_pick_of host r)) rows up) (none_below host _ (all_taken_out host rows))
       ∙ ap (λ l. l ++ ranked host 1 names) (filter_none (is_pick_of host) _ (all_taken_out host rows))
 
-  pub set_elsewhere : (other : List ℕ) → bytes_eq host other ≡ false → (names : List (List ℕ)) (rows : List DefaultRow) → filter (is_pick_of other) (set_picks host names rows) ≡ filter (is_pick_of other) rows
+  pub set_elsewhere : (other : List ℕ) → bytes_eq host other ≡ false → (names : List (List ℕ)) (rows : List DefaultRow) → filter (is_pick_of other) (picks_replaced host names rows) ≡ filter (is_pick_of other) rows
   set_elsewhere other apart names rows = elsewhere_with other apart 1 names (filter (λ r. not (is_pick_of host r)) rows) ∙ others_stay other apart rows
 
-  pub set_in_order : (names : List (List ℕ)) (rows : List DefaultRow) → InOrder coding.picks.key rows → InOrder coding.picks.key (set_picks host names rows)
+  pub set_in_order : (names : List (List ℕ)) (rows : List DefaultRow) → InOrder coding.picks.key rows → InOrder coding.picks.key (picks_replaced host names rows)
   set_in_order names rows up = with_in_order 1 names _ (filtered_in_order coding.picks.key (λ r. not (is_pick_of host r)) rows up) (none_below host _ (all_taken_out host rows))
 
-  pub all_set : (P : DefaultRow → Type 0) (names : List (List ℕ)) (rows : List DefaultRow) → AllByRecursion P (ranked host 1 names) → AllByRecursion P rows → AllByRecursion P (set_picks host names rows)
+  pub all_set : (P : DefaultRow → Type 0) (names : List (List ℕ)) (rows : List DefaultRow) → AllByRecursion P (ranked host 1 names) → AllByRecursion P rows → AllByRecursion P (picks_replaced host names rows)
   all_set P names rows new old = all_with P 1 names _ new (all-filter P (λ r. not (is_pick_of host r)) rows old)

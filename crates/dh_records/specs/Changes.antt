@@ -68,19 +68,19 @@ grant row l = record l { held = granted row l.held }
 
 -- adds these defaults, one after the other
 abbrev pub with_picks : List DefaultRow → Lists → Lists
-with_picks rows l = record l { picks = lists.with_picks rows l.picks }
+with_picks rows l = record l { picks = lists.picks_added rows l.picks }
 
 -- puts these defaults of a host in place of those that the host had
 abbrev pub set_picks : Text → List Text → Lists → Lists
-set_picks host names l = record l { picks = lists.set_picks host names l.picks }
+set_picks host names l = record l { picks = lists.picks_replaced host names l.picks }
 
 -- puts these rules of a host in place of those that the host had
 abbrev pub set_rules : Text → List Rule → Lists → Lists
-set_rules host rules l = record l { rules = lists.set_rules host rules l.rules }
+set_rules host rules l = record l { rules = lists.rules_replaced host rules l.rules }
 
 abbrev pub set_redirects : Text → List Redirect → Lists → Lists
 set_redirects host redirects l = record l {
-  redirects = lists.set_redirects host redirects l.redirects;
+  redirects = lists.redirects_replaced host redirects l.redirects;
 }
 
 -- puts these routes at their places, in place of those that stand there
@@ -91,7 +91,7 @@ put_routes host routes l = record l {
 
 -- puts these routes of a host in place of those that the host had
 abbrev pub set_routes : Text → List Route → Lists → Lists
-set_routes host routes l = record l { routes = lists.set_routes host routes l.routes }
+set_routes host routes l = record l { routes = lists.routes_replaced host routes l.routes }
 
 -- ---- removing records
 

@@ -168,13 +168,13 @@ ranked host n [] = []
 ranked host n (name ∷ names) = record { host = host; name = name; rank = n } ∷ ranked host (n + 1) names
 
 -- the list with these records added one after the other
-abbrev pub with_picks : List DefaultRow → List DefaultRow → List DefaultRow
-with_picks [] rows = rows
-with_picks (x ∷ xs) rows = with_picks xs (added coding.picks.key x rows)
+abbrev pub picks_added : List DefaultRow → List DefaultRow → List DefaultRow
+picks_added [] rows = rows
+picks_added (x ∷ xs) rows = picks_added xs (added coding.picks.key x rows)
 
 -- the list with these defaults of a host in place of those that the host had
-abbrev pub set_picks : Text → List Text → List DefaultRow → List DefaultRow
-set_picks host names rows = with_picks (ranked host 1 names) (filter (λ r. not (is_pick_of host r)) rows)
+abbrev pub picks_replaced : Text → List Text → List DefaultRow → List DefaultRow
+picks_replaced host names rows = picks_added (ranked host 1 names) (filter (λ r. not (is_pick_of host r)) rows)
 
 -- the records of a list in order, at the places from a number on
 abbrev pub placed : {X V : Type 0} → (ℕ → V → X) → ℕ → List V → List X
@@ -187,19 +187,19 @@ put_all key [] rows = rows
 put_all key (x ∷ xs) rows = put_all key xs (put key x rows)
 
 -- the list with these rules of a host at their places, and none of the host behind them
-abbrev pub set_rules : Text → List Rule → List RuleRow → List RuleRow
-set_rules host rules rows =
+abbrev pub rules_replaced : Text → List Rule → List RuleRow → List RuleRow
+rules_replaced host rules rows =
     put_all coding.rules.key (placed (rule_row host) 1 rules)
     (filter (λ r. not (is_rule_behind host (length rules) r)) rows)
 
-abbrev pub set_redirects : Text → List Redirect → List RedirectRow → List RedirectRow
-set_redirects host redirects rows =
+abbrev pub redirects_replaced : Text → List Redirect → List RedirectRow → List RedirectRow
+redirects_replaced host redirects rows =
     put_all coding.redirects.key (placed (redirect_row host) 1 redirects)
     (filter (λ r. not (is_redirect_behind host (length redirects) r)) rows)
 
 -- the list with these routes of a host at their places, and no others of the host
-abbrev pub set_routes : Text → List Route → List RouteRow → List RouteRow
-set_routes host routes rows =
+abbrev pub routes_replaced : Text → List Route → List RouteRow → List RouteRow
+routes_replaced host routes rows =
     put_all coding.routes.key (placed (route_row host) 1 routes)
     (filter (λ r. not (is_route_of host r)) rows)
 

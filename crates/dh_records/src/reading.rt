@@ -29,7 +29,7 @@ use std::alloc::Global;
 
 /// Tells why a column was not read, as a fault.
 fn fault_of_column(error: Error) -> Fault
-    ensures { result ≡ rows.fault_of error }
+    ensures { result ≡ rows.statement_fault error }
 {
     fault_of(error)
 }

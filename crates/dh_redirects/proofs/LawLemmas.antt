@@ -3,7 +3,7 @@ use Rattle.std.proofs.Common.{◌≡◌, ℕ, true, false, cond, ◌==◌, List,
 use Rattle.std.specs.List.{starts_with, onto_first, flat_map}
 use Rattle.std.proofs.lemmas.Bool.Decides.{Decides-eqb}
 use Rattle.dh_paths.specs.Escapes.{escaped}
-use Rattle.dh_redirects.specs.Locations.{sent, sent_byte, after_colon, joined, colon_parts, filled}
+use Rattle.dh_redirects.specs.Locations.{sent, sent_byte, after_colon, target_joined, colon_parts, filled}
 use Rattle.dh_redirects.proofs.TextLemmas.{starts_front, starts_from}
 
 -- the first part of a text, and what follows it
@@ -48,7 +48,7 @@ pub filled-byte : (byte : ℕ) (rest text : List ℕ) → starts_with nat_eq (by
 unfolding filled sent
 filled-byte byte rest text h =
     let cut = parted text in
-    elim (byte == 58) as (λ v. (byte == 58) ≡ v → joined (escaped rest) (cond v ([] ∷ colon_parts text) (onto_first byte (colon_parts text))) ≡ sent_byte byte ++ joined (escaped rest) (colon_parts text)) [
+    elim (byte == 58) as (λ v. (byte == 58) ≡ v → target_joined (escaped rest) (cond v ([] ∷ colon_parts text) (onto_first byte (colon_parts text))) ≡ sent_byte byte ++ target_joined (escaped rest) (colon_parts text)) [
       | true ↦ λ e.
           let colon : byte ≡ 58 = (Decides-eqb byte 58).0 e in
           let none : starts_with nat_eq cut.first (codes "splat") ≡ false = no_splat text cut.first cut.rest cut.front (rw colon at h) in

@@ -4,7 +4,7 @@ use Rattle.dh_redirects.specs.declared.redirect.Asked.{Asked}
 use Rattle.dh_redirects.specs.declared.redirect.Parts.{Parts}
 use Rattle.dh_redirects.specs.declared.redirect.Redirect.{Redirect}
 use Rattle.dh_redirects.specs.declared.redirect.RedirectKind.TheVariants.{CleanToHtml, HtmlToClean}
-use Rattle.dh_redirects.specs.Locations.{one_slash, without_fragment, query_part, with_query_of, is_request, led, is_rooted, html_file, clean_file, file_path, written_by, is_page, asks_memory}
+use Rattle.dh_redirects.specs.Locations.{one_slash, without_fragment, query_part, with_query_of, is_request, led, is_rooted, html_file, clean_file, file_path, written_by, is_page_kind, asks_memory}
 use Rattle.dh_redirects.proofs.TextLemmas.{before_first-cons}
 use Rattle.dh_redirects.proofs.FillLemmas.{after_slashes-head}
 
@@ -47,10 +47,10 @@ some_mapped f (Some x) b h = refl
 -- memory is asked for where a file has another name
 pub asks-html : (r : Redirect) (asked : Asked) (parts : Parts) (file : List ℕ) → r.kind ≡ CleanToHtml → asked.parts ≡ Some parts → file ≡ parts.file → is_some (html_file file) ≡ true → asks_memory r asked ≡ true
 asks-html r asked parts file of_kind found same some =
-    ap₂ (λ k p. is_some (written_by k r.source r.target asked.path p) || (is_page k && is_some p)) of_kind found
+    ap₂ (λ k p. is_some (written_by k r.source r.target asked.path p) || (is_page_kind k && is_some p)) of_kind found
     ∙ some_mapped (file_path parts) (html_file parts.file) false (ap (λ f. is_some (html_file f)) (sym same) ∙ some)
 
 pub asks-clean : (r : Redirect) (asked : Asked) (parts : Parts) (file : List ℕ) → r.kind ≡ HtmlToClean → asked.parts ≡ Some parts → file ≡ parts.file → is_some (clean_file file) ≡ true → asks_memory r asked ≡ true
 asks-clean r asked parts file of_kind found same some =
-    ap₂ (λ k p. is_some (written_by k r.source r.target asked.path p) || (is_page k && is_some p)) of_kind found
+    ap₂ (λ k p. is_some (written_by k r.source r.target asked.path p) || (is_page_kind k && is_some p)) of_kind found
     ∙ some_mapped (file_path parts) (clean_file parts.file) false (ap (λ f. is_some (clean_file f)) (sym same) ∙ some)

@@ -11,7 +11,7 @@ use Rattle.std.proofs.lemmas.Slice.Eq.{starts_is}
 use Rattle.std.proofs.lemmas.Str.Pattern.{strip_suffix_char, ends_text, contains_text}
 use Rattle.std.proofs.lemmas.Str.{IsCharBoundary-from_take}
 use Rattle.std.proofs.lemmas.List.{take_all, take_more, take_min}
-use Rattle.dh_redirects.specs.Redirects.{holds, ends_in_star}
+use Rattle.dh_redirects.specs.Redirects.{has_text, ends_in_star}
 use Rattle.dh_redirects.specs.Locations.{stem}
 
 same_answer : (x y : Bool) → (x ≡ true → y ≡ true) → (y ≡ true → x ≡ true) → x ≡ y
@@ -27,15 +27,15 @@ starts_front s p h = (starts_is Decides-eqb s p (starts_with nat_eq s p) refl).0
 pub starts_from : (s p rest : List ℕ) → s ≡ p ++ rest → starts_with nat_eq s p ≡ true
 starts_from s p rest h = (starts_is Decides-eqb s p (starts_with nat_eq s p) refl).1 rest h
 
-holds_found : (n s : List ℕ) → holds n s ≡ true → HasSubslice s n
+holds_found : (n s : List ℕ) → has_text n s ≡ true → HasSubslice s n
 holds_found n [] h = ([], drop (length n) [], starts_front [] n h)
 holds_found n (b ∷ bs) h =
-    elim (starts_with nat_eq (b ∷ bs) n) as (λ v. starts_with nat_eq (b ∷ bs) n ≡ v → (v || holds n bs) ≡ true → HasSubslice (b ∷ bs) n) [
+    elim (starts_with nat_eq (b ∷ bs) n) as (λ v. starts_with nat_eq (b ∷ bs) n ≡ v → (v || has_text n bs) ≡ true → HasSubslice (b ∷ bs) n) [
       | true ↦ λ e _. ([], drop (length n) (b ∷ bs), starts_front (b ∷ bs) n e)
       | false ↦ λ _ e. let found = holds_found n bs e in (b ∷ found.0, found.1, ap (λ ys. b ∷ ys) found.2)
     ] refl h
 
-holds_from : (n s a t : List ℕ) → s ≡ a ++ (n ++ t) → holds n s ≡ true
+holds_from : (n s a t : List ℕ) → s ≡ a ++ (n ++ t) → has_text n s ≡ true
 holds_from n [] [] t e = starts_from [] n t e
 holds_from n [] (x ∷ a) t e = cc
 holds_from n (b ∷ bs) [] t e = rw (starts_from (b ∷ bs) n t e) refl
@@ -44,10 +44,10 @@ holds_from n (b ∷ bs) (x ∷ a) t e =
     rw (holds_from n bs a t tail) (or-true (starts_with nat_eq (b ∷ bs) n))
 
 -- `contains` at a text
-pub holds_is : (r : Bool) (n s : List ℕ) → MatchBool r (HasMatch (FindsText n) s) (FindsText n s None) → r ≡ holds n s
+pub holds_is : (r : Bool) (n s : List ℕ) → MatchBool r (HasMatch (FindsText n) s) (FindsText n s None) → r ≡ has_text n s
 holds_is r n s h =
     let both = contains_text r n s h in
-    same_answer r (holds n s) (λ e. let found = both.0 e in holds_from n s found.0 found.1 found.2) (λ e. both.1 (holds_found n s e))
+    same_answer r (has_text n s) (λ e. let found = both.0 e in holds_from n s found.0 found.1 found.2) (λ e. both.1 (holds_found n s e))
 
 -- by the first byte
 pub before_first-cons : (p : ℕ → Bool) (x : ℕ) (xs : List ℕ) → before_first p (x ∷ xs) ≡ cond (p x) [] (x ∷ before_first p xs)

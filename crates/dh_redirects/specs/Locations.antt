@@ -38,9 +38,9 @@ abbrev pub after_colon : List ℕ → List ℕ → List ℕ
 after_colon rest part = if starts_with nat_eq part (codes "splat") then rest ++ sent (drop 5 part) else sent (colon ∷ part)
 
 -- the parts of To between its `:`, put together
-abbrev pub joined : List ℕ → List (List ℕ) → List ℕ
-joined rest [] = []
-joined rest (first ∷ others) = sent first ++ flat_map (after_colon rest) others
+abbrev pub target_joined : List ℕ → List (List ℕ) → List ℕ
+target_joined rest [] = []
+target_joined rest (first ∷ others) = sent first ++ flat_map (after_colon rest) others
 
 -- the parts of a text between its `:`
 abbrev pub colon_parts : List ℕ → List (List ℕ)
@@ -48,7 +48,7 @@ colon_parts text = slice_split (λ b. b == colon) text
 
 -- To with the escaped rest for each `:splat`
 unfoldable pub filled : List ℕ → List ℕ → List ℕ
-filled rest target = joined (escaped rest) (colon_parts target)
+filled rest target = target_joined (escaped rest) (colon_parts target)
 
 -- `/language/version`, as requested
 abbrev pub version_path : Parts → List ℕ
@@ -96,13 +96,13 @@ written_by HtmlToClean source target path (Some parts) = option_map (file_path p
 abbrev pub written_of : Redirect → Asked → Option (List ℕ)
 written_of r asked = written_by r.kind r.source r.target asked.path asked.parts
 
-abbrev pub is_page : RedirectKind → Bool
-is_page Page = true
-is_page _ = false
+abbrev pub is_page_kind : RedirectKind → Bool
+is_page_kind Page = true
+is_page_kind _ = false
 
 -- memory may be taken: an address is written, or the path of a file to compare From with
 abbrev pub asks_memory : Redirect → Asked → Bool
-asks_memory r asked = is_some (written_of r asked) || (is_page r.kind && is_some asked.parts)
+asks_memory r asked = is_some (written_of r asked) || (is_page_kind r.kind && is_some asked.parts)
 
 -- the leading slashes made one
 abbrev pub one_slash : List ℕ → List ℕ

@@ -13,9 +13,9 @@ use Rattle.dh_redirects.specs.declared.redirect.BadRedirect.TheVariants.{BadSour
 use Rattle.dh_redirects.specs.declared.texts.TheConstants.{MOST_REDIRECT_BYTES}
 
 -- the needle stands somewhere in the text
-abbrev pub holds : List ℕ → List ℕ → Bool
-holds needle [] = starts_with nat_eq [] needle
-holds needle (b ∷ bs) = starts_with nat_eq (b ∷ bs) needle || holds needle bs
+abbrev pub has_text : List ℕ → List ℕ → Bool
+has_text needle [] = starts_with nat_eq [] needle
+has_text needle (b ∷ bs) = starts_with nat_eq (b ∷ bs) needle || has_text needle bs
 
 abbrev pub is_path : List ℕ → Bool
 is_path target = first_byte target == slash
@@ -29,7 +29,7 @@ abbrev pub begins_with_host : Option (List ℕ) → Bool
 begins_with_host None = false
 begins_with_host (Some text) =
     let host = before_first (λ b. b == slash || b == question || b == hash) text in
-    not (length host == 0) && not (holds splat host)
+    not (length host == 0) && not (has_text splat host)
 
 -- `http://` or `https://`, and a host
 abbrev pub is_absolute : List ℕ → Bool
@@ -80,7 +80,7 @@ abbrev pub has_fault : Redirect → BadRedirect → Bool
 has_fault r BadSource = has_texts r.kind && not (is_path r.source && is_short_text r.source)
 has_fault r EarlyStar = has_texts r.kind && has_early_star r.source
 has_fault r BadTarget = has_texts r.kind && not (is_short_text r.target && (is_path r.target || is_absolute r.target))
-has_fault r SplatWithoutStar = has_texts r.kind && holds splat r.target && not (ends_in_star r.source)
+has_fault r SplatWithoutStar = has_texts r.kind && has_text splat r.target && not (ends_in_star r.source)
 has_fault r BadStatus = not (r.status == 301 || r.status == 302)
 has_fault r UnusedText = not (has_texts r.kind) && not (length r.source == 0 && length r.target == 0)
 

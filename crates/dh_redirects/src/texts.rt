@@ -2,7 +2,7 @@
 
 ghost use Rattle.std.specs.Prelude.{◌≡◌, ◌<◌, ◌==◌, Some};
 ghost use Rattle.std.specs.List.{before_first};
-ghost use Rattle.dh_redirects.specs.Redirects.{splat, holds, is_path, begins_with_host, is_absolute, is_short_text, ends_in_star, has_early_star};
+ghost use Rattle.dh_redirects.specs.Redirects.{splat, has_text, is_path, begins_with_host, is_absolute, is_short_text, ends_in_star, has_early_star};
 
 use dh_paths::{all_no_control, rest_after};
 
@@ -26,7 +26,7 @@ pub fn path(text: &str) -> bool
 
 /// Whether `:splat` stands somewhere in the text.
 pub fn holds_splat(text: &str) -> bool
-    ensures { result ≡ holds splat text.now }
+    ensures { result ≡ has_text splat text.now }
 {
     text.contains(":splat")
 }

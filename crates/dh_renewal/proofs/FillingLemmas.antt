@@ -12,7 +12,7 @@ use Rattle.sqlite_trees.specs.declared.store.Store.{Ghosts}
 use Rattle.sqlite.specs.Effect.{Database}
 use Rattle.sqlite.specs.Held.{Held, state}
 use Rattle.sqlite.specs.State.{HasCleanDisk}
-use Rattle.dh_rows.specs.Calls.{AreOurs, MakesNoCommitInside, IsHonest, KeepsCommitted, KeepsFaults, CrashLeaves, LeavesNoMore, OnlyBegins, OnlyCommits, OnlyUndoes, ShowsHonestly, committed, seen}
+use Rattle.dh_rows.specs.Calls.{AreOurs, MakesNoCommitInside, IsHonest, KeepsCommitted, KeepsFaults, CrashLeaves, LeavesNoMore, OnlyBegins, OnlyCommits, OnlyUndoes, ShowsHonestly, committed, seen_now}
 use Rattle.dh_schema.specs.Calling.{IsSettled}
 use Rattle.dh_schema.specs.InTurn.{lasts_on}
 use Rattle.dh_schema.specs.Tables.{HoldsTables, lists_of}
@@ -118,7 +118,7 @@ module _
     {S : Type 0} (g : Ghosts S) (old begun worked : Held S) (settled : IsHonest g old → IsSettled g old)
     {u : Unit {0}} (begins : OnlyBegins g lists_of old begun (Ok u)) (goes : MakesNoCommitInside g begun worked) (sees : NowShowsRecords g begun worked (records g worked))
     (made : IsHonest g worked → IsDerived (records g begun) (records g worked)) where
-  began : HasCleanDisk (state g worked) → ShowsHonestly g lists_of old begun (seen g lists_of old) (committed g lists_of old) true
+  began : HasCleanDisk (state g worked) → ShowsHonestly g lists_of old begun (seen_now g lists_of old) (committed g lists_of old) true
   began clean = begins.begun.done (goes.lasts.clean clean)
 
   honest_then : HasCleanDisk (state g worked) → IsHonest g worked
@@ -167,7 +167,7 @@ module _
 pub derives_all
     : {S : Type 0} (g : Ghosts S) (old worked new : Held S) {v : Unit {0}}
     → KeepsFaults g old worked → KeepsCommitted g old worked → LeavesNoMore g old worked → (HasCleanDisk (state g worked) → HasRowsRight g old worked)
-    → OnlyCommits g lists_of worked new (Ok v) → CrashLeaves g lists_of worked new (λ l. l ≡ seen g lists_of worked) → AreOurs HoldsTables (state g new)
+    → OnlyCommits g lists_of worked new (Ok v) → CrashLeaves g lists_of worked new (λ l. l ≡ seen_now g lists_of worked) → AreOurs HoldsTables (state g new)
     → DerivesRows g old new (Ok tt)
 derives_all g old worked new lasts kept quiet ready commits crash ours = record {
   lasts = lasts_on lasts commits.lasts;

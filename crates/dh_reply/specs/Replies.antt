@@ -75,10 +75,10 @@ indexed file =
     else file
 
 -- the first case that holds, if one does
-abbrev pub first_of : List (Option Reply) → Option Reply
-first_of [] = None
-first_of (None ∷ cases) = first_of cases
-first_of (Some r ∷ cases) = Some r
+abbrev pub first_reply : List (Option Reply) → Option Reply
+first_reply [] = None
+first_reply (None ∷ cases) = first_reply cases
+first_reply (Some r ∷ cases) = Some r
 
 -- ---- something is served
 
@@ -105,7 +105,7 @@ folder_found p at file = page_at p at.lang at.slug (file ++ codes "/index.html")
 abbrev pub file_served
     : SeenProject → GoodAddress → List ℕ → List ℕ → Option (List ℕ) → Option Reply
 file_served p at file path query =
-    first_of (option_map (page_reply 200) (page_found p at file)
+    first_reply (option_map (page_reply 200) (page_found p at file)
     ∷ option_map (λ _. slash_added path query) (folder_found p at file) ∷ [])
 
 -- what a place serves: `/` and `/page/file` redirect to the default version, a good address with no file gets a slash
@@ -169,7 +169,7 @@ default_not_found p =
 -- 404 with `404.html` of the requested version, else of the default version, else with the host's text
 abbrev pub nothing_served : SeenProject → Option GoodAddress → Reply
 nothing_served p own =
-    unwrap_or (first_of (own_not_found p own ∷ default_not_found p ∷ [])) host_not_found
+    unwrap_or (first_reply (own_not_found p own ∷ default_not_found p ∷ [])) host_not_found
 
 -- ---- the reply
 
@@ -177,7 +177,7 @@ nothing_served p own =
 abbrev pub found
     : SeenProject → Place → Option GoodAddress → Asked → List ℕ → Option (List ℕ) → Option Reply
 found p place own asked path query =
-    first_of (forced_away p asked ∷ served p place own path query ∷ led_away p asked ∷ [])
+    first_reply (forced_away p asked ∷ served p place own path query ∷ led_away p asked ∷ [])
 
 abbrev pub reply_at : SeenProject → Place → Option GoodAddress → List ℕ → Option (List ℕ) → Reply
 reply_at p place own path query =

@@ -10,7 +10,7 @@ use Rattle.dh_requests.specs.declared.head_end.Scan.{Scan}
 use Rattle.dh_ports.specs.Reading.{AddsSome}
 use Rattle.dh_ports.proofs.Taking.{takes_more}
 use Rattle.dh_requests.specs.HeadEnd.{HeadSize, head_end_in, head_end_of, EndsHead}
-use Rattle.dh_requests.specs.Scan.{after_byte, end_from, ended_or, behind, at_first, ScansTo}
+use Rattle.dh_requests.specs.Scan.{after_byte, end_from, ended_or, size_behind, at_first, ScansTo}
 use Rattle.dh_requests.proofs.Lines.{end_from-first, sized, behind_twice, unsome}
 
 -- the byte at which the search ends
@@ -21,14 +21,14 @@ found_here first now bytes i lt h e =
     let count : 1 + i ≡ i + 1 = omega arith in
     ap (end_from first) (sym whole)
     ∙ h (drop i bytes)
-    ∙ ap (λ d. option_map (behind i) (end_from now d)) front
-    ∙ ap (λ o. option_map (behind i) (ended_or o now.lines (λ s. end_from s (drop (suc i) bytes)))) (sym e)
+    ∙ ap (λ d. option_map (size_behind i) (end_from now d)) front
+    ∙ ap (λ o. option_map (size_behind i) (ended_or o now.lines (λ s. end_from s (drop (suc i) bytes)))) (sym e)
     ∙ ap (λ k. Some (sized k now.lines)) count
 
 -- an end stays where it is, whatever follows
-map_stays : (o p : Option HeadSize) (n : HeadSize) → ((k : HeadSize) → o ≡ Some k → p ≡ Some k) → option_map (behind 1) o ≡ Some n → option_map (behind 1) p ≡ Some n
+map_stays : (o p : Option HeadSize) (n : HeadSize) → ((k : HeadSize) → o ≡ Some k → p ≡ Some k) → option_map (size_behind 1) o ≡ Some n → option_map (size_behind 1) p ≡ Some n
 map_stays None p n h e = cc
-map_stays (Some k) p n h e = ap (option_map (behind 1)) (h k refl) ∙ e
+map_stays (Some k) p n h e = ap (option_map (size_behind 1)) (h k refl) ∙ e
 
 found_stays : (o : Option Scan) (l : ℕ) (f g : Scan → Option HeadSize) (n : HeadSize) → ((s : Scan) (k : HeadSize) → f s ≡ Some k → g s ≡ Some k) → ended_or o l f ≡ Some n → ended_or o l g ≡ Some n
 found_stays None l f g n h e = e
@@ -46,7 +46,7 @@ no_end first now bytes n h = ap (end_from first) (sym (append-nil bytes)) ∙ h 
 -- two pieces, one after the other
 pub scans_on : (a b c : Scan) (xs ys : List ℕ) (n m : ℕ) → ScansTo a xs n b → ScansTo b ys m c → ScansTo a (xs ++ ys) (n + m) c
 scans_on a b c xs ys n m h k more =
-    ap (end_from a) (append_assoc xs ys more) ∙ h (ys ++ more) ∙ ap (option_map (behind n)) (k more) ∙ behind_twice (end_from c more) n m (n + m) (omega arith)
+    ap (end_from a) (append_assoc xs ys more) ∙ h (ys ++ more) ∙ ap (option_map (size_behind n)) (k more) ∙ behind_twice (end_from c more) n m (n + m) (omega arith)
 
 -- the first bytes of the input are those that came, as far as they go
 pub window : (limit : ℕ) (came rest : List ℕ) → (more : List ℕ) × (take limit (came ++ rest) ≡ take (min (length came) limit) came ++ more)
@@ -126,7 +126,7 @@ found_at (Some x) (Some y) (Some z) buf after piece seen limit n lines scan came
     ap (take 16384) whole ∙ w.1 ∙ ap (λ k. take k after ++ w.0) (sym f) ∙ ap (λ v. v ++ w.0) front ∙ append_assoc (take seen buf) piece w.0 in
     let stays : end_from scan (piece ++ w.0) ≡ Some (sized n lines) = end_stays scan piece w.0 (sized n lines) s in
     let found : end_from at_first (take 16384 x) ≡ Some (sized (n + seen) lines) =
-    ap (end_from at_first) seen_first ∙ h (piece ++ w.0) ∙ ap (option_map (behind seen)) stays in
+    ap (end_from at_first) seen_first ∙ h (piece ++ w.0) ∙ ap (option_map (size_behind seen)) stays in
     let swapped : n + seen ≡ seen + n = omega arith in
     head_end_of-search x ∙ ap (λ o. head_end_in o (length x)) (found ∙ ap (λ k. Some (sized k lines)) swapped)
 
@@ -159,13 +159,13 @@ lines_more mid new buf after piece seen limit lines new_lines came e f r q le h 
     let len : length piece ≡ limit - seen = ap length r ∙ length-take-le (limit - seen) (drop seen after) (omega (arith, length-drop seen after)) in
     omega arith
 
-cut_some : (a t : Scan) (x : ℕ) (xs : List ℕ) (p : Option HeadSize) (s : HeadSize) → after_byte a x ≡ Some t → ((k : HeadSize) → p ≡ Some k → end_from t (take k.bytes xs) ≡ Some k) → option_map (behind 1) p ≡ Some s → end_from a (take s.bytes (x ∷ xs)) ≡ Some s
+cut_some : (a t : Scan) (x : ℕ) (xs : List ℕ) (p : Option HeadSize) (s : HeadSize) → after_byte a x ≡ Some t → ((k : HeadSize) → p ≡ Some k → end_from t (take k.bytes xs) ≡ Some k) → option_map (size_behind 1) p ≡ Some s → end_from a (take s.bytes (x ∷ xs)) ≡ Some s
 cut_some a t x xs None s e h q = cc
 cut_some a t x xs (Some k) s e h q =
     let step : take (k.bytes + 1) (x ∷ xs) ≡ x ∷ take k.bytes xs = ap (λ n. take n (x ∷ xs)) (add-one k.bytes) in
-    let there : end_from a (take (k.bytes + 1) (x ∷ xs)) ≡ Some (behind 1 k) =
-    ap (end_from a) step ∙ ap (λ o. ended_or o a.lines (λ s. end_from s (take k.bytes xs))) e ∙ ap (option_map (behind 1)) (h k refl) in
-    subst (λ (w : HeadSize). end_from a (take w.bytes (x ∷ xs)) ≡ Some w) (unsome (behind 1 k) s q) there
+    let there : end_from a (take (k.bytes + 1) (x ∷ xs)) ≡ Some (size_behind 1 k) =
+    ap (end_from a) step ∙ ap (λ o. ended_or o a.lines (λ s. end_from s (take k.bytes xs))) e ∙ ap (option_map (size_behind 1)) (h k refl) in
+    subst (λ (w : HeadSize). end_from a (take w.bytes (x ∷ xs)) ≡ Some w) (unsome (size_behind 1 k) s q) there
 
 cut_by : (a : Scan) (x : ℕ) (xs : List ℕ) (o : Option Scan) (s : HeadSize) → after_byte a x ≡ o → ((t : Scan) (k : HeadSize) → end_from t xs ≡ Some k → end_from t (take k.bytes xs) ≡ Some k) → ended_or o a.lines (λ t. end_from t xs) ≡ Some s → end_from a (take s.bytes (x ∷ xs)) ≡ Some s
 cut_by a x xs None s e h q =
@@ -184,7 +184,7 @@ text_at mid new buf after piece seen limit n lines scan came e f r h q le s few 
     let len : length piece ≡ limit - seen = ap length r ∙ length-take-le (limit - seen) (drop seen after) (omega (arith, length-drop seen after)) in
     let swapped : n + seen ≡ seen + n = omega arith in
     let found : end_from at_first (take limit after) ≡ Some (sized (seen + n) lines) =
-    ap (end_from at_first) front ∙ h piece ∙ ap (option_map (behind seen)) s ∙ ap (λ k. Some (sized k lines)) swapped in
+    ap (end_from at_first) front ∙ h piece ∙ ap (option_map (size_behind seen)) s ∙ ap (λ k. Some (sized k lines)) swapped in
     let size : length (take limit after) ≡ limit = length-take-le limit after (omega arith) in
     let inner : take (seen + n) after ≡ take (seen + n) (take limit after) =
     ap (take (seen + n)) (sym (take-append-drop limit after)) ∙ take-append-le (seen + n) (take limit after) (drop limit after) (omega arith) in

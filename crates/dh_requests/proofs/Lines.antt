@@ -6,7 +6,7 @@ use Rattle.dh_requests.specs.declared.head_end.Place.{Place}
 use Rattle.dh_requests.specs.declared.head_end.Place.TheVariants.{Start, Return, Inside}
 use Rattle.dh_requests.specs.declared.head_end.Scan.{Scan}
 use Rattle.dh_requests.specs.HeadEnd.{onto_first, lines_of, is_empty_line, HeadSize, with_line, size_to_empty, head_size}
-use Rattle.dh_requests.specs.Scan.{place_after, ends_empty, behind, end_from, at_first}
+use Rattle.dh_requests.specs.Scan.{place_after, ends_empty, size_behind, end_from, at_first}
 
 -- where the search stands behind the first bytes of a line
 abbrev place_of : List ℕ → Place
@@ -50,16 +50,16 @@ place_on (a ∷ c ∷ p) b = refl
 same_size : (a b c d : ℕ) → a ≡ b → c ≡ d → sized a c ≡ sized b d
 same_size a b c d e f = ap (λ k. sized k c) e ∙ ap (λ k. sized b k) f
 
-pub behind_twice : (o : Option HeadSize) (n m k : ℕ) → m + n ≡ k → option_map (behind n) (option_map (behind m) o) ≡ option_map (behind k) o
+pub behind_twice : (o : Option HeadSize) (n m k : ℕ) → m + n ≡ k → option_map (size_behind n) (option_map (size_behind m) o) ≡ option_map (size_behind k) o
 behind_twice None n m k e = refl
 behind_twice (Some s) n m k e = ap Some (same_size (s.bytes + m + n) (s.bytes + k) s.lines s.lines (omega (arith, e)) refl)
 
-pub behind_none : (o : Option HeadSize) → option_map (behind 0) o ≡ o
+pub behind_none : (o : Option HeadSize) → option_map (size_behind 0) o ≡ o
 behind_none None = refl
 behind_none (Some s) = ap Some (same_size (s.bytes + 0) s.bytes s.lines s.lines (omega arith) refl)
 
 -- a line behind the first bytes of it
-line_behind : (o : Option HeadSize) (p : List ℕ) (n k : ℕ) → option_map (behind (length p)) (option_map (behind 1) (option_map (counted (n + k)) o)) ≡ option_map (counted n) (option_map (with_line p k) o)
+line_behind : (o : Option HeadSize) (p : List ℕ) (n k : ℕ) → option_map (size_behind (length p)) (option_map (size_behind 1) (option_map (counted (n + k)) o)) ≡ option_map (counted n) (option_map (with_line p k) o)
 line_behind None p n k = refl
 line_behind (Some s) p n k = ap Some (same_size (s.bytes + 1 + length p) (length p + 1 + s.bytes) (n + k + s.lines) (n + (k + s.lines)) (omega arith) (omega arith))
 
@@ -69,11 +69,11 @@ counted_none (Some s) = ap Some (same_size s.bytes s.bytes (0 + s.lines) s.lines
 
 -- what the search says behind some lines and the first bytes of the next
 abbrev FindsBehind : ℕ → List ℕ → List ℕ → Type 0
-FindsBehind n p bs = option_map (behind (length p)) (end_from (at n p) bs) ≡ option_map (counted n) (size_to_empty (lead p (lines_of bs)))
+FindsBehind n p bs = option_map (size_behind (length p)) (end_from (at n p) bs) ≡ option_map (counted n) (size_to_empty (lead p (lines_of bs)))
 
 -- the same before the first line
 abbrev FindsFirst : List ℕ → List ℕ → Type 0
-FindsFirst p bs = option_map (behind (length p)) (end_from (at 0 p) bs) ≡ head_size (lead p (lines_of bs))
+FindsFirst p bs = option_map (size_behind (length p)) (end_from (at 0 p) bs) ≡ head_size (lead p (lines_of bs))
 
 plain : (n : ℕ) (bs : List ℕ) → FindsBehind n [] bs → end_from (at n []) bs ≡ option_map (counted n) (size_to_empty (lines_of bs))
 plain n bs h = sym (behind_none (end_from (at n []) bs)) ∙ h ∙ ap (λ ls. option_map (counted n) (size_to_empty ls)) (lead_none (lines_of bs))
@@ -84,7 +84,7 @@ line_ends n p bs true h e k =
     let len : 1 + length p ≡ length p + 1 = omega arith in
     rw (append-nil p, empty_at p, e, h) (ap Some (same_size (1 + length p) (length p + 1) n (n + 0) len (omega arith)))
 line_ends n p bs false h e k =
-    rw (append-nil p, empty_at p, e) (ap (λ o. option_map (behind (length p)) (option_map (behind 1) o)) (plain (n + 1) bs k) ∙ line_behind (size_to_empty (lines_of bs)) p n 1)
+    rw (append-nil p, empty_at p, e) (ap (λ o. option_map (size_behind (length p)) (option_map (size_behind 1) o)) (plain (n + 1) bs k) ∙ line_behind (size_to_empty (lines_of bs)) p n 1)
 
 -- a byte within a line
 byte_in : (n : ℕ) (p bs : List ℕ) (b : ℕ) → eqb b 10 ≡ false → FindsBehind n (p ++ b ∷ []) bs → FindsBehind n p (b ∷ bs)
@@ -112,10 +112,10 @@ plain_first bs h = sym (behind_none (end_from (at 0 []) bs)) ∙ h ∙ ap head_s
 -- an LF behind an empty line, or behind the request line
 first_ends : (p bs : List ℕ) (e : Bool) → is_empty_line p ≡ e → FindsFirst [] bs → FindsFirst p (10 ∷ bs)
 first_ends p bs true e k =
-    rw (append-nil p, empty_at p, e) (ap (λ o. option_map (behind (length p)) (option_map (behind 1) o)) (plain_first bs k ∙ sym (counted_none (head_size (lines_of bs))))
+    rw (append-nil p, empty_at p, e) (ap (λ o. option_map (size_behind (length p)) (option_map (size_behind 1) o)) (plain_first bs k ∙ sym (counted_none (head_size (lines_of bs))))
     ∙ line_behind (head_size (lines_of bs)) p 0 0 ∙ counted_none (option_map (with_line p 0) (head_size (lines_of bs))))
 first_ends p bs false e k =
-    rw (append-nil p, empty_at p, e) (ap (λ o. option_map (behind (length p)) (option_map (behind 1) o)) (plain 1 bs (finds 1 [] bs refl))
+    rw (append-nil p, empty_at p, e) (ap (λ o. option_map (size_behind (length p)) (option_map (size_behind 1) o)) (plain 1 bs (finds 1 [] bs refl))
     ∙ line_behind (size_to_empty (lines_of bs)) p 0 1 ∙ counted_none (option_map (with_line p 1) (size_to_empty (lines_of bs))))
 
 first_in : (p bs : List ℕ) (b : ℕ) → eqb b 10 ≡ false → FindsFirst (p ++ b ∷ []) bs → FindsFirst p (b ∷ bs)

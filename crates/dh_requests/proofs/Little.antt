@@ -15,7 +15,7 @@ use Rattle.dh_requests.specs.declared.length.LengthFault.TheVariants.{TooLarge a
 use Rattle.dh_requests.specs.declared.head_end.Scan.{Scan}
 use Rattle.dh_requests.specs.declared.head_end.HeadEnd.TheVariants.{At, TooLarge, CutShort}
 use Rattle.dh_requests.specs.HeadEnd.{HeadSize, head_end_in, head_end_of}
-use Rattle.dh_requests.specs.Scan.{after_byte, end_from, ended_or, behind, at_first}
+use Rattle.dh_requests.specs.Scan.{after_byte, end_from, ended_or, size_behind, at_first}
 use Rattle.dh_requests.specs.Head.{Parts, parts_of}
 use Rattle.dh_requests.specs.Lengths.{is_number, limited, told_length, body_length}
 use Rattle.dh_paths.specs.Targets.{target_of}
@@ -93,7 +93,7 @@ asks_little text posted asks = subst IsLittle (sym asks.2) (asked_little asks.0)
 abbrev IsAmong : ℕ → Option HeadSize → Type 0
 IsAmong n o = IfSome o (λ size. size.bytes ≤ n)
 
-among_more : (n : ℕ) (o : Option HeadSize) → IsAmong n o → IsAmong (1 + n) (option_map (behind 1) o)
+among_more : (n : ℕ) (o : Option HeadSize) → IsAmong n o → IsAmong (1 + n) (option_map (size_behind 1) o)
 among_more n None h = tt
 among_more n (Some size) h = omega (arith, h)
 

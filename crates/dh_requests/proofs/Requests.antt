@@ -17,12 +17,12 @@ use Rattle.dh_requests.specs.declared.head_end.HeadEnd.TheVariants.{At, TooLarge
 use Rattle.dh_requests.specs.HeadEnd.{head_end_of}
 use Rattle.dh_requests.specs.Head.{IsHeadOf, parts_found, IsReadAs}
 use Rattle.dh_requests.specs.Takes.{AddsUpTo}
-use Rattle.dh_requests.specs.Request.{asked_by, asked_of, HeadAsksFor, command_of, request_behind, IsRequestUpTo, IsRequest}
+use Rattle.dh_requests.specs.Request.{asked_by_head, asked_of, HeadAsksFor, posted_command, request_behind, IsRequestUpTo, IsRequest}
 
 -- the parts that were found ask for what the head does
-pub parse_request_head : (text : List ℕ) (found : Head) (r : Result Asked Stop) → IsReadAs text (Some found) → IfOk r (λ a. a ≡ asked_by (parts_found found)) → IfOk r (HeadAsksFor text)
+pub parse_request_head : (text : List ℕ) (found : Head) (r : Result Asked Stop) → IsReadAs text (Some found) → IfOk r (λ a. a ≡ asked_by_head (parts_found found)) → IfOk r (HeadAsksFor text)
 parse_request_head text found (Err e) read h = tt
-parse_request_head text found (Ok a) read h = (Some read.0, read.1, h ∙ ap asked_by read.2)
+parse_request_head text found (Ok a) read h = (Some read.0, read.1, h ∙ ap asked_by_head read.2)
 
 -- what the text of a head asks for, and what follows it, is a request
 pub request_text : (r : Result Request Stop) (left : Option (List ℕ)) (bytes text : List ℕ) (start : ℕ) (asked : Asked) → start ≤ length bytes → text ≡ take start bytes → HeadAsksFor text asked → IfOk r (λ q. IfSome left (λ more. q ≡ request_behind asked (drop start (bytes ++ more)))) → IfOk r (λ q. IfSome left (λ more. IsRequestUpTo (At start) (bytes ++ more) q))
@@ -38,7 +38,7 @@ whole_text None bytes text start request le same asks = tt
 whole_text (Some more) bytes text start request le same asks = request_text (Ok request) (Some more) bytes text start (Whole request) le same asks refl
 
 -- a body that is whole
-pub whole_body : (r : Result Request Stop) (old new : Option (List ℕ)) (before after body : List ℕ) (start : ℕ) (posted : Posted) (whole : Bool) → whole ≡ true → start ≤ length before → AddsUpTo old new before after (start + posted.length) whole → body ≡ take (start + posted.length - start) (drop start after) → IfOk r (λ q. q ≡ command_of posted body) → IfOk r (λ q. IfSome old (λ left. q ≡ request_behind (Command posted) (drop start (before ++ left))))
+pub whole_body : (r : Result Request Stop) (old new : Option (List ℕ)) (before after body : List ℕ) (start : ℕ) (posted : Posted) (whole : Bool) → whole ≡ true → start ≤ length before → AddsUpTo old new before after (start + posted.length) whole → body ≡ take (start + posted.length - start) (drop start after) → IfOk r (λ q. q ≡ posted_command posted body) → IfOk r (λ q. IfSome old (λ left. q ≡ request_behind (Command posted) (drop start (before ++ left))))
 whole_body r old new before after body start posted false w le h same is = absurd (cc)
 whole_body (Err e) old new before after body start posted true w le h same is = tt
 whole_body (Ok q) None new before after body start posted true w le h same is = tt
@@ -53,7 +53,7 @@ whole_body (Ok q) (Some x) (Some y) before after body start posted true w le h s
     let count : start + posted.length - start ≡ posted.length = omega arith in
     let front : take posted.length (drop start (before ++ x)) ≡ body =
     ap (take posted.length) rest ∙ take-append-le posted.length (drop start after) y fits ∙ ap (λ n. take n (drop start after)) (sym count) ∙ sym same in
-    is ∙ sym (ap (λ b. cond b (command_of posted (take posted.length (drop start (before ++ x)))) (Refused 400 None false)) long ∙ ap (command_of posted) front)
+    is ∙ sym (ap (λ b. cond b (posted_command posted (take posted.length (drop start (before ++ x)))) (Refused 400 None false)) long ∙ ap (posted_command posted) front)
 
 -- the request of what came and what is left is that of the input
 request_at : (old mid : Option (List ℕ)) (bytes : List ℕ) (end : HeadEnd) (request : Request) → IfSome old (λ input. end ≡ head_end_of input) → Consumes old mid bytes → IfSome mid (λ left. IsRequestUpTo end (bytes ++ left) request) → IfSome old (λ input. IsRequest input request)

@@ -10,7 +10,7 @@ use Rattle.dh_requests.specs.declared.head_end.Scan.{Scan}
 use Rattle.dh_requests.specs.declared.head_end.Place.TheVariants.{Start, Return, Inside}
 use Rattle.dh_requests.specs.HeadEnd.{HeadSize, lines_of, head_size, IsHeadText}
 use Rattle.dh_requests.specs.Head.{IsHeadOf, Parts, HeadEndsByLines}
-use Rattle.dh_requests.specs.Scan.{after_byte, behind, end_from, ended_or, at_first, ScansTo}
+use Rattle.dh_requests.specs.Scan.{after_byte, size_behind, end_from, ended_or, at_first, ScansTo}
 use Rattle.dh_requests.proofs.Lines.{end_from-first, behind_none, sized, unsome}
 use Rattle.dh_requests.proofs.Ends.{scans_on}
 
@@ -144,7 +144,7 @@ ends_there h rest v =
     ap (λ w. end_from at_first (w ++ rest)) (printed h)
     ∙ ap (end_from at_first) (append_assoc (head_front h) (print_end h.last) rest)
     ∙ front_run h v (print_end h.last ++ rest)
-    ∙ ap (option_map (behind (length (head_front h)))) (last_end (1 + length h.fields) h.last rest (later (length h.fields)))
+    ∙ ap (option_map (size_behind (length (head_front h)))) (last_end (1 + length h.fields) h.last rest (later (length h.fields)))
     ∙ ap (λ k. Some (sized k (1 + length h.fields))) swap
 
 pub by_lines : HeadEndsByLines

@@ -6,9 +6,9 @@ use Rattle.dh_requests.specs.declared.fault.HeadFault.{HeadFault}
 use Rattle.dh_requests.specs.declared.fault.HeadFault.TheVariants.{BadText, NoLine, TwoLines, Memory}
 
 -- the fault of a head for the fault of a text in it
-abbrev pub fault_of : TextFault → HeadFault
-fault_of text.Memory = Memory
-fault_of _ = BadText
+abbrev pub head_fault : TextFault → HeadFault
+head_fault text.Memory = Memory
+head_fault _ = BadText
 
 -- the defined value is found; a fault other than out of memory comes only where no value is defined
 abbrev pub FindsInHead : {A : Type 0} → Option A → Result A HeadFault → Type 0

@@ -7,7 +7,7 @@ use Rattle.dh_paths.specs.declared.target.Target.{Target}
 use Rattle.dh_paths.specs.Targets.{target_of, host_of}
 use Rattle.dh_wire.specs.declared.reply.Allow.{Allow}
 use Rattle.dh_wire.specs.declared.reply.Allow.TheVariants as allow
-use Rattle.dh_bodies.specs.Bodies.{change_of}
+use Rattle.dh_bodies.specs.Bodies.{body_change}
 use Rattle.dh_bodies.specs.declared.post.Post.{Post}
 use Rattle.dh_bodies.specs.declared.post.Post.TheVariants.{Push, Upload}
 use Rattle.dh_requests.specs.declared.head_end.HeadEnd.{HeadEnd}
@@ -102,28 +102,28 @@ request_where_right parts =
     (requested_host target.host parts.host)) (target_of parts.target)
 
 -- what a head asks for; a head in which something is wrong is a bad request
-abbrev pub asked_by : Parts → Asked
-asked_by parts = unwrap_or (request_where_right parts) (Whole (Refused 400 None (is_head parts.method)))
+abbrev pub asked_by_head : Parts → Asked
+asked_by_head parts = unwrap_or (request_where_right parts) (Whole (Refused 400 None (is_head parts.method)))
 
 -- what a head of the grammar asks for; a text that is no such head is a bad request
 abbrev pub asked_of : Option RequestHead → Asked
 asked_of None = Whole (Refused 400 None false)
-asked_of (Some head) = asked_by (parts_of head)
+asked_of (Some head) = asked_by_head (parts_of head)
 
 -- ---- the body
 
 -- the command that a body asks for; a body that is not of the form is a bad request
-unfoldable pub command_of : Posted → List ℕ → Request
-command_of posted body =
+unfoldable pub posted_command : Posted → List ℕ → Request
+posted_command posted body =
     option_map_or (λ change. Apply (record { host = posted.host; change = change }))
-    (change_of posted.post posted.key body) (Refused 400 None false)
+    (body_change posted.post posted.key body) (Refused 400 None false)
 
 -- the request of a head and of what follows it: a command has its body there, and bytes behind the body
 -- do not count; a body that is cut short is a bad request
 abbrev pub request_behind : Asked → List ℕ → Request
 request_behind (Whole request) rest = request
 request_behind (Command posted) rest =
-    if nat_le posted.length (length rest) then command_of posted (take posted.length rest)
+    if nat_le posted.length (length rest) then posted_command posted (take posted.length rest)
     else Refused 400 None false
 
 -- ---- the input

@@ -32,13 +32,13 @@ after_byte scan b =
     else Some (record { lines = scan.lines; place = place_after scan.place b })
 
 -- the size with this many more bytes in front
-abbrev pub behind : ℕ → HeadSize → HeadSize
-behind n size = record { bytes = size.bytes + n; lines = size.lines }
+abbrev pub size_behind : ℕ → HeadSize → HeadSize
+size_behind n size = record { bytes = size.bytes + n; lines = size.lines }
 
 -- the byte ends the head, or is one more in front of the size that the rest gives
 abbrev pub ended_or : Option Scan → ℕ → (Scan → Option HeadSize) → Option HeadSize
 ended_or None lines rest = Some (record { bytes = 1; lines = lines })
-ended_or (Some scan) lines rest = option_map (behind 1) (rest scan)
+ended_or (Some scan) lines rest = option_map (size_behind 1) (rest scan)
 
 -- how many bytes it is from here to the end of the head, and how many lines the head then has
 abbrev pub end_from : Scan → List ℕ → Option HeadSize
@@ -52,7 +52,8 @@ at_first = record { lines = 0; place = Start }
 -- behind these n bytes the search stands at `now`: whatever follows, the end of the head is found from there
 abbrev pub ScansTo : Scan → List ℕ → ℕ → Scan → Type 0
 ScansTo first bytes n now =
-    (more : List ℕ) → end_from first (bytes ++ more) ≡ option_map (behind n) (end_from now more)
+    (more : List ℕ) → end_from first (bytes ++ more)
+    ≡ option_map (size_behind n) (end_from now more)
 
 -- the head ends behind the n-th of the bytes, with the lines that the search counted
 abbrev pub FindsEnd : Scan → List ℕ → Scan → ℕ → Type 0

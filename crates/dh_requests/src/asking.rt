@@ -148,7 +148,7 @@ fn request_where_right(alloc: Global, head: &Head<'_>) -> Result<Asked, HeadFaul
 }
 
 fn request_of_head(alloc: Global, head: &Head<'_>) -> Result<Asked, Stop>
-    ensures asked { IfOk result (λ asked. asked ≡ request.asked_by (parts_found head.now)) }
+    ensures asked { IfOk result (λ asked. asked ≡ request.asked_by_head (parts_found head.now)) }
     ensures err { IfErr result (λ stop. stop ≡ Stop.Memory) }
 {
     let fault = match request_where_right(alloc, head) {

@@ -1,7 +1,7 @@
 //! Why a head asks for nothing that can be done.
 
 ghost use Rattle.std.specs.Prelude.{◌≡◌};
-ghost use Rattle.dh_requests.specs.Faults.{fault_of};
+ghost use Rattle.dh_requests.specs.Faults.{head_fault};
 ghost use Rattle.dh_requests.specs.declared.fault.HeadFault.TheVariants.{Memory};
 
 use dh_paths::TextFault;
@@ -21,7 +21,7 @@ pub enum HeadFault {
 }
 
 impl From<TextFault> for HeadFault {
-    ghost from_gives = { λ text fault. fault ≡ fault_of text };
+    ghost from_gives = { λ text fault. fault ≡ head_fault text };
 
     fn from(text: TextFault) -> HeadFault {
         if text == TextFault::Memory {

@@ -27,7 +27,7 @@ type Taken = Result<Request, Stop>;
 /// The command that a body asks for, or the refusal of a body that asks for none.
 #[tactic(auto, unfolding(crate::specs::Request::command_of))]
 fn command_of(alloc: Global, posted: Posted, body: &[u8]) -> Taken
-    ensures request { IfOk result (λ r. r ≡ request.command_of posted body.now) }
+    ensures request { IfOk result (λ r. r ≡ request.posted_command posted body.now) }
     ensures err { IfErr result (λ stop. stop ≡ Stop.Memory) }
 {
     let Posted {

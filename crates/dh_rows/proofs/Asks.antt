@@ -15,7 +15,7 @@ use Rattle.sqlite.specs.Given.{IsPlain}
 use Rattle.sqlite.specs.Listing.{understood}
 use Rattle.sqlite.specs.Does.{Does}
 use Rattle.sqlite.specs.State.{State, mode_of}
-use Rattle.dh_rows.specs.Calls.{command_of, statement_of, IsEdit, IsPlainEdit, IsPlainLook, IsUnfit, EditsTo}
+use Rattle.dh_rows.specs.Calls.{compiled_command, statement_of, IsEdit, IsPlainEdit, IsPlainLook, IsUnfit, EditsTo}
 use Rattle.dh_rows.proofs.Calls.{tail_of, parameters_of}
 use Rattle.dh_rows.specs.Keyed.{Coding, by_key, IsFreeKey, added, put}
 use Rattle.dh_rows.specs.Places.{tree_of, table_in, KeepsTable, records_of}
@@ -34,7 +34,7 @@ pub record WritesTable (s : State) (text : List ℕ) (params : Row) (t : Table) 
 -- what `select` asks of a text, and what it then answers
 pub record AnswersWith (s : State) (text : List ℕ) (params : Row) (answer : List Row) : Type 0 where
   pub look : IsPlainLook s text
-  pub reads : (rows : List Row) → Reads (command_of (understood s.now.schema text)) s.now params rows → rows ≡ answer
+  pub reads : (rows : List Row) → Reads (compiled_command (understood s.now.schema text)) s.now params rows → rows ≡ answer
   -- only a limit on steps refuses it
   pub fits : IsUnfit s text params → IsSome s.step_limit
 

@@ -28,9 +28,9 @@ use Rattle.sqlite.proofs.Callers as callers
 use Rattle.sqlite.proofs.Callers.{IsPlain, runs_as, reads_as, never_commits}
 use Rattle.dh_ports.specs.declared.fault.Fault.{Fault}
 use Rattle.dh_ports.specs.declared.fault.Fault.TheVariants.{Store, Memory}
-use Rattle.dh_rows.specs.Faults.{fault_of}
+use Rattle.dh_rows.specs.Faults.{statement_fault}
 use Rattle.dh_ports.specs.Faults.{OnStore}
-use Rattle.dh_rows.specs.Calls.{command_of, statement_of, IsEdit, EditsTo, EditsAs, whole, IsHonest, LeavesTrees, LeavesNoMore, KeepsFaults, MakesNoCommit, MakesNoCommitInside, NowShows, RunsStatement as Ran, EditsWhatIsSeen, EditsAtMost, ControlsTransaction, OnlyBegins, OnlyCommits, OnlyUndoes, OnlyLooks, OnlyEdits, BeginsTransaction, CommitsSeen, UndoesTransaction, RefusalUndoes, IsPlainLook, IsPlainEdit, AreRows, IsBlamed, StoreFaultHasCause, IsRejected, IsUnfit, ShowsHonestly, IsSame, IsUndone, IsRefused, BecomesSeen}
+use Rattle.dh_rows.specs.Calls.{compiled_command, statement_of, IsEdit, EditsTo, EditsAs, whole, IsHonest, LeavesTrees, LeavesNoMore, KeepsFaults, MakesNoCommit, MakesNoCommitInside, NowShows, RunsStatement as Ran, EditsWhatIsSeen, EditsAtMost, ControlsTransaction, OnlyBegins, OnlyCommits, OnlyUndoes, OnlyLooks, OnlyEdits, BeginsTransaction, CommitsSeen, UndoesTransaction, RefusalUndoes, IsPlainLook, IsPlainEdit, AreRows, IsBlamed, StoreFaultHasCause, IsRejected, IsUnfit, ShowsHonestly, IsSame, IsUndone, IsRefused, BecomesSeen}
 
 -- ---- refusals
 
@@ -128,12 +128,12 @@ begin_commits s db h = elim (bare_commits are_bare.0 s db h).0 [ inl e ↦ cc | 
 rollback_commits : (s : State) (db : Trees) → ¬ CommitsBy rollback_text [] s db
 rollback_commits s db h = elim (bare_commits are_bare.2 s db h).0 [ inl e ↦ cc | inr e ↦ (let x = e.1 in cc) ]
 
-edit_commits : (sql : List ℕ) (params : Row) (s : State) (db : Trees) → IsPlain (understood s.now.schema sql) → IsEdit (command_of (understood s.now.schema sql)) → CommitsBy sql params s db
+edit_commits : (sql : List ℕ) (params : Row) (s : State) (db : Trees) → IsPlain (understood s.now.schema sql) → IsEdit (compiled_command (understood s.now.schema sql)) → CommitsBy sql params s db
     → (s.in_transaction ≡ false) × (after : Database) × EditsTo s sql params after × (db ≡ after.trees)
 edit_commits sql params s db plain edits h =
     let it = may_commit sql params s db plain h in
     elim it.2 [
-      | inl done ↦ absurd (no_end it.0.command (subst (λ r. IsEdit (command_of r)) it.1 edits) done.0)
+      | inl done ↦ absurd (no_end it.0.command (subst (λ r. IsEdit (compiled_command r)) it.1 edits) done.0)
       | inr done ↦ (done.0, done.2, subst (EditsAs s sql params done.2) (sym it.1) (done.1, done.3, done.4), done.5)
     ]
   where
@@ -144,11 +144,11 @@ edit_commits sql params s db plain edits h =
 -- ---- why a statement that begins or ends a transaction is refused
 
 -- a fault of the store's own
-blamed : {S : Type 0} (g : Ghosts S) (old new : Held S) (too_big : Type 0) (e : Error) → ¬ too_big → Fails (state_of g old) (state_of g new) too_big e → fault_of e ≡ Store → IsBlamed g old new
+blamed : {S : Type 0} (g : Ghosts S) (old new : Held S) (too_big : Type 0) (e : Error) → ¬ too_big → Fails (state_of g old) (state_of g new) too_big e → statement_fault e ≡ Store → IsBlamed g old new
 blamed g old new too_big e small h is = go h.0 h.1 h.2
   where
     go : (cause : StoreError) → e ≡ state.store_error cause → state.HasCause (state_of g old) (state_of g new) too_big cause → IsBlamed g old new
-    go OutOfMemory same why = absurd (let x = sym (ap fault_of same) ∙ is in cc)
+    go OutOfMemory same why = absurd (let x = sym (ap statement_fault same) ∙ is in cc)
     go Io same why = inl why
     go Corrupt same why = inl why
     go Full same why = inl why
@@ -156,7 +156,7 @@ blamed g old new too_big e small h is = go h.0 h.1 h.2
     go Unstorable same why = absurd (small why)
 
 module _ {S : Type 0} (g : Ghosts S) (old new : Held S) (text : List ℕ) (k : Command) (bare : IsBare text k) where
-  why : (e : Error) → Executes text [] (state_of g old) (state_of g new) (Err e) → fault_of e ≡ Store → IsBlamed g old new ⊎ state.IsMisplaced (state_of g old) k e
+  why : (e : Error) → Executes text [] (state_of g old) (state_of g new) (Err e) → statement_fault e ≡ Store → IsBlamed g old new ⊎ state.IsMisplaced (state_of g old) k e
   unfolding ExecutesIn IsNotRun
   why e (inl (inl h)) is = elim h.0 [
     | inl it ↦ absurd (subst IsPlain it.1 (bare.plain _))
@@ -220,7 +220,7 @@ within false c is e = absurd (true≢false (sym is ∙ e))
 
 module _ {S : Type 0} (g : Ghosts S) (old new : Held S) (sql : List ℕ) (params : Row) (clean : HasCleanDisk (state_of g new) → HasCleanDisk (state_of g old))
     (look : IsHonest g old → IsPlainLook (state_of g old) sql) where
-  unread : (e : Error) → IsHonest g old → FailsToQuery sql params (state_of g old) (state_of g new) e → fault_of e ≡ Store → IsBlamed g old new ⊎ IsUnfit (state_of g old) sql params
+  unread : (e : Error) → IsHonest g old → FailsToQuery sql params (state_of g old) (state_of g new) e → statement_fault e ≡ Store → IsBlamed g old new ⊎ IsUnfit (state_of g old) sql params
   unfolding FailsToQuery IsNotRun
   unread e honest (inl (inl h)) is = inr (e, inl h.0)
   unread e honest (inl (inr h)) is = inl (blamed g old new _ e (λ none. none) h is)
@@ -229,10 +229,10 @@ module _ {S : Type 0} (g : Ghosts S) (old new : Held S) (sql : List ℕ) (params
       let it = rw (bare.0, bare.1, append-nil params) at h.2 in
       let db : it.0 ≡ (state_of g old).now = subst (λ b. IsSourceOf b (state_of g old).now it.0) (look honest).listing it.1 in
       let refuses = subst (λ d. RefusesToRead (state_of g old).step_limit h.0.command d params e) db it.2 in
-      inr (e, inr (subst (λ r. RefusesToRead (state_of g old).step_limit (command_of r) (state_of g old).now params e) (sym h.1.is) refuses))
+      inr (e, inr (subst (λ r. RefusesToRead (state_of g old).step_limit (compiled_command r) (state_of g old).now params e) (sym h.1.is) refuses))
 
   -- the store's own fault, or the query's
-  pub query_blames : HasCleanDisk (state_of g new) → (e : Error) (fault : Fault) → fault ≡ fault_of e → FailsToQuery sql params (state_of g old) (state_of g new) e
+  pub query_blames : HasCleanDisk (state_of g new) → (e : Error) (fault : Fault) → fault ≡ statement_fault e → FailsToQuery sql params (state_of g old) (state_of g new) e
       → OnStore {T = Unit {0}} (Err fault) (IsBlamed g old new ⊎ IsUnfit (state_of g old) sql params)
   query_blames now e Memory is fails = tt
   query_blames now e Store is fails = elim (cases_Bool (state_of g old).is_open) [
@@ -403,12 +403,12 @@ module _ {S : Type 0} (g : Ghosts S) (old new : Held S) (r : Result (Unit {0}) F
 
 -- ---- one write, and one query, of tables
 
-same_words : (sql : List ℕ) (r : Result Compiled CompileError) → (command_of r ≡ callers.command_of r) × (statement_of sql r ≡ callers.statement_of sql r)
+same_words : (sql : List ℕ) (r : Result Compiled CompileError) → (compiled_command r ≡ callers.command_of r) × (statement_of sql r ≡ callers.statement_of sql r)
 same_words sql (Ok c) = (refl, refl)
 same_words sql (Err e) = (refl, refl)
 
 ran_as : (sql : List ℕ) (params : Row) (old new : State) → IsPlain (understood old.now.schema sql) → (n : ℕ) → Executes sql params old new (Ok n)
-    → Runs old new None (command_of (understood old.now.schema sql)) (statement_of sql (understood old.now.schema sql)) params n
+    → Runs old new None (compiled_command (understood old.now.schema sql)) (statement_of sql (understood old.now.schema sql)) params n
 ran_as sql params old new plain n h =
     let w = same_words sql (understood old.now.schema sql) in
     rw (w.0, w.1) (runs_as sql params old new old.now.schema refl _ refl plain n h)

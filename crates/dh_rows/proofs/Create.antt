@@ -27,7 +27,7 @@ use Rattle.sqlite.specs.Does.{Does, Tally, lacks_sequence}
 use Rattle.sqlite.specs.Given.{IsPlain}
 use Rattle.sqlite.specs.Listing.{understood}
 use Rattle.sqlite.specs.State.{State, mode_of, text_of}
-use Rattle.dh_rows.specs.Calls.{command_of, IsEdit, IsPlainEdit, EditsTo, EditsAs}
+use Rattle.dh_rows.specs.Calls.{compiled_command, IsEdit, IsPlainEdit, EditsTo, EditsAs}
 use Rattle.dh_rows.specs.Places.{IsFree, HasTable, is_at, IsUnreferred, IsUnmentioned, tree_of, table_in, StandsInSchema, unique_keys, ArePlaced, rows_of}
 use Rattle.dh_rows.proofs.Indexes.{placed, keyed_kept, keyed_made}
 use Rattle.dh_rows.proofs.Meaning.{understood_as, compiled_as}
@@ -328,7 +328,7 @@ pub creates : (t : Table) (text : List ℕ) → IsCreate text t → t.references
 creates t text (makes {p = p} {def = def} read is formats name reserved table sound defined) unreferring uncounted bytewise s free unmentioned counted fine =
     let schema = s.now.schema in
     let means = create_means schema p def is formats (subst (IsFree schema) (sym name) free) (ap is_reserved name ∙ reserved) t table sound text read in
-    record { edit = record { plain = subst IsPlain (sym means) (refl, refl); edits = subst (λ r. IsEdit (command_of r)) (sym means) tt }; made = λ after edits. go after (subst (EditsAs s text [] after) means edits) }
+    record { edit = record { plain = subst IsPlain (sym means) (refl, refl); edits = subst (λ r. IsEdit (compiled_command r)) (sym means) tt }; made = λ after edits. go after (subst (EditsAs s text [] after) means edits) }
   where
     low : (u : Table) → (was : StandsInSchema s.now.schema u) → tree_of s.now.schema u.name < next_tree s.now.schema
     low u was = table_below s.now.schema (table_in s.now.schema u) (slice_has s.now.schema.tables was.at (table_in s.now.schema u) was.has.stands)

@@ -28,7 +28,7 @@ use Rattle.sqlite.specs.Given.{IsPlain}
 use Rattle.sqlite.specs.Listing.{understood}
 use Rattle.sqlite.specs.Rows.{sequence, Task}
 use Rattle.sqlite.specs.State.{State, mode_of, text_of}
-use Rattle.dh_rows.specs.Calls.{command_of, IsEdit, IsPlainEdit, EditsTo, EditsAs}
+use Rattle.dh_rows.specs.Calls.{compiled_command, IsEdit, IsPlainEdit, EditsTo, EditsAs}
 use Rattle.dh_rows.specs.Places.{IsFree, IsUnshared, HasTable, is_at, IsUnreferred, IsUnmentioned, tree_of, table_in, StandsInSchema, unique_keys, ArePlaced, rows_of}
 use Rattle.dh_rows.specs.Shapes.{IsLone}
 use Rattle.dh_rows.proofs.Create.{row_kept, tree_is}
@@ -299,7 +299,7 @@ pub drops_table : (t : Table) (text : List ℕ) → IsDrop text t.name → t.is_
     → IsLone s.now.schema (tree_of s.now.schema t.name) t.name → IsUnmentioned s.now.schema t.name → IsUnshared s.now.schema t.name → lacks_sequence s.now.schema ≡ false → DropsTable s text t
 drops_table t text (drops {p = p} read is formats reserved) uncounted apart s sound was lone alone unshared counted =
     let means = drop_means s.now.schema p t.name is formats reserved was.at was.has.named unshared.views text read in
-    record { edit = record { plain = subst IsPlain (sym means) (refl, refl); edits = subst (λ r. IsEdit (command_of r)) (sym means) tt }; dropped = λ after edits. go after (subst (EditsAs s text [] after) means edits) }
+    record { edit = record { plain = subst IsPlain (sym means) (refl, refl); edits = subst (λ r. IsEdit (compiled_command r)) (sym means) tt }; dropped = λ after edits. go after (subst (EditsAs s text [] after) means edits) }
   where
     go : (after : Database) → EditsAs s text [] after (Ok (with_command p ([], (DropTable was.at, None)))) → Drops t s.now after
     go after it =

@@ -31,7 +31,7 @@ use Rattle.sqlite.specs.Does.{Does, Tally}
 use Rattle.sqlite.specs.Rows.{Written}
 use Rattle.sqlite.specs.declared.run.Mode.{Mode}
 use Rattle.sqlite.proofs.Callers.{one_step}
-use Rattle.dh_rows.specs.Keyed.{Coding, IsTableOf, by_key, same_key, IsFreeKey, added, records}
+use Rattle.dh_rows.specs.Keyed.{Coding, IsTableOf, by_key, same_key, IsFreeKey, added, records_in_rows}
 use Rattle.dh_rows.specs.Places.{HasTable, IsUnreferred, tree_of, table_in, StandsInSchema, rows_of, records_of, KeepsTable}
 use Rattle.dh_rows.proofs.Alone.{works_none}
 use Rattle.dh_rows.proofs.Terms.{from_table}
@@ -148,7 +148,7 @@ trees_apart schema t u s v apart e =
 pub record TurnsTable (t : Table) {X : Type 0} (c : Coding X) (change : List X → List X) (db after : Database) : Type 0 where
   pub schema : after.schema ≡ db.schema
   pub keeps : KeepsTable t c after
-  pub records : records_of c t.name after ≡ change (records_of c t.name db)
+  pub records_in_rows : records_of c t.name after ≡ change (records_of c t.name db)
   pub others : (u : Table) → StandsInSchema db.schema u → same_name u.name t.name ≡ false → rows_of after u.name ≡ rows_of db u.name
 
 -- another table of ours is as it was
@@ -156,21 +156,21 @@ pub other_keeps : {X Y : Type 0} {t : Table} {c : Coding X} {change : List X →
     → KeepsTable u d after × (records_of d u.name after ≡ records_of d u.name db)
 other_keeps {db = db} {after = after} it u d keeps apart =
     let rows = it.others u keeps.stands apart in
-    (record { stands = subst (λ s. StandsInSchema s u) (sym it.schema) keeps.stands; rows = subst (IsTableOf d) (sym rows) keeps.rows }, ap (records d) rows)
+    (record { stands = subst (λ s. StandsInSchema s u) (sym it.schema) keeps.stands; rows = subst (IsTableOf d) (sym rows) keeps.rows }, ap (records_in_rows d) rows)
 
 pub turned : {X : Type 0} (t : Table) (c : Coding X) (change : List X → List X) (db after : Database) → StandsInSchema db.schema t → after.schema ≡ db.schema
     → ((u : Table) → StandsInSchema db.schema u → same_name u.name t.name ≡ false → after.trees (tree_of db.schema u.name) ≡ rows_of db u.name)
-    → IsTableOf c (after.trees (tree_of db.schema t.name)) → records c (after.trees (tree_of db.schema t.name)) ≡ change (records_of c t.name db) → TurnsTable t c change db after
+    → IsTableOf c (after.trees (tree_of db.schema t.name)) → records_in_rows c (after.trees (tree_of db.schema t.name)) ≡ change (records_of c t.name db) → TurnsTable t c change db after
 turned t c change db after stands same others is are =
     let tree : (name : List ℕ) → after.trees (tree_of after.schema name) ≡ after.trees (tree_of db.schema name) = λ name. ap (λ s. after.trees (tree_of s name)) same in
     record {
       schema = same;
       keeps = record { stands = subst (λ s. StandsInSchema s t) (sym same) stands; rows = subst (IsTableOf c) (sym (tree t.name)) is };
-      records = ap (records c) (tree t.name) ∙ are;
+      records_in_rows = ap (records_in_rows c) (tree t.name) ∙ are;
       others = λ u s apart. tree u.name ∙ others u s apart;
     }
 
-unsorted : {X : Type 0} (c : Coding X) (rows : List Row) (P : X → Type 0) → AllByRecursion P (records c rows) → AllByRecursion P (map c.decode rows)
+unsorted : {X : Type 0} (c : Coding X) (rows : List Row) (P : X → Type 0) → AllByRecursion P (records_in_rows c rows) → AllByRecursion P (map c.decode rows)
 unsorted c rows P all = recursion_from_All P _ (All-permutation P _ _ (IsPermutation-sort_by (by_key c.key) (by_key_total c.key) (map c.decode rows)) (All-from_recursion P _ all))
 
 module _ (limit : Option ℕ) (mode : Mode) (db after : Database) (t : Table) {X : Type 0} (c : Coding X) (keeps : KeepsTable t c db) (params : Row) (text : List ℕ) (tally : Tally) where

@@ -13,7 +13,7 @@ use Rattle.sqlite_rules.specs.Edit.{is_taken}
 use Rattle.sqlite_keyed.specs.Lists.{sort_by, insert_sorted}
 use Rattle.sqlite_keyed.proofs.ListLemmas.{all_weaker, all-filter, ascending-filter, IsPermutation-filter, filter-map, along_permutation}
 use Rattle.sqlite_keyed.proofs.SortLemmas.{sorted_unique, IsPermutation-sort_by}
-use Rattle.dh_rows.specs.Keyed.{Coding, IsCoded, IsTableOf, by_key, records}
+use Rattle.dh_rows.specs.Keyed.{Coding, IsCoded, IsTableOf, by_key, records_in_rows}
 
 -- ---- lists with no ties
 
@@ -122,7 +122,7 @@ module _ {X : Type 0} (c : Coding X) where
   Apart x xs = AllByRecursion (λ y. is_eq (by_key c.key x y) ≡ false) xs
 
   pub adds_row : (new : Row) (rows : List Row) → IsTableOf c rows → is_taken rows new ≡ false → IsCoded c new → Apart (c.decode new) (map c.decode rows)
-      → IsTableOf c (put_row new rows) × (records c (put_row new rows) ≡ insert_sorted (by_key c.key) (c.decode new) (records c rows))
+      → IsTableOf c (put_row new rows) × (records_in_rows c (put_row new rows) ≡ insert_sorted (by_key c.key) (c.decode new) (records_in_rows c rows))
   adds_row new rows was free coded apart =
       let same = put_row_moves new rows free in
       let seen = IsPermutation-map c.decode _ _ same in
@@ -137,7 +137,7 @@ module _ {X : Type 0} (c : Coding X) where
 
   -- some rows less
   pub drops_rows : (p : X → Bool) (rows : List Row) → IsTableOf c rows
-      → IsTableOf c (filter (λ r. p (c.decode r)) rows) × (records c (filter (λ r. p (c.decode r)) rows) ≡ filter p (records c rows))
+      → IsTableOf c (filter (λ r. p (c.decode r)) rows) × (records_in_rows c (filter (λ r. p (c.decode r)) rows) ≡ filter p (records_in_rows c rows))
   drops_rows p rows was =
       let seen = filter-map p c.decode rows in (
         record {

@@ -12,7 +12,7 @@ use Rattle.sqlite_schema.specs.declared.schema.Keys.{Keys}
 use Rattle.sqlite_rules.specs.Edit.{is_taken, without_all, Applies}
 use Rattle.sqlite_rules.specs.Lists.{Has}
 use Rattle.sqlite_keyed.proofs.ListLemmas.{ascending_weaker, ascending_from_map}
-use Rattle.dh_rows.specs.Keyed.{Coding, IsTableOf, by_key, same_key, put, records}
+use Rattle.dh_rows.specs.Keyed.{Coding, IsTableOf, by_key, same_key, put, records_in_rows}
 use Rattle.dh_rows.proofs.Lists.{by_key_total, adds_row, drops_rows}
 
 -- ---- a test that one element at most passes
@@ -105,7 +105,7 @@ module _ {X : Type 0} (c : Coding X) where
   pub replaced : (t : Table) (x : X) (n : ℤ) (gone : List ℤ) (back : (n : ℤ) → c.decode (Int n ∷ c.encode x) ≡ x)
       → (schema : Schema) (keys : Keys) (db next : Trees) → IsTableOf c (db t.tree) → without_all (db t.tree) gone ≡ filter (λ r. not (same_key c.key x (c.decode r))) (db t.tree)
       → Applies schema keys db (record { table = t; gone = gone; news = (Int n ∷ c.encode x) ∷ [] }) next
-      → IsTableOf c (next t.tree) × (records c (next t.tree) ≡ put c.key x (records c (db t.tree)))
+      → IsTableOf c (next t.tree) × (records_in_rows c (next t.tree) ≡ put c.key x (records_in_rows c (db t.tree)))
   replaced t x n gone back schema keys db next was left applies =
       let tree = t.tree in
       let new : Row = Int n ∷ c.encode x in
@@ -114,7 +114,7 @@ module _ {X : Type 0} (c : Coding X) where
       let fresh : not (is_taken rest new) && true ≡ true = subst (λ rows. not (is_taken rows new) && true ≡ true) left applies.fresh in
       let rows : next tree ≡ put_row new rest = applies.rows ∙ ap (put_row new) left in
       let both = adds_row c new rest fewer.0 (not_taken (is_taken rest new) fresh) (ap (λ y. Int n ∷ c.encode y) (sym (back n))) (rw (back n) (free_of x (db tree))) in
-      (subst (IsTableOf c) (sym rows) both.0, ap (records c) rows ∙ both.1 ∙ ap₂ (λ y l. Rattle.sqlite_keyed.specs.Lists.insert_sorted (by_key c.key) y l) (back n) fewer.1)
+      (subst (IsTableOf c) (sym rows) both.0, ap (records_in_rows c) rows ∙ both.1 ∙ ap₂ (λ y l. Rattle.sqlite_keyed.specs.Lists.insert_sorted (by_key c.key) y l) (back n) fewer.1)
     where
       not_taken : (b : Bool) → not b && true ≡ true → b ≡ false
       not_taken true e = absurd (true≢false (sym e))

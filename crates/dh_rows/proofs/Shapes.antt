@@ -23,7 +23,7 @@ use Rattle.sqlite_rules.specs.Cast.{cast_row}
 use Rattle.sqlite_keyed.proofs.ListLemmas.{filter_as_flat_map, filter-map, map-map, map_same, ascending-map, ascending_weaker}
 use Rattle.sqlite_keyed.proofs.SortLemmas.{sorted_is-sort_by, sort_by-map}
 use Rattle.sqlite_keyed.specs.Lists.{sort_by, insert_sorted}
-use Rattle.dh_rows.specs.Keyed.{Coding, IsCoded, IsTableOf, by_key, records}
+use Rattle.dh_rows.specs.Keyed.{Coding, IsCoded, IsTableOf, by_key, records_in_rows}
 use Rattle.dh_rows.proofs.Terms.{from_table}
 use Rattle.dh_rows.proofs.Lists.{by_key_total, sort_filter, adds_row, drops_rows, other_way}
 
@@ -91,7 +91,7 @@ module _ {X : Type 0} (c : Coding X) (terms : List Term) (shown : List Term) (or
 
     -- in the order of the keys, the answer is the records that pass the test
     pub reads_records : (sorts : (x y : X) → key_cmp 0 (map (λ k. k.1) order) (keys x) (keys y) ≡ by_key c.key x y)
-        → (db : Trees) (rows : List Row) → IsTableOf c (db tree) → IsAnswer query (overlay db []) params rows → rows ≡ map show (filter test (records c (db tree)))
+        → (db : Trees) (rows : List Row) → IsTableOf c (db tree) → IsAnswer query (overlay db []) params rows → rows ≡ map show (filter test (records_in_rows c (db tree)))
     reads_records sorts db rows was a =
         let it = answered db rows a in
         let bag = filter test (map c.decode (db tree)) in
@@ -215,7 +215,7 @@ module _ {X : Type 0} (c : Coding X) where
     pub dropped : (terms : List Term) (params : Row) (test : X → Bool) (sees : (n : ℤ) (x : X) → matching terms params (Int n ∷ c.encode x) ≡ test x)
         → (schema : Schema) (keys : Keys) (db next : Trees) (found : List Row) → IsTableOf c (db t.tree) → IsAnswer (from_table t.tree terms (col 1 0 ∷ []) []) (overlay db []) params found
         → Applies schema keys db (edit_of db t (ids_of found) Given 0 []) next
-        → IsTableOf c (next t.tree) × (records c (next t.tree) ≡ filter (λ x. not (test x)) (records c (db t.tree)))
+        → IsTableOf c (next t.tree) × (records_in_rows c (next t.tree) ≡ filter (λ x. not (test x)) (records_in_rows c (db t.tree)))
     dropped terms params test sees schema keys db next found was a applies =
         let tree = t.tree in
         let it = answered c terms (col 1 0 ∷ []) [] tree params db found a in
@@ -224,7 +224,7 @@ module _ {X : Type 0} (c : Coding X) where
         let left = taken_out (matching terms params) (λ r. Unit {0}) (db tree) found (ints (db tree) was.coded) was.apart same in
         let rows : next tree ≡ filter (λ r. not (test (c.decode r))) (db tree) = applies.rows ∙ left ∙ filter_same_on _ _ (db tree) (tests (db tree) was.coded) in
         let both = drops_rows c (λ x. not (test x)) (db tree) was in
-        (subst (IsTableOf c) (sym rows) both.0, ap (records c) rows ∙ both.1)
+        (subst (IsTableOf c) (sym rows) both.0, ap (records_in_rows c) rows ∙ both.1)
       where
         tests : (xs : List Row) → AllByRecursion (IsCoded c) xs → AllByRecursion (λ r. not (matching terms params r) ≡ not (test (c.decode r))) xs
         tests [] all = tt
@@ -235,7 +235,7 @@ module _ {X : Type 0} (c : Coding X) where
         → (keeps : (db : Trees) → (n : ℤ) × (with_rowid Chosen (db t.tree) (cast_row t source) ≡ Int n ∷ c.encode x))
         → (schema : Schema) (keys : Keys) (db next : Trees) → IsTableOf c (db t.tree) → AllByRecursion (λ y. is_eq (by_key c.key x y) ≡ false) (map c.decode (db t.tree))
         → Applies schema keys db (edit_of db t [] Chosen 0 (source ∷ [])) next
-        → IsTableOf c (next t.tree) × (records c (next t.tree) ≡ insert_sorted (by_key c.key) x (records c (db t.tree)))
+        → IsTableOf c (next t.tree) × (records_in_rows c (next t.tree) ≡ insert_sorted (by_key c.key) x (records_in_rows c (db t.tree)))
     inserted x source back keeps schema keys db next was free applies =
         let tree = t.tree in
         let n = (keeps db).0 in
@@ -244,7 +244,7 @@ module _ {X : Type 0} (c : Coding X) where
         let fresh : not (is_taken (db tree) new) && true ≡ true = subst (λ r. not (is_taken (db tree) r) && true ≡ true) is applies.fresh in
         let rows : next tree ≡ put_row new (db tree) = applies.rows ∙ ap (λ r. put_row r (db tree)) is in
         let both = adds_row c new (db tree) was (not_taken (is_taken (db tree) new) fresh) (ap (λ y. Int n ∷ c.encode y) (sym (back n))) (rw (back n) free) in
-        (subst (IsTableOf c) (sym rows) both.0, ap (records c) rows ∙ both.1 ∙ ap (λ y. insert_sorted (by_key c.key) y (records c (db tree))) (back n))
+        (subst (IsTableOf c) (sym rows) both.0, ap (records_in_rows c) rows ∙ both.1 ∙ ap (λ y. insert_sorted (by_key c.key) y (records_in_rows c (db tree))) (back n))
       where
         not_taken : (b : Bool) → not b && true ≡ true → b ≡ false
         not_taken true e = absurd (true≢false (sym e))

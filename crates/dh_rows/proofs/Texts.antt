@@ -59,7 +59,7 @@ use Rattle.sqlite_resolve.specs.Compile.{first, new_rows, small, read as resolve
 use Rattle.sqlite_tied.specs.Compute.{everything}
 use Rattle.sqlite.specs.Listing.{understood, reads_listing}
 use Rattle.sqlite.specs.Given.{IsPlain}
-use Rattle.dh_rows.specs.Calls.{command_of}
+use Rattle.dh_rows.specs.Calls.{compiled_command}
 use Rattle.dh_rows.proofs.Calls.{tail_of, parameters_of}
 use Rattle.dh_rows.specs.Places.{tree_of, table_in, StandsInSchema}
 use Rattle.dh_rows.proofs.Terms.{equals, above, wanted, wanted_above, rising, by_rowid, from_table, columns_at}
@@ -135,7 +135,7 @@ pub record IsFrame (t : Table) (q : Select) (core : Core) (src : Source) : Type 
 
 -- the text's meaning at a schema
 pub record Means (schema : Schema) (text : List ℕ) (k : Command) : Type 0 where
-  pub is : command_of (understood schema text) ≡ k
+  pub is : compiled_command (understood schema text) ≡ k
   pub plain : IsPlain (understood schema text)
 
 -- The same of a query, and how its text ends and how many parameters it has, as they were read.
@@ -516,7 +516,7 @@ module _ (schema : Schema) (t : Table) (stands : StandsInSchema schema t) (simpl
       let none : deleted schema at its test ≡ Ok (drafted (Inner its.tree ∷ []) terms (col 1 0 ∷ [])) = gone ∙ ap (λ steps. Ok (drafted (Inner its.tree ∷ steps) terms (col 1 0 ∷ []))) x.follows.steps in
       let typed = accepts _ terms (col 1 0 ∷ []) [] refl typed_tests refl refl in
       let means = delete_means schema p t.name test is formats at its _ _ stands.has.named there none typed text parse in
-      record { is = ap command_of means; plain = subst IsPlain (sym means) (refl, refl) }
+      record { is = ap compiled_command means; plain = subst IsPlain (sym means) (refl, refl) }
 
   pub delete_is : (text : List ℕ) (ws : List (ℕ × ℕ)) → IsDelete t text ws → Means schema text (command.Delete at (record { lets = []; body = from_table (tree_of schema t.name) (wanted ws) (col 1 0 ∷ []) [] }))
   delete_is text ws (deletes {p = p} {test = test} parse is formats filter few) =
@@ -559,7 +559,7 @@ module _ (schema : Schema) (t : Table) (stands : StandsInSchema schema t) (simpl
       ∙ ap (λ l. Ok (command.Select (record { lets = []; body = from_table (tree_of schema t.name) (wanted ws) shown order }) l)) names_are in
       let both = select_means schema p q _ text parse is formats read in
       record {
-        means = record { is = ap command_of both.0; plain = subst IsPlain (sym both.0) (refl, refl) };
+        means = record { is = ap compiled_command both.0; plain = subst IsPlain (sym both.0) (refl, refl) };
         listing = both.1;
         parsed = p;
         read = parse;
@@ -609,4 +609,4 @@ module _ (schema : Schema) (t : Table) (stands : StandsInSchema schema t) (simpl
   insert_is text terms width (adds {p = p} {columns = columns} {rows = rows} parse is formats source) =
       let unstamped : its.stamps.formats ≡ [] = ap (λ (u : Table). u.stamps.formats) simple in
       let means = insert_means schema p t.name columns rows formats at its stands.has.named there unstamped is text (Values terms width) parse source in
-      record { is = ap command_of means; plain = subst IsPlain (sym means) (refl, refl) }
+      record { is = ap compiled_command means; plain = subst IsPlain (sym means) (refl, refl) }

@@ -56,8 +56,8 @@ use Rattle.sqlite.specs.Listing.{understood}
 use Rattle.sqlite.specs.Does.{Does, Tally}
 use Rattle.sqlite.specs.Rows.{Written as Wrote, Task, Tries, TriesEach, Meets, Upserts, Puts, Clears, shown as laid, nothing, count_of}
 use Rattle.sqlite.proofs.Callers.{one_step, one_permutation}
-use Rattle.dh_rows.specs.Calls.{command_of}
-use Rattle.dh_rows.specs.Keyed.{Coding, IsCoded, IsTableOf, same_key, put, records}
+use Rattle.dh_rows.specs.Calls.{compiled_command}
+use Rattle.dh_rows.specs.Keyed.{Coding, IsCoded, IsTableOf, same_key, put, records_in_rows}
 use Rattle.dh_rows.specs.Places.{HasTable, IsUnreferred, tree_of, table_in, unique_keys, StandsInSchema, KeepsTable}
 use Rattle.dh_rows.proofs.Alone.{works_none}
 use Rattle.dh_rows.proofs.Equal.{equal_int}
@@ -144,7 +144,7 @@ module _ (schema : Schema) (t : Table) (stands : StandsInSchema schema t) (simpl
       let ups = upserts_as schema p t.name columns rows u is formats stands.at its stands.has.named stands.has.stands unstamped base key (changed its_tree base new) some_target meant prog in
       let means = put_means schema p t.name columns rows u is formats stands.at its stands.has.named stands.has.stands unstamped text (Values terms width) (clause_for key its_tree base new ∷ []) read
       (subst (λ b. new_rows schema its b columns rows ≡ Ok (Values terms width)) (sym size) given) (subst (λ b. upserts schema stands.at its b (u ∷ []) ≡ Ok (clause_for key its_tree base new ∷ [])) (sym size) ups) in
-      record { is = ap command_of means; plain = subst IsPlain (sym means) (refl, refl) }
+      record { is = ap compiled_command means; plain = subst IsPlain (sym means) (refl, refl) }
 
 -- ---- the statement as one edit
 
@@ -256,7 +256,7 @@ module _ (limit : Option ℕ) (mode : Mode) (db after : Database) (t : Table) {X
         and-true _ ∙ ap₂ (λ a b. is_true (binary (by.Compare compare.Eq Binary) a b)) id (fits.placed n more) ∙ equal_int (id_in (rowid s)) n ∙ ap (λ v. is_eq (value_cmp v (Int n))) (sym id)
 
     abbrev Made : Type 0
-    Made = IsTableOf c (after.trees tree) × (records c (after.trees tree) ≡ put c.key x (records c rows)) × AllByRecursion (λ v. v.tree ≢ tree → after.trees v.tree ≡ db.trees v.tree) db.schema.tables
+    Made = IsTableOf c (after.trees tree) × (records_in_rows c (after.trees tree) ≡ put c.key x (records_in_rows c rows)) × AllByRecursion (λ v. v.tree ≢ tree → after.trees v.tree ≡ db.trees v.tree) db.schema.tables
 
     by_edit : (n : ℤ) (gone : List ℤ) → without_all rows gone ≡ filter (λ r. not (same_key c.key x (c.decode r))) rows
         → Applies db.schema mode.keys db.trees (record { table = its; gone = gone; news = (Int n ∷ c.encode x) ∷ [] }) after.trees → Made

@@ -27,7 +27,7 @@ use Rattle.sqlite_keyed.proofs.SortLemmas.{IsPermutation-sort_by, sorted_is-sort
 use Rattle.sqlite.specs.Effect.{IsDatabase, Reads}
 use Rattle.sqlite.specs.State.{State}
 use Rattle.dh_rows.specs.Calls.{IsPlainLook, IsUnfit, AreRows}
-use Rattle.dh_rows.specs.Keyed.{Coding, IsCoded, IsTableOf, by_key, records}
+use Rattle.dh_rows.specs.Keyed.{Coding, IsCoded, IsTableOf, by_key, records_in_rows}
 use Rattle.dh_rows.specs.Places.{tree_of, table_in, StandsInSchema, rows_of}
 use Rattle.dh_rows.specs.Whole.{IsRowid, SpellsRecords}
 use Rattle.dh_rows.proofs.Terms.{rising, by_rowid, from_table, columns_at}
@@ -215,7 +215,7 @@ module _ {t : Table} {ids_text all_text order : List ℕ} (texts : AreTextsOf t 
 
     -- Answers that spell records are of a table of ours, and these are its records.
     pub spelled : IsDatabase s.now → (ids rows : List Row) (xs : List X) → AreRows s ids_text [] ids → AreRows s all_text [] rows → SpellsRecords c ids rows xs
-        → IsTableOf c (rows_of s.now t.name) × (records c (rows_of s.now t.name) ≡ xs)
+        → IsTableOf c (rows_of s.now t.name) × (records_in_rows c (rows_of s.now t.name) ≡ xs)
     spelled sound ids rows xs ids_are rows_are spells =
         let by_id = IsPermutation-sym _ _ (ids_moved ids ids_are) in
         let by_row : IsPermutation (map shows stored) (map c.encode xs) = subst (IsPermutation (map shows stored)) spells.rows_are (rows_moved rows rows_are) in
@@ -257,7 +257,7 @@ module _ {t : Table} {ids_text all_text order : List ℕ} (texts : AreTextsOf t 
         subst (IsAscending (λ a b. value_cmp (rowid a) (rowid b) ≡ Less)) (sym are) (ascending-map (λ a b. value_cmp (rowid a) (rowid b) ≡ Less) (λ r. rowid r ∷ []) _ up)
 
     -- The answers of a table of ours spell its records.
-    pub spells : (ids rows : List Row) → AreRows s ids_text [] ids → AreRows s all_text [] rows → IsTableOf c (rows_of s.now t.name) → SpellsRecords c ids rows (records c (rows_of s.now t.name))
+    pub spells : (ids rows : List Row) → AreRows s ids_text [] ids → AreRows s all_text [] rows → IsTableOf c (rows_of s.now t.name) → SpellsRecords c ids rows (records_in_rows c (rows_of s.now t.name))
     spells ids rows ids_are rows_are was = record {
       ids_are = record {
         ints = all_moved IsRowid _ ids (ids_moved ids ids_are) (all_map IsRowid (λ r. rowid r ∷ []) stored (all_weaker (IsCoded c) _ (λ r h. (id_in (rowid r), ap (λ z. rowid z ∷ []) h)) stored was.coded));

@@ -17,12 +17,12 @@ use Rattle.sqlite.specs.State.{State, HasCleanDisk, IsUnchanged, IsRolledBack, E
 use Rattle.sqlite.specs.Held.{Held, state}
 use Rattle.dh_ports.specs.declared.fault.Fault.{Fault}
 use Rattle.dh_ports.specs.Faults.{OnStore}
-use Rattle.dh_rows.specs.Faults.{fault_of}
+use Rattle.dh_rows.specs.Faults.{statement_fault}
 
 -- the command that a text stands for, or `Nothing` where it does not compile
-abbrev pub command_of : Result Compiled CompileError → Command
-command_of (Ok c) = c.command
-command_of (Err e) = Nothing
+abbrev pub compiled_command : Result Compiled CompileError → Command
+compiled_command (Ok c) = c.command
+compiled_command (Err e) = Nothing
 
 -- the statement in a text
 abbrev pub statement_of : List ℕ → Result Compiled CompileError → List ℕ
@@ -40,7 +40,7 @@ IsEdit _ = ⊥
 
 -- the statement of this meaning, run on what the connection sees, makes this sound database
 abbrev pub EditsAs : State → List ℕ → Row → Database → Result Compiled CompileError → Type 0
-EditsAs s sql params after meaning = (tally : Tally) × Does s.step_limit (mode_of s) params s.now (statement_of sql meaning) None (command_of meaning) (Ok (tally, after)) × IsDatabase after
+EditsAs s sql params after meaning = (tally : Tally) × Does s.step_limit (mode_of s) params s.now (statement_of sql meaning) None (compiled_command meaning) (Ok (tally, after)) × IsDatabase after
 
 abbrev pub EditsTo : State → List ℕ → Row → Database → Type 0
 EditsTo s sql params after = EditsAs s sql params after (understood s.now.schema sql)
@@ -51,7 +51,7 @@ IsPlainText s sql = IsPlain (understood s.now.schema sql)
 
 -- the text is an INSERT, a DELETE, a CREATE TABLE or a DROP TABLE
 abbrev pub IsEditText : State → List ℕ → Type 0
-IsEditText s sql = IsEdit (command_of (understood s.now.schema sql))
+IsEditText s sql = IsEdit (compiled_command (understood s.now.schema sql))
 
 -- the text does not read the listing of the schema
 abbrev pub SparesListing : State → List ℕ → Type 0
@@ -69,12 +69,12 @@ pub record IsPlainEdit (s : State) (sql : List ℕ) : Type 0 where
 
 -- the rows are those that the text asks for
 abbrev pub AreRows : State → List ℕ → Row → List Row → Type 0
-AreRows s sql params rows = Reads (command_of (understood s.now.schema sql)) s.now params rows
+AreRows s sql params rows = Reads (compiled_command (understood s.now.schema sql)) s.now params rows
 
 -- The query itself is refused, at whatever store: its text, the count or the types of its parameters, a sum, or the limit on steps.
 abbrev pub IsUnfit : State → List ℕ → Row → Type 0
 IsUnfit s sql params =
-    (e : Error) × (IsNoStatement s sql params e ⊎ RefusesToRead s.step_limit (command_of (understood s.now.schema sql)) s.now params e)
+    (e : Error) × (IsNoStatement s sql params e ⊎ RefusesToRead s.step_limit (compiled_command (understood s.now.schema sql)) s.now params e)
 
 -- The databases that a connection sees and has committed keep their form, outside a transaction they are one, and the
 -- steps of a statement are not limited.
@@ -159,11 +159,11 @@ module _ {S : Type 0} (g : Ghosts S) where
   module _ (old new : Held S) (sql : List ℕ) (params : Row) where
     -- the statement was refused for what the fault tells
     abbrev pub IsRejected : Fault → Type 0
-    IsRejected fault = HasCleanDisk (state g new) → (e : Error) × (fault ≡ fault_of e) × Executes sql params (state g old) (state g new) (Err e)
+    IsRejected fault = HasCleanDisk (state g new) → (e : Error) × (fault ≡ statement_fault e) × Executes sql params (state g old) (state g new) (Err e)
 
     -- the query was refused for what the fault tells
     abbrev pub IsUnanswered : Fault → Type 0
-    IsUnanswered fault = HasCleanDisk (state g new) → (e : Error) × (fault ≡ fault_of e) × FailsToQuery sql params (state g old) (state g new) e
+    IsUnanswered fault = HasCleanDisk (state g new) → (e : Error) × (fault ≡ statement_fault e) × FailsToQuery sql params (state g old) (state g new) e
 
     -- an answered statement ran
     abbrev pub RunsStatement : {E : Type 0} → Result (Unit {0}) E → Type 0
@@ -187,8 +187,8 @@ module _ {S : Type 0} (g : Ghosts S) where
 
   module _ {W : Type 0} (view : Database → W) where
     -- what is seen now, and what was seen at the last commit
-    abbrev pub seen : Held S → W
-    seen h = view (state g h).now
+    abbrev pub seen_now : Held S → W
+    seen_now h = view (state g h).now
 
     abbrev pub committed : Held S → W
     committed h = view (state g h).committed
@@ -206,12 +206,12 @@ module _ {S : Type 0} (g : Ghosts S) where
       pub record ShowsHonestly (now last : W) (in_transaction : Bool) : Type 0 where
         pub was_honest : IsHonest old
         pub is_open : IsTrue (state g new).is_open
-        pub now_is : seen new ≡ now
+        pub now_is : seen_now new ≡ now
         pub last_is : committed new ≡ last
         pub mode : new.in_transaction ≡ in_transaction
 
       abbrev pub IsSame : Type 0
-      IsSame = ShowsHonestly (seen old) (committed old) old.in_transaction
+      IsSame = ShowsHonestly (seen_now old) (committed old) old.in_transaction
 
       -- all since the begin of the transaction is undone
       abbrev pub IsUndone : Type 0
@@ -230,7 +230,7 @@ module _ {S : Type 0} (g : Ghosts S) where
         -- the store is as honest as it was
         pub live : IsHonest old → HasCleanDisk (state g new) → IsHonest new
         -- the view shows this
-        pub now_is : IsHonest new → seen new ≡ next
+        pub now_is : IsHonest new → seen_now new ≡ next
         -- a transaction stays open
         pub mode : IsHonest new → new.in_transaction ≡ old.in_transaction
         -- outside one it is committed
@@ -243,11 +243,11 @@ module _ {S : Type 0} (g : Ghosts S) where
       -- An answered call leaves an honest store whose transaction began, was committed, or was undone.
       abbrev pub BeginsTransaction : {T E : Type 0} → Result T E → Type 0
       BeginsTransaction r =
-          HasCleanDisk (state g new) → OnOk r (ShowsHonestly (seen old) (committed old) true)
+          HasCleanDisk (state g new) → OnOk r (ShowsHonestly (seen_now old) (committed old) true)
 
       abbrev pub CommitsSeen : {T E : Type 0} → Result T E → Type 0
       CommitsSeen r =
-          HasCleanDisk (state g new) → OnOk r (ShowsHonestly (seen old) (seen old) false)
+          HasCleanDisk (state g new) → OnOk r (ShowsHonestly (seen_now old) (seen_now old) false)
 
       abbrev pub UndoesTransaction : {T E : Type 0} → Result T E → Type 0
       UndoesTransaction r = IsHonest new → OnOk r IsUndone

@@ -6,6 +6,6 @@ use Rattle.dh_ports.specs.declared.fault.Fault.{Fault}
 use Rattle.dh_ports.specs.declared.fault.Fault.TheVariants.{Store, Memory}
 
 -- `Memory` where memory is out, and `Store` for any other error
-abbrev pub fault_of : Error → Fault
-fault_of (SqliteFailure OutOfMemory) = Memory
-fault_of _ = Store
+abbrev pub statement_fault : Error → Fault
+statement_fault (SqliteFailure OutOfMemory) = Memory
+statement_fault _ = Store

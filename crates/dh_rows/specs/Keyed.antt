@@ -61,5 +61,5 @@ module _ {X : Type 0} (c : Coding X) where
     pub keyed : IsAscending (λ a b. same_key c.key a b ≡ false) (map c.decode rows)
 
   -- the records of the rows, in the order of their keys
-  abbrev pub records : List Row → List X
-  records rows = sort_by (by_key c.key) (map c.decode rows)
+  abbrev pub records_in_rows : List Row → List X
+  records_in_rows rows = sort_by (by_key c.key) (map c.decode rows)

@@ -14,7 +14,7 @@ use Rattle.sqlite_schema.specs.Names.{same_name, table_named, view_named, index_
 use Rattle.sqlite_schema.specs.Rules.{parent_key, ParentKey}
 use Rattle.sqlite_rules.specs.Lists.{Has}
 use Rattle.sqlite.specs.Effect.{Database}
-use Rattle.dh_rows.specs.Keyed.{Coding, IsTableOf, records}
+use Rattle.dh_rows.specs.Keyed.{Coding, IsTableOf, records_in_rows}
 
 -- a NOT NULL column of a STRICT table
 abbrev pub needed : Kind → List ℕ → Column
@@ -99,7 +99,7 @@ rows_of db name = db.trees (tree_of db.schema name)
 
 -- the records of a table, in the order of their keys
 abbrev pub records_of : {X : Type 0} → Coding X → List ℕ → Database → List X
-records_of c name db = records c (rows_of db name)
+records_of c name db = records_in_rows c (rows_of db name)
 
 -- the database has this table, and each of its rows stands for a record
 pub record KeepsTable (t : Table) {X : Type 0} (c : Coding X) (db : Database) : Type 0 where

@@ -8,7 +8,7 @@ use sqlite::{Error, ErrorCode};
 
 /// Tells an error of the database as a fault: `Memory` where memory is out, else `Store`.
 pub fn fault_of(error: Error) -> Fault
-    ensures { result ≡ spec.fault_of error }
+    ensures { result ≡ spec.statement_fault error }
 {
     match error {
         Error::SqliteFailure(ErrorCode::OutOfMemory) => Fault::Memory,

@@ -9,7 +9,7 @@ use Rattle.sqlite_trees.specs.declared.store.Store.{Ghosts}
 use Rattle.sqlite.specs.Effect.{Database}
 use Rattle.sqlite.specs.State.{HasCleanDisk}
 use Rattle.sqlite.specs.Held.{Held, state}
-use Rattle.dh_rows.specs.Calls.{whole, EditsTo, EditsWhatIsSeen, OnlyEdits, OnlyLooks, Keep, AreOurs, IsHonest, LeavesTrees, CrashLeaves, KeepsFaults, MakesNoCommitInside, NowShows, ShowsHonestly, IsSame, IsUndone, IsRefused, IsBlamed, seen}
+use Rattle.dh_rows.specs.Calls.{whole, EditsTo, EditsWhatIsSeen, OnlyEdits, OnlyLooks, Keep, AreOurs, IsHonest, LeavesTrees, CrashLeaves, KeepsFaults, MakesNoCommitInside, NowShows, ShowsHonestly, IsSame, IsUndone, IsRefused, IsBlamed, seen_now}
 use Rattle.dh_rows.proofs.Views.{leaves, leaves_now}
 use Rattle.dh_schema.specs.Calling.{LooksAtLists, StoreFaultHasCause, ChangesLists}
 use Rattle.dh_schema.specs.InTurn.{lasts_on, goes_anywhere, refused_on}
@@ -158,7 +158,7 @@ module _ {S : Type 0} (g : Ghosts S) (old new : Held S) (ours : AreOurs HoldsTab
   both : IsHonest g old → (after : Database) → EditsTo (state g old) sql params after → (after.schema ≡ (state g old).now.schema) × (lists_of after ≡ change (lists_of (state g old).now))
   both honest after it = let e = effect honest after it in (e.schema, e.lists)
 
-  saw : (r : Result (Unit {0}) Fault) → KeepsFaults g old new → Saw r → EditsWhatIsSeen g old new sql params r → OnOk r (NowShows g lists_of old new (change (seen g lists_of old)))
+  saw : (r : Result (Unit {0}) Fault) → KeepsFaults g old new → Saw r → EditsWhatIsSeen g old new sql params r → OnOk r (NowShows g lists_of old new (change (seen_now g lists_of old)))
   saw (Ok u) lasts it made =
       let lists : (honest : IsHonest g new) → lists_of (state g new).now ≡ change (lists_of (state g old).now) = λ honest. let was = lasts.was honest in (effect was (state g new).now (made was honest.0)).lists in
       record { live = it.live; now_is = lists; mode = it.mode; done = λ honest out. ap lists_of (it.done honest out) ∙ lists honest }
@@ -281,10 +281,10 @@ module _ {S T : Type 0} (g : Ghosts S) (old middle new : Held S) (x : T) (look :
   still clean = look.same clean
 
   -- a change after an answered look
-  pub wrote_after : {U : Type 0} (r : Result U Fault) (first change : Lists → Lists) → (IsHonest g middle → first (seen g lists_of old) ≡ change (seen g lists_of old)) → ChangesLists g middle new r first → ChangesLists g old new r change
+  pub wrote_after : {U : Type 0} (r : Result U Fault) (first change : Lists → Lists) → (IsHonest g middle → first (seen_now g lists_of old) ≡ change (seen_now g lists_of old)) → ChangesLists g middle new r first → ChangesLists g old new r change
   wrote_after r first change is it =
       let between : (clean : HasCleanDisk (state g middle)) → IsHonest g middle = λ clean. (clean, (still clean).is_open) in
-      let becomes : (honest : IsHonest g middle) → first (seen g lists_of middle) ≡ change (seen g lists_of old) = λ honest. ap first (still honest.0).now_is ∙ is honest in
+      let becomes : (honest : IsHonest g middle) → first (seen_now g lists_of middle) ≡ change (seen_now g lists_of old) = λ honest. ap first (still honest.0).now_is ∙ is honest in
       record {
         goes = record {
           lasts = lasts_on look.goes.lasts it.goes.lasts;
@@ -310,7 +310,7 @@ module _ {S T : Type 0} (g : Ghosts S) (old middle new : Held S) (x : T) (look :
 
 module _ {S T : Type 0} (g : Ghosts S) (old new : Held S) where
   -- an answered look after which nothing is to be changed; outside a transaction what is seen is committed
-  pub wrote_nothing : {U : Type 0} (x : T) (u : U) (change : Lists → Lists) → AreOurs HoldsTables (state g old) → LooksAtLists g old new (Ok x) → (IsHonest g new → change (seen g lists_of old) ≡ seen g lists_of old) → ChangesLists g old new (Ok u) change
+  pub wrote_nothing : {U : Type 0} (x : T) (u : U) (change : Lists → Lists) → AreOurs HoldsTables (state g old) → LooksAtLists g old new (Ok x) → (IsHonest g new → change (seen_now g lists_of old) ≡ seen_now g lists_of old) → ChangesLists g old new (Ok u) change
   wrote_nothing x u change ours look none = record {
     goes = goes_anywhere look.goes;
     sees = record {

@@ -19,7 +19,7 @@ use Rattle.sqlite.specs.State.{State}
 use Rattle.sqlite_trees.specs.declared.store.Store.{Ghosts}
 use Rattle.sqlite.specs.Held.{Held, state}
 use Rattle.dh_rows.specs.Calls.{EditsTo, IsHonest, IsPlainEdit, OnlyEdits}
-use Rattle.dh_rows.specs.Keyed.{Coding, IsTableOf, records, added}
+use Rattle.dh_rows.specs.Keyed.{Coding, IsTableOf, records_in_rows, added}
 use Rattle.dh_rows.specs.Places.{IsFree, IsUnmentioned, ArePlaced, StandsInSchema, KeepsTable, rows_of, records_of}
 use Rattle.dh_rows.proofs.Asks.{WritesTable, insert}
 use Rattle.dh_rows.proofs.Create.{IsCreate, makes, MakesEmptyTable, Creates, creates, free_kept, unmentioned_kept}
@@ -244,11 +244,11 @@ pub number_writes : (s : State) → IsReady made_tables [] s.now → WritesTable
 number_writes s r =
     let m = r.standing.1.1.1.1.1.1.1.1.1.1.1.1.0 in
     insert meta_table meta_simple meta_plain meta s (bare meta meta_table s.now m.0 m.1) number_text _ _ (number_read _ _) 2 (λ n. refl) (tt, tt) refl
-    (subst (λ rows. AllByRecursion (λ y. Rattle.dh_rows.specs.Keyed.same_key meta.key 2 y ≡ false) (records meta rows)) (sym m.1) tt)
+    (subst (λ rows. AllByRecursion (λ y. Rattle.dh_rows.specs.Keyed.same_key meta.key 2 y ≡ false) (records_in_rows meta rows)) (sym m.1) tt)
 
 -- a table with no row stays so
 stays_bare : {X : Type 0} {change : List ℕ → List ℕ} {db after : Database} → TurnsTable meta_table meta change db after → (c : Coding X) (t : Table) → StandsInSchema db.schema t × (rows_of db t.name ≡ []) → same_name t.name meta_table.name ≡ false → KeepsTable t c after × (records_of c t.name after ≡ [])
-stays_bare {db = db} it c t r apart = let o = other_keeps it t c (bare c t db r.0 r.1) apart in (o.0, o.1 ∙ ap (records c) r.1)
+stays_bare {db = db} it c t r apart = let o = other_keeps it t c (bare c t db r.0 r.1) apart in (o.0, o.1 ∙ ap (records_in_rows c) r.1)
 
 none_typed : AreTyped no_lists
 none_typed = record { projects = tt; langs = tt; versions = tt; pages = tt; used = tt; picks = tt; passes = tt; held = tt; rules = tt; redirects = tt; aliases = tt; routes = tt }
@@ -271,7 +271,7 @@ number_makes s r after edits =
     let route_kept = stays_bare it routes route_table r.standing.1.1.1.1.1.1.1.1.1.1.0 are_apart.1.1.1.1.1.1.1.1.1.1.1.0 in
     let none : lists_of after ≡ no_lists = λ i. record { projects = project_kept.1 i; langs = lang_kept.1 i; versions = version_kept.1 i; pages = page_kept.1 i; used = used_kept.1 i; picks = pick_kept.1 i; passes = pass_kept.1 i; held = holds_kept.1 i; rules = rule_kept.1 i; redirects = redirect_kept.1 i; aliases = alias_kept.1 i; routes = route_kept.1 i } in
     record {
-      holds = record { meta = it.keeps; number = it.records ∙ ap (λ rows. added meta.key 2 (records meta rows)) m.1; projects = project_kept.0; langs = lang_kept.0; versions = version_kept.0; pages = page_kept.0; used = used_kept.0; picks = pick_kept.0; passes = pass_kept.0; held = holds_kept.0; rules = rule_kept.0; redirects = redirect_kept.0; aliases = alias_kept.0; routes = route_kept.0; typed = subst AreTyped (sym none) none_typed };
+      holds = record { meta = it.keeps; number = it.records ∙ ap (λ rows. added meta.key 2 (records_in_rows meta rows)) m.1; projects = project_kept.0; langs = lang_kept.0; versions = version_kept.0; pages = page_kept.0; used = used_kept.0; picks = pick_kept.0; passes = pass_kept.0; held = holds_kept.0; rules = rule_kept.0; redirects = redirect_kept.0; aliases = alias_kept.0; routes = route_kept.0; typed = subst AreTyped (sym none) none_typed };
       empty = none;
     }
 

@@ -6,7 +6,7 @@ use Rattle.sqlite_trees.specs.declared.store.Store.{Ghosts}
 use Rattle.sqlite.specs.State.{State}
 use Rattle.sqlite.specs.Held.{Held, state}
 use Rattle.dh_ports.specs.declared.fault.Fault.{Fault}
-use Rattle.dh_rows.specs.Calls.{AreRows, IsHonest, IsUnfit, MakesNoCommit, MakesNoCommitInside, LeavesAllAsItWas, RefusalUndoes, NowShows, CommitsAtMost, seen, committed}
+use Rattle.dh_rows.specs.Calls.{AreRows, IsHonest, IsUnfit, MakesNoCommit, MakesNoCommitInside, LeavesAllAsItWas, RefusalUndoes, NowShows, CommitsAtMost, seen_now, committed}
 pub use Rattle.dh_rows.specs.Calls.{StoreFaultHasCause}
 use Rattle.dh_rows.specs.Keyed.{Coding, IsFreeKey}
 use Rattle.dh_records.specs.Lists.{Lists}
@@ -31,7 +31,7 @@ module _ {S : Type 0} (g : Ghosts S) where
 
   -- Where the store is honest, the fact holds of the records.
   abbrev pub HasRecords : Held S → (Lists → Type 0) → Type 0
-  HasRecords h fact = IsHonest g h → fact (seen g lists_of h)
+  HasRecords h fact = IsHonest g h → fact (seen_now g lists_of h)
 
   -- Where the store is honest, no record of the list has the key of this one.
   abbrev pub LacksKey : {R : Type 0} → Held S → Coding R → (Lists → List R) → R → Type 0
@@ -44,7 +44,7 @@ module _ {S : Type 0} (g : Ghosts S) where
   -- no transaction is open, and what is seen was committed
   pub record IsSettled (h : Held S) : Type 0 where
     pub outside : h.in_transaction ≡ false
-    pub same : seen g lists_of h ≡ committed g lists_of h
+    pub same : seen_now g lists_of h ≡ committed g lists_of h
 
   module _ {T : Type 0} (old new : Held S) (result : Result T Fault) where
     -- What a look leaves, whatever it answers.
@@ -63,21 +63,21 @@ module _ {S : Type 0} (g : Ghosts S) where
       -- within a transaction nothing is committed, and a crash leaves nothing more
       pub goes : MakesNoCommitInside g old new
       -- one that was answered changed what is seen, and outside a transaction committed it
-      pub sees : OnOk result (NowShows g lists_of old new (change (seen g lists_of old)))
+      pub sees : OnOk result (NowShows g lists_of old new (change (seen_now g lists_of old)))
       -- one that was refused left all as it was, or undid the transaction
       pub err : RefusalUndoes g lists_of old new result
       -- a crash leaves what it could leave before, or outside a transaction the changed lists
-      pub crash : CommitsAtMost g lists_of old new (change (seen g lists_of old))
+      pub crash : CommitsAtMost g lists_of old new (change (seen_now g lists_of old))
 
     -- What changes in turn leave, within a transaction; where they are refused, some may be made.
     pub record ChangesListsInside (change : Lists → Lists) : Type 0 where
       pub goes : MakesNoCommit g old new
-      pub sees : OnOk result (NowShows g lists_of old new (change (seen g lists_of old)))
+      pub sees : OnOk result (NowShows g lists_of old new (change (seen_now g lists_of old)))
 
   module _ {T E : Type 0} (old new : Held S) (result : Result T E) where
     -- Where the store is honest, the fact holds of the records before the call and its answer.
     abbrev pub AnswersBy : (Lists → T → Type 0) → Type 0
-    AnswersBy fact = IsHonest g new → IfOk result (fact (seen g lists_of old))
+    AnswersBy fact = IsHonest g new → IfOk result (fact (seen_now g lists_of old))
 
   module _ {T : Type 0} (old new : Held S) (result : Result T Fault) where
     -- What a look leaves, and that the fact holds of the records before it and its answer.

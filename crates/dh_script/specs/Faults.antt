@@ -6,11 +6,11 @@ use Rattle.dh_script.specs.declared.fault.RunFault.TheVariants as run
 use Rattle.dh_script.specs.declared.fault.ScriptFault.{ScriptFault}
 use Rattle.dh_script.specs.declared.fault.ScriptFault.TheVariants.{Unread, TooLong, NotText, Run}
 
-abbrev pub name_of : ScriptFault → Text
-name_of (Unread stop.Read) = codes "Read"
-name_of (Unread stop.TooManyTurns) = codes "TooManyTurns"
-name_of (Unread stop.Memory) = codes "Memory"
-name_of TooLong = codes "TooLong"
-name_of NotText = codes "NotText"
-name_of (Run run.Memory) = codes "Memory"
-name_of (Run run.Write) = codes "Write"
+abbrev pub script_fault_name : ScriptFault → Text
+script_fault_name (Unread stop.Read) = codes "Read"
+script_fault_name (Unread stop.TooManyTurns) = codes "TooManyTurns"
+script_fault_name (Unread stop.Memory) = codes "Memory"
+script_fault_name TooLong = codes "TooLong"
+script_fault_name NotText = codes "NotText"
+script_fault_name (Run run.Memory) = codes "Memory"
+script_fault_name (Run run.Write) = codes "Write"

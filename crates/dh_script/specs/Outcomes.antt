@@ -10,7 +10,7 @@ use Rattle.dh_world.specs.declared.answer.Answer.TheVariants.{Done, Made, Known,
 use Rattle.dh_world.specs.declared.refusal.Refusal.{Refusal}
 use Rattle.dh_world.specs.declared.outcome.Outcome.{Outcome}
 use Rattle.dh_world.specs.declared.outcome.Outcome.TheVariants.{Applied, Refused, Replied, Failed}
-use Rattle.dh_world.specs.Refusals.{number_of, name_of}
+use Rattle.dh_world.specs.Refusals.{refusal_number, refusal_name}
 
 abbrev pub active_text : Bool → Text
 active_text true = codes "active"
@@ -40,7 +40,7 @@ text_of_answer (Added count) = codes "added " ++ decimal count
 -- `refused N NAME`
 abbrev pub text_of_refusal : Refusal → Text
 text_of_refusal refusal =
-    codes "refused " ++ decimal (number_of refusal) ++ codes " " ++ name_of refusal
+    codes "refused " ++ decimal (refusal_number refusal) ++ codes " " ++ refusal_name refusal
 
 -- the status, the location or `-`, the body's length
 abbrev pub text_of_reply : Reply → Text

@@ -37,8 +37,8 @@ abbrev pub lines_in : Text → List (List Text)
 lines_in script = worded (lines script)
 
 -- lines by the bytes of their words
-abbrev pub seen : {Y Z : Type 0} → List (Vec (String Y) Z) → List (List Text)
-seen lines = map (λ words. map string_bytes words.items) lines
+abbrev pub words_seen : {Y Z : Type 0} → List (Vec (String Y) Z) → List (List Text)
+words_seen lines = map (λ words. map string_bytes words.items) lines
 
 -- these lines run one after another, from the world before to the world after, and print this text: that of each line, and LF
 abbrev pub RunsLines : ℕ → World → List (List Text) → World → Text → Type 0

@@ -3,7 +3,7 @@
 ghost use Rattle.std.specs.Prelude.{◌≡◌};
 ghost use Rattle.dh_script.specs.declared.fault.RunFault.TheVariants.{Memory};
 ghost use Rattle.dh_script.specs.declared.fault.ScriptFault.TheVariants.{Run, Unread};
-ghost use Rattle.dh_script.specs.Faults.{name_of};
+ghost use Rattle.dh_script.specs.Faults.{script_fault_name};
 
 use dh_ports::Stop;
 use std::alloc::AllocError;
@@ -38,7 +38,7 @@ pub enum ScriptFault {
 impl ScriptFault {
     /// The name that programs read.
     pub fn name(self) -> &'static str
-        ensures { result.now ≡ name_of self }
+        ensures { result.now ≡ script_fault_name self }
     {
         match self {
             ScriptFault::Unread(Stop::Read) => "Read",

@@ -9,7 +9,7 @@ ghost use Rattle.dh_lines.specs.App.{docs_app};
 ghost use Rattle.dh_lines.specs.Lines.{line_in};
 ghost use Rattle.dh_script.specs.Reading.{IsCause, IsScript, TookAtMost, reader_failed, writer_failed};
 ghost use Rattle.dh_script.specs.Script.{DoesLine, MayDoLine, is_unread};
-ghost use Rattle.dh_script.specs.Running.{Ran, RanBut, RunsScript, lines_in, seen, stopped_by_writer, words_in, worded};
+ghost use Rattle.dh_script.specs.Running.{Ran, RanBut, RunsScript, lines_in, words_seen, stopped_by_writer, words_in, worded};
 
 use crate::fault::{RunFault, ScriptFault};
 use crate::orders::{Printed, perform, usage};
@@ -106,7 +106,7 @@ fn run_batch<'a, S: Alter, W: Sink>(
     requires { W.broken sink.old ≡ false }
     ensures broken { W.broken sink.new ≡ stopped_by_writer result }
     ensures ran { WorldGoesBy S.Store desk.old desk.new
-        (λ before after. Ran now before (seen lines.now) after
+        (λ before after. Ran now before (words_seen lines.now) after
         (W.held sink.old) (W.held sink.new) result) }
 {
     let mut program = docs_command(alloc)?;
@@ -158,7 +158,7 @@ fn number_lines(alloc: Global, text: &str, report: &mut Report) {
 /// Adds the words of a line to a batch, unless it has none.
 fn add_line(alloc: Global, batch: &mut Vec<Vec<String>>, line: &str) -> Result<(), AllocError>
     ensures { OnOk result
-        (seen batch.new.items ≡ seen batch.old.items ++ worded (line.now ∷ [])) }
+        (words_seen batch.new.items ≡ words_seen batch.old.items ++ worded (line.now ∷ [])) }
 {
     let words = words_of(alloc, line)?;
     if !words.is_empty() {
@@ -180,8 +180,8 @@ fn take_line<S: Alter, W: Sink>(
     requires { W.broken sink.old ≡ false }
     ensures broken { W.broken sink.new ≡ stopped_by_writer result }
     ensures ran { WorldGoesBy S.Store desk.old desk.new
-        (λ before after. RanBut now before (seen batch.old.items ++ worded (line.now ∷ [])) after
-        (W.held sink.old) (W.held sink.new) (seen batch.new.items) result) }
+        (λ before after. RanBut now before (words_seen batch.old.items ++ worded (line.now ∷ []))
+        after (W.held sink.old) (W.held sink.new) (words_seen batch.new.items) result) }
 {
     add_line(alloc, batch, line)?;
     if batch.len() < BATCH {

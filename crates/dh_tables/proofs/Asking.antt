@@ -8,7 +8,7 @@ use Rattle.sqlite.specs.State.{State, HasCleanDisk}
 use Rattle.sqlite.specs.Held.{Held, state}
 use Rattle.dh_ports.specs.declared.fault.Fault.{Fault}
 use Rattle.dh_ports.specs.Faults.{OnStore}
-use Rattle.dh_rows.specs.Calls.{AreOurs, MakesNoCommit, IsHonest, IsPlainLook, IsSame, OnlyLooks, RefusalUndoes, seen, whole}
+use Rattle.dh_rows.specs.Calls.{AreOurs, MakesNoCommit, IsHonest, IsPlainLook, IsSame, OnlyLooks, RefusalUndoes, seen_now, whole}
 use Rattle.dh_rows.proofs.Asks.{AnswersWith}
 use Rattle.dh_records.specs.Lists.{Lists}
 use Rattle.dh_records.specs.Typed.{AreTyped}
@@ -37,17 +37,17 @@ looks_handed {T = T} {g = g} {old = old} {new = new} (Err f) fault was same look
 
 -- of tables of ours whose connection is this one
 module _ {S : Type 0} (g : Ghosts S) {conn tables : Held S} (is : conn ≡ tables) (ours : AreOurs HoldsTables (state g conn)) {X : Type 0} {encode : X → Row} {typed : X → Type 0} {sql : List ℕ} {params : Row} where
-  answered : {part : Lists → List X} {test : X → Bool} → AsksFor encode typed part test (state g tables) sql params → IsHonest g conn → AnswersWith (state g conn) sql params (map encode (filter test (part (seen g lists_of tables))))
+  answered : {part : Lists → List X} {test : X → Bool} → AsksFor encode typed part test (state g tables) sql params → IsHonest g conn → AnswersWith (state g conn) sql params (map encode (filter test (part (seen_now g lists_of tables))))
   answered query honest = rw (← is) ((rw (← is) at query).answers (ours honest.0 honest.1).now)
 
   -- the records that a query asks for are what a look answers
   pub reads : {part : Lists → List X} {test : X → Bool} {new : Held S} {T : Type 0} {r : Result T Fault} → AsksFor encode typed part test (state g tables) sql params → OnlyLooks g conn new r → IsHonest g new
-      → AreAsked encode (state g conn) sql params (filter test (part (seen g lists_of tables)))
+      → AreAsked encode (state g conn) sql params (filter test (part (seen_now g lists_of tables)))
   reads query look now = (answered query (look.goes.lasts.was now)).reads
 
   -- and the first of them is the first that passes
-  pub first_read : {part : Lists → List X} {test : X → Bool} → AsksFor encode typed part test (state g tables) sql params → slice_get (filter test (part (seen g lists_of tables))) 0 ≡ find test (part (seen g lists_of tables))
-  first_read {part = part} {test = test} query = first_that test (part (seen g lists_of tables))
+  pub first_read : {part : Lists → List X} {test : X → Bool} → AsksFor encode typed part test (state g tables) sql params → slice_get (filter test (part (seen_now g lists_of tables))) 0 ≡ find test (part (seen_now g lists_of tables))
+  first_read {part = part} {test = test} query = first_that test (part (seen_now g lists_of tables))
 
   module _ (query : IsQuery encode typed (state g tables) sql params) where
     -- it may be asked
@@ -57,7 +57,7 @@ module _ {S : Type 0} (g : Ghosts S) {conn tables : Held S} (is : conn ≡ table
     unread : IsHonest g conn → IsUnread encode typed (state g conn) sql params → ⊥
     unread honest (inl why) = true≢false (sym (subst IsSome (ours honest.0 honest.1).unlimited ((answered query.2 honest).fits why)))
     unread honest (inr none) =
-        let now : Lists = seen g lists_of tables in
+        let now : Lists = seen_now g lists_of tables in
         let are_typed : AreTyped now = rw (← is) (ours honest.0 honest.1).now.typed in
         none (filter query.1 (query.0 now)) (answered query.2 honest).reads (all_kept typed query.1 (query.0 now) (query.2.kept now are_typed))
 

@@ -4,7 +4,7 @@ use Rattle.std.proofs.Math.Seq.{drop-nil}
 use Rattle.std.specs.List.{AllByRecursion}
 use Rattle.sqlite_trees.specs.declared.store.Store.{Ghosts}
 use Rattle.sqlite.specs.Held.{Held}
-use Rattle.dh_rows.specs.Calls.{IsHonest, MakesNoCommit, MakesNoCommitInside, NowShows, seen}
+use Rattle.dh_rows.specs.Calls.{IsHonest, MakesNoCommit, MakesNoCommitInside, NowShows, seen_now}
 use Rattle.dh_rows.specs.Keyed.{added}
 use Rattle.dh_records.specs.declared.records.DefaultRow.{DefaultRow}
 use Rattle.dh_ports.specs.declared.fault.Fault.{Fault}
@@ -12,7 +12,7 @@ use Rattle.dh_schema.specs.Calling.{ChangesLists, ChangesListsInside}
 use Rattle.dh_records.specs.Changes as change
 use Rattle.dh_records.specs.Codings as coding
 use Rattle.dh_schema.specs.InTurn.{goes_none, goes_on, goes_within}
-use Rattle.dh_records.specs.Lists.{Lists, is_pick_of, default_row, ranked, with_picks}
+use Rattle.dh_records.specs.Lists.{Lists, is_pick_of, default_row, ranked, picks_added}
 use Rattle.dh_schema.specs.Tables.{lists_of}
 use Rattle.dh_records.proofs.PickLists.{AreBelow, none_below, below_next, all_taken_out}
 
@@ -31,11 +31,11 @@ module _ {S : Type 0} (g : Ghosts S) (host : List ℕ) (names : List (List ℕ))
   -- The first i names are added: what is left to add makes of the defaults what all names make of those before.
   pub record AreAdded (now : Held S) (i : ℕ) : Type 0 where
     pub goes : MakesNoCommit g old now
-    pub sees : NowShows g lists_of old now (record (seen g lists_of old) { picks = (seen g lists_of now).picks })
-    pub left : IsHonest g now → with_picks (ranked host (i + 1) (drop i names)) (seen g lists_of now).picks ≡ with_picks (ranked host 1 names) (seen g lists_of old).picks
-    pub below : IsHonest g now → AreBelow host (i + 1) (seen g lists_of now).picks
+    pub sees : NowShows g lists_of old now (record (seen_now g lists_of old) { picks = (seen_now g lists_of now).picks })
+    pub left : IsHonest g now → picks_added (ranked host (i + 1) (drop i names)) (seen_now g lists_of now).picks ≡ picks_added (ranked host 1 names) (seen_now g lists_of old).picks
+    pub below : IsHonest g now → AreBelow host (i + 1) (seen_now g lists_of now).picks
 
-  pub none_added : (IsHonest g old → AllByRecursion (λ r. is_pick_of host r ≡ false) (seen g lists_of old).picks) → (IsHonest g old → old.in_transaction ≡ true) → AreAdded old 0
+  pub none_added : (IsHonest g old → AllByRecursion (λ r. is_pick_of host r ≡ false) (seen_now g lists_of old).picks) → (IsHonest g old → old.in_transaction ≡ true) → AreAdded old 0
   none_added bare within = record {
     goes = goes_none old;
     sees = record { live = λ h c. h; now_is = λ h. refl; mode = λ h. refl; done = λ h out. absurd (true≢false (sym (within h) ∙ out)) };
@@ -56,9 +56,9 @@ module _ {S : Type 0} (g : Ghosts S) (host : List ℕ) (names : List (List ℕ))
     one_more name d h e it =
         let x : DefaultRow = default_row host name (i + 1) in
         let was : IsHonest g next → IsHonest g now = it.goes.lasts.was in
-        let picks_are : (honest : IsHonest g next) → (seen g lists_of next).picks ≡ added coding.picks.key x (seen g lists_of now).picks = λ honest. ap (λ (l : Lists). l.picks) (it.sees.now_is honest) in
-        let lists_are : (honest : IsHonest g next) → seen g lists_of next ≡ record (seen g lists_of old) { picks = (seen g lists_of next).picks } = λ honest.
-        it.sees.now_is honest ∙ ap (λ (l : Lists). record l { picks = added coding.picks.key x (seen g lists_of now).picks }) (had.sees.now_is (was honest)) ∙ ap (λ p. record (seen g lists_of old) { picks = p }) (sym (picks_are honest)) in
+        let picks_are : (honest : IsHonest g next) → (seen_now g lists_of next).picks ≡ added coding.picks.key x (seen_now g lists_of now).picks = λ honest. ap (λ (l : Lists). l.picks) (it.sees.now_is honest) in
+        let lists_are : (honest : IsHonest g next) → seen_now g lists_of next ≡ record (seen_now g lists_of old) { picks = (seen_now g lists_of next).picks } = λ honest.
+        it.sees.now_is honest ∙ ap (λ (l : Lists). record l { picks = added coding.picks.key x (seen_now g lists_of now).picks }) (had.sees.now_is (was honest)) ∙ ap (λ p. record (seen_now g lists_of old) { picks = p }) (sym (picks_are honest)) in
         record {
           goes = more_goes it.goes;
           sees = record {
@@ -68,8 +68,8 @@ module _ {S : Type 0} (g : Ghosts S) (host : List ℕ) (names : List (List ℕ))
             done = λ honest out. absurd (true≢false (sym (within (had.goes.lasts.was (was honest))) ∙ out));
           };
           left = λ honest.
-              ap (λ p. with_picks (ranked host (i + 1 + 1) (drop (i + 1) names)) p) (picks_are honest)
-              ∙ ap (λ ns. with_picks (ranked host (i + 1) ns) (seen g lists_of now).picks) (sym (next_name names i name d h e ∙ ap (λ n. name ∷ drop n names) (sym (add-one i))))
+              ap (λ p. picks_added (ranked host (i + 1 + 1) (drop (i + 1) names)) p) (picks_are honest)
+              ∙ ap (λ ns. picks_added (ranked host (i + 1) ns) (seen_now g lists_of now).picks) (sym (next_name names i name d h e ∙ ap (λ n. name ∷ drop n names) (sym (add-one i))))
               ∙ had.left (was honest);
           below = λ honest. subst (AreBelow host (i + 1 + 1)) (sym (picks_are honest)) (below_next x _ (had.below (was honest)));
         }
@@ -77,8 +77,8 @@ module _ {S : Type 0} (g : Ghosts S) (host : List ℕ) (names : List (List ℕ))
   -- all are added
   pub all_added : (now : Held S) (i : ℕ) → length names ≤ i → AreAdded now i → ChangesListsInside g old now (Ok (tt {0})) (change.with_picks (ranked host 1 names))
   all_added now i past had =
-      let lists : (honest : IsHonest g now) → seen g lists_of now ≡ change.with_picks (ranked host 1 names) (seen g lists_of old) = λ honest.
-      had.sees.now_is honest ∙ ap (λ p. record (seen g lists_of old) { picks = p }) (ap (λ ns. with_picks (ranked host (i + 1) ns) (seen g lists_of now).picks) (sym (none_left names i past)) ∙ had.left honest) in
+      let lists : (honest : IsHonest g now) → seen_now g lists_of now ≡ change.with_picks (ranked host 1 names) (seen_now g lists_of old) = λ honest.
+      had.sees.now_is honest ∙ ap (λ p. record (seen_now g lists_of old) { picks = p }) (ap (λ ns. picks_added (ranked host (i + 1) ns) (seen_now g lists_of now).picks) (sym (none_left names i past)) ∙ had.left honest) in
       record {
         goes = had.goes;
         sees = record { live = had.sees.live; now_is = lists; mode = had.sees.mode; done = λ honest out. had.sees.done honest out ∙ sym (had.sees.now_is honest) ∙ lists honest };
@@ -96,10 +96,10 @@ module _ {S : Type 0} (g : Ghosts S) (old middle new : Held S) (host : List ℕ)
     sees = go r it.sees;
   }
     where
-      go : (r : Result (Unit {0}) Fault) → OnOk r (NowShows g lists_of middle new (change.with_picks (ranked host 1 names) (seen g lists_of middle))) → OnOk r (NowShows g lists_of old new (change.set_picks host names (seen g lists_of old)))
+      go : (r : Result (Unit {0}) Fault) → OnOk r (NowShows g lists_of middle new (change.with_picks (ranked host 1 names) (seen_now g lists_of middle))) → OnOk r (NowShows g lists_of old new (change.set_picks host names (seen_now g lists_of old)))
       go (Ok u) sees =
           let was : IsHonest g new → IsHonest g middle = it.goes.lasts.was in
-          let lists : (honest : IsHonest g new) → seen g lists_of new ≡ change.set_picks host names (seen g lists_of old) = λ honest. sees.now_is honest ∙ ap (change.with_picks (ranked host 1 names)) (dropped.sees.now_is (was honest)) in
+          let lists : (honest : IsHonest g new) → seen_now g lists_of new ≡ change.set_picks host names (seen_now g lists_of old) = λ honest. sees.now_is honest ∙ ap (change.with_picks (ranked host 1 names)) (dropped.sees.now_is (was honest)) in
           record {
             live = λ honest c. sees.live (dropped.sees.live honest (it.goes.lasts.clean c)) c;
             now_is = lists;

@@ -3,7 +3,7 @@ use Rattle.std.proofs.Common.{◌≡◌, ℕ, suc, ◌+◌, ◌≤◌, true, Res
 use Rattle.sqlite_trees.specs.declared.store.Store.{Ghosts}
 use Rattle.sqlite.specs.Held.{Held}
 use Rattle.dh_ports.specs.declared.fault.Fault.{Fault}
-use Rattle.dh_rows.specs.Calls.{IsHonest, MakesNoCommit, MakesNoCommitInside, seen}
+use Rattle.dh_rows.specs.Calls.{IsHonest, MakesNoCommit, MakesNoCommitInside, seen_now}
 use Rattle.dh_records.specs.Changes as change
 use Rattle.dh_records.specs.Codings as coding
 use Rattle.dh_records.specs.Lists.{Lists, placed, put_all, route_row}
@@ -44,7 +44,7 @@ module _ {S : Type 0} (g : Ghosts S) (host : List ℕ) (routes : List Route) (ol
     pub all_put : length routes ≤ i → ChangesListsInside g old now (Ok (tt {0})) (change.put_routes host routes)
     all_put past =
         let many = count_placed (route_row host) 1 routes in
-        same_change g (λ honest. puts_all rows (seen g lists_of old)) (all_made g change.put_route rows old within now i (omega (arith, many, past)) had)
+        same_change g (λ honest. puts_all rows (seen_now g lists_of old)) (all_made g change.put_route rows old within now i (omega (arith, many, past)) had)
 
   pub routes_after : (within : IsHonest g old → old.in_transaction ≡ true) {middle new : Held S} {r : Result (Unit {0}) Fault} → ChangesLists g old middle (Ok (tt {0})) (change.drop_routes host) → ChangesListsInside g middle new r (change.put_routes host routes)
       → ChangesListsInside g old new r (change.set_routes host routes)

@@ -4,7 +4,7 @@ use Rattle.std.proofs.lemmas.List.{drop_all}
 use Rattle.sqlite_trees.specs.declared.store.Store.{Ghosts}
 use Rattle.sqlite.specs.Held.{Held, state}
 use Rattle.sqlite.specs.State.{HasCleanDisk}
-use Rattle.dh_rows.specs.Calls.{IsHonest, MakesNoCommit, NowShows, seen}
+use Rattle.dh_rows.specs.Calls.{IsHonest, MakesNoCommit, NowShows, seen_now}
 use Rattle.dh_ports.specs.declared.fault.Fault.{Fault}
 use Rattle.dh_records.specs.Lists.{Lists}
 use Rattle.dh_schema.specs.Calling.{LooksAtLists, ChangesLists, ChangesListsInside}
@@ -21,7 +21,7 @@ module _ {S : Type 0} (g : Ghosts S) where
   within_one it within = record { goes = goes_within it.goes within; sees = it.sees }
 
   -- what changes nothing need not be made
-  pub makes_nothing : (h : Held S) (change : Lists → Lists) → (IsHonest g h → h.in_transaction ≡ true) → (IsHonest g h → change (seen g lists_of h) ≡ seen g lists_of h) → ChangesListsInside g h h (Ok (tt {0})) change
+  pub makes_nothing : (h : Held S) (change : Lists → Lists) → (IsHonest g h → h.in_transaction ≡ true) → (IsHonest g h → change (seen_now g lists_of h) ≡ seen_now g lists_of h) → ChangesListsInside g h h (Ok (tt {0})) change
   makes_nothing h change within same = record {
     goes = goes_none h;
     sees = record {
@@ -46,10 +46,10 @@ module _ {S : Type 0} (g : Ghosts S) where
         was : IsHonest g new → IsHonest g middle
         was = it.goes.lasts.was
 
-        lists_are : (honest : IsHonest g middle) → change (seen g lists_of middle) ≡ change (seen g lists_of old)
+        lists_are : (honest : IsHonest g middle) → change (seen_now g lists_of middle) ≡ change (seen_now g lists_of old)
         lists_are honest = ap change (look.same honest.0).now_is
 
-        go : (r : Result (Unit {0}) Fault) → OnOk r (NowShows g lists_of middle new (change (seen g lists_of middle))) → OnOk r (NowShows g lists_of old new (change (seen g lists_of old)))
+        go : (r : Result (Unit {0}) Fault) → OnOk r (NowShows g lists_of middle new (change (seen_now g lists_of middle))) → OnOk r (NowShows g lists_of old new (change (seen_now g lists_of old)))
         go (Ok u) sees = record {
           live = λ honest clean. sees.live (between (it.goes.lasts.clean clean)) clean;
           now_is = λ honest. sees.now_is honest ∙ lists_are (was honest);
@@ -68,10 +68,10 @@ module _ {S : Type 0} (g : Ghosts S) where
         was : IsHonest g new → IsHonest g middle
         was = it.goes.lasts.was
 
-        lists_are : (honest : IsHonest g middle) → change (seen g lists_of middle) ≡ change (first (seen g lists_of old))
+        lists_are : (honest : IsHonest g middle) → change (seen_now g lists_of middle) ≡ change (first (seen_now g lists_of old))
         lists_are honest = ap change (made.sees.now_is honest)
 
-        go : (r : Result (Unit {0}) Fault) → OnOk r (NowShows g lists_of middle new (change (seen g lists_of middle))) → OnOk r (NowShows g lists_of old new (change (first (seen g lists_of old))))
+        go : (r : Result (Unit {0}) Fault) → OnOk r (NowShows g lists_of middle new (change (seen_now g lists_of middle))) → OnOk r (NowShows g lists_of old new (change (first (seen_now g lists_of old))))
         go (Ok u) sees = record {
           live = λ honest clean. sees.live (made.sees.live honest (it.goes.lasts.clean clean)) clean;
           now_is = λ honest. sees.now_is honest ∙ lists_are (was honest);
@@ -81,7 +81,7 @@ module _ {S : Type 0} (g : Ghosts S) where
         go (Err e) sees = tt
 
   -- a change that makes the same of the lists
-  pub same_change : {old new : Held S} {first change : Lists → Lists} → (IsHonest g old → first (seen g lists_of old) ≡ change (seen g lists_of old)) → ChangesListsInside g old new (Ok (tt {0})) first → ChangesListsInside g old new (Ok (tt {0})) change
+  pub same_change : {old new : Held S} {first change : Lists → Lists} → (IsHonest g old → first (seen_now g lists_of old) ≡ change (seen_now g lists_of old)) → ChangesListsInside g old new (Ok (tt {0})) first → ChangesListsInside g old new (Ok (tt {0})) change
   same_change same it = record {
     goes = it.goes;
     sees = record {
@@ -98,7 +98,7 @@ module _ {S : Type 0} (g : Ghosts S) where
       pub goes : MakesNoCommit g old now
       pub live : IsHonest g old → HasCleanDisk (state g now) → IsHonest g now
       pub mode : IsHonest g now → now.in_transaction ≡ old.in_transaction
-      pub left : IsHonest g now → made_of step (drop i ys) (seen g lists_of now) ≡ made_of step ys (seen g lists_of old)
+      pub left : IsHonest g now → made_of step (drop i ys) (seen_now g lists_of now) ≡ made_of step ys (seen_now g lists_of old)
 
     pub none_made : AreMade old 0
     none_made = record { goes = goes_none old; live = λ honest clean. honest; mode = λ honest. refl; left = λ honest. refl }
@@ -114,9 +114,9 @@ module _ {S : Type 0} (g : Ghosts S) where
         live = λ honest clean. it.sees.live (had.live honest (it.goes.lasts.clean clean)) clean;
         mode = λ honest. it.sees.mode honest ∙ had.mode (it.goes.lasts.was honest);
         left = λ honest.
-            ap (λ n. made_of step (drop n ys) (seen g lists_of next)) (add-one i)
+            ap (λ n. made_of step (drop n ys) (seen_now g lists_of next)) (add-one i)
             ∙ ap (made_of step (drop (suc i) ys)) (it.sees.now_is honest)
-            ∙ ap (λ l. made_of step l (seen g lists_of now)) (sym next_is)
+            ∙ ap (λ l. made_of step l (seen_now g lists_of now)) (sym next_is)
             ∙ had.left (it.goes.lasts.was honest);
       }
 
@@ -129,7 +129,7 @@ module _ {S : Type 0} (g : Ghosts S) where
         goes = had.goes;
         sees = record {
           live = had.live;
-          now_is = λ honest. ap (λ l. made_of step l (seen g lists_of now)) (sym (drop_all i ys past)) ∙ had.left honest;
+          now_is = λ honest. ap (λ l. made_of step l (seen_now g lists_of now)) (sym (drop_all i ys past)) ∙ had.left honest;
           mode = had.mode;
           done = λ honest out. absurd (true≢false (sym (within (had.goes.lasts.was honest)) ∙ out));
         };

@@ -8,7 +8,7 @@ use Rattle.sqlite_trees.specs.declared.store.Store.{Ghosts}
 use Rattle.sqlite.specs.State.{State}
 use Rattle.sqlite.specs.Held.{Held}
 use Rattle.dh_ports.specs.declared.fault.Fault.{Fault}
-use Rattle.dh_rows.specs.Calls.{seen}
+use Rattle.dh_rows.specs.Calls.{seen_now}
 use Rattle.dh_rows.proofs.Read.{delete_of, parameters_in, select_of}
 use Rattle.dh_records.specs.Codings.{aliases, projects, routes}
 use Rattle.dh_records.specs.Lists.{Lists}
@@ -60,7 +60,7 @@ pub whole_read
     → ReadsAll g old new r (λ l. filter each (part l)) → ReadsAll g old new r part
 whole_read g old new part r it = record {
   asks = it.asks;
-  value = λ honest. IfOk-weaker r _ _ (λ rows is. is ∙ filter_all each (part (seen g lists_of old)) (each_of (λ x. true ≡ true) (λ x. refl) _)) (it.value honest);
+  value = λ honest. IfOk-weaker r _ _ (λ rows is. is ∙ filter_all each (part (seen_now g lists_of old)) (each_of (λ x. true ≡ true) (λ x. refl) _)) (it.value honest);
 }
 
 abbrev pub clear_aliases_text : List ℕ

@@ -3,7 +3,7 @@ use Rattle.std.specs.Prelude.{◌≡◌, ◌⊎◌, false, Result, Ok, Err, OnOk
 use Rattle.sqlite_trees.specs.declared.store.Store.{Ghosts}
 use Rattle.sqlite.specs.Held.{Held, state}
 use Rattle.sqlite.specs.State.{HasCleanDisk}
-use Rattle.dh_rows.specs.Calls.{IsHonest, MakesNoCommit, MakesNoCommitInside, seen, committed}
+use Rattle.dh_rows.specs.Calls.{IsHonest, MakesNoCommit, MakesNoCommitInside, seen_now, committed}
 use Rattle.dh_records.specs.Lists.{Lists}
 pub use Rattle.dh_schema.specs.Calling.{HasRecords, IsWithin, LacksKey}
 use Rattle.dh_schema.specs.Tables.{lists_of}
@@ -14,7 +14,7 @@ use Rattle.dh_world.specs.declared.refusal.Refusal.{Refusal}
 module _ {S : Type 0} (g : Ghosts S) where
   -- the records that are seen now, and those of the last commit
   abbrev pub records : Held S → Lists
-  records h = seen g lists_of h
+  records h = seen_now g lists_of h
 
   abbrev pub last_records : Held S → Lists
   last_records h = committed g lists_of h

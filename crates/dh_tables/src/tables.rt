@@ -4,7 +4,7 @@ ghost use Rattle.std.specs.Prelude.{◌≡◌, ◌<◌, ◌^◌, true, false, no
 ghost use Rattle.std.specs.FinMap.{empty};
 ghost use Rattle.sqlite.specs.Held.{state};
 ghost use Rattle.sqlite.specs.Steps.{over_memory};
-ghost use Rattle.dh_rows.specs.Calls.{AreOurs, IsHonest, OnlyBegins, OnlyCommits, OnlyUndoes, CrashLeaves, LeavesCommitted, LeavesNoMore, seen, committed};
+ghost use Rattle.dh_rows.specs.Calls.{AreOurs, IsHonest, OnlyBegins, OnlyCommits, OnlyUndoes, CrashLeaves, LeavesCommitted, LeavesNoMore, seen_now, committed};
 ghost use Rattle.dh_schema.specs.Calling.{LooksAtLists, IsSettled, KeepsSchema};
 ghost use Rattle.dh_schema.specs.Making.{no_lists};
 ghost use Rattle.dh_schema.specs.Tables.{HoldsTables, lists_of};
@@ -68,7 +68,7 @@ impl<S: Alter> Tables<S> {
     pub fn commit(&mut self) -> Result<(), Fault>
         ensures commits { OnlyCommits S.Store lists_of self.old self.new result }
         ensures crash { CrashLeaves S.Store lists_of self.old self.new
-            (λ l. l ≡ seen S.Store lists_of self.old) }
+            (λ l. l ≡ seen_now S.Store lists_of self.old) }
         ensures steady { KeepsSchema S.Store self.old self.new }
         ensures left { IsHonest S.Store self.new → LeavesCommitted S.Store lists_of self.new }
     {
@@ -124,10 +124,10 @@ impl Tables<MemStore> {
     pub fn in_memory(alloc: Global) -> Result<Tables<MemStore>, Fault>
         ensures honest { IfOk result (λ t. IsHonest over_memory t) }
         ensures settled { IfOk result (λ t. t.in_transaction ≡ false) }
-        ensures none { IfOk result (λ t. seen over_memory lists_of t ≡ no_lists) }
+        ensures none { IfOk result (λ t. seen_now over_memory lists_of t ≡ no_lists) }
         ensures last { IfOk result (λ t. committed over_memory lists_of t ≡ no_lists) }
         ensures left { IfOk result (λ t. LeavesCommitted over_memory lists_of t) }
-        ensures empty { IfOk result (λ t. spec.world_of (seen over_memory lists_of t) ≡ empty) }
+        ensures empty { IfOk result (λ t. spec.world_of (seen_now over_memory lists_of t) ≡ empty) }
     {
         let mut conn = Connection::open_in_memory(alloc)?;
         make_tables(&mut conn)?;

@@ -4,7 +4,7 @@ use Rattle.sqlite_trees.specs.declared.store.Store.{Ghosts}
 use Rattle.sqlite.specs.Effect.{Database}
 use Rattle.sqlite.specs.State.{HasCleanDisk}
 use Rattle.sqlite.specs.Held.{Held, state}
-use Rattle.dh_rows.specs.Calls.{IsHonest, ShowsHonestly, LeavesNoMore, KeepsCommitted, seen, committed}
+use Rattle.dh_rows.specs.Calls.{IsHonest, ShowsHonestly, LeavesNoMore, KeepsCommitted, seen_now, committed}
 use Rattle.dh_world.specs.declared.answer.Answer.{Answer}
 use Rattle.dh_records.specs.Lists.{Lists, world_of}
 use Rattle.dh_schema.specs.Tables.{lists_of}
@@ -37,7 +37,7 @@ module _ {S : Type 0} (g : Ghosts S) where
 
   -- what was begun and worked on leaves nothing more
   pub worked_no_more : (old begun worked : Held S) → (HasCleanDisk (state g begun) → IsHonest g old) → LeavesNoMore g old begun
-      → (IsHonest g old → HasCleanDisk (state g begun) → ShowsHonestly g lists_of old begun (seen g lists_of old) (committed g lists_of old) true)
+      → (IsHonest g old → HasCleanDisk (state g begun) → ShowsHonestly g lists_of old begun (seen_now g lists_of old) (committed g lists_of old) true)
       → (HasCleanDisk (state g worked) → HasCleanDisk (state g begun)) → (IsHonest g begun → LeavesNoMore g begun worked) → LeavesNoMore g old worked
   worked_no_more old begun worked opened quiet1 shows clean1 quiet2 clean db may =
       let c1 = clean1 clean in
@@ -46,10 +46,10 @@ module _ {S : Type 0} (g : Ghosts S) where
   -- a command that was begun, worked on and ended
   pub ended_leaves : (old begun worked new : Held S) (c : Command) (result : Result Answer Refusal) → bad_text c ≡ None
       → (HasCleanDisk (state g begun) → IsHonest g old) → KeepsCommitted g old begun → LeavesNoMore g old begun
-      → (IsHonest g old → HasCleanDisk (state g begun) → ShowsHonestly g lists_of old begun (seen g lists_of old) (committed g lists_of old) true)
+      → (IsHonest g old → HasCleanDisk (state g begun) → ShowsHonestly g lists_of old begun (seen_now g lists_of old) (committed g lists_of old) true)
       → (HasCleanDisk (state g worked) → HasCleanDisk (state g begun)) → KeepsCommitted g begun worked → (IsHonest g begun → LeavesNoMore g begun worked)
       → (IsHonest g begun → HasCleanDisk (state g worked) → OnOk result (IsHonest g worked))
-      → (IsHonest g old → IsHonest g begun → IsHonest g worked → TakesTurn (committed g lists_of old) (seen g lists_of worked) c result)
+      → (IsHonest g old → IsHonest g begun → IsHonest g worked → TakesTurn (committed g lists_of old) (seen_now g lists_of worked) c result)
       → (HasCleanDisk (state g new) → HasCleanDisk (state g worked)) → LeavesEnd g worked new result → LeavesStep g old new c
   ended_leaves old begun worked new c result right opened kept1 quiet1 shows clean1 kept2 quiet2 live turned clean2 ends clean db may =
       let c2 = clean2 clean in
@@ -61,11 +61,11 @@ module _ {S : Type 0} (g : Ghosts S) where
         | inr it ↦ inr (h0, after h0 h1 c2 it)
       ]
     where
-      after : IsHonest g old → IsHonest g begun → HasCleanDisk (state g worked) → (answer : Answer) × (result ≡ Ok answer) × (spelled g worked db ≡ seen g lists_of worked)
+      after : IsHonest g old → IsHonest g begun → HasCleanDisk (state g worked) → (answer : Answer) × (result ≡ Ok answer) × (spelled g worked db ≡ seen_now g lists_of worked)
           → (answer : Answer) × (step (world_of (committed g lists_of old)) c ≡ Ok (world_of (spelled g old db), answer))
       after h0 h1 c2 it =
           let h2 : IsHonest g worked = subst (λ r. OnOk r (IsHonest g worked)) it.1 (live h1 c2) in
-          let at : TakesTurn (committed g lists_of old) (seen g lists_of worked) c (Ok it.0) = subst (TakesTurn (committed g lists_of old) (seen g lists_of worked) c) it.1 (turned h0 h1 h2) in
+          let at : TakesTurn (committed g lists_of old) (seen_now g lists_of worked) c (Ok it.0) = subst (TakesTurn (committed g lists_of old) (seen_now g lists_of worked) c) it.1 (turned h0 h1 h2) in
           let same = ap (λ (d : Database). lists_of (record { schema = d.schema; trees = db })) (kept2 h2 ∙ kept1 h1) in
           (it.0, right_texts (committed g lists_of old) c right ∙ at.0 ∙ ap (λ (l : Lists). Ok (world_of l, it.0)) (sym (sym same ∙ it.2)))
 

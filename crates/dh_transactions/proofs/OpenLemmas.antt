@@ -26,7 +26,7 @@ use Rattle.dh_records.specs.declared.records.AliasName.TheVariants.{Latest, Stab
 use Rattle.dh_records.specs.declared.records.LangRow.{LangRow}
 use Rattle.dh_records.specs.declared.records.ProjectRow.{ProjectRow}
 use Rattle.dh_transactions.proofs.Turning.{turn_at}
-use Rattle.dh_transactions.specs.Opening.{project_row, main_lang, with_row, with_project}
+use Rattle.dh_transactions.specs.Opening.{project_row, main_lang_row, with_row, with_project}
 use Rattle.dh_records.specs.Constraints.{AreSound}
 use Rattle.dh_transactions.specs.Steps.{TakesTurn}
 use Rattle.dh_aliases.specs.Names.{names_of}
@@ -134,7 +134,7 @@ module _ (host : Text) (lists : Lists) (none : get (world_of lists) host ≡ Non
       row = project_row host x
 
       abbrev lang : LangRow
-      lang = main_lang host x.lang
+      lang = main_lang_row host x.lang
 
       made_sound : AreSound (with_project host x lists)
       made_sound = record {

@@ -17,8 +17,8 @@ project_row host x = record {
 }
 
 -- the record of the main language, which stands first
-abbrev pub main_lang : Text → Text → LangRow
-main_lang host lang = record { host = host; lang = lang; place = 1 }
+abbrev pub main_lang_row : Text → Text → LangRow
+main_lang_row host lang = record { host = host; lang = lang; place = 1 }
 
 abbrev pub with_row : ProjectRow → Lists → Lists
 with_row row l = record l { projects = added coding.projects.key row l.projects }
@@ -29,4 +29,4 @@ with_lang row l = record l { langs = added coding.langs.key row l.langs }
 -- the lists with the project and its main language
 abbrev pub with_project : Text → NewProject → Lists → Lists
 with_project host x l =
-    with_lang (main_lang host x.lang) (with_row (project_row host x) l)
+    with_lang (main_lang_row host x.lang) (with_row (project_row host x) l)

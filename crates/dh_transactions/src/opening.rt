@@ -7,7 +7,7 @@ ghost use Rattle.dh_records.specs.Codings as coding;
 ghost use Rattle.dh_records.specs.Lists.{world_of};
 ghost use Rattle.dh_records.specs.Constraints.{has_language};
 ghost use Rattle.dh_tables.specs.Going.{HasRecords, LacksKey, ChangesRecords, StaysHonest, records};
-ghost use Rattle.dh_transactions.specs.Opening.{project_row, main_lang, with_row, with_lang, with_project};
+ghost use Rattle.dh_transactions.specs.Opening.{project_row, main_lang_row, with_row, with_lang, with_project};
 ghost use Rattle.dh_records.specs.Constraints.{AreSound};
 ghost use Rattle.dh_transactions.specs.Steps.{AreConsistent, TakesTurn};
 
@@ -26,7 +26,7 @@ fn rows_of(
     project: NewProject,
 ) -> Result<(ProjectRow, LangRow), AllocError>
     ensures { IfOk result (λ rows. (rows.0 ≡ project_row host.now project)
-        × (rows.1 ≡ main_lang host.now project.lang)) }
+        × (rows.1 ≡ main_lang_row host.now project.lang)) }
 {
     let NewProject { lang, settings } = project;
     let ProjectSettings {

@@ -33,12 +33,12 @@ abbrev pub IsReleaseOf : Kind → List ℕ → Numbers → Type 0
 IsReleaseOf kind name n = (kind ≡ Tag) × ((build : List ℕ) × IsSemVerOf name (n.0, n.1, n.2, [], build))
 
 -- the parts that `semver` reads in a name after at most one leading `v`
-abbrev pub version_of : List ℕ → Option Parts
-version_of name = result_ok (version_parts (without_v name))
+abbrev pub semver_parts : List ℕ → Option Parts
+semver_parts name = result_ok (version_parts (without_v name))
 
 -- whether the name is SemVer, as a test that computes
 abbrev pub is_semver_name : List ℕ → Bool
-is_semver_name name = is_some (version_of name)
+is_semver_name name = is_some (semver_parts name)
 
 -- the numbers of a version without a pre-release
 abbrev pub released : Option Parts → Option Numbers
@@ -48,4 +48,4 @@ released (Some p) = if length p.3 == 0 then Some (p.0, p.1, p.2) else None
 -- the release numbers of a tag, as a function that computes; a branch has none
 abbrev pub release_of : Kind → List ℕ → Option Numbers
 release_of Branch name = None
-release_of Tag name = released (version_of name)
+release_of Tag name = released (semver_parts name)

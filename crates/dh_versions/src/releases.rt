@@ -2,7 +2,7 @@
 
 ghost use Rattle.std.specs.Prelude.{◌≡◌, ◌↔◌, IfOk, OnErr, IsTrue, MatchOption, option_map};
 ghost use Rattle.semver.specs.Identifiers.{parts_of};
-ghost use Rattle.dh_versions.specs.Release.{IsSemVer, IsReleaseOf, Numbers, without_v, version_of, is_semver_name, release_of};
+ghost use Rattle.dh_versions.specs.Release.{IsSemVer, IsReleaseOf, Numbers, without_v, semver_parts, is_semver_name, release_of};
 
 use crate::version::Kind;
 use dh_paths::RefName;
@@ -20,7 +20,7 @@ fn without_mark(name: &str) -> &str
 
 /// The version that a name stands for after at most one leading `v`; none where it is not SemVer.
 fn version_in(alloc: Global, name: &str) -> Result<Option<Version>, AllocError>
-    ensures { IfOk result (λ version. option_map parts_of version ≡ version_of name.now) }
+    ensures { IfOk result (λ version. option_map parts_of version ≡ semver_parts name.now) }
 {
     match Version::parse(alloc, without_mark(name)) {
         Ok(version) => Ok(Some(version)),

@@ -29,7 +29,7 @@ use Rattle.dh_classes.specs.Classes as classes
 use Rattle.dh_classes.specs.Classes.{class_holds, class_of, versions_for}
 use Rattle.dh_records.specs.Constraints as constraint
 use Rattle.dh_records.specs.Constraints.{RiseBySlug, languages_of}
-use Rattle.dh_view.specs.View.{ShowsClass, has_project, host_in, languages_in, opens, project_in, sees, shown_under, slug_in, version_in, versions_in}
+use Rattle.dh_view.specs.View.{ShowsClass, is_project_there, host_in, languages_in, opens, project_in, is_slug_seen, shown_under, slug_if_seen, version_in, versions_in}
 use Rattle.dh_world.proofs.MapLemmas.{tied_text}
 use Rattle.dh_records.proofs.SeenLemmas.{get_project, get_version, get_page}
 use Rattle.dh_world.proofs.SeenLemmas.{seen_page}
@@ -249,7 +249,7 @@ langs_shown p c = refl
 -- ---- what stands under a host
 
 -- the record of a project that stands
-project_row : (lists : Lists) (o : Option Text) (host : Text) → o ≡ Some host → has_project lists o ≡ true
+project_row : (lists : Lists) (o : Option Text) (host : Text) → o ≡ Some host → is_project_there lists o ≡ true
     → (row : ProjectRow) × (row.host ≡ host) × (project_in lists o ≡ Some (project_of lists row))
 project_row lists o host is some = go (find (is_project host) lists.projects) refl (sym (found_is lists o host is))
   where
@@ -260,9 +260,9 @@ project_row lists o host is some = go (find (is_project host) lists.projects) re
 
 pub under_host : (lists : Lists) (o : Option Text) (host : Text) → Some host ≡ host_in lists o
     → (row : ProjectRow) × (row.host ≡ host) × (project_in lists o ≡ Some (project_of lists row))
-under_host lists o host e = go (has_project lists o) refl e
+under_host lists o host e = go (is_project_there lists o) refl e
   where
-    go : (b : Bool) → has_project lists o ≡ b → Some host ≡ cond b o None → (row : ProjectRow) × (row.host ≡ host) × (project_in lists o ≡ Some (project_of lists row))
+    go : (b : Bool) → is_project_there lists o ≡ b → Some host ≡ cond b o None → (row : ProjectRow) × (row.host ≡ host) × (project_in lists o ≡ Some (project_of lists row))
     go true some e = project_row lists o host (sym e) some
     go false some e = absurd (no e)
       where
@@ -294,11 +294,11 @@ pub languages_none : (lists : Lists) (o : Option Text) → o ≡ None → [] ≡
 languages_none lists o is = ap (languages_in lists) (sym is)
 
 -- and its project is known by the first of them
-pub known_by_first : (lists : Lists) (o : Option Text) → ((host : Text) → o ≡ Some host → is_some (slice_get (languages_of lists host) 0) ≡ constraint.has_project lists host) → is_some (slice_get (languages_in lists o) 0) ≡ has_project lists o
+pub known_by_first : (lists : Lists) (o : Option Text) → ((host : Text) → o ≡ Some host → is_some (slice_get (languages_of lists host) 0) ≡ constraint.has_project lists host) → is_some (slice_get (languages_in lists o) 0) ≡ is_project_there lists o
 known_by_first lists o first = by o refl
   where
-    by : (x : Option Text) → o ≡ x → is_some (slice_get (languages_in lists o) 0) ≡ has_project lists o
-    by None is = ap (λ x. is_some (slice_get (languages_in lists x) 0)) is ∙ sym (ap (has_project lists) is)
+    by : (x : Option Text) → o ≡ x → is_some (slice_get (languages_in lists o) 0) ≡ is_project_there lists o
+    by None is = ap (λ x. is_some (slice_get (languages_in lists x) 0)) is ∙ sym (ap (is_project_there lists) is)
     by (Some host) is = sym (ap (λ ls. is_some (slice_get ls 0)) (languages_right lists o host is (first host is))) ∙ first host is ∙ known_is lists o host is
 
 -- every caller sees all languages
@@ -329,7 +329,7 @@ module _ (lists : Lists) (row : ProjectRow) (c : Caller) (host : Text) (own : ro
 
 -- a host under which a project stands
 pub host_found : (lists : Lists) (o : Option Text) (host : Text) → Some host ≡ host_in lists o → o ≡ Some host
-host_found lists o host e = go (has_project lists o) e
+host_found lists o host e = go (is_project_there lists o) e
   where
     go : (b : Bool) → Some host ≡ cond b o None → o ≡ Some host
     go true e = sym e
@@ -348,7 +348,7 @@ module _ (lists : Lists) (o : Option Text) (c : Caller) where
   abbrev told_of : Text → Option Project → Option Text
   told_of name p = cond (option_map_or (λ p. is_visible p c name) p false) (Some name) None
 
-  pub slug_found : (host name : Text) → Some host ≡ host_in lists o → ShowsClass lists o c → option_map (λ v. name) (version_in lists host c.pass name) ≡ slug_in lists o c name
+  pub slug_found : (host name : Text) → Some host ≡ host_in lists o → ShowsClass lists o c → option_map (λ v. name) (version_in lists host c.pass name) ≡ slug_if_seen lists o c name
   slug_found host name e own =
       let found = under_host lists o host e in
       slug_under lists found.0 c host found.1 c.pass (own (project_of lists found.0) found.2) name ∙ ap (told_of name) (sym found.2)
@@ -357,11 +357,11 @@ module _ (lists : Lists) (o : Option Text) (c : Caller) where
   not_some x e = cc
 
   -- what was found is seen
-  pub sees_found : (name : Text) (found : Option Text) → found ≡ slug_in lists o c name → (slug : Text) → found ≡ Some slug → sees lists o c slug ≡ true
-  sees_found name found e slug is = go (sees lists o c name) refl (sym is ∙ e)
+  pub sees_found : (name : Text) (found : Option Text) → found ≡ slug_if_seen lists o c name → (slug : Text) → found ≡ Some slug → is_slug_seen lists o c slug ≡ true
+  sees_found name found e slug is = go (is_slug_seen lists o c name) refl (sym is ∙ e)
     where
-      go : (b : Bool) → sees lists o c name ≡ b → Some slug ≡ cond b (Some name) None → sees lists o c slug ≡ true
-      go true told e = let same : slug ≡ name = cc in ap (sees lists o c) same ∙ told
+      go : (b : Bool) → is_slug_seen lists o c name ≡ b → Some slug ≡ cond b (Some name) None → is_slug_seen lists o c slug ≡ true
+      go true told e = let same : slug ≡ name = cc in ap (is_slug_seen lists o c) same ∙ told
       go false told e = absurd (not_some slug e)
 
 -- ---- what a slug stands for
@@ -380,7 +380,7 @@ module _ (lists : Lists) (o : Option Text) (c : Caller) (name : Text) where
           go None found e = inl e
           go (Some row) found e = inr (row, e, is ∙ ap Some (sym ((bytes_eq-Decides row.host host).0 (found_passes (is_project host) lists.projects row found))))
 
-  seen_in : (own : Text) → Some own ≡ slug_in lists o c name
+  seen_in : (own : Text) → Some own ≡ slug_if_seen lists o c name
       → (own ≡ name) × ((row : ProjectRow) × (project_in lists o ≡ Some (project_of lists row)) × (o ≡ Some row.host) × (is_visible (project_of lists row) c name ≡ true))
   seen_in own e =
       elim standing [
@@ -393,7 +393,7 @@ module _ (lists : Lists) (o : Option Text) (c : Caller) (name : Text) where
       go row is host true told e = let same : own ≡ name = cc in (same, (row, is, host, told))
       go row is host false told e = absurd (not_some lists o c own e)
 
-  unseen_in : None ≡ slug_in lists o c name
+  unseen_in : None ≡ slug_if_seen lists o c name
       → (project_in lists o ≡ None) ⊎ ((row : ProjectRow) × (project_in lists o ≡ Some (project_of lists row)) × (is_visible (project_of lists row) c name ≡ false))
   unseen_in e =
       elim standing [
@@ -410,12 +410,12 @@ module _ (lists : Lists) (o : Option Text) (c : Caller) (name : Text) where
   abbrev of_seen : {U : Type 0} → (SeenProject → Option U) → Option Project → Option U
   of_seen f p = option_and_then f (option_map (λ q. seen_project q c) p)
 
-  pub name_seen : (own : Text) → Some own ≡ slug_in lists o c name → Some (record { slug = own; alias = false }) ≡ option_and_then (λ p. resolved p name) (shown_under lists o c)
+  pub name_seen : (own : Text) → Some own ≡ slug_if_seen lists o c name → Some (record { slug = own; alias = false }) ≡ option_and_then (λ p. resolved p name) (shown_under lists o c)
   name_seen own e =
       let found = seen_in own e in
       ap (λ s. Some (record { slug = s; alias = false })) found.0 ∙ seen_resolves lists found.1.0 c name found.1.3 ∙ ap (of_seen (λ p. resolved p name)) (sym found.1.1)
 
-  pub name_unseen : None ≡ slug_in lists o c name → option_and_then (λ p. alias_of p name) (shown_under lists o c) ≡ option_and_then (λ p. resolved p name) (shown_under lists o c)
+  pub name_unseen : None ≡ slug_if_seen lists o c name → option_and_then (λ p. alias_of p name) (shown_under lists o c) ≡ option_and_then (λ p. resolved p name) (shown_under lists o c)
   name_unseen e =
       elim (unseen_in e) [
         | inl none ↦ ap (of_seen (λ p. alias_of p name)) none ∙ ap (of_seen (λ p. resolved p name)) (sym none)
@@ -423,7 +423,7 @@ module _ (lists : Lists) (o : Option Text) (c : Caller) (name : Text) where
       ]
 
   module _ (lang path : Text) where
-    pub page_seen : (host own : Text) → o ≡ Some host → Some own ≡ slug_in lists o c name
+    pub page_seen : (host own : Text) → o ≡ Some host → Some own ≡ slug_if_seen lists o c name
         → option_map (λ x. x.page) (find (is_page host own lang path) lists.pages) ≡ option_and_then (λ p. page_at p lang name path) (shown_under lists o c)
     page_seen host own is e =
         let found = seen_in own e in
@@ -437,7 +437,7 @@ module _ (lists : Lists) (o : Option Text) (c : Caller) (name : Text) where
         some_same : {x y : Text} → Some x ≡ Some y → x ≡ y
         some_same e = cc
 
-    pub page_unseen : None ≡ slug_in lists o c name → None ≡ option_and_then (λ p. page_at p lang name path) (shown_under lists o c)
+    pub page_unseen : None ≡ slug_if_seen lists o c name → None ≡ option_and_then (λ p. page_at p lang name path) (shown_under lists o c)
     page_unseen e =
         elim (unseen_in e) [
           | inl none ↦ ap (of_seen (λ p. page_at p lang name path)) (sym none)

@@ -12,7 +12,7 @@ use Rattle.dh_ports.specs.declared.fault.Fault.TheVariants.{Store, Memory}
 use Rattle.dh_ports.specs.Faults.{OnStore, UnlessStore}
 use Rattle.dh_reply.specs.Lookup as lookup
 use Rattle.dh_seen.specs.declared.seen_project.SeenProject.{SeenProject}
-use Rattle.dh_rows.specs.Calls.{IsBlamed, IsHonest, IsSame, KeepsFaults, seen}
+use Rattle.dh_rows.specs.Calls.{IsBlamed, IsHonest, IsSame, KeepsFaults, seen_now}
 use Rattle.dh_schema.specs.Tables.{lists_of}
 use Rattle.dh_world.specs.declared.caller.Caller.{Caller}
 use Rattle.dh_world.specs.World.{Text}
@@ -25,7 +25,7 @@ use Rattle.dh_schema.specs.Calling.{IsSettled}
 use Rattle.dh_schema.specs.InTurn.{blamed_before, goes_none, goes_on, refused_on, same_none, same_on}
 use Rattle.dh_view.specs.Remembered.{AreLanguagesRead, IsClassed, IsKnown, IsSeen}
 use Rattle.dh_view.specs.Right.{IsRightAt, IsRightIn}
-use Rattle.dh_view.specs.View.{ShowsClass, doubt_of, has_project, host_in, languages_in, meaning_of, project_in, sees, shown, shown_in, shown_under, slug_in, version_in, fails_on, looks_on, LooksInTurn, FailsWithCause, LeavesUnmoved, LearnsInTurn}
+use Rattle.dh_view.specs.View.{ShowsClass, doubt_of, is_project_there, host_in, languages_in, meaning_of, project_in, is_slug_seen, shown, shown_in, shown_under, slug_if_seen, version_in, fails_on, looks_on, LooksInTurn, FailsWithCause, LeavesUnmoved, LearnsInTurn}
 use Rattle.dh_view.specs.declared.view.View.{View}
 use Rattle.dh_view.proofs.Shown.{not_under, slug_found, under_host}
 
@@ -157,7 +157,7 @@ module _ {S : Type 0} {g : Ghosts S} where
       record { goes = q.goes; same = λ _ _. tt; err = q.err; told = λ clean. same_fault T U (IsBlamed g a b ⊎ ⊥) f (q.told clean) }
 
   -- answered looks leave the records as they were
-  pub still : {T : Type 0} {a b : Held S} {x : T} → LooksInTurn g a b (Ok x) → IsHonest g b → seen g lists_of b ≡ seen g lists_of a
+  pub still : {T : Type 0} {a b : Held S} {x : T} → LooksInTurn g a b (Ok x) → IsHonest g b → seen_now g lists_of b ≡ seen_now g lists_of a
   still p it = (p.same (p.goes.lasts.was it) it.0).now_is
 
 -- ---- the same outside a transaction
@@ -209,7 +209,7 @@ module _ {S : Type 0} {g : Ghosts S} where
   -- outside a transaction looks leave what holds of the records
   pub still_told
       : {T : Type 0} {a b : Held S} {r : Result T Fault} (P : Lists → Type 0) → (IsHonest g a → IsSettled g a) → LooksInTurn g a b r
-      → (IsHonest g a → P (seen g lists_of a)) → IsHonest g b → P (seen g lists_of b)
+      → (IsHonest g a → P (seen_now g lists_of a)) → IsHonest g b → P (seen_now g lists_of b)
   still_told P settled p fact it =
       let same = ((looks_from settled p).unmoved it).same in
       subst P (sym same.now_is) (fact same.was_honest)
@@ -228,8 +228,8 @@ pub recalls
     → (IsHonest g v.tables.now → IsSettled g v.tables.now) → LooksInTurn g v.tables.now h r → Recalls g v h
 recalls v settled looks = record {
   right = λ host is. still_told (λ l. IsRightIn l host) settled looks (v.right host is);
-  is_known = λ known. still_told (λ l. has_project l v.host ≡ true) settled looks (v.is_known known);
-  is_seen = λ slug is. still_told (λ l. sees l v.host v.caller slug ≡ true) settled looks (v.is_seen slug is);
+  is_known = λ known. still_told (λ l. is_project_there l v.host ≡ true) settled looks (v.is_known known);
+  is_seen = λ slug is. still_told (λ l. is_slug_seen l v.host v.caller slug ≡ true) settled looks (v.is_seen slug is);
   are_languages = λ langs is. still_told (λ l. langs ≡ languages_in l v.host) settled looks (v.are_languages langs is);
   is_classed = still_told (λ l. ShowsClass l v.host v.caller) settled looks v.is_classed;
 }
@@ -246,7 +246,7 @@ same_answer f (Err x) v w e h = tt
 
 module _ {S : Type 0} {g : Ghosts S} {T U : Type 0} where
   -- a look whose answer is that of all, after others that were answered
-  pub reads_on : {a b c : Held S} {x : T} {r : Result U Fault} {v w : Lists → U} → LooksInTurn g a b (Ok x) → LearnsInTurn g b c r (λ l u. u ≡ v l) → (IsHonest g b → v (seen g lists_of b) ≡ w (seen g lists_of a)) → LearnsInTurn g a c r (λ l u. u ≡ w l)
+  pub reads_on : {a b c : Held S} {x : T} {r : Result U Fault} {v w : Lists → U} → LooksInTurn g a b (Ok x) → LearnsInTurn g b c r (λ l u. u ≡ v l) → (IsHonest g b → v (seen_now g lists_of b) ≡ w (seen_now g lists_of a)) → LearnsInTurn g a c r (λ l u. u ≡ w l)
   reads_on {r = r} first next same = record {
     asks = asks_on first next.asks;
     value = λ honest. same_answer (λ u. u) r _ _ (same (next.asks.goes.lasts.was honest)) (next.value honest);
@@ -256,7 +256,7 @@ module _ {S : Type 0} {g : Ghosts S} {T U : Type 0} where
   pub obtains_handed : {a b : Held S} {fact : Lists → U → Type 0} (r : Result U Fault) {from : Result T Fault} (fault : Fault) → from ≡ Err fault → IsErrAnd r (λ f. f ≡ fault) → LooksInTurn g a b from → LearnsInTurn g a b r fact
   obtains_handed {a = a} {b = b} {fact = fact} r fault was is it = record { asks = asks_handed r fault was is it; value = λ _. none r is }
     where
-      none : (r : Result U Fault) → IsErrAnd r (λ f. f ≡ fault) → IfOk r (fact (seen g lists_of a))
+      none : (r : Result U Fault) → IsErrAnd r (λ f. f ≡ fault) → IfOk r (fact (seen_now g lists_of a))
       none (Ok y) same = absurd same
       none (Err f) same = tt
 
@@ -283,14 +283,14 @@ module _ {S : Type 0} (g : Ghosts S) where
 
   -- what was found before a call is found after it
   module _ {T : Type 0} {a b : View S g} {x : T} (p : lookup.IsLook (meaning_of g) a b (Ok x)) (it : IsHonest g b.tables.now) where
-    pub still_sees : (slug : Text) → sees (seen g lists_of a.tables.now) a.host a.caller slug ≡ true → sees (seen g lists_of b.tables.now) b.host b.caller slug ≡ true
+    pub still_sees : (slug : Text) → is_slug_seen (seen_now g lists_of a.tables.now) a.host a.caller slug ≡ true → is_slug_seen (seen_now g lists_of b.tables.now) b.host b.caller slug ≡ true
     still_sees slug fact =
-        ap (λ l. sees l b.host b.caller slug) (p.leads.3.unmoved it).same.now_is ∙ ap (λ h. sees (seen g lists_of a.tables.now) h b.caller slug) p.leads.1
-        ∙ ap (λ c. sees (seen g lists_of a.tables.now) a.host c slug) p.leads.2 ∙ fact
+        ap (λ l. is_slug_seen l b.host b.caller slug) (p.leads.3.unmoved it).same.now_is ∙ ap (λ h. is_slug_seen (seen_now g lists_of a.tables.now) h b.caller slug) p.leads.1
+        ∙ ap (λ c. is_slug_seen (seen_now g lists_of a.tables.now) a.host c slug) p.leads.2 ∙ fact
 
-    pub still_languages : (langs : List Text) → langs ≡ languages_in (seen g lists_of a.tables.now) a.host → langs ≡ languages_in (seen g lists_of b.tables.now) b.host
+    pub still_languages : (langs : List Text) → langs ≡ languages_in (seen_now g lists_of a.tables.now) a.host → langs ≡ languages_in (seen_now g lists_of b.tables.now) b.host
     still_languages langs fact =
-        fact ∙ sym (ap (λ l. languages_in l b.host) (p.leads.3.unmoved it).same.now_is ∙ ap (languages_in (seen g lists_of a.tables.now)) p.leads.1)
+        fact ∙ sym (ap (λ l. languages_in l b.host) (p.leads.3.unmoved it).same.now_is ∙ ap (languages_in (seen_now g lists_of a.tables.now)) p.leads.1)
 
   -- what a call tells after another that was answered
   pub tells_on
@@ -305,31 +305,31 @@ module _ {S : Type 0} (g : Ghosts S) where
 
   -- what stands under the host of a view, where a project does
   module _ {a b : View S g} {o : Option Text} (p : lookup.IsLook (meaning_of g) a b (Ok o))
-      (value : IsHonest g b.tables.now → o ≡ host_in (seen g lists_of a.tables.now) a.host) where
+      (value : IsHonest g b.tables.now → o ≡ host_in (seen_now g lists_of a.tables.now) a.host) where
     -- the slug that was looked up by the host and the class alone
     pub slug_under_host
-        : (host name : Text) → o ≡ Some host → ShowsClass (seen g lists_of a.tables.now) a.host a.caller → IsHonest g b.tables.now
-        → option_map (λ v. name) (version_in (seen g lists_of b.tables.now) host b.caller.pass name) ≡ slug_in (seen g lists_of a.tables.now) a.host a.caller name
+        : (host name : Text) → o ≡ Some host → ShowsClass (seen_now g lists_of a.tables.now) a.host a.caller → IsHonest g b.tables.now
+        → option_map (λ v. name) (version_in (seen_now g lists_of b.tables.now) host b.caller.pass name) ≡ slug_if_seen (seen_now g lists_of a.tables.now) a.host a.caller name
     slug_under_host host name is own it =
-        let lists = seen g lists_of a.tables.now in
+        let lists = seen_now g lists_of a.tables.now in
         ap (λ l. option_map (λ v. name) (version_in l host b.caller.pass name)) (p.leads.3.unmoved it).same.now_is
         ∙ ap (λ (c : Caller). option_map (λ v. name) (version_in lists host c.pass name)) p.leads.2
         ∙ slug_found lists a.host a.caller host name (sym is ∙ value it) own
 
     none_under_host : o ≡ None → IsHonest g b.tables.now → None ≡ shown g a.tables.now a.host a.caller
-    none_under_host is it = ap (option_map (λ q. sight.seen_project q a.caller)) (sym (not_under (seen g lists_of a.tables.now) a.host (sym is ∙ value it)))
+    none_under_host is it = ap (option_map (λ q. sight.seen_project q a.caller)) (sym (not_under (seen_now g lists_of a.tables.now) a.host (sym is ∙ value it)))
 
     -- what a look at the tables by the host alone tells of the project that stands under it
     pub maybe_right
         : {U : Type 0} {h : Held S} {r : Result (Option U) Fault} {v : Option U} (f : SeenProject → Option U) (host : Text) → o ≡ Some host
-        → (IsHonest g b.tables.now → (row : ProjectRow) → row.host ≡ host → project_in (seen g lists_of a.tables.now) a.host ≡ Some (project_of (seen g lists_of a.tables.now) row)
-        → v ≡ f (shown_in (seen g lists_of a.tables.now) row a.caller))
+        → (IsHonest g b.tables.now → (row : ProjectRow) → row.host ≡ host → project_in (seen_now g lists_of a.tables.now) a.host ≡ Some (project_of (seen_now g lists_of a.tables.now) row)
+        → v ≡ f (shown_in (seen_now g lists_of a.tables.now) row a.caller))
         → LooksInTurn g b.tables.now h r → (IsHonest g h → IfOk r (λ x. x ≡ v))
         → doubt_of g h ≡ 0 → IfOk r (λ x. x ≡ option_and_then f (shown g a.tables.now a.host a.caller))
     maybe_right {h = h} {r = r} f host is e asks reads d =
         let it = honest g h d in
         let before = asks.goes.lasts.was it in
-        let found = under_host (seen g lists_of a.tables.now) a.host host (sym is ∙ value before) in
+        let found = under_host (seen_now g lists_of a.tables.now) a.host host (sym is ∙ value before) in
         same_answer (λ x. x) r _ _ (e before found.0 found.1 found.2 ∙ ap (λ q. option_and_then f (option_map (λ q. sight.seen_project q a.caller) q)) (sym found.2)) (reads it)
 
     pub maybe_none_under : {U : Type 0} (f : SeenProject → Option U) → o ≡ None → doubt_of g b.tables.now ≡ 0 → None ≡ option_and_then f (shown g a.tables.now a.host a.caller)
@@ -338,14 +338,14 @@ module _ {S : Type 0} (g : Ghosts S) where
     -- the same of a list, of which a fact is told
     pub all_under
         : {U Z : Type 0} {h : Held S} {r : Result (Vec U Z) Fault} (Fact : List U → Type 0) (f : SeenProject → List U) (host : Text) → o ≡ Some host
-        → (IsHonest g b.tables.now → (row : ProjectRow) → row.host ≡ host → project_in (seen g lists_of a.tables.now) a.host ≡ Some (project_of (seen g lists_of a.tables.now) row)
-        → (v : List U) → Fact v → v ≡ f (shown_in (seen g lists_of a.tables.now) row a.caller))
+        → (IsHonest g b.tables.now → (row : ProjectRow) → row.host ≡ host → project_in (seen_now g lists_of a.tables.now) a.host ≡ Some (project_of (seen_now g lists_of a.tables.now) row)
+        → (v : List U) → Fact v → v ≡ f (shown_in (seen_now g lists_of a.tables.now) row a.caller))
         → LooksInTurn g b.tables.now h r → (IsHonest g h → IfOk r (λ list. Fact list.items))
         → doubt_of g h ≡ 0 → IfOk r (λ list. list.items ≡ option_map_or f (shown g a.tables.now a.host a.caller) [])
     all_under {h = h} {r = r} Fact f host is e asks told d =
         let it = honest g h d in
         let before = asks.goes.lasts.was it in
-        let found = under_host (seen g lists_of a.tables.now) a.host host (sym is ∙ value before) in
+        let found = under_host (seen_now g lists_of a.tables.now) a.host host (sym is ∙ value before) in
         from_answer r (λ list fact. e before found.0 found.1 found.2 list.items fact ∙ ap (λ q. option_map_or f (option_map (λ q. sight.seen_project q a.caller) q) []) (sym found.2)) (told it)
 
     pub all_none_under : {U : Type 0} {list : List U} (f : SeenProject → List U) → list ≡ [] → o ≡ None → doubt_of g b.tables.now ≡ 0 → list ≡ option_map_or f (shown g a.tables.now a.host a.caller) []

@@ -16,16 +16,17 @@ abbrev pub project_in : Lists → Option Text → Option Project
 project_in l host = option_and_then (get (world_of l)) host
 
 -- there is a project under the host
-abbrev pub has_project : Lists → Option Text → Bool
-has_project l host = is_some (project_in l host)
+abbrev pub is_project_there : Lists → Option Text → Bool
+is_project_there l host = is_some (project_in l host)
 
 -- the caller sees a version of the project with this slug
-abbrev pub sees : Lists → Option Text → Caller → Text → Bool
-sees l host caller slug = option_map_or (λ p. is_visible p caller slug) (project_in l host) false
+abbrev pub is_slug_seen : Lists → Option Text → Caller → Text → Bool
+is_slug_seen l host caller slug =
+    option_map_or (λ p. is_visible p caller slug) (project_in l host) false
 
 -- the slug, where the caller sees a version with it
-abbrev pub slug_in : Lists → Option Text → Caller → Text → Option Text
-slug_in l host caller slug = if sees l host caller slug then Some slug else None
+abbrev pub slug_if_seen : Lists → Option Text → Caller → Text → Option Text
+slug_if_seen l host caller slug = if is_slug_seen l host caller slug then Some slug else None
 
 -- the languages of the project
 abbrev pub languages_in : Lists → Option Text → List Text
@@ -38,12 +39,13 @@ ShowsClass l host caller = (p : Project) → project_in l host ≡ Some p → cl
 module _ {S : Type 0} (g : Ghosts S) (h : Held S) (host : Option Text) where
   -- where a project was found, there is one
   abbrev pub IsKnown : Bool → Type 0
-  IsKnown known = known ≡ true → HasRecords g h (λ l. has_project l host ≡ true)
+  IsKnown known = known ≡ true → HasRecords g h (λ l. is_project_there l host ≡ true)
 
   -- a version that was found is one that the caller sees
   abbrev pub IsSeen : Caller → Option Text → Type 0
   IsSeen caller found =
-      (slug : Text) → found ≡ Some slug → HasRecords g h (λ l. sees l host caller slug ≡ true)
+      (slug : Text) → found ≡ Some slug
+      → HasRecords g h (λ l. is_slug_seen l host caller slug ≡ true)
 
   -- languages that were read are those of the project
   abbrev pub AreLanguagesRead : Option (List Text) → Type 0

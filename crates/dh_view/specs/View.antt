@@ -9,7 +9,7 @@ use Rattle.sqlite_trees.specs.View.{doubt}
 use Rattle.sqlite_trees.specs.declared.store.Store.{Ghosts}
 use Rattle.sqlite.specs.State.{HasCleanDisk}
 use Rattle.sqlite.specs.Held.{Held, state}
-use Rattle.dh_rows.specs.Calls.{MakesNoCommit, IsBlamed, IsHonest, IsSame, KeepsFaults, CrashLeaves, RefusalUndoes, LeavesAllAsItWas, seen}
+use Rattle.dh_rows.specs.Calls.{MakesNoCommit, IsBlamed, IsHonest, IsSame, KeepsFaults, CrashLeaves, RefusalUndoes, LeavesAllAsItWas, seen_now}
 use Rattle.dh_versions.specs.declared.version.Version.{Version}
 use Rattle.dh_reply.specs.Lookup as lookup
 use Rattle.dh_reply.specs.Lookup.{Meaning}
@@ -27,7 +27,7 @@ use Rattle.dh_schema.specs.Calling.{StoreFaultHasCause, IsSettled, AnswersBy}
 use Rattle.dh_schema.specs.InTurn.{blamed_before, lasts_none, lasts_on, same_none, same_on, shut_before}
 use Rattle.dh_records.specs.Lists.{Lists, is_version_of, project_of, world_of}
 use Rattle.dh_schema.specs.Tables.{lists_of}
-pub use Rattle.dh_view.specs.Remembered.{ShowsClass, has_project, languages_in, project_in, sees, slug_in}
+pub use Rattle.dh_view.specs.Remembered.{ShowsClass, is_project_there, languages_in, project_in, is_slug_seen, slug_if_seen}
 use Rattle.dh_view.specs.declared.view.View.{View}
 
 -- ---- what a caller sees of the records
@@ -51,7 +51,7 @@ ShowsAs rows grants held =
 
 -- the host, where a project stands under it
 abbrev pub host_in : Lists → Option Text → Option Text
-host_in l host = if has_project l host then host else None
+host_in l host = if is_project_there l host then host else None
 
 -- the project under the host, as the caller sees it
 abbrev pub shown_under : Lists → Option Text → Caller → Option SeenProject
@@ -90,7 +90,7 @@ module _ {S : Type 0} (g : Ghosts S) where
 
   -- what the tables show under a host to this caller
   abbrev pub shown : Held S → Option Text → Caller → Option SeenProject
-  shown h host caller = shown_under (seen g lists_of h) host caller
+  shown h host caller = shown_under (seen_now g lists_of h) host caller
 
   -- The lists are as before, and a crash leaves nothing that it could not leave before.
   pub record IsUnmoved (old new : Held S) : Type 0 where

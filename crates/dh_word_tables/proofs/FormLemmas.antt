@@ -8,7 +8,7 @@ use Rattle.clap.specs.Simple.{App, Shape, entered, label_of, names_of}
 use Rattle.clap.specs.Kinds.{Kinds}
 use Rattle.clap.specs.Faults.{built_fault, walk_fault, step_fault}
 use Rattle.clap.specs.declared.error.kind.ErrorKind.{ErrorKind}
-use Rattle.dh_word_tables.specs.Words.{is_plain, has_command}
+use Rattle.dh_word_tables.specs.Words.{is_plain_word, has_command}
 use Rattle.dh_word_tables.proofs.PlainLemmas.{plain_met, plain_fault}
 use Rattle.dh_word_tables.proofs.NameLemmas.{IsQuiet, enters, fails}
 use Rattle.dh_word_tables.proofs.TokenLemmas.{Token, text_of, Fits, tokens_rows, tokens_level}
@@ -38,7 +38,7 @@ module _ (b : App) where
 
   -- a first word that is plain and names no command is a fault, whatever words follow
   pub stray_fails : (name : Text) (rest : List Text) (first : ErrorKind) (more : Kinds)
-      → has_command b name ≡ false → is_plain name ≡ true
+      → has_command b name ≡ false → is_plain_word name ≡ true
       → step_fault b.top 1 nothing_held value ≡ first ∷ more
       → built_fault b nothing_held (name ∷ rest) ≡ first ∷ more
   unfolding walk_fault

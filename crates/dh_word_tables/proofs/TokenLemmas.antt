@@ -13,7 +13,7 @@ use Rattle.clap.specs.Kinds.{Kinds, or_else}
 use Rattle.clap.specs.Faults.{level_fault, walk_fault, step_fault, word_fault}
 use Rattle.clap.specs.Faults.{settle_fault}
 use Rattle.clap.specs.Faults.{defaults_fault, check_fault}
-use Rattle.dh_word_tables.specs.Words.{is_plain, ArePlain}
+use Rattle.dh_word_tables.specs.Words.{is_plain_word, ArePlain}
 use Rattle.dh_word_tables.proofs.PlainLemmas.{plain_met, plain_fault}
 
 pub data Token : Type 0 where
@@ -28,7 +28,7 @@ text_of (chosen text) = text
 abbrev pub Fits : List Token → Type 0
 Fits [] = ⊤
 Fits (written text ∷ rest) = Fits rest
-Fits (chosen text ∷ rest) = (is_plain text ≡ true) × Fits rest
+Fits (chosen text ∷ rest) = (is_plain_word text ≡ true) × Fits rest
 
 -- what a word is, of which a chosen one is taken for a value
 abbrev pub token_met : List Rule → Walk → Token → Held × Step
@@ -84,7 +84,7 @@ no_subcommand idle word = refl
 no_subcommand (option id) word = refl
 no_subcommand positional word = refl
 
-chosen_met : (c : List Rule) (w : Walk) (word : Text) → is_plain word ≡ true
+chosen_met : (c : List Rule) (w : Walk) (word : Text) → is_plain_word word ≡ true
     → word_met c [] w.is_trailing w.waiting w.position word w.held ≡ token_met c w (chosen word)
 chosen_met c w word plain =
     rw (no_subcommand w.waiting word) (rw (plain_met c w.waiting w.position word w.held plain) refl)
@@ -93,14 +93,14 @@ no_faults : (b : Bool) → ◌≡◌ {A = Kinds} (cond b [] []) []
 no_faults true = refl
 no_faults false = refl
 
-chosen_fault : (s : Shape) (w : Walk) (word : Text) → is_plain word ≡ true
+chosen_fault : (s : Shape) (w : Walk) (word : Text) → is_plain_word word ≡ true
     → word_fault s [] w.is_trailing w.waiting word w.held ≡ []
 chosen_fault s w word plain =
     rw (no_subcommand w.waiting word)
     (rw (plain_fault s word w.held plain) (no_faults w.is_trailing))
 
 chosen_walked : (c : List Rule) (w : Walk) (word : Text) (at : Option (Text × List Text))
-    → is_plain word ≡ true → walked_from c [] at w word ≡ token_walked_from c at w (chosen word)
+    → is_plain_word word ≡ true → walked_from c [] at w word ≡ token_walked_from c at w (chosen word)
 chosen_walked c w word (Some at) plain = refl
 chosen_walked c w word None plain = rw (chosen_met c w word plain) refl
 

@@ -5,13 +5,13 @@ use Rattle.clap.specs.Walk.{Text, answers_to}
 use Rattle.clap.specs.Simple.{App, names_of}
 
 -- the word does not begin with `-`
-abbrev pub is_plain : Text → Bool
-is_plain [] = true
-is_plain (c ∷ cs) = not (c == 45)
+abbrev pub is_plain_word : Text → Bool
+is_plain_word [] = true
+is_plain_word (c ∷ cs) = not (c == 45)
 
 abbrev pub ArePlain : List Text → Type 0
 ArePlain [] = ⊤
-ArePlain (word ∷ words) = (is_plain word ≡ true) × ArePlain words
+ArePlain (word ∷ words) = (is_plain_word word ≡ true) × ArePlain words
 
 -- the program has a command of this name
 abbrev pub has_command : App → Text → Bool

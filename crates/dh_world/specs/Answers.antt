@@ -43,8 +43,9 @@ text_at key d = option_and_then as_str (get key d)
 abbrev pub flag_at : List ℕ → Data → Option Bool
 flag_at key d = option_and_then as_bool (get key d)
 
-abbrev pub slug_in : Data → Option (List ℕ)
-slug_in d = option_and_then (λ s. if is_slug s then Some s else None) (text_at (codes "slug") d)
+abbrev pub answered_slug : Data → Option (List ℕ)
+answered_slug d =
+    option_and_then (λ s. if is_slug s then Some s else None) (text_at (codes "slug") d)
 
 abbrev pub pages_in : Data → Option ℕ
 pages_in d = option_and_then (λ n. if nat_lt n (2 ^ 32) then Some n else None) (option_and_then as_u64 (option_and_then as_number (get (codes "pages") d)))
@@ -52,12 +53,12 @@ pages_in d = option_and_then (λ n. if nat_lt n (2 ^ 32) then Some n else None) 
 abbrev pub made_in : Data → Option Answer
 made_in d =
     option_and_then (λ slug. option_and_then (λ active. option_and_then (λ hidden. option_map (λ private. Made slug active hidden private)
-    (flag_at (codes "private") d)) (flag_at (codes "hidden") d)) (flag_at (codes "active") d)) (slug_in d)
+    (flag_at (codes "private") d)) (flag_at (codes "hidden") d)) (flag_at (codes "active") d)) (answered_slug d)
 
 abbrev pub named_in : List ℕ → Data → Option Answer
 named_in name d =
     if bytes_eq name (codes "made") then made_in d
-    else if bytes_eq name (codes "known") then option_map Known (slug_in d)
+    else if bytes_eq name (codes "known") then option_map Known (answered_slug d)
     else if bytes_eq name (codes "stored") then option_map Stored (pages_in d)
     else None
 

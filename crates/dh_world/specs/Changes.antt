@@ -96,8 +96,8 @@ fresh p kind name = record {
 }
 
 -- the version with this slug that a new version becomes
-abbrev pub version_of : Text → Fresh → Version
-version_of slug x = record { slug = slug; kind = x.kind; name = x.name; active = x.active; hidden = x.hidden; private = x.private }
+abbrev pub version_from : Text → Fresh → Version
+version_from slug x = record { slug = slug; kind = x.kind; name = x.name; active = x.active; hidden = x.hidden; private = x.private }
 
 -- the project with a version under a slug
 abbrev pub with_version : Project → Text → Version → Project
@@ -108,14 +108,14 @@ abbrev pub without_name : Text → List Text → List Text
 without_name name names = filter (λ n. not (bytes_eq n name)) names
 
 -- makes the name the first of the defaults, where it stands once
-abbrev pub with_default : Text → Project → Project
-with_default name p = record p { defaults = name ∷ without_name name p.defaults }
+abbrev pub with_first_default : Text → Project → Project
+with_first_default name p = record p { defaults = name ∷ without_name name p.defaults }
 
 -- the project with a new version under its slug, which is the first default where a rule chose it
 abbrev pub with_fresh : Text → Fresh → Project → Project
 with_fresh slug x p =
-    let after : Project = with_version p slug (version_of slug x) in
-    if x.chosen then with_default slug after else after
+    let after : Project = with_version p slug (version_from slug x) in
+    if x.chosen then with_first_default slug after else after
 
 abbrev pub made : Version → Answer
 made v = Made v.slug v.active v.hidden v.private
@@ -128,7 +128,7 @@ pushed p key kind name (Some v) =
 pushed p key kind name None =
     let slug : Text = slug_text name in
     let x : Fresh = after_rules p.rules (fresh p kind name) in
-    keep (push_key slug key) (made (version_of slug x)) (with_fresh slug x p)
+    keep (push_key slug key) (made (version_from slug x)) (with_fresh slug x p)
 
 -- refuses a wrong write key, answers a used retry key as the first time, and else decides by the version with the slug
 abbrev pub push : Text → Text → Kind → Text → Project → Change
@@ -207,8 +207,8 @@ gone slug p = at_version (get p.versions slug) (λ v. Ok (without_version slug p
 -- makes an alias or an active version the first default; an alias may stand for nothing
 abbrev pub set_default : Text → Project → Change
 set_default name p =
-    if is_alias name then Ok (with_default name p, Done)
-    else at_version (get p.versions name) (λ v. if v.active then Ok (with_default name p, Done) else Err Inactive)
+    if is_alias name then Ok (with_first_default name p, Done)
+    else at_version (get p.versions name) (λ v. if v.active then Ok (with_first_default name p, Done) else Err Inactive)
 
 -- ---- lists in order, whose places count from 1
 
@@ -224,8 +224,8 @@ abbrev pub without_place : {X : Type 0} → ℕ → List X → List X
 without_place place xs = take (place - 1) xs ++ drop place xs
 
 -- adds an item at a place of the list or at its end, where the list is not full
-abbrev pub added : {X : Type 0} → ℕ → ℕ → X → List X → Result (List X) Refusal
-added most place x xs =
+abbrev pub added_at : {X : Type 0} → ℕ → ℕ → X → List X → Result (List X) Refusal
+added_at most place x xs =
     if not (is_place place (length xs + 1)) then Err BadPlace
     else if nat_lt (length xs) most then Ok (with_one_at place x xs)
     else Err TooMany
@@ -246,7 +246,7 @@ abbrev pub with_rules : Project → List Rule → Project
 with_rules p rules = record p { rules = rules }
 
 abbrev pub add_rule : ℕ → Rule → Project → Change
-add_rule place rule p = set_to (with_rules p) (added MOST_RULES place rule p.rules)
+add_rule place rule p = set_to (with_rules p) (added_at MOST_RULES place rule p.rules)
 
 abbrev pub drop_rule : ℕ → Project → Change
 drop_rule place p = set_to (with_rules p) (dropped place p.rules)
@@ -255,7 +255,7 @@ abbrev pub with_redirects : Project → List Redirect → Project
 with_redirects p redirects = record p { redirects = redirects }
 
 abbrev pub add_redirect : ℕ → Redirect → Project → Change
-add_redirect place redirect p = set_to (with_redirects p) (added MOST_REDIRECTS place redirect p.redirects)
+add_redirect place redirect p = set_to (with_redirects p) (added_at MOST_REDIRECTS place redirect p.redirects)
 
 abbrev pub drop_redirect : ℕ → Project → Change
 drop_redirect place p = set_to (with_redirects p) (dropped place p.redirects)

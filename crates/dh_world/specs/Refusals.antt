@@ -3,8 +3,8 @@ use Rattle.std.specs.Prelude.{ℕ, Bool, true, false, List, [], ◌∷◌, Optio
 use Rattle.dh_world.specs.declared.refusal.Refusal.{Refusal}
 use Rattle.dh_world.specs.declared.refusal.Refusal.TheVariants.{BadHost, BadLang, BadRef, BadPath, BadPage, BadPattern, BadRedirect, BadToken, BadKey, NoProject, ProjectTaken, WrongKey, LangTaken, NoLang, NoVersion, SlugTaken, Inactive, BadPlace, TooMany, PassTaken, NoPass, PatternRefused, Store, OutOfMemory, BadUntil}
 
-abbrev pub number_of : Refusal → ℕ
-number_of = elim [
+abbrev pub refusal_number : Refusal → ℕ
+refusal_number = elim [
   | BadHost ↦ 1
   | BadLang ↦ 2
   | BadRef ↦ 3
@@ -32,32 +32,32 @@ number_of = elim [
   | BadUntil ↦ 25
 ]
 
-abbrev pub name_of : Refusal → List ℕ
-name_of BadHost = codes "BadHost"
-name_of BadLang = codes "BadLang"
-name_of BadRef = codes "BadRef"
-name_of BadPath = codes "BadPath"
-name_of BadPage = codes "BadPage"
-name_of BadPattern = codes "BadPattern"
-name_of (BadRedirect fault) = codes "BadRedirect"
-name_of BadToken = codes "BadToken"
-name_of BadKey = codes "BadKey"
-name_of NoProject = codes "NoProject"
-name_of ProjectTaken = codes "ProjectTaken"
-name_of WrongKey = codes "WrongKey"
-name_of LangTaken = codes "LangTaken"
-name_of NoLang = codes "NoLang"
-name_of NoVersion = codes "NoVersion"
-name_of SlugTaken = codes "SlugTaken"
-name_of Inactive = codes "Inactive"
-name_of BadPlace = codes "BadPlace"
-name_of TooMany = codes "TooMany"
-name_of PassTaken = codes "PassTaken"
-name_of NoPass = codes "NoPass"
-name_of (PatternRefused place) = codes "PatternRefused"
-name_of Store = codes "Store"
-name_of OutOfMemory = codes "OutOfMemory"
-name_of BadUntil = codes "BadUntil"
+abbrev pub refusal_name : Refusal → List ℕ
+refusal_name BadHost = codes "BadHost"
+refusal_name BadLang = codes "BadLang"
+refusal_name BadRef = codes "BadRef"
+refusal_name BadPath = codes "BadPath"
+refusal_name BadPage = codes "BadPage"
+refusal_name BadPattern = codes "BadPattern"
+refusal_name (BadRedirect fault) = codes "BadRedirect"
+refusal_name BadToken = codes "BadToken"
+refusal_name BadKey = codes "BadKey"
+refusal_name NoProject = codes "NoProject"
+refusal_name ProjectTaken = codes "ProjectTaken"
+refusal_name WrongKey = codes "WrongKey"
+refusal_name LangTaken = codes "LangTaken"
+refusal_name NoLang = codes "NoLang"
+refusal_name NoVersion = codes "NoVersion"
+refusal_name SlugTaken = codes "SlugTaken"
+refusal_name Inactive = codes "Inactive"
+refusal_name BadPlace = codes "BadPlace"
+refusal_name TooMany = codes "TooMany"
+refusal_name PassTaken = codes "PassTaken"
+refusal_name NoPass = codes "NoPass"
+refusal_name (PatternRefused place) = codes "PatternRefused"
+refusal_name Store = codes "Store"
+refusal_name OutOfMemory = codes "OutOfMemory"
+refusal_name BadUntil = codes "BadUntil"
 
 -- the refusal, unless the test passes
 abbrev pub unless : Bool → Refusal → Option Refusal
@@ -70,6 +70,6 @@ or_else (Some refusal) rest = Some refusal
 or_else None rest = rest
 
 -- the first refusal of a list of checks
-abbrev pub first_of : List (Option Refusal) → Option Refusal
-first_of [] = None
-first_of (check ∷ checks) = or_else check (first_of checks)
+abbrev pub first_refusal : List (Option Refusal) → Option Refusal
+first_refusal [] = None
+first_refusal (check ∷ checks) = or_else check (first_refusal checks)

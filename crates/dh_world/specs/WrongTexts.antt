@@ -16,7 +16,7 @@ use Rattle.dh_world.specs.declared.command.CommandChange.TheVariants.{NewProject
 use Rattle.dh_world.specs.declared.pages.UploadedPage.{UploadedPage}
 use Rattle.dh_world.specs.declared.refusal.Refusal.{Refusal}
 use Rattle.dh_world.specs.declared.refusal.Refusal.TheVariants.{BadHost, BadLang, BadRef, BadPath, BadPage, BadPattern, BadRedirect, BadToken, BadKey, BadUntil}
-use Rattle.dh_world.specs.Refusals.{unless, or_else, first_of}
+use Rattle.dh_world.specs.Refusals.{unless, or_else, first_refusal}
 use Rattle.dh_world.specs.declared.limits.TheConstants.{MOST_MEDIA_BYTES, MOST_PAGES, MOST_PAGE_BYTES}
 
 -- 0x20 to 0x7E
@@ -49,7 +49,7 @@ has_path path pages = list_any (λ (x : UploadedPage). bytes_eq x.path path) pag
 
 -- what is wrong with a page, given those before it in the upload
 abbrev pub bad_page : List UploadedPage → UploadedPage → Option Refusal
-bad_page before x = first_of
+bad_page before x = first_refusal
     (unless (is_page_path x.path) BadPath
     ∷ unless (is_content x.media x.body) BadPage
     ∷ unless (not (has_path x.path before)) BadPage
@@ -136,8 +136,8 @@ wrong_texts (Revoke pass slug) = bad_token pass ∷ bad_slug slug ∷ []
 
 -- the refusal of a change for the first thing that is wrong with its texts
 abbrev pub bad_change : CommandChange → Option Refusal
-bad_change change = first_of (wrong_texts change)
+bad_change change = first_refusal (wrong_texts change)
 
 -- the refusal of a command for the first thing that is wrong with its texts; the host comes first
 abbrev pub bad_text : Command → Option Refusal
-bad_text c = first_of (bad_host c.host ∷ wrong_texts c.change)
+bad_text c = first_refusal (bad_host c.host ∷ wrong_texts c.change)

@@ -95,7 +95,7 @@ fn flag_in(value: &Value, key: &str) -> Option<bool>
 
 /// The slug of the object, where it has one.
 fn slug_in(alloc: Global, value: &Value) -> Result<Option<Slug>, AllocError>
-    ensures { IfOk result (λ o. o ≡ spec.slug_in (view value.now)) }
+    ensures { IfOk result (λ o. o ≡ spec.answered_slug (view value.now)) }
 {
     match text_in(value, "slug") {
         Some(text) => match Slug::parse(alloc, text) {
@@ -127,7 +127,7 @@ fn made_in(alloc: Global, value: &Value) -> Result<Option<Answer>, AllocError>
 }
 
 fn known_in(alloc: Global, value: &Value) -> Result<Option<Answer>, AllocError>
-    ensures { IfOk result (λ o. o ≡ option_map Answer.Known (spec.slug_in (view value.now))) }
+    ensures { IfOk result (λ o. o ≡ option_map Answer.Known (spec.answered_slug (view value.now))) }
 {
     Ok(slug_in(alloc, value)?.map(|slug| Answer::Known { slug }))
 }

@@ -1,6 +1,6 @@
 //! Why commands are refused.
 ghost use Rattle.std.specs.Prelude.{◌≡◌};
-ghost use Rattle.dh_world.specs.Refusals.{number_of, name_of};
+ghost use Rattle.dh_world.specs.Refusals.{refusal_number, refusal_name};
 ghost use Rattle.dh_world.specs.CheckResults.{refusal_of, refusal_from};
 ghost use Rattle.dh_world.specs.declared.refusal.Refusal.TheVariants.{OutOfMemory};
 
@@ -66,7 +66,7 @@ pub enum Refusal {
 impl Refusal {
     /// The number by which a refusal is told.
     pub fn number(self) -> u8
-        ensures { result ≡ number_of self }
+        ensures { result ≡ refusal_number self }
     {
         match self {
             Refusal::BadHost => 1,
@@ -99,7 +99,7 @@ impl Refusal {
 
     /// The name by which a refusal is told.
     pub fn name(self) -> &'static str
-        ensures { result.now ≡ name_of self }
+        ensures { result.now ≡ refusal_name self }
     {
         match self {
             Refusal::BadHost => "BadHost",

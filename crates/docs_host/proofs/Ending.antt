@@ -28,7 +28,7 @@ use Rattle.dh_lists.specs.declared.lists.RecordFault.{RecordFault}
 use Rattle.dh_script.specs.Running.{RunsScript}
 use Rattle.dh_lines.specs.Lines.{asking, line_in}
 use Rattle.docs_host.specs.Ends.{Ended, EndsError, EndsHelp, EndsScript, EndsChecked, EndsOver, EndsOrdered, EndsList, EndsAsked, EndsFirst, EndsVersion, EndsWords}
-use Rattle.docs_host.specs.Ends.{is_fault, status_after, may_end_order, may_end_single, asks_help, asks_version, line_asked, line_run}
+use Rattle.docs_host.specs.Ends.{is_failure_status, status_after, may_end_order, may_end_single, asks_help, asks_version, line_asked, line_run}
 use Rattle.docs_host.specs.Failing.{may_fail, IsDoneOr, is_of_output, is_of_init, is_of_list, is_of_script, is_of_command, is_of_opened, is_of_order, is_of_sent, may_be_sent, is_of_checked, is_of_file, is_of_memory}
 use Rattle.docs_host.specs.Failures.{failure_of}
 use Rattle.docs_host.specs.Orders.{OrdersImport, RunsRequest, AnswersOne, ServesBoth, bad_record, has_bad_target, import_order}
@@ -150,7 +150,7 @@ pub script_ended
 script_ended moment left held now before after (Ok status) none ran is = (
   subst (EndsScript moment left held now) (sym is)
       (ran_all moment left held now after status (subst (λ w. Ran moment left w after held now (Ok status)) none ran)),
-  ap is_fault is,
+  ap is_failure_status is,
 )
 script_ended moment left held now before after (Err failure) none ran is = (
   subst (EndsScript moment left held now) (sym (is_faulty is_of_script (λ fault. refl) failure is))
@@ -236,7 +236,7 @@ module _ (held now : Option Text) (o : Order) where
   -- a server went on with what a fault of the store had left
   pub rest_ended : (r : Result Status Failure) → IsDoneOr is_of_init r
       → Ended (λ s. IsTrue (may_end_order o s)) (is_of_opened o) r
-  rest_ended (Ok status) is = (subst (λ (s : Status). IsTrue (may_end_order o s)) (sym is) (done_order o), ap is_fault is)
+  rest_ended (Ok status) is = (subst (λ (s : Status). IsTrue (may_end_order o s)) (sym is) (done_order o), ap is_failure_status is)
   rest_ended (Err (File f)) is = (faulty_order o, refl)
   rest_ended (Err Memory) is = (faulty_order o, refl)
   rest_ended (Err (OfList fault)) is = absurd (true≢false (sym is))

@@ -5,9 +5,9 @@ use Rattle.dh_server.proofs.Told.{some_more, tells_both}
 use Rattle.dh_server.specs.Telling.{TellsSome}
 use Rattle.dh_lines.specs.declared.lines.Line.{Line}
 use Rattle.dh_world.specs.World.{Text}
-use Rattle.docs_host.specs.Ends.{is_fault, status_after}
+use Rattle.docs_host.specs.Ends.{is_failure_status, status_after}
 use Rattle.docs_host.specs.Failing.{may_fail, is_of_line}
-use Rattle.docs_host.specs.Telling.{fault_text, file_of, TellsFault, TellsLast, TellsEnd}
+use Rattle.docs_host.specs.Telling.{failure_text, file_of, TellsFault, TellsLast, TellsEnd}
 use Rattle.docs_host.specs.declared.failure.Failure.{Failure}
 use Rattle.docs_host.specs.declared.failure.Failure.TheVariants.{Memory}
 use Rattle.docs_host.specs.declared.failure.Status.{Status}
@@ -27,7 +27,7 @@ module _ {S : Type 0} (broken : S → Bool) (held : S → Option Text) where
     end_is_last Unanswered it = it
 
     -- what is no fault wants nothing
-    pub no_fault : (a b : S) (s : Status) → is_fault s ≡ false → TellsEnd broken held line a b s
+    pub no_fault : (a b : S) (s : Status) → is_failure_status s ≡ false → TellsEnd broken held line a b s
     no_fault a b Done own = tt
     no_fault a b Refused own = tt
     no_fault a b Usage own = tt
@@ -45,7 +45,7 @@ module _ {S : Type 0} (broken : S → Bool) (held : S → Option Text) where
           told.0,
           is,
           may,
-          tells_both broken held a b c some.0 (fault_text failure (option_and_then (file_of failure) line) told.0) some.1 told.1,
+          tells_both broken held a b c some.0 (failure_text failure (option_and_then (file_of failure) line) told.0) some.1 told.1,
         )
 
     -- with nothing before it

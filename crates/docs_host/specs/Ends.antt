@@ -44,14 +44,14 @@ status_after (failure.Script fault) = Faulty
 status_after (failure.Request fault) = Unanswered
 
 -- the program ends with this status only after a failure
-abbrev pub is_fault : Status → Bool
-is_fault Faulty = true
-is_fault Unanswered = true
-is_fault _ = false
+abbrev pub is_failure_status : Status → Bool
+is_failure_status Faulty = true
+is_failure_status Unanswered = true
+is_failure_status _ = false
 
 -- the status of a run, or of the failure that ended it, is one that `IsEnd` holds of; a failure that ended it is one of `is_of`
 abbrev pub Ended : (Status → Type 0) → (Failure → Bool) → Result Status Failure → Type 0
-Ended IsEnd is_of (Ok status) = IsEnd status × (is_fault status ≡ false)
+Ended IsEnd is_of (Ok status) = IsEnd status × (is_failure_status status ≡ false)
 Ended IsEnd is_of (Err failure) = IsEnd (status_after failure) × IsTrue (may_fail is_of failure)
 
 -- ---- without a file

@@ -17,13 +17,13 @@ pub record Exchange : Type 0 where
   pub message : Text
   pub answer : Option (Text × Bool)
 
-abbrev pub answer_of : Result Answer Silence → Option (Text × Bool)
-answer_of (Ok answer) = Some (answer.bytes.items, answer.is_whole)
-answer_of (Err silence) = None
+abbrev pub answer_back : Result Answer Silence → Option (Text × Bool)
+answer_back (Ok answer) = Some (answer.bytes.items, answer.is_whole)
+answer_back (Err silence) = None
 
 abbrev pub exchange_of : Text → Text → Result Answer Silence → Exchange
 exchange_of file message result =
-    record { file = file; message = message; answer = answer_of result }
+    record { file = file; message = message; answer = answer_back result }
 
 -- there is one more exchange, where exchanges are told
 abbrev pub OneMore : Option (List Exchange) → Option (List Exchange) → Exchange → Type 0

@@ -43,21 +43,21 @@ socket_name socket.Memory = codes "Memory"
 abbrev pub control_name : ControlFault → Text
 control_name control.Untold = codes "Control"
 control_name control.OtherVersion = codes "Control"
-control_name (control.Met fault) = script.name_of fault
+control_name (control.Met fault) = script.script_fault_name fault
 
 abbrev pub request_name : EngineFault → Text
 request_name engine.Read = codes "Read"
 request_name (engine.Write count) = codes "Write"
 request_name engine.TooManyTurns = codes "TooManyTurns"
 
-abbrev pub name_of : Failure → Text
-name_of (File fault) = file.name_of fault
-name_of (List fault) = list_name fault
-name_of Store = codes "Store"
-name_of Memory = codes "Memory"
-name_of Bind = codes "Bind"
-name_of (Socket fault) = socket_name fault
-name_of (Control fault) = control_name fault
-name_of Write = codes "Write"
-name_of (Script fault) = script.name_of fault
-name_of (Request fault) = request_name fault
+abbrev pub failure_name : Failure → Text
+failure_name (File fault) = file.file_fault_name fault
+failure_name (List fault) = list_name fault
+failure_name Store = codes "Store"
+failure_name Memory = codes "Memory"
+failure_name Bind = codes "Bind"
+failure_name (Socket fault) = socket_name fault
+failure_name (Control fault) = control_name fault
+failure_name Write = codes "Write"
+failure_name (Script fault) = script.script_fault_name fault
+failure_name (Request fault) = request_name fault

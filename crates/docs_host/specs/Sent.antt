@@ -48,8 +48,8 @@ abbrev pub parts_by : Text → Bool → Option (Text × Text) → Text × Option
 parts_by answer is_whole None = (whole_lines answer, None)
 parts_by answer is_whole (Some parts) = (parts.0, word_told is_whole parts.1)
 
-abbrev pub parts_of : Text → Bool → Text × Option Text
-parts_of answer is_whole = parts_by answer is_whole (cut answer)
+abbrev pub answer_parts : Text → Bool → Text × Option Text
+answer_parts answer is_whole = parts_by answer is_whole (cut answer)
 
 -- a script has no refusal of its own, and so a server that tells one tells no end of it
 abbrev pub refused_as : Order → Result Status Failure
@@ -89,7 +89,7 @@ EndsSent order = Ended (λ status. IsTrue (may_end_order order status)) (is_of_s
 abbrev pub PrintsAnswer : Order → Option (Text × Bool) → Option Text → Option Text → Result Status Failure → Type 0
 PrintsAnswer order None held now result = (result ≡ Err (File Busy)) × (now ≡ held)
 PrintsAnswer order (Some answer) held now result =
-    PrintsParts order (parts_of answer.0 answer.1) held now result
+    PrintsParts order (answer_parts answer.0 answer.1) held now result
 
 -- the message of what is ordered was sent to the server of the file, with the whole input where that is a script, and what came
 -- back was printed

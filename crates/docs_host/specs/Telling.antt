@@ -7,7 +7,7 @@ use Rattle.dh_lines.specs.declared.lines.Order.TheVariants.{Import, Init, Migrat
 use Rattle.dh_world.specs.World.{Text}
 use Rattle.docs_host.specs.Ends.{status_after}
 use Rattle.docs_host.specs.Failing.{may_fail, is_of_line}
-use Rattle.docs_host.specs.Failures.{name_of}
+use Rattle.docs_host.specs.Failures.{failure_name}
 use Rattle.docs_host.specs.declared.failure.Failure.{Failure}
 use Rattle.docs_host.specs.declared.failure.Failure.TheVariants.{File, List, Socket}
 use Rattle.docs_host.specs.declared.failure.Status.{Status}
@@ -40,7 +40,7 @@ file_named failure file = None
 
 -- the line for programs
 abbrev pub name_text : Failure → Text
-name_text failure = codes "fault " ++ name_of failure ++ 10 ∷ []
+name_text failure = codes "fault " ++ failure_name failure ++ 10 ∷ []
 
 abbrev pub file_text : Option Text → Text
 file_text None = []
@@ -51,8 +51,8 @@ abbrev pub cause_text : Option Text → Text → Text
 cause_text file cause = codes "docs_host: " ++ file_text file ++ cause ++ 10 ∷ []
 
 -- the line for programs and the line for people
-abbrev pub fault_text : Failure → Option Text → Text → Text
-fault_text failure file cause = name_text failure ++ cause_text (file_named failure file) cause
+abbrev pub failure_text : Failure → Option Text → Text → Text
+failure_text failure file cause = name_text failure ++ cause_text (file_named failure file) cause
 
 module _ {S : Type 0} (broken : S → Bool) (held : S → Option Text) where
   -- the line for people was told, with some cause and the file that it is of
@@ -62,14 +62,14 @@ module _ {S : Type 0} (broken : S → Bool) (held : S → Option Text) where
 
   abbrev pub TellsFault : S → S → Failure → Option Text → Type 0
   TellsFault old new failure file =
-      (cause : Text) × WritesUnlessBroken broken held old new (fault_text failure file cause)
+      (cause : Text) × WritesUnlessBroken broken held old new (failure_text failure file cause)
 
   -- the last that was told is a failure that ends the program with this status, and that may end the run of this line
   abbrev pub TellsLast : Option Line → S → S → Status → Type 0
   TellsLast line old new status =
       (front : Text) × (failure : Failure) × (cause : Text)
       × (status ≡ status_after failure) × IsTrue (may_fail (is_of_line line) failure)
-      × WritesUnlessBroken broken held old new (front ++ fault_text failure (option_and_then (file_of failure) line) cause)
+      × WritesUnlessBroken broken held old new (front ++ failure_text failure (option_and_then (file_of failure) line) cause)
 
   -- where the program ends as after a failure, the failure was told last; of another end nothing is said
   abbrev pub TellsEnd : Option Line → S → S → Status → Type 0

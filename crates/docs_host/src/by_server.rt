@@ -114,7 +114,7 @@ fn message_for(
 /// there is no such word; nor is there where the answer was not read to its end.
 fn parts_of(answer: &[u8], is_whole: bool) -> (&[u8], Option<&[u8]>)
     ensures { (result.0.now, option_map (λ word. word.now) result.1)
-        ≡ spec.parts_of answer.now is_whole }
+        ≡ spec.answer_parts answer.now is_whole }
 {
     match cut(answer) {
         Some(parts) if is_whole => (parts.printed, Some(parts.end)),
@@ -169,7 +169,7 @@ fn tell_answer<W: Sink>(
 ) -> Result<Status, Failure>
     requires writer { W.broken sink.old ≡ false }
     requires sent { may_be_sent order.now ≡ true }
-    ensures tells { PrintsParts order.now (spec.parts_of answer.now is_whole)
+    ensures tells { PrintsParts order.now (spec.answer_parts answer.now is_whole)
         (W.held sink.old) (W.held sink.new) result }
     ensures ends { EndsSent order.now result }
 {

@@ -2,7 +2,7 @@
 
 ghost use Rattle.std.specs.Prelude.{◌≡◌, IfSome};
 ghost use Rattle.dh_server.specs.Telling.{TellsSome};
-ghost use Rattle.dh_world.specs.Refusals.{name_of};
+ghost use Rattle.dh_world.specs.Refusals.{refusal_name};
 
 use crate::failure::{Failure, Status, tell_line, tell_sentence};
 use dh_control::whole_lines;
@@ -42,7 +42,7 @@ const REFUSALS: [Refusal; 24] = [
 
 /// The refusal of this name, but for that of a redirect.
 fn refusal_named(name: &str) -> Option<Refusal>
-    ensures { IfSome result (λ refusal. name_of refusal ≡ name.now) }
+    ensures { IfSome result (λ refusal. refusal_name refusal ≡ name.now) }
 {
     for refusal in REFUSALS {
         if refusal.name() == name {

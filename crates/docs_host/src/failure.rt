@@ -100,7 +100,7 @@ impl Failure {
 
     /// The name that programs read.
     fn name(self) -> &'static str
-        ensures { result.now ≡ spec.name_of self }
+        ensures { result.now ≡ spec.failure_name self }
     {
         match self {
             Failure::File(fault) => fault.name(),

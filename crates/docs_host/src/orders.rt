@@ -7,7 +7,7 @@ ghost use Rattle.dh_server.specs.Telling.{TellsSome};
 ghost use Rattle.dh_script.specs.Running.{RunsScript};
 ghost use Rattle.dh_script.specs.Script.{MayDoSingle};
 ghost use Rattle.docs_host.specs.Ends.{Ended, may_end_request, may_end_single};
-ghost use Rattle.docs_host.specs.Ends.{may_end_order, is_fault};
+ghost use Rattle.docs_host.specs.Ends.{may_end_order, is_failure_status};
 ghost use Rattle.docs_host.specs.Failing.{IsDoneOr, is_of_output, is_of_script, is_of_request};
 ghost use Rattle.docs_host.specs.Failing.{is_of_order};
 ghost use Rattle.docs_host.specs.Orders.{AreUnbroken, RunsSingle, RunsRequest, RunsOrder, single_status};
@@ -36,7 +36,7 @@ pub fn say<W: Sink>(sink: &mut W, text: &str) -> Result<(), Failure>
 
 fn status_told(refused: bool) -> Status
     ensures status { result ≡ single_status refused }
-    ensures fault { is_fault result ≡ false }
+    ensures fault { is_failure_status result ≡ false }
 {
     if refused {
         Status::Refused

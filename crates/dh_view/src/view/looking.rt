@@ -38,7 +38,7 @@ impl<'a, S: Alter> View<'a, S> {
     /// Asks the tables whether there is a project under the host: it has languages, which are kept.
     fn ask_known(&mut self) -> Result<bool, Fault>
         ensures { LooksUp S.Store self.old self.new result
-            (λ l o. o ≡ view.has_project l self.old.host) }
+            (λ l o. o ≡ view.is_project_there l self.old.host) }
     {
         let langs = self.find_langs()?;
         Ok(has_first(langs.as_slice()))
@@ -47,7 +47,7 @@ impl<'a, S: Alter> View<'a, S> {
     /// Whether there is a project under the host; the tables are asked until there is one.
     fn has_project(&mut self) -> Result<bool, Fault>
         ensures { LooksUp S.Store self.old self.new result
-            (λ l o. o ≡ view.has_project l self.old.host) }
+            (λ l o. o ≡ view.is_project_there l self.old.host) }
     {
         if self.known && self.tables.is_settled() {
             return Ok(true);
@@ -105,7 +105,7 @@ impl<'a, S: Alter> View<'a, S> {
     /// Asks the tables for the slug, where the caller sees a version with it.
     fn ask_slug(&mut self, alloc: Global, name: &str) -> Found<Slug>
         ensures { LooksUp S.Store self.old self.new result
-            (λ l o. o ≡ view.slug_in l self.old.host self.old.caller name.now) }
+            (λ l o. o ≡ view.slug_if_seen l self.old.host self.old.caller name.now) }
     {
         match self.opened(alloc)? {
             Some(host) => {
@@ -118,7 +118,7 @@ impl<'a, S: Alter> View<'a, S> {
     /// Asks the tables for the slug, where the caller sees a version with it, and keeps what is found.
     fn find_slug(&mut self, alloc: Global, name: &str) -> Found<Slug>
         ensures { LooksUp S.Store self.old self.new result
-            (λ l o. o ≡ view.slug_in l self.old.host self.old.caller name.now) }
+            (λ l o. o ≡ view.slug_if_seen l self.old.host self.old.caller name.now) }
     {
         let found = self.ask_slug(alloc, name)?;
         self.note_slug(alloc, &found);
@@ -128,7 +128,7 @@ impl<'a, S: Alter> View<'a, S> {
     /// Answers the slug, where the caller sees a version with it.
     fn seen_slug(&mut self, alloc: Global, name: &str) -> Found<Slug>
         ensures { LooksUp S.Store self.old self.new result
-            (λ l o. o ≡ view.slug_in l self.old.host self.old.caller name.now) }
+            (λ l o. o ≡ view.slug_if_seen l self.old.host self.old.caller name.now) }
     {
         match self.noted_slug(alloc, name)? {
             Some(slug) => Ok(Some(slug)),

@@ -6,19 +6,19 @@ use Rattle.json.specs.Lex.{tokens}
 use Rattle.serde_json.specs.Data.{Data}
 use Rattle.serde_json.specs.Read.{of_json, converted, read}
 use Rattle.dh_bodies.specs.declared.post.Post.{Post}
-use Rattle.dh_bodies.specs.Bodies.{change_of, change_in}
+use Rattle.dh_bodies.specs.Bodies.{body_change, posted_change}
 use Rattle.dh_bodies.proofs.Reading.{whole_read}
 use Rattle.dh_bodies.proofs.change.read_change.Goals as goal
 
-asked : (post : Post) (wkey body : List ℕ) (d : Data) → IsUtf8 body → converted of_json (value 127 (tokens body)) ≡ Some (d, []) → change_in post wkey d ≡ change_of post wkey body
+asked : (post : Post) (wkey body : List ℕ) (d : Data) → IsUtf8 body → converted of_json (value 127 (tokens body)) ≡ Some (d, []) → posted_change post wkey d ≡ body_change post wkey body
 asked post wkey body d utf8 is = rw (is_utf8-from_IsUtf8 body utf8, whole_read (value 127 (tokens body)) d is) refl
 
 not_at : (post : Post) (wkey : List ℕ) (utf8 : Bool) (found : Option Data) → (utf8 ≡ true → found ≡ None)
-    → None ≡ (if utf8 then option_and_then (change_in post wkey) found else None)
+    → None ≡ (if utf8 then option_and_then (posted_change post wkey) found else None)
 not_at post wkey false found h = refl
 not_at post wkey true found h = rw (h refl) refl
 
-not_asked : (post : Post) (wkey body : List ℕ) → (IsUtf8 body → read body ≡ None) → None ≡ change_of post wkey body
+not_asked : (post : Post) (wkey body : List ℕ) → (IsUtf8 body → read body ≡ None) → None ≡ body_change post wkey body
 not_asked post wkey body h = not_at post wkey _ _ (λ utf8. h (IsUtf8-from_is_utf8 body utf8))
 
 pub returns-in_default : goal.returns-in_default

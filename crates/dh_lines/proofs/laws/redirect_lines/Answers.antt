@@ -5,7 +5,7 @@ use Rattle.dh_redirects.specs.declared.redirect.RedirectKind.{RedirectKind}
 use Rattle.dh_redirects.specs.declared.redirect.RedirectKind.TheVariants.{Page, Exact, CleanToHtml}
 use Rattle.dh_redirects.specs.declared.redirect.RedirectKind.TheVariants.{HtmlToClean}
 use Rattle.dh_world.specs.declared.command.CommandChange.TheVariants.{DropRedirect}
-use Rattle.dh_word_tables.specs.Words.{is_plain}
+use Rattle.dh_word_tables.specs.Words.{is_plain_word}
 use Rattle.dh_word_tables.proofs.TokenLemmas.{written}
 use Rattle.dh_redirects.specs.Redirects.{redirect_kind_of}
 use Rattle.dh_lines.specs.Lines.{OrdersRedirect, OrdersForced}
@@ -13,14 +13,14 @@ use Rattle.dh_lines.specs.Lines.{change_in, access_in, redirect_change_in}
 use Rattle.dh_lines.proofs.FormLines.{redirect_line, place_line}
 use Rattle.dh_lines.proofs.laws.redirect_lines.Goals as goal
 
-unforced : (word : Text) (kind : RedirectKind) → is_plain word ≡ true
+unforced : (word : Text) (kind : RedirectKind) → is_plain_word word ≡ true
     → redirect_kind_of word ≡ Some kind → OrdersRedirect word kind
 unfolding defaults_fault change_in access_in redirect_change_in
 unforced =
     redirect_line [] false (λ host place kind status source target plain. plain)
     (λ host place kind status source target. (refl, λ file. refl))
 
-forced : (word : Text) (kind : RedirectKind) → is_plain word ≡ true
+forced : (word : Text) (kind : RedirectKind) → is_plain_word word ≡ true
     → redirect_kind_of word ≡ Some kind → OrdersForced word kind
 unfolding defaults_fault change_in access_in redirect_change_in
 forced =

@@ -1,4 +1,4 @@
-use Rattle.dh_rows.specs.Calls.{seen}
+use Rattle.dh_rows.specs.Calls.{seen_now}
 use Rattle.dh_schema.specs.Tables.{lists_of}
 use Rattle.dh_listings.specs.declared.words.ProjectList.TheVariants.{Defaults}
 use Rattle.dh_listing_reads.proofs.ListLemmas.{defaults_are, listed_as}
@@ -7,5 +7,5 @@ use Rattle.dh_listing_reads.proofs.lists.list_defaults.Goals as goal
 pub returns : goal.returns
 returns g c = record {
   asks = c.list_rows.ensures.asks;
-  value = λ honest. listed_as (seen g.S.Store lists_of c.args.tables.now) c.args.host.now Defaults c.list_rows.result _ (λ sound there. defaults_are (seen g.S.Store lists_of c.args.tables.now) c.args.host.now sound) (c.list_rows.ensures.value honest);
+  value = λ honest. listed_as (seen_now g.S.Store lists_of c.args.tables.now) c.args.host.now Defaults c.list_rows.result _ (λ sound there. defaults_are (seen_now g.S.Store lists_of c.args.tables.now) c.args.host.now sound) (c.list_rows.ensures.value honest);
 }

@@ -1,5 +1,5 @@
 use Rattle.std.proofs.Common.{rules, ◌∙◌, ap, filter, map, sym, Some}
-use Rattle.dh_rows.specs.Calls.{seen}
+use Rattle.dh_rows.specs.Calls.{seen_now}
 use Rattle.dh_schema.specs.Tables.{lists_of}
 use Rattle.dh_records.specs.Lists.{is_page_in}
 use Rattle.dh_listings.specs.ListingTexts.{listed_text}
@@ -11,7 +11,7 @@ pub returns : goal.returns
 returns g c = record {
   asks = search rules;
   value = λ honest sound there.
-      let l = seen g.S.Store lists_of c.args.tables.now in
+      let l = seen_now g.S.Store lists_of c.args.tables.now in
       let host = c.args.host.now in
       let found = c.as_slice.ensures.value ∙ c.in_ok-rows.ensures.value honest
       ∙ ap (λ slug. filter (is_page_in host slug c.as_str-2.result.now) l.pages) c.as_str.ensures

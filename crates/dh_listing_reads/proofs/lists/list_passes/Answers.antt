@@ -1,6 +1,6 @@
 use Rattle.std.proofs.Common.{rules, ◌∙◌, ap, List, map, filter, sym, Some}
 use Rattle.std.specs.Str.{bytes_eq}
-use Rattle.dh_rows.specs.Calls.{seen}
+use Rattle.dh_rows.specs.Calls.{seen_now}
 use Rattle.dh_schema.specs.Tables.{lists_of}
 use Rattle.dh_records.specs.Lists.{Lists}
 use Rattle.dh_records.specs.declared.records.GrantRow.{GrantRow}
@@ -20,7 +20,7 @@ returns g c = record {
   asks = search rules;
   value = λ honest sound there.
       let before = c.in_ok-grants.ensures.asks.goes.lasts.was honest in
-      let l = seen g.S.Store lists_of c.args.tables.now in
+      let l = seen_now g.S.Store lists_of c.args.tables.now in
       let own : Lists → List GrantRow = λ at. filter (λ x. bytes_eq x.host c.args.host.now) at.held in
       let grants = c.in_ok-grants.ensures.value honest ∙ ap own (still (asked c.in_ok-passes.ensures.asks) before) in
       ap Some (c.in_ok-passes_text.ensures ∙ ap (λ gs. listed_text (map (rows.of_pass gs) c.as_slice.result.now)) (c.as_slice-2.ensures.value ∙ grants)

@@ -2,7 +2,7 @@ use Rattle.std.proofs.Common.{◌≡◌, false, take}
 use Rattle.dh_desk.specs.Desk.{WorldGoesBy}
 use Rattle.dh_word_tables.specs.Apps.{StandsFor}
 use Rattle.dh_lines.specs.App.{docs_app}
-use Rattle.dh_script.specs.Running.{RunsInto, seen}
+use Rattle.dh_script.specs.Running.{RunsInto, words_seen}
 use Rattle.dh_script.proofs.script.run_batch.Given as goal
 
 abbrev pub invariant-loop-words : goal.invariant-loop-words
@@ -10,5 +10,5 @@ invariant-loop-words g l = record {
   fine : g.W.Sink.broken l.sink ≡ false;
   stands : StandsFor docs_app l.program;
   ran : WorldGoesBy g.S.Store l.fn.desk l.desk
-      (λ before after. RunsInto l.fn.now before (seen (take l.words-index l.lines)) after (g.W.Sink.held l.fn.sink) (g.W.Sink.held l.sink));
+      (λ before after. RunsInto l.fn.now before (words_seen (take l.words-index l.lines)) after (g.W.Sink.held l.fn.sink) (g.W.Sink.held l.sink));
 }

@@ -3,7 +3,7 @@ use Rattle.std.proofs.lemmas.Iterator.Splits.{YieldsList-from_lines}
 use Rattle.std.proofs.lemmas.Iterator.Consumers.{YieldsList-end, YieldsList-so_far, YieldsList-turn}
 use Rattle.std.specs.Str.Lines.{lines}
 use Rattle.dh_desk.proofs.Moving.{WorldGoesBy-refl, WorldGoesBy-trans}
-use Rattle.dh_script.specs.Running.{Ran, seen}
+use Rattle.dh_script.specs.Running.{Ran, words_seen}
 use Rattle.dh_script.proofs.RunLemmas.{but_none, but_on, but_some, but_ends, ran_err}
 use Rattle.dh_script.proofs.script.run_lines.Goals as goal
 
@@ -35,4 +35,4 @@ returns-clause-ran g c =
     let all = YieldsList-end (YieldsList-from_lines c.args.text.now cc) c.loop-line.yielded _ c.loop-line.yielded_by _ _ c.in-None.is c.next.ensures.steps in
     WorldGoesBy-trans c.loop-line.invariant.ran c.run_batch.ensures.ran
     (λ u v w ran last. but_ends c.args.now u _ v w _ _ _ _ (lines c.args.text.now) c.run_batch.result ran
-    (subst (λ xs. Ran c.args.now v (seen xs) w (g.W.Sink.held c.loop-line.sink) (g.W.Sink.held c.run_batch.new.sink) c.run_batch.result) c.as_slice.ensures.value last) all.0)
+    (subst (λ xs. Ran c.args.now v (words_seen xs) w (g.W.Sink.held c.loop-line.sink) (g.W.Sink.held c.run_batch.new.sink) c.run_batch.result) c.as_slice.ensures.value last) all.0)

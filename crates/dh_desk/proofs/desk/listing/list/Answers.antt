@@ -1,6 +1,6 @@
 use Rattle.std.proofs.Common.{◌≡◌, IfOk, inr, sym, ◌∙◌, subst}
 use Rattle.dh_records.specs.Lists.{world_of}
-use Rattle.dh_rows.specs.Calls.{seen}
+use Rattle.dh_rows.specs.Calls.{seen_now}
 use Rattle.dh_schema.specs.InTurn.{lasts_on, shows_on}
 use Rattle.dh_schema.specs.Tables.{lists_of}
 use Rattle.dh_listings.specs.ListingTexts.{listing_text}
@@ -20,7 +20,7 @@ returns g c =
           let was = (looks.unmoved honest).same.was_honest in
           let undone = c.in_ok-back.ensures.undone.done was in
           let consistent = kept_records g.S.Store c.args.tables.now back c.requires c.back.ensures.goes.lasts (λ h. (c.in_ok-back.ensures.undone.done h).now_is) was in
-          subst (λ l. IfOk c.listing_in.result (λ text. text ≡ listing_text (world_of l) c.args.word.now)) undone.now_is (of_sound (λ text. text ≡ listing_text (world_of (seen g.S.Store lists_of back)) c.args.word.now) c.listing_in.result (c.listing_in.ensures.value honest) consistent.sound);
+          subst (λ l. IfOk c.listing_in.result (λ text. text ≡ listing_text (world_of l) c.args.word.now)) undone.now_is (of_sound (λ text. text ≡ listing_text (world_of (seen_now g.S.Store lists_of back)) c.args.word.now) c.listing_in.result (c.listing_in.ensures.value honest) consistent.sound);
       same = λ honest.
           let same = (looks.unmoved honest).same in
           same.last_is ∙ (c.in_ok-back.ensures.undone.done same.was_honest).last_is;

@@ -1,6 +1,6 @@
 use Rattle.std.proofs.Common.{ap, sym, subst, ◌∙◌}
 use Rattle.sqlite.specs.Held.{state}
-use Rattle.dh_rows.specs.Calls.{AreOurs, seen}
+use Rattle.dh_rows.specs.Calls.{AreOurs, seen_now}
 use Rattle.dh_rows.specs.Keyed.{IsFreeKey}
 use Rattle.dh_records.specs.Changes as change
 use Rattle.dh_records.specs.Codings as coding
@@ -20,12 +20,12 @@ add_grant-requires g c = record {
 pub returns-in-Ok-true : goal.returns-in-Ok-true
 returns-in-Ok-true g c = record {
   writes = wrote_nothing g.S.Store c.args.self.now c.held.new.self _ _ (change.grant c.args.row.now) (subst (λ h. AreOurs HoldsTables (state g.S.Store h)) c.self.view_is c.self.invariant) c.in-Ok-true.ensures.asks
-      (λ honest. ap (λ rows. record (seen g.S.Store lists_of c.args.self.now) { held = rows }) (granted_there c.args.row.now (seen g.S.Store lists_of c.args.self.now).held (sym (c.in-Ok-true.ensures.value honest) ∙ c.in-Ok-true.field-0-test)));
+      (λ honest. ap (λ rows. record (seen_now g.S.Store lists_of c.args.self.now) { held = rows }) (granted_there c.args.row.now (seen_now g.S.Store lists_of c.args.self.now).held (sym (c.in-Ok-true.ensures.value honest) ∙ c.in-Ok-true.field-0-test)));
 }
 
 pub returns-in-Ok-false : goal.returns-in-Ok-false
 returns-in-Ok-false g c = record {
   writes = wrote_after g.S.Store c.args.self.now c.held.new.self c.add_grant.new.self _ c.in-Ok-false.ensures.asks c.add_grant.result (change.add_grant c.args.row.now) (change.grant c.args.row.now)
-      (λ honest. ap (λ rows. record (seen g.S.Store lists_of c.args.self.now) { held = rows }) (sym (granted_new c.args.row.now (seen g.S.Store lists_of c.args.self.now).held (sym (c.in-Ok-false.ensures.value honest) ∙ c.in-Ok-false.field-0-test))))
+      (λ honest. ap (λ rows. record (seen_now g.S.Store lists_of c.args.self.now) { held = rows }) (sym (granted_new c.args.row.now (seen_now g.S.Store lists_of c.args.self.now).held (sym (c.in-Ok-false.ensures.value honest) ∙ c.in-Ok-false.field-0-test))))
       c.add_grant.ensures.writes;
 }

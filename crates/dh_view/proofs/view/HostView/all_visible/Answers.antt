@@ -1,5 +1,5 @@
 use Rattle.std.proofs.Common.{rules, ◌∙◌, ap, map, subst}
-use Rattle.dh_rows.specs.Calls.{seen}
+use Rattle.dh_rows.specs.Calls.{seen_now}
 use Rattle.dh_schema.specs.Tables.{lists_of}
 use Rattle.dh_records.specs.Constraints.{RiseBySlug}
 use Rattle.dh_records.specs.declared.records.VersionRow.{VersionRow}
@@ -18,11 +18,11 @@ returns g c = record {
   asks = search rules;
   value = λ honest.
       let before = c.grants_for.ensures.asks.goes.lasts.was honest in
-      let lists = seen g.S.Store lists_of c.args.tables.now in
+      let lists = seen_now g.S.Store lists_of c.args.tables.now in
       let found = c.in_ok-rows.ensures.value before in (
         c.in_ok-versions_of.ensures
             ∙ ap (map (λ (r : VersionRow). r.version))
-            (kept_are lists (row_of c.args.self.now.host.now) c.args.self.now.class.now (seen g.S.Store lists_of c.versions.new.self) c.in_ok-grants.grants.items c.as_slice-2.result.now c.in_ok-rows.rows.items c.as_slice.result.now c.only_visible.result.items
+            (kept_are lists (row_of c.args.self.now.host.now) c.args.self.now.class.now (seen_now g.S.Store lists_of c.versions.new.self) c.in_ok-grants.grants.items c.as_slice-2.result.now c.in_ok-rows.rows.items c.as_slice.result.now c.only_visible.result.items
             (still (asked c.in_ok-rows.ensures.asks) before) found.0 c.as_slice.ensures.value c.as_slice-2.ensures.value c.only_visible.ensures (c.in_ok-grants.ensures.value honest)),
         subst RiseBySlug found.0 found.1,
       );

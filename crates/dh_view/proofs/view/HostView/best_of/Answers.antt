@@ -1,6 +1,6 @@
 use Rattle.std.proofs.Common.{◌∙◌, Ok, refl, ap, sym, arith}
 use Rattle.std.proofs.lemmas.List.{at_drop_all}
-use Rattle.dh_rows.specs.Calls.{seen}
+use Rattle.dh_rows.specs.Calls.{seen_now}
 use Rattle.dh_schema.specs.Tables.{lists_of}
 use Rattle.dh_view.specs.Stored.{best_of, better, led_at}
 use Rattle.dh_view.proofs.Leading.{best_next}
@@ -20,7 +20,7 @@ loop-route-preserved g c = (
   asks_then (Ok tt) tt (asks_on c.loop-route.invariant.0 c.in_ok-next.ensures.asks),
   λ honest.
       let before = c.better.ensures.asks.goes.lasts.was honest in
-      let lead = led_at (seen g.S.Store lists_of c.args.tables.now) c.args.self.now.host.now c.args.forced c.args.asked.now in
+      let lead = led_at (seen_now g.S.Store lists_of c.args.tables.now) c.args.self.now.host.now c.args.forced c.args.asked.now in
       best_next lead c.args.forced c.args.routes.now c.loop-route.route-index c.route-item.result c.loop-route.best c.in_ok-next.next (best_of lead c.args.forced c.args.routes.now c.args.best)
       c.loop-route-test.true c.route-item.is
       (c.in_ok-next.ensures.value honest ∙ ap (λ l. better (led_at l c.args.self.now.host.now c.args.forced c.args.asked.now) c.args.forced c.route-item.result c.loop-route.best) (still c.loop-route.invariant.0 before))
@@ -32,6 +32,6 @@ returns g c = record {
   asks = asks_then (Ok c.loop-route.best) tt c.loop-route.invariant.0;
   value = λ honest.
       let past = c.loop-route-test.false in
-      let lead = led_at (seen g.S.Store lists_of c.args.tables.now) c.args.self.now.host.now c.args.forced c.args.asked.now in
+      let lead = led_at (seen_now g.S.Store lists_of c.args.tables.now) c.args.self.now.host.now c.args.forced c.args.asked.now in
       sym (at_drop_all (λ xs. best_of lead c.args.forced xs c.loop-route.best) c.args.routes.now c.loop-route.route-index (omega arith)) ∙ c.loop-route.invariant.1 honest;
 }

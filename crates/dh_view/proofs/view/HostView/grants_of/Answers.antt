@@ -1,5 +1,5 @@
 use Rattle.std.proofs.Common.{rules, ◌∙◌}
-use Rattle.dh_rows.specs.Calls.{seen}
+use Rattle.dh_rows.specs.Calls.{seen_now}
 use Rattle.dh_schema.specs.Tables.{lists_of}
 use Rattle.dh_view.proofs.PassLemmas.{grants_open, held_none, none_open}
 use Rattle.dh_view.proofs.ViewLemmas.{asked, from_answer}
@@ -11,7 +11,7 @@ returns-in-Some g c = record {
   asks = asked c.held_by.ensures.asks;
   value = λ honest.
       from_answer c.held_by.result
-      (λ o e. grants_open (seen g.S.Store lists_of c.args.tables.now) (row_of c.args.self.now.host.now) c.args.self.now.class.now c.in-Some.pass c.in-Some.is o.items e)
+      (λ o e. grants_open (seen_now g.S.Store lists_of c.args.tables.now) (row_of c.args.self.now.host.now) c.args.self.now.class.now c.in-Some.pass c.in-Some.is o.items e)
       (c.held_by.ensures.value honest);
 }
 
@@ -20,5 +20,5 @@ returns-in-None g c = record {
   asks = search rules;
   value = λ honest slug.
       none_open c.no_grants.result.items c.no_grants.ensures slug
-      ∙ held_none (seen g.S.Store lists_of c.args.tables.now) (row_of c.args.self.now.host.now) c.args.self.now.class.now c.in-None.is slug;
+      ∙ held_none (seen_now g.S.Store lists_of c.args.tables.now) (row_of c.args.self.now.host.now) c.args.self.now.class.now c.in-None.is slug;
 }

@@ -1,6 +1,6 @@
 use Rattle.std.proofs.Common.{rules, ap, sym, ◌∙◌}
 use Rattle.std.specs.Option.{option_map}
-use Rattle.dh_rows.specs.Calls.{seen}
+use Rattle.dh_rows.specs.Calls.{seen_now}
 use Rattle.dh_schema.specs.Tables.{lists_of}
 use Rattle.dh_view.specs.View.{row_of}
 use Rattle.dh_view.proofs.Shown.{slug_is}
@@ -10,7 +10,7 @@ pub returns-in-Some : goal.returns-in-Some
 returns-in-Some g c = record {
   asks = search rules;
   value = λ honest.
-      slug_is (seen g.S.Store lists_of c.args.tables.now) (row_of c.args.self.now.host.now) c.args.self.now.class.now c.args.name.now c.in_ok-version.field-0 c.in-Some.version
+      slug_is (seen_now g.S.Store lists_of c.args.tables.now) (row_of c.args.self.now.host.now) c.args.self.now.class.now c.args.name.now c.in_ok-version.field-0 c.in-Some.version
       (c.in_ok-version.ensures.value honest) c.in-Some.is;
 }
 

@@ -1,5 +1,5 @@
 use Rattle.std.proofs.Common.{rules, ap, ◌∙◌}
-use Rattle.dh_rows.specs.Calls.{seen}
+use Rattle.dh_rows.specs.Calls.{seen_now}
 use Rattle.dh_schema.specs.Tables.{lists_of}
 use Rattle.dh_world.specs.Visibility.{may_see}
 use Rattle.dh_view.proofs.Shown.{when_absent, when_told}
@@ -11,7 +11,7 @@ pub returns-in-None : goal.returns-in-None
 returns-in-None g c = record {
   asks = search rules;
   value = λ honest.
-      when_absent (seen g.S.Store lists_of c.args.tables.now) (row_of c.args.self.now.host.now) c.args.self.now.class.now c.args.name.now c.in_ok-row.field-0 (c.in_ok-row.ensures.value honest) c.in-None.is;
+      when_absent (seen_now g.S.Store lists_of c.args.tables.now) (row_of c.args.self.now.host.now) c.args.self.now.class.now c.args.name.now c.in_ok-row.field-0 (c.in_ok-row.ensures.value honest) c.in-None.is;
 }
 
 pub returns-in_ok-is_seen-in-Some : goal.returns-in_ok-is_seen-in-Some
@@ -21,7 +21,7 @@ returns-in_ok-is_seen-in-Some g c = record {
       let before = c.is_seen.ensures.asks.goes.lasts.was honest in
       let version = c.in-Some.row.version in
       let told = ap (λ l. may_see version (held_in l c.args.self.now.host.now c.args.self.now.class.now version.slug)) (still (asked c.in_ok-row.ensures.asks) before) in
-      c.then_some.ensures ∙ when_told (seen g.S.Store lists_of c.args.tables.now) (row_of c.args.self.now.host.now) c.args.self.now.class.now _ c.args.name.now c.in_ok-row.field-0 c.in-Some.row (c.in_ok-row.ensures.value before) c.in-Some.is
+      c.then_some.ensures ∙ when_told (seen_now g.S.Store lists_of c.args.tables.now) (row_of c.args.self.now.host.now) c.args.self.now.class.now _ c.args.name.now c.in_ok-row.field-0 c.in-Some.row (c.in_ok-row.ensures.value before) c.in-Some.is
       (c.in_ok-is_seen-in-Some.ensures.value honest ∙ told);
 }
 

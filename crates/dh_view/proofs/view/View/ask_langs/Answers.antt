@@ -1,5 +1,5 @@
 use Rattle.std.proofs.Common.{refl, rules, ◌∙◌}
-use Rattle.dh_rows.specs.Calls.{seen}
+use Rattle.dh_rows.specs.Calls.{seen_now}
 use Rattle.dh_schema.specs.Tables.{lists_of}
 use Rattle.dh_view.proofs.Shown.{languages_none, languages_right}
 use Rattle.dh_view.proofs.ViewLemmas.{asked, same_answer, view_asks}
@@ -13,7 +13,7 @@ returns-in-Some g c = record {
       let view = c.args.self.now in
       let before = c.list.ensures.asks.goes.lasts.was it in
       same_answer (λ langs. langs.items) c.list.result _ _
-      (languages_right (seen g.S.Store lists_of view.tables.now) view.host c.in-Some.host c.in-Some.is (view.right c.in-Some.host c.in-Some.is before).first)
+      (languages_right (seen_now g.S.Store lists_of view.tables.now) view.host c.in-Some.host c.in-Some.is (view.right c.in-Some.host c.in-Some.is before).first)
       (c.list.ensures.value it);
 }
 
@@ -21,5 +21,5 @@ pub returns-in-None : goal.returns-in-None
 returns-in-None g c = record {
   asks = search rules;
   settled = search rules;
-  value = λ it. c.new.ensures.items ∙ languages_none (seen g.S.Store lists_of c.args.self.now.tables.now) c.args.self.now.host c.in-None.is;
+  value = λ it. c.new.ensures.items ∙ languages_none (seen_now g.S.Store lists_of c.args.self.now.tables.now) c.args.self.now.host c.in-None.is;
 }

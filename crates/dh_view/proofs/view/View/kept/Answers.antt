@@ -1,5 +1,5 @@
 use Rattle.std.proofs.Common.{refl, rules}
-use Rattle.dh_rows.specs.Calls.{seen}
+use Rattle.dh_rows.specs.Calls.{seen_now}
 use Rattle.dh_schema.specs.Tables.{lists_of}
 use Rattle.dh_view.proofs.Kept.{kept_shown}
 use Rattle.dh_view.proofs.ViewLemmas.{honest, recalls, same_answer, view_asks}
@@ -13,7 +13,7 @@ returns-in-Some g c = record {
       let before = c.kept.ensures.asks.goes.lasts.was it in
       let view = c.args.self.now in
       same_answer (λ o. o) c.kept.result _ _
-      (kept_shown (seen g.S.Store lists_of view.tables.now) view.host view.caller c.in-Some.host c.class_text.result.now c.args.name c.in-Some.is
+      (kept_shown (seen_now g.S.Store lists_of view.tables.now) view.host view.caller c.in-Some.host c.class_text.result.now c.args.name c.in-Some.is
       (view.right c.in-Some.host c.in-Some.is before) c.class_text.ensures (view.is_classed before))
       ((rw c.new.ensures.host at c.kept.ensures.value) it);
 }

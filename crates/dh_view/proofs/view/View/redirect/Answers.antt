@@ -2,7 +2,7 @@ use Rattle.std.proofs.Common.{ℕ, refl, sym, ap, ◌∙◌}
 use Rattle.std.specs.Option.{option_map}
 use Rattle.dh_redirects.specs.declared.redirect.Location.{Location}
 use Rattle.dh_redirects.specs.FirstResult.{first_result}
-use Rattle.dh_rows.specs.Calls.{seen}
+use Rattle.dh_rows.specs.Calls.{seen_now}
 use Rattle.dh_schema.specs.Tables.{lists_of}
 use Rattle.dh_view.specs.Stored.{best_at}
 use Rattle.dh_view.proofs.Leading.{routes_lead}
@@ -12,7 +12,7 @@ use Rattle.dh_view.proofs.view.View.redirect.Goals as goal
 
 pub returns-in-Some : goal.returns-in-Some
 returns-in-Some g c =
-    let lists = seen g.S.Store lists_of c.args.self.now.tables.now in
+    let lists = seen_now g.S.Store lists_of c.args.self.now.tables.now in
     record {
       asks = view_on g.S.Store c.in_ok-host.ensures.asks (refl, refl, refl) c.in_ok-host.ensures.settled c.redirected.ensures.asks;
       value =

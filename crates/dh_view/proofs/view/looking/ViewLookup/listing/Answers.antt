@@ -1,5 +1,5 @@
 use Rattle.std.proofs.Common.{◌≡◌, filter, refl, ap, subst, ◌∙◌}
-use Rattle.dh_rows.specs.Calls.{seen}
+use Rattle.dh_rows.specs.Calls.{seen_now}
 use Rattle.dh_records.specs.Constraints.{RiseBySlug}
 use Rattle.dh_records.specs.Lists.{is_version_of, project_of}
 use Rattle.dh_schema.specs.Tables.{lists_of}
@@ -13,8 +13,8 @@ pub returns-in-Some : goal.returns-in-Some
 returns-in-Some g c = record {
   asks = view_on g.S.Store c.in_ok-host.ensures.asks (refl, refl, refl) c.in_ok-host.ensures.settled c.all_visible.ensures.asks;
   value =
-      let lists = seen g.S.Store lists_of c.args.self.now.tables.now in
-      let mid = seen g.S.Store lists_of c.opened.new.self.tables.now in
+      let lists = seen_now g.S.Store lists_of c.args.self.now.tables.now in
+      let mid = seen_now g.S.Store lists_of c.opened.new.self.tables.now in
       let host = c.in-Some.host in
       all_under g.S.Store c.in_ok-host.ensures.asks c.in_ok-host.ensures.value
       (λ v. (v ≡ versions_in mid host c.opened.new.self.caller.pass) × RiseBySlug (filter (is_version_of host) mid.versions)) (λ p. p.versions) host c.in-Some.is
