@@ -1,7 +1,7 @@
 use Rattle.std.proofs.Common.{ap}
 use Rattle.sqlite_value.specs.Order.{column}
 use Rattle.dh_records.proofs.ReadingLemmas.{handed_on}
-use Rattle.dh_records.proofs.reading.UsedRowRecord.read.Goals as goal
+use Rattle.dh_records.proofs.reading.RetryRowRecord.read.Goals as goal
 
 pub returns-in_err-text_at-clause-told : goal.returns-in_err-text_at-clause-told
 returns-in_err-text_at-clause-told c y e =
