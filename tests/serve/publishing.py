@@ -548,20 +548,18 @@ def rows_of(text, head):
 def documents(part):
     """The tool has the limits and refusals of docs/SCRIPTS.md."""
     ours, text = tool(), (DOCS / "SCRIPTS.md").read_text()
-    limits = dict(rows_of(text, "| Thing | Limit |"))
-    page, pages = limits["a page; pages of one upload"].split("; ")
-    part.same("the limit of a page", page, f"{ours.MOST_PAGE:,} bytes")
-    part.same("the most pages of an upload", pages, str(ours.MOST_PAGES))
-    part.check("the limit of a body", f"it is over {ours.MOST_BODY:,} bytes" in text, ours.MOST_BODY)
-    part.check("the length of a media type", limits["a media type"].startswith("1 to 100 bytes"), limits)
+    limits = {row[0]: row[1] for row in rows_of(text, "| Thing | Limit | Beyond it | Constant |")}
+    part.same("the limit of a page", limits["a page"], f"{ours.MOST_PAGE:,} bytes")
+    part.same("the most pages of an upload", limits["pages of one upload"], str(ours.MOST_PAGES))
+    part.same("the limit of a body", limits["a body"], f"{ours.MOST_BODY:,} bytes")
+    part.check("the length of a media type", limits["TYPE"].startswith("1 to 100 bytes"), limits)
     long = [media for media in ours.TYPES.values() if len(media + "; charset=utf-8") > 100]
     part.same("media types that are longer", long, [])
-    refusals = rows_of(text, "| N | Name | When | Over HTTP |")
-    over_http = {int(row[0]): row[1].strip("`") for row in refusals if row[3].rstrip("| ")}
+    refusals = rows_of(text, "| Refused | What is wrong | Over HTTP |")
+    over_http = {int(number): name for number, name in (row[0].strip("`").split() for row in refusals if row[2])}
     known = {number: name for number, (name, _) in ours.REFUSALS.items()}
     part.same("the refusals of a push or an upload", known, over_http)
-    when = {row[1].strip("`"): row[2] for row in refusals}
-    path, key = when["BadPath"], when["BadToken"]
+    path, key = limits["PATH"], limits["PASS, WKEY; KEY"]
     part.check("the length of a path", f"1 to {ours.MOST_PATH} bytes, no control byte" in path, path)
     part.check("a retry key", "1 to 64 bytes" in key and re.fullmatch("[0-9a-f]{64}", ours.key_of(b"a", b"b")), key)
     by_number = [over_http.get(number) for number in (ours.NO_LANG, ours.INACTIVE, ours.STORE, ours.OUT_OF_MEMORY)]
