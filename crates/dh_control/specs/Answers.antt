@@ -13,10 +13,11 @@ use Rattle.dh_script.specs.declared.fault.RunFault.TheVariants.{Write}
 use Rattle.dh_script.specs.declared.fault.ScriptFault.{ScriptFault}
 use Rattle.dh_script.specs.declared.fault.ScriptFault.TheVariants.{Run}
 use Rattle.dh_world.specs.World.{Text, World}
-use Rattle.dh_control.specs.Messages.{most_message, is_nul, body_of, behind, words_mark, script_mark, words_message, script_message}
+use Rattle.dh_control.specs.Messages.{is_nul, body_of, behind, words_mark, script_mark, words_message, script_message}
 use Rattle.dh_control.specs.Ends.{end_of, end_line}
 use Rattle.dh_control.specs.declared.end.End.{End}
 use Rattle.dh_control.specs.declared.end.End.TheVariants.{Unknown}
+use Rattle.dh_control.specs.declared.message.TheConstants.{MOST_MESSAGE_BYTES}
 
 -- an order was performed, what it prints was written, with LF, and the end says whether it was refused; after a fault it was
 -- done or was not
@@ -71,7 +72,7 @@ HasLastLine held now ended result =
 -- the fault says why a source was not read as a message, by what the source had left
 abbrev pub IsMessageUnread : Option Text → Result End ScriptFault → Type 0
 IsMessageUnread left (Ok end) = ⊥
-IsMessageUnread left (Err fault) = IfSome left (IsCauseOver most_message fault)
+IsMessageUnread left (Err fault) = IfSome left (IsCauseOver MOST_MESSAGE_BYTES fault)
 
 -- what a source had left was done as a message; or it was not read, and nothing was done or printed
 abbrev pub TakesMessage : ℕ → Option Text → World → World → Option Text → Option Text → Result End ScriptFault → Type 0

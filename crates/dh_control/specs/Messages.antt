@@ -1,21 +1,8 @@
 -- What a client sends to a server.
-use Rattle.std.specs.Prelude.{ℕ, ◌+◌, ◌-◌, ◌==◌, Bool, List, [], ◌∷◌, ◌++◌, Option, Some, None}
+use Rattle.std.specs.Prelude.{ℕ, ◌-◌, ◌==◌, Bool, List, [], ◌∷◌, ◌++◌, Option, Some, None}
 use Rattle.std.specs.Prelude.{length, take, drop, slice_index, codes, nat_eq, if◌then◌else◌}
 use Rattle.std.specs.List.{join_by, starts_with}
 use Rattle.dh_world.specs.World.{Text}
-use Rattle.dh_ports.specs.declared.intake.TheConstants.{MOST_READS, READ_SIZE}
-use Rattle.dh_control.specs.declared.message.TheConstants.{MOST_MESSAGE_BYTES}
-
--- the most bytes of a message
-abbrev pub most_message : ℕ
-most_message = MOST_MESSAGE_BYTES
-
--- the most reads of a message, and the most bytes that these reads take
-abbrev pub most_reads : ℕ
-most_reads = MOST_READS
-
-abbrev pub most_taken : ℕ
-most_taken = MOST_MESSAGE_BYTES + READ_SIZE
 
 -- the byte that ends a message; it stands in no text
 abbrev pub end_byte : ℕ

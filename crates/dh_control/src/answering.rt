@@ -11,13 +11,12 @@ ghost use Rattle.dh_script.specs.Running.{RunsScript, stopped_by_writer};
 ghost use Rattle.dh_script.specs.Script.{is_unread};
 ghost use Rattle.dh_control.specs.Answers.{AnswersMessage, DoesBody, DoesMessage, DoesOne, DoesScript, DoesSent, DoesWords, HasLastLine, TakesMessage};
 ghost use Rattle.dh_control.specs.Ends.{end_line};
-ghost use Rattle.dh_control.specs.Messages.{most_reads, most_taken};
 
 use crate::end::{End, end_name, end_number, end_of};
 use crate::message::{MOST_MESSAGE_BYTES, SCRIPT, WORDS, behind, body_of, words_of};
 use dh_desk::Desk;
 use dh_lines::{LineFault, Order, line_of};
-use dh_ports::{Port, Sink, Source, put_both};
+use dh_ports::{MOST_READS, Port, READ_SIZE, Sink, Source, put_both};
 use dh_script::{Report, RunFault, ScriptFault, perform_single, read_script, run_script};
 use sqlite::Alter;
 use std::alloc::Global;
@@ -209,8 +208,9 @@ fn take_message<S: Alter, R: Source, W: Sink>(
         (W.held sink.old) (W.held sink.new) result) }
     ensures read_fault { R.broken source.new ≡ true → reader_failed result ≡ true }
     ensures broken { W.broken sink.new ≡ writer_failed result }
-    ensures taken { TookAtMost (R.left source.old) (R.left source.new) most_taken }
-    ensures reads { CountsUpTo (R.fills source.old) (R.fills source.new) most_reads }
+    ensures taken { TookAtMost (R.left source.old) (R.left source.new)
+        (MOST_MESSAGE_BYTES + READ_SIZE) }
+    ensures reads { CountsUpTo (R.fills source.old) (R.fills source.new) MOST_READS }
 {
     match read_script(alloc, source, MOST_MESSAGE_BYTES) {
         Ok(message) => do_message(alloc, desk, message.as_slice(), sink, now),
@@ -237,8 +237,9 @@ pub fn answer_message<S: Alter, R: Source, W: Sink>(
     ensures read_fault { R.broken source.new ≡ true
         → (reader_failed result || writer_failed result) ≡ true }
     ensures write_fault { W.broken sink.new ≡ writer_failed result }
-    ensures taken { TookAtMost (R.left source.old) (R.left source.new) most_taken }
-    ensures reads { CountsUpTo (R.fills source.old) (R.fills source.new) most_reads }
+    ensures taken { TookAtMost (R.left source.old) (R.left source.new)
+        (MOST_MESSAGE_BYTES + READ_SIZE) }
+    ensures reads { CountsUpTo (R.fills source.old) (R.fills source.new) MOST_READS }
 {
     let ended = take_message(alloc, desk, source, sink, now);
     tell_end(sink, ended)

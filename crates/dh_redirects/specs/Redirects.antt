@@ -36,13 +36,9 @@ abbrev pub is_absolute : List ℕ → Bool
 is_absolute target =
     begins_with_host (rest_after (codes "http://") target) || begins_with_host (rest_after (codes "https://") target)
 
--- the most bytes of From and of To
-abbrev pub most_text : ℕ
-most_text = MOST_REDIRECT_BYTES
-
 -- short enough, no control byte
 abbrev pub is_short_text : List ℕ → Bool
-is_short_text text = nat_le (length text) most_text && list_all is_no_control text
+is_short_text text = nat_le (length text) MOST_REDIRECT_BYTES && list_all is_no_control text
 
 abbrev pub ends_in_star : List ℕ → Bool
 ends_in_star source = last_byte source == star

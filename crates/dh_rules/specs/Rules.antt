@@ -62,15 +62,11 @@ after_rules rules fresh =
       chosen = fresh.chosen || list_any sets_default actions;
     }
 
--- the most bytes of a custom pattern's text
-abbrev pub most_expression : ℕ
-most_expression = MOST_EXPRESSION_BYTES
-
 -- a custom text is short enough to be kept
 abbrev pub is_short : Pattern → Bool
 is_short All = true
 is_short SemVer = true
-is_short (Custom text) = nat_le (length text) most_expression
+is_short (Custom text) = nat_le (length text) MOST_EXPRESSION_BYTES
 
 -- a custom text is an expression
 abbrev pub is_readable : Pattern → Bool
@@ -86,7 +82,7 @@ is_allowed pattern = is_short pattern && is_readable pattern
 abbrev pub AnswersUnasked : Pattern → Result ⊤ CheckFault → Type 0
 AnswersUnasked All answer = IsOk answer
 AnswersUnasked SemVer answer = IsOk answer
-AnswersUnasked (Custom text) answer = most_expression < length text → answer ≡ Err BadPattern
+AnswersUnasked (Custom text) answer = MOST_EXPRESSION_BYTES < length text → answer ≡ Err BadPattern
 
 -- at this place, from 1, stands a rule of the kind with a custom pattern
 abbrev pub IsCustomAt : List Rule → Kind → ℕ → Type 0

@@ -23,10 +23,6 @@ abbrev pub writer_failed : {A : Type 0} → Result A ScriptFault → Bool
 writer_failed (Ok value) = false
 writer_failed (Err fault) = is_write fault
 
--- the most bytes of a script
-abbrev pub most_script : ℕ
-most_script = MOST_SCRIPT_BYTES
-
 -- what the fault says of an input, of which at most this many bytes may be read
 abbrev pub IsCauseOver : ℕ → ScriptFault → List ℕ → Type 0
 IsCauseOver most TooLong input = most < length input
@@ -38,8 +34,8 @@ IsCauseOver most (Run fault) input = ⊤
 
 -- what the fault says of the input of a script
 abbrev pub IsCause : ScriptFault → List ℕ → Type 0
-IsCause = IsCauseOver most_script
+IsCause = IsCauseOver MOST_SCRIPT_BYTES
 
 -- a script: UTF-8, of at most 1,048,576 bytes
 abbrev pub IsScript : List ℕ → Type 0
-IsScript input = IsUtf8 input × (length input ≤ most_script)
+IsScript input = IsUtf8 input × (length input ≤ MOST_SCRIPT_BYTES)

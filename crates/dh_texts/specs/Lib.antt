@@ -1,5 +1,4 @@
 pub mod Bytes
-pub mod Lengths
 pub mod Texts
 pub mod SlugOfName
 pub mod Numbers

@@ -3,7 +3,7 @@ use Rattle.std.specs.Prelude.{◌≡◌, ◌⊎◌, ℕ, Option, Some, None, ◌
 use Rattle.std.specs.List.{list_all, slice_split, starts_with}
 use Rattle.std.specs.Str.{bytes_eq}
 use Rattle.dh_texts.specs.Bytes.{dash, dot, slash, underscore, tilde, delete}
-use Rattle.dh_texts.specs.Lengths.{most_host_name, most_lang, most_ref_name, most_slug, most_page_path, most_token}
+use Rattle.dh_texts.specs.declared.lengths.TheConstants.{MOST_HOST_BYTES, MOST_LANG_BYTES, MOST_REF_BYTES, MOST_SLUG_BYTES, MOST_PATH_BYTES, MOST_TOKEN_BYTES}
 use Rattle.dh_texts.specs.declared.fault.TextFault.{TextFault}
 use Rattle.dh_texts.specs.declared.fault.TextFault.TheVariants.{Memory}
 
@@ -38,7 +38,7 @@ is_host_byte b = is_lower b || is_digit b || b == dot || b == dash
 
 -- a host's name: 1 to 253 of `a-z 0-9 . -`, the first and the last a letter or digit
 abbrev pub is_host_name : List ℕ → Bool
-is_host_name text = is_within 1 most_host_name is_host_byte text && is_lower_or_digit (first_byte text) && is_lower_or_digit (last_byte text)
+is_host_name text = is_within 1 MOST_HOST_BYTES is_host_byte text && is_lower_or_digit (first_byte text) && is_lower_or_digit (last_byte text)
 
 -- `a-z 0-9 -`
 abbrev pub is_lang_byte : ℕ → Bool
@@ -46,11 +46,11 @@ is_lang_byte b = is_lower b || is_digit b || b == dash
 
 -- a language: 2 to 16 of `a-z 0-9 -`, the first a letter, the last not `-`; not `page`
 abbrev pub is_lang : List ℕ → Bool
-is_lang text = is_within 2 most_lang is_lang_byte text && is_lower (first_byte text) && not (last_byte text == dash) && not (bytes_eq text (codes "page"))
+is_lang text = is_within 2 MOST_LANG_BYTES is_lang_byte text && is_lower (first_byte text) && not (last_byte text == dash) && not (bytes_eq text (codes "page"))
 
 -- the name of a branch or a tag: 1 to 255 bytes, no control byte
 abbrev pub is_ref_name : List ℕ → Bool
-is_ref_name text = is_within 1 most_ref_name is_no_control text
+is_ref_name text = is_within 1 MOST_REF_BYTES is_no_control text
 
 -- `a-z 0-9 . _ -`
 abbrev pub is_slug_byte : ℕ → Bool
@@ -58,7 +58,7 @@ is_slug_byte b = is_lower b || is_digit b || b == dot || b == underscore || b ==
 
 -- a version's slug: 1 to 128 of `a-z 0-9 . _ -`, the first a letter or digit
 abbrev pub is_slug : List ℕ → Bool
-is_slug text = is_within 1 most_slug is_slug_byte text && is_lower_or_digit (first_byte text)
+is_slug text = is_within 1 MOST_SLUG_BYTES is_slug_byte text && is_lower_or_digit (first_byte text)
 
 -- not empty, not `.`, not `..`
 abbrev pub is_segment : List ℕ → Bool
@@ -74,7 +74,7 @@ segments path = slice_split (λ b. b == slash) path
 
 -- the path of a page in its version: 1 to 512 bytes, no control byte, each part between slashes a segment
 abbrev pub is_page_path : List ℕ → Bool
-is_page_path text = is_within 1 most_page_path is_no_control text && list_all is_segment (segments text)
+is_page_path text = is_within 1 MOST_PATH_BYTES is_no_control text && list_all is_segment (segments text)
 
 -- `A-Z a-z 0-9 - . _ ~`
 abbrev pub is_token_byte : ℕ → Bool
@@ -82,7 +82,7 @@ is_token_byte b = (nat_le 65 b && nat_le b 90) || is_lower b || is_digit b || b 
 
 -- a pass or a key: 1 to 64 of `A-Z a-z 0-9 - . _ ~`
 abbrev pub is_token : List ℕ → Bool
-is_token text = is_within 1 most_token is_token_byte text
+is_token text = is_within 1 MOST_TOKEN_BYTES is_token_byte text
 
 -- a text that passes is answered as it is, or refused as out of memory; one that does not pass is refused by its kind
 abbrev pub ParsesText : (List ℕ → Bool) → TextFault → List ℕ → Result (List ℕ) TextFault → Type 0

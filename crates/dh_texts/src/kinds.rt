@@ -9,6 +9,10 @@ ghost use Rattle.dh_texts.specs.declared.fault.TextFault.TheVariants.{BadHost, B
 use crate::checked::{Checked, Kind};
 use crate::classes::{all_no_control, first_of, last_of, lower_or_digit};
 use crate::fault::TextFault;
+use crate::lengths::{
+    MOST_HOST_BYTES, MOST_LANG_BYTES, MOST_PATH_BYTES, MOST_REF_BYTES, MOST_SLUG_BYTES,
+    MOST_TOKEN_BYTES,
+};
 
 /// The name of a host, as `docs.example.org`: 1 to 253 bytes, `a-z 0-9 . -`, the first and the last a letter or digit.
 pub type HostName = Checked<HostNames>;
@@ -50,7 +54,7 @@ impl Kind for HostNames {
     fn passes(text: &str) -> bool {
         let bytes = text.as_bytes();
         1 <= bytes.len()
-            && bytes.len() <= 253
+            && bytes.len() <= MOST_HOST_BYTES
             && all_host(bytes)
             && lower_or_digit(first_of(bytes))
             && lower_or_digit(last_of(bytes))
@@ -81,7 +85,7 @@ impl Kind for Langs {
     fn passes(text: &str) -> bool {
         let bytes = text.as_bytes();
         2 <= bytes.len()
-            && bytes.len() <= 16
+            && bytes.len() <= MOST_LANG_BYTES
             && all_lang(bytes)
             && matches!(first_of(bytes), b'a'..=b'z')
             && last_of(bytes) != b'-'
@@ -104,7 +108,7 @@ impl Kind for RefNames {
 
     fn passes(text: &str) -> bool {
         let bytes = text.as_bytes();
-        1 <= bytes.len() && bytes.len() <= 255 && all_no_control(bytes)
+        1 <= bytes.len() && bytes.len() <= MOST_REF_BYTES && all_no_control(bytes)
     }
 
     fn refusal() -> TextFault {
@@ -129,7 +133,10 @@ impl Kind for Slugs {
 
     fn passes(text: &str) -> bool {
         let bytes = text.as_bytes();
-        1 <= bytes.len() && bytes.len() <= 128 && all_slug(bytes) && lower_or_digit(first_of(bytes))
+        1 <= bytes.len()
+            && bytes.len() <= MOST_SLUG_BYTES
+            && all_slug(bytes)
+            && lower_or_digit(first_of(bytes))
     }
 
     fn refusal() -> TextFault {
@@ -160,7 +167,10 @@ impl Kind for PagePaths {
 
     fn passes(text: &str) -> bool {
         let bytes = text.as_bytes();
-        1 <= bytes.len() && bytes.len() <= 512 && all_no_control(bytes) && all_segments(bytes)
+        1 <= bytes.len()
+            && bytes.len() <= MOST_PATH_BYTES
+            && all_no_control(bytes)
+            && all_segments(bytes)
     }
 
     fn refusal() -> TextFault {
@@ -187,7 +197,7 @@ impl Kind for Tokens {
 
     fn passes(text: &str) -> bool {
         let bytes = text.as_bytes();
-        1 <= bytes.len() && bytes.len() <= 64 && all_token(bytes)
+        1 <= bytes.len() && bytes.len() <= MOST_TOKEN_BYTES && all_token(bytes)
     }
 
     fn refusal() -> TextFault {

@@ -5,6 +5,7 @@ pub mod checked;
 mod classes;
 pub mod fault;
 pub mod kinds;
+pub mod lengths;
 pub mod numbers;
 pub mod slug;
 pub mod text;
