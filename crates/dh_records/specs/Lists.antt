@@ -207,7 +207,7 @@ routes_replaced host routes rows =
 abbrev pub granted : GrantRow → List GrantRow → List GrantRow
 granted row rows = if list_any (is_held row.host row.pass row.slug) rows then rows else added coding.held.key row rows
 
--- the answer that a row keeps; of a text that is no answer's it is `Done`, which no call keeps
+-- the answer that a row keeps; `Done`, which no call keeps, where its text is no answer's, as no row of a sound file has it
 abbrev pub kept_answer : RetryRow → Answer
 kept_answer r = unwrap_or (answer_of r.answer) Done
 

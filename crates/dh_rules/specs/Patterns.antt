@@ -33,7 +33,7 @@ MatchesName All name = Unit {0}
 MatchesName SemVer name = IsSemVer name
 MatchesName (Custom text) name = IsFoundIn text name
 
--- whether the pattern matches the name, as a test that computes
+-- the pattern matches the name of a branch or tag, as a test that code can run
 abbrev pub is_match : Pattern → List ℕ → Bool
 is_match All name = true
 is_match SemVer name = is_semver_name name

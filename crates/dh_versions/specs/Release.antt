@@ -36,7 +36,7 @@ IsReleaseOf kind name n = (kind ≡ Tag) × ((build : List ℕ) × IsSemVerOf na
 abbrev pub semver_parts : List ℕ → Option Parts
 semver_parts name = result_ok (version_parts (without_v name))
 
--- whether the name is SemVer, as a test that computes
+-- whether the name is SemVer, as a test that code can run
 abbrev pub is_semver_name : List ℕ → Bool
 is_semver_name name = is_some (semver_parts name)
 
@@ -45,7 +45,7 @@ abbrev pub released : Option Parts → Option Numbers
 released None = None
 released (Some p) = if length p.3 == 0 then Some (p.0, p.1, p.2) else None
 
--- the release numbers of a tag, as a function that computes; a branch has none
+-- the release numbers of a tag, as a function that code can run; a branch has none
 abbrev pub release_of : Kind → List ℕ → Option Numbers
 release_of Branch name = None
 release_of Tag name = released (semver_parts name)

@@ -63,18 +63,20 @@ held_cmp = pair_cmp text_cmp text_cmp
 pub record Project : Type 0 where
   -- the main one first
   pub languages : List Text
+  -- the name of the default branch
   pub branch : Text
   -- whether a new version is private
   pub new_private : Bool
   -- the write key
   pub wkey : Text
+  -- by slug
   pub versions : FinMap text_cmp Version
   pub pages : FinMap page_cmp Page
   -- slugs and names of aliases, the newest first
   pub defaults : List Text
   -- to each pass the second at which it ends, or none
   pub passes : FinMap text_cmp (Option ℕ)
-  -- a pass and the slug of a version that it opens
+  -- the grants: a pass, and the slug of a version that it opens
   pub held : FinSet held_cmp
   -- the first answer to each retry key
   pub used : FinMap used_cmp Answer
