@@ -53,7 +53,7 @@ module _ (db after : Database) (spares : SparesAll db after) where
   has_on : {X : Type 0} (t : Table) (c : Coding X) (P : X → Type 0) (xs : List X) → Has t c P db xs → Has t c P after xs
   has_on t c P xs it =
       let o = spares t it.0 in
-      (o.0, record { rows = subst (IsTableOf c) (sym o.1) it.1.rows; records_in_rows = ap (records_in_rows c) o.1 ∙ it.1.records; typed = it.1.typed })
+      (o.0, record { rows = subst (IsTableOf c) (sym o.1) it.1.rows; records = ap (records_in_rows c) o.1 ∙ it.1.records; typed = it.1.typed })
 
   all_on : (l : Lists) → HasAll db l → HasAll after l
   all_on l it = record {
@@ -156,7 +156,7 @@ none : {X : Type 0} (c : Coding X) → IsTableOf c []
 none c = record { coded = tt; apart = tt; keyed = tt }
 
 bare : {X : Type 0} (t : Table) (c : Coding X) (P : X → Type 0) (db : Database) → StandsInSchema db.schema t × (rows_of db t.name ≡ []) → Has t c P db []
-bare t c P db it = (it.0, record { rows = subst (IsTableOf c) (sym it.1) (none c); records_in_rows = ap (records_in_rows c) it.1; typed = tt })
+bare t c P db it = (it.0, record { rows = subst (IsTableOf c) (sym it.1) (none c); records = ap (records_in_rows c) it.1; typed = tt })
 
 -- what they have then
 record Got (before after : Database) : Type 0 where
@@ -244,14 +244,14 @@ module _ (before between : Database) (old : IsOld before) (it : IsConverted (old
   kept : {X : Type 0} (t : Table) (c : Coding X) (P : X → Type 0) (xs : List X) → Apart t → Has t c P before xs → Has t c P between xs
   kept t c P xs apart was =
       let o = it.others t was.0 apart.0 apart.1 in
-      (o.0, record { rows = subst (IsTableOf c) (sym o.1) was.1.rows; records_in_rows = ap (records_in_rows c) o.1 ∙ was.1.records; typed = was.1.typed })
+      (o.0, record { rows = subst (IsTableOf c) (sym o.1) was.1.rows; records = ap (records_in_rows c) o.1 ∙ was.1.records; typed = was.1.typed })
 
   old_have : HasAll between (old_lists_of before)
   old_have =
       let s = old.kept.spelled in
       let alone = old.tables.alone in
       record {
-        number = (it.meta.stands, record { rows = it.meta.rows; records_in_rows = it.number; typed = (lit≤ tt, tt) });
+        number = (it.meta.stands, record { rows = it.meta.rows; records = it.number; typed = (lit≤ tt, tt) });
         projects = kept project_table coding.projects IsProject _ are_apart.1.1.0 (alone.1.1.1.0.stands, s.projects);
         langs = kept lang_table coding.langs IsLanguage _ are_apart.1.1.1.0 (alone.1.1.1.1.0.stands, s.langs);
         versions = kept version_table coding.versions IsVersion _ are_apart.1.1.1.1.0 (alone.1.1.1.1.1.0.stands, s.versions);
@@ -262,7 +262,7 @@ module _ (before between : Database) (old : IsOld before) (it : IsConverted (old
           it.keeps.stands,
           record {
             rows = it.keeps.rows;
-            records_in_rows = it.passes;
+            records = it.passes;
             typed = all_map IsPass without_end _ (all_weaker IsOldPass (λ x. IsPass (without_end x)) (λ x typed. record { host = typed.host; pass = typed.pass; until = tt }) _ old.passes.typed);
           },
         );

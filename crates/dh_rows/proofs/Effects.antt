@@ -148,7 +148,7 @@ trees_apart schema t u s v apart e =
 pub record TurnsTable (t : Table) {X : Type 0} (c : Coding X) (change : List X → List X) (db after : Database) : Type 0 where
   pub schema : after.schema ≡ db.schema
   pub keeps : KeepsTable t c after
-  pub records_in_rows : records_of c t.name after ≡ change (records_of c t.name db)
+  pub records : records_of c t.name after ≡ change (records_of c t.name db)
   pub others : (u : Table) → StandsInSchema db.schema u → same_name u.name t.name ≡ false → rows_of after u.name ≡ rows_of db u.name
 
 -- another table of ours is as it was
@@ -166,7 +166,7 @@ turned t c change db after stands same others is are =
     record {
       schema = same;
       keeps = record { stands = subst (λ s. StandsInSchema s t) (sym same) stands; rows = subst (IsTableOf c) (sym (tree t.name)) is };
-      records_in_rows = ap (records_in_rows c) (tree t.name) ∙ are;
+      records = ap (records_in_rows c) (tree t.name) ∙ are;
       others = λ u s apart. tree u.name ∙ others u s apart;
     }
 
