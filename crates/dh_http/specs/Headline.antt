@@ -23,7 +23,7 @@ read_bytes moment world host pass read head = reply_bytes_of (read_reply moment 
 abbrev pub IsUnavailable : List ℕ → Type 0
 IsUnavailable text = (head : Bool) × (text ≡ reply_bytes_of unavailable head)
 
--- where the input is a read request, the bytes are those of its reply in this world, or a 503 where no reply could be made
+-- where the input is a read request, the bytes are those of its reply in this world, or those of a 503
 abbrev pub AnswersRead : ℕ → World → List ℕ → List ℕ → Type 0
 AnswersRead moment world input text =
     (host pass : Option (List ℕ)) (read : Read) (head : Bool)

@@ -1,4 +1,6 @@
 //! One request over a desk: it is read, done, and answered.
+//!
+//! What is promised of a read request is the clause `headline` of `answer`, by `specs/Headline.antt`.
 #![tactic(auto)]
 
 mod answering;

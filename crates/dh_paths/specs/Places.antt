@@ -7,6 +7,7 @@ use Rattle.dh_paths.specs.declared.place.Split.TheVariants as code
 use Rattle.dh_texts.specs.Bytes.{slash}
 use Rattle.dh_texts.specs.Texts.{segments}
 
+-- What a path names: `/`, `/robots.txt`, `/_/rest`, `/page/rest`, `/lang/name`, `/lang/name/rest`, or nothing of these.
 pub data Place : Type 0 where
   Root : Place
   Robots : Place

@@ -61,7 +61,7 @@ fn pattern_refused(place: usize) -> Refusal
     }
 }
 
-/// What the rules make of a fresh version.
+/// Applies the automation rules of the project to the new version of a pushed branch or tag.
 fn run_rules(alloc: Global, rules: &[Rule], fresh: Fresh) -> Result<Fresh, Refusal>
     ensures { RunsRules rules.now fresh result }
 {

@@ -30,7 +30,8 @@ use Rattle.dh_records.specs.declared.records.AliasName.TheVariants as alias
 use Rattle.dh_world.specs.declared.operation.Operation.{Operation}
 use Rattle.dh_world.specs.declared.operation.Operation.TheVariants.{Push, Upload}
 
--- a list for each table, in the order of its keys
+-- A list for each table, in the order of its keys: `used` has the answers to retry keys, `picks` the defaults, `held` the
+-- grants. `aliases` and `routes` are derived from the others, and the world is made without them.
 pub record Lists : Type 0 where
   pub projects : List ProjectRow
   pub langs : List LangRow

@@ -16,7 +16,7 @@ is_named name field = str_eq_ignore_ascii_case field.0 name
 abbrev pub values_named : List ℕ → List NameAndValue → List (List ℕ)
 values_named name fields = map (λ field. field.1) (filter (is_named name) fields)
 
--- the value of a line that may stand once, if it stands; undefined where there are two or more
+-- the value of a line that may stand once: `Some None` where no such line stands, `None` where two or more do
 abbrev pub at_most_one : List (List ℕ) → Option (Option (List ℕ))
 at_most_one [] = Some None
 at_most_one (value ∷ []) = Some (Some value)

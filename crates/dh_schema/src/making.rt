@@ -27,7 +27,8 @@ const ROUTES: &str =
 /// Where the parts of a table stand, with `pass` as the example: the statement here; its meaning, `pass_table` of
 /// `specs/Tables.antt`; its record, `PassRow` of `dh_records` (`records.rt`), with its columns (`specs/Codings.antt`), its values
 /// (`values.rt`) and how it is read (`reading.rt`); its typed calls (`tables/passes.rt` of `dh_tables`); its shape in a file that
-/// is opened (`shapes.rt` of `dh_opening`); and the constraints of its rows (`specs/Constraints.antt` of `dh_records`).
+/// is opened (`shapes.rt` of `dh_opening`); and the constraints of its rows (`specs/Constraints.antt` of `dh_records`). The key of
+/// a coding is the order of the list; for `lang` and `pick` that is not the PRIMARY KEY.
 const TABLES: [&str; 13] = [
     "CREATE TABLE meta (schema INTEGER NOT NULL) STRICT",
     ALIASES,

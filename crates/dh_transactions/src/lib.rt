@@ -3,7 +3,8 @@
 //! command is accepted.
 //!
 //! The way of a command, crate by crate, with `add-pass` as the example. `dh_lines` reads the words into a
-//! `CommandChange` (`add_pass` of its `lines.rt`). `dh_desk` hands the command to `run_transaction`, here. `dh_checks` checks its
+//! `CommandChange` (`add_pass` of its `lines.rt`). `dh_script` hands the command to `Desk::apply` of `dh_desk`, and that to
+//! `run_transaction`, here. `dh_checks` checks its
 //! texts and makes a `CheckedChange` (`check`). `dh_plans` says what the command asks of the project (`questions_of`),
 //! `dh_facts` looks that up as `Facts` (`look`), and `dh_decisions` decides on a `Plan` of `Edit`s, or refuses (`decide`; pushes
 //! are decided in `dh_pushes`). `dh_edits` makes each edit (`make_edit`), which writes a row of `dh_records` by a typed call of

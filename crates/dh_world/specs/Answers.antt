@@ -65,7 +65,7 @@ named_in name d =
 abbrev pub answer_in : Data → Option Answer
 answer_in d = option_and_then (λ name. named_in name d) (text_at (codes "answer") d)
 
--- the answer that a kept text tells
+-- the first answer to a retry key, from the JSON text that is kept of it
 abbrev pub answer_of : List ℕ → Option Answer
 answer_of text = option_and_then answer_in (read text)
 
