@@ -7,4 +7,4 @@ pub mod replies;
 
 pub use copies::copied;
 pub use key::Key;
-pub use replies::{MOST_BODY, MOST_REPLIES, Replies};
+pub use replies::{MOST_KEPT_BYTES, MOST_REPLIES, Replies};

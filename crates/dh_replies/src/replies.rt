@@ -3,7 +3,7 @@ ghost use Rattle.std.specs.Prelude.{◌≡◌, ◌<◌, ◌≤◌, [], length, I
 ghost use Rattle.dh_world.specs.World.{World};
 ghost use Rattle.dh_classes.specs.Replies.{reply_for};
 ghost use Rattle.dh_replies.specs.Kept.{AreRepliesRight, question_of};
-ghost use Rattle.dh_replies.specs.declared.replies.TheConstants.{MOST_BODY, MOST_REPLIES};
+ghost use Rattle.dh_replies.specs.declared.replies.TheConstants.{MOST_KEPT_BYTES, MOST_REPLIES};
 
 use crate::copies::copied;
 use crate::key::Key;
@@ -16,7 +16,7 @@ use std::num::NonZeroUsize;
 pub const MOST_REPLIES: usize = 256;
 
 /// A reply whose body has more bytes is not kept.
-pub const MOST_BODY: usize = 65_536;
+pub const MOST_KEPT_BYTES: usize = 65_536;
 
 /// The replies to the questions that were asked last. Where there are too many, the reply that was asked for longest
 /// ago is dropped.
@@ -75,9 +75,9 @@ impl Replies {
     pub fn keep(&mut self, alloc: Global, key: Key, reply: &Reply)
         ensures right { (w : World) → AreRepliesRight w self.old.entries
             → reply.now ≡ reply_for w (question_of key) → AreRepliesRight w self.new.entries }
-        ensures large { MOST_BODY < length reply.now.body → self.new ≡ self.old }
+        ensures large { MOST_KEPT_BYTES < length reply.now.body → self.new ≡ self.old }
     {
-        if reply.body.as_slice().len() > MOST_BODY {
+        if reply.body.as_slice().len() > MOST_KEPT_BYTES {
             return;
         }
         if let Ok(copy) = copied(alloc, reply) {
