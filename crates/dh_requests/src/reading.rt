@@ -25,7 +25,7 @@ use std::alloc::Global;
 type Taken = Result<Request, Stop>;
 
 /// The command that a body asks for, or the refusal of a body that asks for none.
-#[tactic(auto, unfolding(crate::specs::Request::command_of))]
+#[tactic(auto, unfolding(crate::specs::Request::posted_command))]
 fn command_of(alloc: Global, posted: Posted, body: &[u8]) -> Taken
     ensures request { IfOk result (λ r. r ≡ request.posted_command posted body.now) }
     ensures err { IfErr result (λ stop. stop ≡ Stop.Memory) }

@@ -14,15 +14,15 @@ pub returns-then-not-branch-clause-end : goal.returns-then-not-branch-clause-end
 returns-then-not-branch-clause-end g c =
     cut_short _ _ _ c.pieces.intake.bytes.items _ c.pieces.seen c.pieces.scan _ c.pieces.invariant.seen c.if-seen-eq-MOST_HEAD_BYTES.false c.pieces.invariant.taken c.pieces.invariant.scanned c.in_ok-more.ensures.adds c.if-not-branch.true
 
-pub returns-then-scan-gt-MOST_LINES-clause-end : goal.returns-then-scan-gt-MOST_LINES-clause-end
-returns-then-scan-gt-MOST_LINES-clause-end g c =
+pub returns-then-scan-gt-MOST_HEAD_LINES-clause-end : goal.returns-then-scan-gt-MOST_HEAD_LINES-clause-end
+returns-then-scan-gt-MOST_HEAD_LINES-clause-end g c =
     let cut = λ (w : List ℕ). take (c.min-limit.result - c.pieces.seen) (drop c.pieces.seen w) in
-    many_lines _ _ _ (found_at _ _ _ c.pieces.intake.bytes.items c.more.new.self.bytes.items (cut c.deref.result.now) c.pieces.seen c.min-limit.result _ _ c.pieces.scan _ c.pieces.invariant.seen (search rules) (ap cut c.deref.ensures.value) c.pieces.invariant.taken c.pieces.invariant.scanned c.in_ok-more.ensures.adds c.in-Some.ensures.found.1) c.if-scan-gt-MOST_LINES.true
+    many_lines _ _ _ (found_at _ _ _ c.pieces.intake.bytes.items c.more.new.self.bytes.items (cut c.deref.result.now) c.pieces.seen c.min-limit.result _ _ c.pieces.scan _ c.pieces.invariant.seen (search rules) (ap cut c.deref.ensures.value) c.pieces.invariant.taken c.pieces.invariant.scanned c.in_ok-more.ensures.adds c.in-Some.ensures.found.1) c.if-scan-gt-MOST_HEAD_LINES.true
 
 pub returns-in-Some-clause-end : goal.returns-in-Some-clause-end
 returns-in-Some-clause-end g c =
     let cut = λ (w : List ℕ). take (c.min-limit.result - c.pieces.seen) (drop c.pieces.seen w) in
-    few_lines _ _ _ (found_at _ _ _ c.pieces.intake.bytes.items c.more.new.self.bytes.items (cut c.deref.result.now) c.pieces.seen c.min-limit.result _ _ c.pieces.scan _ c.pieces.invariant.seen (search rules) (ap cut c.deref.ensures.value) c.pieces.invariant.taken c.pieces.invariant.scanned c.in_ok-more.ensures.adds c.in-Some.ensures.found.1) c.if-scan-gt-MOST_LINES.false
+    few_lines _ _ _ (found_at _ _ _ c.pieces.intake.bytes.items c.more.new.self.bytes.items (cut c.deref.result.now) c.pieces.seen c.min-limit.result _ _ c.pieces.scan _ c.pieces.invariant.seen (search rules) (ap cut c.deref.ensures.value) c.pieces.invariant.taken c.pieces.invariant.scanned c.in_ok-more.ensures.adds c.in-Some.ensures.found.1) c.if-scan-gt-MOST_HEAD_LINES.false
 
 pub pieces-preserved : goal.pieces-preserved
 pieces-preserved g c =
@@ -45,7 +45,7 @@ pub returns-in-Some-clause-text : goal.returns-in-Some-clause-text
 returns-in-Some-clause-text g c =
     let cut = λ (w : List ℕ). take (c.min-limit.result - c.pieces.seen) (drop c.pieces.seen w) in
     let piece = ap cut c.deref.ensures.value in
-    text_at _ _ c.pieces.intake.bytes.items c.more.new.self.bytes.items (cut c.deref.result.now) c.pieces.seen c.min-limit.result c.in-Some.n _ c.pieces.scan _ c.pieces.invariant.seen (search rules) piece c.pieces.invariant.scanned c.in_ok-more.ensures.adds c.in-Some.ensures.found.0 c.in-Some.ensures.found.1 c.if-scan-gt-MOST_LINES.false
+    text_at _ _ c.pieces.intake.bytes.items c.more.new.self.bytes.items (cut c.deref.result.now) c.pieces.seen c.min-limit.result c.in-Some.n _ c.pieces.scan _ c.pieces.invariant.seen (search rules) piece c.pieces.invariant.scanned c.in_ok-more.ensures.adds c.in-Some.ensures.found.0 c.in-Some.ensures.found.1 c.if-scan-gt-MOST_HEAD_LINES.false
 
 pub returns-in_err-more-clause-takes : goal.returns-in_err-more-clause-takes
 returns-in_err-more-clause-takes g c =
@@ -58,8 +58,8 @@ returns-in_err-more-clause-takes g c =
       reads = counts_on _ _ _ _ _ _ c.pieces.invariant.asked c.in_err-more.ensures.reads (omega arith);
     })
 
-pub returns-then-scan-gt-MOST_LINES-clause-takes : goal.returns-then-scan-gt-MOST_LINES-clause-takes
-returns-then-scan-gt-MOST_LINES-clause-takes g c = record {
+pub returns-then-scan-gt-MOST_HEAD_LINES-clause-takes : goal.returns-then-scan-gt-MOST_HEAD_LINES-clause-takes
+returns-then-scan-gt-MOST_HEAD_LINES-clause-takes g c = record {
   needed = needed_on OpenHead _ _ _ _ _ _ _ c.pieces.invariant.taken (open_head _ _ _ c.pieces.invariant.seen c.if-seen-eq-MOST_HEAD_BYTES.false c.pieces.invariant.scanned) c.in_ok-more.ensures.adds;
   broken = c.in_ok-more.ensures.broken;
   turns = λ full. absurd (cc);
@@ -84,12 +84,12 @@ pub returns-then-not-branch-clause-found : goal.returns-then-not-branch-clause-f
 returns-then-not-branch-clause-found g c =
     cut_short_alone _ _ c.pieces.intake.bytes.items _ c.pieces.seen c.pieces.scan _ c.pieces.invariant.seen c.if-seen-eq-MOST_HEAD_BYTES.false c.pieces.invariant.scanned c.in_ok-more.ensures.adds c.if-not-branch.true
 
-pub returns-then-scan-gt-MOST_LINES-clause-found : goal.returns-then-scan-gt-MOST_LINES-clause-found
-returns-then-scan-gt-MOST_LINES-clause-found g c =
+pub returns-then-scan-gt-MOST_HEAD_LINES-clause-found : goal.returns-then-scan-gt-MOST_HEAD_LINES-clause-found
+returns-then-scan-gt-MOST_HEAD_LINES-clause-found g c =
     let cut = λ (w : List ℕ). take (c.min-limit.result - c.pieces.seen) (drop c.pieces.seen w) in
-    many_lines (Some c.more.new.self.bytes.items) _ _ (found_alone _ _ c.pieces.intake.bytes.items c.more.new.self.bytes.items (cut c.deref.result.now) c.pieces.seen c.min-limit.result _ _ c.pieces.scan _ c.pieces.invariant.seen (search rules) (ap cut c.deref.ensures.value) c.pieces.invariant.scanned c.in_ok-more.ensures.adds c.in-Some.ensures.found.1) c.if-scan-gt-MOST_LINES.true
+    many_lines (Some c.more.new.self.bytes.items) _ _ (found_alone _ _ c.pieces.intake.bytes.items c.more.new.self.bytes.items (cut c.deref.result.now) c.pieces.seen c.min-limit.result _ _ c.pieces.scan _ c.pieces.invariant.seen (search rules) (ap cut c.deref.ensures.value) c.pieces.invariant.scanned c.in_ok-more.ensures.adds c.in-Some.ensures.found.1) c.if-scan-gt-MOST_HEAD_LINES.true
 
 pub returns-in-Some-clause-found : goal.returns-in-Some-clause-found
 returns-in-Some-clause-found g c =
     let cut = λ (w : List ℕ). take (c.min-limit.result - c.pieces.seen) (drop c.pieces.seen w) in
-    few_lines (Some c.more.new.self.bytes.items) _ _ (found_alone _ _ c.pieces.intake.bytes.items c.more.new.self.bytes.items (cut c.deref.result.now) c.pieces.seen c.min-limit.result _ _ c.pieces.scan _ c.pieces.invariant.seen (search rules) (ap cut c.deref.ensures.value) c.pieces.invariant.scanned c.in_ok-more.ensures.adds c.in-Some.ensures.found.1) c.if-scan-gt-MOST_LINES.false
+    few_lines (Some c.more.new.self.bytes.items) _ _ (found_alone _ _ c.pieces.intake.bytes.items c.more.new.self.bytes.items (cut c.deref.result.now) c.pieces.seen c.min-limit.result _ _ c.pieces.scan _ c.pieces.invariant.seen (search rules) (ap cut c.deref.ensures.value) c.pieces.invariant.scanned c.in_ok-more.ensures.adds c.in-Some.ensures.found.1) c.if-scan-gt-MOST_HEAD_LINES.false
