@@ -20,8 +20,8 @@ returns-in_err-back g c = record {
   lasts = search rules;
 }
 
-pub run-requires : goal.run-requires
-run-requires g c = record {
+pub run_transaction-requires : goal.run_transaction-requires
+run_transaction-requires g c = record {
   outside = λ honest. (c.in_ok-back.ensures.undone.done honest).mode;
   settled = λ honest. let it = c.in_ok-back.ensures.undone.done honest in it.now_is ∙ sym it.last_is;
   consistent = λ honest. subst AreConsistent (sym (c.in_ok-back.ensures.undone.done honest).last_is) (c.requires (c.back.ensures.goes.lasts.was honest));
@@ -30,14 +30,14 @@ run-requires g c = record {
 pub returns : goal.returns
 returns g c = record {
   steps = λ honest.
-      let h1 = c.run.ensures.lasts.was honest in
-      let P : Lists → Type 0 = λ l. TakesStep l (last_records g.S.Store c.run.new.tables) c.args.command.now c.run.result in
-      subst P (c.in_ok-back.ensures.undone.done h1).last_is (c.run.ensures.steps honest);
-  outside = c.run.ensures.outside;
-  crash = step_after g.S.Store c.args.tables.now c.back.new.self c.run.new.tables c.args.command.now c.back.ensures.goes.lasts.was c.back.ensures.quiet c.back.ensures.goes.kept c.run.ensures.lasts.clean c.run.ensures.crash;
+      let h1 = c.run_transaction.ensures.lasts.was honest in
+      let P : Lists → Type 0 = λ l. TakesStep l (last_records g.S.Store c.run_transaction.new.tables) c.args.command.now c.run_transaction.result in
+      subst P (c.in_ok-back.ensures.undone.done h1).last_is (c.run_transaction.ensures.steps honest);
+  outside = c.run_transaction.ensures.outside;
+  crash = step_after g.S.Store c.args.tables.now c.back.new.self c.run_transaction.new.tables c.args.command.now c.back.ensures.goes.lasts.was c.back.ensures.quiet c.back.ensures.goes.kept c.run_transaction.ensures.lasts.clean c.run_transaction.ensures.crash;
   refused =
-      refused_after g.S.Store c.args.tables.now c.back.new.self c.run.new.tables c.run.result c.back.ensures.quiet
-      c.run.ensures.lasts.clean c.run.ensures.refused;
-  live = c.run.ensures.live;
-  lasts = lasts_on c.back.ensures.goes.lasts c.run.ensures.lasts;
+      refused_after g.S.Store c.args.tables.now c.back.new.self c.run_transaction.new.tables c.run_transaction.result c.back.ensures.quiet
+      c.run_transaction.ensures.lasts.clean c.run_transaction.ensures.refused;
+  live = c.run_transaction.ensures.live;
+  lasts = lasts_on c.back.ensures.goes.lasts c.run_transaction.ensures.lasts;
 }
