@@ -1,6 +1,6 @@
 //! One message: read, done and answered.
 
-ghost use Rattle.std.specs.Prelude.{◌≡◌, ◌||◌, true, false, is_err, map, string_bytes, Some, OnOk};
+ghost use Rattle.std.specs.Prelude.{◌≡◌, ◌+◌, ◌||◌, true, false, is_err, map, string_bytes, Some, OnOk};
 ghost use Rattle.std.specs.Io.KnownBytes.{Appends};
 ghost use Rattle.dh_desk.specs.Desk.{WorldGoesBy};
 ghost use Rattle.dh_lines.specs.Lines.{line_in};

@@ -1,6 +1,6 @@
 //! Scripts: lines of commands and reads, one after another.
 
-ghost use Rattle.std.specs.Prelude.{◌≡◌, true, false, map, string_bytes, Some, IfOk, IfErr};
+ghost use Rattle.std.specs.Prelude.{◌≡◌, ◌+◌, true, false, map, string_bytes, Some, IfOk, IfErr};
 ghost use Rattle.std.specs.Prelude.{IfSome, IsErrOf, OnOk, OnErr, [], ◌∷◌, ◌++◌};
 ghost use Rattle.dh_ports.specs.Ports.{CountsAtLeast, CountsUpTo};
 ghost use Rattle.dh_desk.specs.Desk.{WorldGoesBy};
@@ -17,7 +17,7 @@ use crate::reading::read_script;
 use crate::report::Report;
 use dh_desk::Desk;
 use dh_lines::{Line, LineFault, docs_command, line_by};
-use dh_ports::{MOST_READS, Sink, Source, Stop, put_all};
+use dh_ports::{MOST_READS, READ_SIZE, Sink, Source, Stop, put_all};
 use sqlite::Alter;
 use std::alloc::{AllocError, Global};
 
@@ -239,7 +239,8 @@ pub fn run_script<S: Alter, R: Source, W: Sink>(
     ensures ran { WorldGoesBy S.Store desk.old desk.new
         (λ before after. RunsScript now (R.left source.old) before after
         (W.held sink.old) (W.held sink.new) result) }
-    ensures taken { TookAtMost (R.left source.old) (R.left source.new) 1052672 }
+    ensures taken { TookAtMost (R.left source.old) (R.left source.new)
+        (MOST_SCRIPT_BYTES + READ_SIZE) }
     ensures reads { CountsUpTo (R.fills source.old) (R.fills source.new) MOST_READS }
     ensures full { IsErrOf result (ScriptFault.Unread Stop.TooManyTurns)
         → CountsAtLeast (R.fills source.old) (R.fills source.new) MOST_READS }
