@@ -21,6 +21,11 @@ def read(root, name):
         return file.read()
 
 
+def version(root=ROOT):
+    """The line of the file VERSION, which the program says too."""
+    return read(root, "VERSION").decode().strip()
+
+
 def crates_below(root, name):
     """This crate and each of the repository below it, by crates.txt."""
     rows = [line.partition(":") for line in read(root, "crates.txt").decode().splitlines() if not line.startswith("#")]

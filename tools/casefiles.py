@@ -6,6 +6,7 @@ Writes the input of a case, as a script of tests/scripts, to standard output.
 """
 
 import re
+import shlex
 import sys
 from pathlib import Path
 from typing import NamedTuple
@@ -180,6 +181,14 @@ class Run:
     @property
     def status(self):
         return int(self.lines["="][-1])
+
+    def words(self):
+        """What the environment names, in front of the words, and the words."""
+        words, named = shlex.split(self.text), {}
+        while words and re.match("[A-Z][A-Z_]*=", words[0]):
+            name, _, value = words.pop(0).partition("=")
+            named[name] = value
+        return named, words
 
 
 def read_commands(path):

@@ -1,4 +1,4 @@
-"""Words, lines and scripts: docs/SCRIPTS.md, and docs/definitions.md, 'Words and lines' and 'Scripts'."""
+"""Words, lines and scripts: docs/SCRIPTS.md, and the specs of crates/dh_lines and crates/dh_script."""
 
 import redirects
 import replies

@@ -1,4 +1,4 @@
-"""What words list of a world: docs/SCRIPTS.md, 'What a file holds', and docs/definitions.md, 'ListingTexts'."""
+"""What words list of a world: docs/SCRIPTS.md, 'What a file holds', and the specs of crates/dh_listings."""
 
 import texts
 import world as worlds

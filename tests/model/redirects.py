@@ -1,4 +1,4 @@
-"""Redirects: docs/definitions.md, 'Redirects', and docs/SCRIPTS.md."""
+"""Redirects: the specs of crates/dh_redirects, and docs/SCRIPTS.md."""
 
 import re
 from typing import NamedTuple, Optional

@@ -1,4 +1,4 @@
-"""HTTP requests and their replies: docs/definitions.md, 'Requests', 'Answers to requests' and 'Bodies of POST'."""
+"""HTTP requests and their replies: the specs of crates/dh_requests, crates/dh_http and crates/dh_bodies."""
 
 import base64
 import binascii

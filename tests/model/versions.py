@@ -1,4 +1,4 @@
-"""Versions, release numbers, aliases and automation rules: docs/definitions.md, 'Versions' and 'Automation rules'."""
+"""Versions, release numbers, aliases and automation rules: the specs of crates/dh_versions and crates/dh_rules."""
 
 import re
 from dataclasses import dataclass

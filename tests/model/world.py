@@ -1,4 +1,4 @@
-"""The world and its steps: docs/definitions.md, 'The world and its steps', and the refusals of docs/SCRIPTS.md."""
+"""The world and its steps: crates/dh_world/specs, and the refusals of docs/SCRIPTS.md."""
 
 from dataclasses import dataclass, field, replace
 from typing import NamedTuple, Optional

@@ -50,7 +50,7 @@ class Page:
         self.process = subprocess.Popen(line, stdin=quiet, stdout=quiet, stderr=quiet, pass_fds=(ours[0], theirs[1]))
         os.close(ours[0])
         os.close(theirs[1])
-        self.number, self.left, self.session = 0, b"", None
+        self.number, self.left, self.session, self.events = 0, b"", None, []
         target = self.ask("Target.createTarget", url="about:blank")["targetId"]
         self.session = self.ask("Target.attachToTarget", targetId=target, flatten=True)["sessionId"]
 
@@ -67,6 +67,8 @@ class Page:
                 if "error" in message:
                     raise Broken(f"{method}: {message['error']}")
                 return message["result"]
+            if "method" in message:
+                self.events.append((message["method"], message["params"]))
 
     def message(self, end):
         """The next message of the browser."""
@@ -87,6 +89,24 @@ class Page:
         """What an expression is in the page; None where it fails, as while a page loads."""
         answer = self.ask("Runtime.evaluate", expression=expression, returnByValue=True)
         return None if "exceptionDetails" in answer else answer["result"].get("value")
+
+    def view(self, address, settled="document.readyState === 'complete'"):
+        """Opens a page, and gives what came over the network for it: the paths, and all bytes of head and body.
+
+        What the browser has kept comes from nowhere, and has no byte."""
+        self.ask("Network.enable")
+        self.events.clear()
+        self.open(address)
+        self.wait_for(settled)
+        before = -1
+        while len(self.events) != before:
+            before = len(self.events)
+            time.sleep(0.7)
+            self.value("1")
+        urls = {told["requestId"]: told["request"]["url"] for name, told in self.events if name == "Network.requestWillBeSent"}
+        ended = [told for name, told in self.events if name == "Network.loadingFinished"]
+        fetched = [told for told in ended if told["encodedDataLength"] and told["requestId"] in urls]
+        return [urls[told["requestId"]] for told in fetched], sum(int(told["encodedDataLength"]) for told in fetched)
 
     def wait_for(self, expression, seconds=TIME_LIMIT):
         """The first value of an expression that counts as true, or the last one when the time is over."""

@@ -50,7 +50,8 @@ def is_listening(port):
 
 
 def of_sites(part, sites):
-    """A whole configuration of nginx with a file of its conf.d."""
+    """A whole configuration of nginx with a file of its conf.d; the replies that it keeps go into the part's folder."""
+    sites = sites.replace("/var/cache/docs_host_replies", part.path("replies"))
     Path(part.path("sites.conf")).write_text(sites)
     return f"events {{}}\nhttp {{\n    include {part.path('sites.conf')};\n}}\n"
 

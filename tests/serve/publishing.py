@@ -393,7 +393,7 @@ def scripts(part, server):
         return
     folder = site_of(part, "scripts", script_site("first"))
     ended = once(folder, url_of(server), "--replace")
-    ends(part, "scripts in parts", ended, 0, "big.js goes up in 2 parts, with a loader", "none differs")
+    ends(part, "scripts in parts", ended, 0, "and goes up in 2 parts, with a loader", "none differs")
     with browser.Page(HOST, server.port, part.room) as page:
         runs_scripts(part, page, "first")
         parts = [server.get(target(f"big.js.part-a{number}"), HOST)[1] for number in (1, 2)]
@@ -659,21 +659,19 @@ def away(part):
 
 
 def readme(part):
-    """The lines of README that publish the example, but for the server's own."""
-    lines = [line.strip() for line in (hosts.ROOT / "README.md").read_text().splitlines() if line.startswith("    ")]
-    first = next(place for place, line in enumerate(lines) if line.startswith("./docs_host init "))
-    given = lines[first : first + 5]
-    good = " serve " in given[3] and given[4].startswith("tools/publish ")
-    part.check("README: a server, and then the tool", good, given)
-    store = part.path("site.db")
-    for line in given[:3]:
-        words = line.replace("site.db", store).split()[1:]
-        part.same(f"README: {line}", hosts.run(part.program, *words).returncode, 0)
-    with part.serve(store) as server:
-        line = given[4].replace("http://127.0.0.1:8080", url_of(server))
-        ended = subprocess.run(line.split(), cwd=hosts.ROOT, capture_output=True, encoding="utf-8", timeout=60)
-        ends(part, f"README: {given[4]}", ended, 0, "read back 5 of 5, none differs")
-        part.same("README: the site's address", server.get("/", "localhost")[0], 302)
+    """The lines of README that serve and publish the example, as they stand there but for the port."""
+    below = (hosts.ROOT / "README.md").read_text().split("## A site in a browser\n")[1]
+    lines = re.search(r"(?:^    .*\n)+", below, re.MULTILINE)[0].replace("8080", str(hosts.free_port()))
+    room = Path(part.path("readme"))
+    room.mkdir()
+    for name, place in (("docs_host", part.program), ("examples", hosts.ROOT / "examples"), ("tools", hosts.ROOT / "tools")):
+        (room / name).symlink_to(place)
+    script = f"{lines}./docs_host get localhost / --store site.db\nkill $!\n"
+    given = {"cwd": room, "capture_output": True, "encoding": "utf-8", "timeout": hosts.TIME_LIMIT}
+    ended = subprocess.run(["bash", "-e", "-c", script], stdin=subprocess.DEVNULL, **given)
+    part.check("README: a site in a browser", ended.returncode == 0 and "read back 5 of 5, none differs" in ended.stderr, ended)
+    part.check("README: the site's address", "\n302 /en/latest/ 0\n" in ended.stdout, ended.stdout)
+    part.check("README: in five lines", len(lines.splitlines()) == 5, lines)
 
 
 def block_of(title, language, document="publish.md"):

@@ -1,6 +1,6 @@
 """The recipes of docs/recipes.md, run as they stand there: the part `recipes` of tests/serve/run.
 
-Rules and a job, cookies in nginx and Caddy, a menu, moves from elsewhere, held requests, copies of a held server, the unit."""
+Rules and a job, cookies in nginx and Caddy, moves from elsewhere, held requests, copies of a held server, the unit."""
 
 import base64
 import json
@@ -29,7 +29,7 @@ READ = "read back 2 of 2, none differs"
 
 
 def recipes(part):
-    for recipe in (project, behind_nginx, behind_caddy, menu, mike, netlify, read_the_docs):
+    for recipe in (project, behind_nginx, behind_caddy, mike, netlify, read_the_docs):
         recipe(part)
     for recipe in (held_by_caddy, away_behind_nginx, not_found, snapshots, unit):
         recipe(part)
@@ -210,36 +210,6 @@ def behind_caddy(part):
             private.reads("Caddy", port)
         with through(whole.replace("\troute {", "\thandle {").replace("docs_pass={pass_of_user}", f"docs_pass={PASS}")):
             private.tells_everybody("Caddy, without `route`", port)
-
-
-# ---- a menu of versions
-
-
-def menu(part):
-    [script] = blocks("A menu of versions", "js")
-    part.check("the menu has at most ten lines", script.count("\n") <= 10, script)
-    project = Project(part, "menu.docs", HOST)
-    page = '<!doctype html><script src="/en/latest/versions.js" defer></script><p>text'
-    texts = {"index.html": page, "versions.js": script}
-    main = site_of(part, "menu-main", {**texts, "guide/index.html": page})
-    publish_versions(part, project, {"branch:main": main, "tag:v1.0.0": site_of(part, "menu-1", texts)})
-    with project.serve() as server:
-        told = json.loads(fetch(server.port, "/_/versions")[2])
-        slugs = [*told["aliases"], *(it["slug"] for it in told["versions"])]
-        part.same("what the menu is made from", slugs, ["latest", "stable", "main", "v1.0.0"])
-        part.same("HEAD of the same page there", fetch(server.port, "/en/v1.0.0/guide/", method="HEAD")[0], 404)
-        if not browser.program():
-            part.skip("there is no chromium, so no browser shows the menu")
-            return
-        with browser.Page(HOST, server.port, part.room) as page:
-            page.open(f"http://{HOST}/en/latest/guide/")
-            shown = page.wait_for("[...document.querySelectorAll('select option')].map((it) => it.value).join(' ')")
-            part.same("the menu", shown, " ".join(slugs))
-            part.same("what is chosen in it", page.value("document.querySelector('select').value"), "latest")
-            for slug, place in (("main", "/en/main/guide/"), ("v1.0.0", "/en/v1.0.0/")):
-                page.value(f"document.querySelector('select').value = '{slug}', document.querySelector('select').onchange(), 1")
-                page.wait_for(f"location.pathname === '{place}' && document.querySelector('select')")
-                part.same(f"from the menu to {slug}", page.value("location.pathname"), place)
 
 
 # ---- from elsewhere
@@ -506,7 +476,8 @@ def away_behind_nginx(part):
     own = reply_bytes(503, b'{"refused":23}')
     with Relay(behind, lambda path, pages: own) as relay:
         with fronts.nginx(part, fronts.of_sites(part, text.replace("8101", str(relay.server_address[1]))), port):
-            part.same("nginx: a 503 of the program", fetch(port, "/")[::2], (503, b'{"refused":23}'))
+            part.same("nginx: a 503 of the program", fetch(port, "/en/other/")[::2], (503, b'{"refused":23}'))
+            part.same("nginx: what it has is shown in its place", fetch(port, "/")[0], 302)
 
 
 # ---- the 404 page of MkDocs
@@ -522,7 +493,7 @@ def not_found(part):
     recipe.write("# Kettle")
     for page in recipe.repository.glob("docs/**/*.html"):
         page.rename(page.with_suffix(".md"))
-    (recipe.repository / "docs" / "versions.js").write_text(blocks("A menu of versions", "js")[0])
+    (recipe.repository / "docs" / "versions.js").write_text((DEPLOY / "versions.js").read_text())
     menu = "extra_javascript: [versions.js]\n"
     given = recipe.project, recipe.repository / "site"
     recipe.project.command(f"push {HOST} {KEY} k0 branch main")
@@ -558,10 +529,8 @@ def shows_menu(part, project, folder):
         return
     with project.serve() as server, browser.Page(HOST, server.port, part.room) as page:
         page.open(f"http://{HOST}/en/main/guide/")
-        place = page.wait_for("(it => it && JSON.stringify(it.getBoundingClientRect()))(document.querySelector('select'))")
-        part.check("MkDocs: the menu is in the page", place, place)
-        over = "(it => document.elementFromPoint(it.x + 5, it.y + 5).tagName)(document.querySelector('select').getBoundingClientRect())"
-        part.same("MkDocs: nothing stands over it", page.value(over), "SELECT")
+        shown = page.wait_for("document.querySelector('#docs-versions-menu').shadowRoot.querySelector('summary').innerText")
+        part.same("MkDocs: the menu is in the page", shown, "main")
 
 
 # ---- snapshots as backups

@@ -1,10 +1,12 @@
 """The archive of tools/release, and how ./docs_host finds its program: the part `release` of tests/serve/run.
 
-The archive runs with nothing beside it; a program counts as built only from the present text, by the same toolchain; refusals."""
+The archive runs with nothing beside it, checks itself, and has no dead link; all tools say the version that the program says; a
+program counts as built only from the present text, by the same toolchain; refusals."""
 
 import hashlib
 import http.client
 import os
+import re
 import resource
 import shutil
 import subprocess
@@ -20,7 +22,14 @@ from host import ROOT, Server, free_port, make, run
 HOST, KEY = "docs.example.org", "wkey-1"
 
 # What of the checkout a copy of it needs.
-COPIED = ["crates.txt", "HANDLES", "README.md", ".gitignore", "docs_host", "crates", "deploy", "docs", "examples", "tools"]
+COPIED = ["CHANGELOG.md", "HANDLES", "LICENSE-APACHE", "LICENSE-MIT", "README.md", "VERSION", "crates.txt", ".gitignore"]
+COPIED += ["docs_host", "crates", "deploy", "docs", "examples", "tests", "tools"]
+
+VERSION = (ROOT / "VERSION").read_text()
+
+# The tools that say the version: those of the archive, and those of a checkout alone.
+TOLD = ["behaviour", "export", "import-project", "publish"]
+TOLD_HERE = ["build", "release"]
 
 # Stands for the toolchain. It proves nothing: its program is a copy of the one that PROGRAM names. MEANWHILE is a command that
 # it runs while it builds.
@@ -108,16 +117,36 @@ class Checkout:
 
 def release(part):
     checkout = Checkout(part)
+    versions(part, checkout)
     named(part, checkout)
     unbuilt(part, checkout)
     sums(part, checkout)
     meanwhile(part, checkout)
     refusals(part, checkout)
     folder = archive(part)
+    whole(part, folder)
     unpacked(part, folder)
     unit(part, folder)
     nginx(part, folder)
     caddy(part, folder)
+
+
+# The version
+
+
+def versions(part, checkout):
+    """The program, the tools and the list of changes have the version of the file VERSION."""
+    part.same("the version of the program", run(part.program, "--version").stdout, VERSION)
+    for name in TOLD + TOLD_HERE:
+        ended = checkout(f"tools/{name}", "--version")
+        part.same(f"the version of tools/{name}", (ended.returncode, ended.stdout, ended.stderr), (0, VERSION, ""))
+    ended = checkout("docs_host", "--version")
+    part.same("the version where no program is built", (ended.returncode, ended.stdout), (0, VERSION))
+    newest = re.search(r"^## (\S+)$", (ROOT / "CHANGELOG.md").read_text(), re.M)
+    part.same("the newest version of CHANGELOG.md", f"docs_host {newest and newest[1]}\n", VERSION)
+    alone = Path(part.path("alone-publish"))
+    shutil.copy2(ROOT / "tools" / "publish", alone)
+    part.same("a copy of tools/publish of a checkout", run(alone, "--version").stdout, "docs_host of no known version\n")
 
 
 # ./docs_host: which program it runs
@@ -261,6 +290,15 @@ def refusals(part, checkout):
         ended = checkout("tools/release")
         part.check(f"the gate over {commit}", f".ci/run: {says}" in ended.stderr, ended)
     shutil.rmtree(made)
+    for file, more, says in (
+        ("VERSION", "docs_host 0.0.0\n", "VERSION has 'docs_host 0.0.0'"),
+        ("VERSION", "docs_host\n", "names no version"),
+        ("docs/SCRIPTS.md", "[none](none.md)\n", "docs/SCRIPTS.md links to docs/none.md"),
+    ):
+        (checkout.root / file).write_text(more)
+        checkout.git("commit", "--all", "--message", "test")
+        refused(says, says)
+        checkout.git("reset", "--hard", "HEAD~1")
     (checkout.root / "crates.txt").open("a").write("# more\n")
     checkout.git("commit", "--all", "--message", "test")
     refused("a program of another text", "not of the present text")
@@ -292,11 +330,54 @@ def archive(part):
     wrong = [name for name in rows if hashlib.sha256((folder / name).read_bytes()).hexdigest() != rows[name]]
     part.same("files with another sum", wrong, [])
     part.same("the program", (folder / "docs_host").read_bytes(), Path(part.program).read_bytes())
-    part.check("VERSION", (folder / "VERSION").read_text().startswith("docs_host "), (folder / "VERSION").read_text())
-    tools = "tools/publish", "tools/export", "tools/import-project"
-    for name in ("README.md", "CHECK", "docs/operations.md", "docs/SCRIPTS.md", "deploy/nginx.conf", *tools):
+    number = VERSION.split()[1]
+    part.check("it is named by the version", folder.name.startswith(f"docs_host-{number}-"), folder.name)
+    told = (folder / "VERSION").read_text()
+    part.check("VERSION", told.startswith(f"{VERSION.strip()} ("), told)
+    documents = "README.md", "CHANGELOG.md", "LICENSE-APACHE", "LICENSE-MIT", "CHECK", "docs/operations.md", "docs/SCRIPTS.md"
+    for name in (*documents, "deploy/nginx.conf", *(f"tools/{it}" for it in TOLD)):
         part.check(f"the archive has {name}", name in there, sorted(there))
     return folder
+
+
+LINK, HEADING = re.compile(r"\]\((?!\w+:)([^()\s#]*)(?:#([^()\s]*))?\)"), re.compile(r"^#+ (.*)$", re.M)
+
+
+def headings(document):
+    """The names by which links find the headings of a document."""
+    return {re.sub(r"[^\w -]", "", it.lower()).replace(" ", "-") for it in HEADING.findall(document.read_text())}
+
+
+def dead_links(folder):
+    """The links of its documents that lead to no file of the folder, or to no heading."""
+    for document in sorted(folder.rglob("*.md")):
+        for path, heading in LINK.findall(document.read_text()):
+            to = Path(os.path.normpath(document.parent / path)) if path else document
+            if not to.is_relative_to(folder) or not to.exists() or heading and heading not in headings(to):
+                yield f"{document.relative_to(folder)}: {path}#{heading}"
+
+
+def whole(part, folder):
+    """The archive has no dead link, its tools say its version wherever they are copied to, and it checks itself."""
+    part.same("dead links", list(dead_links(folder)), [])
+    part.check("links are found", len(list(LINK.finditer((folder / "docs" / "operations.md").read_text()))) > 5)
+    told, alone = (folder / "VERSION").read_text(), Path(part.path("copied"))
+    for name in TOLD:
+        part.same(f"the version of the archive's tools/{name}", run(folder / "tools" / name, "--version").stdout, told)
+    shutil.copy2(folder / "tools" / "publish", alone)
+    part.same("the version of a copy of tools/publish", run(alone, "--version").stdout, told)
+    files = [file for name in ("commands", "requests", "scripts") for file in (ROOT / "tests" / name).rglob("*") if file.is_file()]
+    files += [ROOT / "tools" / "behaviour", ROOT / "tools" / "casefiles.py"]
+    others = [str(file) for file in files if not is_same(file, folder / file.relative_to(ROOT))]
+    part.same("cases that the archive lacks, or has otherwise", others, [])
+    words = "tools/behaviour", "--program", "./docs_host", "examples", "commands/help", "scripts/versions", "requests/hosts"
+    ended = subprocess.run(words, cwd=folder, capture_output=True, encoding="utf-8", timeout=600)
+    last = ended.stdout.splitlines()[-1:]
+    part.check("some cases of the archive", ended.returncode == 0 and last and last[0].endswith(" passed, 0 failed"), ended)
+
+
+def is_same(file, other):
+    return other.is_file() and file.read_bytes() == other.read_bytes()
 
 
 def unpacked(part, folder):
@@ -337,7 +418,7 @@ def unit(part, folder):
     program, *words = line.removeprefix("ExecStart=").split()
     store, port = part.path("unit.docs"), free_port()
     make(part.program, store)
-    words = [{"/var/lib/docs_host/docs.db": store, "8101": str(port)}.get(word, word) for word in words]
+    words = [{"${DOCS_STORE}": store, "${DOCS_PORT}": str(port), "$DOCS_LOG": "--log"}.get(word, word) for word in words]
     process = subprocess.Popen([part.program, *words], stdin=subprocess.DEVNULL, stdout=subprocess.PIPE, stderr=subprocess.DEVNULL)
     part.same("the unit's command", process.stdout.readline(), f"listening 127.0.0.1:{port}\n".encode())
     process.kill()

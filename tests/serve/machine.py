@@ -1,0 +1,96 @@
+"""A machine of its own for tests/serve/run: systemd as the first process of namespaces, over this system's files.
+
+What it writes stands in memory, and is gone with it. It takes root, overlays, and a systemd that is installed."""
+
+import os
+import shutil
+import signal
+import subprocess
+import time
+from pathlib import Path
+
+from parts import Skip
+
+BOOT = """
+set -e
+mount -t tmpfs tmpfs "$1"
+mkdir "$1/upper" "$1/work" "$1/root"
+mount -t overlay overlay -o "lowerdir=/,upperdir=$1/upper,workdir=$1/work" "$1/root"
+cd "$1/root"
+mount -t proc proc proc
+mount -t sysfs sysfs sys
+mount -t cgroup2 cgroup2 sys/fs/cgroup
+for it in run tmp dev; do mount -t tmpfs tmpfs $it; done
+for it in null zero full random urandom tty; do mknod -m 666 dev/$it c $(stat -c '0x%t 0x%T' /dev/$it); done
+mkdir dev/pts dev/shm dev/mqueue
+mount -t devpts -o ptmxmode=666 devpts dev/pts
+mount -t tmpfs tmpfs dev/shm
+ln -s pts/ptmx dev/ptmx
+ln -s /proc/self/fd dev/fd
+for it in systemd-udevd systemd-udev-trigger systemd-networkd nginx caddy apache2; do ln -sf /dev/null etc/systemd/system/$it.service; done
+# What a container's image may have, so that an installation starts nothing; and what takes long.
+rm -f usr/sbin/policy-rc.d var/lib/man-db/auto-update
+mkdir -p before
+pivot_root . before
+umount -l before
+exec env -i container=docs_host PATH=/usr/sbin:/usr/bin:/sbin:/bin /lib/systemd/systemd --unit=basic.target --show-status=no
+"""
+
+SPACES = ["--mount", "--pid", "--net", "--uts", "--ipc", "--cgroup"]
+SECONDS = 600
+
+
+class Machine:
+    """A running system, in which words are run as root."""
+
+    def __init__(self, part):
+        if os.getuid() != 0:
+            raise Skip("a machine of its own takes root")
+        for tool in ("unshare", "nsenter", "pivot_root", "systemctl"):
+            if not shutil.which(tool):
+                raise Skip(f"there is no {tool}, so there is no machine")
+        room = Path(part.path("machine"))
+        room.mkdir()
+        self.told = open(part.path("boot"), "wb")
+        line = ["unshare", *SPACES, "--fork", "--kill-child", "bash", "-c", BOOT, "boot", room]
+        self.process = subprocess.Popen(line, stdin=subprocess.DEVNULL, stdout=self.told, stderr=self.told, start_new_session=True)
+        self.first = None
+
+    def wait(self):
+        """Waits until it has begun; what it said where it does not."""
+        end = time.monotonic() + SECONDS
+        while time.monotonic() < end and self.process.poll() is None:
+            children = Path(f"/proc/{self.process.pid}/task/{self.process.pid}/children").read_text().split()
+            if children and Path(f"/proc/{children[0]}/comm").read_text() == "systemd\n":
+                self.first = children[0]
+                if self.run("systemctl", "is-system-running").stdout.strip() in ("running", "degraded"):
+                    return
+            time.sleep(0.2)
+        said = Path(self.told.name).read_text(errors="replace").strip().splitlines()[-2:]
+        raise Skip(f"no systemd begins in a namespace here: {said}")
+
+    def run(self, *words, given=None, **more):
+        """Runs words in it."""
+        told = {"PATH": "/usr/sbin:/usr/bin:/sbin:/bin", "DEBIAN_FRONTEND": "noninteractive", "HOME": "/root", **more}
+        line = ["nsenter", "--target", self.first, *SPACES, "--root", "--wd", "env", "-i"]
+        line += [*(f"{name}={text}" for name, text in told.items()), *words]
+        texts = {"capture_output": True, "encoding": "utf-8", "errors": "replace"}
+        return subprocess.run(line, input=given or "", timeout=SECONDS, **texts)
+
+    def path(self, path):
+        """Where a path of the machine stands here."""
+        return Path(f"/proc/{self.first}/root") / path.lstrip("/")
+
+    def __enter__(self):
+        try:
+            self.wait()
+        except BaseException:
+            self.__exit__()
+            raise
+        return self
+
+    def __exit__(self, *_):
+        # (its processes end with the first one)
+        self.process.send_signal(signal.SIGKILL)
+        self.process.wait()
+        self.told.close()
