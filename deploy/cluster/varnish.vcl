@@ -16,11 +16,13 @@ probe front {
 backend front1 {
     .host = "10.77.0.11";
     .port = "8100";
+    .connect_timeout = 1s;
     .probe = front;
 }
 backend front2 {
     .host = "10.77.0.12";
     .port = "8100";
+    .connect_timeout = 1s;
     .probe = front;
 }
 
@@ -69,6 +71,11 @@ sub vcl_recv {
     return (hash);
 }
 
+sub vcl_backend_fetch {
+    # A connection that was kept to a machine that is gone would be waited on.
+    set bereq.http.Connection = "close";
+}
+
 sub vcl_backend_response {
     # (what is kept already stays)
     if (beresp.status >= 500) {
@@ -89,6 +96,10 @@ sub vcl_backend_response {
 }
 
 sub vcl_backend_error {
+    # The other front is asked.
+    if (bereq.retries == 0) {
+        return (retry);
+    }
     return (abandon);
 }
 

@@ -349,7 +349,11 @@ class Cluster:
         for name in CACHES:
             self.machines[name].plug()
         wait_until(lambda: all(row[17] == "UP" for row in self.stats("caches").values()))
+        # (each cache has just asked it, too)
+        for number in range(12):
+            fetch(SECOND, host_of(number), Cache_Control="no-cache")
         self.machines["front1"].unplug()
+        part.same("front1 is gone: the next reads", {fetch(SECOND, host_of(number), Cache_Control="no-cache").status for number in range(6)}, {200})
         if fronts.has(part, "curl", "tries the second address of a name"):
             begun = time.monotonic()
             both = f"{host_of(1)}:80:{FRONT},{SECOND}"

@@ -179,7 +179,7 @@ def later(part, built, version):
         file = root / "DEBIAN" / name
         file.write_text(re.sub(r"(?m)^(Version: |version=).*$", rf"\g<1>{version}", file.read_text()))
     path = Path(part.path(f"docs-host_{version}.deb"))
-    ended = once("dpkg-deb", "--root-owner-group", "-Zgzip", "--build", root, path)
+    ended = once("dpkg-deb", "--root-owner-group", "-Znone", "--build", root, path)
     part.check(f"the package {version}", ended.returncode == 0, ended)
     return path
 
@@ -208,8 +208,9 @@ def installed(part, machine, built):
     ended = machine.run(*line, "--host", HOST, "--lang", "en", "--version", "main", DOCS_KEY=KEY)
     part.check("docs_host-publish", ended.returncode == 0 and "read back 5 of 5, none differs" in ended.stderr, ended)
     part.check("a page is served", "<h1>" in page(machine), page(machine))
-    export = machine.run("systemctl", "stop", "docs_host"), as_user(machine, "docs_host-export", HOST, "/tmp/export", "--store", STORE)
-    part.check("docs_host-export", export[1].returncode == 0, export[1])
+    machine.run("systemctl", "stop", "docs_host")
+    ended = as_user(machine, "docs_host-export", HOST, "/tmp/export", "--store", STORE)
+    part.check("docs_host-export", ended.returncode == 0, ended)
     machine.run("systemctl", "start", "docs_host")
 
 

@@ -69,11 +69,12 @@ class Plain(http.server.SimpleHTTPRequestHandler):
         pass
 
 
-def results_of(part, port, page, count):
-    """How many results each word has."""
-    found = []
+def results_of(part, port, page, count, kept):
+    """How many results each word has, for a browser with a memory of this name: both sites have the same addresses."""
+    found, room = [], part.room / kept
+    room.mkdir(exist_ok=True)
     for word in WORDS:
-        with browser.Page(HOST, port, part.room) as there:
+        with browser.Page(HOST, port, room) as there:
             there.open(f"http://{HOST}{target(page)}?q={word}")
             found.append(there.wait_for(count, SECONDS))
     return found
@@ -86,7 +87,7 @@ def plain_results(part, folder, page, count):
     os.symlink(folder, root / "en" / "main")
     with http.server.ThreadingHTTPServer(("127.0.0.1", 0), functools.partial(Plain, directory=str(root))) as plain:
         threading.Thread(target=plain.serve_forever, daemon=True).start()
-        found = results_of(part, plain.server_address[1], page, count)
+        found = results_of(part, plain.server_address[1], page, count, f"plain-{folder.name}")
         plain.shutdown()
     return found
 
@@ -105,7 +106,7 @@ def searches(part, server, source, name):
     ends(part, f"{name} is published", ended, 0, f"{index} has ", "What makes it smaller: ", "none differs")
     first = ended.stderr.splitlines()[0]
     part.check(f"{name}: what makes it smaller is said first", "What makes it smaller: " in first, ended.stderr)
-    found = results_of(part, server.port, page, count)
+    found = results_of(part, server.port, page, count, f"served-{name}")
     print(f"    {name}: {(folder / index).stat().st_size:,} bytes; results {found}, over plain files {wanted}", flush=True)
     part.check(f"{name}: there are results", all(wanted), wanted)
     part.same(f"{name}: as many results as over plain files", found, wanted)
@@ -129,8 +130,17 @@ for (const kind of ['', 'text', 'json', 'blob', 'arraybuffer']) {
   });
   request.send();
 }
+new Worker('search/worker.js').onmessage = event => tell('worker', event.data);
 """
-READS = 7
+
+# As MkDocs' worker reads it: by its bare name.
+WORKER = """
+const request = new XMLHttpRequest();
+request.addEventListener('load', () => postMessage(request.status + ' ' + JSON.parse(request.responseText).docs.length));
+request.open('GET', 'search_index.json');
+request.send();
+"""
+READS = 8
 
 
 def index_site(build, count):
@@ -138,27 +148,28 @@ def index_site(build, count):
     text = json.dumps({"config": {}, "docs": docs}, ensure_ascii=False)
     page = "<!doctype html><meta charset=utf-8><script src=assets/javascripts/bundle.1.min.js></script>"
     files = {"index.html": page, "search/search_index.json": text, "other/search_index.json": "7"}
-    return files | {"assets/javascripts/bundle.1.min.js": READER, "search/worker.js": "// no reader\n"}
+    return files | {"assets/javascripts/bundle.1.min.js": READER, "search/worker.js": WORKER}
 
 
 def joiner(part, server):
     """An index in parts, which a script reads in each way that there is."""
-    room = "JSON.stringify(Object.keys(told).length == 7 ? told : 0)"
     kept = None
     for build, count in (("first", 6000), ("second", 7000)):
         site = index_site(build, count)
         folder = site_of(part, "index", site)
         ended = once(folder, url_of(server))
         parts = -(-len(site["search/search_index.json"].encode()) // LIMIT)
-        says = f"goes up in {parts} parts, which assets/javascripts/bundle.1.min.js joins"
+        says = f"goes up in {parts} parts, joined by assets/javascripts/bundle.1.min.js and search/worker.js"
         ends(part, f"{build}: an index in parts", ended, 0, says, "none differs")
         with browser.Page(HOST, server.port, part.room) as page:
             page.open(f"http://{HOST}{target('index.html')}?{build}")
-            told = json.loads(page.wait_for(f"Object.keys(told).length == {READS} && {room}") or page.value("JSON.stringify(told)"))
+            page.wait_for(f"Object.keys(told).length == {READS}", SECONDS)
+            told = json.loads(page.value("JSON.stringify(told)"))
             size = len(site["search/search_index.json"].encode())
             text = len(site["search/search_index.json"].encode("utf-16-le")) // 2
             wanted = {"fetch": count, "small": "7", "xhr ": f"200 {text}", "xhr text": f"200 {text}"}
             wanted |= {"xhr json": f"200 {count}", "xhr blob": f"200 {size}", "xhr arraybuffer": f"200 {size}"}
+            wanted |= {"worker": f"200 {count}"}
             part.same(f"{build}: what the script reads", told, wanted)
             part.same(f"{build}: the script is strict", page.value("strict"), True)
         first = server.get(target("search/search_index.json.part-a1"), HOST)
@@ -170,7 +181,7 @@ def joiner(part, server):
     part.same("an old index over new parts", upload_page(server, "search/search_index.json", "application/json", old), 200)
     with browser.Page(HOST, server.port, part.room) as page:
         page.open(f"http://{HOST}{target('index.html')}?old")
-        said = page.wait_for("told.fetch")
+        said = page.wait_for("told.fetch", SECONDS)
         part.check("it says so", "is of another build; load the page again" in str(said), said)
 
 

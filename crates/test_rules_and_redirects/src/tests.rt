@@ -2,3 +2,4 @@
 
 mod redirects;
 mod rules;
+mod versions;
