@@ -5,7 +5,7 @@ ghost use Rattle.sqlite.specs.Held.{state};
 ghost use Rattle.sqlite.specs.Values.{bound};
 ghost use Rattle.dh_records.specs.Lists.{Lists};
 ghost use Rattle.dh_schema.specs.Calling.{ReadsValue, ReadsAll, ChangesLists};
-ghost use Rattle.dh_tables.specs.Meanings.{AsksFor, AltersWhereHonest, IsChange, IsQuery};
+ghost use Rattle.dh_tables.specs.Meanings.{AsksFor, AltersWhereHonest, IsChange, IsChangeBesidePages, IsQuery};
 
 use super::Tables;
 use dh_ports::{Fault, Found};
@@ -85,13 +85,24 @@ impl<S: Alter> Tables<S> {
         Ok(rows.as_slice().len())
     }
 
-    /// Changes the records by an INSERT or a DELETE.
+    /// Changes the records, but no page, by an INSERT or a DELETE.
     pub(crate) fn write(&mut self, sql: &str, params: &[ValueRef<'_>]) -> Result<(), Fault>
+        requires change { IsChangeBesidePages S.Store self.old sql.now (bound params.now) }
+        ensures writes { (change : Lists → Lists)
+            → AltersWhereHonest S.Store self.old sql.now (bound params.now) change
+            → ChangesLists S.Store self.old self.new result change }
+    {
+        change(&mut self.conn, sql, params)
+    }
+
+    /// Changes the pages by an INSERT or a DELETE. None stays in memory.
+    pub(crate) fn write_pages(&mut self, sql: &str, params: &[ValueRef<'_>]) -> Result<(), Fault>
         requires change { IsChange S.Store self.old sql.now (bound params.now) }
         ensures writes { (change : Lists → Lists)
             → AltersWhereHonest S.Store self.old sql.now (bound params.now) change
             → ChangesLists S.Store self.old self.new result change }
     {
+        self.pages.clear();
         change(&mut self.conn, sql, params)
     }
 }
