@@ -115,6 +115,27 @@ def sweep_lost(part, path, base):
     print(f"  {script.name}, a write that is lost: {count} calls: {wrong} seen", flush=True)
 
 
+def synced(part, words, data, base, folder, **wrong):
+    """How many syncs a run makes, and how often something goes out before what was written is synced."""
+    copy_store(base, folder)
+    ended = part.run(words, data, folder, SYNC_COUNT="1", **wrong)
+    found = re.search(rb"^syncs (\d+) early (\d+)$", ended.err, re.M)
+    if ended.status or not found:
+        raise Broken(f"{words}: {ended}")
+    return int(found[1]), int(found[2])
+
+
+def check_syncs(part, name, words, data, base, least):
+    """What a line tells is on the disk when it is told: a program that makes no syncs is seen, too."""
+    with new_folder() as folder:
+        count, early = synced(part, words, data, base, folder)
+        part.check(f"{name}: at least {least} syncs", count >= least, count)
+        part.check(f"{name}: nothing goes out before it is synced", early == 0, early)
+        count, early = synced(part, words, data, base, folder, SYNC_NONE="1")
+        part.check(f"{name}: a program that makes no syncs is seen", count < least and early > 0, (count, early))
+    print(f"  {name}: syncs", flush=True)
+
+
 def sweep_run(part, name, words, base, more, is_new=False):
     """A single run from a base, or one that makes the file."""
     with new_folder() as plain:
@@ -142,3 +163,8 @@ def device(part):
             for name, words, begins in runs:
                 sweep_run(part, name, words, begins, more, name == "init")
         sweep_lost(part, SCRIPTS / "versions.script", base)
+        script = Script(part, SCRIPTS / "versions.script", base)
+        accepted = sum(not line.startswith((b"refused", b"usage", b"bad", b"failed")) for line in script.said)
+        check_syncs(part, "versions", script.words, script.data, base, accepted // 2)
+        for name, words, begins in runs[1:]:
+            check_syncs(part, name, words, b"", begins, 1)

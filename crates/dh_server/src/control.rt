@@ -2,7 +2,7 @@
 
 ghost use Rattle.std.specs.Prelude.{◌≡◌, ℕ, Option, None, false};
 ghost use Rattle.dh_http.specs.Desk.{WorldGoesBy};
-ghost use Rattle.dh_server.specs.Serving.{CountsExactly, Talk, talk_of};
+ghost use Rattle.dh_server.specs.Serving.{CountsExactly, DoesByCalls, Talk, talk_of};
 ghost use Rattle.dh_world.specs.World.{World};
 
 use dh_http::Desk;
@@ -18,7 +18,7 @@ pub trait Control {
     // How many connections were handed to it, where it counts. A count stays at 2^64 - 1.
     ghost handed: { Self → Option ℕ };
 
-    /// Does what a connection asks for at a moment, in seconds since 1970, and answers it.
+    /// Does what a connection asks for at a moment, in seconds since 1970, and answers it. What it does to the world are calls.
     fn answer<S: Alter, R: Source, W: Sink>(
         &mut self,
         alloc: Global,
@@ -29,8 +29,8 @@ pub trait Control {
     )
         requires reader { R.broken source.old ≡ false }
         requires writer { W.broken sink.old ≡ false }
-        ensures moves { WorldGoesBy S.Store desk.old desk.new (does now
-            (talk_of (R.left source.old) (W.held sink.old) (W.held sink.new) (W.broken sink.new))) }
+        ensures moves { WorldGoesBy S.Store desk.old desk.new (DoesByCalls (does now
+            (talk_of (R.left source.old) (W.held sink.old) (W.held sink.new) (W.broken sink.new)))) }
         ensures counts { CountsExactly (handed self.old) (handed self.new) 1 };
 }
 

@@ -1,7 +1,7 @@
 -- How runs end, by what is ordered and by what came of it.
-use Rattle.std.proofs.Common.{◌≡◌, ◌⊎◌, ◌∙◌, ℕ, ◌+◌, ◌-◌, ◌≤◌, arith, zero, suc, Bool, true, false, true≢false, List, [], ◌∷◌, ◌++◌, Option, Result, Ok, Err, refl, sym, ap, subst, inl, inr}
+use Rattle.std.proofs.Common.{◌≡◌, ◌⊎◌, ◌∙◌, ℕ, ◌+◌, ◌-◌, ◌≤◌, arith, Bool, true, false, true≢false, List, [], ◌∷◌, ◌++◌, Option, Result, Ok, Err, refl, sym, ap, subst, inl, inr}
 use Rattle.std.proofs.lemmas.Result.{err_from_is_err_and}
-use Rattle.std.specs.Prelude.{◌||◌, ⊤, IsTrue, IsErrAnd, IfOk, OnOk, None, drop, codes}
+use Rattle.std.specs.Prelude.{◌||◌, IsTrue, IsErrAnd, IfOk, OnOk, None, drop, codes}
 use Rattle.std.specs.FinMap.{empty}
 use Rattle.std.specs.Io.KnownBytes.{Appends}
 use Rattle.clap.specs.Faults.{fault_of, is_simple_and_free}
@@ -14,7 +14,7 @@ use Rattle.dh_http.specs.Answers.{AnswersSource, WritesAnswer}
 use Rattle.dh_http.specs.declared.fault.EngineFault.{EngineFault}
 use Rattle.dh_ports.specs.declared.fault.Fault.{Fault}
 use Rattle.dh_ports.specs.declared.fault.Fault.TheVariants as lookup
-use Rattle.dh_server.specs.Serving.{MayTurn, ServesInTurn, Talk, Turn}
+use Rattle.dh_server.proofs.Stepping.{serves_none, serves_within}
 use Rattle.dh_world.specs.World.{Text, World}
 use Rattle.dh_world.specs.declared.command.Command.{Command}
 use Rattle.dh_world.specs.declared.command.CommandChange.TheVariants.{ImportRedirects}
@@ -86,32 +86,13 @@ error_ended words app k (Ok Faulty) same kinds it = absurd it
 error_ended words app k (Ok Unanswered) same kinds it = absurd it
 error_ended words app k (Err failure) same kinds it = (subst (EndsHelp words) (sym (is_faulty is_of_output (λ fault. refl) failure it)) tt, it)
 
--- further connections did nothing
-more_served : (k n : ℕ) (w v : World) → ServesBoth n w v → ServesBoth (k + n) w v
-more_served zero n w v it = let none : n ≡ 0 + n = omega arith in subst (λ m. ServesBoth m w v) none it
-more_served (suc k) n w v it =
-    let one : ServesBoth (suc (k + n)) w v = (v, more_served k n w v it, inl (inl refl)) in
-    let next : suc (k + n) ≡ suc k + n = omega arith in
-    subst (λ m. ServesBoth m w v) next one
-
 -- fewer connections came
-pub served_within : (n count : ℕ) (w v : World) → n ≤ count → ServesBoth n w v → ServesBoth count w v
-served_within n count w v few it = subst (λ m. ServesBoth m w v) (omega (arith, few)) (more_served (count - n) n w v it)
+pub served_within : (IsMoment : ℕ → Type 0) (n count : ℕ) (w v : World) → n ≤ count → ServesBoth IsMoment n w v → ServesBoth IsMoment count w v
+served_within IsMoment n count w v few (answered, served) = (answered, serves_within IsMoment AnswersOne n count answered w v few served)
 
--- which moments they were does not count
-some_answered : (IsMoment : ℕ → Type 0) (w v : World) → Turn IsMoment w v → Turn (λ moment. ⊤) w v
-some_answered IsMoment w v (inl same) = inl same
-some_answered IsMoment w v (inr it) = inr (it.0, tt, it.2, it.3, it.4, it.5)
-
-may_turn : (IsMoment : ℕ → Type 0) (Does : ℕ → Talk → World → World → Type 0) (w v : World)
-    → MayTurn IsMoment Does w v → MayTurn (λ moment. ⊤) Does w v
-may_turn IsMoment Does w v (inl turn) = inl (some_answered IsMoment w v turn)
-may_turn IsMoment Does w v (inr (moment, is, talk, did)) = inr (moment, tt, talk, did)
-
-pub any_moment : (IsMoment : ℕ → Type 0) (n : ℕ) (w v : World) → ServesInTurn IsMoment AnswersOne n w v → ServesBoth n w v
-any_moment IsMoment zero w v it = it
-any_moment IsMoment (suc n) w v it =
-    (it.0, any_moment IsMoment n w it.0 it.1, may_turn IsMoment AnswersOne it.0 v it.2)
+-- none came
+pub none_served : (IsMoment : ℕ → Type 0) (count : ℕ) (w : World) → ServesBoth IsMoment count w w
+none_served IsMoment count w = served_within IsMoment 0 count w w (omega arith) (0, serves_none IsMoment AnswersOne w)
 
 -- the engine's fault is that of the run
 pub request_failed

@@ -1,5 +1,5 @@
 -- What an order does over a desk.
-use Rattle.std.specs.Prelude.{◌≡◌, ⊤, ℕ, Bool, true, false, is_none, List, [], ◌∷◌, ◌++◌, codes, Option, Result, Ok, Err, IfOk}
+use Rattle.std.specs.Prelude.{◌≡◌, ℕ, Bool, true, false, is_none, List, [], ◌∷◌, ◌++◌, codes, Option, Result, Ok, Err, IfOk}
 use Rattle.std.specs.Fmt.{decimal}
 use Rattle.std.specs.Io.KnownBytes.{Appends}
 use Rattle.dh_http.specs.Answers.{AnswersSource, WritesAnswer}
@@ -16,7 +16,8 @@ use Rattle.dh_script.specs.Script.{PerformsSingle}
 use Rattle.dh_control.specs.Answers.{AnswersMessage}
 use Rattle.dh_control.specs.declared.end.End.{End}
 use Rattle.dh_script.specs.declared.fault.ScriptFault.{ScriptFault}
-use Rattle.dh_server.specs.Serving.{ServesInTurn, Talk}
+use Rattle.dh_server.specs.Serving.{Talk}
+use Rattle.dh_server.specs.Turns.{ServesInTurn}
 use Rattle.dh_redirects.specs.declared.redirect.Redirect.{Redirect}
 use Rattle.dh_world.specs.World.{Text, World}
 use Rattle.dh_world.specs.declared.command.CommandChange.TheVariants.{ImportRedirects}
@@ -79,26 +80,27 @@ AnswersOne moment talk before after =
     × AnswersMessage moment talk.left before after talk.held talk.now result
     × (talk.has_failed ≡ writer_failed result)
 
--- this many connections, one after another, each at some moment: of the port, with one request; or of the control socket, with
--- one message
-abbrev pub ServesBoth : ℕ → World → World → Type 0
-ServesBoth = ServesInTurn (λ moment. ⊤) AnswersOne
+-- this many connections, one after another, each at a moment that `IsMoment` holds of: of the port, with one request; or of the
+-- control socket, with one message
+abbrev pub ServesBoth : (ℕ → Type 0) → ℕ → World → World → Type 0
+ServesBoth IsMoment count before after =
+    (answered : ℕ) × ServesInTurn IsMoment AnswersOne count answered before after
 
 -- an order was run: the lines of a script, whole or in part; a request, which was answered, whole or in part; this many
--- connections, each with one request or one message; or a single command, read or list
-abbrev pub RunsOrder : ℕ → World → Order → World → Option Text → Option Text → Option Text → Result Status Failure → Type 0
-RunsOrder moment before order.Script after left held now result = RunsScript moment left before after held now result
-RunsOrder moment before order.Answer after left held now result = RunsRequest moment before after left held now result
-RunsOrder moment before (order.Serve count port log) after left held now result = ServesBoth count before after
-RunsOrder moment before (order.Act command) after left held now result =
+-- connections, each with one request or one message, at moments that `IsMoment` holds of; or a single command, read or list
+abbrev pub RunsOrder : (ℕ → Type 0) → ℕ → World → Order → World → Option Text → Option Text → Option Text → Result Status Failure → Type 0
+RunsOrder IsMoment moment before order.Script after left held now result = RunsScript moment left before after held now result
+RunsOrder IsMoment moment before order.Answer after left held now result = RunsRequest moment before after left held now result
+RunsOrder IsMoment moment before (order.Serve count port log) after left held now result = ServesBoth IsMoment count before after
+RunsOrder IsMoment moment before (order.Act command) after left held now result =
     IfOk result (RunsSingle moment before (order.Act command) after held now)
-RunsOrder moment before (order.Get host target pass own) after left held now result =
+RunsOrder IsMoment moment before (order.Get host target pass own) after left held now result =
     IfOk result (RunsSingle moment before (order.Get host target pass own) after held now)
-RunsOrder moment before (order.Import host list) after left held now result =
+RunsOrder IsMoment moment before (order.Import host list) after left held now result =
     IfOk result (RunsSingle moment before (order.Import host list) after held now)
-RunsOrder moment before (order.List word) after left held now result =
+RunsOrder IsMoment moment before (order.List word) after left held now result =
     IfOk result (RunsSingle moment before (order.List word) after held now)
-RunsOrder moment before (order.Init file) after left held now result =
+RunsOrder IsMoment moment before (order.Init file) after left held now result =
     IfOk result (RunsSingle moment before (order.Init file) after held now)
-RunsOrder moment before (order.Migrate file) after left held now result =
+RunsOrder IsMoment moment before (order.Migrate file) after left held now result =
     IfOk result (RunsSingle moment before (order.Migrate file) after held now)

@@ -3,6 +3,7 @@
 ghost use Rattle.std.specs.Prelude.{◌≡◌, false, [], ◌∷◌, ◌++◌, IfOk, IfErr, OnOk, OnErr, IsTrue};
 ghost use Rattle.std.specs.Io.KnownBytes.{Appends};
 ghost use Rattle.dh_http.specs.Desk.{WorldGoesBy};
+ghost use Rattle.dh_server.specs.Serving.{GivenBy};
 ghost use Rattle.dh_server.specs.Telling.{TellsSome};
 ghost use Rattle.dh_script.specs.Running.{RunsScript};
 ghost use Rattle.dh_script.specs.Script.{MayDoSingle};
@@ -129,20 +130,23 @@ fn answer_request<S: Alter, R: Source, W: Sink>(
 
 /// Does what is ordered over a desk. `now` is the moment of a read that gives none of its own, in seconds since 1970; a server
 /// asks the clock for each of its connections.
-pub fn do_order<S: Alter, R: Source, W: Sink, E: Sink>(
+pub fn do_order<S: Alter, C: FnMut() -> u64, R: Source, W: Sink, E: Sink>(
     rt: &HostRuntime,
     desk: &mut Desk<S>,
     served: &mut Served<'_>,
     order: &Order,
     streams: &mut Streams<R, W, E>,
+    clock: &mut C,
     now: u64,
 ) -> Result<Status, Failure>
+    requires callable { C.IsAlwaysCallable clock.old }
     requires ready { AreUnbroken (R.broken streams.old.source) (W.broken streams.old.sink) }
     ensures runs { WorldGoesBy S.Store desk.old desk.new
-        (λ before after. RunsOrder now before order.now after
+        (λ before after. RunsOrder (GivenBy C.post) now before order.now after
         (R.left streams.old.source) (W.held streams.old.sink) (W.held streams.new.sink) result) }
     ensures ends { Ended (λ status. IsTrue (may_end_order order.now status))
         (is_of_order order.now) result }
+    ensures callable { C.IsAlwaysCallable clock.new }
     ensures tells { TellsSome E.broken E.held streams.old.errors streams.new.errors }
 {
     match order {
@@ -162,7 +166,7 @@ pub fn do_order<S: Alter, R: Source, W: Sink, E: Sink>(
             now,
         ),
         Order::Serve { count, port, log } => {
-            serve(rt, desk, served, *count, *port, *log, streams)
+            serve(rt, desk, served, clock, *count, *port, *log, streams)
         }
         Order::Act(_)
         | Order::Get { .. }

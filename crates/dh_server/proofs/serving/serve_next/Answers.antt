@@ -1,7 +1,8 @@
 use Rattle.std.proofs.Common.{of_calls, subst}
-use Rattle.dh_http.proofs.Moving.{WorldGoesBy-weaker}
+use Rattle.dh_http.proofs.Moving.{WorldGoesBy-refl, WorldGoesBy-weaker}
 use Rattle.dh_server.specs.Serving.{CountsExactly, GivenBy, messages_in}
-use Rattle.dh_server.proofs.Stepping.{may_turn_at, hands_none}
+use Rattle.dh_server.proofs.Calling.{lost_turn, turn_at}
+use Rattle.dh_server.proofs.Stepping.{hands_none}
 use Rattle.dh_server.proofs.serving.serve_next.Goals as goal
 
 pub returns-in-Some-clause-hears : goal.returns-in-Some-clause-hears
@@ -19,4 +20,7 @@ returns-in-None-clause-hears g c =
 pub returns-in-Some-clause-turn : goal.returns-in-Some-clause-turn
 returns-in-Some-clause-turn g c =
     WorldGoesBy-weaker c.answer_came.ensures.turn
-    (λ u v turn. may_turn_at (GivenBy (goal.C-post g)) g.K.Control.does c.clock-now.result u v (c.args.clock.now, search of_calls) turn)
+    (λ u v. turn_at (GivenBy (goal.C-post g)) g.K.Control.does c.clock-now.result c.answer_came.result u v (c.args.clock.now, search of_calls))
+
+pub returns-in-None-clause-turn : goal.returns-in-None-clause-turn
+returns-in-None-clause-turn g c = WorldGoesBy-refl (lost_turn (GivenBy (goal.C-post g)) g.K.Control.does)

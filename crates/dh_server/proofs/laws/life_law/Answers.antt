@@ -1,0 +1,6 @@
+use Rattle.dh_server.specs.Serving.{GivenBy}
+use Rattle.dh_server.proofs.Living as living
+use Rattle.dh_server.proofs.laws.life_law.Goals as goal
+
+pub returns : goal.returns
+returns g c = living.life_law (GivenBy (goal.C-post g)) g.K.Control.does
