@@ -1,8 +1,9 @@
 -- What a message does, by what was read and by the script that is in it.
-use Rattle.std.proofs.Common.{◌≡◌, ◌∙◌, ℕ, true, ◌||◌, Option, Some, None, Result, Ok, Err, IfSome, inl, inr, refl, ap, subst}
+use Rattle.std.proofs.Common.{◌≡◌, ◌∙◌, ℕ, true, ◌||◌, Option, Some, None, Result, Ok, Err, IfSome, inl, inr, refl, sym, ap, subst}
 use Rattle.dh_lines.specs.declared.lines.Line.{Line}
 use Rattle.dh_script.specs.Reading.{IsScript, reader_failed, writer_failed}
-use Rattle.dh_script.specs.Running.{RunsScript}
+use Rattle.dh_script.specs.Running.{RunsScript, RunsSome, lines_in}
+use Rattle.dh_script.proofs.RunLemmas.{some_none}
 use Rattle.dh_script.specs.Script.{is_unread}
 use Rattle.dh_script.specs.declared.fault.ScriptFault.{ScriptFault}
 use Rattle.dh_world.specs.World.{Text, World}
@@ -27,6 +28,18 @@ module _ {T : Type 0} (moment : ℕ) (script : Text) (before after : World) (hel
     whole = tt;
     unread = unread;
   }
+
+-- one that was not read
+pub script_unread : (moment : ℕ) (script : Text) (world : World) (held now : Option Text) (fault : ScriptFault) → now ≡ held → DoesScript moment script world world held now (Err fault)
+script_unread moment script world held now fault same = record {
+  ran = record {
+    script = script;
+    read = refl;
+    ran = subst (RunsSome moment world (lines_in script) world held) (sym same) (some_none moment world (lines_in script) held);
+  };
+  whole = tt;
+  unread = λ _. (refl, same);
+}
 
 -- words for which memory was out do nothing
 pub nothing_done : {E : Type 0} (moment : ℕ) (before : World) (line : Option Line) (held now : Option Text) (fault : E) → DoesWords {E = E} moment before line before held now (Err fault)

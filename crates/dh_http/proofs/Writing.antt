@@ -11,6 +11,12 @@ use Rattle.dh_http.specs.declared.fault.EngineFault.TheVariants as fault
 use Rattle.dh_http.specs.Commands.{unavailable}
 use Rattle.dh_http.specs.Answers.{IsWritten, AnswersRequest, AnswersSource, WritesAnswer, IsRefusal, AsksInVain}
 
+-- a command was done, and its reply is the outcome's
+pub applied : {E : Type 0} (moment : ℕ) (before after : World) (command : Command) (outcome : Result Answer Refusal) (r : Result Reply E) (o : Option Reply)
+    → o ≡ result_ok r → IfOk r (λ q. q ≡ command_reply outcome) → IsStep before after command outcome → MakesReply moment before after (request.Apply command) o
+applied moment before after command outcome (Ok q) o is value step = subst (MakesReply moment before after (request.Apply command)) (sym is) (outcome, step, value)
+applied moment before after command outcome (Err e) o is value step = subst (MakesReply moment before after (request.Apply command)) (sym is) (outcome, step)
+
 -- what is written of one kind is of another
 pub writes_as : (P Q : ℕ → List ℕ → Type 0) (held now : Option (List ℕ)) (r : Result Done EngineFault) → ((s : ℕ) (t : List ℕ) → P s t → Q s t) → WritesAnswer P held now r → WritesAnswer Q held now r
 writes_as P Q held now (Ok done) h w = (w.0, h done.status w.0 w.1, w.2)
