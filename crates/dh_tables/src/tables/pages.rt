@@ -118,6 +118,44 @@ impl<S: Alter> Tables<S> {
         }
     }
 
+    /// Whether the store has a page at a path of a version in a language. Its body is not read.
+    fn has_stored_page(
+        &mut self,
+        host: &HostName,
+        slug: &Slug,
+        lang: &Lang,
+        path: &str,
+    ) -> Result<bool, Fault>
+        ensures { ReadsValue S.Store self.old self.new result (λ l. is_some
+            (find (spec.is_page host.now slug.now lang.now path.now) l.pages)) }
+    {
+        let sql =
+            "SELECT host, slug, lang, path FROM page WHERE host = ?1 AND slug = ?2 AND lang = ?3 AND path = ?4 ORDER BY host, slug, lang, path";
+        let key = params![host.as_str(), slug.as_str(), lang.as_str(), path];
+        self.has_record::<PageRow>(sql, key)
+    }
+
+    /// Whether there is a page at a path of a version in a language. Its body is not read.
+    pub fn has_page(
+        &mut self,
+        alloc: Global,
+        host: &HostName,
+        slug: &Slug,
+        lang: &Lang,
+        path: &str,
+    ) -> Result<bool, Fault>
+        ensures { ReadsValue S.Store self.old self.new result (λ l. is_some
+            (find (spec.is_page host.now slug.now lang.now path.now) l.pages)) }
+    {
+        if let Some(_page) = self.cached_page(alloc, host, slug, lang, path) {
+            return match self.ask() {
+                Ok(()) => Ok(true),
+                Err(fault) => Err(fault),
+            };
+        }
+        self.has_stored_page(host, slug, lang, path)
+    }
+
     /// The pages of the version whose slug is this text, in the language that is this text, by path.
     pub fn pages_in(
         &mut self,
