@@ -44,7 +44,7 @@ same_world next l base = sym (base_world next) ∙ ap world_of base ∙ base_wor
 -- ---- the classes of a host
 
 -- a pass is listed where it is the host's
-listed : (host c : Text) (rows : List PassRow) → list_any (λ x. bytes_eq (class_text x) c) (map (λ (x : PassRow). Some x.pass) (filter (is_pass_of host) rows)) ≡ is_some (find (is_pass host c) rows)
+pub listed : (host c : Text) (rows : List PassRow) → list_any (λ x. bytes_eq (class_text x) c) (map (λ (x : PassRow). Some x.pass) (filter (is_pass_of host) rows)) ≡ is_some (find (is_pass host c) rows)
 listed host c [] = refl
 listed host c (r ∷ rows) = go (bytes_eq r.host host) (bytes_eq r.pass c) refl (listed host c rows)
   where

@@ -119,6 +119,13 @@ fn page_in(alloc: Global, page: &CheckedPage<'_>) -> Result<Page, AllocError>
     })
 }
 
+/// Puts the row of a page.
+fn put_row<S: Alter>(tables: &mut Tables<S>, row: &PageRow) -> Result<(), Refusal>
+    ensures makes { ChangesRecords S.Store tables.old tables.new result (change.put_page row.now) }
+{
+    Ok(tables.put_page(row)?)
+}
+
 fn put_page<S: Alter>(
     tables: &mut Tables<S>,
     alloc: Global,
@@ -138,7 +145,7 @@ fn put_page<S: Alter>(
         path: page.path,
         page: stored,
     };
-    Ok(tables.put_page(&row)?)
+    put_row(tables, &row)
 }
 
 fn remove_pages<S: Alter>(

@@ -1,7 +1,7 @@
 //! Copies of replies.
 ghost use Rattle.std.specs.Prelude.{◌≡◌, IfOk};
 
-use dh_paths::{Bytes, Text};
+use dh_paths::Text;
 use dh_wire::Reply;
 use std::alloc::{AllocError, Global};
 
@@ -14,7 +14,7 @@ fn text_copied(alloc: Global, text: &Option<Text>) -> Result<Option<Text>, Alloc
     }
 }
 
-/// A copy of a reply, its body included.
+/// A copy of a reply; a body that is shared is not copied.
 pub fn copied(alloc: Global, reply: &Reply) -> Result<Reply, AllocError>
     ensures { IfOk result (λ copy. copy ≡ reply.now) }
 {
@@ -23,6 +23,19 @@ pub fn copied(alloc: Global, reply: &Reply) -> Result<Reply, AllocError>
         location: text_copied(alloc, &reply.location)?,
         allow: reply.allow,
         media: text_copied(alloc, &reply.media)?,
-        body: Bytes::copy_of(alloc, reply.body.as_slice())?,
+        body: reply.body.handle_or_copy(alloc)?,
     })
+}
+
+/// The same reply, with a body that is shared where there is memory for that.
+pub fn with_shared_body(alloc: Global, reply: Reply) -> Reply
+    ensures { result ≡ reply }
+{
+    Reply {
+        status: reply.status,
+        location: reply.location,
+        allow: reply.allow,
+        media: reply.media,
+        body: reply.body.into_shared(alloc),
+    }
 }

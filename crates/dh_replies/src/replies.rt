@@ -5,7 +5,7 @@ ghost use Rattle.dh_classes.specs.Replies.{reply_for};
 ghost use Rattle.dh_replies.specs.Kept.{AreRepliesRight, question_of};
 ghost use Rattle.dh_replies.specs.declared.replies.TheConstants.{MOST_KEPT_BYTES, MOST_REPLIES};
 
-use crate::copies::copied;
+use crate::copies::{copied, with_shared_body};
 use crate::key::Key;
 use dh_wire::Reply;
 use lru::LruCache;
@@ -71,17 +71,29 @@ impl Replies {
         Some(copy)
     }
 
-    /// Keeps a copy of a reply under a key, unless the body is too large or memory is out.
-    pub fn keep(&mut self, alloc: Global, key: Key, reply: &Reply)
-        ensures right { (w : World) → AreRepliesRight w self.old.entries
+    /// Puts a copy of a reply under a key, unless memory is out.
+    fn put_copy(&mut self, alloc: Global, key: Key, reply: &Reply)
+        ensures { (w : World) → AreRepliesRight w self.old.entries
             → reply.now ≡ reply_for w (question_of key) → AreRepliesRight w self.new.entries }
-        ensures large { MOST_KEPT_BYTES < length reply.now.body → self.new ≡ self.old }
     {
-        if reply.body.as_slice().len() > MOST_KEPT_BYTES {
-            return;
-        }
         if let Ok(copy) = copied(alloc, reply) {
             let _ = self.entries.put(key, copy);
         }
+    }
+
+    /// Keeps a reply under a key, unless the body is too large or memory is out, and gives it back. What is kept and what is
+    /// given back share the body.
+    pub fn keep(&mut self, alloc: Global, key: Key, reply: Reply) -> Reply
+        ensures same { result ≡ reply }
+        ensures right { (w : World) → AreRepliesRight w self.old.entries
+            → reply ≡ reply_for w (question_of key) → AreRepliesRight w self.new.entries }
+        ensures large { MOST_KEPT_BYTES < length reply.body → self.new ≡ self.old }
+    {
+        if reply.body.as_slice().len() > MOST_KEPT_BYTES {
+            return reply;
+        }
+        let reply = with_shared_body(alloc, reply);
+        self.put_copy(alloc, key, &reply);
+        reply
     }
 }

@@ -1,9 +1,9 @@
 -- What a lookup means, what a call on it leaves, and what a call tells.
-use Rattle.std.specs.Prelude.{◌≡◌, ◌≤◌, ℕ, List, [], Option, Result, Vec, IfOk, IfSome}
+use Rattle.std.specs.Prelude.{◌≡◌, ◌≤◌, ℕ, List, [], Option, Result, Vec, IfOk, OnOk, IfSome}
 use Rattle.std.specs.Option.{option_and_then, option_map_or}
 use Rattle.dh_ports.specs.declared.fault.Fault.{Fault}
 use Rattle.dh_seen.specs.declared.seen_project.SeenProject.{SeenProject}
-use Rattle.dh_ports.specs.Faults.{UnlessStore, OnStore}
+use Rattle.dh_ports.specs.Faults.{OnStore}
 
 -- how a lookup is read
 pub record Meaning (L : Type 0) : Type 1 where
@@ -13,7 +13,7 @@ pub record Meaning (L : Type 0) : Type 1 where
   pub doubt : L → ℕ
   -- what each call leaves, whatever it answers
   pub leads : L → L → Type 0
-  -- what a call leaves that does not answer `Store`
+  -- what a call leaves that gave an answer
   pub keeps : L → L → Type 0
   -- why a call may answer `Store`
   pub fails : L → L → Type 0
@@ -27,10 +27,10 @@ module _ {L T : Type 0} (m : Meaning L) (old new : L) (result : Result T Fault) 
     pub doubt : m.doubt old ≤ m.doubt new
     -- `Store` is answered with a cause alone
     pub told : OnStore result (m.fails old new)
-    -- any other answer leaves what calls keep
-    pub keeps : UnlessStore result (m.keeps old new)
-    -- any other answer leaves the content as it was, while nothing is doubted
-    pub kept : m.doubt new ≡ 0 → UnlessStore result (m.content new ≡ m.content old)
+    -- a call that gave an answer leaves what answers keep
+    pub keeps : OnOk result (m.keeps old new)
+    -- it leaves the content as it was, while nothing is doubted
+    pub kept : m.doubt new ≡ 0 → OnOk result (m.content new ≡ m.content old)
 
   -- While nothing is doubted, the call answers this value of the content.
   abbrev pub AnswersFor : (Option SeenProject → T) → Type 0

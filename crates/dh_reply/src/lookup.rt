@@ -1,6 +1,7 @@
 //! What replies are made from.
 
 ghost use Rattle.std.specs.Prelude.{is_some};
+ghost use Rattle.std.specs.Option.{option_and_then};
 ghost use Rattle.dh_reply.specs.Lookup.{IsLook, Meaning, AnswersFor, AnswersAll, AnswersMaybe};
 ghost use Rattle.dh_seen.specs.SeenProject.{resolved, page_at, forced_result, not_found_result};
 
@@ -41,6 +42,19 @@ pub trait Lookup {
         ensures asks { IsLook meaning self.old self.new result }
         ensures value { AnswersMaybe meaning self.old self.new result
             (λ p. page_at p lang.now slug.now path.now) };
+
+    /// Whether there is a page at a path of a version in a language.
+    fn has_page(
+        &mut self,
+        alloc: Global,
+        lang: &Lang,
+        slug: &Slug,
+        path: &str,
+    ) -> Result<bool, Fault>
+        ensures asks { IsLook meaning self.old self.new result }
+        ensures value { AnswersFor meaning self.old self.new result
+            (λ content. is_some (option_and_then
+            (λ p. page_at p lang.now slug.now path.now) content)) };
 
     /// Where the first redirect with force leads that has a result.
     fn forced_redirect(&mut self, alloc: Global, asked: &Asked) -> Found<Location>

@@ -1,5 +1,7 @@
 //! The reply to a read: each case of the table is a function of its own.
 
+ghost use Rattle.std.specs.Prelude.{is_some};
+ghost use Rattle.std.specs.Option.{option_and_then};
 ghost use Rattle.dh_paths.specs.Places.{place};
 ghost use Rattle.dh_reply.specs.Lookup.{IsLook, AnswersFor, AnswersMaybe, AnswersForProject};
 ghost use Rattle.dh_reply.specs.Replies as spec;
@@ -75,14 +77,20 @@ fn page_found<L: Lookup>(alloc: Global, lookup: &mut L, at: &GoodAddress, file: 
     lookup.page(alloc, &at.lang, &at.slug, file.as_str())
 }
 
-/// The page of the folder that a file of a version names.
-fn in_folder<L: Lookup>(alloc: Global, lookup: &mut L, at: &GoodAddress, file: &str) -> Found<Page>
+/// Whether a file of a version names a folder that has a page.
+fn is_folder<L: Lookup>(
+    alloc: Global,
+    lookup: &mut L,
+    at: &GoodAddress,
+    file: &str,
+) -> Result<bool, Fault>
     ensures asks { IsLook L.meaning lookup.old lookup.new result }
-    ensures value { AnswersMaybe L.meaning lookup.old lookup.new result
-        (λ p. spec.folder_found p at.now file.now) }
+    ensures value { AnswersFor L.meaning lookup.old lookup.new result
+        (λ content. is_some (option_and_then
+        (λ p. spec.folder_found p at.now file.now) content)) }
 {
     let file = joined(alloc, file, "/index.html")?;
-    lookup.page(alloc, &at.lang, &at.slug, file.as_str())
+    lookup.has_page(alloc, &at.lang, &at.slug, file.as_str())
 }
 
 /// Serves a file of a version: its page, or a redirect to its folder.
@@ -100,10 +108,10 @@ fn file_served<L: Lookup>(
     if let Some(page) = page_found(alloc, lookup, at, file)? {
         return Ok(Some(make_page_reply(200, page)));
     }
-    match in_folder(alloc, lookup, at, file)? {
-        Some(_) => Ok(Some(make_slashed(alloc, read.path.as_str(), &read.query)?)),
-        None => Ok(None),
+    if is_folder(alloc, lookup, at, file)? {
+        return Ok(Some(make_slashed(alloc, read.path.as_str(), &read.query)?));
     }
+    Ok(None)
 }
 
 /// What is served at a place: a page, or a redirect to one.
@@ -135,8 +143,10 @@ fn not_found<L: Lookup>(alloc: Global, lookup: &mut L, lang: &Lang, slug: &Slug)
     ensures value { AnswersMaybe L.meaning lookup.old lookup.new result
         (λ p. spec.not_found p lang.now slug.now) }
 {
-    let page = lookup.page(alloc, lang, slug, "404.html")?;
-    Ok(page.map(|page| make_page_reply(404, page)))
+    match lookup.page(alloc, lang, slug, "404.html")? {
+        Some(page) => Ok(Some(make_page_reply(404, page))),
+        None => Ok(None),
+    }
 }
 
 /// 404 with the page `404.html` of the requested version and language, where there is one.

@@ -1,6 +1,6 @@
 //! The plain list form of what a caller sees, as a `Lookup`.
 
-ghost use Rattle.std.specs.Prelude.{◌≡◌, ◌<◌, length, [], IfOk, OnErr, IsTrue, true};
+ghost use Rattle.std.specs.Prelude.{◌≡◌, ◌<◌, length, [], IfOk, OnErr, IsTrue, is_some, true};
 ghost use Rattle.std.specs.Option.{option_copied, option_and_then, option_map_or};
 ghost use Rattle.std.specs.List.{find, list_any};
 ghost use Rattle.std.specs.Str.{bytes_eq};
@@ -150,6 +150,17 @@ fn page_of(
     }
 }
 
+#[tactic(auto, unfolding(dh_seen::specs::SeenProject::page_at))]
+fn has_page_at(project: &SeenProject, lang: &Lang, slug: &Slug, path: &str) -> bool
+    ensures { result ≡ is_some (page_at project.now lang.now slug.now path.now) }
+{
+    let found = find_page(project.pages.as_slice(), lang, slug, path);
+    match found {
+        Some(_) => true,
+        None => false,
+    }
+}
+
 /// Where the redirect leads, unless only redirects with force count and this one has none.
 fn result_in(
     alloc: Global,
@@ -254,6 +265,19 @@ impl Lookup for Seen {
         match &self.project {
             Some(project) => Ok(page_of(alloc, project, lang, slug, path)?),
             None => Ok(None),
+        }
+    }
+
+    fn has_page(
+        &mut self,
+        _alloc: Global,
+        lang: &Lang,
+        slug: &Slug,
+        path: &str,
+    ) -> Result<bool, Fault> {
+        match &self.project {
+            Some(project) => Ok(has_page_at(project, lang, slug, path)),
+            None => Ok(false),
         }
     }
 

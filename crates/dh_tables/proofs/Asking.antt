@@ -16,15 +16,18 @@ use Rattle.dh_records.proofs.ReadingLemmas.{handed_on}
 use Rattle.dh_schema.specs.Calling.{AreAsked, LooksAtLists, StoreFaultHasCause, IsUnread}
 use Rattle.dh_schema.proofs.CallLemmas.{asked, on_store}
 use Rattle.dh_schema.specs.Tables.{HoldsTables, lists_of}
-use Rattle.dh_tables.specs.Meanings.{AsksFor, AltersWhereHonest, IsChange, IsQuery}
+use Rattle.dh_tables.specs.Meanings.{AsksFor, AltersWhereHonest, IsChange, IsChangeBesidePages, IsQuery}
 use Rattle.dh_tables.proofs.Finding.{first_that}
 use Rattle.dh_tables.proofs.Kept.{all_kept}
 
 pub asked_for : {X : Type 0} {s : State} {encode : X → Row} {typed : X → Type 0} {part : Lists → List X} {test : X → Bool} {sql : List ℕ} {params : Row} → AsksFor encode typed part test s sql params → IsQuery encode typed s sql params
 asked_for {part = part} {test = test} it = (part, test, it)
 
-pub altered : {S : Type 0} (g : Ghosts S) (h : Held S) {sql : List ℕ} {params : Row} {change : Lists → Lists} → AltersWhereHonest g h sql params change → IsChange g h sql params
-altered g h {change = change} it = (change, it)
+pub altered_pages : {S : Type 0} (g : Ghosts S) (h : Held S) {sql : List ℕ} {params : Row} {change : Lists → Lists} → AltersWhereHonest g h sql params change → IsChange g h sql params
+altered_pages g h {change = change} it = (change, it)
+
+pub altered : {S : Type 0} (g : Ghosts S) (h : Held S) {sql : List ℕ} {params : Row} {change : Lists → Lists} → AltersWhereHonest g h sql params change → ((l : Lists) → (change l).pages ≡ l.pages) → IsChangeBesidePages g h sql params
+altered g h {change = change} it stays = (change, stays, it)
 
 -- what a refused query leaves is left by what hands its refusal on
 pub looks_handed : {S T U : Type 0} {g : Ghosts S} {old new : Held S} (r : Result U Fault) {from : Result T Fault} (fault : Fault) → from ≡ Err fault → IsErrAnd r (λ f. f ≡ fault) → OnlyLooks g old new from → OnlyLooks g old new r

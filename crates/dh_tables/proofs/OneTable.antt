@@ -54,6 +54,20 @@ module _ {X : Type 0} {t : Table} {c : Coding X} {typed : X → Type 0} (o : Tab
         (select t o.simple o.plain c s (o.keeps s.now had) text ks ws os is.0 params is.1 suits test c.encode sees (shows (tree_of s.now.schema t.name)) sorts);
   }
 
+  -- SELECT .. FROM t WHERE .. ORDER BY the whole key, which shows these columns of a record
+  pub asks_shown : (s : State) (text : List ℕ) (ks : List ℕ) (ws : List (ℕ × ℕ)) (os : List ℕ) (params : Row) → (select_of t text ≡ Some (ks, ws, os)) × (parameters_in text ≡ Some (length params)) → all_suit t params ws ≡ true
+      → (test : X → Bool) (show : X → Row)
+      → ((n : ℤ) (x : X) → matching (wanted ws) params (Int n ∷ c.encode x) ≡ test x)
+      → ((tree : ℕ) (n : ℤ) (x : X) → outp c (wanted ws) (columns_at ks) (map rising os) tree params (Int n ∷ c.encode x) ≡ (c.key x, show x))
+      → ((x y : X) → key_cmp 0 (map (λ (k : Term × Key). k.1) (map rising os)) (c.key x) (c.key y) ≡ by_key c.key x y)
+      → AsksFor show typed o.part test s text params
+  asks_shown s text ks ws os params is suits test show sees shows sorts = record {
+    kept = o.kept;
+    answers = λ had.
+        subst (λ xs. AnswersWith s text params (map show (filter test xs))) (o.spells s.now)
+        (select t o.simple o.plain c s (o.keeps s.now had) text ks ws os is.0 params is.1 suits test show sees (shows (tree_of s.now.schema t.name)) sorts);
+  }
+
   module _ (s : State) (had : HoldsTables s.now) where
     alters : {text : List ℕ} {params : Row} {change : List X → List X} → ((xs : List X) → AllByRecursion typed xs → AllByRecursion typed (change xs)) → WritesTable s text params t c change → AltersLists s text params (λ l. o.with (change (o.part l)) l)
     alters {change = change} stays it = record { edit = it.edit; changed = λ after made. o.changed s.now after change stays had (it.turns after made) }

@@ -22,3 +22,6 @@ in_order db h = record {
 
 pub routes_in_order : (db : Database) → HoldsTables db → InOrder coding.routes.key (lists_of db).routes
 routes_in_order db h = rises-sort (by_key coding.routes.key) (by_key_total coding.routes.key) _ h.routes.rows.keyed
+
+pub aliases_in_order : (db : Database) → HoldsTables db → InOrder coding.aliases.key (lists_of db).aliases
+aliases_in_order db h = rises-sort (by_key coding.aliases.key) (by_key_total coding.aliases.key) _ h.aliases.rows.keyed

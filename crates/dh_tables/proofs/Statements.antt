@@ -36,7 +36,7 @@ use Rattle.dh_tables.proofs.Matching.{equal_text, above_place, equal_alias, equa
 use Rattle.dh_tables.specs.Listing.{is_redirect_at}
 use Rattle.dh_records.proofs.Keys.{one, two, three, four}
 use Rattle.dh_tables.specs.Meanings.{AltersLists, AsksFor}
-use Rattle.dh_tables.proofs.OneTable.{asks, deletes, deletes_above, inserts, upserts}
+use Rattle.dh_tables.proofs.OneTable.{asks, asks_shown, deletes, deletes_above, inserts, upserts}
 use Rattle.dh_tables.proofs.OurTables.{of_projects, of_langs, of_versions, of_pages, of_used, of_picks, of_passes, of_held, of_rules, of_redirects, of_aliases, of_routes}
 
 abbrev pub project_text : List ℕ
@@ -88,6 +88,16 @@ page_is = (refl, refl)
 
 pub page_asked : (s : State) (host slug lang path : List ℕ) → AsksFor pages.encode IsPage (λ l. l.pages) (is_page host slug lang path) s page_text (Text host ∷ Text slug ∷ Text lang ∷ Text path ∷ [])
 page_asked s host slug lang path = asks of_pages s page_text _ _ _ _ page_is refl (is_page host slug lang path) (λ n x. rw (equal_text x.host host, equal_text x.slug slug, equal_text x.lang lang, equal_text x.path path) (four (bytes_eq x.host host) (bytes_eq x.slug slug) (bytes_eq x.lang lang) (bytes_eq x.path path))) (λ tree n x. refl) (λ x y. refl)
+
+abbrev pub has_page_text : List ℕ
+has_page_text = codes "SELECT host, slug, lang, path FROM page WHERE host = ?1 AND slug = ?2 AND lang = ?3 AND path = ?4 ORDER BY host, slug, lang, path"
+
+has_page_is : (select_of page_table has_page_text ≡ Some (0 ∷ 1 ∷ 2 ∷ 3 ∷ [], (0, 0) ∷ (1, 1) ∷ (2, 2) ∷ (3, 3) ∷ [], 0 ∷ 1 ∷ 2 ∷ 3 ∷ [])) × (parameters_in has_page_text ≡ Some 4)
+unfolding everything
+has_page_is = (refl, refl)
+
+pub has_page_asked : (s : State) (host slug lang path : List ℕ) → AsksFor pages.key IsPage (λ l. l.pages) (is_page host slug lang path) s has_page_text (Text host ∷ Text slug ∷ Text lang ∷ Text path ∷ [])
+has_page_asked s host slug lang path = asks_shown of_pages s has_page_text _ _ _ _ has_page_is refl (is_page host slug lang path) pages.key (λ n x. rw (equal_text x.host host, equal_text x.slug slug, equal_text x.lang lang, equal_text x.path path) (four (bytes_eq x.host host) (bytes_eq x.slug slug) (bytes_eq x.lang lang) (bytes_eq x.path path))) (λ tree n x. refl) (λ x y. refl)
 
 abbrev pub pages_in_text : List ℕ
 pages_in_text = codes "SELECT host, slug, lang, path, media, body FROM page WHERE host = ?1 AND slug = ?2 AND lang = ?3 ORDER BY host, slug, lang, path"

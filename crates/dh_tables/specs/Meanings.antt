@@ -1,5 +1,5 @@
 -- What a statement's text asks of the tables, and what it makes of their lists.
-use Rattle.std.specs.Prelude.{ℕ, Bool, List, map, filter}
+use Rattle.std.specs.Prelude.{◌≡◌, ℕ, Bool, List, map, filter}
 use Rattle.std.specs.List.{AllByRecursion}
 use Rattle.sqlite_value.specs.Order.{Row}
 use Rattle.sqlite.specs.Effect.{Database}
@@ -35,3 +35,8 @@ module _ {S : Type 0} (g : Ghosts S) (h : Held S) (sql : List ℕ) (params : Row
 
   abbrev pub IsChange : Type 0
   IsChange = (change : Lists → Lists) × AltersWhereHonest change
+
+  -- the same, and the pages stay
+  abbrev pub IsChangeBesidePages : Type 0
+  IsChangeBesidePages =
+      (change : Lists → Lists) × ((l : Lists) → (change l).pages ≡ l.pages) × AltersWhereHonest change

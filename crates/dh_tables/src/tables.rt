@@ -23,6 +23,7 @@ mod statement;
 mod versions;
 mod whole;
 
+use dh_page_cache::PageCache;
 use dh_ports::Fault;
 use dh_rows::{begin, commit, rollback, run};
 use dh_schema::make_tables;
@@ -34,11 +35,13 @@ use std::marker::Model;
 /// The records of all hosts, over any store, among whatever other tables it holds.
 pub struct Tables<S: Alter> {
     conn: Connection<S>,
+    /// Pages that were read before, each as the records have it.
+    pages: PageCache,
 }
 
 impl<S: Alter + Drop> Drop for Tables<S> {
     fn drop(self) {
-        let Tables { conn: _ } = self;
+        let Tables { conn: _, pages: _ } = self;
     }
 }
 
@@ -46,6 +49,7 @@ impl<S: Alter> Model for Tables<S> {
     ghost use Rattle.sqlite.specs.Held.{Held, held_code, state};
     ghost use Rattle.dh_rows.specs.Calls.{AreOurs};
     ghost use Rattle.dh_schema.specs.Tables.{HoldsTables};
+    ghost use Rattle.dh_tables.specs.Pages.{ArePagesRight};
 
     ghost Value = { Held S };
 
@@ -53,7 +57,8 @@ impl<S: Alter> Model for Tables<S> {
 
     ghost view = { λ t. t.conn };
 
-    ghost invariant = { λ t. AreOurs HoldsTables (state S.Store t.conn) };
+    ghost invariant = { λ t.
+        AreOurs HoldsTables (state S.Store t.conn) × ArePagesRight S.Store t.conn t.pages };
 }
 
 impl<S: Alter> Tables<S> {
@@ -105,7 +110,10 @@ impl<S: Alter> Tables<S> {
         requires ours { AreOurs HoldsTables (state S.Store conn) }
         ensures { result ≡ conn }
     {
-        Tables { conn }
+        Tables {
+            conn,
+            pages: PageCache::new(),
+        }
     }
 }
 
@@ -114,7 +122,10 @@ impl<S: Alter> Tables<S> {
     pub fn into_conn(self) -> Connection<S>
         ensures { result ≡ self }
     {
-        let Tables { conn } = self;
+        let Tables {
+            conn,
+            pages: _pages,
+        } = self;
         conn
     }
 }
@@ -131,7 +142,10 @@ impl Tables<MemStore> {
     {
         let mut conn = Connection::open_in_memory(alloc)?;
         make_tables(&mut conn)?;
-        let mut tables = Tables { conn };
+        let mut tables = Tables {
+            conn,
+            pages: PageCache::new(),
+        };
         // Once the store was asked, asking it again takes no memory.
         tables.ask()?;
         Ok(tables)

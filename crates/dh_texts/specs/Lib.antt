@@ -1,4 +1,5 @@
 pub mod Bytes
+pub mod Storages
 pub mod Texts
 pub mod SlugOfName
 pub mod Numbers

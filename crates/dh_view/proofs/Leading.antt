@@ -27,7 +27,7 @@ use Rattle.dh_records.specs.declared.records.RouteRow.{RouteRow}
 use Rattle.dh_derived.specs.Rightness.{route_of, routes_due}
 use Rattle.dh_tables.specs.Listing.{is_redirect_at}
 use Rattle.dh_view.specs.Right.{IsRightIn}
-use Rattle.dh_view.specs.Stored.{Led, best_at, best_of, better, is_asked, is_before_best, led_at, led_or}
+use Rattle.dh_view.specs.Stored.{Led, best_at, best_of, better, is_asked, is_before_best, led_among, led_at, led_or}
 
 -- ---- places
 
@@ -128,7 +128,19 @@ module _ (lead : ℕ → Option Location) (forced : Bool) where
       ap (best_of lead forced (drop (i + 1) xs)) step ∙ ap (λ y. best_of lead forced (drop (i + 1) xs) (better lead forced y best)) is
       ∙ sym (at_drop_more (λ l. best_of lead forced l best) xs i x low) ∙ e
 
+-- what leads alike has the same best
+pub best_same : (f g : ℕ → Option Location) (forced : Bool) → ((n : ℕ) → f n ≡ g n) → (xs : List RouteRow) (best : Option Led) → best_of f forced xs best ≡ best_of g forced xs best
+best_same f g forced same [] best = refl
+best_same f g forced same (x ∷ xs) best =
+    ap (λ at. best_of f forced xs (cond (is_asked forced x best) (led_or x.place at best) best)) (same x.place) ∙ best_same f g forced same xs (better g forced x best)
+
 -- ---- a redirect by its place
+
+-- the one at a place among those of a project is the one at it
+pub among_is : (l : Lists) (host : Text) (forced : Bool) (asked : Asked) (rows : List RedirectRow) → rows ≡ filter (is_redirect_of host) l.redirects → (place : ℕ) → led_among rows forced asked place ≡ led_at l host forced asked place
+among_is l host forced asked rows are place =
+    ap (λ xs. led_among xs forced asked place) are
+    ∙ ap (option_and_then (λ (r : RedirectRow). result_in forced r.redirect asked)) (find_in_filter (is_redirect_of host) (λ r. r.place == place) l.redirects)
 
 -- the one at a place of a list that begins with this place
 abbrev at_from : ℕ → List Redirect → ℕ → Option Redirect

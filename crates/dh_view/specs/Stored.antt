@@ -1,5 +1,5 @@
 -- What the stored rows of a host tell: what names stand for, and where its redirects lead.
-use Rattle.std.specs.Prelude.{ℕ, Bool, true, not, ◌&&◌, ◌||◌, nat_lt, if◌then◌else◌, List, [], ◌∷◌, filter, find, Option, Some, None, option_map, option_and_then}
+use Rattle.std.specs.Prelude.{ℕ, Bool, true, not, ◌&&◌, ◌||◌, ◌==◌, nat_lt, if◌then◌else◌, List, [], ◌∷◌, filter, find, Option, Some, None, option_map, option_and_then}
 use Rattle.std.specs.Option.{option_or}
 use Rattle.dh_seen.specs.declared.seen_project.SeenProject.{SeenProject}
 use Rattle.dh_redirects.specs.declared.redirect.Asked.{Asked}
@@ -10,6 +10,7 @@ use Rattle.dh_tables.specs.Listing.{is_redirect_at}
 use Rattle.dh_records.specs.Lists.{Lists, is_route_in}
 use Rattle.dh_records.specs.declared.records.AliasName.{AliasName}
 use Rattle.dh_records.specs.declared.records.AliasName.TheVariants.{Latest, Stable, Default}
+use Rattle.dh_records.specs.declared.records.RedirectRow.{RedirectRow}
 use Rattle.dh_records.specs.declared.records.RouteRow.{RouteRow}
 use Rattle.dh_world.specs.World.{Text}
 
@@ -46,6 +47,11 @@ module _ (lead : ℕ → Option Location) (forced : Bool) where
   abbrev pub best_of : List RouteRow → Option Led → Option Led
   best_of [] best = best
   best_of (x ∷ xs) best = best_of xs (better x best)
+
+-- where the redirect at a place leads, of these of one project
+abbrev pub led_among : List RedirectRow → Bool → Asked → ℕ → Option Location
+led_among rows forced asked place =
+    option_and_then (λ r. result_in forced r.redirect asked) (find (λ r. r.place == place) rows)
 
 module _ (l : Lists) (host : Text) (forced : Bool) (asked : Asked) where
   -- where the redirect at a place leads

@@ -105,6 +105,13 @@ impl<S: Alter> Tables<S> {
         let _ = &self.conn;
     }
 
+    /// States that what names stand for is in the order of its keys; does nothing.
+    pub fn show_alias_order(&self)
+        ensures { HasRecords S.Store self.now (λ l. InOrder coding.aliases.key l.aliases) }
+    {
+        let _ = &self.conn;
+    }
+
     /// Puts a route at a place.
     fn put_route(&mut self, host: &HostName, place: u32, route: &Route) -> Result<(), Fault>
         ensures writes { ChangesLists S.Store self.old self.new result

@@ -11,7 +11,7 @@ ghost use Rattle.dh_schema.specs.Calling.{HasRecords, IsSettled};
 ghost use Rattle.dh_view.specs.Remembered.{IsSeen};
 ghost use Rattle.dh_view.specs.Stored.{stands_for};
 ghost use Rattle.dh_view.specs.View as view;
-ghost use Rattle.dh_view.specs.View.{LooksUp, doubt_of, fails_on, host_in, looks_none, looks_on, meaning_of, unmoved_none, unmoved_on};
+ghost use Rattle.dh_view.specs.View.{LooksUp, doubt_of, fails_on, honest_none, honest_on, host_in, looks_none, looks_on, meaning_of};
 
 use super::aliases::{as_alias, as_text, class_text};
 use super::{HostView, View};
@@ -281,12 +281,12 @@ impl<'a, S: Alter> Lookup for View<'a, S> {
 
     ghost leads_at = { λ a. (refl, refl, refl, looks_none _ a.tables.now) };
 
-    ghost keeps_at = { λ a it. unmoved_none _ a.tables.now it };
+    ghost keeps_at = { λ a. honest_none _ a.tables.now };
 
     ghost leads_on = { λ a b c p q.
         (q.0 ∙ p.0, q.1 ∙ p.1, q.2 ∙ p.2, looks_on p.3 q.3) };
 
-    ghost keeps_on = { λ a b c p q it. unmoved_on (p (q it).same.was_honest) (q it) };
+    ghost keeps_on = { λ a b c p q. honest_on p q };
 
     ghost fails_on = { λ a b c p it. fails_on p.3 it };
 
@@ -320,6 +320,22 @@ impl<'a, S: Alter> Lookup for View<'a, S> {
                 None => Ok(None),
             },
             None => Ok(None),
+        }
+    }
+
+    fn has_page(
+        &mut self,
+        alloc: Global,
+        lang: &Lang,
+        slug: &Slug,
+        path: &str,
+    ) -> Result<bool, Fault> {
+        match self.seen_slug(alloc, slug.as_str())? {
+            Some(own) => match &self.host {
+                Some(host) => self.tables.has_page(alloc, host, &own, lang, path),
+                None => Ok(false),
+            },
+            None => Ok(false),
         }
     }
 

@@ -1,6 +1,7 @@
 //! Where the redirects of a project lead: by their routes, and then each by its place.
 
-ghost use Rattle.std.specs.Prelude.{◌≡◌, None, IfOk, option_map, option_and_then};
+ghost use Rattle.std.specs.Prelude.{◌≡◌, ◌==◌, None, IfOk, find, option_map, option_and_then};
+ghost use Rattle.std.specs.Option.{option_copied};
 ghost use Rattle.dh_redirects.specs.FirstResult as choice;
 ghost use Rattle.dh_view.specs.Stored as spec;
 ghost use Rattle.dh_view.specs.View.{ReadsInTurn};
@@ -10,7 +11,7 @@ use dh_ports::Found;
 use dh_records::{RedirectRow, RouteRow};
 use dh_redirects::{Asked, Location, Redirect};
 use dh_segments::first_segment;
-use dh_tables::Tables;
+use dh_tables::{Listed, Tables};
 use sqlite::Alter;
 use std::alloc::{AllocError, Global};
 
@@ -85,6 +86,80 @@ fn result_of(
     }
 }
 
+/// How many redirects are read one by one. Where more may be asked, those of the project are read at once.
+const MOST_ONE_BY_ONE: usize = 4;
+
+/// How many of these routes have a redirect that counts: of all, or of those with force alone.
+fn count_asked(forced: bool, routes: &[RouteRow]) -> usize {
+    routes
+        .iter()
+        .filter(|route| !forced || route.route.force)
+        .count()
+}
+
+/// The redirect at a place, of these.
+fn find_at(redirects: &[RedirectRow], place: u32) -> Option<&RedirectRow>
+    ensures { option_copied result ≡ find (λ r. r.place == place) redirects.now }
+{
+    redirects.iter().find(|row| row.place == place)
+}
+
+/// Where the redirect at a place leads, of these.
+fn led_among(
+    alloc: Global,
+    forced: bool,
+    redirects: &[RedirectRow],
+    place: u32,
+    asked: &Asked,
+) -> Result<Option<Location>, AllocError>
+    ensures { IfOk result (λ o. o ≡ spec.led_among redirects.now forced asked.now place) }
+{
+    match find_at(redirects, place) {
+        Some(row) => result_in(alloc, forced, &row.redirect, asked),
+        None => Ok(None),
+    }
+}
+
+/// The better of the best so far and where the redirect of a route leads, which is one of these.
+fn better_among(
+    alloc: Global,
+    forced: bool,
+    redirects: &[RedirectRow],
+    route: &RouteRow,
+    asked: &Asked,
+    best: Option<(u32, Location)>,
+) -> Result<Option<(u32, Location)>, AllocError>
+    ensures { IfOk result (λ o. o
+        ≡ spec.better (spec.led_among redirects.now forced asked.now) forced route.now best) }
+{
+    if is_asked(forced, route, &best) {
+        let at = led_among(alloc, forced, redirects, route.place, asked)?;
+        Ok(led_or(route.place, at, best))
+    } else {
+        Ok(best)
+    }
+}
+
+/// The best of the best so far and where the redirects of routes lead, which are some of these.
+fn best_among(
+    alloc: Global,
+    forced: bool,
+    redirects: &[RedirectRow],
+    routes: &[RouteRow],
+    asked: &Asked,
+    best: Option<(u32, Location)>,
+) -> Result<Option<(u32, Location)>, AllocError>
+    ensures { IfOk result (λ o. o
+        ≡ spec.best_of (spec.led_among redirects.now forced asked.now) forced routes.now best) }
+{
+    let mut best = best;
+    for route in routes {
+        let next = better_among(alloc, forced, redirects, route, asked, best)?;
+        best = next;
+    }
+    Ok(best)
+}
+
 impl HostView<'_> {
     /// Where the redirect at a place leads.
     fn led_at<S: Alter>(
@@ -136,8 +211,8 @@ impl HostView<'_> {
         }
     }
 
-    /// The best of the best so far and where the redirects of routes lead.
-    fn best_of<S: Alter>(
+    /// The best of the best so far and where the redirects of routes lead, each read by its place.
+    fn best_by_place<S: Alter>(
         &self,
         tables: &mut Tables<S>,
         forced: bool,
@@ -154,6 +229,48 @@ impl HostView<'_> {
             best = next;
         }
         Ok(best)
+    }
+
+    /// The best of the best so far and where the redirects of routes lead, all of the project read at once.
+    fn best_at_once<S: Alter>(
+        &self,
+        tables: &mut Tables<S>,
+        forced: bool,
+        routes: &[RouteRow],
+        asked: &Asked,
+        best: Option<(u32, Location)>,
+    ) -> Found<(u32, Location)>
+        ensures { ReadsInTurn S.Store tables.old tables.new result (λ l. spec.best_of
+            (spec.led_at l self.now.host.now forced asked.now) forced routes.now best) }
+    {
+        let redirects = RedirectRow::rows(tables, self.alloc, self.host)?;
+        Ok(best_among(
+            self.alloc,
+            forced,
+            redirects.as_slice(),
+            routes,
+            asked,
+            best,
+        )?)
+    }
+
+    /// The best of the best so far and where the redirects of routes lead.
+    fn best_of<S: Alter>(
+        &self,
+        tables: &mut Tables<S>,
+        forced: bool,
+        routes: &[RouteRow],
+        asked: &Asked,
+        best: Option<(u32, Location)>,
+    ) -> Found<(u32, Location)>
+        ensures { ReadsInTurn S.Store tables.old tables.new result (λ l. spec.best_of
+            (spec.led_at l self.now.host.now forced asked.now) forced routes.now best) }
+    {
+        if count_asked(forced, routes) > MOST_ONE_BY_ONE {
+            self.best_at_once(tables, forced, routes, asked, best)
+        } else {
+            self.best_by_place(tables, forced, routes, asked, best)
+        }
     }
 
     /// The best of the best so far and where the redirects of the routes of a segment lead.

@@ -47,6 +47,9 @@ fn any_private(rows: &[VersionRow]) -> bool
 fn is_visible(row: &VersionRow, grants: &[GrantRow]) -> bool
     ensures { result ≡ is_shown grants.now row.now }
 {
+    if !row.version.private {
+        return row.version.active;
+    }
     may_see(&row.version, opens(grants, &row.version.slug))
 }
 

@@ -1,6 +1,7 @@
 //! Calls that no input of the program makes: beside tables of others, within a transaction, outside one.
 
 use dh_opening::{TablesFault, create};
+use dh_paths::HostName;
 use dh_ports::Fault;
 use dh_reply::Lookup;
 use dh_rows::{place_of, run};
@@ -56,5 +57,14 @@ fn a_table_has_a_place_where_it_stands(rt: HostRuntime) -> Result<(), Fail> {
 fn no_transaction_is_none_to_commit(rt: HostRuntime) -> Result<(), Fail> {
     let mut conn = Connection::open_in_memory(rt.alloc())?;
     assert_eq!(rt; run(&mut conn, "COMMIT", &[]), Err(Fault::Store));
+    Ok(())
+}
+
+#[test]
+fn a_host_without_redirects_has_no_routes(rt: HostRuntime) -> Result<(), Fail> {
+    let alloc = rt.alloc();
+    let mut tables = Tables::in_memory(alloc)?;
+    let routes = tables.routes(alloc, &HostName::parse(alloc, "docs.test")?)?;
+    assert!(rt; routes.is_empty());
     Ok(())
 }

@@ -4,16 +4,21 @@ use Rattle.sqlite.specs.Effect.{Database}
 use Rattle.dh_records.specs.Lists.{world_of}
 use Rattle.dh_schema.specs.Tables.{HoldsTables, lists_of}
 use Rattle.dh_schema.proofs.Made.{all_ready, world_empty}
+use Rattle.sqlite.specs.Steps.{over_memory}
+use Rattle.dh_tables.proofs.PagesKept.{none_right}
 use Rattle.dh_tables.proofs.tables.Tables+MemStore.in_memory.Goals as goal
 
 pub make_tables-requires : goal.make_tables-requires
 make_tables-requires c honest = all_ready _ c.in_ok-conn.ensures.empty.2
 
 pub invariant_of-tables : goal.invariant_of-tables
-invariant_of-tables c clean live =
-    let it = c.in_ok-make_tables.ensures.builds.made (memory_is_clean c.in_ok-conn.conn, refl) clean in
-    let same = it.0.settled c.in_ok-conn.ensures.fresh.autocommit in
-    record { now = it.1.holds; last = subst HoldsTables same it.1.holds; steady = ap (λ (d : Database). d.schema) same; settled = λ _. same; unlimited = c.in_ok-make_tables.ensures.builds.goes.lasts.limit ∙ c.in_ok-conn.ensures.fresh.unlimited }
+invariant_of-tables c = (
+  λ clean live.
+      let it = c.in_ok-make_tables.ensures.builds.made (memory_is_clean c.in_ok-conn.conn, refl) clean in
+      let same = it.0.settled c.in_ok-conn.ensures.fresh.autocommit in
+      record { now = it.1.holds; last = subst HoldsTables same it.1.holds; steady = ap (λ (d : Database). d.schema) same; settled = λ _. same; unlimited = c.in_ok-make_tables.ensures.builds.goes.lasts.limit ∙ c.in_ok-conn.ensures.fresh.unlimited },
+  none_right over_memory c.make_tables.new.conn c.new.result c.new.ensures,
+)
 
 pub returns-clause-honest : goal.returns-clause-honest
 returns-clause-honest c = (memory_is_clean c.ask.new.self, refl)

@@ -1,3 +1,4 @@
+use Rattle.std.proofs.Common.{refl}
 use Rattle.sqlite.specs.Held.{state}
 use Rattle.dh_records.specs.Changes as change
 use Rattle.dh_tables.proofs.Asking.{altered}
@@ -5,7 +6,7 @@ use Rattle.dh_tables.proofs.Statements.{drop_pass_alters}
 use Rattle.dh_tables.proofs.tables.Tables.drop_pass.Goals as goal
 
 pub write-requires : goal.write-requires
-write-requires g c = record { change = rw (c.params-to_sql.ensures, c.params-to_sql-2.ensures, c.as_str.ensures.text, c.as_str-2.ensures.text) (altered g.S.Store c.args.self.now (λ honest had. drop_pass_alters (state g.S.Store c.args.self.now) had c.args.host.now c.args.pass.now)) }
+write-requires g c = record { change = rw (c.params-to_sql.ensures, c.params-to_sql-2.ensures, c.as_str.ensures.text, c.as_str-2.ensures.text) (altered g.S.Store c.args.self.now (λ honest had. drop_pass_alters (state g.S.Store c.args.self.now) had c.args.host.now c.args.pass.now) (λ l. refl)) }
 
 pub returns : goal.returns
 returns g c = record { writes = c.write.ensures.writes (change.drop_pass c.args.host.now c.args.pass.now) (rw (c.params-to_sql.ensures, c.params-to_sql-2.ensures, c.as_str.ensures.text, c.as_str-2.ensures.text) (λ honest had. drop_pass_alters (state g.S.Store c.args.self.now) had c.args.host.now c.args.pass.now)) }

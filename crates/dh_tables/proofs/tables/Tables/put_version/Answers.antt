@@ -1,3 +1,4 @@
+use Rattle.std.proofs.Common.{refl}
 use Rattle.sqlite.specs.Held.{state}
 use Rattle.dh_records.specs.Changes as change
 use Rattle.dh_tables.proofs.Asking.{altered}
@@ -5,7 +6,7 @@ use Rattle.dh_tables.proofs.Statements.{put_version_alters}
 use Rattle.dh_tables.proofs.tables.Tables.put_version.Goals as goal
 
 pub write-requires : goal.write-requires
-write-requires g c = record { change = rw c.values.ensures.encoded.1 (altered g.S.Store c.args.self.now (λ honest had. put_version_alters (state g.S.Store c.args.self.now) had c.args.row.now c.values.ensures.typed)) }
+write-requires g c = record { change = rw c.values.ensures.encoded.1 (altered g.S.Store c.args.self.now (λ honest had. put_version_alters (state g.S.Store c.args.self.now) had c.args.row.now c.values.ensures.typed) (λ l. refl)) }
 
 pub returns : goal.returns
 returns g c = record { writes = c.write.ensures.writes (change.put_version c.args.row.now) (rw c.values.ensures.encoded.1 (λ honest had. put_version_alters (state g.S.Store c.args.self.now) had c.args.row.now c.values.ensures.typed)) }

@@ -1,3 +1,4 @@
+use Rattle.std.proofs.Common.{refl}
 use Rattle.sqlite.specs.Held.{state}
 use Rattle.dh_records.specs.Changes as change
 use Rattle.dh_tables.proofs.Asking.{altered}
@@ -5,7 +6,7 @@ use Rattle.dh_tables.proofs.Statements.{drop_redirects_behind_alters}
 use Rattle.dh_tables.proofs.tables.lists.RedirectRowPlaced.drop_behind.Goals as goal
 
 pub write-requires : goal.write-requires
-write-requires g c = record { change = rw (c.params-to_sql.ensures, c.params-to_sql-2.ensures, c.as_str.ensures.text, c.in_ok-count.ensures) (altered g.S.Store c.args.tables.now (λ honest had. drop_redirects_behind_alters (state g.S.Store c.args.tables.now) had c.args.host.now c.args.count)) }
+write-requires g c = record { change = rw (c.params-to_sql.ensures, c.params-to_sql-2.ensures, c.as_str.ensures.text, c.in_ok-count.ensures) (altered g.S.Store c.args.tables.now (λ honest had. drop_redirects_behind_alters (state g.S.Store c.args.tables.now) had c.args.host.now c.args.count) (λ l. refl)) }
 
 pub returns : goal.returns
 returns g c = record { writes = c.write.ensures.writes (change.drop_redirects_behind c.args.host.now c.args.count) (rw (c.params-to_sql.ensures, c.params-to_sql-2.ensures, c.as_str.ensures.text, c.in_ok-count.ensures) (λ honest had. drop_redirects_behind_alters (state g.S.Store c.args.tables.now) had c.args.host.now c.args.count)) }

@@ -1,5 +1,5 @@
 use Rattle.std.proofs.Common.{rules}
-use Rattle.dh_edits.proofs.edits.put_page.Goals as goal
+use Rattle.dh_edits.proofs.edits.put_row.Goals as goal
 
 pub returns-in_err-put_page : goal.returns-in_err-put_page
 returns-in_err-put_page g c = record {

@@ -5,7 +5,7 @@ use Rattle.dh_schema.specs.Tables.{lists_of}
 use Rattle.dh_view.specs.Stored.{best_of, better, led_at}
 use Rattle.dh_view.proofs.Leading.{best_next}
 use Rattle.dh_view.proofs.ViewLemmas.{asks_none, asks_on, asks_then, obtains_handed, still}
-use Rattle.dh_view.proofs.view.HostView.best_of.Goals as goal
+use Rattle.dh_view.proofs.view.HostView.best_by_place.Goals as goal
 
 pub loop-route-init : goal.loop-route-init
 loop-route-init g c = (asks_none c.args.tables.now tt, λ honest. refl)
