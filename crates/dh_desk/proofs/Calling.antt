@@ -1,6 +1,5 @@
--- One call of a desk, and calls up to one.
-use Rattle.std.proofs.Common.{◌≡◌, ◌⊎◌, ℕ, zero, suc, inl, inr, true, false, List, [], ◌∷◌, ◌++◌, map, take, Option, Some, Result, Ok, Err, IfOk, OnOk, refl, sym, ap, subst, subst₂, ◌∙◌, append-nil, append_assoc, true≢false}
-use Rattle.std.specs.Prelude.{slice_get}
+-- One call of a desk, and calls in turn.
+use Rattle.std.proofs.Common.{◌≡◌, ◌⊎◌, ℕ, inl, inr, true, false, List, [], ◌∷◌, ◌++◌, map, Option, Result, Ok, Err, IfOk, OnOk, refl, sym, ap, subst, subst₂, ◌∙◌, append-nil, append_assoc, true≢false}
 use Rattle.std.proofs.lemmas.Bool.{cases_Bool}
 use Rattle.std.proofs.lemmas.List.{map-append}
 use Rattle.sqlite_trees.specs.declared.store.Store.{Ghosts}
@@ -11,16 +10,17 @@ use Rattle.dh_wire.specs.declared.reply.Reply.{Reply}
 use Rattle.dh_world.specs.World.{Text, World}
 use Rattle.dh_world.specs.declared.answer.Answer.{Answer}
 use Rattle.dh_world.specs.declared.outcome.Outcome.{Outcome}
-use Rattle.dh_world.specs.declared.outcome.Outcome.TheVariants.{Applied}
+use Rattle.dh_world.specs.declared.command.Command.{Command}
 use Rattle.dh_world.specs.declared.refusal.Refusal.{Refusal}
+use Rattle.dh_world.specs.Step.{IsStep}
 use Rattle.dh_histories.specs.declared.call.Call.{Call}
 use Rattle.dh_histories.specs.declared.call.Call.TheVariants.{Act, Ask}
 use Rattle.dh_histories.specs.CallsDone.{IsCallDone, AreCallsDone, outcome_of, outcome_of_read, calls_left, outcomes_left}
 use Rattle.dh_histories.specs.Runs.{reply_in}
-use Rattle.dh_histories.proofs.CallLemmas.{run_before, done_is_run}
-use Rattle.dh_desk.specs.Desk.{HasCleanDisk, IsHonest, KeepsFaults, WorldGoesBy, Standing, state, world}
-use Rattle.dh_desk.specs.DeskRuns.{DoesCall, DoesCalls, DoesWhileOpen, IsRunTo, IsDeskRun, is_applied, is_faulted, unanswered}
-use Rattle.dh_desk.proofs.Moving.{WorldGoesBy-refl, WorldGoesBy-trans}
+use Rattle.dh_histories.proofs.CallLemmas.{run_before}
+use Rattle.dh_desk.specs.Desk.{HasCleanDisk, IsHonest, WorldGoesBy, Standing, state, world}
+use Rattle.dh_desk.specs.DeskRuns.{DoesCall, DoesCalls, DoesWhileOpen, IsRunTo, IsDeskRun, is_answered, is_faulted, unanswered}
+use Rattle.dh_desk.proofs.Moving.{WorldGoesBy-refl, WorldGoesBy-trans, goes_clean}
 
 -- ---- one call
 
@@ -34,15 +34,21 @@ read_done before after named host shown pass moment asked call answer outcome sa
     let by_pass = subst (λ p. IfOk answer (λ reply. reply ≡ reply_in before host p moment asked)) same_pass by_host in
     subst (λ x. IsCallDone before x after outcome) (sym is) (answer, same, by_pass, told)
 
--- a command that was accepted was answered
-pub applied_live : {P : Type 0} (answer : Result Answer Refusal) (outcome : Outcome) → OnOk answer P → outcome ≡ outcome_of answer → is_applied outcome ≡ true → P
-applied_live (Ok a) outcome live told is = live
-applied_live (Err e) outcome live told is = absurd (true≢false (sym is ∙ ap is_applied told))
+-- a command is done
+pub act_done
+    : (before after : World) (command : Command) (call : Call) (answer : Result Answer Refusal) (outcome : Outcome)
+    → IsStep before after command answer → outcome ≡ outcome_of answer → call ≡ Act command → IsCallDone before call after outcome
+act_done before after command call answer outcome step told is = subst (λ x. IsCallDone before x after outcome) (sym is) (answer, step, told)
 
--- a read is no command
-pub read_unapplied : {P : Type 0} (answer : Result Reply Fault) (outcome : Outcome) → outcome ≡ outcome_of_read answer → is_applied outcome ≡ true → P
-read_unapplied (Ok reply) outcome told is = absurd (true≢false (sym is ∙ ap is_applied told))
-read_unapplied (Err fault) outcome told is = absurd (true≢false (sym is ∙ ap is_applied told))
+-- an honest store alone accepts a command
+pub applied_live : {P : Type 0} (answer : Result Answer Refusal) (outcome : Outcome) → OnOk answer P → outcome ≡ outcome_of answer → is_answered outcome ≡ true → P
+applied_live (Ok a) outcome live told is = live
+applied_live (Err e) outcome live told is = absurd (true≢false (sym is ∙ ap is_answered told))
+
+-- and answers a read
+pub replied_live : {P : Type 0} (answer : Result Reply Fault) (outcome : Outcome) → OnOk answer P → outcome ≡ outcome_of_read answer → is_answered outcome ≡ true → P
+replied_live (Ok reply) outcome live told is = live
+replied_live (Err fault) outcome live told is = absurd (true≢false (sym is ∙ ap is_answered told))
 
 -- ---- calls in turn
 
@@ -54,14 +60,6 @@ none_left : (calls : List Call) → (calls_left calls (map unanswered calls) ≡
 none_left [] = (refl, refl)
 none_left (Act c ∷ calls) = none_left calls
 none_left (Ask host pass moment asked ∷ calls) = none_left calls
-
--- and no command is accepted by one
-none_applied : (calls : List Call) (n : ℕ) (answer : Answer) → slice_get (map unanswered calls) n ≡ Some (Applied answer) → {A : Type 0} → A
-none_applied [] n answer e = absurd (cc)
-none_applied (Act c ∷ calls) zero answer e = absurd (cc)
-none_applied (Ask host pass moment asked ∷ calls) zero answer e = absurd (cc)
-none_applied (Act c ∷ calls) (suc n) answer e = none_applied calls n answer e
-none_applied (Ask host pass moment asked ∷ calls) (suc n) answer e = none_applied calls n answer e
 
 module _ {S : Type 0} (g : Ghosts S) where
   does_moves : (a c : Standing S) (calls : List Call) (outcomes : List Outcome) → DoesCalls g a calls c outcomes → WorldGoesBy g a c (λ before after. AreCallsDone before calls after outcomes)
@@ -95,7 +93,7 @@ module _ {S : Type 0} (g : Ghosts S) where
   pub open_and_one
       : (a b c : Standing S) (calls : List Call) (outcomes : List Outcome) (call : Call) (outcome : Outcome) → DoesWhileOpen g a b calls outcomes
       → WorldGoesBy g b c (λ before after. IsCallDone before call after outcome)
-      → (HasCleanDisk (state g c.tables) → is_applied outcome ≡ true → IsHonest g c.tables)
+      → (HasCleanDisk (state g c.tables) → is_answered outcome ≡ true → IsHonest g c.tables)
       → (b.closed ≡ true → (outcome ≡ unanswered call) × (c ≡ b)) → (c.closed ≡ true → outcome ≡ unanswered call) → (c.closed ≡ false → is_faulted outcome ≡ false)
       → DoesWhileOpen g a c (calls ++ call ∷ []) (outcomes ++ outcome ∷ [])
   open_and_one a b c calls outcomes call outcome runs one live closed closes opens = go runs.ends (cases_Bool c.closed)
@@ -135,50 +133,12 @@ module _ {S : Type 0} (g : Ghosts S) where
 
   -- ---- calls over a desk are a run
 
-  -- The calls up to a command that was accepted, whatever came behind it.
-  record UpTo (a : Standing S) (calls : List Call) (outcomes : List Outcome) : Type 0 where
-    at : Standing S
-    honest : IsHonest g at.tables
-    lasts : KeepsFaults g a.tables at.tables
-    done : AreCallsDone (world g a) calls (world g at) outcomes
-
-  up_to : (a c : Standing S) (done rest : List Call) (told : List Outcome) → DoesCalls g a done c told → HasCleanDisk (state g c.tables) → (n : ℕ) (answer : Answer)
-      → slice_get (told ++ map unanswered rest) n ≡ Some (Applied answer) → UpTo a (take (suc n) (done ++ rest)) (take (suc n) (told ++ map unanswered rest))
-  up_to a c [] rest told (same, none) clean n answer e = none_applied rest n answer (sym (ap (λ os. slice_get (os ++ map unanswered rest) n) none) ∙ e)
-  up_to a c (call ∷ done) rest told (between, outcome, more, first, others, parts) clean n answer e =
-      subst (λ os. slice_get (os ++ map unanswered rest) n ≡ Some (Applied answer) → UpTo a (take (suc n) (call ∷ done ++ rest)) (take (suc n) (os ++ map unanswered rest))) (sym parts)
-      (go n (λ m. up_to between c done rest more others clean m answer)) e
-    where
-      go : (n : ℕ) → ((m : ℕ) → slice_get (more ++ map unanswered rest) m ≡ Some (Applied answer) → UpTo between (take (suc m) (done ++ rest)) (take (suc m) (more ++ map unanswered rest)))
-          → slice_get (outcome ∷ more ++ map unanswered rest) n ≡ Some (Applied answer)
-          → UpTo a (take (suc n) (call ∷ done ++ rest)) (take (suc n) (outcome ∷ more ++ map unanswered rest))
-      go zero later e =
-          let it : outcome ≡ Applied answer = cc in
-          let honest : IsHonest g between.tables = first.live ((does_moves between c done more others).lasts.clean clean) (ap is_applied it) in
-          record { at = between; honest = honest; lasts = first.moves.lasts; done = (world g between, outcome, [], first.moves.moves honest, (refl, refl), refl) }
-      go (suc m) later e =
-          let it = later m e in
-          record {
-            at = it.at;
-            honest = it.honest;
-            lasts = lasts_on first.moves.lasts it.lasts;
-            done = (world g between, outcome, take (suc m) (more ++ map unanswered rest), first.moves.moves (it.lasts.was it.honest), it.done, refl);
-          }
-
   pub is_desk_run : (old new : Standing S) (calls : List Call) (outcomes : List Outcome) → DoesWhileOpen g old new calls outcomes → IsDeskRun g old new calls outcomes
-  is_desk_run old new calls outcomes runs = record {
-    honest = λ honest.
-        let none = none_left runs.rest in
-        let ran = (does_moves old runs.between runs.done runs.told runs.does).moves (runs.lasts.was honest) in (
-          world g runs.between,
-          subst₂ (λ cs os. IsRunTo g old (world g runs.between) cs os) (sym runs.calls_are) (sym runs.outcomes_are)
-              (run_before _ _ runs.done runs.rest runs.told (map unanswered runs.rest) ran none.0 none.1),
-          elim runs.ends [ inl is ↦ inl (ap (world g) (sym is.1)) | inr shut ↦ inr shut ],
-        );
-    accepted = λ clean n answer is.
-        let it = up_to old runs.between runs.done runs.rest runs.told runs.does (runs.lasts.clean clean) n answer (sym (ap (λ os. slice_get os n) runs.outcomes_are) ∙ is) in (
-          world g it.at,
-          subst₂ (λ cs os. IsRunTo g old (world g it.at) (take (suc n) cs) (take (suc n) os)) (sym runs.calls_are) (sym runs.outcomes_are)
-              (done_is_run _ _ _ _ it.done),
-        );
-  }
+  is_desk_run old new calls outcomes runs clean =
+      let none = none_left runs.rest in
+      let ran = goes_clean (does_moves old runs.between runs.done runs.told runs.does) (runs.lasts.clean clean) in (
+        ran.0,
+        subst₂ (λ cs os. IsRunTo g old ran.0 cs os) (sym runs.calls_are) (sym runs.outcomes_are)
+            (run_before _ _ runs.done runs.rest runs.told (map unanswered runs.rest) ran.1 none.0 none.1),
+        λ honest. elim runs.ends [ inl is ↦ inl (ran.2 (runs.lasts.was honest) ∙ ap (world g) (sym is.1)) | inr shut ↦ inr shut ],
+      )

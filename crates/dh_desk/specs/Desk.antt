@@ -53,10 +53,16 @@ module _ {S : Type 0} (g : Ghosts S) where
   abbrev pub world_seen : Held S → World
   world_seen h = world_of (records g h)
 
-  -- What every call leaves: where the store is honest, `Relates` holds of the world before and the world after.
+  -- the world, as far as it is known: that of the desk's tables where the store is honest
+  abbrev pub IsWorldOf : Standing S → World → Type 0
+  IsWorldOf d w = IsHonest g d.tables → w ≡ world d
+
+  -- What every call leaves, while the disk returns what was written, also where a fault shuts the store: from each world that is
+  -- the desk's before, as far as it is known, `Relates` leads to one that is the desk's after.
   pub record WorldGoesBy (old new : Standing S) (Relates : World → World → Type 0) : Type 0 where
     pub lasts : KeepsFaults g old.tables new.tables
-    pub moves : IsHonest g new.tables → Relates (world old) (world new)
+    pub moves : HasCleanDisk (state g new.tables) → (before : World) → IsWorldOf old before
+        → (after : World) × Relates before after × IsWorldOf new after
 
   -- while the store is honest, what is committed is sound, and its stored rows are right
   abbrev pub IsKept : Held S → Type 0
@@ -65,6 +71,10 @@ module _ {S : Type 0} (g : Ghosts S) where
   -- while the store is honest, each reply that is kept is that of the world
   abbrev pub AreCurrent : Held S → Replies → Type 0
   AreCurrent h kept = IsHonest g h → AreRepliesRight (world_of (last_records g h)) kept.entries
+
+  -- where the last call was answered, the store is open while the disk returns what was written
+  abbrev pub IsSure : Bool → Held S → Type 0
+  IsSure sure h = sure ≡ true → HasCleanDisk (state g h) → IsHonest g h
 
   -- out of memory is told of an open store alone
   abbrev pub TellsMemory : Held S → Result Answer Refusal → Type 0

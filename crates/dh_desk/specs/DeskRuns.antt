@@ -1,11 +1,10 @@
 -- What a list of calls does over a desk, which a fault of the store may close on the way.
-use Rattle.std.specs.Prelude.{◌≡◌, ◌⊎◌, ℕ, suc, Bool, true, false, List, [], ◌∷◌, ◌++◌, map, take, slice_get, Some}
+use Rattle.std.specs.Prelude.{◌≡◌, ◌⊎◌, Bool, true, false, List, [], ◌∷◌, ◌++◌, map}
 use Rattle.sqlite_trees.specs.declared.store.Store.{Ghosts}
 use Rattle.dh_ports.specs.declared.fault.Fault.TheVariants as fault
 use Rattle.dh_world.specs.World.{World}
-use Rattle.dh_world.specs.declared.answer.Answer.{Answer}
 use Rattle.dh_world.specs.declared.outcome.Outcome.{Outcome}
-use Rattle.dh_world.specs.declared.outcome.Outcome.TheVariants.{Applied, Refused, Failed}
+use Rattle.dh_world.specs.declared.outcome.Outcome.TheVariants.{Applied, Refused, Replied, Failed}
 use Rattle.dh_world.specs.declared.refusal.Refusal.TheVariants as refusal
 use Rattle.dh_histories.specs.declared.call.Call.{Call}
 use Rattle.dh_histories.specs.declared.call.Call.TheVariants.{Act, Ask}
@@ -24,17 +23,18 @@ is_faulted (Refused refusal.Store) = true
 is_faulted (Failed fault.Store) = true
 is_faulted _ = false
 
--- a command was accepted
-abbrev pub is_applied : Outcome → Bool
-is_applied (Applied answer) = true
-is_applied _ = false
+-- a command was accepted, or a read was replied to
+abbrev pub is_answered : Outcome → Bool
+is_answered (Applied answer) = true
+is_answered (Replied reply) = true
+is_answered _ = false
 
 module _ {S : Type 0} (g : Ghosts S) where
-  -- What one call does that leaves the desk open, and its outcome. While the disk returns what was written, only an honest store
-  -- accepts a command.
+  -- What one call does that leaves the desk open, and its outcome. While the disk returns what was written, an honest store alone
+  -- accepts a command or replies to a read.
   pub record DoesCall (old new : Standing S) (call : Call) (outcome : Outcome) : Type 0 where
     pub moves : WorldGoesBy g old new (λ before after. IsCallDone before call after outcome)
-    pub live : HasCleanDisk (state g new.tables) → is_applied outcome ≡ true → IsHonest g new.tables
+    pub live : HasCleanDisk (state g new.tables) → is_answered outcome ≡ true → IsHonest g new.tables
     pub unfaulted : is_faulted outcome ≡ false
 
   -- what calls do that leave the desk open, one after the other
@@ -65,11 +65,9 @@ module _ {S : Type 0} (g : Ghosts S) where
   IsRunTo old last calls outcomes =
       run (world g old) (calls_left calls outcomes) ≡ (last, outcomes_left calls outcomes)
 
-  -- What calls over a desk come to: where the store is honest afterwards, a run that ends in the desk's world, or in any where
-  -- the desk is closed; and while the disk returns what was written, a run up to each accepted command.
-  pub record IsDeskRun (old new : Standing S) (calls : List Call) (outcomes : List Outcome) : Type 0 where
-    pub honest : IsHonest g new.tables → (last : World) × IsRunTo old last calls outcomes
-        × ((last ≡ world g new) ⊎ (new.closed ≡ true))
-    pub accepted : HasCleanDisk (state g new.tables) → (n : ℕ) (answer : Answer)
-        → slice_get outcomes n ≡ Some (Applied answer)
-        → (last : World) × IsRunTo old last (take (suc n) calls) (take (suc n) outcomes)
+  -- What calls over a desk come to while the disk returns what was written, also where a fault shuts the store on the way: a run,
+  -- which ends in the desk's world where the store is honest afterwards, unless the desk is closed.
+  abbrev pub IsDeskRun : Standing S → Standing S → List Call → List Outcome → Type 0
+  IsDeskRun old new calls outcomes =
+      HasCleanDisk (state g new.tables) → (last : World) × IsRunTo old last calls outcomes
+      × (IsHonest g new.tables → (last ≡ world g new) ⊎ (new.closed ≡ true))

@@ -2,7 +2,7 @@
 ghost use Rattle.std.specs.Prelude.{◌≡◌, true, false, length, option_map, IfOk, OnErr};
 ghost use Rattle.dh_histories.specs.CallsDone.{AreCallsDone, IsCallDone, outcome_of, outcome_of_read};
 ghost use Rattle.dh_desk.specs.Desk.{HasCleanDisk, IsHonest, WorldGoesBy, state};
-ghost use Rattle.dh_desk.specs.DeskRuns.{DoesWhileOpen, is_applied, is_faulted, unanswered};
+ghost use Rattle.dh_desk.specs.DeskRuns.{DoesWhileOpen, is_answered, is_faulted, unanswered};
 
 use crate::desk::Desk;
 use dh_histories::Call;
@@ -49,7 +49,7 @@ impl<S: Alter> Desk<S> {
         ensures done { WorldGoesBy S.Store self.old self.new
             (λ before after. IsCallDone before call.now after result) }
         ensures live { HasCleanDisk (state S.Store self.new.tables)
-            → is_applied result ≡ true → IsHonest S.Store self.new.tables }
+            → is_answered result ≡ true → IsHonest S.Store self.new.tables }
         ensures closed { self.old.closed ≡ true
             → (result ≡ unanswered call.now) × (self.new ≡ self.old) }
         ensures closes { self.new.closed ≡ true → result ≡ unanswered call.now }

@@ -15,7 +15,7 @@ ghost use Rattle.dh_world.specs.Step.{IsStep};
 ghost use Rattle.dh_desk.specs.Desk.{StoreFaultHasCause, HasCleanDisk, IsHonest, IsRefused, last_records, lists_of};
 ghost use Rattle.dh_ports.specs.declared.fault.Fault.TheVariants as fault;
 ghost use Rattle.dh_replies.specs.declared.replies.TheConstants.{MOST_REPLIES};
-ghost use Rattle.dh_desk.specs.Desk.{IsKept, TellsMemory, is_fault, reply_in, state, veil_of, world};
+ghost use Rattle.dh_desk.specs.Desk.{IsKept, TellsMemory, WorldGoesBy, is_fault, reply_in, state, veil_of, world};
 
 mod listing;
 
@@ -36,6 +36,8 @@ pub struct Desk<S: Alter> {
     tables: Tables<S>,
     /// Whether a fault of the store has closed the desk.
     closed: bool,
+    /// Whether the last call was answered, and so left an open store.
+    sure: bool,
     replies: Replies,
 }
 
@@ -44,6 +46,7 @@ impl<S: Alter + Drop> Drop for Desk<S> {
         let Desk {
             tables: _,
             closed: _,
+            sure: _,
             replies: _,
         } = self;
     }
@@ -51,7 +54,7 @@ impl<S: Alter + Drop> Drop for Desk<S> {
 
 impl<S: Alter> Model for Desk<S> {
     ghost use Rattle.std.specs.Prelude.{length};
-    ghost use Rattle.dh_desk.specs.Desk.{Standing, standing_code, AreCurrent, IsKept};
+    ghost use Rattle.dh_desk.specs.Desk.{Standing, standing_code, AreCurrent, IsKept, IsSure};
 
     ghost Value = { Standing S };
 
@@ -61,7 +64,7 @@ impl<S: Alter> Model for Desk<S> {
         record { tables = d.tables; closed = d.closed; cached = length d.replies.entries.entries } };
 
     ghost invariant = { λ d.
-        IsKept S.Store d.tables × AreCurrent S.Store d.tables d.replies };
+        IsKept S.Store d.tables × AreCurrent S.Store d.tables d.replies × IsSure S.Store d.sure d.tables };
 }
 
 /// Asks the store, after memory was out: undoes what stands open, and asks whether the store still answers, which takes no
@@ -105,7 +108,7 @@ fn undo_then_run<S: Alter>(
     run_transaction(tables, alloc, command)
 }
 
-/// Does a command, and tells out of memory only where the store is open.
+/// Does a command, and tells the fault of the store in place of any refusal behind which the store no longer answers.
 fn run_or_ask_store<S: Alter>(
     tables: &mut Tables<S>,
     alloc: Global,
@@ -114,9 +117,16 @@ fn run_or_ask_store<S: Alter>(
     requires { IsKept S.Store tables.old }
     ensures transacts { IsOneTransaction S.Store tables.old tables.new command.now result }
     ensures open { TellsMemory S.Store tables.new result }
+    ensures told { HasCleanDisk (state S.Store tables.new)
+        → IfErr result (λ e. IsFault e ⊎ IsHonest S.Store tables.new) }
 {
     match undo_then_run(tables, alloc, command) {
         Err(Refusal::OutOfMemory) => Err(ask_store(tables)),
+        Err(Refusal::Store) => Err(Refusal::Store),
+        Err(refusal) => match tables.ask() {
+            Ok(()) => Err(refusal),
+            Err(_) => Err(Refusal::Store),
+        },
         answer => answer,
     }
 }
@@ -149,6 +159,7 @@ impl<S: Alter> Desk<S> {
             Ok(replies) => Ok(Desk {
                 tables,
                 closed: false,
+                sure: false,
                 replies,
             }),
             Err(_) => Err((Fault::Memory, tables)),
@@ -184,6 +195,7 @@ impl<S: Alter> Desk<S> {
         let Desk {
             tables,
             closed: _,
+            sure: _,
             replies: _replies,
         } = self;
         tables.into_conn()
@@ -205,9 +217,11 @@ impl<S: Alter> Desk<S> {
     }
 
     /// Does a command, as one transaction. An accepted command has changed the world; a refused one has left it as it was. After
-    /// a fault of the store the desk answers `Store` to each command. Out of memory is told only where the store still answers;
-    /// else the fault of the store is told.
+    /// a fault of the store the desk answers `Store` to each command. Any other refusal is told only where the store still
+    /// answers; else the fault of the store is told.
     pub fn apply(&mut self, alloc: Global, command: &Command) -> Result<Answer, Refusal>
+        ensures goes { WorldGoesBy S.Store self.old self.new
+            (λ before after. IsStep before after command.now result) }
         ensures step { IsHonest S.Store self.new.tables
             → IsStep (world S.Store self.old) (world S.Store self.new) command.now result }
         ensures outside { IsHonest S.Store self.new.tables
@@ -221,6 +235,8 @@ impl<S: Alter> Desk<S> {
             → LeavesNoMore S.Store self.old.tables self.new.tables }
         ensures live { HasCleanDisk (state S.Store self.new.tables)
             → OnOk result (IsHonest S.Store self.new.tables) }
+        ensures told { HasCleanDisk (state S.Store self.new.tables)
+            → IfErr result (λ e. IsFault e ⊎ IsHonest S.Store self.new.tables) }
         ensures open { TellsMemory S.Store self.new.tables result }
         ensures closed { self.old.closed ≡ true
             → (result ≡ Err Refusal.Store) × (self.new ≡ self.old) }
@@ -234,6 +250,7 @@ impl<S: Alter> Desk<S> {
         }
         let answer = run_or_ask_store(&mut self.tables, alloc, command);
         self.closed = has_failed(&answer);
+        self.sure = answer.is_ok();
         if answer.is_ok() {
             self.replies.clear();
         }
@@ -251,10 +268,15 @@ impl<S: Alter> Desk<S> {
         asked: &Read,
         now: u64,
     ) -> Result<Reply, Fault>
-        ensures value { IsHonest S.Store self.new.tables
+        ensures live { HasCleanDisk (state S.Store self.new.tables)
+            → OnOk result (IsHonest S.Store self.new.tables) }
+        ensures value { HasCleanDisk (state S.Store self.new.tables)
             → IfOk result (λ r. r ≡ reply_in (world S.Store self.old) host.now
             (option_map (λ text. text.now) pass.entry) now asked.now) }
-        ensures veiled { IsHonest S.Store self.new.tables
+        ensures goes { WorldGoesBy S.Store self.old self.new (λ before after. (after ≡ before)
+            × IfOk result (λ r. r ≡ reply_in before host.now
+            (option_map (λ text. text.now) pass.entry) now asked.now)) }
+        ensures veiled { HasCleanDisk (state S.Store self.new.tables)
             → IfOk result (λ r. r ≡ reply_in
             (veil_of (world S.Store self.old) host.now
             (option_map (λ text. text.now) pass.entry) now)
@@ -280,6 +302,7 @@ impl<S: Alter> Desk<S> {
         let answer = read(
             &mut self.tables,
             &mut self.replies,
+            self.sure,
             alloc,
             host,
             pass,
@@ -287,6 +310,7 @@ impl<S: Alter> Desk<S> {
             now,
         );
         self.closed = is_unanswered(&answer);
+        self.sure = answer.is_ok();
         answer
     }
 }

@@ -38,8 +38,8 @@ pub fn worlds_are_filed()
     ensures { (lists : Lists) → IsFiled (world_of lists) }
 {}
 
-/// Calls over a desk are a run, once those that were set aside are taken out: all of them where the store is honest afterwards,
-/// and else those up to each accepted command, while the disk returns what was written.
+/// While the disk returns what was written, calls over a desk are a run, once those that were set aside are taken out: also where
+/// a fault shuts the store on the way.
 pub fn calls_are_a_run<S: Alter>()
     ensures { (old new : Standing S) (calls : List Call) (outcomes : List Outcome)
         → DoesWhileOpen S.Store old new calls outcomes

@@ -1,15 +1,49 @@
 -- What is written, from what is made for a request.
-use Rattle.std.proofs.Common.{ℕ, false, List, Option, Some, None, Result, Ok, Err, inl, inr, refl, subst}
+use Rattle.std.proofs.Common.{◌≡◌, ℕ, Bool, false, List, Option, Some, None, Result, Ok, Err, IfOk, inl, inr, refl, sym, subst}
 use Rattle.std.specs.Prelude.{IfSome}
+use Rattle.std.specs.Result.{result_ok}
 use Rattle.dh_requests.specs.declared.request.Request.{Request}
+use Rattle.dh_requests.specs.declared.request.Request.TheVariants as request
 use Rattle.dh_requests.specs.Request.{IsRequest}
 use Rattle.dh_requests.proofs.Requests.{one}
+use Rattle.dh_wire.specs.Statuses.{fault_reply_of}
+use Rattle.dh_wire.specs.declared.reply.Allow.{Allow}
+use Rattle.dh_wire.specs.declared.reply.Read.{Read}
+use Rattle.dh_wire.specs.declared.reply.Reply.{Reply}
 use Rattle.dh_world.specs.World.{World}
+use Rattle.dh_world.specs.Step.{IsStep}
+use Rattle.dh_world.specs.declared.answer.Answer.{Answer}
+use Rattle.dh_world.specs.declared.command.Command.{Command}
+use Rattle.dh_world.specs.declared.refusal.Refusal.{Refusal}
 use Rattle.dh_http.specs.declared.fault.Done.{Done}
 use Rattle.dh_http.specs.declared.fault.EngineFault.{EngineFault}
 use Rattle.dh_http.specs.declared.fault.EngineFault.TheVariants as fault
-use Rattle.dh_http.specs.Commands.{unavailable}
-use Rattle.dh_http.specs.Answers.{IsWritten, AnswersRequest, AnswersSource, WritesAnswer, IsRefusal, AsksInVain}
+use Rattle.dh_http.specs.Commands.{command_reply, unavailable}
+use Rattle.dh_http.specs.Answers.{IsReplyTo, IsWritten, AnswersRequest, AnswersSource, MakesReply, MayDoRequest, WritesAnswer, IsRefusal, AsksInVain, is_bodiless, read_reply}
+
+-- a command was done, and its reply is the outcome's
+pub applied : {E : Type 0} (moment : ℕ) (before after : World) (command : Command) (outcome : Result Answer Refusal) (r : Result Reply E) (o : Option Reply)
+    → o ≡ result_ok r → IfOk r (λ q. q ≡ command_reply outcome) → IsStep before after command outcome → MakesReply moment before after (request.Apply command) o
+applied moment before after command outcome (Ok q) o is value step = subst (MakesReply moment before after (request.Apply command)) (sym is) (outcome, step, value)
+applied moment before after command outcome (Err e) o is value step = subst (MakesReply moment before after (request.Apply command)) (sym is) (outcome, step)
+
+-- a read was replied to, or was not, and left the world
+pub read_made : (moment : ℕ) (before after : World) (host pass : Option (List ℕ)) (read : Read) (head : Bool) (o : Option Reply)
+    → (after ≡ before) × IfSome o (λ q. q ≡ read_reply moment before host pass read) → MakesReply moment before after (request.Read host pass read head) o
+read_made moment before after host pass read head (Some q) it = it
+read_made moment before after host pass read head None it = it.0
+
+-- a request was refused, which leaves the world
+pub refusal_made : {E : Type 0} (moment : ℕ) (world : World) (status : ℕ) (allow : Option Allow) (head : Bool) (r : Result Reply E) (o : Option Reply)
+    → o ≡ result_ok r → IfOk r (λ q. q ≡ fault_reply_of status allow) → MakesReply moment world world (request.Refused status allow head) o
+refusal_made moment world status allow head (Ok q) o is value = subst (MakesReply moment world world (request.Refused status allow head)) (sym is) (refl, value)
+refusal_made moment world status allow head (Err e) o is value = subst (MakesReply moment world world (request.Refused status allow head)) (sym is) refl
+
+-- what has a reply was done
+pub reply_lost : (moment : ℕ) (before after : World) (request : Request) (reply : Reply) → IsReplyTo moment before after request reply → MayDoRequest before after request
+reply_lost moment before after (request.Read host pass read head) reply it = it.0
+reply_lost moment before after (request.Apply command) reply it = (it.0, it.1)
+reply_lost moment before after (request.Refused status allow head) reply it = it.0
 
 -- what is written of one kind is of another
 pub writes_as : (P Q : ℕ → List ℕ → Type 0) (held now : Option (List ℕ)) (r : Result Done EngineFault) → ((s : ℕ) (t : List ℕ) → P s t → Q s t) → WritesAnswer P held now r → WritesAnswer Q held now r
@@ -17,6 +51,22 @@ writes_as P Q held now (Ok done) h w = (w.0, h done.status w.0 w.1, w.2)
 writes_as P Q held now (Err (fault.Write n)) h w = (w.0, w.1, h w.0 w.1 w.2, w.3)
 writes_as P Q held now (Err fault.Read) h w = w
 writes_as P Q held now (Err fault.TooManyTurns) h w = w
+
+-- the reply to a request was written
+pub made_answered
+    : (moment : ℕ) (before after : World) (request : Request) (reply : Reply) (head : Bool) (held now : Option (List ℕ)) (r : Result Done EngineFault)
+    → IsReplyTo moment before after request reply → head ≡ is_bodiless request → WritesAnswer (IsWritten reply head) held now r
+    → WritesAnswer (AnswersRequest moment before after request) held now r
+made_answered moment before after request reply head held now r it same =
+    writes_as (IsWritten reply head) (AnswersRequest moment before after request) held now r (λ s t w. (reply, inl it, subst (λ b. IsWritten reply b s t) same w))
+
+-- and the constant 503, where there is none
+pub unmade_answered
+    : (moment : ℕ) (before after : World) (request : Request) (head : Bool) (held now : Option (List ℕ)) (r : Result Done EngineFault)
+    → MayDoRequest before after request → head ≡ is_bodiless request → WritesAnswer (IsWritten unavailable head) held now r
+    → WritesAnswer (AnswersRequest moment before after request) held now r
+unmade_answered moment before after request head held now r it same =
+    writes_as (IsWritten unavailable head) (AnswersRequest moment before after request) held now r (λ s t w. (unavailable, inr (refl, it), subst (λ b. IsWritten unavailable b s t) same w))
 
 answers_source : (moment : ℕ) (before after : World) (left : Option (List ℕ)) (request : Request) → IfSome left (λ input. IsRequest input request) → (s : ℕ) (t : List ℕ) → AnswersRequest moment before after request s t → AnswersSource moment left before after s t
 answers_source moment before after left request is s t a = inl (request, is, a)

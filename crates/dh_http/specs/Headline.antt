@@ -1,5 +1,5 @@
 -- The headline, the promise of a read request: which bytes answer it, and what they depend on. `answer` has it as its clause
--- `headline`, for each store that is honest after the call: its disk returned what was written, and no fault has shut it.
+-- `headline`, for each store whose disk returned what was written, also where a fault shuts the store within the call.
 use Rattle.std.specs.Prelude.{◌≡◌, ◌⊎◌, ℕ, Bool, List, Option, Result, IfSome, OnOk}
 use Rattle.std.specs.Io.KnownBytes.{Appends}
 use Rattle.dh_wire.specs.Wire.{reply_bytes_of}

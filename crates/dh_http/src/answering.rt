@@ -6,8 +6,7 @@ ghost use Rattle.dh_requests.specs.Needs.{IsNeeded};
 ghost use Rattle.dh_requests.specs.Takes.{TookAtLeast};
 ghost use Rattle.dh_requests.specs.declared.request.Request.{Request};
 ghost use Rattle.dh_wire.specs.Wire.{head_of};
-ghost use Rattle.dh_rows.specs.Calls.{IsHonest};
-ghost use Rattle.dh_desk.specs.Desk.{world, WorldGoesBy};
+ghost use Rattle.dh_desk.specs.Desk.{HasCleanDisk, WorldGoesBy, state, world};
 ghost use Rattle.dh_http.specs.Answers as spec;
 ghost use Rattle.dh_http.specs.Headline.{Headline};
 
@@ -141,7 +140,7 @@ pub fn answer<S: Alter, R: Source, W: Sink>(
     ensures answers { WorldGoesBy S.Store desk.old desk.new
         (λ before after. spec.WritesAnswer (spec.AnswersSource now (R.left source.old) before after)
         (W.held sink.old) (W.held sink.new) result) }
-    ensures headline { IsHonest S.Store desk.new.tables → Headline now
+    ensures headline { HasCleanDisk (state S.Store desk.new.tables) → Headline now
         (world S.Store desk.old) (R.left source.old) (W.held sink.old) (W.held sink.new) result }
     ensures unread { spec.is_unread result ≡ true
         → (desk.new ≡ desk.old) × (sink.new ≡ sink.old) }

@@ -248,7 +248,7 @@ const FORMS: [Form<'static>; 32] = [
         ids: &["host", "pass"],
         more: &[More::Value {
             id: "until",
-            help: "When it ends, in seconds since 1970: from then on it opens nothing",
+            help: "When it ends, in seconds since 1970, at most 9223372036854775807: from then on it opens nothing",
         }],
     },
     Form {

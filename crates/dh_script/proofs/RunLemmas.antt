@@ -203,6 +203,18 @@ stayed old words line same none =
 pub but_none : {Y Z : Type 0} (moment : ℕ) (w : World) (held : Option Text) (batch : List (Vec (String Y) Z)) → batch ≡ [] → RunsBut moment w (worded []) w held held (words_seen batch)
 but_none moment w held batch none = record { done = []; parts = worded_none ∙ ap words_seen (sym none); into = into_none moment w held }
 
+-- nothing ran, and a batch waits
+pub but_waits : {Y Z : Type 0} (moment : ℕ) (w : World) (held : Option Text) (batch : List (Vec (String Y) Z)) (lines : List (List Text)) → words_seen batch ≡ lines → RunsBut moment w lines w held held (words_seen batch)
+but_waits moment w held batch lines same = record { done = []; parts = sym same; into = into_none moment w held }
+
+-- a batch ran, and nothing waits
+pub but_all : {Y Z : Type 0} (moment : ℕ) (a b : World) (h i : Option Text) (ran batch : List (Vec (String Y) Z)) (lines : List (List Text)) → words_seen ran ≡ lines → batch ≡ [] → RunsInto moment a (words_seen ran) b h i → RunsBut moment a lines b h i (words_seen batch)
+but_all moment a b h i ran batch lines same none into = record {
+  done = words_seen ran;
+  parts = sym same ∙ sym (append-nil (words_seen ran)) ∙ ap (λ (xs : List (Vec _ _)). words_seen ran ++ words_seen xs) (sym none);
+  into = into;
+}
+
 -- one line more
 pub but_on : {A : Type 0} (moment : ℕ) (v : A → Text) (a : World) (ys : List A) (b : World) (x : A) (c : World) (h i j : Option Text) (batch more : List (List Text)) → RunsBut moment a (worded (map v ys)) b h i batch → RunsBut moment b (batch ++ worded (v x ∷ [])) c i j more → RunsBut moment a (worded (map v (ys ++ x ∷ []))) c h j more
 but_on moment v a ys b x c h i j batch more first second = record {

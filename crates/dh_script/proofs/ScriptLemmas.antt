@@ -11,7 +11,9 @@ use Rattle.sqlite_trees.specs.declared.store.Store.{Ghosts}
 use Rattle.dh_world.specs.World.{Text, World}
 use Rattle.dh_world.specs.Seen.{seen}
 use Rattle.dh_world.specs.Reads.{host_named, caller_named}
+use Rattle.dh_world.specs.Step.{IsStep}
 use Rattle.dh_world.specs.declared.answer.Answer.{Answer}
+use Rattle.dh_world.specs.declared.command.Command.{Command}
 use Rattle.dh_world.specs.declared.outcome.Outcome.{Outcome}
 use Rattle.dh_world.specs.declared.refusal.Refusal.{Refusal}
 use Rattle.dh_lines.specs.declared.lines.Line.{Line}
@@ -24,7 +26,7 @@ use Rattle.dh_listings.specs.ListingTexts.{listing_text}
 use Rattle.dh_listings.specs.declared.words.ListWord.{ListWord}
 use Rattle.dh_lines.specs.declared.lines.Order.{Order}
 use Rattle.dh_lines.specs.declared.lines.Order.TheVariants as order
-use Rattle.dh_script.specs.Script.{outcome_of, outcome_of_read, TellsOutcome, GetsAt, DoesOver, MayDoLine, MayDoOrder, MayDoSingle, ListsAt, TellsList}
+use Rattle.dh_script.specs.Script.{outcome_of, outcome_of_read, TellsOutcome, PerformsOrder, GetsAt, DoesOver, MayDoLine, MayDoOrder, MayDoSingle, ListsAt, TellsList}
 
 -- what is told of a read's outcome, whose reply is the definition's
 pub got : {P E : Type 0} (text_in : P → Text) (refused_in : P → Bool) (w : World) (named host : Text) (shown pass : Option Text) (moment : ℕ) (t : Target) (reply : Result Reply Fault) (outcome : Outcome) (result : Result P E)
@@ -35,6 +37,15 @@ got text_in refused_in w named host shown pass moment t reply outcome result val
     let by_host = subst (λ (h : Text). IfOk reply (λ r. r ≡ reply_to (seen w (host_named h) (caller_named shown moment)) t.path t.query)) same_host value in
     let by_pass = subst (λ (p : Option Text). IfOk reply (λ r. r ≡ reply_to (seen w (host_named host) (caller_named p moment)) t.path t.query)) same_pass by_host in
     IfOk-weaker result _ _ (λ p is. (reply, by_pass, subst (λ (o : Outcome). TellsOutcome o (text_in p) (refused_in p)) same is)) told
+
+-- what is told of a command's outcome, which is one step
+pub act_told : {P E : Type 0} (text_in : P → Text) (refused_in : P → Bool) (moment : ℕ) (before after : World) (c : Command) (o : Order) (answer : Result Answer Refusal) (outcome : Outcome) (result : Result P E)
+    → IsStep before after c answer → outcome ≡ outcome_of answer → o ≡ order.Act c → IfOk result (λ p. TellsOutcome outcome (text_in p) (refused_in p))
+    → IfOk result (λ p. PerformsOrder moment before o after (text_in p) (refused_in p))
+act_told text_in refused_in moment before after c o answer outcome result step same is =
+    IfOk-weaker result _ _
+    (λ p tells.
+    subst (λ (x : Order). PerformsOrder moment before x after (text_in p) (refused_in p)) (sym is) (answer, step, subst (λ (x : Outcome). TellsOutcome x (text_in p) (refused_in p)) same tells))
 
 -- what is told of a list, which is the definition's
 pub list_told : {P E : Type 0} (text_in : P → Text) (refused_in : P → Bool) (w : World) (word : ListWord) (listed : Result (Option Text) Fault) (result : Result P E)

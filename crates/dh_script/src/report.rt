@@ -1,7 +1,7 @@
 //! Which lines of a script were refused, and why.
 
 use crate::reasons::Reason;
-use std::alloc::Global;
+use std::alloc::{AllocError, Global};
 
 /// A line of a script that was refused.
 #[derive(Clone, Copy, Debug, PartialEq, Eq)]
@@ -14,9 +14,11 @@ pub struct RefusedLine {
 /// Which lines of a script were refused. Where memory is out, lines are left out of the report.
 #[derive(Drop)]
 pub struct Report {
-    /// The numbers of the lines that have words.
+    /// How many lines were cut off the script.
+    lines: usize,
+    /// The numbers of those that have words.
     numbers: Vec<usize>,
-    /// How many of these lines ran.
+    /// How many of these ran.
     ran: usize,
     refused: Vec<RefusedLine>,
 }
@@ -25,6 +27,7 @@ impl Report {
     /// Makes a report of no line.
     pub fn new(alloc: Global) -> Report {
         Report {
+            lines: 0,
             numbers: Vec::new(alloc),
             ran: 0,
             refused: Vec::new(alloc),
@@ -36,9 +39,15 @@ impl Report {
         self.refused.as_slice()
     }
 
-    /// Notes that the line of this number has words, and so will run.
-    pub(crate) fn expect(&mut self, number: usize) {
-        let _ = self.numbers.push(number);
+    /// Notes that one more line was cut off the script.
+    pub(crate) fn count_line(&mut self) {
+        self.lines = self.lines.saturating_add(1);
+    }
+
+    /// Notes that the line that was cut last has words, and so will run.
+    pub(crate) fn expect(&mut self) -> Result<(), AllocError> {
+        self.numbers.push(self.lines)?;
+        Ok(())
     }
 
     /// Notes that the next of the lines ran, and why it was refused, where it was.

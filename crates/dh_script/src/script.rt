@@ -140,29 +140,21 @@ fn words_of(alloc: Global, line: &str) -> Result<Vec<String>, AllocError>
     Ok(words)
 }
 
-/// Tells a report which lines of a text have words.
-fn number_lines(alloc: Global, text: &str, report: &mut Report) {
-    let mut number: usize = 0;
-    for line in text.lines() {
-        number = number.saturating_add(1);
-        let has_words = match words_of(alloc, line) {
-            Ok(words) => !words.is_empty(),
-            Err(_) => false,
-        };
-        if has_words {
-            report.expect(number);
-        }
-    }
-}
-
-/// Adds the words of a line to a batch, unless it has none.
-fn add_line(alloc: Global, batch: &mut Vec<Vec<String>>, line: &str) -> Result<(), AllocError>
+/// Adds the words of a line to a batch, unless it has none. A report expects each line that is added.
+fn add_line(
+    alloc: Global,
+    batch: &mut Vec<Vec<String>>,
+    line: &str,
+    report: &mut Report,
+) -> Result<(), AllocError>
     ensures { OnOk result
         (words_seen batch.new.items ≡ words_seen batch.old.items ++ worded (line.now ∷ [])) }
 {
     let words = words_of(alloc, line)?;
+    report.count_line();
     if !words.is_empty() {
         batch.push(words)?;
+        report.expect()?;
     }
     Ok(())
 }
@@ -183,7 +175,7 @@ fn take_line<S: Alter, W: Sink>(
         (λ before after. RanBut now before (words_seen batch.old.items ++ worded (line.now ∷ []))
         after (W.held sink.old) (W.held sink.new) (words_seen batch.new.items) result) }
 {
-    add_line(alloc, batch, line)?;
+    add_line(alloc, batch, line, report)?;
     if batch.len() < BATCH {
         return Ok(());
     }
@@ -207,7 +199,6 @@ fn run_lines<S: Alter, W: Sink>(
         (λ before after. Ran now before (lines_in text.now) after
         (W.held sink.old) (W.held sink.new) result) }
 {
-    number_lines(alloc, text, report);
     let mut batch = Vec::new(alloc);
     for line in text.lines() {
         take_line(alloc, desk, &mut batch, line, sink, report, now)?;

@@ -24,14 +24,22 @@ module _ (moment : ℕ) (left held kept now : Option (List ℕ)) (before after :
   pub cut : (done : Done) (n : ℕ) → WritesAnswer (AnswersSource moment left before after) held kept (Ok done) → AnswersConnection moment left held now before after (Err (fault.Write n))
   cut done n w = (done.status, w.0, w.1)
 
-  -- the engine's own fault
-  failed : (e : EngineFault) → WritesAnswer (AnswersSource moment left before after) held kept (Err e) → (is_unread (Err e) ≡ true → after ≡ before) → AnswersConnection moment left held now before after (Err e)
-  failed fault.Read w same = same refl
-  failed fault.TooManyTurns w same = same refl
-  failed (fault.Write n) w same = (w.0, w.1, w.2)
+-- the engine's own fault, handed on
+module _ (moment : ℕ) (left held kept now : Option (List ℕ)) (Goes : (World → World → Type 0) → Type 0)
+    (weaker : (P Q : World → World → Type 0) → Goes P → ((u v : World) → P u v → Q u v) → Goes Q) where
+  failed : (e : EngineFault) → Goes (λ before after. WritesAnswer (AnswersSource moment left before after) held kept (Err e))
+      → (is_unread (Err e) ≡ true → (P : World → World → Type 0) → ((w : World) → P w w) → Goes P)
+      → Goes (λ before after. AnswersConnection moment left held now before after (Err e))
+  failed fault.Read goes unread = unread refl (λ before after. after ≡ before) (λ w. refl)
+  failed fault.TooManyTurns goes unread = unread refl (λ before after. after ≡ before) (λ w. refl)
+  failed (fault.Write n) goes unread =
+      weaker (λ before after. WritesAnswer (AnswersSource moment left before after) held kept (Err (fault.Write n)))
+      (λ before after. AnswersConnection moment left held now before after (Err (fault.Write n))) goes (λ u v w. (w.0, w.1, w.2))
 
-  -- and it is handed on
-  pub told_on : (e : EngineFault) (r : Result Done EngineFault) → IsErrAnd r (λ x. x ≡ e) → WritesAnswer (AnswersSource moment left before after) held kept (Err e) → (is_unread (Err e) ≡ true → after ≡ before) → AnswersConnection moment left held now before after r
-  told_on e r is w same =
+  pub told_on : (e : EngineFault) (r : Result Done EngineFault) → IsErrAnd r (λ x. x ≡ e)
+      → Goes (λ before after. WritesAnswer (AnswersSource moment left before after) held kept (Err e))
+      → (is_unread (Err e) ≡ true → (P : World → World → Type 0) → ((w : World) → P w w) → Goes P)
+      → Goes (λ before after. AnswersConnection moment left held now before after r)
+  told_on e r is goes unread =
       let at = err_from_is_err_and r is in
-      subst (AnswersConnection moment left held now before after) (sym (at.1 ∙ ap Err at.2)) (failed e w same)
+      subst (λ (r : Result Done EngineFault). Goes (λ before after. AnswersConnection moment left held now before after r)) (sym (at.1 ∙ ap Err at.2)) (failed e goes unread)

@@ -1,10 +1,13 @@
--- What a server does to the world, one connection after another.
-use Rattle.std.specs.Prelude.{◌≡◌, ◌⊎◌, ℕ, zero, suc, Bool, true, false, if◌then◌else◌, List, Option, Some, None, Result, Ok, Err}
+-- What is answered on one connection of a server, and how connections are counted.
+use Rattle.std.specs.Prelude.{◌≡◌, ℕ, Bool, true, false, not, if◌then◌else◌, List, length, Option, Some, None, Result, Ok, Err, is_ok}
 use Rattle.std.specs.Io.KnownBytes.{Appends}
+use Rattle.std.specs.List.{FoldsTo}
 use Rattle.dh_ports.specs.Ports.{CountsUpTo, CountsAtLeast}
 use Rattle.dh_world.specs.World.{World}
-use Rattle.dh_world.specs.declared.command.Command.{Command}
-use Rattle.dh_http.specs.Answers.{AnswersSource, MayApply}
+use Rattle.dh_world.specs.declared.outcome.Outcome.{Outcome}
+use Rattle.dh_histories.specs.declared.call.Call.{Call}
+use Rattle.dh_histories.specs.CallsDone.{AreCallsDone}
+use Rattle.dh_http.specs.Answers.{AnswersSource}
 use Rattle.dh_http.specs.declared.fault.Done.{Done}
 use Rattle.dh_http.specs.declared.fault.EngineFault.{EngineFault}
 use Rattle.dh_http.specs.declared.fault.EngineFault.TheVariants as fault
@@ -25,16 +28,13 @@ AnswersConnection moment left held now before after (Err (fault.Write n)) =
 AnswersConnection moment left held now before after (Err fault.Read) = after ≡ before
 AnswersConnection moment left held now before after (Err fault.TooManyTurns) = after ≡ before
 
--- some request was answered, at a moment that `IsMoment` holds of
-abbrev pub AnswersSome : (ℕ → Type 0) → World → World → Type 0
-AnswersSome IsMoment before after =
-    (moment : ℕ) × IsMoment moment
-    × (left : Option (List ℕ)) × (status : ℕ) × (text : List ℕ)
-    × AnswersSource moment left before after status text
-
--- one connection: nothing was done, or some request was answered
-abbrev pub Turn : (ℕ → Type 0) → World → World → Type 0
-Turn IsMoment before after = (after ≡ before) ⊎ AnswersSome IsMoment before after
+-- some source was answered at a moment; whether the whole answer went out
+abbrev pub AnswersSome : ℕ → Bool → World → World → Type 0
+AnswersSome moment whole before after =
+    (left : Option (List ℕ)) × (held : Option (List ℕ)) × (now : Option (List ℕ))
+    × (result : Result Done EngineFault)
+    × AnswersConnection moment left held now before after result
+    × (whole ≡ is_ok result)
 
 -- what passed over a connection: what was left to read, what its sink held before and after the answer, and whether writing to
 -- it has failed
@@ -48,22 +48,22 @@ abbrev pub talk_of : Option (List ℕ) → Option (List ℕ) → Option (List �
 talk_of left held now has_failed =
     record { left = left; held = held; now = now; has_failed = has_failed }
 
--- one connection at a moment that `IsMoment` holds of: of the port; or of a control socket, which does what `Does` says
-abbrev pub MayTurn : (ℕ → Type 0) → (ℕ → Talk → World → World → Type 0) → World → World → Type 0
-MayTurn IsMoment Does before after =
-    Turn IsMoment before after
-    ⊎ ((moment : ℕ) × IsMoment moment × (talk : Talk) × Does moment talk before after)
+-- calls of the desk were done, of which `Does` holds
+abbrev pub DoesByCalls : (List Call → World → World → Type 0) → World → World → Type 0
+DoesByCalls Does before after =
+    (calls : List Call) × (outcomes : List Outcome)
+    × AreCallsDone before calls after outcomes
+    × Does calls before after
 
--- this many connections, one after another
-abbrev pub ServesInTurn
-    : (ℕ → Type 0) → (ℕ → Talk → World → World → Type 0) → ℕ → World → World → Type 0
-ServesInTurn IsMoment Does zero before after = after ≡ before
-ServesInTurn IsMoment Does (suc count) before after =
-    (between : World) × ServesInTurn IsMoment Does count before between × MayTurn IsMoment Does between after
+-- over some connection of a control socket, at a moment; whether the whole answer went out
+abbrev pub DoesSome : (ℕ → Talk → List Call → World → World → Type 0) → ℕ → Bool → World → World → Type 0
+DoesSome Does moment whole before after =
+    (talk : Talk) × DoesByCalls (Does moment talk) before after × (whole ≡ not talk.has_failed)
 
--- a call of the clock may give this moment
-abbrev pub GivenBy : {C : Type 0} → (C → ℕ → Type 0) → ℕ → Type 0
-GivenBy {C} gives moment = (clock : C) × gives clock moment
+-- the clock was asked so many times, one after another
+abbrev pub AsksClock : {C : Type 0} → (C → ℕ → C → Type 0) → C → C → ℕ → Type 0
+AsksClock gives first last count =
+    (moments : List ℕ) × FoldsTo gives first moments last × (length moments ≡ count)
 
 -- the count rose by exactly this much, where it is kept
 abbrev pub CountsExactly : Option ℕ → Option ℕ → ℕ → Type 0
@@ -82,24 +82,3 @@ messages_in (Some it) = if is_message it then 1 else 0
 abbrev pub HandsOn : Option ℕ → Option ℕ → Option ℕ → Option ℕ → Type 0
 HandsOn came more handed now =
     (count : ℕ) × CountsExactly came more count × CountsExactly handed now count
-
--- the world stayed, or one command was done, refused or set aside
-abbrev pub StepsOnce : World → World → Type 0
-StepsOnce before after =
-    (after ≡ before) ⊎ ((command : Command) × MayApply before after command)
-
--- this many steps, one after another
-abbrev pub StepsInTurn : ℕ → World → World → Type 0
-StepsInTurn zero before after = after ≡ before
-StepsInTurn (suc count) before after =
-    (between : World) × StepsInTurn count before between × StepsOnce between after
-
--- a control socket over which no world is changed
-abbrev pub ChangesNothing : (ℕ → Talk → World → World → Type 0) → Type 0
-ChangesNothing Does =
-    (moment : ℕ) (talk : Talk) (before after : World) → Does moment talk before after → after ≡ before
-
--- with a control socket that changes nothing, this many connections are this many steps
-abbrev pub PortSteps : (ℕ → Type 0) → (ℕ → Talk → World → World → Type 0) → Type 0
-PortSteps IsMoment Does =
-    ChangesNothing Does → (count : ℕ) (before after : World) → ServesInTurn IsMoment Does count before after → StepsInTurn count before after

@@ -1,8 +1,9 @@
 //! What is done with the connections of a control socket.
 
-ghost use Rattle.std.specs.Prelude.{◌≡◌, ℕ, Option, None, false};
+ghost use Rattle.std.specs.Prelude.{◌≡◌, ℕ, List, [], Option, None, false};
+ghost use Rattle.dh_histories.specs.declared.call.Call.{Call};
 ghost use Rattle.dh_http.specs.Desk.{WorldGoesBy};
-ghost use Rattle.dh_server.specs.Serving.{CountsExactly, Talk, talk_of};
+ghost use Rattle.dh_server.specs.Serving.{CountsExactly, DoesByCalls, Talk, talk_of};
 ghost use Rattle.dh_world.specs.World.{World};
 
 use dh_http::Desk;
@@ -12,13 +13,13 @@ use std::alloc::Global;
 
 /// What answers the connections of a control socket. The rights of the socket's file decide who can send orders over it.
 pub trait Control {
-    // What a connection does to the world at a moment, by what passes over it.
-    ghost does: { ℕ → Talk → World → World → Type 0 };
+    // What a connection does to the world at a moment, by what passes over it, and the calls that it is.
+    ghost does: { ℕ → Talk → List Call → World → World → Type 0 };
 
     // How many connections were handed to it, where it counts. A count stays at 2^64 - 1.
     ghost handed: { Self → Option ℕ };
 
-    /// Does what a connection asks for at a moment, in seconds since 1970, and answers it.
+    /// Does what a connection asks for at a moment, in seconds since 1970, and answers it. What it does to the world are its calls.
     fn answer<S: Alter, R: Source, W: Sink>(
         &mut self,
         alloc: Global,
@@ -29,8 +30,8 @@ pub trait Control {
     )
         requires reader { R.broken source.old ≡ false }
         requires writer { W.broken sink.old ≡ false }
-        ensures moves { WorldGoesBy S.Store desk.old desk.new (does now
-            (talk_of (R.left source.old) (W.held sink.old) (W.held sink.new) (W.broken sink.new))) }
+        ensures moves { WorldGoesBy S.Store desk.old desk.new (DoesByCalls (does now
+            (talk_of (R.left source.old) (W.held sink.old) (W.held sink.new) (W.broken sink.new)))) }
         ensures counts { CountsExactly (handed self.old) (handed self.new) 1 };
 }
 
@@ -39,7 +40,7 @@ pub trait Control {
 pub struct NoControl;
 
 impl Control for NoControl {
-    ghost does = { λ _ _ before after. after ≡ before };
+    ghost does = { λ _ _ calls before after. (calls ≡ []) × (after ≡ before) };
 
     ghost handed = { λ _. None };
 

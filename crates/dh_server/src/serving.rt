@@ -1,10 +1,11 @@
 //! Connections, one after another.
 
-ghost use Rattle.std.specs.Prelude.{◌≡◌, ◌≤◌, true, false, drop, Some};
+ghost use Rattle.std.specs.Prelude.{◌≡◌, ◌≤◌, true, false, not, drop, is_ok, Some, if◌then◌else◌};
 ghost use Rattle.std.specs.Io.KnownBytes.{append_known};
 ghost use Rattle.dh_http.specs.Desk.{WorldGoesBy};
 ghost use Rattle.dh_http.specs.Answers as spec;
-ghost use Rattle.dh_server.specs.Serving.{AnswersConnection, Turn, Talk, MayTurn, ServesInTurn, GivenBy, ChangesNothing, StepsInTurn, CountsExactly, HandsOn, messages_in};
+ghost use Rattle.dh_server.specs.Serving.{AnswersConnection, AnswersSome, AsksClock, DoesByCalls, DoesSome, CountsExactly, HandsOn, messages_in, talk_of};
+ghost use Rattle.dh_server.specs.Turns.{ServesOne, ServesInTurn};
 ghost use Rattle.dh_server.specs.Telling.{TellsSome};
 
 use crate::beginning::{Beginning, Heard};
@@ -68,27 +69,30 @@ fn reason_of(answered: Result<Done, EngineFault>, came: &Beginning) -> &'static 
     }
 }
 
-/// Answers the request of a connection at a moment, and writes its line to the log.
-fn answer_stream<S: Alter, T: Clock + Copy, L: Sink>(
+/// Answers the request of a source on a sink at a moment, and writes its line to the log.
+pub fn answer_heard<S: Alter, R: Source, W: Sink, T: Clock + Copy, L: Sink>(
     alloc: Global,
     desk: &mut Desk<S>,
-    stream: &TcpStream,
+    source: &mut Heard<R>,
+    sink: &mut Joined<Counted<W>>,
     now: u64,
     log: &Log<T>,
     errors: &mut L,
-)
-    ensures turn { WorldGoesBy S.Store desk.old desk.new (Turn (λ moment. moment ≡ now)) }
+) -> Result<Done, EngineFault>
+    requires reader { R.broken source.old.inner ≡ false }
+    requires writer { W.broken sink.old.inner.inner ≡ false }
+    ensures answers { WorldGoesBy S.Store desk.old desk.new
+        (λ before after. AnswersConnection now (R.left source.old.inner)
+        (append_known (W.held sink.old.inner.inner) (drop sink.old.gone sink.old.kept.items))
+        (W.held sink.new.inner.inner) before after result) }
+    ensures some { WorldGoesBy S.Store desk.old desk.new (AnswersSome now (is_ok result)) }
+    ensures reader_fault { R.broken source.new.inner ≡ spec.reader_failed result }
+    ensures writer_fault { W.broken sink.new.inner.inner ≡ spec.writer_failed result }
     ensures tells { TellsSome L.broken L.held errors.old errors.new }
     ensures off { log.now.is_on ≡ false → errors.new ≡ errors.old }
 {
     let start = log.start();
-    let mut source = Heard::new(
-        alloc,
-        Timed::new(log.clock(), MOST_SECONDS, Port::new(Steady::new(stream))),
-    );
-    let port = Timed::new(log.clock(), MOST_SECONDS, Port::new(Steady::new(stream)));
-    let mut sink = Joined::new(alloc, Counted::new(port));
-    let result = answer_joined(alloc, desk, &mut source, &mut sink, now);
+    let result = answer_joined(alloc, desk, source, sink, now);
     let came = source.beginning();
     let entry = Entry {
         line: came.first_line(),
@@ -104,13 +108,55 @@ fn answer_stream<S: Alter, T: Clock + Copy, L: Sink>(
         sink.inner().count(),
         start,
     );
-    if leaves_input(result, came) {
-        read_out(log.clock(), stream);
-    }
+    result
 }
 
-/// Has what comes over a connection of the control socket done and answered, at a moment. Doing it may take longer than it may
-/// take to come.
+/// Answers the request of a connection of the port at a moment, and tells whether the whole answer went out.
+fn answer_stream<S: Alter, T: Clock + Copy, L: Sink>(
+    alloc: Global,
+    desk: &mut Desk<S>,
+    stream: &TcpStream,
+    now: u64,
+    log: &Log<T>,
+    errors: &mut L,
+) -> bool
+    ensures answers { WorldGoesBy S.Store desk.old desk.new (AnswersSome now result) }
+    ensures tells { TellsSome L.broken L.held errors.old errors.new }
+    ensures off { log.now.is_on ≡ false → errors.new ≡ errors.old }
+{
+    let input = Timed::new(log.clock(), MOST_SECONDS, Port::new(Steady::new(stream)));
+    let output = Timed::new(log.clock(), MOST_SECONDS, Port::new(Steady::new(stream)));
+    let mut source = Heard::new(alloc, input);
+    let mut sink = Joined::new(alloc, Counted::new(output));
+    let result = answer_heard(alloc, desk, &mut source, &mut sink, now, log, errors);
+    if leaves_input(result, source.beginning()) {
+        read_out(log.clock(), stream);
+    }
+    result.is_ok()
+}
+
+/// Has what a source holds done and answered at a moment, and tells whether the whole answer went out.
+pub fn answer_order<S: Alter, K: Control, R: Source, W: Sink>(
+    alloc: Global,
+    desk: &mut Desk<S>,
+    control: &mut K,
+    source: &mut R,
+    sink: &mut W,
+    now: u64,
+) -> bool
+    requires reader { R.broken source.old ≡ false }
+    requires writer { W.broken sink.old ≡ false }
+    ensures moves { WorldGoesBy S.Store desk.old desk.new (DoesByCalls (K.does now
+        (talk_of (R.left source.old) (W.held sink.old) (W.held sink.new) (W.broken sink.new)))) }
+    ensures whole { result ≡ not (W.broken sink.new) }
+    ensures counts { CountsExactly (K.handed control.old) (K.handed control.new) 1 }
+{
+    control.answer(alloc, desk, source, sink, now);
+    !sink.failed()
+}
+
+/// Has what comes over a connection of the control socket done and answered, at a moment, and tells whether the whole answer went
+/// out. Doing it may take longer than it may take to come.
 fn answer_control<S: Alter, K: Control, T: Clock + Copy>(
     alloc: Global,
     desk: &mut Desk<S>,
@@ -118,17 +164,16 @@ fn answer_control<S: Alter, K: Control, T: Clock + Copy>(
     stream: &UnixStream,
     now: u64,
     clock: T,
-)
-    ensures moves { WorldGoesBy S.Store desk.old desk.new
-        (λ before after. (talk : Talk) × K.does now talk before after) }
+) -> bool
+    ensures moves { WorldGoesBy S.Store desk.old desk.new (DoesSome K.does now result) }
     ensures counts { CountsExactly (K.handed control.old) (K.handed control.new) 1 }
 {
     let mut source = Timed::new(clock, MOST_SECONDS, Port::new(Steady::new(stream)));
     let mut sink = Port::new(Steady::new(stream));
-    control.answer(alloc, desk, &mut source, &mut sink, now);
+    answer_order(alloc, desk, control, &mut source, &mut sink, now)
 }
 
-/// Answers a connection that came, at a moment.
+/// Answers a connection that came, at a moment, and tells whether the whole answer went out.
 fn answer_came<S: Alter, K: Control, T: Clock + Copy, L: Sink>(
     alloc: Global,
     desk: &mut Desk<S>,
@@ -137,10 +182,11 @@ fn answer_came<S: Alter, K: Control, T: Clock + Copy, L: Sink>(
     now: u64,
     log: &Log<T>,
     errors: &mut L,
-)
+) -> bool
     ensures hears { CountsExactly (K.handed control.old) (K.handed control.new)
         (messages_in (Some came)) }
-    ensures turn { WorldGoesBy S.Store desk.old desk.new (MayTurn (λ moment. moment ≡ now) K.does) }
+    ensures turn { WorldGoesBy S.Store desk.old desk.new
+        (ServesOne (λ moment. moment ≡ now) K.does result) }
     ensures tells { TellsSome L.broken L.held errors.old errors.new }
     ensures off { log.now.is_on ≡ false → errors.new ≡ errors.old }
 {
@@ -150,7 +196,7 @@ fn answer_came<S: Alter, K: Control, T: Clock + Copy, L: Sink>(
     }
 }
 
-/// Answers the next connection, at the moment when it came.
+/// Answers the next connection, at the moment when it came, and tells whether the whole answer went out.
 fn serve_next<S: Alter, N: Listen, K: Control, C: FnMut() -> u64, T: Clock + Copy, L: Sink>(
     alloc: Global,
     desk: &mut Desk<S>,
@@ -159,13 +205,15 @@ fn serve_next<S: Alter, N: Listen, K: Control, C: FnMut() -> u64, T: Clock + Cop
     clock: &mut C,
     log: &Log<T>,
     errors: &mut L,
-)
+) -> bool
     requires { C.IsAlwaysCallable clock.old }
     ensures asks { CountsExactly (N.asked listener.old) (N.asked listener.new) 1 }
+    ensures clocked { AsksClock C.step clock.old clock.new 1 }
     ensures callable { C.IsAlwaysCallable clock.new }
     ensures hears { HandsOn (N.messages listener.old) (N.messages listener.new)
         (K.handed control.old) (K.handed control.new) }
-    ensures turn { WorldGoesBy S.Store desk.old desk.new (MayTurn (GivenBy C.post) K.does) }
+    ensures turn { WorldGoesBy S.Store desk.old desk.new
+        (ServesOne (λ moment. C.step clock.old moment clock.new) K.does result) }
     ensures tells { TellsSome L.broken L.held errors.old errors.new }
     ensures off { log.now.is_on ≡ false → errors.new ≡ errors.old }
 {
@@ -173,14 +221,32 @@ fn serve_next<S: Alter, N: Listen, K: Control, C: FnMut() -> u64, T: Clock + Cop
     let now = clock();
     match came {
         Some(came) => answer_came(alloc, desk, control, came, now, log, errors),
-        None => log.tell(alloc, errors, None, &Entry::none(now), 0, None),
+        None => {
+            log.tell(alloc, errors, None, &Entry::none(now), 0, None);
+            false
+        }
     }
 }
 
+/// How many whole answers went out on one connection.
+fn number_of(whole: bool) -> u32
+    ensures number { result ≡ (if whole then 1 else 0) }
+    ensures few { result ≤ 1 }
+{
+    if whole { 1 } else { 0 }
+}
+
+/// How many connections a server asked for, and on how many of them its whole answer went out.
+#[derive(Clone, Copy, Debug, PartialEq, Eq)]
+pub struct Tally {
+    pub asked: u32,
+    pub answered: u32,
+}
+
 /// Accepts connections, one after another, and answers one request on each of the port, which the log tells to `errors`;
-/// `control` answers those of a control socket. The clock gives the seconds since 1970. Asks for `count` connections, and for no
-/// more once a fault of the store has closed the desk, when the reply that tells the fault is out. Answers how many it asked
-/// for.
+/// `control` answers those of a control socket. The clock gives the seconds since 1970, and is asked once for each. Asks for
+/// `count` connections, and for no more once a fault of the store has closed the desk, when the reply that tells the fault is
+/// out. Answers how many it asked for, and on how many the whole answer went out.
 pub fn serve_on<S: Alter, N: Listen, K: Control, C: FnMut() -> u64, T: Clock + Copy, L: Sink>(
     alloc: Global,
     desk: &mut Desk<S>,
@@ -190,25 +256,28 @@ pub fn serve_on<S: Alter, N: Listen, K: Control, C: FnMut() -> u64, T: Clock + C
     count: u32,
     log: &Log<T>,
     errors: &mut L,
-) -> u32
+) -> Tally
     requires { C.IsAlwaysCallable clock.old }
-    ensures asks { CountsExactly (N.asked listener.old) (N.asked listener.new) result }
-    ensures few { result ≤ count }
-    ensures all { desk.new.closed ≡ false → result ≡ count }
-    ensures shut { desk.old.closed ≡ true → result ≡ 0 }
+    ensures asks { CountsExactly (N.asked listener.old) (N.asked listener.new) result.asked }
+    ensures clocked { AsksClock C.step clock.old clock.new result.asked }
+    ensures few { result.asked ≤ count }
+    ensures some { result.answered ≤ result.asked }
+    ensures all { desk.new.closed ≡ false → result.asked ≡ count }
+    ensures shut { desk.old.closed ≡ true → result.asked ≡ 0 }
     ensures hears { HandsOn (N.messages listener.old) (N.messages listener.new)
         (K.handed control.old) (K.handed control.new) }
     ensures serves { WorldGoesBy S.Store desk.old desk.new
-        (ServesInTurn (GivenBy C.post) K.does result) }
-    ensures steps { ChangesNothing K.does
-        → WorldGoesBy S.Store desk.old desk.new (StepsInTurn result) }
+        (ServesInTurn C.step clock.old clock.new K.does result.asked result.answered) }
+    ensures callable { C.IsAlwaysCallable clock.new }
     ensures tells { TellsSome L.broken L.held errors.old errors.new }
     ensures off { log.now.is_on ≡ false → errors.new ≡ errors.old }
 {
     let mut asked = 0;
+    let mut answered = 0;
     while asked < count && !desk.is_closed() {
-        serve_next(alloc, desk, listener, control, clock, log, errors);
+        let whole = serve_next(alloc, desk, listener, control, clock, log, errors);
+        answered += number_of(whole);
         asked += 1;
     }
-    asked
+    Tally { asked, answered }
 }

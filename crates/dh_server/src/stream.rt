@@ -11,7 +11,7 @@ use std::os::fd::{AsRawFd, RawFd};
 use std::os::unix::net::UnixListener;
 use std::time::{Clock, Duration};
 
-/// How many milliseconds to wait after an accept that failed.
+/// How many milliseconds to wait behind what failed and is tried again.
 const PAUSE: i32 = 50;
 
 /// The limit of a wait that has none.
@@ -29,7 +29,7 @@ const READING_OUT: u64 = 2;
 /// How many bytes one such read asks for.
 const REST_SIZE: usize = 16_384;
 
-/// Waits behind an accept that failed: a poll of nothing does no more, and needs no handle.
+/// Waits for 50 milliseconds, before what failed is tried again: a poll of nothing does no more, and needs no handle.
 pub fn pause() {
     let mut nothing: [pollfd; 0] = [];
     let _ = poll(&mut nothing, PAUSE);

@@ -1,7 +1,8 @@
 -- How many connections were asked for, and how many are left.
 use Rattle.std.proofs.Common.{◌≡◌, ℕ, ◌+◌, ◌-◌, ◌≤◌, min, Option, Some, None, MatchOption, unwrap_or, arith, subst}
 use Rattle.dh_ports.proofs.Taking.{counts_on, counts_from}
-use Rattle.dh_server.specs.Serving.{CountsExactly}
+use Rattle.dh_server.specs.Serving.{AsksClock, CountsExactly}
+use Rattle.dh_server.proofs.Stepping.{clock_both}
 
 capped : (cap x n : ℕ) → min (x + (n - n)) cap ≤ x
 capped cap x n = omega arith
@@ -38,3 +39,19 @@ module _ (a b c : Option ℕ) (count left : ℕ) (few : left ≤ count) (before 
 
   pub none_left : (answered : Option ℕ) → answered ≡ None → CountsExactly b c (left - unwrap_or answered 0) → CountsExactly a c count
   none_left answered is after = all_asked (subst (λ (o : Option ℕ). CountsExactly b c (left - unwrap_or o 0)) is after)
+
+-- the clock likewise
+module _ {C : Type 0} (gives : C → ℕ → C → Type 0) (a b c : C) (count left : ℕ) (few : left ≤ count) (before : AsksClock gives a b (count - left)) where
+  clock_on : (still : ℕ) → still ≤ left → AsksClock gives b c (left - still) → AsksClock gives a c (count - still)
+  clock_on still less after =
+      subst (AsksClock gives a c) (omega (arith, few, less)) (clock_both gives a b c (count - left) (left - still) before after)
+
+  pub clock_still : (answered : Option ℕ) (still : ℕ) → answered ≡ Some still → unwrap_or answered 0 ≤ left
+      → AsksClock gives b c (left - unwrap_or answered 0) → AsksClock gives a c (count - still)
+  clock_still answered still is less after =
+      clock_on still (subst (λ (o : Option ℕ). unwrap_or o 0 ≤ left) is less) (subst (λ (o : Option ℕ). AsksClock gives b c (left - unwrap_or o 0)) is after)
+
+  pub clock_through : (answered : Option ℕ) → answered ≡ None → AsksClock gives b c (left - unwrap_or answered 0) → AsksClock gives a c count
+  clock_through answered is after =
+      subst (AsksClock gives a c) (omega (arith, few))
+      (clock_both gives a b c (count - left) (left - 0) before (subst (λ (o : Option ℕ). AsksClock gives b c (left - unwrap_or o 0)) is after))

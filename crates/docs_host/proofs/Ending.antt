@@ -1,7 +1,7 @@
 -- How runs end, by what is ordered and by what came of it.
-use Rattle.std.proofs.Common.{◌≡◌, ◌⊎◌, ◌∙◌, ℕ, ◌+◌, ◌-◌, ◌≤◌, arith, zero, suc, Bool, true, false, true≢false, List, [], ◌∷◌, ◌++◌, Option, Result, Ok, Err, refl, sym, ap, subst, inl, inr}
+use Rattle.std.proofs.Common.{◌≡◌, ◌⊎◌, ◌∙◌, ℕ, arith, Bool, true, false, true≢false, List, [], ◌∷◌, ◌++◌, Option, Result, Ok, Err, refl, sym, ap, subst, inl, inr}
 use Rattle.std.proofs.lemmas.Result.{err_from_is_err_and}
-use Rattle.std.specs.Prelude.{◌||◌, ⊤, IsTrue, IsErrAnd, IfOk, OnOk, None, drop, codes}
+use Rattle.std.specs.Prelude.{◌||◌, IsTrue, IsErrAnd, IfOk, OnOk, None, drop, codes}
 use Rattle.std.specs.FinMap.{empty}
 use Rattle.std.specs.Io.KnownBytes.{Appends}
 use Rattle.clap.specs.Faults.{fault_of, is_simple_and_free}
@@ -14,7 +14,7 @@ use Rattle.dh_http.specs.Answers.{AnswersSource, WritesAnswer}
 use Rattle.dh_http.specs.declared.fault.EngineFault.{EngineFault}
 use Rattle.dh_ports.specs.declared.fault.Fault.{Fault}
 use Rattle.dh_ports.specs.declared.fault.Fault.TheVariants as lookup
-use Rattle.dh_server.specs.Serving.{MayTurn, ServesInTurn, Talk, Turn}
+use Rattle.dh_server.proofs.Stepping.{serves_none}
 use Rattle.dh_world.specs.World.{Text, World}
 use Rattle.dh_world.specs.declared.command.Command.{Command}
 use Rattle.dh_world.specs.declared.command.CommandChange.TheVariants.{ImportRedirects}
@@ -31,7 +31,7 @@ use Rattle.docs_host.specs.Ends.{Ended, EndsError, EndsHelp, EndsScript, EndsChe
 use Rattle.docs_host.specs.Ends.{is_failure_status, status_after, may_end_order, may_end_single, asks_help, asks_version, line_asked, line_run}
 use Rattle.docs_host.specs.Failing.{may_fail, IsDoneOr, is_of_output, is_of_init, is_of_list, is_of_script, is_of_command, is_of_opened, is_of_order, is_of_sent, may_be_sent, is_of_checked, is_of_file, is_of_memory}
 use Rattle.docs_host.specs.Failures.{failure_of}
-use Rattle.docs_host.specs.Orders.{OrdersImport, RunsRequest, AnswersOne, ServesBoth, bad_record, has_bad_target, import_order}
+use Rattle.docs_host.specs.Orders.{OrdersImport, RunsRequest, AnswersOne, ServesUpTo, bad_record, has_bad_target, import_order}
 use Rattle.docs_host.specs.declared.by_server.ControlFault.{ControlFault}
 use Rattle.docs_host.specs.declared.failure.Failure.{Failure}
 use Rattle.docs_host.specs.declared.failure.Failure.TheVariants.{File, List as OfList, Store, Memory, Bind, Socket, Control, Write, Script, Request}
@@ -86,32 +86,9 @@ error_ended words app k (Ok Faulty) same kinds it = absurd it
 error_ended words app k (Ok Unanswered) same kinds it = absurd it
 error_ended words app k (Err failure) same kinds it = (subst (EndsHelp words) (sym (is_faulty is_of_output (λ fault. refl) failure it)) tt, it)
 
--- further connections did nothing
-more_served : (k n : ℕ) (w v : World) → ServesBoth n w v → ServesBoth (k + n) w v
-more_served zero n w v it = let none : n ≡ 0 + n = omega arith in subst (λ m. ServesBoth m w v) none it
-more_served (suc k) n w v it =
-    let one : ServesBoth (suc (k + n)) w v = (v, more_served k n w v it, inl (inl refl)) in
-    let next : suc (k + n) ≡ suc k + n = omega arith in
-    subst (λ m. ServesBoth m w v) next one
-
--- fewer connections came
-pub served_within : (n count : ℕ) (w v : World) → n ≤ count → ServesBoth n w v → ServesBoth count w v
-served_within n count w v few it = subst (λ m. ServesBoth m w v) (omega (arith, few)) (more_served (count - n) n w v it)
-
--- which moments they were does not count
-some_answered : (IsMoment : ℕ → Type 0) (w v : World) → Turn IsMoment w v → Turn (λ moment. ⊤) w v
-some_answered IsMoment w v (inl same) = inl same
-some_answered IsMoment w v (inr it) = inr (it.0, tt, it.2, it.3, it.4, it.5)
-
-may_turn : (IsMoment : ℕ → Type 0) (Does : ℕ → Talk → World → World → Type 0) (w v : World)
-    → MayTurn IsMoment Does w v → MayTurn (λ moment. ⊤) Does w v
-may_turn IsMoment Does w v (inl turn) = inl (some_answered IsMoment w v turn)
-may_turn IsMoment Does w v (inr (moment, is, talk, did)) = inr (moment, tt, talk, did)
-
-pub any_moment : (IsMoment : ℕ → Type 0) (n : ℕ) (w v : World) → ServesInTurn IsMoment AnswersOne n w v → ServesBoth n w v
-any_moment IsMoment zero w v it = it
-any_moment IsMoment (suc n) w v it =
-    (it.0, any_moment IsMoment n w it.0 it.1, may_turn IsMoment AnswersOne it.0 v it.2)
+-- no connection came
+pub none_served : {C : Type 0} (gives : C → ℕ → C → Type 0) (clock : C) (most : ℕ) (w : World) → ServesUpTo gives clock clock most w w
+none_served gives clock most w = (0, omega arith, (0, serves_none AnswersOne gives clock w))
 
 -- the engine's fault is that of the run
 pub request_failed
@@ -119,6 +96,15 @@ pub request_failed
     → IsErrAnd r (λ failure. failure ≡ Request e) → WritesAnswer (AnswersSource moment left before after) held now (Err e)
     → RunsRequest moment before after left held now r
 request_failed moment left held now before after e r is w = handed_on (RunsRequest moment before after left held now) (Request e) r is w
+
+-- a script that ran to its end, or did not, however that is told
+pub script_done : {T E U F : Type 0} (moment : ℕ) (left held now : Option Text) (before after : World) (x : T) (y : U)
+    → RunsScript {T = T} {E = E} moment left before after held now (Ok x) → RunsScript {T = U} {E = F} moment left before after held now (Ok y)
+script_done moment left held now before after x y it = record { script = it.script; read = it.read; ran = it.ran }
+
+pub script_cut : {T E U F : Type 0} (moment : ℕ) (left held now : Option Text) (before after : World) (x : E) (y : F)
+    → RunsScript {T = T} {E = E} moment left before after held now (Err x) → RunsScript {T = U} {E = F} moment left before after held now (Err y)
+script_cut moment left held now before after x y it = record { script = it.script; read = it.read; ran = it.ran }
 
 -- ---- without a file
 

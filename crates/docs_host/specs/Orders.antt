@@ -1,7 +1,8 @@
 -- What an order does over a desk.
-use Rattle.std.specs.Prelude.{◌≡◌, ⊤, ℕ, Bool, true, false, is_none, List, [], ◌∷◌, ◌++◌, codes, Option, Result, Ok, Err, IfOk}
+use Rattle.std.specs.Prelude.{◌≡◌, ◌⊎◌, ℕ, ◌≤◌, Bool, true, false, is_none, List, [], ◌∷◌, ◌++◌, codes, Option, Result, Ok, Err, IfOk, IfSome}
 use Rattle.std.specs.Fmt.{decimal}
 use Rattle.std.specs.Io.KnownBytes.{Appends}
+use Rattle.dh_histories.specs.declared.call.Call.{Call}
 use Rattle.dh_http.specs.Answers.{AnswersSource, WritesAnswer}
 use Rattle.dh_http.specs.declared.fault.Done.{Done as Answered}
 use Rattle.dh_lines.specs.Lines.{asking}
@@ -13,13 +14,15 @@ use Rattle.dh_paths.specs.Targets.{target_of}
 use Rattle.dh_script.specs.Reading.{writer_failed}
 use Rattle.dh_script.specs.Running.{RunsScript}
 use Rattle.dh_script.specs.Script.{PerformsSingle}
-use Rattle.dh_control.specs.Answers.{AnswersMessage}
+use Rattle.dh_control.specs.Answers.{DoesMessage, HasLastLine, IsMessageUnread}
 use Rattle.dh_control.specs.declared.end.End.{End}
 use Rattle.dh_script.specs.declared.fault.ScriptFault.{ScriptFault}
-use Rattle.dh_server.specs.Serving.{ServesInTurn, Talk}
+use Rattle.dh_server.specs.Serving.{Talk}
+use Rattle.dh_server.specs.Turns.{ServesInTurn}
 use Rattle.dh_redirects.specs.declared.redirect.Redirect.{Redirect}
 use Rattle.dh_world.specs.World.{Text, World}
 use Rattle.dh_world.specs.declared.command.CommandChange.TheVariants.{ImportRedirects}
+use Rattle.docs_host.specs.MessageCalls.{IsFront, calls_of_message}
 use Rattle.docs_host.specs.declared.failure.Failure.{Failure}
 use Rattle.docs_host.specs.declared.failure.Failure.TheVariants.{Request}
 use Rattle.docs_host.specs.declared.failure.Status.{Status}
@@ -71,34 +74,50 @@ RunsRequest moment before after left held now (Err (Request fault)) =
     WritesAnswer (AnswersSource moment left before after) held now (Err fault)
 RunsRequest moment before after left held now (Err failure) = ⊥
 
--- the message of a connection was done and answered, or it was not read, and that was told; where its last line is lost, the
+-- a message was done, whose first calls these are; or it was not read, and none was done
+abbrev pub TakesCalls : ℕ → Option Text → List Call → World → World → Option Text → Option Text → Result End ScriptFault → Type 0
+TakesCalls moment left calls before after held now result =
+    ((message : Text) × IfSome left (λ input. message ≡ input)
+    × DoesMessage moment message before after held now result
+    × IsFront calls (calls_of_message moment message))
+    ⊎ (IsMessageUnread left result × (calls ≡ []) × (after ≡ before) × (now ≡ held))
+
+-- the message of a connection was taken, and the last line behind what it printed tells its end; where that line is lost, the
 -- writing has failed
-abbrev pub AnswersOne : ℕ → Talk → World → World → Type 0
-AnswersOne moment talk before after =
-    (result : Result End ScriptFault)
-    × AnswersMessage moment talk.left before after talk.held talk.now result
-    × (talk.has_failed ≡ writer_failed result)
+pub record AnswersOne (moment : ℕ) (talk : Talk) (calls : List Call) (before after : World) : Type 0 where
+  pub printed : Option Text
+  pub ended : Result End ScriptFault
+  pub result : Result End ScriptFault
+  pub takes : TakesCalls moment talk.left calls before after talk.held printed ended
+  pub tells : HasLastLine printed talk.now ended result
+  pub failed : talk.has_failed ≡ writer_failed result
 
--- this many connections, one after another, each at some moment: of the port, with one request; or of the control socket, with
--- one message
-abbrev pub ServesBoth : ℕ → World → World → Type 0
-ServesBoth = ServesInTurn (λ moment. ⊤) AnswersOne
+-- this many connections, one after another, each at the moment that the clock gave for it: of the port, with one request; or of
+-- the control socket, with one message
+abbrev pub ServesBoth : {C : Type 0} → (C → ℕ → C → Type 0) → C → C → ℕ → World → World → Type 0
+ServesBoth gives first last count before after =
+    (answered : ℕ) × ServesInTurn gives first last AnswersOne count answered before after
 
--- an order was run: the lines of a script, whole or in part; a request, which was answered, whole or in part; this many
--- connections, each with one request or one message; or a single command, read or list
-abbrev pub RunsOrder : ℕ → World → Order → World → Option Text → Option Text → Option Text → Result Status Failure → Type 0
-RunsOrder moment before order.Script after left held now result = RunsScript moment left before after held now result
-RunsOrder moment before order.Answer after left held now result = RunsRequest moment before after left held now result
-RunsOrder moment before (order.Serve count port log) after left held now result = ServesBoth count before after
-RunsOrder moment before (order.Act command) after left held now result =
+-- so many of them, or fewer
+abbrev pub ServesUpTo : {C : Type 0} → (C → ℕ → C → Type 0) → C → C → ℕ → World → World → Type 0
+ServesUpTo gives first last most before after =
+    (count : ℕ) × (count ≤ most) × ServesBoth gives first last count before after
+
+-- an order was run: the lines of a script, whole or in part; a request, which was answered, whole or in part; connections, which
+-- did what `Serves` says of their count; or a single command, read or list
+abbrev pub RunsOrder : (ℕ → World → World → Type 0) → ℕ → World → Order → World → Option Text → Option Text → Option Text → Result Status Failure → Type 0
+RunsOrder Serves moment before order.Script after left held now result = RunsScript moment left before after held now result
+RunsOrder Serves moment before order.Answer after left held now result = RunsRequest moment before after left held now result
+RunsOrder Serves moment before (order.Serve count port log) after left held now result = Serves count before after
+RunsOrder Serves moment before (order.Act command) after left held now result =
     IfOk result (RunsSingle moment before (order.Act command) after held now)
-RunsOrder moment before (order.Get host target pass own) after left held now result =
+RunsOrder Serves moment before (order.Get host target pass own) after left held now result =
     IfOk result (RunsSingle moment before (order.Get host target pass own) after held now)
-RunsOrder moment before (order.Import host list) after left held now result =
+RunsOrder Serves moment before (order.Import host list) after left held now result =
     IfOk result (RunsSingle moment before (order.Import host list) after held now)
-RunsOrder moment before (order.List word) after left held now result =
+RunsOrder Serves moment before (order.List word) after left held now result =
     IfOk result (RunsSingle moment before (order.List word) after held now)
-RunsOrder moment before (order.Init file) after left held now result =
+RunsOrder Serves moment before (order.Init file) after left held now result =
     IfOk result (RunsSingle moment before (order.Init file) after held now)
-RunsOrder moment before (order.Migrate file) after left held now result =
+RunsOrder Serves moment before (order.Migrate file) after left held now result =
     IfOk result (RunsSingle moment before (order.Migrate file) after held now)

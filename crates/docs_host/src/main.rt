@@ -7,6 +7,7 @@ mod explaining;
 mod failure;
 mod lists;
 mod orders;
+mod own_store;
 mod program;
 mod sending;
 mod serving;
@@ -14,16 +15,19 @@ mod socket;
 mod streams;
 mod usage;
 
+use clock::seconds;
 use dh_ports::Port;
 use failure::{Failure, Status, tell, tell_usage};
+use own_store::name_store;
 use program::run_program;
 use sqlite_disk::Unknown;
+use std::env::VarError;
 use std::io::{self, ErrorKind};
 use std::process::ExitCode;
 use std::rt::Env;
 use streams::Streams;
 
-/// The words behind the program's own name.
+/// The words behind the program's own name, with the file that DOCS_STORE names where they lack one.
 fn words_of<R: Env + AllocGlobal>(rt: &R) -> io::Result<Vec<String>> {
     let mut words = Vec::new(rt.alloc());
     let mut args = std::env::args(rt)?;
@@ -31,16 +35,22 @@ fn words_of<R: Env + AllocGlobal>(rt: &R) -> io::Result<Vec<String>> {
     for word in args {
         words.push(word)?;
     }
+    match std::env::var(rt, "DOCS_STORE") {
+        Ok(file) if !file.is_empty() => name_store(rt.alloc(), &mut words, file.as_str())?,
+        Ok(_) | Err(VarError::NotPresent) => {}
+        Err(VarError::NotUnicode) => return Err(io::Error::from(ErrorKind::InvalidData)),
+        Err(VarError::OutOfMemory) => return Err(io::Error::from(ErrorKind::OutOfMemory)),
+    }
     Ok(words)
 }
 
-/// Writes that the words were not read: memory is out, or one of them is no text.
+/// Writes that the words were not read: memory is out, or one of them, or what DOCS_STORE names, is no text.
 fn tell_unread(rt: &HostRuntime, error: &io::Error) -> Status {
     let mut errors = Port::new(rt.stderr());
     if error.kind() == ErrorKind::OutOfMemory {
         return tell(&mut errors, Failure::Memory, None);
     }
-    tell_usage(&mut errors, "a word is not UTF-8")
+    tell_usage(&mut errors, "a word, or DOCS_STORE, is not UTF-8")
 }
 
 fn main(rt: HostRuntime) -> ExitCode {
@@ -53,7 +63,15 @@ fn main(rt: HostRuntime) -> ExitCode {
         sink: Port::new(rt.stdout()),
         errors: Port::new(rt.stderr()),
     };
-    let now = clock::seconds(&rt);
-    let status = run_program(&rt, Unknown, words.as_slice(), &mut streams, now);
+    let mut clock = || seconds(&rt);
+    let now = clock();
+    let status = run_program(
+        &rt,
+        Unknown,
+        words.as_slice(),
+        &mut streams,
+        &mut clock,
+        now,
+    );
     ExitCode::from(status)
 }

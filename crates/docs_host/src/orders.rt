@@ -10,7 +10,7 @@ ghost use Rattle.docs_host.specs.Ends.{Ended, may_end_request, may_end_single};
 ghost use Rattle.docs_host.specs.Ends.{may_end_order, is_failure_status};
 ghost use Rattle.docs_host.specs.Failing.{IsDoneOr, is_of_output, is_of_script, is_of_request};
 ghost use Rattle.docs_host.specs.Failing.{is_of_order};
-ghost use Rattle.docs_host.specs.Orders.{AreUnbroken, RunsSingle, RunsRequest, RunsOrder, single_status};
+ghost use Rattle.docs_host.specs.Orders.{AreUnbroken, RunsSingle, RunsRequest, RunsOrder, ServesUpTo, single_status};
 
 use crate::failure::{Failure, Status, tell_reason, tell_report};
 use crate::serving::{Served, serve};
@@ -129,20 +129,23 @@ fn answer_request<S: Alter, R: Source, W: Sink>(
 
 /// Does what is ordered over a desk. `now` is the moment of a read that gives none of its own, in seconds since 1970; a server
 /// asks the clock for each of its connections.
-pub fn do_order<S: Alter, R: Source, W: Sink, E: Sink>(
+pub fn do_order<S: Alter, C: FnMut() -> u64, R: Source, W: Sink, E: Sink>(
     rt: &HostRuntime,
     desk: &mut Desk<S>,
     served: &mut Served<'_>,
     order: &Order,
     streams: &mut Streams<R, W, E>,
+    clock: &mut C,
     now: u64,
 ) -> Result<Status, Failure>
+    requires callable { C.IsAlwaysCallable clock.old }
     requires ready { AreUnbroken (R.broken streams.old.source) (W.broken streams.old.sink) }
     ensures runs { WorldGoesBy S.Store desk.old desk.new
-        (λ before after. RunsOrder now before order.now after
+        (λ before after. RunsOrder (ServesUpTo C.step clock.old clock.new) now before order.now after
         (R.left streams.old.source) (W.held streams.old.sink) (W.held streams.new.sink) result) }
     ensures ends { Ended (λ status. IsTrue (may_end_order order.now status))
         (is_of_order order.now) result }
+    ensures callable { C.IsAlwaysCallable clock.new }
     ensures tells { TellsSome E.broken E.held streams.old.errors streams.new.errors }
 {
     match order {
@@ -162,7 +165,7 @@ pub fn do_order<S: Alter, R: Source, W: Sink, E: Sink>(
             now,
         ),
         Order::Serve { count, port, log } => {
-            serve(rt, desk, served, *count, *port, *log, streams)
+            serve(rt, desk, served, clock, *count, *port, *log, streams)
         }
         Order::Act(_)
         | Order::Get { .. }

@@ -41,14 +41,16 @@ fn has_bad_target(alloc: Global, order: &Order) -> Result<bool, AllocError>
 }
 
 /// Does what is ordered over the desk of a file, and closes the file.
-fn run_over_desk<S: Start, R: Source, W: Sink, E: Sink>(
+fn run_over_desk<S: Start, C: FnMut() -> u64, R: Source, W: Sink, E: Sink>(
     rt: &HostRuntime,
     opened: (FileDesk<S>, i64),
     order: &Order,
     file: &str,
     streams: &mut Streams<R, W, E>,
+    clock: &mut C,
     now: u64,
 ) -> Result<Status, Failure>
+    requires callable { C.IsAlwaysCallable clock.old }
     requires ready { AreUnbroken (R.broken streams.old.source) (W.broken streams.old.sink) }
     ensures ends { Ended (λ status. IsTrue (may_end_order order.now status))
         (is_of_opened order.now) result }
@@ -60,11 +62,11 @@ fn run_over_desk<S: Start, R: Source, W: Sink, E: Sink>(
         projects,
         rest: None,
     };
-    let ran = do_order(rt, &mut desk, &mut served, order, streams, now);
+    let ran = do_order(rt, &mut desk, &mut served, order, streams, clock, now);
     let closed = close_desk(desk);
     let status = ran?;
     if let Some(rest) = served.rest {
-        return serve_rest(rt, file, rest, &mut streams.errors);
+        return serve_rest(rt, file, rest, clock, &mut streams.errors);
     }
     closed?;
     Ok(status)
@@ -84,21 +86,23 @@ fn tell_held<E: Sink>(fault: FileFault, errors: &mut E)
 }
 
 /// Does an import over the records of a file, which no other program may have open.
-fn import_over_file<S: Start, R: Source, W: Sink, E: Sink>(
+fn import_over_file<S: Start, C: FnMut() -> u64, R: Source, W: Sink, E: Sink>(
     rt: &HostRuntime,
     start: S,
     order: &Order,
     file: &str,
     streams: &mut Streams<R, W, E>,
+    clock: &mut C,
     now: u64,
 ) -> Result<Status, Failure>
+    requires callable { C.IsAlwaysCallable clock.old }
     requires ready { AreUnbroken (R.broken streams.old.source) (W.broken streams.old.sink) }
     ensures ends { Ended (λ status. IsTrue (may_end_order order.now status))
         (is_of_opened order.now) result }
     ensures tells { TellsSome E.broken E.held streams.old.errors streams.new.errors }
 {
     match open_desk(rt, file, start) {
-        Ok(opened) => run_over_desk(rt, opened, order, file, streams, now),
+        Ok(opened) => run_over_desk(rt, opened, order, file, streams, clock, now),
         Err(fault) => {
             tell_held(fault, &mut streams.errors);
             Err(Failure::File(fault))
@@ -107,15 +111,17 @@ fn import_over_file<S: Start, R: Source, W: Sink, E: Sink>(
 }
 
 /// Does what is ordered over the records of a file; where a server has the file, asks that server to do it.
-fn run_over_file<S: Start, R: Source, W: Sink, E: Sink>(
+fn run_over_file<S: Start, C: FnMut() -> u64, R: Source, W: Sink, E: Sink>(
     rt: &HostRuntime,
     start: S,
     words: &[String],
     order: &Order,
     file: &str,
     streams: &mut Streams<R, W, E>,
+    clock: &mut C,
     now: u64,
 ) -> Result<Status, Failure>
+    requires callable { C.IsAlwaysCallable clock.old }
     requires ready { AreUnbroken (R.broken streams.old.source) (W.broken streams.old.sink) }
     ensures ends { Ended (EndsOver order.now (W.held streams.old.sink) (W.held streams.new.sink))
         (is_of_file order.now) result }
@@ -127,7 +133,7 @@ fn run_over_file<S: Start, R: Source, W: Sink, E: Sink>(
         return Ok(Status::Refused);
     }
     match open_desk(rt, file, start) {
-        Ok(opened) => run_over_desk(rt, opened, order, file, streams, now),
+        Ok(opened) => run_over_desk(rt, opened, order, file, streams, clock, now),
         Err(FileFault::Busy) => run_by_server(
             rt.alloc(),
             &mut Sockets { rt },
@@ -190,22 +196,24 @@ fn migrate<S: Start>(rt: &HostRuntime, start: S, file: &str) -> Result<Status, F
 
 /// Adds the redirects of a list to those of a project, over the records of a file; or tells which record of the list writes
 /// none.
-fn import_list<S: Start, R: Source, W: Sink, E: Sink>(
+fn import_list<S: Start, C: FnMut() -> u64, R: Source, W: Sink, E: Sink>(
     rt: &HostRuntime,
     start: S,
     host: &Text,
     list: ListFile<'_>,
     file: &str,
     streams: &mut Streams<R, W, E>,
+    clock: &mut C,
     now: u64,
 ) -> Result<Status, Failure>
+    requires callable { C.IsAlwaysCallable clock.old }
     requires ready { AreUnbroken (R.broken streams.old.source) (W.broken streams.old.sink) }
     ensures ends { Ended (EndsList host.now list.entry.bytes.now
         (W.held streams.old.sink) (W.held streams.new.sink)) is_of_command result }
     ensures tells { TellsSome E.broken E.held streams.old.errors streams.new.errors }
 {
     match order_in(rt.alloc(), host, list.bytes) {
-        Ok(order) => import_over_file(rt, start, &order, file, streams, now),
+        Ok(order) => import_over_file(rt, start, &order, file, streams, clock, now),
         Err(ListFault::BadRecord(number, fault)) => {
             refuse_record(rt.alloc(), list.path, number, fault, streams)
         }
@@ -214,15 +222,17 @@ fn import_list<S: Start, R: Source, W: Sink, E: Sink>(
 }
 
 /// Adds the redirects of a list's file to those of a project, over the records of a file, which is opened once the list is read.
-fn import<S: Start, R: Source, W: Sink, E: Sink>(
+fn import<S: Start, C: FnMut() -> u64, R: Source, W: Sink, E: Sink>(
     rt: &HostRuntime,
     start: S,
     host: &Text,
     list: &Text,
     file: &str,
     streams: &mut Streams<R, W, E>,
+    clock: &mut C,
     now: u64,
 ) -> Result<Status, Failure>
+    requires callable { C.IsAlwaysCallable clock.old }
     requires ready { AreUnbroken (R.broken streams.old.source) (W.broken streams.old.sink) }
     ensures ends { Ended (EndsOver (Order.Import host.now list.now)
         (W.held streams.old.sink) (W.held streams.new.sink))
@@ -234,18 +244,20 @@ fn import<S: Start, R: Source, W: Sink, E: Sink>(
         path: list.as_str(),
         bytes: bytes.as_slice(),
     };
-    import_list(rt, start, host, read, file, streams, now)
+    import_list(rt, start, host, read, file, streams, clock, now)
 }
 
 /// Does the line that these words are.
-fn run_line<S: Start, R: Source, W: Sink, E: Sink>(
+fn run_line<S: Start, C: FnMut() -> u64, R: Source, W: Sink, E: Sink>(
     rt: &HostRuntime,
     start: S,
     words: &[String],
     line: &Line,
     streams: &mut Streams<R, W, E>,
+    clock: &mut C,
     now: u64,
 ) -> Result<Status, Failure>
+    requires callable { C.IsAlwaysCallable clock.old }
     requires ready { AreUnbroken (R.broken streams.old.source) (W.broken streams.old.sink) }
     ensures ends { Ended (EndsBy now line.now.store line.now.order
         (R.left streams.old.source) (W.held streams.old.sink) (W.held streams.new.sink))
@@ -269,9 +281,18 @@ fn run_line<S: Start, R: Source, W: Sink, E: Sink>(
             now,
         ),
         (Order::Import { host, list }, Some(file)) => {
-            import(rt, start, host, list, file.as_str(), streams, now)
+            import(rt, start, host, list, file.as_str(), streams, clock, now)
         }
-        (order, Some(file)) => run_over_file(rt, start, words, order, file.as_str(), streams, now),
+        (order, Some(file)) => run_over_file(
+            rt,
+            start,
+            words,
+            order,
+            file.as_str(),
+            streams,
+            clock,
+            now,
+        ),
         (
             Order::Act(_)
             | Order::Get { .. }
@@ -309,34 +330,38 @@ fn wants_version(words: &[String]) -> bool
 }
 
 /// Does a line of the program, and tells the failure that ended it.
-fn run_and_tell<S: Start, R: Source, W: Sink, E: Sink>(
+fn run_and_tell<S: Start, C: FnMut() -> u64, R: Source, W: Sink, E: Sink>(
     rt: &HostRuntime,
     start: S,
     words: &[String],
     line: &Line,
     streams: &mut Streams<R, W, E>,
+    clock: &mut C,
     now: u64,
 ) -> Status
+    requires callable { C.IsAlwaysCallable clock.old }
     requires ready { AreUnbroken (R.broken streams.old.source) (W.broken streams.old.sink) }
     ensures ends { EndsBy now line.now.store line.now.order
         (R.left streams.old.source) (W.held streams.old.sink) (W.held streams.new.sink) result }
     ensures told { TellsEnd E.broken E.held (Some line.now)
         streams.old.errors streams.new.errors result }
 {
-    match run_line(rt, start, words, line, streams, now) {
+    match run_line(rt, start, words, line, streams, clock, now) {
         Ok(status) => status,
         Err(failure) => tell(&mut streams.errors, failure, file_of(line, failure)),
     }
 }
 
 /// Does what the words ask for, and answers how it ended.
-fn run_line_of_words<S: Start, R: Source, W: Sink, E: Sink>(
+fn run_line_of_words<S: Start, C: FnMut() -> u64, R: Source, W: Sink, E: Sink>(
     rt: &HostRuntime,
     start: S,
     words: &[String],
     streams: &mut Streams<R, W, E>,
+    clock: &mut C,
     now: u64,
 ) -> Status
+    requires callable { C.IsAlwaysCallable clock.old }
     requires ready { AreUnbroken (R.broken streams.old.source) (W.broken streams.old.sink) }
     ensures ends { EndsAsked now false (map string_bytes words.now)
         (R.left streams.old.source) (W.held streams.old.sink) (W.held streams.new.sink) result }
@@ -353,7 +378,7 @@ fn run_line_of_words<S: Start, R: Source, W: Sink, E: Sink>(
         ),
         Err(LineFault::Memory) => return tell(&mut streams.errors, Failure::Memory, None),
     };
-    run_and_tell(rt, start, words, &line, streams, now)
+    run_and_tell(rt, start, words, &line, streams, clock, now)
 }
 
 /// The file that is named beside a failure: the file of the list, or that of the records.
@@ -369,13 +394,15 @@ fn file_of(line: &Line, failure: Failure) -> Option<&str>
 }
 
 /// Writes the help that the words ask for, or does what they order.
-fn tell_help_or_run<S: Start, R: Source, W: Sink, E: Sink>(
+fn tell_help_or_run<S: Start, C: FnMut() -> u64, R: Source, W: Sink, E: Sink>(
     rt: &HostRuntime,
     start: S,
     words: &[String],
     streams: &mut Streams<R, W, E>,
+    clock: &mut C,
     now: u64,
 ) -> Status
+    requires callable { C.IsAlwaysCallable clock.old }
     requires ready { AreUnbroken (R.broken streams.old.source) (W.broken streams.old.sink) }
     ensures ends { EndsAsked now (asks_help (map string_bytes words.now))
         (map string_bytes words.now) (R.left streams.old.source)
@@ -386,18 +413,20 @@ fn tell_help_or_run<S: Start, R: Source, W: Sink, E: Sink>(
 {
     match helped(words) {
         Some(names) => tell_help(rt.alloc(), names, &mut streams.sink, &mut streams.errors),
-        None => run_line_of_words(rt, start, words, streams, now),
+        None => run_line_of_words(rt, start, words, streams, clock, now),
     }
 }
 
 /// Writes which version of the program this is, or the help that the words ask for, or does what they order.
-fn tell_version_or_run<S: Start, R: Source, W: Sink, E: Sink>(
+fn tell_version_or_run<S: Start, C: FnMut() -> u64, R: Source, W: Sink, E: Sink>(
     rt: &HostRuntime,
     start: S,
     words: &[String],
     streams: &mut Streams<R, W, E>,
+    clock: &mut C,
     now: u64,
 ) -> Status
+    requires callable { C.IsAlwaysCallable clock.old }
     requires ready { AreUnbroken (R.broken streams.old.source) (W.broken streams.old.sink) }
     ensures ends { EndsWords now (map string_bytes words.now)
         (R.left streams.old.source) (W.held streams.old.sink) (W.held streams.new.sink) result }
@@ -407,7 +436,7 @@ fn tell_version_or_run<S: Start, R: Source, W: Sink, E: Sink>(
     if wants_version(words) {
         return tell_version(&mut streams.sink, &mut streams.errors);
     }
-    tell_help_or_run(rt, start, words, streams, now)
+    tell_help_or_run(rt, start, words, streams, clock, now)
 }
 
 /// Runs the whole program over its words, without its own name. Its streams are given, and `start` stands for what the file of
@@ -417,19 +446,21 @@ fn tell_version_or_run<S: Start, R: Source, W: Sink, E: Sink>(
 /// A command, a read, a list or a script over a file that a server has open is sent to that server, and the run ends as the
 /// server's answer tells. Faults are found in this order: the words, the target of a read, the list, the file, the control
 /// socket, the port, the run; where the file is a server's, the script before the file. `now` is the moment of each read that
-/// gives none of its own, in seconds since 1970; a server asks the clock.
-pub fn run_program<S: Start, R: Source, W: Sink, E: Sink>(
+/// gives none of its own, in seconds since 1970; a server asks the clock for each of its connections.
+pub fn run_program<S: Start, C: FnMut() -> u64, R: Source, W: Sink, E: Sink>(
     rt: &HostRuntime,
     start: S,
     words: &[String],
     streams: &mut Streams<R, W, E>,
+    clock: &mut C,
     now: u64,
 ) -> u8
+    requires callable { C.IsAlwaysCallable clock.old }
     requires ready { AreUnbroken (R.broken streams.old.source) (W.broken streams.old.sink) }
     ensures { EndsProgram now (map string_bytes words.now)
         (R.left streams.old.source) (W.held streams.old.sink) (W.held streams.new.sink)
         (TellsEnd E.broken E.held (line_run (map string_bytes words.now))
         streams.old.errors streams.new.errors) result }
 {
-    tell_version_or_run(rt, start, words, streams, now).code()
+    tell_version_or_run(rt, start, words, streams, clock, now).code()
 }

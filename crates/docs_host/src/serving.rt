@@ -2,21 +2,20 @@
 
 ghost use Rattle.std.specs.Prelude.{◌≡◌, ◌≤◌, ◌-◌, true, false, unwrap_or, IfErr, IfOk, OnOk, OnErr, IsTrue, MatchOption, Some};
 ghost use Rattle.dh_http.specs.Desk.{WorldGoesBy};
-ghost use Rattle.dh_server.specs.Serving.{CountsExactly};
+ghost use Rattle.dh_server.specs.Serving.{AsksClock, CountsExactly};
 ghost use Rattle.dh_server.specs.Telling.{TellsSome};
 ghost use Rattle.docs_host.specs.Failing.{IsDoneOr, is_of_init, is_of_server, may_fail};
-ghost use Rattle.docs_host.specs.Orders.{AnswersOne, ServesBoth};
+ghost use Rattle.docs_host.specs.Orders.{AnswersOne, ServesBoth, ServesUpTo};
 
-use crate::clock::seconds;
 use crate::failure::{Failure, Status, put};
 use crate::orders::say;
 use crate::socket::{SocketFault, bind_socket, remove_socket};
 use crate::streams::Streams;
 use dh_control::answer_message;
-use dh_files::{FileFault, close_desk, open_desk};
+use dh_files::{FileDesk, FileFault, close_desk, open_desk};
 use dh_http::Desk;
 use dh_ports::{Sink, Source};
-use dh_server::{Control, Listen, Listening, Log, serve_on};
+use dh_server::{Control, Listen, Listening, Log, pause, serve_on};
 use sqlite::Alter;
 use sqlite_disk::Unknown;
 use std::alloc::Global;
@@ -106,37 +105,41 @@ impl Control for Messages {
     }
 }
 
-/// Answers `count` connections over a desk. Where a fault of the store closes the desk, gives how many are left.
-fn serve_desk<S: Alter, N: Listen, E: Sink>(
+/// Answers `count` connections over a desk, each at the moment that the clock gives. Where a fault of the store closes the desk,
+/// gives how many are left.
+fn serve_desk<S: Alter, N: Listen, C: FnMut() -> u64, E: Sink>(
     rt: &HostRuntime,
     desk: &mut Desk<S>,
     listening: &mut N,
+    clock: &mut C,
     count: u32,
     log: bool,
     errors: &mut E,
 ) -> Option<u32>
+    requires { C.IsAlwaysCallable clock.old }
     ensures asks { CountsExactly (N.asked listening.old) (N.asked listening.new)
         (count - unwrap_or result 0) }
+    ensures clocked { AsksClock C.step clock.old clock.new (count - unwrap_or result 0) }
     ensures left { MatchOption result (desk.new.closed ≡ false)
         (λ left. (desk.new.closed ≡ true) × (left ≤ count)) }
     ensures serves { WorldGoesBy S.Store desk.old desk.new
-        (ServesBoth (count - unwrap_or result 0)) }
+        (ServesBoth C.step clock.old clock.new (count - unwrap_or result 0)) }
+    ensures callable { C.IsAlwaysCallable clock.new }
     ensures tells { TellsSome E.broken E.held errors.old errors.new }
 {
-    let mut clock = || seconds(rt);
     let log = Log::new(rt, log);
-    let asked = serve_on(
+    let served = serve_on(
         rt.alloc(),
         desk,
         listening,
         &mut Messages { count: 0 },
-        &mut clock,
+        clock,
         count,
         &log,
         errors,
     );
     if desk.is_closed() {
-        return Some(count - asked);
+        return Some(count - served.asked);
     }
     None
 }
@@ -154,22 +157,28 @@ fn listening_at<'a>(
 
 /// Answers `count` connections at a port and at a socket. Where a fault of the store closes the desk, those that are left are
 /// for `serve_rest`.
-fn serve_at<S: Alter, R: Source, W: Sink, E: Sink>(
+fn serve_at<S: Alter, C: FnMut() -> u64, R: Source, W: Sink, E: Sink>(
     rt: &HostRuntime,
     desk: &mut Desk<S>,
     served: &mut Served<'_>,
     socket: Option<UnixListener>,
+    clock: &mut C,
     count: u32,
     port: u16,
     log: bool,
     streams: &mut Streams<R, W, E>,
 ) -> Result<Status, Failure>
-    requires { W.broken streams.old.sink ≡ false }
-    ensures serves { WorldGoesBy S.Store desk.old desk.new (ServesBoth count) }
+    requires callable { C.IsAlwaysCallable clock.old }
+    requires writer { W.broken streams.old.sink ≡ false }
+    ensures serves { WorldGoesBy S.Store desk.old desk.new
+        (ServesUpTo C.step clock.old clock.new count) }
+    ensures callable { C.IsAlwaysCallable clock.new }
     ensures ends { IsDoneOr is_of_server result }
-    ensures rest { OnOk result (MatchOption served.new.rest (desk.new.closed ≡ false)
-        (λ rest. (rest.count ≤ count)
-        × WorldGoesBy S.Store desk.old desk.new (ServesBoth (count - rest.count)))) }
+    ensures rest { OnOk result (MatchOption served.new.rest
+        ((desk.new.closed ≡ false) × WorldGoesBy S.Store desk.old desk.new
+        (ServesBoth C.step clock.old clock.new count))
+        (λ rest. (rest.count ≤ count) × WorldGoesBy S.Store desk.old desk.new
+        (ServesBoth C.step clock.old clock.new (count - rest.count)))) }
     ensures same { OnErr result (served.new.rest ≡ served.old.rest) }
     ensures file { served.new.file ≡ served.old.file }
     ensures tells { TellsSome E.broken E.held streams.old.errors streams.new.errors }
@@ -184,7 +193,15 @@ fn serve_at<S: Alter, R: Source, W: Sink, E: Sink>(
     let Ok(mut listening) = listening_at(&listener, socket.as_ref()) else {
         return Err(Failure::Bind);
     };
-    match serve_desk(rt, desk, &mut listening, count, log, &mut streams.errors) {
+    match serve_desk(
+        rt,
+        desk,
+        &mut listening,
+        clock,
+        count,
+        log,
+        &mut streams.errors,
+    ) {
         Some(left) => {
             served.rest = Some(Rest {
                 listener,
@@ -224,28 +241,35 @@ fn open_socket<E: Sink>(
     Ok(socket)
 }
 
-/// Answers `count` connections: of a port, one request each, which the log tells to standard error; and of the control socket
-/// beside the file, where the file may have one, one message each. Where a fault of the store closes the desk, the connections
-/// that are left are for `serve_rest`, and the socket stays; else the socket is removed.
-pub fn serve<S: Alter, R: Source, W: Sink, E: Sink>(
+/// Answers `count` connections, each at the moment that the clock gives: of a port, one request each, which the log tells to
+/// standard error; and of the control socket beside the file, where the file may have one, one message each. Where a fault of
+/// the store closes the desk, the connections that are left are for `serve_rest`, and the socket stays; else the socket is
+/// removed.
+pub fn serve<S: Alter, C: FnMut() -> u64, R: Source, W: Sink, E: Sink>(
     rt: &HostRuntime,
     desk: &mut Desk<S>,
     served: &mut Served<'_>,
+    clock: &mut C,
     count: u32,
     port: u16,
     log: bool,
     streams: &mut Streams<R, W, E>,
 ) -> Result<Status, Failure>
-    requires { W.broken streams.old.sink ≡ false }
-    ensures serves { WorldGoesBy S.Store desk.old desk.new (ServesBoth count) }
+    requires callable { C.IsAlwaysCallable clock.old }
+    requires writer { W.broken streams.old.sink ≡ false }
+    ensures serves { WorldGoesBy S.Store desk.old desk.new
+        (ServesUpTo C.step clock.old clock.new count) }
+    ensures callable { C.IsAlwaysCallable clock.new }
     ensures ends { IsDoneOr is_of_server result }
-    ensures rest { OnOk result (MatchOption served.new.rest (desk.new.closed ≡ false)
-        (λ rest. (rest.count ≤ count)
-        × WorldGoesBy S.Store desk.old desk.new (ServesBoth (count - rest.count)))) }
+    ensures rest { OnOk result (MatchOption served.new.rest
+        ((desk.new.closed ≡ false) × WorldGoesBy S.Store desk.old desk.new
+        (ServesBoth C.step clock.old clock.new count))
+        (λ rest. (rest.count ≤ count) × WorldGoesBy S.Store desk.old desk.new
+        (ServesBoth C.step clock.old clock.new (count - rest.count)))) }
     ensures tells { TellsSome E.broken E.held streams.old.errors streams.new.errors }
 {
     let socket = open_socket(rt, served.file, &mut streams.errors)?;
-    let ended = serve_at(rt, desk, served, socket, count, port, log, streams);
+    let ended = serve_at(rt, desk, served, socket, clock, count, port, log, streams);
     if served.rest.is_none() {
         remove_socket(rt, served.file);
     }
@@ -259,28 +283,47 @@ fn remove_at_end(rt: &HostRuntime, file: &str, left: Option<u32>) {
     }
 }
 
+/// How often a file is tried again that another program has open; with their pauses the tries take five seconds.
+const MOST_REOPENINGS: u32 = 100;
+
+/// Opens a file whose store has failed. Where another program has it by then, as a command for a moment, it is tried again.
+fn open_again(rt: &HostRuntime, file: &str) -> Result<(FileDesk<Unknown>, i64), FileFault> {
+    for _ in 0..MOST_REOPENINGS {
+        match open_desk(rt, file, Unknown) {
+            Err(FileFault::Busy) => pause(),
+            other => return other,
+        }
+    }
+    open_desk(rt, file, Unknown)
+}
+
 /// Opens a file again whose store has failed, and answers `count` connections over it. Where the store fails once more, gives
 /// how many are left, and the control socket stays; else the socket is removed. The socket also stays where the file does not
 /// open: another program may have the file by then, and the socket may be that program's.
-fn serve_again<N: Listen, E: Sink>(
+fn serve_again<N: Listen, C: FnMut() -> u64, E: Sink>(
     rt: &HostRuntime,
     file: &str,
     listening: &mut N,
+    clock: &mut C,
     count: u32,
     log: bool,
     errors: &mut E,
 ) -> Result<Option<u32>, Failure>
+    requires { C.IsAlwaysCallable clock.old }
+    ensures callable { C.IsAlwaysCallable clock.new }
     ensures asks { IfOk result
         (λ left. CountsExactly (N.asked listening.old) (N.asked listening.new)
         (count - unwrap_or left 0)) }
+    ensures clocked { IfOk result
+        (λ left. AsksClock C.step clock.old clock.new (count - unwrap_or left 0)) }
     ensures few { IfOk result (λ left. unwrap_or left 0 ≤ count) }
     ensures fails { IfErr result (λ failure. IsTrue (may_fail is_of_init failure)) }
     ensures tells { TellsSome E.broken E.held errors.old errors.new }
 {
     tell_again(rt.alloc(), file, errors);
-    let (mut desk, projects) = open_desk(rt, file, Unknown)?;
+    let (mut desk, projects) = open_again(rt, file)?;
     tell_served(rt.alloc(), file, projects, errors);
-    let left = serve_desk(rt, &mut desk, listening, count, log, errors);
+    let left = serve_desk(rt, &mut desk, listening, clock, count, log, errors);
     remove_at_end(rt, file, left);
     let closed = close_desk(desk);
     if left.is_none() {
@@ -291,22 +334,25 @@ fn serve_again<N: Listen, E: Sink>(
 
 /// Answers `count` connections over a file whose store has failed: the file is opened again, and once more each time its store
 /// fails. The run is done when all connections were asked for, over a file that was opened and has not failed since.
-fn serve_left<N: Listen, E: Sink>(
+fn serve_left<N: Listen, C: FnMut() -> u64, E: Sink>(
     rt: &HostRuntime,
     file: &str,
     listening: &mut N,
+    clock: &mut C,
     count: u32,
     log: bool,
     errors: &mut E,
 ) -> Result<Status, Failure>
+    requires { C.IsAlwaysCallable clock.old }
     ensures asks { OnOk result
         (CountsExactly (N.asked listening.old) (N.asked listening.new) count) }
+    ensures clocked { OnOk result (AsksClock C.step clock.old clock.new count) }
     ensures ends { IsDoneOr is_of_init result }
     ensures tells { TellsSome E.broken E.held errors.old errors.new }
 {
     let mut left = count;
     'openings: for _ in 0..count.saturating_add(1) {
-        let fewer = serve_again(rt, file, listening, left, log, errors)?;
+        let fewer = serve_again(rt, file, listening, clock, left, log, errors)?;
         match fewer {
             Some(still) => left = still,
             None => return Ok(Status::Done),
@@ -317,12 +363,15 @@ fn serve_left<N: Listen, E: Sink>(
 
 /// Answers what was left to serve when the store failed, over the file, which is opened again. Clients of both kinds wait
 /// meanwhile.
-pub fn serve_rest<E: Sink>(
+pub fn serve_rest<C: FnMut() -> u64, E: Sink>(
     rt: &HostRuntime,
     file: &str,
     rest: Rest,
+    clock: &mut C,
     errors: &mut E,
 ) -> Result<Status, Failure>
+    requires { C.IsAlwaysCallable clock.old }
+    ensures clocked { OnOk result (AsksClock C.step clock.old clock.new rest.count) }
     ensures ends { IsDoneOr is_of_init result }
     ensures tells { TellsSome E.broken E.held errors.old errors.new }
 {
@@ -330,5 +379,13 @@ pub fn serve_rest<E: Sink>(
     let Ok(mut listening) = listening_at(&rest.listener, rest.socket.as_ref()) else {
         return Err(Failure::File(FileFault::Failed));
     };
-    serve_left(rt, file, &mut listening, rest.count, rest.log, errors)
+    serve_left(
+        rt,
+        file,
+        &mut listening,
+        clock,
+        rest.count,
+        rest.log,
+        errors,
+    )
 }

@@ -17,6 +17,8 @@ const MOST_SOCKET_PATH_BYTES: usize = 107;
 /// Who may connect: the owner.
 const MODE: u32 = 0o600;
 
+const _: () = prove!(MODE & 0o077 == 0);
+
 /// How many connections are dropped that came before the socket was closed to others.
 const MOST_EARLY: u32 = 4096;
 

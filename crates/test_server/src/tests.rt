@@ -4,14 +4,17 @@
 mod beginnings;
 mod handed;
 mod kept;
+mod limits;
 mod logs;
+mod orders;
 mod passes;
+mod seen;
 mod sockets;
 mod streams;
 
 use dh_ports::{Failed, Port, Sink};
 use dh_sample::sample_desk;
-use dh_server::{Listening, Log, NoControl, serve_on};
+use dh_server::{Listening, Log, NoControl, Tally, serve_on};
 use std::io;
 use std::io::Write;
 use std::net::{Ipv4Addr, SocketAddr, TcpListener, TcpStream};
@@ -22,6 +25,14 @@ const INSTALL: &str = "GET /en/latest/install.html HTTP/1.1\r\nHost: docs.test\r
 
 const PAGE: &str =
     "HTTP/1.1 200 OK\r\nContent-Type: text/html; charset=utf-8\r\nContent-Length: 17\r\nConnection: close\r\n\r\n<h1>Install</h1>\n";
+
+/// That this many connections were asked for, and each was answered.
+fn all(count: u32) -> Tally {
+    Tally {
+        asked: count,
+        answered: count,
+    }
+}
 
 /// A sink that takes so many bytes, and counts the calls.
 #[derive(Drop)]
@@ -70,8 +81,8 @@ fn received(rt: &HostRuntime, stream: TcpStream) -> Result<String, Fail> {
     Ok(io::read_to_string(rt.alloc(), stream)?)
 }
 
-/// How many connections it asked for, of so many, by a desk of its own.
-fn serve(rt: &HostRuntime, listener: &TcpListener, count: u32) -> Result<u32, Fail> {
+/// How many connections it asked for, of so many, by a desk of its own, and how many it answered.
+fn serve(rt: &HostRuntime, listener: &TcpListener, count: u32) -> Result<Tally, Fail> {
     let mut desk = sample_desk(rt.alloc())?;
     let mut listening = Listening::new(listener);
     let mut errors = Port::new(rt.stderr());

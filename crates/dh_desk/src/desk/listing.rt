@@ -1,13 +1,14 @@
 //! Lists of what the tables hold.
 ghost use Rattle.std.specs.Prelude.{◌≡◌, true, false, Err, IfOk, OnOk};
 ghost use Rattle.dh_ports.specs.declared.fault.Fault.TheVariants as fault;
-ghost use Rattle.dh_desk.specs.Desk.{StoreFaultHasCause, IsHonest, IsKept, IsRefused, KeepsFaults, last_records, lists_of, world};
+ghost use Rattle.dh_desk.specs.Desk.{HasCleanDisk, StoreFaultHasCause, IsHonest, IsKept, IsRefused, IsSure, KeepsFaults, WorldGoesBy, last_records, lists_of, state, world};
 ghost use Rattle.dh_desk.specs.DeskLists.{is_unlisted};
 ghost use Rattle.dh_listings.specs.ListingTexts.{listing_text};
 ghost use Rattle.dh_records.specs.Lists.{world_of};
 ghost use Rattle.dh_rows.specs.Calls.{LeavesCommitted};
 
 use super::Desk;
+use crate::reads::undo;
 use dh_listing_reads::listing_in;
 use dh_listings::ListWord;
 use dh_paths::Text;
@@ -17,8 +18,11 @@ use sqlite::Alter;
 use std::alloc::Global;
 
 /// What a list word prints. A transaction that is open is undone first.
-fn list<S: Alter>(tables: &mut Tables<S>, alloc: Global, word: &ListWord) -> Found<Text>
-    requires { IsKept S.Store tables.old }
+fn list<S: Alter>(tables: &mut Tables<S>, sure: bool, alloc: Global, word: &ListWord) -> Found<Text>
+    requires kept { IsKept S.Store tables.old }
+    requires sure { IsSure S.Store sure tables.old }
+    ensures live { HasCleanDisk (state S.Store tables.new)
+        → OnOk result (IsHonest S.Store tables.new) }
     ensures value { IsHonest S.Store tables.new → IfOk result
         (λ text. text ≡ listing_text (world_of (last_records S.Store tables.old)) word.now) }
     ensures same { IsHonest S.Store tables.new
@@ -29,7 +33,7 @@ fn list<S: Alter>(tables: &mut Tables<S>, alloc: Global, word: &ListWord) -> Fou
     ensures outside { IsHonest S.Store tables.new → OnOk result (tables.new.in_transaction ≡ false) }
     ensures lasts { KeepsFaults S.Store tables.old tables.new }
 {
-    tables.back()?;
+    undo(tables, sure)?;
     listing_in(tables, alloc, word)
 }
 
@@ -44,8 +48,12 @@ impl<S: Alter> Desk<S> {
     /// Answers what a list word prints, without the end of its last line; none, where there is no project. After a fault of the
     /// store the desk answers `Store` to each call.
     pub fn list(&mut self, alloc: Global, word: &ListWord) -> Found<Text>
-        ensures value { IsHonest S.Store self.new.tables
+        ensures live { HasCleanDisk (state S.Store self.new.tables)
+            → OnOk result (IsHonest S.Store self.new.tables) }
+        ensures value { HasCleanDisk (state S.Store self.new.tables)
             → IfOk result (λ text. text ≡ listing_text (world S.Store self.old) word.now) }
+        ensures goes { WorldGoesBy S.Store self.old self.new (λ before after. (after ≡ before)
+            × IfOk result (λ text. text ≡ listing_text before word.now)) }
         ensures same { IsHonest S.Store self.new.tables
             → world S.Store self.new ≡ world S.Store self.old }
         ensures rests { IsHonest S.Store self.new.tables
@@ -64,8 +72,9 @@ impl<S: Alter> Desk<S> {
         if self.closed {
             return Err(Fault::Store);
         }
-        let answer = list(&mut self.tables, alloc, word);
+        let answer = list(&mut self.tables, self.sure, alloc, word);
         self.closed = is_unlisted_in(&answer);
+        self.sure = answer.is_ok();
         answer
     }
 }

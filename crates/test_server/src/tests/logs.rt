@@ -1,6 +1,6 @@
 //! The line for each connection.
 
-use super::{Counter, INSTALL, PAGE, client, listen, received};
+use super::{Counter, INSTALL, PAGE, all, client, listen, received};
 use dh_ports::Port;
 use dh_sample::sample_desk;
 use dh_server::{Listening, Log, NoControl, serve_on};
@@ -84,7 +84,7 @@ fn full_log_does_not_stop_it(rt: &HostRuntime) -> Result<bool, Fail> {
     };
     let log = Log::new(Still, true);
     let mut listening = Listening::new(&listener);
-    let asked = serve_on(
+    let served = serve_on(
         rt.alloc(),
         &mut desk,
         &mut listening,
@@ -94,7 +94,11 @@ fn full_log_does_not_stop_it(rt: &HostRuntime) -> Result<bool, Fail> {
         &log,
         &mut errors,
     );
-    Ok(asked == 2 && received(rt, one)?.as_str() == PAGE && received(rt, other)?.as_str() == PAGE)
+    Ok(
+        served == all(2)
+            && received(rt, one)?.as_str() == PAGE
+            && received(rt, other)?.as_str() == PAGE,
+    )
 }
 
 #[test]

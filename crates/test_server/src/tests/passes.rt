@@ -1,13 +1,14 @@
 //! A pass that ends, by the clock that a server is handed.
 
-use super::{client, listen, received};
+use super::{all, client, listen, received};
 use dh_http::{Answer, Command, CommandChange};
 use dh_paths::Text;
 use dh_ports::Port;
 use dh_sample::sample_desk;
-use dh_server::{Listening, Log, NoControl, serve_on};
+use dh_server::{Came, Listen, Listening, Log, NoControl, serve_on};
 use sqlite::MemStore;
 use std::alloc::Global;
+use std::cell::Cell;
 use std::net::TcpListener;
 use std::test::Fail;
 
@@ -60,7 +61,7 @@ fn serve_three(rt: &HostRuntime, listener: &TcpListener) -> Result<bool, Fail> {
         if is_early { 999 } else { 1000 }
     };
     let log = Log::new(rt, false);
-    let asked = serve_on(
+    let served = serve_on(
         rt.alloc(),
         &mut desk,
         &mut listening,
@@ -70,7 +71,51 @@ fn serve_three(rt: &HostRuntime, listener: &TcpListener) -> Result<bool, Fail> {
         &log,
         &mut errors,
     );
-    Ok(closed && asked == 3)
+    Ok(closed && served == all(3))
+}
+
+/// A port whose next connection comes late.
+#[derive(Drop)]
+struct Late<'a> {
+    port: &'a TcpListener,
+    is_late: &'a Cell<bool>,
+}
+
+impl Listen for Late<'_> {
+    ghost use Rattle.std.specs.Prelude.{None};
+
+    ghost asked = { λ _. None };
+
+    ghost messages = { λ _. None };
+
+    fn accept(&mut self) -> Option<Came> {
+        self.is_late.set(true);
+        let (stream, _) = self.port.accept().ok()?;
+        Some(Came::Request(stream))
+    }
+}
+
+/// Serves a connection that comes at 1000, and not before.
+fn serve_late(rt: &HostRuntime, listener: &TcpListener) -> Result<bool, Fail> {
+    let mut desk = sample_desk(rt.alloc())?;
+    let closed = close_to_all_but_a_pass(rt.alloc(), &mut desk)?;
+    let is_late = Cell::new(false);
+    let mut late = Late {
+        port: listener,
+        is_late: &is_late,
+    };
+    let mut errors = Port::new(rt.stderr());
+    let served = serve_on(
+        rt.alloc(),
+        &mut desk,
+        &mut late,
+        &mut NoControl,
+        &mut || if is_late.get() { 1000 } else { 999 },
+        1,
+        &Log::new(rt, false),
+        &mut errors,
+    );
+    Ok(closed && served == all(1))
 }
 
 fn status(reply: &str) -> &str {
@@ -87,5 +132,15 @@ fn a_pass_opens_nothing_from_its_end_on(rt: HostRuntime) -> Result<(), Fail> {
     assert_eq!(rt; status(&received(&rt, first)?), "200");
     assert_eq!(rt; status(&received(&rt, second)?), "404");
     assert_eq!(rt; status(&received(&rt, third)?), "200");
+    Ok(())
+}
+
+/// The moment of a request is the one when it came, and not the one when it was waited for.
+#[test]
+fn a_pass_that_ends_meanwhile_opens_nothing(rt: HostRuntime) -> Result<(), Fail> {
+    let listener = listen(&rt)?;
+    let late = client(&rt, &listener, PRIVATE_PAGE)?;
+    assert!(rt; serve_late(&rt, &listener)?);
+    assert_eq!(rt; status(&received(&rt, late)?), "404");
     Ok(())
 }

@@ -1,6 +1,9 @@
 //! Good clients and others.
 
-use super::{INSTALL, PAGE, client, listen, received, serve};
+use super::{INSTALL, PAGE, all, client, listen, received, serve};
+use dh_ports::Port;
+use dh_sample::sample_desk;
+use dh_server::{Came, Listen, Log, NoControl, Tally, serve_on};
 use std::io::Write;
 use std::net::Shutdown;
 use std::test::Fail;
@@ -8,8 +11,8 @@ use std::test::Fail;
 fn page_is_served(rt: &HostRuntime) -> Result<bool, Fail> {
     let listener = listen(rt)?;
     let good = client(rt, &listener, INSTALL)?;
-    let asked = serve(rt, &listener, 1)?;
-    Ok(asked == 1 && received(rt, good)?.as_str() == PAGE)
+    let served = serve(rt, &listener, 1)?;
+    Ok(served == all(1) && received(rt, good)?.as_str() == PAGE)
 }
 
 /// One client closes at once, one stops after half a head, and the third one is good.
@@ -19,10 +22,10 @@ fn others_do_not_stop_it(rt: &HostRuntime) -> Result<bool, Fail> {
     let half = client(rt, &listener, "GET /en/latest/install.html HTTP/1.1\r\nHo")?;
     half.shutdown(Shutdown::Write)?;
     let good = client(rt, &listener, INSTALL)?;
-    let asked = serve(rt, &listener, 3)?;
+    let served = serve(rt, &listener, 3)?;
     let refused = received(rt, half)?;
     Ok(
-        asked == 3
+        served == all(3)
             && refused.as_str().starts_with("HTTP/1.1 400 Bad Request\r\n")
             && received(rt, good)?.as_str() == PAGE,
     )
@@ -34,8 +37,8 @@ fn reply_beside_body(rt: &HostRuntime, head: &str) -> Result<String, Fail> {
     let large = client(rt, &listener, head)?;
     (&large).write_all(&[b'x'; 100_000])?;
     large.shutdown(Shutdown::Write)?;
-    let asked = serve(rt, &listener, 1)?;
-    if asked != 1 {
+    let served = serve(rt, &listener, 1)?;
+    if served != all(1) {
         return Ok(String::new(rt.alloc()));
     }
     received(rt, large)
@@ -64,10 +67,50 @@ fn clients_get_replies(rt: HostRuntime) -> Result<(), Fail> {
     Ok(())
 }
 
+/// A port that gives no connection.
+#[derive(Drop)]
+struct Nobody;
+
+impl Listen for Nobody {
+    ghost use Rattle.std.specs.Prelude.{None};
+
+    ghost asked = { λ _. None };
+
+    ghost messages = { λ _. None };
+
+    fn accept(&mut self) -> Option<Came> {
+        None
+    }
+}
+
+/// How many connections it asked for, of so many of which none comes, and how many it answered.
+fn serve_nobody(rt: &HostRuntime, count: u32) -> Result<Tally, Fail> {
+    let mut desk = sample_desk(rt.alloc())?;
+    let mut errors = Port::new(rt.stderr());
+    Ok(serve_on(
+        rt.alloc(),
+        &mut desk,
+        &mut Nobody,
+        &mut NoControl,
+        &mut || 0,
+        count,
+        &Log::new(rt, false),
+        &mut errors,
+    ))
+}
+
+#[test]
+fn a_lost_connection_is_not_answered(rt: HostRuntime) -> Result<(), Fail> {
+    let served = serve_nobody(&rt, 3)?;
+    assert_eq!(rt; served.asked, 3);
+    assert_eq!(rt; served.answered, 0);
+    Ok(())
+}
+
 /// Nobody is waited for.
 #[test]
 fn no_connection_ends_at_once(rt: HostRuntime) -> Result<(), Fail> {
     let listener = listen(&rt)?;
-    assert_eq!(rt; serve(&rt, &listener, 0)?, 0);
+    assert_eq!(rt; serve(&rt, &listener, 0)?, all(0));
     Ok(())
 }

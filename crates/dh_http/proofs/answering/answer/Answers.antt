@@ -1,6 +1,6 @@
 use Rattle.std.proofs.Common.{◌≡◌, refl}
 use Rattle.dh_desk.specs.Desk.{world}
-use Rattle.dh_desk.proofs.Moving.{WorldGoesBy-refl, WorldGoesBy-weaker}
+use Rattle.dh_desk.proofs.Moving.{WorldGoesBy-refl, WorldGoesBy-weaker, goes_clean}
 use Rattle.dh_http.proofs.Headlines.{headline_of}
 use Rattle.dh_http.proofs.Writing.{request_answered, unread_answered, in_vain, anyway}
 use Rattle.dh_http.proofs.answering.answer.Goals as goal
@@ -11,12 +11,19 @@ returns-in-Ok-clause-answers g c =
     (λ u v. request_answered c.args.now u v (g.R.Source.left c.args.source.now) _ _ c.in-Ok.request c.answer_request.result c.in-Ok.ensures.asked)
 
 pub returns-in-Ok-clause-headline : goal.returns-in-Ok-clause-headline
-returns-in-Ok-clause-headline g c honest =
-    headline_of c.args.now (world g.S.Store c.args.desk.now) (world g.S.Store c.answer_request.new.desk) (g.R.Source.left c.args.source.now) _ _ c.answer_request.result ((returns-in-Ok-clause-answers g c).moves honest)
+returns-in-Ok-clause-headline g c clean =
+    let went = goes_clean (returns-in-Ok-clause-answers g c) clean in
+    headline_of c.args.now (world g.S.Store c.args.desk.now) went.0 (g.R.Source.left c.args.source.now) _ _ c.answer_request.result went.1
 
 pub returns-in-Err-Memory-clause-answers : goal.returns-in-Err-Memory-clause-answers
 returns-in-Err-Memory-clause-answers g c =
     WorldGoesBy-refl (λ w. unread_answered c.args.now w (g.R.Source.left c.args.source.now) _ _ c.answer_unavailable.result c.answer_unavailable.ensures.writes)
+
+pub returns-in-Err-Read-clause-answers : goal.returns-in-Err-Read-clause-answers
+returns-in-Err-Read-clause-answers g c = WorldGoesBy-refl (λ w. refl)
+
+pub returns-in-Err-TooManyTurns-clause-answers : goal.returns-in-Err-TooManyTurns-clause-answers
+returns-in-Err-TooManyTurns-clause-answers g c = WorldGoesBy-refl (λ w. refl)
 
 pub returns-in-Ok-clause-refused : goal.returns-in-Ok-clause-refused
 returns-in-Ok-clause-refused g c =

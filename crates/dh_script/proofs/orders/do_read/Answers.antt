@@ -1,18 +1,17 @@
 use Rattle.std.proofs.Common.{string_bytes}
-use Rattle.dh_desk.specs.Desk.{world}
+use Rattle.dh_desk.proofs.Moving.{WorldGoesBy-weaker}
 use Rattle.dh_script.proofs.ScriptLemmas.{blamed_read, got}
 use Rattle.dh_script.proofs.orders.do_read.Goals as goal
 
 pub returns : goal.returns
 returns g c = record {
-  gets = record {
-    moves = λ honest. (
-      c.read.ensures.same honest,
-      got (λ p. string_bytes p.text) (λ p. p.refused) (world g.S.Store c.args.desk.now) c.as_str.result.now c.args.host.now _ c.args.pass.now c.args.moment c.args.target c.read.result c.read_out-outcome.result c.told.result
-          (c.read.ensures.value honest) c.as_str.ensures c.pass_text.ensures c.read_out-outcome.ensures c.told.ensures.tells,
-    );
-    lasts = c.read.ensures.lasts;
-  };
+  gets =
+      WorldGoesBy-weaker c.read.ensures.goes
+      (λ u v read. (
+        read.0,
+        got (λ p. string_bytes p.text) (λ p. p.refused) u c.as_str.result.now c.args.host.now _ c.args.pass.now c.args.moment c.args.target c.read.result c.read_out-outcome.result c.told.result
+            read.1 c.as_str.ensures c.pass_text.ensures c.read_out-outcome.ensures c.told.ensures.tells,
+      ));
   explains = c.told.ensures.explains;
   told = blamed_read g.S.Store c.args.desk.now c.read.new.self (λ p. p.reason) c.told.result c.read.result c.read_out-outcome.result c.read_out-outcome.ensures
       c.read.ensures.told c.told.ensures.reason;

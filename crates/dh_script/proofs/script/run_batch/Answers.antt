@@ -1,5 +1,6 @@
+use Rattle.std.proofs.Common.{rules}
 use Rattle.dh_desk.proofs.Moving.{WorldGoesBy-refl, WorldGoesBy-weaker, WorldGoesBy-trans}
-use Rattle.dh_script.proofs.RunLemmas.{some_none, ran_err, batch_on, batch_some, batch_ends}
+use Rattle.dh_script.proofs.RunLemmas.{into_none, some_none, ran_err, batch_on, batch_some, batch_ends}
 use Rattle.dh_script.proofs.script.run_batch.Goals as goal
 
 pub returns-in_err-program-clause-ran : goal.returns-in_err-program-clause-ran
@@ -11,6 +12,13 @@ returns-in_err-run_words-clause-ran g c =
     WorldGoesBy-trans c.loop-words.invariant.ran c.in_err-run_words.ensures.ran
     (λ u v w ran some. ran_err c.args.now u _ w _ _ c.from_residual-in_err-run_words.result c.from_residual-in_err-run_words.ensures.0
     (batch_some c.args.now c.args.lines.now c.loop-words.words-index c.words-item.result c.as_slice.result.now u v w _ _ _ ran some c.as_slice.ensures.value c.words-item.is c.loop-words-test.true))
+
+pub loop-words-init : goal.loop-words-init
+loop-words-init g c = record {
+  fine = search rules;
+  stands = search rules;
+  ran = WorldGoesBy-refl (λ w. into_none c.args.now w _);
+}
 
 pub loop-words-preserved : goal.loop-words-preserved
 loop-words-preserved g c = record {

@@ -1,6 +1,7 @@
-use Rattle.std.proofs.Common.{ap, inl, inr, refl}
+use Rattle.std.proofs.Common.{◌≡◌, ap, refl}
 use Rattle.dh_http.proofs.Moving.{WorldGoesBy-weaker}
 use Rattle.dh_server.specs.Serving.{is_message}
+use Rattle.dh_server.proofs.Calling.{request_turn, order_turn}
 use Rattle.dh_server.proofs.Stepping.{no_message, one_message}
 use Rattle.dh_server.proofs.serving.answer_came.Goals as goal
 
@@ -13,7 +14,11 @@ returns-in-Message-clause-hears g c =
     c.answer_control.ensures.counts
 
 pub returns-in-Request-clause-turn : goal.returns-in-Request-clause-turn
-returns-in-Request-clause-turn g c = WorldGoesBy-weaker c.answer_stream.ensures.turn (λ u v turn. inl turn)
+returns-in-Request-clause-turn g c =
+    WorldGoesBy-weaker c.answer_stream.ensures.answers
+    (λ u v. request_turn (λ moment. moment ≡ c.args.now) g.K.Control.does c.args.now c.answer_stream.result u v refl)
 
 pub returns-in-Message-clause-turn : goal.returns-in-Message-clause-turn
-returns-in-Message-clause-turn g c = WorldGoesBy-weaker c.answer_control.ensures.moves (λ u v does. inr (c.args.now, refl, does.0, does.1))
+returns-in-Message-clause-turn g c =
+    WorldGoesBy-weaker c.answer_control.ensures.moves
+    (λ u v. order_turn (λ moment. moment ≡ c.args.now) g.K.Control.does c.args.now c.answer_control.result u v refl)

@@ -1,6 +1,7 @@
 use Rattle.std.proofs.Common.{◌≡◌, ◌≤◌, ◌-◌, true, false}
 use Rattle.dh_http.specs.Desk.{WorldGoesBy}
-use Rattle.dh_server.specs.Serving.{ServesInTurn, GivenBy, CountsExactly, HandsOn}
+use Rattle.dh_server.specs.Serving.{AsksClock, CountsExactly, HandsOn}
+use Rattle.dh_server.specs.Turns.{ServesInTurn}
 use Rattle.dh_server.specs.Telling.{TellsSome}
 use Rattle.dh_server.proofs.serving.serve_on.Given as goal
 
@@ -8,10 +9,12 @@ abbrev pub invariant-loop-asked : goal.invariant-loop-asked
 invariant-loop-asked g l = record {
   callable : goal.C-IsAlwaysCallable g l.clock;
   asks : CountsExactly (g.N.Listen.asked l.fn.listener) (g.N.Listen.asked l.listener) l.asked;
+  clocked : AsksClock (goal.C-step g) l.fn.clock l.clock l.asked;
   few : l.asked ≤ l.count;
+  some : l.answered ≤ l.asked;
   hears : HandsOn (g.N.Listen.messages l.fn.listener) (g.N.Listen.messages l.listener) (g.K.Control.handed l.fn.control) (g.K.Control.handed l.control);
   shut : l.fn.desk.closed ≡ true → (l.asked ≡ 0) × (l.desk.closed ≡ true);
-  serves : WorldGoesBy g.S.Store l.fn.desk l.desk (ServesInTurn (GivenBy (goal.C-post g)) g.K.Control.does l.asked);
+  serves : WorldGoesBy g.S.Store l.fn.desk l.desk (ServesInTurn (goal.C-step g) l.fn.clock l.clock g.K.Control.does l.asked l.answered);
   tells : TellsSome g.L.Sink.broken g.L.Sink.held l.fn.errors l.errors;
   off : l.fn.log.is_on ≡ false → l.errors ≡ l.fn.errors;
 }

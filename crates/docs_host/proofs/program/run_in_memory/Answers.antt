@@ -2,6 +2,7 @@ use Rattle.std.proofs.Common.{refl, inl}
 use Rattle.sqlite.proofs.Callers.{memory_is_clean}
 use Rattle.sqlite.specs.Steps.{over_memory}
 use Rattle.dh_http.specs.Desk.{world}
+use Rattle.dh_http.proofs.Moving.{goes_at}
 use Rattle.dh_lines.specs.declared.lines.Order.TheVariants.{Script}
 use Rattle.docs_host.specs.Ends.{EndsScript}
 use Rattle.docs_host.specs.Failing.{is_of_memory}
@@ -17,4 +18,4 @@ pub returns-clause-ends : goal.returns-clause-ends
 returns-clause-ends g c =
     script_ended c.args.now (g.R.Source.left c.args.source.now) (g.W.Sink.held c.args.sink.now) (g.W.Sink.held c.run_lines.new.sink)
     (world over_memory c.in_ok-desk.desk) (world over_memory c.run_lines.new.desk) c.run_lines.result c.in_ok-desk.ensures
-    (c.run_lines.ensures.ran.moves (memory_is_clean c.run_lines.new.desk.tables, refl)) c.run_lines.ensures.ends
+    (goes_at c.run_lines.ensures.ran (memory_is_clean c.run_lines.new.desk.tables, refl)) c.run_lines.ensures.ends

@@ -1,11 +1,10 @@
-use Rattle.std.proofs.Common.{refl, arith}
 use Rattle.dh_http.proofs.Moving.{WorldGoesBy-refl}
 use Rattle.dh_server.proofs.Told.{some_more}
-use Rattle.docs_host.proofs.Ending.{served_within}
+use Rattle.docs_host.proofs.Ending.{none_served}
 use Rattle.docs_host.proofs.serving.serve.Goals as goal
 
 pub returns-in_err-socket-clause-serves : goal.returns-in_err-socket-clause-serves
-returns-in_err-socket-clause-serves g c = WorldGoesBy-refl (λ w. served_within 0 c.args.count w w (omega arith) refl)
+returns-in_err-socket-clause-serves g c = WorldGoesBy-refl (none_served (goal.C-step g) c.args.clock.now c.args.count)
 
 pub returns-then-is_none-clause-tells : goal.returns-then-is_none-clause-tells
 returns-then-is_none-clause-tells g c =

@@ -1,18 +1,30 @@
-use Rattle.std.proofs.Common.{◌-◌, refl, arith}
+use Rattle.std.proofs.Common.{◌-◌, arith, subst}
 use Rattle.dh_http.proofs.Moving.{WorldGoesBy-refl, WorldGoesBy-weaker}
 use Rattle.dh_server.proofs.Told.{some_more}
-use Rattle.docs_host.proofs.Ending.{served_within}
+use Rattle.docs_host.specs.Orders.{ServesBoth}
+use Rattle.docs_host.proofs.Ending.{none_served}
 use Rattle.docs_host.proofs.serving.serve_at.Goals as goal
 
 pub returns-in_err-listener-clause-serves : goal.returns-in_err-listener-clause-serves
-returns-in_err-listener-clause-serves g c = WorldGoesBy-refl (λ w. served_within 0 c.args.count w w (omega arith) refl)
+returns-in_err-listener-clause-serves g c = WorldGoesBy-refl (none_served (goal.C-step g) c.args.clock.now c.args.count)
 
 pub returns-in_default-clause-serves : goal.returns-in_default-clause-serves
-returns-in_default-clause-serves g c = WorldGoesBy-refl (λ w. served_within 0 c.args.count w w (omega arith) refl)
+returns-in_default-clause-serves g c = WorldGoesBy-refl (none_served (goal.C-step g) c.args.clock.now c.args.count)
 
 pub returns-in-Some-clause-serves : goal.returns-in-Some-clause-serves
 returns-in-Some-clause-serves g c =
-    WorldGoesBy-weaker c.in-Some.ensures.serves (λ u v. served_within (c.args.count - c.in-Some.left) c.args.count u v (omega arith))
+    WorldGoesBy-weaker c.in-Some.ensures.serves (λ u v served. (c.args.count - c.in-Some.left, omega arith, served))
+
+pub returns-in-None-clause-serves : goal.returns-in-None-clause-serves
+returns-in-None-clause-serves g c =
+    WorldGoesBy-weaker c.in-None.ensures.serves (λ u v served. (c.args.count - 0, omega arith, served))
+
+pub returns-in-None-clause-rest : goal.returns-in-None-clause-rest
+returns-in-None-clause-rest g c = (
+  c.in-None.ensures.left,
+  WorldGoesBy-weaker c.in-None.ensures.serves
+      (λ u v served. subst (λ n. ServesBoth (goal.C-step g) c.args.clock.now c.serve_desk.new.clock n u v) (omega arith) served),
+)
 
 pub returns-in-Some-clause-tells : goal.returns-in-Some-clause-tells
 returns-in-Some-clause-tells g c =

@@ -1,9 +1,10 @@
-use Rattle.std.proofs.Common.{◌≡◌, ◌+◌, List, [], ◌∷◌, ◌++◌, take, length, refl, sym, ap, ◌∙◌, subst₂, arith, length-append}
-use Rattle.std.proofs.lemmas.List.{take_more}
+use Rattle.std.proofs.Common.{◌≡◌, ◌+◌, List, [], ◌∷◌, ◌++◌, take, length, refl, sym, ap, ◌∙◌, subst, subst₂, arith, rules, length-append}
+use Rattle.std.proofs.lemmas.List.{take_all, take_more}
 use Rattle.dh_histories.specs.declared.call.Call.{Call}
 use Rattle.dh_histories.specs.CallsDone.{AreCallsDone}
 use Rattle.dh_histories.proofs.CallLemmas.{calls_and_one}
 use Rattle.dh_world.specs.declared.outcome.Outcome.{Outcome}
+use Rattle.dh_desk.specs.Desk.{WorldGoesBy}
 use Rattle.dh_desk.specs.DeskRuns.{DoesWhileOpen}
 use Rattle.dh_desk.proofs.Calling.{none_done, open_none, open_and_one}
 use Rattle.dh_desk.proofs.Moving.{WorldGoesBy-refl, WorldGoesBy-trans}
@@ -36,3 +37,11 @@ loop-call-preserved g c =
           (open_and_one g.S.Store _ _ _ (take i calls) c.loop-call.outcomes.items call outcome c.loop-call.invariant.until
           c.call-outcome.ensures.done c.call-outcome.ensures.live c.call-outcome.ensures.closed c.call-outcome.ensures.closes c.call-outcome.ensures.opens);
     }
+
+pub returns-in_err-outcomes-clause-ran : goal.returns-in_err-outcomes-clause-ran
+returns-in_err-outcomes-clause-ran g c = WorldGoesBy-refl (λ w. search rules)
+
+pub returns-clause-ran : goal.returns-clause-ran
+returns-clause-ran g c =
+    subst (λ (calls : List Call). WorldGoesBy g.S.Store c.args.self.now c.loop-call.self (λ before after. AreCallsDone before calls after c.loop-call.outcomes.items))
+    (take_all c.loop-call.call-index c.args.calls.now c.loop-call-test.false) c.loop-call.invariant.ran
