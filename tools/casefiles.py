@@ -1,4 +1,5 @@
-"""Reads the cases of tests/ and examples/: an input, and what the program has to do with it. docs/TESTS.md says how they are written.
+"""Reads and runs the cases of tests/ and examples/: an input, and what the program has to do with it.
+docs/TESTS.md says how they are written.
 
 usage: python3 tools/casefiles.py FILE
 
@@ -6,10 +7,18 @@ Writes the input of a case, as a script of tests/scripts, to standard output.
 """
 
 import re
+import resource
 import shlex
+import socket
+import subprocess
 import sys
+import tempfile
 from pathlib import Path
 from typing import NamedTuple
+
+sys.dont_write_bytecode = True
+
+from checks import ROOT, TIME_LIMIT, Ended, difference  # noqa: E402
 
 # What the input of a case is called, and the program's word that reads it.
 WORDS = {".lines": "script", ".script": "script", ".http": "answer"}
@@ -34,9 +43,36 @@ class Case(NamedTuple):
     data: bytes
     input_fails: bool  # a read behind the input
     room: int  # a write fails behind so many bytes; None where it does not
-    out: bytes  # None where nobody has written it down
-    err: bytes
-    status: int
+    wanted: Ended  # its output is None where nobody has written it down
+
+
+class Row(NamedTuple):
+    """A line of a table: its number, what is sent, in a run each, and what the reply must have."""
+
+    number: int
+    inputs: list
+    status: bytes
+    field: bytes
+    body: bytes
+
+    def compared(self, reply):
+        """How a reply differs from what is wanted of it, as lines."""
+        head, _, body = reply.partition(b"\r\n\r\n")
+        first, *fields = head.split(b"\r\n")
+        status = first.removeprefix(b"HTTP/1.1 ")
+        wanted = self.body
+        if wanted is None:
+            wanted = status + b"\n" if self.status >= b"400" else b""
+        faults = difference("status", self.status, status[:3])
+        if self.field and self.field not in fields:
+            faults += difference("head", self.field, head)
+        return faults + difference("body", wanted, body)
+
+
+def name_of(path, row=None):
+    """The name of a case: its path below tests/, or that of an example."""
+    below = ROOT / "tests" if path.is_relative_to(ROOT / "tests") else ROOT
+    return path.relative_to(below).with_suffix("").as_posix() + (f":{row.number}" if row else "")
 
 
 def beside(path, suffix):
@@ -50,8 +86,8 @@ def read_case(path):
     if path.suffix == ".lines":
         return Lines(path).case()
     input_fails, room = read_ports(path.with_suffix(".ports").name, (beside(path, ".ports") or b"").decode().splitlines())
-    status = int(beside(path, ".status") or b"0")
-    return Case(WORDS[path.suffix], path.read_bytes(), input_fails, room, beside(path, ".out"), beside(path, ".err") or b"", status)
+    wanted = Ended(int(beside(path, ".status") or b"0"), beside(path, ".out"), beside(path, ".err") or b"")
+    return Case(WORDS[path.suffix], path.read_bytes(), input_fails, room, wanted)
 
 
 def read_ports(name, lines):
@@ -66,6 +102,42 @@ def read_ports(name, lines):
         else:
             raise Wrong(f"{name}: {line}")
     return input_fails, room
+
+
+def open_input(data, fails):
+    """Standard input that gives the bytes. It then ends; or a read fails, since a socket is closed with bytes unread."""
+    if not fails:
+        file = tempfile.TemporaryFile()
+        file.write(data)
+        file.seek(0)
+        return file
+    ours, theirs = socket.socketpair()
+    theirs.sendall(b"unread")
+    ours.sendall(data)
+    ours.close()
+    return theirs
+
+
+def run_case(program, case, folder, *more):
+    """How a run with a case's input ends, in a folder, with these words more."""
+
+    def limit_output():
+        if case.room is not None:
+            resource.setrlimit(resource.RLIMIT_FSIZE, (case.room, case.room))
+
+    with open_input(case.data, case.input_fails) as source, tempfile.TemporaryFile() as sink:
+        ended = subprocess.run(
+            [program, case.word, *more],
+            stdin=source,
+            stdout=sink,
+            stderr=subprocess.PIPE,
+            timeout=TIME_LIMIT,
+            cwd=folder,
+            preexec_fn=limit_output,
+            restore_signals=False,  # so that a full output is a write that fails
+        )
+        sink.seek(0)
+        return Ended(ended.returncode, sink.read(), ended.stderr)
 
 
 # ---- pieces
@@ -94,6 +166,39 @@ def read_pieces(text, names):
         data += piece * int(times or 1)
         text = text[found.end() :]
     return data, text
+
+
+# ---- requests in a line
+
+# What is wanted of a reply: its status, and perhaps a header line. Its body stands behind.
+WANTED = re.compile(r"""\s*-> ([0-9]{3})(?: ([A-Z][A-Za-z-]*: [^"']*[^"' ]))?(?=\s|$)""")
+
+
+def read_row(path, number, line, names):
+    """A line of a table. Behind `fronts` each front of the request is sent, from none to all but its last byte."""
+    word, _, rest = line.partition(" ")
+    request, rest = read_pieces(rest if word == "fronts" else line, names)
+    wanted = WANTED.match(rest)
+    behind = rest[wanted.end() :] if wanted else rest
+    body, more = read_pieces(behind, names)
+    if not wanted or more.strip():
+        raise Wrong(f"{path.name}:{number}: {more}")
+    inputs = [request[:count] for count in range(len(request))] if word == "fronts" else [request]
+    return Row(number, inputs, wanted[1].encode(), (wanted[2] or "").encode(), body if behind.strip() else None)
+
+
+def read_table(path):
+    """The rows of a table of requests."""
+    rows, names = [], {}
+    for number, line in enumerate(path.read_text().splitlines(), 1):
+        name, is_name, pieces = line.partition(" = ")
+        if is_name and name.isidentifier():
+            names[name], rest = read_pieces(pieces, names)
+            if rest:
+                raise Wrong(f"{path.name}:{number}: {rest}")
+        elif line and not line.startswith("#"):
+            rows.append(read_row(path, number, line, names))
+    return rows
 
 
 # ---- scripts in lines
@@ -161,7 +266,7 @@ class Lines:
     def case(self):
         input_fails, room = read_ports(self.name, self.ports)
         out = self.out if room is None else self.out[:room]
-        return Case(WORDS[".lines"], self.data, input_fails, room, out, self.err, self.status)
+        return Case(WORDS[".lines"], self.data, input_fails, room, Ended(self.status, out, self.err))
 
 
 # ---- commands, one after another
@@ -179,8 +284,8 @@ class Run:
         return "".join(f"{line}\n" for line in self.lines[mark]).encode()
 
     @property
-    def status(self):
-        return int(self.lines["="][-1])
+    def wanted(self):
+        return Ended(int(self.lines["="][-1]), self.bytes_of(">"), self.bytes_of("!"))
 
     def words(self):
         """What the environment names, in front of the words, and the words."""

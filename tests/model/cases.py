@@ -1,38 +1,25 @@
 """The cases of tests/scripts and tests/requests, answered by the model in place of the program."""
 
-import importlib.machinery
-import importlib.util
 import shlex
+import sys
 import time
 from pathlib import Path
 
-import lines
-import requests
-from versions import Unsaid
+sys.path.insert(0, str(Path(__file__).resolve().parent.parent.parent / "tools"))
 
-ROOT = Path(__file__).resolve().parent.parent.parent
+import casefiles  # noqa: E402
+import lines  # noqa: E402
+import requests  # noqa: E402
+from checks import ROOT, Ended, Skip, below, compared, difference  # noqa: E402
+from versions import Unsaid  # noqa: E402
+
 FOLDERS = [ROOT / "tests" / "scripts", ROOT / "tests" / "requests"]
 
 
-def read_tool():
-    """tools/behaviour, which reads cases, as a module."""
-    loader = importlib.machinery.SourceFileLoader("behaviour", str(ROOT / "tools" / "behaviour"))
-    tool = importlib.util.module_from_spec(importlib.util.spec_from_loader("behaviour", loader))
-    loader.exec_module(tool)
-    return tool
-
-
-TOOL = read_tool()
-
-
-class Left(Exception):
-    """A case that the model leaves out, and why."""
-
-
 def read_case(path):
-    case = TOOL.read_case(path)
+    case = casefiles.read_case(path)
     if case.input_fails or case.room is not None:
-        raise Left("readers and writers that fail")
+        raise Skip("readers and writers that fail")
     return case
 
 
@@ -41,43 +28,41 @@ def judge_script(path):
     case = read_case(path)
     written, fault, status = lines.run_script({}, case.data, int(time.time()))
     # (the model tells no sentences)
-    wanted_told = next((line for line in case.err.split(b"\n") if line.startswith(b"fault ")), b"")
-    told = b"fault " + fault if fault else b""
-    return TOOL.compared(case.out, wanted_told, case.status, written, told, status)
+    told = next((line for line in case.wanted.err.split(b"\n") if line.startswith(b"fault ")), b"")
+    return compared(case.wanted._replace(err=told), Ended(status, written, b"fault " + fault if fault else b""))
 
 
 def judge_request(path):
     case = read_case(path)
-    written = requests.answer(requests.sample(), case.data)
-    return TOOL.compared(case.out, b"", 0, written, b"", 0)
+    return difference("output", case.wanted.out, requests.answer(requests.sample(), case.data))
 
 
 def judge_row(world_of, row):
     """What is wrong with the model's reply to the requests of a row of a table, each over a world of its own."""
     for request in row.inputs:
-        faults = TOOL.compared_reply(row, requests.answer(world_of(), request))
+        faults = row.compared(requests.answer(world_of(), request))
         if faults:
-            return [f"{len(request)} bytes", *faults]
+            return below(f"{len(request)} bytes", faults)
     return []
 
 
 def judge_table(path):
-    return [fault for row in TOOL.read_table(path) for fault in judge_row(requests.sample, row)]
+    return [fault for row in casefiles.read_table(path) for fault in judge_row(requests.sample, row)]
 
 
 def judge_commands(path):
     """What is wrong with the model's answers to commands and requests over files, one after another."""
-    files, faults, runs = {}, [], TOOL.read_commands(path)
+    files, faults, runs = {}, [], casefiles.read_commands(path)
     if any(run.mark == "@" or run.lines["!"] for run in runs):
-        raise Left("files and faults")
+        raise Skip("files and faults")
     for run in runs:
         if run.mark == "$":
             written = run_command(files, shlex.split(run.text), run.bytes_of("<"))
-            found = TOOL.difference("output", run.bytes_of(">"), written)
+            found = difference("output", run.bytes_of(">"), written)
         else:
             name, _, request = run.text.partition(" ")
-            found = judge_row(lambda: files[name], TOOL.read_row(path, run.number, request, {}))
-        faults += [f"{path.name}:{run.number}: {fault}" for fault in found]
+            found = judge_row(lambda: files[name], casefiles.read_row(path, run.number, request, {}))
+        faults += below(f"{path.name}:{run.number}:", found)
     return faults
 
 
@@ -87,7 +72,7 @@ def run_command(files, words, script):
         files[words[1]] = {}
         return b""
     if words[-2:-1] != ["--store"]:
-        raise Left("words of the program")
+        raise Skip("words of the program")
     if words[0] == "script":
         return lines.run_script(files[words[-1]], script)[0]
     return lines.line_text(files[words[-1]], [word.encode() for word in words[:-2]], 0, True) + b"\n"
@@ -96,19 +81,16 @@ def run_command(files, words, script):
 JUDGES = {".lines": judge_script, ".http": judge_request, ".requests": judge_table, ".commands": judge_commands}
 
 
-def judge_all():
-    """Prints what differs; how many cases passed and failed. A case counts once, a table by its file."""
-    passed, failed, left = 0, 0, 0
-    for path in (it for folder in FOLDERS for it in sorted(folder.rglob("*")) if it.suffix in JUDGES):
-        try:
-            faults = JUDGES[path.suffix](path)
-        except (Left, Unsaid) as why:
-            print(f"{TOOL.name_of(path)}: left out: {why if isinstance(why, Left) else f'the expression {why}'}")
-            left += 1
-            continue
-        failed += bool(faults)
-        passed += not faults
-        if faults:
-            print(f"{TOOL.name_of(path)}: FAILED", *faults, sep="\n    ")
-    print(f"{left} left out")
-    return passed, failed
+def said(judge, *what):
+    """What a judge says, who skips that of which the model has no word."""
+    try:
+        return judge(*what)
+    except Unsaid as why:
+        raise Skip(f"the expression {why}") from why
+
+
+def judge_all(checks):
+    """Judges the cases: each counts once, a table by its file."""
+    paths = [it for folder in FOLDERS for it in sorted(folder.rglob("*")) if it.suffix in JUDGES]
+    checks.judge(((casefiles.name_of(path), path) for path in paths), lambda path: said(JUDGES[path.suffix], path))
+    print(f"{checks.skipped} skipped")

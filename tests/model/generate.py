@@ -278,6 +278,21 @@ class Maker:
         """A pass that a reader shows, or None."""
         return None if self.often(0.5) else self.word("pass")
 
+    def asked_again(self, made):
+        """Reads that were made before, once more: the same, as another caller, or at another moment."""
+        reads = [it for it in made[-60:] if it.startswith(b"get ") and b"--pass=" not in it][-8:]
+        return [self.asked_otherwise(it) for it in self.some(reads, 2)]
+
+    def asked_otherwise(self, read):
+        """A read, at times with another pass or moment in place of its own."""
+        words = read.split()
+        if len(words) < 3 or self.often(0.4):
+            return read
+        plain = [it for at, it in enumerate(words) if it not in (b"--pass", b"--now") and words[at - 1] not in (b"--pass", b"--now")]
+        shown = self.shown() if self.often(0.8) else None
+        plain += [b"--pass", shown] if shown is not None else []
+        return b" ".join([*plain, b"--now", self.word("now")] if self.with_ends else plain)
+
     # ---- targets
 
     def word_target(self, form):

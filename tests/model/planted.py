@@ -7,6 +7,7 @@ import listings
 import lists
 import redirects
 import replies
+import served
 import versions
 import world
 
@@ -124,6 +125,10 @@ def private_when_new(host, project):
     return [*PROJECT_ROW(host, project)[:3], b"public"]
 
 
+def moment_of_the_beginning(service):
+    return service.begun
+
+
 AFTER_RULES, FIRST_RESULT, ROBOTS = versions.after_rules, redirects.first_result, replies.robots
 VERSIONS_LISTED, REPLY_BYTES = replies.versions_listed, replies.reply_bytes
 PAGES_UNDER, PROJECT_ROW = listings.pages_under, listings.project_row
@@ -155,6 +160,7 @@ PLANTED = [
     ("$rest is a text as any", redirects, "from_old", from_old_without_rest),
     ("the pages of all languages are listed", listings, "pages_under", pages_of_all_languages),
     ("each project is listed as public", listings, "project_row", private_when_new),
+    ("a server stays at the moment when it began", served, "moment_of", moment_of_the_beginning),
 ]
 
 

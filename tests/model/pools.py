@@ -24,6 +24,7 @@ FROM_PAGE += [b"/a*", "/é*".encode(), b"//*"]
 FROM_EXACT = [
     *(b"/", b"/x", b"/x/*", b"/*", b"/old/*", b"/en/latest/*", b"/en/stable/*", b"/en/main/a.html", b"/page/*", b"/fr/*"),
     *(b"//evil.test/*", b"/en/*", b"/en/latest", b"/%41", b"/robots.txt", b"/_/*", "/é".encode(), b"/a?b", b"/x*"),
+    *(b"/X", b"/X/*", b"/x.y/*", b"/x.*", b"/Old/*", b"/a%2Fb/*", b"/x/z", b"/x%2Fz"),
 ]
 TO = [
     *(b"/b.html", b"/a.html", b"/", b"/x", b"/y#top", b"/y?z=1", b"/y?z#top", b"/y#top?z", b"/en/latest/a.html", b"/guide/"),
@@ -95,7 +96,7 @@ MORE_WORDS += [b"--until", b"--now=1", b"--store=f"]
 SYSTEM_PATHS = [b"/", b"/", b"/robots.txt", b"/_/versions", b"/_/x", b"/_/push", b"/_/", b"/_", b"/robots.txt/"]
 SYSTEM_PATHS += [b"/page", b"/page/"]
 OTHER_PATHS = [b"/x", b"/x/y", b"//evil.test/x", b"/old/a/b", b"/old/", b"/en", b"/en/", b"/en//a", b"/en//", b"//"]
-OTHER_PATHS += [b"/%41", b"/y", b"/x%2Fz"]
+OTHER_PATHS += [b"/%41", b"/y", b"/x%2Fz", b"/X", b"/x.y/z", b"/x%2F", b"/Old/a", b"/x.y", b"/a%2Fb/c"]
 OTHER_FILES = [b"", b"guide/", b"a/", b"a", b"a/index.html", b"/index.html", b"guide//", b"x.html/", b"nothing.html"]
 POST_TARGETS = [b"/_/%70ush", b"/_/push?x", b"/_/upload/", b"/%5F/upload", b"http://docs.test/_/push", b"/_/other"]
 

@@ -13,7 +13,7 @@ from pathlib import Path
 
 import fronts
 import host as hosts
-from host import Broken, ask, get_bytes, make, read_reply
+from host import Broken, ask, get_bytes, make, read_reply, received
 
 HOST, KEY = "docs.test", "wkey-1"
 SMALL, LARGE = "/en/main/small.html", "/en/main/large.bin"
@@ -145,7 +145,7 @@ def silent_clients(part, server):
             part.same(f"a request behind {what}", server.get(SMALL, HOST)[0], 200)
             seconds = time.monotonic() - begun
             part.check(f"it waits {least} to {most} seconds behind {what}", least <= seconds <= most, seconds)
-            reply = whole_of(kept)
+            reply = read_reply(received(kept))
             part.check(f"the reply to {what} is whole", reply is not None and reply[0] == 200, reply)
             done.set()
 
@@ -157,17 +157,6 @@ def drops(connection, done):
             connection.sendall(b"x")
     except OSError:
         pass
-
-
-def whole_of(connection):
-    """The reply that came; a reset behind it does not count."""
-    pieces = []
-    try:
-        while piece := connection.recv(65536):
-            pieces.append(piece)
-    except OSError:
-        pass
-    return read_reply(b"".join(pieces))
 
 
 # descriptors
@@ -198,7 +187,7 @@ def without_descriptors(part, server):
         part.check("it tells of some", told and all(line.startswith("Accept ") for line in told), told[:8])
         resource.prlimit(process.pid, resource.RLIMIT_NOFILE, before)
         begun = time.monotonic()
-        reply = whole_of(waiting)
+        reply = read_reply(received(waiting))
         part.check("the client that waited has its page", reply == (200, b"<p>small</p>"), reply)
         part.check("it waits no longer", time.monotonic() - begun < SLACK, time.monotonic() - begun)
     part.same("a page after that", server.get(SMALL, HOST), (200, b"<p>small</p>"))

@@ -16,7 +16,7 @@ import fronts
 import host as hosts
 from machines import Reader, Switch, fetch, wait_until, within
 from parts import KEY, Skip, need
-from publishing import line_of, site_of
+from publishing import line_of, site_of, told_until
 
 DEPLOY = hosts.ROOT / "deploy" / "cluster"
 PASS = "reader-7"
@@ -136,6 +136,7 @@ class Cluster:
 
     def write(self, moving=()):
         """The files of both fronts, and what has them read anew."""
+        before = {name: self.worker(name) for name in self.masters}
         for name in FRONTS:
             room = self.machines[name].room
             (room / "stores.map").write_text("".join(f"{host} {store}\n" for host, store in self.map.items()))
@@ -143,6 +144,7 @@ class Cluster:
             if name in self.masters:
                 self.masters[name].send_signal(signal.SIGUSR2)
         if self.masters:
+            wait_until(lambda: all(self.worker(name) != number for name, number in before.items()))
             time.sleep(3)
 
     def publish(self, host, folder, *words, front=FRONT):
@@ -192,7 +194,7 @@ class Cluster:
             part.same("it keeps nothing of that", fetch(place, host, "/en/next/index.html", CACHE_PORT).status, 404)
 
     def purges(self):
-        """tools/publish empties the caches: what it stored is read at once."""
+        """bin/publish empties the caches: what it stored is read at once."""
         part, host = self.part, host_of(3)
         folder = site_of(part, "purged", {"index.html": "first\n", "s.css": "/* */"})
         words = [word for place in CACHES.values() for word in ("--purge", f"http://{place}:{CACHE_PORT}")]
@@ -249,15 +251,21 @@ class Cluster:
     def is_away(self, name):
         return self.stats(name)[name][17].startswith("DOWN")
 
+    def told_by(self, name, asked):
+        """What the HAProxy of a front tells."""
+        with socket.socket(socket.AF_UNIX) as one:
+            one.connect(str(self.machines[name].room / "admin.sock"))
+            one.sendall(f"{asked}\n".encode())
+            return hosts.received(one).decode()
+
+    def worker(self, name):
+        """The process of a front that answers: another one once its files are read anew."""
+        return re.search(r"^Pid: (\d+)$", self.told_by(name, "show info"), re.M)[1]
+
     def stats(self, backend):
         """What the first front counts of the servers of a backend, by the columns of HAProxy."""
-        with socket.socket(socket.AF_UNIX) as one:
-            one.connect(str(self.machines["front1"].room / "admin.sock"))
-            one.sendall(f"show stat {backend} 4 -1\n".encode())
-            said = b""
-            while piece := one.recv(65536):
-                said += piece
-        rows = [line.split(",") for line in said.decode().splitlines()[1:] if line]
+        said = self.told_by("front1", f"show stat {backend} 4 -1")
+        rows = [line.split(",") for line in said.splitlines()[1:] if line]
         return {row[1]: row for row in rows}
 
     def cache_of(self, host):
@@ -298,19 +306,17 @@ class Cluster:
         begun = time.monotonic()
         self.write(moving=[host])
         part.same("a push meanwhile", fetch(FRONT, host, "/_/push", method="POST", body="{}", Docs_Key=KEY).status, 503)
-        folder, tools = part.path("export"), hosts.ROOT / "tools"
+        folder, programs = part.path("export"), hosts.ROOT / "bin"
         given = {**os.environ, "DOCS_HOST": self.part.program, "DOCS_KEY": KEY}
         self.kill("store3")
-        words = [tools / "export", host, folder, "--store", self.store("store3")]
+        words = [programs / "export", host, folder, "--store", self.store("store3")]
         exporting = subprocess.Popen(words, env=given, stderr=subprocess.PIPE, encoding="utf-8")
-        told = ""
-        while "it may be served again" not in told and (line := exporting.stderr.readline()):
-            told += line
+        told = told_until(exporting, "it may be served again")
         self.serve("store3")
         told += exporting.communicate(timeout=LONG)[1]
         part.check("the export", exporting.returncode == 0, told)
         self.kill("store2")
-        words = [tools / "import-project", folder, "--store", self.store("store2")]
+        words = [programs / "import-project", folder, "--store", self.store("store2")]
         ended = subprocess.run(words, env=given, capture_output=True, encoding="utf-8", timeout=LONG)
         self.serve("store2")
         part.same("the import", (ended.returncode, ended.stderr[-300:] if ended.returncode else ""), (0, ""))

@@ -1,7 +1,5 @@
 """Commands and scripts beside a running server, through its control socket: the part `control` of tests/serve/run."""
 
-import importlib.machinery
-import importlib.util
 import os
 import resource
 import shutil
@@ -9,7 +7,6 @@ import signal
 import socket
 import stat
 import subprocess
-import sys
 import tempfile
 import threading
 import time
@@ -17,6 +14,9 @@ from pathlib import Path
 
 import host as hosts
 from host import ROOT, Server, command, get_bytes, make, read_reply, run
+
+from casefiles import name_of, read_case, run_case
+from checks import compared
 
 HOST, KEY = "docs.test", "wkey-1"
 
@@ -95,15 +95,6 @@ def words_message(*words):
 # scripts: what they print over a file they print through the socket
 
 
-def behaviour():
-    """tools/behaviour, which runs the cases of tests/scripts."""
-    loader = importlib.machinery.SourceFileLoader("behaviour", str(ROOT / "tools" / "behaviour"))
-    module = importlib.util.module_from_spec(importlib.util.spec_from_loader("behaviour", loader))
-    sys.modules["behaviour"] = module
-    loader.exec_module(module)
-    return module
-
-
 def as_beside(line):
     """What standard error gets for this line of it where a server has the file: what is wrong with a redirect is not known."""
     if b" of the redirect " not in line and b" redirect of the kind " not in line:
@@ -112,18 +103,17 @@ def as_beside(line):
 
 
 def scripts(part):
-    cases = behaviour()
     done = 0
     for path in sorted((ROOT / "tests" / "scripts").rglob("*.lines")):
-        case = cases.read_case(path)
+        case = read_case(path)
         with tempfile.TemporaryDirectory() as room:
             store = os.path.join(room, "records.db")
             make(part.program, store)
             with Server(part.program, store, 1, part.path("told")):
-                written, told, status = cases.run(part.program, case, room, ["--store", "records.db"])
-        wanted = b"".join(as_beside(line) for line in case.err.splitlines(True))
-        faults = cases.compared(case.out, wanted, case.status, written, told, status)
-        part.check(f"{cases.name_of(path)} through the socket", not faults, "\n".join(faults))
+                ended = run_case(part.program, case, room, "--store", "records.db")
+        told = b"".join(as_beside(line) for line in case.wanted.err.splitlines(True))
+        faults = compared(case.wanted._replace(err=told), ended)
+        part.check(f"{name_of(path)} through the socket", not faults, *faults)
         done += not faults
     print(f"    {done} scripts through the socket", flush=True)
 
@@ -362,7 +352,7 @@ def answers(part):
     place = f"{store}.control"
     with subprocess.Popen([part.program, "script", "--store", store], stdin=subprocess.PIPE, stdout=subprocess.PIPE) as holder:
         asked = ["get", HOST, "/", "--store", store]
-        until_held(part, asked)
+        until_locked(store)
         is_fault(part, "nobody answers", run(part.program, *asked), "Store", BUSY)
         listener = socket.socket(socket.AF_UNIX)
         listener.bind(place)
@@ -395,10 +385,18 @@ def answers(part):
     part.same("the file is free again", run(part.program, *asked).returncode, 0)
 
 
-def until_held(part, asked):
+def is_locked(path):
+    """Whether a run has a lock on the file, as the kernel lists it: no run that takes the file has to be tried."""
+    found = os.stat(path)
+    file = f"{os.major(found.st_dev):02x}:{os.minor(found.st_dev):02x}:{found.st_ino}"
+    with open("/proc/locks", encoding="ascii") as locks:
+        return any(file in line.split() for line in locks)
+
+
+def until_locked(path):
     """Waits until another run has the file."""
     end = time.monotonic() + hosts.TIME_LIMIT
-    while run(part.program, *asked).returncode == 0 and time.monotonic() < end:
+    while not is_locked(path) and time.monotonic() < end:
         time.sleep(0.05)
 
 

@@ -1,6 +1,6 @@
 """The example site, published and read: the part `site` of tests/serve/run.
 
-`examples/site/run` prints the page; after `tools/publish` a browser shows the site, and fetches its style and its picture."""
+`examples/site/run` prints the page; after `bin/publish` a browser shows the site, and fetches its style and its picture."""
 
 import os
 import shutil
@@ -23,7 +23,7 @@ def site(part):
     make(part.program, store, f"new-project {HOST} en main public {KEY}", f"push {HOST} {KEY} k0 branch main")
     with part.serve(store, 1000, "--log") as server:
         ended = publishing.once(SITE / "folder", publishing.url_of(server))
-        part.check("tools/publish", ended.returncode == 0, ended)
+        part.check("bin/publish", ended.returncode == 0, ended)
         browse(part, server)
 
 

@@ -1,4 +1,4 @@
-"""A project that goes to another file by tools/export and tools/import-project: the part `export` of tests/serve/run."""
+"""A project that goes to another file by bin/export and bin/import-project: the part `export` of tests/serve/run."""
 
 import base64
 import hashlib
@@ -14,8 +14,8 @@ from pathlib import Path
 import host as hosts
 from host import Broken, ask, make, read_reply, run
 
-EXPORT = hosts.ROOT / "tools" / "export"
-IMPORT = hosts.ROOT / "tools" / "import-project"
+EXPORT = hosts.ROOT / "bin" / "export"
+IMPORT = hosts.ROOT / "bin" / "import-project"
 HOST, KEY, OTHER = "docs.test", "wkey-1", "other.test"
 
 # A project with all that lists tell. Its first rule acts on none of the versions that are there.
@@ -402,7 +402,7 @@ def other_folders(part, folder):
 
 
 def sum_again(folder):
-    """The sums of a folder, by the command that tools/import-project tells."""
+    """The sums of a folder, by the command that bin/import-project tells."""
     [line] = [line.strip() for line in IMPORT.read_text().splitlines() if line.startswith("  find ")]
     subprocess.run(line.replace("\\\\", "\\"), shell=True, cwd=folder, check=True)
 

@@ -1,31 +1,41 @@
-"""The program over a file, and its server on 127.0.0.1: for tests/serve/run and bench/serve."""
+"""The program over a file, and its server on 127.0.0.1: for tests/serve/run and bench."""
 
+import contextlib
 import json
 import os
 import select
 import signal
 import socket
 import subprocess
+import sys
 import threading
 import time
 from pathlib import Path
 
-ROOT = Path(__file__).resolve().parent.parent.parent
-BUILT = ROOT / "crates" / "docs_host" / "out" / "docs_host"
+sys.path.insert(0, str(Path(__file__).resolve().parent.parent.parent / "tools"))
+
+from checks import BUILT, ROOT, Broken  # noqa: E402, F401
 
 # Seconds for one command, for a server until it listens, and for one reply, which may have to wait a minute.
 TIME_LIMIT = 90
 
 
-class Broken(Exception):
-    """Something that should not be."""
-
-
-def ask(port, data, time_limit=TIME_LIMIT):
-    """Sends the bytes over a connection of their own, and gives all that comes back."""
+def ask(port, data, time_limit=TIME_LIMIT, ends=False):
+    """Sends the bytes over a connection of their own, or so many as are taken where the client ends there; gives all that comes back."""
     with socket.create_connection(("127.0.0.1", port), timeout=time_limit) as connection:
-        connection.sendall(data)
-        pieces = []
+        if not ends:
+            connection.sendall(data)
+            return b"".join(iter(lambda: connection.recv(65536), b""))
+        with contextlib.suppress(OSError):
+            connection.sendall(data)
+            connection.shutdown(socket.SHUT_WR)
+        return received(connection)
+
+
+def received(connection):
+    """All that comes over a connection; a reset behind it does not count."""
+    pieces = []
+    with contextlib.suppress(ConnectionError):
         while piece := connection.recv(65536):
             pieces.append(piece)
     return b"".join(pieces)

@@ -1,10 +1,8 @@
-"""The tools against a peer or a folder that is none of ours: the part `hostile` of tests/serve/run.
+"""The programs of bin/ against a peer or a folder that is none of ours: the part `hostile` of tests/serve/run.
 
-What tools/publish says of replies without end, or made to mislead; what tools/import-project says of folders that are broken."""
+What bin/publish says of replies without end, or made to mislead; what bin/import-project says of folders that are broken."""
 
 import contextlib
-import importlib.machinery
-import importlib.util
 import io
 import json
 import os
@@ -15,7 +13,7 @@ import time
 from pathlib import Path
 from unittest import mock
 
-import host as hosts
+from parts import module_of
 from publishing import HOST, KEY, pages_of, site_of
 from relay import reply_bytes
 
@@ -26,14 +24,6 @@ def hostile(part):
     peers(part)
     texts(part)
     folders(part)
-
-
-def module_of(name):
-    """A tool as a module of its own, whose numbers a test may change."""
-    loader = importlib.machinery.SourceFileLoader("a_tool", str(hosts.ROOT / "tools" / name))
-    module = importlib.util.module_from_spec(importlib.util.spec_from_loader("a_tool", loader))
-    loader.exec_module(module)
-    return module
 
 
 def ends(part, what, run, status, *says):
@@ -84,7 +74,7 @@ class Peer:
 
 
 def publishes(part, what, folder, answer, status, *says, words=("--push", "tag:v1.0.0"), limit=2):
-    """A run of tools/publish against a peer, with another limit of time for a reply."""
+    """A run of bin/publish against a peer, with another limit of time for a reply."""
     ours = module_of("publish")
     ours.TIME_LIMIT = limit
     with Peer(answer) as peer:
@@ -170,7 +160,7 @@ def texts(part):
 
 
 def export_of(part, name, lines, pages="", more=()):
-    """A folder with right sums, as tools/export would leave it of such lines."""
+    """A folder with right sums, as bin/export would leave it of such lines."""
     exporting = module_of("export")
     root = Path(part.path(name))
     (root / "pages").mkdir(parents=True)
@@ -187,7 +177,7 @@ def export_of(part, name, lines, pages="", more=()):
 def folders(part):
     importing = module_of("import-project")
     project = f"new-project {HOST} en main public <write-key>"
-    form = "is of another form than tools/export writes"
+    form = "is of another form than bin/export writes"
 
     def imports(what, root, status, *says):
         line = ["import-project", str(root), "--store", part.path("none.db"), "--key", KEY, "--program", part.program]

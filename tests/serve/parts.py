@@ -1,10 +1,14 @@
 """What the parts of tests/serve/run have in common: their checks, and what the program says of a file that it does not open."""
 
 import hashlib
+import importlib.machinery
+import importlib.util
 import shutil
 from pathlib import Path
 
-from host import Server
+from host import ROOT, Server
+
+from checks import Checks, Skip
 
 HOST, KEY = "docs.test", "wkey-1"
 
@@ -13,30 +17,14 @@ CHANGED = "by its header another SQLite wrote to it"
 MISSING, FORBIDDEN = "there is no such file", "it may not be read and written by this user"
 
 
-class Skip(Exception):
-    """What a part needs and the machine lacks."""
-
-
-class Part:
+class Part(Checks):
     """The checks of one part, and the folder that it works in."""
 
+    counts_skipped = True
+
     def __init__(self, program, room):
+        super().__init__()
         self.program, self.room = program, room
-        self.passed, self.failed, self.skipped = 0, 0, 0
-
-    def check(self, what, good, seen=""):
-        if good:
-            self.passed += 1
-        else:
-            self.failed += 1
-            print(f"    FAILED {what}: {str(seen)[:600]}", flush=True)
-
-    def same(self, what, seen, wanted):
-        self.check(what, seen == wanted, f"{seen!r}, and not {wanted!r}")
-
-    def skip(self, what):
-        self.skipped += 1
-        print(f"    skipped: {what}", flush=True)
 
     def path(self, name):
         return str(self.room / name)
@@ -50,6 +38,14 @@ def need(tool):
     if not found:
         raise Skip(f"there is no {tool}")
     return found
+
+
+def module_of(name):
+    """A program of bin/ as a module of its own, whose numbers a test may change."""
+    loader = importlib.machinery.SourceFileLoader("of_bin", str(ROOT / "bin" / name))
+    module = importlib.util.module_from_spec(importlib.util.spec_from_loader("of_bin", loader))
+    loader.exec_module(module)
+    return module
 
 
 def sha(path):

@@ -44,7 +44,7 @@ def through(part, curl, one):
     for name in "abcd":
         (large / name).write_bytes(random.Random(name).randbytes(1048576))
     ended = publishing.once(large, publishing.url_of(curl), host="docs.example.org")
-    part.check("tools/publish of 4 MiB", ended.returncode == 0 and "stored 4 pages in 2 uploads" in ended.stderr, ended)
+    part.check("bin/publish of 4 MiB", ended.returncode == 0 and "stored 4 pages in 2 uploads" in ended.stderr, ended)
     part.same("a page of 1 MiB", curl("/en/main/d", host="docs.example.org")[2], (large / "d").read_bytes())
     idle = [socket.create_connection(("127.0.0.1", curl.port)) for _ in range(5)]
     for connection in idle[1:]:

@@ -1,9 +1,7 @@
-"""What tools/publish stores and says, and what a browser finds then: the part `publish` of tests/serve/run.
+"""What bin/publish stores and says, and what a browser finds then: the part `publish` of tests/serve/run.
 
 Sites that are stored, repeated, stopped, refused, changed; searches in two documentations; the steps of `publish.md`."""
 
-import importlib.machinery
-import importlib.util
 import os
 import pty
 import random
@@ -18,10 +16,11 @@ from pathlib import Path
 import browser
 import host as hosts
 from host import command, make
+from parts import module_of
 from relay import Relay, reply_bytes
 
 SITE = hosts.ROOT / "examples" / "site"
-TOOL = hosts.ROOT / "tools" / "publish"
+TOOL = hosts.ROOT / "bin" / "publish"
 DOCS = hosts.ROOT / "docs"
 HOST, KEY, PASS = "docs.test", "wkey-1", "reader-7"
 LIMIT = 1_048_576
@@ -165,6 +164,14 @@ def begin(line):
         encoding="utf-8",
         preexec_fn=lambda: signal.signal(signal.SIGINT, signal.default_int_handler),
     )
+
+
+def told_until(process, said):
+    """What a run tells up to a line that says this, or to its end."""
+    told = ""
+    while said not in told and (line := process.stderr.readline()):
+        told += line
+    return told
 
 
 def stop_at(part, server, folder, number, sent, *words):
@@ -493,16 +500,8 @@ def packages(part, server):
 # ---- what the tool knows of the host
 
 
-def tool():
-    """The tool as a module."""
-    loader = importlib.machinery.SourceFileLoader("publish_tool", str(TOOL))
-    module = importlib.util.module_from_spec(importlib.util.spec_from_loader("publish_tool", loader))
-    loader.exec_module(module)
-    return module
-
-
 def types(part):
-    media_of = tool().media_of
+    media_of = module_of("publish").media_of
     text = "; charset=utf-8"
     for name, media in (
         ("feed.rss", "application/rss+xml"),
@@ -547,7 +546,7 @@ def rows_of(text, head):
 
 def documents(part):
     """The tool has the limits and refusals of docs/SCRIPTS.md."""
-    ours, text = tool(), (DOCS / "SCRIPTS.md").read_text()
+    ours, text = module_of("publish"), (DOCS / "SCRIPTS.md").read_text()
     limits = {row[0]: row[1] for row in rows_of(text, "| Thing | Limit | Beyond it | Constant |")}
     part.same("the limit of a page", limits["a page"], f"{ours.MOST_PAGE:,} bytes")
     part.same("the most pages of an upload", limits["pages of one upload"], str(ours.MOST_PAGES))
@@ -664,7 +663,7 @@ def readme(part):
     lines = re.search(r"(?:^    .*\n)+", below, re.MULTILINE)[0].replace("8080", str(hosts.free_port()))
     room = Path(part.path("readme"))
     room.mkdir()
-    for name, place in (("docs_host", part.program), ("examples", hosts.ROOT / "examples"), ("tools", hosts.ROOT / "tools")):
+    for name, place in (("docs_host", part.program), ("examples", hosts.ROOT / "examples"), ("bin", hosts.ROOT / "bin")):
         (room / name).symlink_to(place)
     script = f"{lines}./docs_host get localhost / --store site.db\nkill $!\n"
     given = {"cwd": room, "capture_output": True, "encoding": "utf-8", "timeout": hosts.TIME_LIMIT}
@@ -709,12 +708,12 @@ class Recipe:
         self.part = part
         self.repository, self.programs = Path(part.path(name)), Path(part.path(f"{name}-bin"))
         self.programs.mkdir()
-        (self.repository / "tools").mkdir(parents=True)
+        (self.repository / "bin").mkdir(parents=True)
         self.project = Project(part, f"{name}/docs.db", "docs.example.org", is_made)
         for program, text in (("mkdocs", BUILDER), ("pip", "#!/bin/sh\n")):
             self.stand_in(program, text)
         os.symlink(part.program, self.programs / "docs_host")
-        shutil.copy(TOOL, self.repository / "tools" / "publish")
+        shutil.copy(TOOL, self.repository / "bin" / "publish")
         self.given = {"PATH": f"{self.programs}:{os.environ['PATH']}", "DOCS_KEY": KEY, "HOME": part.path(".")}
 
     def stand_in(self, program, text):

@@ -16,7 +16,7 @@ import browser
 import fronts
 import host as hosts
 from host import Pushes, free_port, run, versions
-from publishing import DOCS, KEY, Project, Recipe, begin, block_of, ends, line_of, once, site_of, url_of
+from publishing import DOCS, KEY, Project, Recipe, begin, block_of, ends, line_of, once, site_of, told_until, url_of
 from relay import Relay, reply_bytes
 
 HOST, PASS, PASSWORD = "docs.example.org", "reader-7", "sesame"
@@ -218,7 +218,7 @@ def behind_caddy(part):
 def repository_of(recipe, what, *steps):
     """Makes the recipe's folder a repository, by steps in which `commit` commits all."""
     own = "git config user.name test; git config user.email test@docs.test"
-    commit = "commit() { git add --all . ':!docs.db*' ':!tools'; git commit -qm commit --allow-empty; }"
+    commit = "commit() { git add --all . ':!docs.db*' ':!bin'; git commit -qm commit --allow-empty; }"
     done(recipe, what, "\n".join(("git init -q -b main", own, commit, *steps)))
 
 
@@ -467,10 +467,11 @@ def away_behind_nginx(part):
         part.same("nginx: while no server is there", (status, lines.get("Retry-After"), lines["Content-Type"]), (503, "2", "text/html"))
         part.check("nginx: the page comes back by itself", b"http-equiv=refresh content=2" in body, body)
         publishing = begin(line_of(site(part, "away", "away"), f"http://127.0.0.1:{port}", host=HOST))
-        time.sleep(1)
+        says = "cannot answer now (503); waiting for it"
+        told = told_until(publishing, says)
         with project.serve("--port", str(behind)):
-            told = publishing.communicate(timeout=hosts.TIME_LIMIT)[1]
-            good = publishing.returncode == 0 and "cannot answer now (503); waiting for it" in told
+            told += publishing.communicate(timeout=hosts.TIME_LIMIT)[1]
+            good = publishing.returncode == 0 and says in told
             part.check("nginx: a publish waits", good, told)
             part.same("nginx: a page then", fetch(port, "/")[0], 302)
     own = reply_bytes(503, b'{"refused":23}')

@@ -1,4 +1,4 @@
-"""What stands between tools/publish and a server, so that a test can count, stop and refuse: for tests/serve/run."""
+"""What stands between bin/publish and a server, so that a test can count, stop and refuse: for tests/serve/run."""
 
 import http.server
 import json

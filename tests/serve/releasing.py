@@ -10,7 +10,6 @@ import re
 import resource
 import shutil
 import subprocess
-import sys
 import tarfile
 import threading
 import time
@@ -23,13 +22,13 @@ HOST, KEY = "docs.example.org", "wkey-1"
 
 # What of the checkout a copy of it needs.
 COPIED = ["CHANGELOG.md", "HANDLES", "LICENSE-APACHE", "LICENSE-MIT", "README.md", "VERSION", "crates.txt", ".gitignore"]
-COPIED += ["docs_host", "crates", "deploy", "docs", "examples", "tests", "tools"]
+COPIED += ["docs_host", "bin", "crates", "deploy", "docs", "examples", "tests", "tools"]
 
 VERSION = (ROOT / "VERSION").read_text()
 
-# The tools that say the version: those of the archive, and those of a checkout alone.
-TOLD = ["behaviour", "export", "import-project", "publish"]
-TOLD_HERE = ["build", "release"]
+# What says the version: in the archive, and in a checkout alone.
+TOLD = ["bin/export", "bin/import-project", "bin/publish", "tools/behaviour"]
+TOLD_HERE = ["tools/build", "tools/release"]
 
 # Stands for the toolchain. It proves nothing: its program is a copy of the one that PROGRAM names. MEANWHILE is a command that
 # it runs while it builds.
@@ -138,15 +137,15 @@ def versions(part, checkout):
     """The program, the tools and the list of changes have the version of the file VERSION."""
     part.same("the version of the program", run(part.program, "--version").stdout, VERSION)
     for name in TOLD + TOLD_HERE:
-        ended = checkout(f"tools/{name}", "--version")
-        part.same(f"the version of tools/{name}", (ended.returncode, ended.stdout, ended.stderr), (0, VERSION, ""))
+        ended = checkout(name, "--version")
+        part.same(f"the version of {name}", (ended.returncode, ended.stdout, ended.stderr), (0, VERSION, ""))
     ended = checkout("docs_host", "--version")
     part.same("the version where no program is built", (ended.returncode, ended.stdout), (0, VERSION))
     newest = re.search(r"^## (\S+)$", (ROOT / "CHANGELOG.md").read_text(), re.M)
     part.same("the newest version of CHANGELOG.md", f"docs_host {newest and newest[1]}\n", VERSION)
     alone = Path(part.path("alone-publish"))
-    shutil.copy2(ROOT / "tools" / "publish", alone)
-    part.same("a copy of tools/publish of a checkout", run(alone, "--version").stdout, "docs_host of no known version\n")
+    shutil.copy2(ROOT / "bin" / "publish", alone)
+    part.same("a copy of bin/publish of a checkout", run(alone, "--version").stdout, "docs_host of no known version\n")
 
 
 # ./docs_host: which program it runs
@@ -335,7 +334,7 @@ def archive(part):
     told = (folder / "VERSION").read_text()
     part.check("VERSION", told.startswith(f"{VERSION.strip()} ("), told)
     documents = "README.md", "CHANGELOG.md", "LICENSE-APACHE", "LICENSE-MIT", "CHECK", "docs/operations.md", "docs/SCRIPTS.md"
-    for name in (*documents, "deploy/nginx.conf", *(f"tools/{it}" for it in TOLD)):
+    for name in (*documents, "deploy/nginx.conf", *TOLD):
         part.check(f"the archive has {name}", name in there, sorted(there))
     return folder
 
@@ -363,11 +362,11 @@ def whole(part, folder):
     part.check("links are found", len(list(LINK.finditer((folder / "docs" / "operations.md").read_text()))) > 5)
     told, alone = (folder / "VERSION").read_text(), Path(part.path("copied"))
     for name in TOLD:
-        part.same(f"the version of the archive's tools/{name}", run(folder / "tools" / name, "--version").stdout, told)
-    shutil.copy2(folder / "tools" / "publish", alone)
-    part.same("the version of a copy of tools/publish", run(alone, "--version").stdout, told)
+        part.same(f"the version of the archive's {name}", run(folder / name, "--version").stdout, told)
+    shutil.copy2(folder / "bin" / "publish", alone)
+    part.same("the version of a copy of bin/publish", run(alone, "--version").stdout, told)
     files = [file for name in ("commands", "requests", "scripts") for file in (ROOT / "tests" / name).rglob("*") if file.is_file()]
-    files += [ROOT / "tools" / "behaviour", ROOT / "tools" / "casefiles.py"]
+    files += [ROOT / "tools" / "behaviour", ROOT / "tools" / "casefiles.py", ROOT / "tools" / "checks.py"]
     others = [str(file) for file in files if not is_same(file, folder / file.relative_to(ROOT))]
     part.same("cases that the archive lacks, or has otherwise", others, [])
     words = "tools/behaviour", "--program", "./docs_host", "examples", "commands/help", "scripts/versions", "requests/hosts"

@@ -52,7 +52,7 @@ def source_of():
     known = ["".join(chance.choices(syllables, k=chance.randint(2, 4))) for _ in range(6000)]
     for number in range(PAGES):
         lines = [" ".join(chance.choices(known, k=100)) for _ in range(11)]
-        marks = ["needle"] * (number % 3 == 0) + ["haystack"] * (number == 7)
+        marks = ["needle"] * (number % 3 == 0) + ["haystack"] * (number == 7) + ["bodo"] * (number % 40 == 1)
         name = f"p{number}" if number else "index"
         # (the index of Sphinx has each word of a page once)
         yield f"docs/{name}.md", "\n\n".join([f"# Page {number}", *lines[:4], *marks, ""])

@@ -9,19 +9,14 @@ import sys
 import tempfile
 from contextlib import closing
 from pathlib import Path
-from typing import NamedTuple
 
 HERE = Path(__file__).resolve().parent
-ROOT = HERE.parent.parent
 SCRIPTS = HERE / "scripts"
-sys.path[:0] = [str(ROOT / "tests" / "serve"), str(ROOT / "tools")]
+sys.path[:0] = [str(HERE.parent.parent / "tests" / "serve"), str(HERE.parent)]
 
-import host as hosts  # noqa: E402
+import host as hosts  # noqa: E402, F401
 from casefiles import WORDS, read_case  # noqa: E402, F401
-from host import Broken  # noqa: E402
-
-# Seconds for one run, and how many failures of a part are shown.
-TIME_LIMIT, MOST_SHOWN = 120, 10
+from checks import ROOT, TIME_LIMIT, Broken, Checks, Ended, run  # noqa: E402, F401
 
 # The name of the file in the folder of a run, and the most bytes of a log that has nothing in it.
 STORE, EMPTY_LOG = "records.db", 41
@@ -32,12 +27,6 @@ SENTENCE = re.compile(rb"^docs_host: line \d+: (.*)\n", re.M)
 # What a line prints that met a fault of the store, and one that found no memory.
 STORE_FAILED = (b"refused 23 Store", b"failed store")
 NO_MEMORY = (b"refused 24 OutOfMemory", b"failed memory")
-
-
-class Ended(NamedTuple):
-    status: int
-    out: bytes
-    err: bytes
 
 
 def build_library(folder):
@@ -63,28 +52,26 @@ def new_folder():
     return tempfile.TemporaryDirectory(dir=place_for_files())
 
 
-class Part:
+class Part(Checks):
     """The program, the library, and what a part has counted."""
 
-    def __init__(self, program, library, wants_all):
-        self.program, self.library, self.wants_all = str(program), library, wants_all
-        self.passed = self.failed = 0
+    most_shown = 10
 
-    def check(self, what, good, seen=""):
-        if good:
-            self.passed += 1
-            return
-        self.failed += 1
-        if self.failed <= MOST_SHOWN:
-            print(f"    FAILED {what}: {str(seen)[:600]}", flush=True)
+    def __init__(self, program, library, wants_all):
+        super().__init__()
+        self.program, self.library, self.wants_all = program, library, wants_all
+
+    def note(self, what, verdict, ended, counts):
+        """Counts what came of a run by its verdict, which is wrong behind a '-'."""
+        is_good = not verdict.startswith("-")
+        counts[verdict if is_good else "wrong"] += 1
+        self.check(what, is_good, f"{verdict[2:]}: {ended}")
+        if self.failed > 10 * self.most_shown:
+            raise Broken("too many are wrong")
 
     def run(self, words, data=b"", folder=None, **environment):
         """A run with these variables, under the library where there are some."""
-        preload = {"LD_PRELOAD": self.library, **environment} if environment else {}
-        ended = subprocess.run(
-            [self.program, *words], input=data, capture_output=True, cwd=folder, env=preload, timeout=TIME_LIMIT
-        )
-        return Ended(ended.returncode, ended.stdout, ended.stderr)
+        return run([self.program, *words], data, folder, {"LD_PRELOAD": self.library, **environment} if environment else {})
 
     def must(self, words, data=b"", folder=None):
         ended = self.run(words, data, folder)
@@ -188,6 +175,10 @@ def make_old(folder):
     with closing(sqlite3.connect(f"{folder}/{STORE}")) as file:
         file.executescript((ROOT / "tests" / "commands" / "old_files.sql").read_text())
     return folder
+
+
+def show(name, counts):
+    print(f"  {name}: {sum(counts.values()):,}: " + ", ".join(f"{count:,} {what}" for what, count in sorted(counts.items())), flush=True)
 
 
 def sentences(err):

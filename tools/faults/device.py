@@ -3,7 +3,7 @@
 import collections
 import re
 
-from common import MOST_SHOWN, SCRIPTS, STORE, STORE_FAILED, Broken, Script, copy_store, make_base, make_old, new_folder, sentences
+from common import SCRIPTS, STORE, STORE_FAILED, Broken, Script, copy_store, make_base, make_old, new_folder, sentences, show
 
 # What happens at a call.
 HOW = ("kill", "once", "rest", "half")
@@ -85,14 +85,8 @@ def sweep(part, name, words, data, base, more, judge):
             for at in range(1, count + 1):
                 copy_store(base, folder)
                 ended = part.run(words, data, folder, CALL=str(at), CALL_HOW=how, **more)
-                verdict = judge(ended, how, folder)
-                is_good = not verdict.startswith("-")
-                counts[verdict if is_good else "wrong"] += 1
-                part.check(f"{name}, {how} at call {at}", is_good, f"{verdict[2:]}: {ended}")
-                if part.failed > 10 * MOST_SHOWN:
-                    raise Broken("too many are wrong")
-    told = ", ".join(f"{count:,} {what}" for what, count in sorted(counts.items()))
-    print(f"  {name}: {count} calls: {told}", flush=True)
+                part.note(f"{name}, {how} at call {at}", judge(ended, how, folder), ended, counts)
+    show(f"{name}, {count} calls", counts)
 
 
 def sweep_script(part, path, base, more):
@@ -113,6 +107,27 @@ def sweep_lost(part, path, base):
             wrong += judge_script(script, ended, "lose", part.world(folder)).startswith("-")
     part.check("writes that are lost are seen", wrong > 0)
     print(f"  {script.name}, a write that is lost: {count} calls: {wrong} seen", flush=True)
+
+
+def synced(part, words, data, base, folder, **wrong):
+    """How many syncs a run makes, how often something goes out before what was written is synced, and whether anything goes out."""
+    copy_store(base, folder)
+    ended = part.run(words, data, folder, SYNC_COUNT="1", **wrong)
+    found = re.search(rb"^syncs (\d+) early (\d+)$", ended.err, re.M)
+    if ended.status or not found:
+        raise Broken(f"{words}: {ended}")
+    return int(found[1]), int(found[2]), bool(ended.out)
+
+
+def check_syncs(part, name, words, data, base, least):
+    """What a line tells is on the disk when it is told: a program that makes no syncs is seen, too."""
+    with new_folder() as folder:
+        count, early, _ = synced(part, words, data, base, folder)
+        part.check(f"{name}: at least {least} syncs", count >= least, count)
+        part.check(f"{name}: nothing goes out before it is synced", early == 0, early)
+        count, early, tells = synced(part, words, data, base, folder, SYNC_NONE="1")
+        part.check(f"{name}: a program that makes no syncs is seen", count < least and (early > 0 or not tells), (count, early))
+    print(f"  {name}: syncs", flush=True)
 
 
 def sweep_run(part, name, words, base, more, is_new=False):
@@ -142,3 +157,8 @@ def device(part):
             for name, words, begins in runs:
                 sweep_run(part, name, words, begins, more, name == "init")
         sweep_lost(part, SCRIPTS / "versions.script", base)
+        script = Script(part, SCRIPTS / "versions.script", base)
+        accepted = sum(not line.startswith((b"refused", b"usage", b"bad", b"failed")) for line in script.said)
+        check_syncs(part, "versions", script.words, script.data, base, accepted // 2)
+        for name, words, begins in runs[1:]:
+            check_syncs(part, name, words, b"", begins, 1)

@@ -19,6 +19,12 @@
  *   CALL_RARE=N SEED=S  by chance one call of N fails
  *   ROOM=N         so many bytes more may be stored in all, and then the disk is full
  *   CALL_COUNT=1   how many there were is told on standard error at the end
+ *   SYNC_COUNT=1   at the end is told how many fdatasync and fsync were done, and how often something went to standard output or to
+ *                  a socket while a file had bytes that were not synced
+ *   SYNC_NONE=1    no fdatasync and no fsync is done: the program is one that makes none
+ *
+ * The clock:
+ *   CLOCK_FILE=F   the time of day is the number of seconds in this file, which is read each time
  *
  * Standard output:
  *   PUT_MOST=N     a write takes at most N bytes; PUT_NONE=K: the Kth takes none; PUT_ROOM=N: behind N bytes a write fails
@@ -294,11 +300,30 @@ int accept4(int from, void *address, void *length, int flags) {
     return real(from, address, length, flags);
 }
 
+/* Which files have bytes that were not synced, a bit for each descriptor; how many syncs there were, and how often something went out
+ * while one had. */
+static unsigned long unsynced, syncs, early;
+
+static void goes_out(void) {
+    if (unsynced) early++;
+}
+
+static void is_changed(int file) {
+    if (file >= 0 && file < MOST_OPEN) unsynced |= 1UL << file;
+}
+
+static int is_synced(int file) {
+    syncs++;
+    if (file >= 0 && file < MOST_OPEN) unsynced &= ~(1UL << file);
+    return 0;
+}
+
 ssize_t write(int to, const void *bytes, size_t size) {
     static unsigned long puts, most, none, left;
     static int is_set, is_bounded;
     ssize_t count;
     if (to != 1) return __write(to, bytes, size);
+    goes_out();
     if (!is_set) {
         is_set = 1;
         most = number("PUT_MOST");
@@ -343,6 +368,7 @@ ssize_t send(int to, const void *bytes, size_t size, int flags) {
     static struct gate gate;
     ssize_t count = passing(&gate, "SEND_MOST", "SEND_ROOM", size);
     if (!real) real = next("send");
+    goes_out();
     if (count < 0) return count;
     count = real(to, bytes, count, flags);
     if (gate.is_bounded && count > 0) gate.left -= count;
@@ -421,6 +447,7 @@ ssize_t pwrite(int to, const void *bytes, size_t size, off_t at) {
         if (size > 1) real(to, bytes, size / 2, at);
         return fail(NO_SPACE);
     }
+    is_changed(to);
     count = taken(to, size, at);
     return count || !size ? real(to, bytes, count, at) : fail(NO_SPACE);
 }
@@ -443,6 +470,7 @@ int ftruncate(int file, off_t length) {
         if (growth > room) return fail(NO_SPACE);
         room -= growth;
     }
+    is_changed(file);
     return real(file, length);
 }
 
@@ -450,18 +478,46 @@ int fdatasync(int file) {
     static int (*real)(int);
     int how = fate();
     if (!real) real = next("fdatasync");
-    return how == GOES ? real(file) : how == LOST ? 0 : fail(IO_ERROR);
+    if (getenv("SYNC_NONE")) return 0;
+    return how == GOES ? real(file) ? -1 : is_synced(file) : how == LOST ? 0 : fail(IO_ERROR);
 }
 
 int fsync(int file) {
     static int (*real)(int);
     int how = fate();
     if (!real) real = next("fsync");
-    return how == GOES ? real(file) : how == LOST ? 0 : fail(IO_ERROR);
+    if (getenv("SYNC_NONE")) return 0;
+    return how == GOES ? real(file) ? -1 : is_synced(file) : how == LOST ? 0 : fail(IO_ERROR);
+}
+
+/* The clock. */
+
+struct moment {
+    long seconds, nanoseconds;
+};
+
+enum { TIME_OF_DAY = 0 };
+
+int clock_gettime(int which, struct moment *now) {
+    static int (*real)(int, struct moment *);
+    const char *name = getenv("CLOCK_FILE");
+    char text[32];
+    int file;
+    ssize_t count;
+    if (!real) real = next("clock_gettime");
+    if (which != TIME_OF_DAY || !name) return real(which, now);
+    file = open(name, READ_ONLY);
+    count = file < 0 ? -1 : __read(file, text, sizeof text - 1);
+    if (file >= 0) close(file);
+    text[count < 0 ? 0 : count] = 0;
+    now->seconds = strtoul(text, 0, 10);
+    now->nanoseconds = 0;
+    return 0;
 }
 
 __attribute__((destructor)) static void count_calls(void) {
     char line[64];
+    if (getenv("SYNC_COUNT")) __write(2, line, snprintf(line, sizeof line, "syncs %lu early %lu\n", syncs, early));
     if (getenv("CALL_COUNT")) __write(2, line, snprintf(line, sizeof line, "calls %lu\n", calls));
     if (getenv("MEMORY_COUNT")) __write(2, line, snprintf(line, sizeof line, "allocations %lu\n", counted));
 }

@@ -8,22 +8,7 @@ import tempfile
 from pathlib import Path
 from typing import NamedTuple
 
-from common import (
-    MOST_SHOWN,
-    NO_MEMORY,
-    SCRIPTS,
-    STORE,
-    Broken,
-    Ended,
-    Script,
-    Worlds,
-    copy_store,
-    make_base,
-    make_old,
-    new_folder,
-    read_case,
-    sentences,
-)
+from common import NO_MEMORY, SCRIPTS, STORE, Ended, Script, Worlds, copy_store, make_base, make_old, new_folder, read_case, sentences, show
 
 # What a run tells that ends as memory is out: the sentence names the file where it is one's.
 ENDED = re.compile(rb"fault Memory\ndocs_host: [^\n]*\n")
@@ -149,7 +134,7 @@ def sweep_script(part, path, base, more):
             key = ended, repr(world)
             if key not in verdicts:
                 verdicts[key] = judge_script(script, ended, world)
-            note(part, f"{script.name}, call {number}", verdicts[key], ended, counts)
+            part.note(f"{script.name}, call {number}", verdicts[key], ended, counts)
     return counts
 
 
@@ -194,7 +179,7 @@ def sweep_run(part, name, run, base, judge, again=None):
                 verdicts[key] = judge(ended, world, whole, before, after)
                 if again and ended.status == 3 and not again(part, own, run, whole, after):
                     verdicts[key] = "- again it does not do it"
-            note(part, f"{name}, call {number}", verdicts[key], ended, counts)
+            part.note(f"{name}, call {number}", verdicts[key], ended, counts)
     return counts
 
 
@@ -253,18 +238,6 @@ def single_words(part):
 
 
 # ---- what is swept
-
-
-def note(part, what, verdict, ended, counts):
-    is_good = not verdict.startswith("-")
-    counts["wrong" if not is_good else verdict] += 1
-    part.check(what, is_good, f"{verdict[2:]}: {ended}")
-    if part.failed > 10 * MOST_SHOWN:
-        raise Broken("too many are wrong")
-
-
-def show(name, counts):
-    print(f"  {name}: {sum(counts.values()):,}: " + ", ".join(f"{count:,} {what}" for what, count in sorted(counts.items())), flush=True)
 
 
 def upload_request():

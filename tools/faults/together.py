@@ -50,14 +50,14 @@ def cases():
     """The scripts that run to their end."""
     for path in sorted(FOLDER.rglob("*.lines")):
         case = read_case(path)
-        if not case.status:
+        if not case.wanted.status:
             yield path.stem, case
 
 
 def scripts():
     """These, each as its lines and what they print."""
     for stem, case in cases():
-        lines, printed = printing_lines(case.data), case.out.splitlines(keepends=True)
+        lines, printed = printing_lines(case.data), case.wanted.out.splitlines(keepends=True)
         if len(lines) != len(printed):
             raise Broken(f"{stem}: {len(lines)} lines, and {len(printed)} that are printed")
         yield stem, lines, printed
@@ -65,37 +65,38 @@ def scripts():
 
 def told():
     """The sentences that these scripts tell, without the numbers of their lines, and how often."""
-    return collections.Counter(it for _, case in cases() for it in sentences(case.err)[0])
+    return collections.Counter(it for _, case in cases() for it in sentences(case.wanted.err)[0])
 
 
-def one_after_another(name):
+def bundles():
+    """The scripts in lists, each with its number; the lines of one list fit into one script."""
+    bundle, length = [], 0
     for number, (stem, lines, printed) in enumerate(scripts()):
+        size = sum(map(len, lines))
+        if bundle and length + size > MOST_SCRIPT:
+            yield bundle
+            bundle, length = [], 0
+        bundle.append((number, stem, lines, printed))
+        length += size
+    yield bundle
+
+
+def one_after_another(name, bundle):
+    for number, stem, lines, printed in bundle:
         for line, out in zip(lines, printed):
             yield Line(under(line, b"%s%d" % (name, number)), out, stem)
 
 
-def in_turns(name, seed):
-    """The lines of all scripts, the next one of a script that chance takes, weighted by how many it has left."""
+def in_turns(name, seed, bundle):
+    """The lines of these scripts, the next one of a script that chance takes, weighted by how many it has left."""
     chance = random.Random(seed)
-    rest = [list(reversed(list(zip(lines, printed)))) for _, lines, printed in scripts()]
-    stems = [stem for stem, _, _ in scripts()]
-    order = [number for number, lines in enumerate(rest) for _ in lines]
+    rest = [(number, stem, list(reversed(list(zip(lines, printed))))) for number, stem, lines, printed in bundle]
+    order = [place for place, (_, _, lines) in enumerate(rest) for _ in lines]
     chance.shuffle(order)
-    for number in order:
-        line, out = rest[number].pop()
-        yield Line(under(line, b"%s%d" % (name, number)), out, stems[number])
-
-
-def in_scripts(lines):
-    """The lines in lists, each of which is a script of its own."""
-    script, length = [], 0
-    for line in lines:
-        if length + len(line.text) > MOST_SCRIPT:
-            yield script
-            script, length = [], 0
-        script.append(line)
-        length += len(line.text)
-    yield script
+    for place in order:
+        number, stem, lines = rest[place]
+        line, out = lines.pop()
+        yield Line(under(line, b"%s%d" % (name, number)), out, stem)
 
 
 def run(part, what, script, words, folder):
@@ -105,7 +106,7 @@ def run(part, what, script, words, folder):
         part.check(what, False, f"status {ended.status}, {len(printed)} lines of {len(script)}: {ended.err[-300:]!r}")
         return collections.Counter()
     for line, out in zip(script, printed):
-        part.check(f"{what}, {line.name}: {line.text[:80]!r}", out == line.printed, f"{out!r}, and not {line.printed!r}")
+        part.same(f"{what}, {line.name}: {line.text[:80]!r}", out, line.printed)
     return collections.Counter(sentences(ended.err)[0])
 
 
@@ -113,12 +114,12 @@ def together(part):
     """Each line prints what it prints alone."""
     with new_folder() as folder:
         make_base(part, folder)
-        # (a desk in memory ends with its script, so both turns are one list)
-        lines = [*one_after_another(b"a"), *in_turns(b"b", 1)]
+        # (a desk in memory ends with its script, so each has its scripts whole)
+        done = [list(turn) for bundle in bundles() for turn in (one_after_another(b"a", bundle), in_turns(b"b", 1, bundle))]
         wanted = told() + told()
         for where, words in (("memory", ["script"]), ("a file", ["script", "--store", STORE])):
             said = collections.Counter()
-            for number, script in enumerate(in_scripts(lines)):
+            for number, script in enumerate(done):
                 said += run(part, f"over {where}, part {number + 1}", script, words, folder)
-            part.check(f"over {where}: the sentences", said == wanted, (said - wanted, wanted - said))
-            print(f"  over {where}: {len(lines):,} lines, {sum(said.values()):,} sentences", flush=True)
+            part.check(f"over {where}: the sentences", said == wanted, said - wanted, wanted - said)
+            print(f"  over {where}: {sum(map(len, done)):,} lines, {sum(said.values()):,} sentences", flush=True)

@@ -3,8 +3,8 @@
 Each request is answered over two files, one of which has them and one has not. Then each allocation of some requests is refused.
 """
 
-from common import STORE, make_base, new_folder
-from memory import answers, judge_request, show, sweep_run
+from common import STORE, make_base, new_folder, show
+from memory import answers, judge_request, sweep_run
 
 # What both files have. The pass `ended` was live at the first second of 1970 alone.
 SEEN = b"""new-project docs.test en main public wkey-1
