@@ -18,10 +18,10 @@ PACKAGE = "docs-host"
 DOC = f"usr/share/doc/{PACKAGE}"
 MAINTAINER = re.compile(r"^Maintainer: (.*)$", re.MULTILINE)
 
-# The commands that are tools, by their names here.
+# The commands of bin/, by their names here.
 TOOLS = {"docs_host-publish": "publish", "docs_host-export": "export", "docs_host-import-project": "import-project"}
 # Their folder: import-project reads the two others beside itself.
-LIBRARY = "usr/lib/docs_host/tools"
+LIBRARY = "usr/lib/docs_host/bin"
 
 
 class Lacking(Exception):
@@ -343,8 +343,8 @@ def tree_of(files, version, seconds, program):
     put("usr/bin/docs_host", files["docs_host"][0], 0o755)
     put("usr/share/man/man1/docs_host.1.gz", packed(manual_of_program(table, version, seconds)))
     for name, short in TOOLS.items():
-        put(f"{LIBRARY}/{short}", files[f"tools/{short}"][0].replace(b"#!/usr/bin/env python3\n", b"#!/usr/bin/python3\n", 1), 0o755)
-        text = printed("python3", os.path.join(ROOT, "tools", short), "--help")
+        put(f"{LIBRARY}/{short}", files[f"bin/{short}"][0].replace(b"#!/usr/bin/env python3\n", b"#!/usr/bin/python3\n", 1), 0o755)
+        text = printed("python3", os.path.join(ROOT, "bin", short), "--help")
         put(f"usr/share/man/man1/{name}.1.gz", packed(manual_of_tool(name, text, version, seconds)))
     put("usr/share/bash-completion/completions/docs_host", bash_completion(table))
     put("usr/share/zsh/vendor-completions/_docs_host", zsh_completion(table))
@@ -406,7 +406,7 @@ def write_package(files, version, seconds, program, to):
             lay(root, path, data, mode)
         os.makedirs(f"{root}/usr/bin", exist_ok=True)
         for name, short in TOOLS.items():
-            os.symlink(f"../lib/docs_host/tools/{short}", f"{root}/usr/bin/{name}")
+            os.symlink(f"{os.path.relpath(LIBRARY, 'usr/bin')}/{short}", f"{root}/usr/bin/{name}")
         control = control_of(tree, named, depends_of(program, room))
         lay(root, "DEBIAN/control", control.encode(), 0o644)
         lay(root, "DEBIAN/conffiles", b"/etc/default/docs_host\n", 0o644)
