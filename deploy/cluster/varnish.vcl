@@ -59,7 +59,7 @@ sub vcl_recv {
     }
     unset req.http.Cookie;
     unset req.http.Authorization;
-    # A client may ask for what is there now, as tools/publish does when it reads back.
+    # A client may ask for what is there now, as bin/publish does when it reads back.
     if (req.http.Cache-Control ~ "no-cache") {
         set req.hash_always_miss = true;
     }
