@@ -1,5 +1,5 @@
 -- The file of the records where the words give none.
-use Rattle.std.specs.Prelude.{ℕ, Bool, false, List, [], ◌∷◌, ◌++◌, ◌&&◌, ◌||◌, not, eqb, map, take, drop, slice_get, String, string_bytes, codes, if◌then◌else◌}
+use Rattle.std.specs.Prelude.{ℕ, ◌==◌, Bool, false, List, [], ◌∷◌, ◌++◌, ◌&&◌, ◌||◌, not, eqb, length, map, take, drop, slice_get, String, string_bytes, codes, if◌then◌else◌}
 use Rattle.std.specs.List.{list_any, starts_with}
 use Rattle.std.specs.Option.{option_map_or}
 use Rattle.std.specs.Str.{bytes_eq}
@@ -27,9 +27,9 @@ module _ {Z : Type 0} where
       option_map_or (λ first. takes_store (string_bytes first)) (slice_get words 0) false
       && not (give_store words)
 
-  -- the words, with the file behind the first of them where they lack one
+  -- the words, with the file behind the first of them where they lack one; an empty name is no file
   abbrev pub with_store : List ℕ → List (String Z) → List (List ℕ)
   with_store file words =
-      if lack_store words
+      if not (length file == 0) && lack_store words
       then map string_bytes (take 1 words) ++ codes "--store" ∷ file ∷ map string_bytes (drop 1 words)
       else map string_bytes words

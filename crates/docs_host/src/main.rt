@@ -36,8 +36,8 @@ fn words_of<R: Env + AllocGlobal>(rt: &R) -> io::Result<Vec<String>> {
         words.push(word)?;
     }
     match std::env::var(rt, "DOCS_STORE") {
-        Ok(file) if !file.is_empty() => name_store(rt.alloc(), &mut words, file.as_str())?,
-        Ok(_) | Err(VarError::NotPresent) => {}
+        Ok(file) => name_store(rt.alloc(), &mut words, file.as_str())?,
+        Err(VarError::NotPresent) => {}
         Err(VarError::NotUnicode) => return Err(io::Error::from(ErrorKind::InvalidData)),
         Err(VarError::OutOfMemory) => return Err(io::Error::from(ErrorKind::OutOfMemory)),
     }

@@ -35,12 +35,13 @@ fn lack_store(words: &[String]) -> bool
     }
 }
 
-/// Adds `--store FILE` behind the first word, where the words order what may be over a file of records, and give none.
+/// Adds `--store FILE` behind the first word, where the words order what may be over a file of records, and give none. An empty
+/// name is no file.
 pub fn name_store(alloc: Global, words: &mut Vec<String>, file: &str) -> Result<(), AllocError>
     ensures { OnOk result (map string_bytes words.new.items
         ≡ spec.with_store file.now words.old.items) }
 {
-    if !lack_store(words.as_slice()) {
+    if file.is_empty() || !lack_store(words.as_slice()) {
         return Ok(());
     }
     let file = String::from_str(alloc, file)?;

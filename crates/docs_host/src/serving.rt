@@ -126,6 +126,7 @@ fn serve_desk<S: Alter, N: Listen, C: FnMut() -> u64, E: Sink>(
         (ServesBoth C.step clock.old clock.new (count - unwrap_or result 0)) }
     ensures callable { C.IsAlwaysCallable clock.new }
     ensures tells { TellsSome E.broken E.held errors.old errors.new }
+    ensures off { log ≡ false → errors.new ≡ errors.old }
 {
     let log = Log::new(rt, log);
     let served = serve_on(
