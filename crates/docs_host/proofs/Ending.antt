@@ -1,7 +1,7 @@
 -- How runs end, by what is ordered and by what came of it.
 use Rattle.std.proofs.Common.{◌≡◌, ◌⊎◌, ◌∙◌, ℕ, arith, Bool, true, false, true≢false, List, [], ◌∷◌, ◌++◌, Option, Result, Ok, Err, refl, sym, ap, subst, inl, inr}
 use Rattle.std.proofs.lemmas.Result.{err_from_is_err_and}
-use Rattle.std.specs.Prelude.{◌||◌, IsTrue, IsErrAnd, IfOk, OnOk, None, drop, codes}
+use Rattle.std.specs.Prelude.{◌||◌, IsTrue, IsErrAnd, IfOk, OnOk, Some, None, drop, codes, is_some}
 use Rattle.std.specs.FinMap.{empty}
 use Rattle.std.specs.Io.KnownBytes.{Appends}
 use Rattle.clap.specs.Faults.{fault_of, is_simple_and_free}
@@ -32,6 +32,7 @@ use Rattle.docs_host.specs.Ends.{is_failure_status, status_after, may_end_order,
 use Rattle.docs_host.specs.Failing.{may_fail, IsDoneOr, is_of_output, is_of_init, is_of_list, is_of_script, is_of_command, is_of_opened, is_of_order, is_of_sent, may_be_sent, is_of_checked, is_of_file, is_of_memory}
 use Rattle.docs_host.specs.Failures.{failure_of}
 use Rattle.docs_host.specs.Orders.{OrdersImport, RunsRequest, AnswersOne, ServesUpTo, bad_record, has_bad_target, import_order}
+use Rattle.docs_host.specs.OverFiles.{EndsBehind, RunsChecked}
 use Rattle.docs_host.specs.declared.by_server.ControlFault.{ControlFault}
 use Rattle.docs_host.specs.declared.failure.Failure.{Failure}
 use Rattle.docs_host.specs.declared.failure.Failure.TheVariants.{File, List as OfList, Store, Memory, Bind, Socket, Control, Write, Script, Request}
@@ -61,6 +62,11 @@ pub handed_on : (P : Result Status Failure → Type 0) (f : Failure) (r : Result
 handed_on P f r is it =
     let at = err_from_is_err_and r is in
     subst P (sym (at.1 ∙ ap (λ e. Err e) at.2)) it
+
+-- a run that failed, or is done, ends as done where it ends well
+pub done_if : (is_of : Failure → Bool) (r : Result Status Failure) → IsDoneOr is_of r → IfOk r (λ s. s ≡ Done)
+done_if is_of (Ok s) is = is
+done_if is_of (Err f) is = tt
 
 -- no desk could be made
 store_ended : (P : Status → Type 0) → P Faulty → (has : Failure → Bool) → IsTrue (has Store) → (f : Fault) → Ended P has (Err (failure_of f))
@@ -238,6 +244,39 @@ module _ (held now : Option Text) (o : Order) where
   pub file_failed : (f : FileFault) (r : Result Status Failure)
       → IsErrAnd r (λ failure. failure ≡ File f) → Ended (λ s. IsTrue (may_end_order o s)) (is_of_opened o) r
   file_failed f r is = handed_on (Ended (λ s. IsTrue (may_end_order o s)) (is_of_opened o)) (File f) r is (faulty_order o, refl)
+
+-- ---- behind an order
+
+-- the order failed
+pub behind_failed : (f : Failure) (r : Result Status Failure) → IsErrAnd r (λ failure. failure ≡ f) → EndsBehind (Err f) r
+behind_failed f r is = handed_on (EndsBehind (Err f)) f r is (inl refl)
+
+-- the file was not closed
+pub behind_unclosed : (s : Status) (f : FileFault) (r : Result Status Failure) → IsErrAnd r (λ failure. failure ≡ File f) → EndsBehind (Ok s) r
+behind_unclosed s f r is = handed_on (EndsBehind (Ok s)) (File f) r is (inr (refl, refl))
+
+-- a server went on with what a fault of the store had left
+pub behind_served : (s : Status) (r : Result Status Failure) → s ≡ Done → IsDoneOr is_of_init r → EndsBehind (Ok s) r
+behind_served s (Ok status) done is = ap (λ (it : Status). Ok it) (done ∙ sym is)
+behind_served s (Err f) done is = inr (refl, is)
+
+pub served_done : {X : Type 0} (x : X) (now : Option X) (s : Status) → now ≡ Some x → (now ≡ None) ⊎ (s ≡ Done) → s ≡ Done
+served_done x now s is (inl none) = absurd (true≢false (ap is_some (sym is ∙ none)))
+served_done x now s is (inr done) = done
+
+-- ---- over a file that is opened
+
+module _ (Runs : Type 0) (held now : Option Text) (r : Result Status Failure) where
+  pub run_good : (bad : Bool) → bad ≡ false → Runs → RunsChecked bad Runs held now r
+  run_good bad is it = let Q : Bool → Type 0 = λ b. RunsChecked b Runs held now r in subst Q (sym is) (inl it)
+
+  pub run_bad : (bad : Bool) → bad ≡ true → OnOk r (Appends held now (codes "bad target" ++ 10 ∷ [])) → RunsChecked bad Runs held now r
+  run_bad bad is it = let Q : Bool → Type 0 = λ b. RunsChecked b Runs held now r in subst Q (sym is) it
+
+-- memory was out before its target was known
+pub unchecked : (Runs : Type 0) (held : Option Text) (bad : Bool) → RunsChecked bad Runs held held (Err Memory)
+unchecked Runs held true = tt
+unchecked Runs held false = inr (refl, refl)
 
 -- ---- an import
 

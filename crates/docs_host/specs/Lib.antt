@@ -4,6 +4,7 @@ pub mod Failing
 pub mod Failures
 pub mod MessageCalls
 pub mod Orders
+pub mod OverFiles
 pub mod OwnStore
 pub mod Sent
 pub mod Telling

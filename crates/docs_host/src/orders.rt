@@ -1,6 +1,6 @@
 //! Doing what a line orders, over a desk.
 
-ghost use Rattle.std.specs.Prelude.{◌≡◌, false, [], ◌∷◌, ◌++◌, IfOk, IfErr, OnOk, OnErr, IsTrue};
+ghost use Rattle.std.specs.Prelude.{◌≡◌, ◌⊎◌, false, [], ◌∷◌, ◌++◌, IfOk, IfErr, OnOk, OnErr, IsTrue};
 ghost use Rattle.std.specs.Io.KnownBytes.{Appends};
 ghost use Rattle.dh_http.specs.Desk.{WorldGoesBy};
 ghost use Rattle.dh_server.specs.Telling.{TellsSome};
@@ -146,6 +146,8 @@ pub fn do_order<S: Alter, C: FnMut() -> u64, R: Source, W: Sink, E: Sink>(
     ensures ends { Ended (λ status. IsTrue (may_end_order order.now status))
         (is_of_order order.now) result }
     ensures callable { C.IsAlwaysCallable clock.new }
+    ensures rest { (served.new.rest ≡ served.old.rest)
+        ⊎ IfOk result (λ status. status ≡ Status.Done) }
     ensures tells { TellsSome E.broken E.held streams.old.errors streams.new.errors }
 {
     match order {

@@ -1,6 +1,7 @@
 //! What the program does with its words.
 
-ghost use Rattle.std.specs.Prelude.{◌≡◌, true, false, map, drop, string_bytes, option_map, IfOk, IsTrue, MatchOption, Some};
+ghost use Rattle.std.specs.Prelude.{◌≡◌, ◌⊎◌, true, false, map, drop, string_bytes, option_map, IfOk, IsTrue, MatchOption, Some};
+ghost use Rattle.dh_http.specs.Desk.{WorldGoesBy};
 ghost use Rattle.dh_server.specs.Telling.{TellsSome};
 ghost use Rattle.dh_lines.specs.Lines.{line_in};
 ghost use Rattle.docs_host.specs.Ends.{Ended, EndsScript, EndsRequest, EndsOver, EndsList, EndsBy};
@@ -9,6 +10,8 @@ ghost use Rattle.docs_host.specs.Ends.{asks_help, asks_version, line_asked, line
 ghost use Rattle.docs_host.specs.Failing.{IsDoneOr, is_of_init, is_of_file, is_of_command, is_of_memory, is_of_opened, is_of_run};
 ghost use Rattle.docs_host.specs.Orders as spec;
 ghost use Rattle.docs_host.specs.Orders.{AreUnbroken};
+ghost use Rattle.docs_host.specs.OverFiles.{RunsAndCloses, RunsChecked, RunsFrom, RunsImport, RunsList, RunsOverFile};
+ghost use Rattle.docs_host.specs.Sent.{AsksServer};
 ghost use Rattle.docs_host.specs.Telling.{TellsEnd};
 ghost use Rattle.docs_host.specs.Telling as telling;
 
@@ -20,14 +23,15 @@ use crate::sending::Sockets;
 use crate::serving::{Served, serve_rest};
 use crate::streams::Streams;
 use crate::usage::{tell_help, tell_mistake, tell_version};
-use dh_files::{FileDesk, FileFault, close_desk, init_file, migrate_file, open_desk};
+use dh_files::{FileFault, close_desk, init_file, migrate_file, open_desk};
+use dh_http::Desk;
 use dh_lines::{Line, LineFault, Order, line_of};
 use dh_lists::ListFault;
 use dh_paths::Text;
 use dh_ports::{Sink, Source};
 use dh_sample::{answer_sample, empty_desk};
 use dh_script::{Reason, is_bad_target};
-use sqlite::Start;
+use sqlite::{Alter, Start};
 use std::alloc::{AllocError, Global};
 
 /// Whether the order is a read whose target cannot be read.
@@ -40,18 +44,30 @@ fn has_bad_target(alloc: Global, order: &Order) -> Result<bool, AllocError>
     }
 }
 
-/// Does what is ordered over the desk of a file, and closes the file.
-fn run_over_desk<S: Start, C: FnMut() -> u64, R: Source, W: Sink, E: Sink>(
+/// Does what is ordered over the desk of a file, and closes the file by `closing`.
+fn run_over_desk<
+    S: Alter,
+    F: FnOnce(Desk<S>) -> Result<(), FileFault>,
+    C: FnMut() -> u64,
+    R: Source,
+    W: Sink,
+    E: Sink,
+>(
     rt: &HostRuntime,
-    opened: (FileDesk<S>, i64),
+    opened: (Desk<S>, i64),
+    closing: F,
     order: &Order,
     file: &str,
     streams: &mut Streams<R, W, E>,
     clock: &mut C,
     now: u64,
 ) -> Result<Status, Failure>
+    requires closes { F.IsAlwaysCallable closing }
     requires callable { C.IsAlwaysCallable clock.old }
     requires ready { AreUnbroken (R.broken streams.old.source) (W.broken streams.old.sink) }
+    ensures runs { RunsAndCloses (F.post closing) (WorldGoesBy S.Store opened.0)
+        (RunsFrom C.step clock.old now order.now (R.left streams.old.source)
+        (W.held streams.old.sink) (W.held streams.new.sink)) result }
     ensures ends { Ended (λ status. IsTrue (may_end_order order.now status))
         (is_of_opened order.now) result }
     ensures tells { TellsSome E.broken E.held streams.old.errors streams.new.errors }
@@ -63,7 +79,7 @@ fn run_over_desk<S: Start, C: FnMut() -> u64, R: Source, W: Sink, E: Sink>(
         rest: None,
     };
     let ran = do_order(rt, &mut desk, &mut served, order, streams, clock, now);
-    let closed = close_desk(desk);
+    let closed = closing(desk);
     let status = ran?;
     if let Some(rest) = served.rest {
         return serve_rest(rt, file, rest, clock, &mut streams.errors);
@@ -86,23 +102,38 @@ fn tell_held<E: Sink>(fault: FileFault, errors: &mut E)
 }
 
 /// Does an import over the records of a file, which no other program may have open.
-fn import_over_file<S: Start, C: FnMut() -> u64, R: Source, W: Sink, E: Sink>(
+fn import_over_file<
+    S: Alter,
+    O: FnOnce() -> Result<(Desk<S>, i64), FileFault> + Drop,
+    F: FnOnce(Desk<S>) -> Result<(), FileFault> + Drop,
+    C: FnMut() -> u64,
+    R: Source,
+    W: Sink,
+    E: Sink,
+>(
     rt: &HostRuntime,
-    start: S,
+    opening: O,
+    closing: F,
     order: &Order,
     file: &str,
     streams: &mut Streams<R, W, E>,
     clock: &mut C,
     now: u64,
 ) -> Result<Status, Failure>
+    requires opens { O.IsAlwaysCallable opening }
+    requires closes { F.IsAlwaysCallable closing }
     requires callable { C.IsAlwaysCallable clock.old }
     requires ready { AreUnbroken (R.broken streams.old.source) (W.broken streams.old.sink) }
+    ensures runs { RunsOverFile (O.post opening) (F.post closing) (WorldGoesBy S.Store)
+        (RunsFrom C.step clock.old now order.now (R.left streams.old.source)
+        (W.held streams.old.sink) (W.held streams.new.sink))
+        (W.held streams.old.sink) (W.held streams.new.sink) result }
     ensures ends { Ended (λ status. IsTrue (may_end_order order.now status))
         (is_of_opened order.now) result }
     ensures tells { TellsSome E.broken E.held streams.old.errors streams.new.errors }
 {
-    match open_desk(rt, file, start) {
-        Ok(opened) => run_over_desk(rt, opened, order, file, streams, clock, now),
+    match opening() {
+        Ok(opened) => run_over_desk(rt, opened, closing, order, file, streams, clock, now),
         Err(fault) => {
             tell_held(fault, &mut streams.errors);
             Err(Failure::File(fault))
@@ -111,9 +142,18 @@ fn import_over_file<S: Start, C: FnMut() -> u64, R: Source, W: Sink, E: Sink>(
 }
 
 /// Does what is ordered over the records of a file; where a server has the file, asks that server to do it.
-fn run_over_file<S: Start, C: FnMut() -> u64, R: Source, W: Sink, E: Sink>(
+fn run_over_file<
+    S: Alter,
+    O: FnOnce() -> Result<(Desk<S>, i64), FileFault> + Drop,
+    F: FnOnce(Desk<S>) -> Result<(), FileFault> + Drop,
+    C: FnMut() -> u64,
+    R: Source,
+    W: Sink,
+    E: Sink,
+>(
     rt: &HostRuntime,
-    start: S,
+    opening: O,
+    closing: F,
     words: &[String],
     order: &Order,
     file: &str,
@@ -121,8 +161,19 @@ fn run_over_file<S: Start, C: FnMut() -> u64, R: Source, W: Sink, E: Sink>(
     clock: &mut C,
     now: u64,
 ) -> Result<Status, Failure>
+    requires opens { O.IsAlwaysCallable opening }
+    requires closes { F.IsAlwaysCallable closing }
     requires callable { C.IsAlwaysCallable clock.old }
     requires ready { AreUnbroken (R.broken streams.old.source) (W.broken streams.old.sink) }
+    ensures runs { RunsChecked (spec.has_bad_target order.now)
+        (RunsOverFile (O.post opening) (F.post closing) (WorldGoesBy S.Store)
+        (RunsFrom C.step clock.old now order.now (R.left streams.old.source)
+        (W.held streams.old.sink) (W.held streams.new.sink))
+        (W.held streams.old.sink) (W.held streams.new.sink) result
+        ⊎ (O.post opening (Err FileFault.Busy)
+        × AsksServer None None (map string_bytes words.now) order.now file.now
+        (R.left streams.old.source) (W.held streams.old.sink) (W.held streams.new.sink) result))
+        (W.held streams.old.sink) (W.held streams.new.sink) result }
     ensures ends { Ended (EndsOver order.now (W.held streams.old.sink) (W.held streams.new.sink))
         (is_of_file order.now) result }
     ensures tells { TellsSome E.broken E.held streams.old.errors streams.new.errors }
@@ -132,8 +183,8 @@ fn run_over_file<S: Start, C: FnMut() -> u64, R: Source, W: Sink, E: Sink>(
         tell_reason(&mut streams.errors, Some(Reason::BadTarget));
         return Ok(Status::Refused);
     }
-    match open_desk(rt, file, start) {
-        Ok(opened) => run_over_desk(rt, opened, order, file, streams, clock, now),
+    match opening() {
+        Ok(opened) => run_over_desk(rt, opened, closing, order, file, streams, clock, now),
         Err(FileFault::Busy) => run_by_server(
             rt.alloc(),
             &mut Sockets { rt },
@@ -196,9 +247,18 @@ fn migrate<S: Start>(rt: &HostRuntime, start: S, file: &str) -> Result<Status, F
 
 /// Adds the redirects of a list to those of a project, over the records of a file; or tells which record of the list writes
 /// none.
-fn import_list<S: Start, C: FnMut() -> u64, R: Source, W: Sink, E: Sink>(
+fn import_list<
+    S: Alter,
+    O: FnOnce() -> Result<(Desk<S>, i64), FileFault> + Drop,
+    F: FnOnce(Desk<S>) -> Result<(), FileFault> + Drop,
+    C: FnMut() -> u64,
+    R: Source,
+    W: Sink,
+    E: Sink,
+>(
     rt: &HostRuntime,
-    start: S,
+    opening: O,
+    closing: F,
     host: &Text,
     list: ListFile<'_>,
     file: &str,
@@ -206,14 +266,21 @@ fn import_list<S: Start, C: FnMut() -> u64, R: Source, W: Sink, E: Sink>(
     clock: &mut C,
     now: u64,
 ) -> Result<Status, Failure>
+    requires opens { O.IsAlwaysCallable opening }
+    requires closes { F.IsAlwaysCallable closing }
     requires callable { C.IsAlwaysCallable clock.old }
     requires ready { AreUnbroken (R.broken streams.old.source) (W.broken streams.old.sink) }
+    ensures runs { RunsList (λ order. RunsOverFile (O.post opening) (F.post closing) (WorldGoesBy S.Store)
+        (RunsFrom C.step clock.old now order (R.left streams.old.source)
+        (W.held streams.old.sink) (W.held streams.new.sink))
+        (W.held streams.old.sink) (W.held streams.new.sink) result)
+        host.now list.entry.bytes.now (W.held streams.old.sink) (W.held streams.new.sink) result }
     ensures ends { Ended (EndsList host.now list.entry.bytes.now
         (W.held streams.old.sink) (W.held streams.new.sink)) is_of_command result }
     ensures tells { TellsSome E.broken E.held streams.old.errors streams.new.errors }
 {
     match order_in(rt.alloc(), host, list.bytes) {
-        Ok(order) => import_over_file(rt, start, &order, file, streams, clock, now),
+        Ok(order) => import_over_file(rt, opening, closing, &order, file, streams, clock, now),
         Err(ListFault::BadRecord(number, fault)) => {
             refuse_record(rt.alloc(), list.path, number, fault, streams)
         }
@@ -222,9 +289,18 @@ fn import_list<S: Start, C: FnMut() -> u64, R: Source, W: Sink, E: Sink>(
 }
 
 /// Adds the redirects of a list's file to those of a project, over the records of a file, which is opened once the list is read.
-fn import<S: Start, C: FnMut() -> u64, R: Source, W: Sink, E: Sink>(
+fn import<
+    S: Alter,
+    O: FnOnce() -> Result<(Desk<S>, i64), FileFault> + Drop,
+    F: FnOnce(Desk<S>) -> Result<(), FileFault> + Drop,
+    C: FnMut() -> u64,
+    R: Source,
+    W: Sink,
+    E: Sink,
+>(
     rt: &HostRuntime,
-    start: S,
+    opening: O,
+    closing: F,
     host: &Text,
     list: &Text,
     file: &str,
@@ -232,8 +308,15 @@ fn import<S: Start, C: FnMut() -> u64, R: Source, W: Sink, E: Sink>(
     clock: &mut C,
     now: u64,
 ) -> Result<Status, Failure>
+    requires opens { O.IsAlwaysCallable opening }
+    requires closes { F.IsAlwaysCallable closing }
     requires callable { C.IsAlwaysCallable clock.old }
     requires ready { AreUnbroken (R.broken streams.old.source) (W.broken streams.old.sink) }
+    ensures runs { RunsImport (λ order. RunsOverFile (O.post opening) (F.post closing) (WorldGoesBy S.Store)
+        (RunsFrom C.step clock.old now order (R.left streams.old.source)
+        (W.held streams.old.sink) (W.held streams.new.sink))
+        (W.held streams.old.sink) (W.held streams.new.sink) result)
+        host.now (W.held streams.old.sink) (W.held streams.new.sink) result }
     ensures ends { Ended (EndsOver (Order.Import host.now list.now)
         (W.held streams.old.sink) (W.held streams.new.sink))
         (is_of_file (Order.Import host.now list.now)) result }
@@ -244,7 +327,7 @@ fn import<S: Start, C: FnMut() -> u64, R: Source, W: Sink, E: Sink>(
         path: list.as_str(),
         bytes: bytes.as_slice(),
     };
-    import_list(rt, start, host, read, file, streams, clock, now)
+    import_list(rt, opening, closing, host, read, file, streams, clock, now)
 }
 
 /// Does the line that these words are.
@@ -281,11 +364,22 @@ fn run_line<S: Start, C: FnMut() -> u64, R: Source, W: Sink, E: Sink>(
             now,
         ),
         (Order::Import { host, list }, Some(file)) => {
-            import(rt, start, host, list, file.as_str(), streams, clock, now)
+            import(
+                rt,
+                || open_desk(rt, file.as_str(), start),
+                |desk| close_desk(desk),
+                host,
+                list,
+                file.as_str(),
+                streams,
+                clock,
+                now,
+            )
         }
         (order, Some(file)) => run_over_file(
             rt,
-            start,
+            || open_desk(rt, file.as_str(), start),
+            |desk| close_desk(desk),
             words,
             order,
             file.as_str(),

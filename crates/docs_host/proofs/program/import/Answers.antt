@@ -1,4 +1,6 @@
-use Rattle.docs_host.proofs.Ending.{import_ended, list_failed}
+use Rattle.std.proofs.Common.{◌≡◌, inl, inr, refl, true}
+use Rattle.std.specs.Prelude.{is_err}
+use Rattle.docs_host.proofs.Ending.{handed_on, import_ended, list_failed}
 use Rattle.docs_host.proofs.program.import.Goals as goal
 
 pub returns-in_err-bytes-clause-ends : goal.returns-in_err-bytes-clause-ends
@@ -10,3 +12,10 @@ pub returns-clause-ends : goal.returns-clause-ends
 returns-clause-ends g c =
     import_ended c.args.host.now c.args.list.now (g.W.Sink.held c.args.streams.now.sink) (g.W.Sink.held c.import_list.new.streams.sink)
     c.as_slice.result.now c.import_list.result c.import_list.ensures.ends
+
+pub returns-in_err-bytes-clause-runs : goal.returns-in_err-bytes-clause-runs
+returns-in_err-bytes-clause-runs g c =
+    inr (refl, handed_on (λ r. is_err r ≡ true) c.in_err-bytes.field-0.0 c.from_residual.result c.from_residual.ensures.1 refl)
+
+pub returns-clause-runs : goal.returns-clause-runs
+returns-clause-runs g c = inl (c.as_slice.result.now, c.import_list.ensures.runs)

@@ -1,3 +1,5 @@
+use Rattle.std.proofs.Common.{Ok, Err, refl}
+use Rattle.dh_lists.specs.declared.lists.ListFault.TheVariants as listed
 use Rattle.docs_host.proofs.Ending.{command_ended, record_ended, unlisted}
 use Rattle.docs_host.proofs.program.import_list.Goals as goal
 
@@ -14,3 +16,16 @@ returns-in-Err-BadRecord-clause-ends g c =
 
 pub returns-clause-ends : goal.returns-clause-ends
 returns-clause-ends g c = unlisted c.args.host.now c.args.list.bytes.now (g.W.Sink.held c.args.streams.now.sink)
+
+pub returns-in-Ok-clause-runs : goal.returns-in-Ok-clause-runs
+returns-in-Ok-clause-runs g c = (Ok c.in-Ok.order, c.in-Ok.ensures, c.import_over_file.ensures.runs)
+
+pub returns-in-Err-BadRecord-clause-runs : goal.returns-in-Err-BadRecord-clause-runs
+returns-in-Err-BadRecord-clause-runs g c = (
+  Err (listed.BadRecord c.in-Err-BadRecord.number c.in-Err-BadRecord.fault),
+  rw c.in-Err-BadRecord.field-0-is at c.in-Err-BadRecord.ensures,
+  c.refuse_record.ensures.says,
+)
+
+pub returns-clause-runs : goal.returns-clause-runs
+returns-clause-runs g c = (Err listed.Memory, tt, (refl, refl))
