@@ -18,6 +18,7 @@ module _ {T : Type 0} (moment : ℕ) (script : Text) (before after : World) (hel
   pub script_done : (value : T) → RunsScript {T = T} {E = ScriptFault} moment (Some script) before after held now (Ok value) → IsScript script → DoesScript moment script before after held now (Ok Done)
   script_done value runs is = record {
     ran = record { script = runs.script; read = runs.read; ran = runs.ran };
+    done = refl;
     whole = is;
     unread = λ no. cc;
   }
@@ -27,6 +28,7 @@ module _ {T : Type 0} (moment : ℕ) (script : Text) (before after : World) (hel
       → (is_unread {A = T} (Err fault) ≡ true → (after ≡ before) × (now ≡ held)) → DoesScript moment script before after held now (Err fault)
   script_failed fault runs unread = record {
     ran = record { script = runs.script; read = runs.read; ran = runs.ran };
+    done = tt;
     whole = tt;
     unread = unread;
   }
@@ -39,6 +41,7 @@ script_unread moment script world held now fault same = record {
     read = refl;
     ran = subst (RunsSome moment world (lines_in script) world held) (sym same) (some_none moment world (lines_in script) held);
   };
+  done = tt;
   whole = tt;
   unread = λ _. (refl, same);
 }

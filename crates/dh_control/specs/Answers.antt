@@ -1,5 +1,6 @@
 -- What a message does to the world, and what is written for it.
 use Rattle.std.specs.Prelude.{◌≡◌, ◌⊎◌, ℕ, Bool, true, false, List, [], ◌∷◌, ◌++◌, Option, Some, None, Result, Ok, Err, IfSome, OnOk}
+use Rattle.std.specs.Result.{IfOk}
 use Rattle.std.specs.Io.KnownBytes.{Appends}
 use Rattle.std.specs.List.{All, slice_split}
 use Rattle.std.specs.Str.{IsUtf8}
@@ -16,7 +17,7 @@ use Rattle.dh_world.specs.World.{Text, World}
 use Rattle.dh_control.specs.Messages.{is_nul, body_of, behind, words_mark, script_mark, words_message, script_message}
 use Rattle.dh_control.specs.Ends.{end_of, end_line}
 use Rattle.dh_control.specs.declared.end.End.{End}
-use Rattle.dh_control.specs.declared.end.End.TheVariants.{Unknown}
+use Rattle.dh_control.specs.declared.end.End.TheVariants.{Done, Unknown}
 use Rattle.dh_control.specs.declared.message.TheConstants.{MOST_MESSAGE_BYTES}
 
 -- an order was performed, what it prints was written, with LF, and the end says whether it was refused; after a fault it was
@@ -43,9 +44,10 @@ DoesSent moment sent before after held now result =
     (IsUtf8 sent × DoesWords moment before (line_in (slice_split is_nul sent)) after held now result)
     ⊎ ((IsUtf8 sent → ⊥) × DoesNone before after held now result)
 
--- a script ran; bytes that are no script did nothing
+-- a script ran, to its end where the end is told, which is `Done`; bytes that are no script did nothing
 pub record DoesScript (moment : ℕ) (script : Text) (before after : World) (held now : Option Text) (result : Result End ScriptFault) : Type 0 where
   pub ran : RunsScript moment (Some script) before after held now result
+  pub done : IfOk result (λ end. end ≡ Done)
   pub whole : OnOk result (IsScript script)
   pub unread : is_unread result ≡ true → (after ≡ before) × (now ≡ held)
 

@@ -1,4 +1,4 @@
-use Rattle.std.proofs.Common.{rules, refl}
+use Rattle.std.proofs.Common.{rules}
 use Rattle.dh_desk.proofs.Moving.{WorldGoesBy-refl, WorldGoesBy-weaker}
 use Rattle.dh_control.proofs.Whole.{nothing_done}
 use Rattle.dh_control.proofs.answering.do_words.Goals as goal
