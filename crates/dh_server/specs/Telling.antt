@@ -20,3 +20,8 @@ module _ {S : Type 0} (broken : S → Bool) (held : S → Option (List ℕ)) whe
   abbrev pub TellsLine : S → S → Option (Result Done EngineFault) → Entry → ℕ → Type 0
   TellsLine old new outcome entry bytes =
       WritesUnlessBroken old new [] ⊎ ((micros : ℕ) × WritesUnlessBroken old new (log_line (told_as outcome) entry bytes micros))
+
+  -- the line of a connection with this outcome, that came at this moment, was written; or nothing was
+  abbrev pub TellsLineAt : S → S → Option (Result Done EngineFault) → ℕ → Type 0
+  TellsLineAt old new outcome moment =
+      (entry : Entry) × (bytes : ℕ) × (entry.moment ≡ moment) × TellsLine old new outcome entry bytes

@@ -35,12 +35,13 @@ pub trait Control {
         ensures counts { CountsExactly (handed self.old) (handed self.new) 1 };
 }
 
-/// The control of a server without a socket: nothing is done.
+/// The control of a server without a socket: nothing is done, and nothing is written.
 #[derive(Drop)]
 pub struct NoControl;
 
 impl Control for NoControl {
-    ghost does = { λ _ _ calls before after. (calls ≡ []) × (after ≡ before) };
+    ghost does = { λ _ talk calls before after.
+        (talk.now ≡ talk.held) × (calls ≡ []) × (after ≡ before) };
 
     ghost handed = { λ _. None };
 

@@ -6,7 +6,7 @@ ghost use Rattle.dh_http.specs.Desk.{WorldGoesBy};
 ghost use Rattle.dh_http.specs.Answers as spec;
 ghost use Rattle.dh_server.specs.Serving.{AnswersConnection, AnswersSome, AsksClock, DoesByCalls, DoesSome, CountsExactly, HandsOn, messages_in, talk_of};
 ghost use Rattle.dh_server.specs.Turns.{ServesOne, ServesInTurn};
-ghost use Rattle.dh_server.specs.Telling.{TellsSome};
+ghost use Rattle.dh_server.specs.Telling.{TellsLineAt, TellsSome};
 
 use crate::beginning::{Beginning, Heard};
 use crate::control::Control;
@@ -88,7 +88,7 @@ pub fn answer_heard<S: Alter, R: Source, W: Sink, T: Clock + Copy, L: Sink>(
     ensures some { WorldGoesBy S.Store desk.old desk.new (AnswersSome now (is_ok result)) }
     ensures reader_fault { R.broken source.new.inner ≡ spec.reader_failed result }
     ensures writer_fault { W.broken sink.new.inner.inner ≡ spec.writer_failed result }
-    ensures tells { TellsSome L.broken L.held errors.old errors.new }
+    ensures tells { TellsLineAt L.broken L.held errors.old errors.new (Some result) now }
     ensures off { log.now.is_on ≡ false → errors.new ≡ errors.old }
 {
     let start = log.start();

@@ -8,3 +8,6 @@ returns-clause-some g c =
     let held = append_known (g.W.Sink.held c.args.sink.now.inner.inner) (drop c.args.sink.now.gone c.args.sink.now.kept.items) in
     WorldGoesBy-weaker c.answer_joined-result.ensures.answers
     (λ u v answers. (g.R.Source.left c.args.source.now.inner, held, g.W.Sink.held c.answer_joined-result.new.sink.inner.inner, c.answer_joined-result.result, answers, refl))
+
+pub returns-clause-tells : goal.returns-clause-tells
+returns-clause-tells g c = (record { line = c.first_line.result; host = c.host.result; moment = c.args.now; reason = c.reason_of.result }, c.count.result, refl, c.tell.ensures.line)

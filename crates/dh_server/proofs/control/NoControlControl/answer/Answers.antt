@@ -4,6 +4,6 @@ use Rattle.dh_server.proofs.control.NoControlControl.answer.Goals as goal
 
 pub returns : goal.returns
 returns g c = record {
-  moves = WorldGoesBy-refl (λ w. ([], [], (refl, refl), (refl, refl)));
+  moves = WorldGoesBy-refl (λ w. ([], [], (refl, refl), (refl, refl, refl)));
   counts = (tt, tt);
 }
