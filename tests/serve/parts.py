@@ -40,10 +40,10 @@ def need(tool):
     return found
 
 
-def module_of(name):
-    """A program of bin/ as a module of its own, whose numbers a test may change."""
-    loader = importlib.machinery.SourceFileLoader("of_bin", str(ROOT / "bin" / name))
-    module = importlib.util.module_from_spec(importlib.util.spec_from_loader("of_bin", loader))
+def module_of(name, folder="bin"):
+    """A program of a folder as a module of its own, whose numbers a test may change."""
+    loader = importlib.machinery.SourceFileLoader(f"of_{folder}", str(ROOT / folder / name))
+    module = importlib.util.module_from_spec(importlib.util.spec_from_loader(loader.name, loader))
     loader.exec_module(module)
     return module
 
