@@ -1,7 +1,7 @@
 use Rattle.std.proofs.Common.{◌↔◌, ◌∙◌, IsTrue, Some, ap, is_lt, option_copied, subst, sym}
-use Rattle.dh_opening.specs.ThinPages.{IsNext}
+use Rattle.dh_opening.specs.Rows.{IsNext}
 use Rattle.dh_opening.proofs.Rising.{as_less}
-use Rattle.dh_opening.proofs.thin_pages.is_next.Goals as goal
+use Rattle.dh_opening.proofs.rows.is_next.Goals as goal
 
 pub returns-in-Some : goal.returns-in-Some
 returns-in-Some c =
