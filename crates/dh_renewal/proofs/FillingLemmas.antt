@@ -101,16 +101,9 @@ midway_last start now it = record {
   ];
 }
 
--- lists with one base and the same stored rows are one
-pub same_lists : (a b : Lists) → base_of a ≡ base_of b → a.aliases ≡ b.aliases → a.routes ≡ b.routes → a ≡ b
-same_lists a b base aliases routes = λ i. record (base i) { aliases = aliases i; routes = routes i }
-
--- rows that are one up to a place, and at it, are one up to the next
-pub same_step : {X : Type 0} (xs ys : List X) (i : ℕ) (x : X) → take i xs ≡ take i ys → slice_get xs i ≡ Some x → slice_get ys i ≡ Some x → take (suc i) xs ≡ take (suc i) ys
-same_step xs ys i x same here there =
-    take-suc xs i x (slice_get_within xs i x here)
-    ∙ ap₂ (λ before at. before ++ (at ∷ [])) same (get_or_from_slice_get xs i x x here ∙ sym (get_or_from_slice_get ys i x x there))
-    ∙ sym (take-suc ys i x (slice_get_within ys i x there))
+-- where all is right nothing is to be made
+pub derived_so : (before after : Lists) → after ≡ before → AreRight before → IsDerived before after
+derived_so before after same right = record { base = ap base_of same; right = subst AreRight (sym same) right }
 
 -- ---- the transaction
 
@@ -147,21 +140,6 @@ module _
   pub worked_ready : HasCleanDisk (state g worked) → HasRowsRight g old worked
   worked_ready clean =
       let honest = honest_then clean in record { was = (began clean).was_honest; honest = honest; derived = derived_as honest (records g worked) refl }
-
-  -- where nothing has changed it is undone, and another begins
-  pub undone_ready
-      : (same : IsHonest g worked → records g worked ≡ records g begun) (back again : Held S) {v w : Unit {0}}
-      → OnlyUndoes g lists_of worked back (Ok v) → OnlyBegins g lists_of back again (Ok w) → HasCleanDisk (state g again) → HasRowsRight g old again
-  undone_ready same back again undoes begins2 clean =
-      let d = begins2.begun.done clean in
-      let u = undoes.undone.done d.was_honest in
-      let honest = u.was_honest in
-      let b = began honest.0 in
-      let last : records g again ≡ last_records g old = d.now_is ∙ u.now_is ∙ ap lists_of (goes.kept b.mode honest) ∙ b.last_is in record {
-        was = b.was_honest;
-        honest = (clean, d.is_open);
-        derived = derived_as honest (records g again) (last ∙ sym (same honest ∙ b.now_is ∙ (settled b.was_honest).same));
-      }
 
 -- what is ready is committed
 pub derives_all

@@ -1,10 +1,11 @@
 //! The names of classes, set in the table of aliases.
 
-ghost use Rattle.std.specs.Prelude.{◌≡◌, Some};
+ghost use Rattle.std.specs.Prelude.{◌≡◌, IsTrue, Some, option_copied};
 ghost use Rattle.dh_tables.specs.Going.{IsWithin, ChangesRecords};
 ghost use Rattle.dh_derived.specs.Renewed as renewed;
 ghost use Rattle.dh_renewal.specs.Renewing as spec;
 
+use crate::looks::kept_alias;
 use dh_aliases::Names;
 use dh_class_names::ClassNames;
 use dh_paths::{HostName, Slug, Text};
@@ -34,7 +35,18 @@ fn put_alias<S: Alter>(
     Ok(tables.put_alias(&row)?)
 }
 
-fn set_alias<S: Alter>(
+/// Whether both are no slug, or the same.
+fn are_one(kept: Option<&Slug>, due: Option<&Slug>) -> bool
+    ensures { IsTrue result → option_copied kept.entry ≡ option_copied due.entry }
+{
+    match (kept, due) {
+        (Some(kept), Some(due)) => kept.as_str() == due.as_str(),
+        (None, None) => true,
+        _ => false,
+    }
+}
+
+fn change_alias<S: Alter>(
     tables: &mut Tables<S>,
     alloc: Global,
     host: &HostName,
@@ -51,7 +63,28 @@ fn set_alias<S: Alter>(
     }
 }
 
-/// Sets what the names of a class stand for.
+/// Sets what a name of a class stands for. What is stored so already is not written.
+fn set_alias<S: Alter>(
+    tables: &mut Tables<S>,
+    alloc: Global,
+    host: &HostName,
+    class: &str,
+    name: AliasName,
+    slug: Option<Slug>,
+) -> Result<(), Refusal>
+    requires within { IsWithin S.Store tables.old }
+    ensures makes { ChangesRecords S.Store tables.old tables.new result
+        (renewed.set_alias host.now class.now name slug) }
+{
+    tables.show_alias_order();
+    let kept = kept_alias(tables, alloc, host, class, name)?;
+    if are_one(kept.as_ref(), slug.as_ref()) {
+        return Ok(());
+    }
+    change_alias(tables, alloc, host, class, name, slug)
+}
+
+/// Sets what the names of a class stand for. What is stored so already is not written.
 pub fn set_names<S: Alter>(
     tables: &mut Tables<S>,
     alloc: Global,
