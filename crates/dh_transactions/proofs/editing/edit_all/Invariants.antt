@@ -3,7 +3,7 @@ use Rattle.std.specs.Vec.Iter.{into_iter_items}
 use Rattle.dh_rows.specs.Calls.{IsHonest, MakesNoCommitInside}
 use Rattle.dh_tables.specs.Going.{NowShowsRecords, records}
 use Rattle.dh_transactions.proofs.EditingLemmas.{IsMidway}
-use Rattle.dh_transactions.proofs.editing.edit_project.Given as goal
+use Rattle.dh_transactions.proofs.editing.edit_all.Given as goal
 
 abbrev pub invariant-loop-edit : goal.invariant-loop-edit
 invariant-loop-edit g l = record {
@@ -12,5 +12,5 @@ invariant-loop-edit g l = record {
   goes : MakesNoCommitInside g.S.Store l.initial.tables l.tables;
   sees : NowShowsRecords g.S.Store l.initial.tables l.tables (records g.S.Store l.tables);
   midway : IsHonest g.S.Store l.tables
-      → IsMidway l.host l.fn.edits.items (into_iter_items l.edit-iterator) (records g.S.Store l.initial.tables) (records g.S.Store l.tables);
+      → IsMidway l.due l.host l.fn.edits.items (into_iter_items l.edit-iterator) (records g.S.Store l.initial.tables) (records g.S.Store l.tables);
 }
