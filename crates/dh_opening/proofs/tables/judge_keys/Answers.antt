@@ -1,4 +1,4 @@
-use Rattle.std.proofs.Common.{◌∙◌, ◌≡◌, Ok, ap, refl, rules, subst, sym}
+use Rattle.std.proofs.Common.{◌∙◌, ◌≡◌, Ok, subst, sym}
 use Rattle.sqlite.specs.Held.{state}
 use Rattle.dh_constraints.specs.Keys.{IsFitKey}
 use Rattle.dh_constraints.specs.declared.projects.Projects.{Projects}
@@ -21,7 +21,7 @@ gather-requires-clause-whole g c honest =
     subst (IsWhole (state g.S.Store c.have_rowids.new.conn)) (sym c.rows.ensures.text) (whole_rows used_reads (state g.S.Store c.have_rowids.new.conn) (laid_on c.in_ok-rise.rise c.in_ok-rise.ensures.opens c.requires.laid honest))
 
 pub gather-requires-clause-start : goal.gather-requires-clause-start
-gather-requires-clause-start g c = c.beside.ensures.1
+gather-requires-clause-start g c = c.beside-judged.ensures.1
 
 pub returns-then-not-rise-clause-opens : goal.returns-then-not-rise-clause-opens
 returns-then-not-rise-clause-opens g c =
@@ -29,7 +29,7 @@ returns-then-not-rise-clause-opens g c =
     then_not_ours c.in_ok-gather.field-0 (opens_on c.in_ok-rise.rise (Ok c.in_ok-gather.field-0) c.in_ok-rise.ensures.opens c.in_ok-gather.ensures.opens)
     (λ honest it.
     no_rowids used_reads s (c.requires.laid honest) IsUsed (IsFitKey c.args.projects.rows.items) used_suits it.0.0 it.1.0 (subst (λ t. AnswersQuery s.now t it.0.0) c.ids.ensures it.0.1) (subst (λ t. AnswersQuery s.now t it.1.0) c.rows.ensures.text it.1.1)
-    (not_so c.in_ok-rise.rise it.0.2.1 (search rules)))
+    (not_so c.in_ok-rise.rise it.0.2.1 c.if-not-rise.true))
 
 pub returns-in-Some-clause-opens : goal.returns-in-Some-clause-opens
 returns-in-Some-clause-opens g c =
@@ -37,20 +37,20 @@ returns-in-Some-clause-opens g c =
     then_ok c.in_ok-gather.field-0 (opens_on c.in_ok-rise.rise (Ok c.in_ok-gather.field-0) c.in_ok-rise.ensures.opens c.in_ok-gather.ensures.opens) c.in-Some.projects
     (λ honest it.
     let has = it.1.2.kept c.in-Some.ensures.some.0 in
-    let same : c.gather.new.taker.projects ≡ c.args.projects = it.1.2.same ∙ c.beside.ensures.0 in (
+    let same : c.gather.new.taker.projects ≡ c.args.projects = it.1.2.same ∙ c.beside-judged.ensures.0 in (
       has.all,
       fit_found used_reads s (c.requires.laid honest) IsUsed (IsFitKey c.args.projects.rows.items) used_suits it.0.0 it.1.0 (subst (λ t. AnswersQuery s.now t it.0.0) c.ids.ensures it.0.1) (subst (λ t. AnswersQuery s.now t it.1.0) c.rows.ensures.text it.1.1)
-          (it.0.2.0 (search rules)) has.all (subst (λ (p : Projects). AreFitKeys p.rows.items it.1.0 has.all) same has.fit),
+          (it.0.2.0 c.if-not-rise.false) has.all (subst (λ (p : Projects). AreFitKeys p.rows.items it.1.0 has.all) same has.fit),
     ))
 
 pub returns-in-Some-clause-same : goal.returns-in-Some-clause-same
-returns-in-Some-clause-same g c = c.in-Some.ensures.some.1 ∙ c.in_ok-gather.ensures.took.1.same ∙ c.beside.ensures.0
+returns-in-Some-clause-same g c = c.in-Some.ensures.some.1 ∙ c.in_ok-gather.ensures.took.1.same ∙ c.beside-judged.ensures.0
 
-pub returns-clause-opens : goal.returns-clause-opens
-returns-clause-opens g c =
+pub returns-in-None-clause-opens : goal.returns-in-None-clause-opens
+returns-in-None-clause-opens g c =
     let s = state g.S.Store c.args.conn.now in
     then_not_ours c.in_ok-gather.field-0 (opens_on c.in_ok-rise.rise (Ok c.in_ok-gather.field-0) c.in_ok-rise.ensures.opens c.in_ok-gather.ensures.opens)
     (λ honest it.
-    let same : c.gather.new.taker.projects ≡ c.args.projects = it.1.2.same ∙ c.beside.ensures.0 in
+    let same : c.gather.new.taker.projects ≡ c.args.projects = it.1.2.same ∙ c.beside-judged.ensures.0 in
     none_fit used_reads s (c.requires.laid honest) IsUsed (IsFitKey c.args.projects.rows.items) used_suits it.0.0 it.1.0 (subst (λ t. AnswersQuery s.now t it.0.0) c.ids.ensures it.0.1) (subst (λ t. AnswersQuery s.now t it.1.0) c.rows.ensures.text it.1.1)
     (λ xs fit. it.1.2.none (c.into_projects.ensures.none c.in-None.is) xs (subst (λ (p : Projects). AreFitKeys p.rows.items it.1.0 xs) (sym same) fit)))

@@ -1,4 +1,4 @@
-use Rattle.std.proofs.Common.{◌∙◌, Global, Ok, Vec, ap, refl, rules, subst, sym}
+use Rattle.std.proofs.Common.{◌∙◌, Global, Ok, Vec, ap, subst, sym}
 use Rattle.sqlite.specs.Held.{state}
 use Rattle.dh_records.specs.Codings.{pages}
 use Rattle.dh_records.specs.Constraints.{InOrder}
@@ -26,7 +26,7 @@ returns-then-not-rise-clause-opens g c =
     then_not_ours c.in_ok-gather.field-0 (opens_on c.in_ok-rise.rise (Ok c.in_ok-gather.field-0) c.in_ok-rise.ensures.opens c.in_ok-gather.ensures.opens)
     (λ honest it.
     no_rowids page_reads s (c.requires.laid honest) IsPage IsFit page_suits it.0.0 it.1.0 (subst (λ t. AnswersQuery s.now t it.0.0) c.ids.ensures it.0.1) (subst (λ t. AnswersQuery s.now t it.1.0) c.rows.ensures.text it.1.1)
-    (not_so c.in_ok-rise.rise it.0.2.1 (search rules)))
+    (not_so c.in_ok-rise.rise it.0.2.1 c.if-not-rise.true))
 
 pub returns-in-Some-clause-opens : goal.returns-in-Some-clause-opens
 returns-in-Some-clause-opens g c =
@@ -36,7 +36,7 @@ returns-in-Some-clause-opens g c =
     let has = it.1.2.kept c.in-Some.ensures.some.0 in (
       has.all,
       fit_found page_reads s (c.requires.laid honest) IsPage IsFit page_suits it.0.0 it.1.0 (subst (λ t. AnswersQuery s.now t it.0.0) c.ids.ensures it.0.1) (subst (λ t. AnswersQuery s.now t it.1.0) c.rows.ensures.text it.1.1)
-          (it.0.2.0 (search rules)) has.all has.fit,
+          (it.0.2.0 c.if-not-rise.false) has.all has.fit,
       ap (λ (v : Vec PageRow Global). v.items) c.in-Some.ensures.some.1 ∙ has.found,
     ))
 
