@@ -1,5 +1,5 @@
 -- Rows that are those that are due are right.
-use Rattle.std.proofs.Common.{◌≡◌, ◌⊎◌, inl, inr, ℕ, suc, ◌+◌, ◌<◌, ◌≤◌, eqb, ne_eqb, get_or, drop, take, Bool, true, false, ◌&&◌, ◌||◌, cond, List, [], ◌∷◌, ◌++◌, length, map, filter, find, is_some, Option, Some, None, refl, sym, ap, ap₂, ◌∙◌, subst, true≢false, arith, add-one}
+use Rattle.std.proofs.Common.{◌≡◌, ◌⊎◌, inl, inr, ℕ, zero, suc, ◌+◌, ◌<◌, ◌≤◌, eqb, ne_eqb, get_or, drop, take, Bool, true, false, ◌&&◌, ◌||◌, cond, List, [], ◌∷◌, ◌++◌, length, map, filter, find, is_some, Option, Some, None, refl, sym, ap, ap₂, ◌∙◌, subst, true≢false, arith, add-one}
 use Rattle.std.specs.FinMap.{get, contains_key}
 use Rattle.std.specs.List.{AllByRecursion, list_any}
 use Rattle.std.specs.Option.{option_map, option_map_or}
@@ -28,6 +28,7 @@ use Rattle.dh_derived.specs.Rightness.{AreRight, AreRightAt, class_in, due_at, d
 use Rattle.dh_derived.specs.Renewed.{classes_at, routes_for}
 use Rattle.dh_derived.proofs.RenewedLemmas.{listed}
 use Rattle.dh_renewal.proofs.StandingLemmas.{all_found}
+use Rattle.dh_renewal.specs.Renewing.{HasBranch, OfBranch}
 use Rattle.dh_renewal.specs.Standing.{AgreeIn, AreAliasesDue, AreFormed, IsFormed, RoutesStand, aliases_due, names_at, with_class, with_classes, with_name}
 
 -- ---- what is found in the rows of some names
@@ -131,6 +132,15 @@ class_listed : (host : Text) (p : Project) (l : Lists) → get (world_of l) host
 class_listed host p l found [] = refl
 class_listed host p l found (b ∷ bs) = listed host (b ∷ bs) l.passes ∙ sym (has_pass_in l host p found (b ∷ bs))
 
+-- the names that were looked up of the project that a host has
+pub named_at : (host branch : Text) (l : Lists) → HasBranch host branch l → (all : List ClassNames) → OfBranch host branch (λ p. all ≡ map (class_names p) (classes_at host l)) l → all ≡ names_at l host
+named_at host branch l has all is =
+    is has.project has.found has.branch_is
+    ∙ sym (ap (λ o. option_map_or (λ p. map (class_names p) (classes_at host l)) o []) has.found)
+
+pub none_named_at : (host : Text) (l : Lists) → get (world_of l) host ≡ None → [] ≡ names_at l host
+none_named_at host l none = sym (ap (λ o. option_map_or (λ p. map (class_names p) (classes_at host l)) o []) none)
+
 -- ---- the rows of all projects
 
 kept_due : (l : Lists) (h c : Text) (n : AliasName) (ps : List ProjectRow) → AreFormed l ps
@@ -230,6 +240,16 @@ module _ (l : Lists) (host : Text) where
 pub stand_right : (l : Lists) → AreAliasesDue l l.projects l.aliases → AllByRecursion (λ r. RoutesStand l r.host) l.projects → AllByRecursion (λ r. list_any (is_project r.host) l.projects ≡ true) l.routes → AreRight l
 stand_right l aliases stand known = λ host. record { aliases = aliases_right l host aliases; routes = routes_right l host stand known }
 
+-- one that is there, at a place
+pub any_at : {X : Type 0} (p : X → Bool) (xs : List X) (i : ℕ) (x : X) → i < length xs → x ≡ get_or xs i x → p x ≡ true → list_any p xs ≡ true
+any_at p [] i x within is yes = absurd (omega arith)
+any_at p (y ∷ ys) zero x within is yes = ap (λ b. b || list_any p ys) (ap p (sym is) ∙ yes)
+any_at p (y ∷ ys) (suc i) x within is yes = more (p y) (any_at p ys i x (omega arith) is yes)
+  where
+    more : (b : Bool) → list_any p ys ≡ true → (b || list_any p ys) ≡ true
+    more true e = refl
+    more false e = e
+
 -- ---- routes that agree
 
 -- a segment of which there are routes, or none
@@ -284,12 +304,11 @@ pub due_last
 due_last l ps i [] past b is yes = subst (λ xs. AreAliasesDue l xs []) (sym (drop_all i ps past)) (tt, refl)
 due_last l ps i (r ∷ rest) past b is yes = absurd (true≢false (sym yes ∙ is ∙ ne_eqb _ _ (omega arith)))
 
-pub one_more_stands
-    : (l : Lists) (ps : List ProjectRow) (i : ℕ) (r : ProjectRow) → i < length ps → r ≡ get_or ps i r
-    → AllByRecursion (λ q. RoutesStand l q.host) (take i ps) → RoutesStand l r.host → AllByRecursion (λ q. RoutesStand l q.host) (take (i + 1) ps)
-one_more_stands l ps i r within is so_far it =
-    subst (AllByRecursion (λ q. RoutesStand l q.host)) (sym (take_more ps i r within ∙ ap (λ z. take i ps ++ z ∷ []) (sym is)))
-    (all-append (λ q. RoutesStand l q.host) (take i ps) (r ∷ []) so_far (it, tt))
+-- what holds so far, and of one more
+pub one_more_taken : {X : Type 0} (P : X → Type 0) (xs : List X) (i : ℕ) (x : X) → i < length xs → x ≡ get_or xs i x → AllByRecursion P (take i xs) → P x → AllByRecursion P (take (i + 1) xs)
+one_more_taken P xs i x within is so_far it =
+    subst (AllByRecursion P) (sym (take_more xs i x within ∙ ap (λ z. take i xs ++ z ∷ []) (sym is)))
+    (all-append P (take i xs) (x ∷ []) so_far (it, tt))
 
 pub all_taken : {X : Type 0} (P : X → Type 0) (xs : List X) (i : ℕ) → length xs ≤ i → AllByRecursion P (take i xs) → AllByRecursion P xs
 all_taken P xs i past all = subst (AllByRecursion P) (take_all i xs past) all

@@ -1,6 +1,6 @@
 //! Whether the stored rows of all hosts are right, by looks alone.
 
-ghost use Rattle.std.specs.Prelude.{◌≡◌, ◌↔◌, IsTrue, filter};
+ghost use Rattle.std.specs.Prelude.{◌≡◌, IsTrue, filter};
 ghost use Rattle.std.specs.List.{AllByRecursion, list_any};
 ghost use Rattle.dh_schema.specs.Calling.{AnswersBy};
 ghost use Rattle.dh_tables.specs.Going.{LooksAtRecords};
@@ -161,21 +161,34 @@ fn routes_stand<S: Alter>(
     Ok(true)
 }
 
-/// Whether the route stands under the host of one of the projects.
-fn is_known(projects: &[ProjectRow], route: &RouteRow) -> bool
-    ensures { result ≡ list_any (is_project route.now.host) projects.now }
+fn is_under(project: &ProjectRow, route: &RouteRow) -> bool
+    ensures { result ≡ is_project route.now.host project.now }
 {
-    projects
-        .iter()
-        .any(|p| p.host.as_str() == route.host.as_str())
+    project.host.as_str() == route.host.as_str()
+}
+
+/// Whether the route stands under the host of one of the projects, which are looked through by halves.
+fn is_known(projects: &[ProjectRow], route: &RouteRow) -> bool
+    ensures { IsTrue result → IsTrue (list_any (is_project route.now.host) projects.now) }
+{
+    let at = projects.partition_point(|p| p.host.as_str() < route.host.as_str());
+    match projects.get(at) {
+        Some(project) => is_under(project, route),
+        None => false,
+    }
 }
 
 /// Whether each route stands under the host of one of the projects.
 fn are_known(projects: &[ProjectRow], routes: &[RouteRow]) -> bool
     ensures { IsTrue result
-        ↔ AllByRecursion (λ r. IsTrue (list_any (is_project r.host) projects.now)) routes.now }
+        → AllByRecursion (λ r. IsTrue (list_any (is_project r.host) projects.now)) routes.now }
 {
-    routes.iter().all(|r| is_known(projects, r))
+    for route in routes {
+        if !is_known(projects, route) {
+            return false;
+        }
+    }
+    true
 }
 
 /// Whether no route stands under the host of none of the projects.
@@ -202,10 +215,13 @@ fn stand_beside<S: Alter>(
     ensures value { AnswersBy S.Store tables.old tables.new result
         (λ l yes. AreSound l → projects.now ≡ l.projects → IsTrue yes → AreRight l) }
 {
-    let known = has_no_strays(tables, alloc, projects)?;
-    let aliases = aliases_stand(tables, alloc, projects)?;
-    let routes = routes_stand(tables, alloc, projects)?;
-    Ok(known && aliases && routes)
+    if !has_no_strays(tables, alloc, projects)? {
+        return Ok(false);
+    }
+    if !aliases_stand(tables, alloc, projects)? {
+        return Ok(false);
+    }
+    routes_stand(tables, alloc, projects)
 }
 
 /// Whether the stored rows of all hosts are right. Where it says no they may be right, too.

@@ -4,7 +4,7 @@ use Rattle.dh_schema.specs.InTurn.{goes_on}
 use Rattle.dh_records.specs.Lists.{Lists}
 use Rattle.dh_tables.specs.Going.{records}
 use Rattle.dh_renewal.specs.Standing.{RoutesStand}
-use Rattle.dh_renewal.proofs.StandsLemmas.{all_taken, one_more_stands}
+use Rattle.dh_renewal.proofs.StandsLemmas.{all_taken, one_more_taken}
 use Rattle.dh_renewal.proofs.Together.{looks_on}
 use Rattle.dh_renewal.proofs.checking.routes_stand.Goals as goal
 
@@ -17,7 +17,7 @@ loop-project-preserved g c =
       sees = looks_on g.S.Store c.args.tables.now c.loop-project.tables c.routes_stand_at.new.tables it.sees c.routes_stand_at.ensures.asks.goes asks.looks;
       stand = λ honest.
           let before = c.routes_stand_at.ensures.asks.goes.lasts.was honest in
-          one_more_stands (records g.S.Store c.args.tables.now) c.args.projects.now c.loop-project.project-index c.project-item.result c.loop-project-test.true c.project-item.is
+          one_more_taken (λ r. RoutesStand (records g.S.Store c.args.tables.now) r.host) c.args.projects.now c.loop-project.project-index c.project-item.result c.loop-project-test.true c.project-item.is
           (it.stand before)
           (subst (λ (k : Lists). RoutesStand k c.project-item.result.host) (it.sees.now_is before) (c.in_ok-routes_stand_at.ensures.value honest stands));
     }
