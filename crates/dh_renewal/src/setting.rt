@@ -46,6 +46,13 @@ fn are_one(kept: Option<&Slug>, due: Option<&Slug>) -> bool
     }
 }
 
+/// Whether what is stored of a name is what it is to stand for.
+fn is_kept(kept: &Option<Slug>, due: &Option<Slug>) -> bool
+    ensures { IsTrue result → kept.now ≡ due.now }
+{
+    are_one(kept.as_ref(), due.as_ref())
+}
+
 fn change_alias<S: Alter>(
     tables: &mut Tables<S>,
     alloc: Global,
@@ -78,7 +85,7 @@ fn set_alias<S: Alter>(
 {
     tables.show_alias_order();
     let kept = kept_alias(tables, alloc, host, class, name)?;
-    if are_one(kept.as_ref(), slug.as_ref()) {
+    if is_kept(&kept, &slug) {
         return Ok(());
     }
     change_alias(tables, alloc, host, class, name, slug)
