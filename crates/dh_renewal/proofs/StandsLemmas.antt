@@ -29,13 +29,9 @@ use Rattle.dh_derived.specs.Renewed.{classes_at, routes_for}
 use Rattle.dh_derived.proofs.RenewedLemmas.{listed}
 use Rattle.dh_renewal.proofs.StandingLemmas.{all_found}
 use Rattle.dh_renewal.specs.Renewing.{HasBranch, OfBranch}
-use Rattle.dh_renewal.specs.Standing.{AgreeIn, AreAliasesDue, AreFormed, IsFormed, RoutesStand, aliases_due, names_at, with_class, with_classes, with_name}
+use Rattle.dh_renewal.specs.Standing.{AgreeIn, AreAliasesDue, AreFormed, IsFormed, RoutesStand, aliases_due, kept_in, names_at, with_class, with_classes, with_name}
 
 -- ---- what is found in the rows of some names
-
--- what is stored of a name in rows
-abbrev pub kept_in : List AliasRow → Text → Text → AliasName → Option Text
-kept_in rows h c n = option_map (λ r. r.slug) (find (is_alias_at h c n) rows)
 
 abbrev or_else : Option Text → Option Text → Option Text
 or_else None k = k

@@ -1,18 +1,21 @@
 -- The stored rows as they are due, all in their order.
-use Rattle.std.specs.Prelude.{◌≡◌, ℕ, List, [], ◌∷◌, map, filter, Option, Some, None}
+use Rattle.std.specs.Prelude.{◌≡◌, ℕ, true, false, List, [], ◌∷◌, map, filter, find, is_some, Option, Some, None, option_map}
 use Rattle.std.specs.FinMap.{get}
 use Rattle.std.specs.List.{AllByRecursion}
+use Rattle.std.specs.List.Sorted.{IsSortedByKey}
 use Rattle.std.specs.Option.{option_map_or}
-use Rattle.dh_world.specs.World.{Text}
+use Rattle.std.specs.Str.{bytes_eq}
+use Rattle.sqlite_trees.specs.Tree.{IsAscending}
+use Rattle.dh_world.specs.World.{Text, text_cmp}
 use Rattle.dh_class_names.specs.ClassNames.{class_names}
 use Rattle.dh_class_names.specs.declared.class_names.ClassNames.{ClassNames}
-use Rattle.dh_records.specs.Lists.{Lists, world_of, class_text, is_route_in, placed, route_row}
+use Rattle.dh_records.specs.Lists.{Lists, world_of, class_text, is_alias_at, is_route_in, placed, route_row}
 use Rattle.dh_records.specs.declared.records.AliasRow.{AliasRow}
 use Rattle.dh_records.specs.declared.records.AliasName.{AliasName}
 use Rattle.dh_records.specs.declared.records.AliasName.TheVariants.{Latest, Stable, Default}
 use Rattle.dh_records.specs.declared.records.ProjectRow.{ProjectRow}
 use Rattle.dh_records.specs.declared.records.RouteRow.{RouteRow}
-use Rattle.dh_derived.specs.Rightness.{class_in}
+use Rattle.dh_derived.specs.Rightness.{class_in, kept_at}
 use Rattle.dh_derived.specs.Renewed.{classes_at, routes_for}
 
 -- ---- aliases
@@ -32,6 +35,10 @@ with_class host x rows =
 abbrev pub with_classes : Text → List ClassNames → List AliasRow → List AliasRow
 with_classes host [] rows = rows
 with_classes host (x ∷ xs) rows = with_class host x (with_classes host xs rows)
+
+-- what some rows say of a name of a class of a host
+abbrev pub kept_in : List AliasRow → Text → Text → AliasName → Option Text
+kept_in rows host class name = option_map (λ r. r.slug) (find (is_alias_at host class name) rows)
 
 -- the class is the one of its text
 abbrev pub IsFormed : ClassNames → Type 0
@@ -53,6 +60,27 @@ AreFormed l = AllByRecursion (λ r. AllByRecursion IsFormed (names_at l r.host))
 -- these are the rows of all names of these projects
 abbrev pub AreAliasesDue : Lists → List ProjectRow → List AliasRow → Type 0
 AreAliasesDue l projects rows = AreFormed l projects × (rows ≡ aliases_due l projects)
+
+-- ---- the aliases of one host, compared before they are written
+
+-- the rows say of each name of a class what is stored of it
+abbrev pub SayNames : Text → Text → List AliasRow → Lists → Type 0
+SayNames host class rows l = (name : AliasName) → kept_at l host class name ≡ kept_in rows host class name
+
+-- The rows stand in the order of their classes, and say of the class of a pass what is stored of it.
+pub record IsSaid (host : Text) (rows : List AliasRow) (x : ClassNames) (l : Lists) : Type 0 where
+  pub order : IsSortedByKey (λ r. r.class) text_cmp rows
+  pub kept : is_some x.class ≡ true → SayNames host (class_text x.class) rows l
+
+-- no class of a pass has the text of one behind it
+abbrev pub AreApart : List ClassNames → Type 0
+AreApart = IsAscending (λ x y. is_some x.class ≡ true → bytes_eq (class_text y.class) (class_text x.class) ≡ false)
+
+-- The rows stand in the order of their classes, and say of the classes of passes what is stored of them; no pass stands twice.
+pub record AreSaid (host : Text) (rows : List AliasRow) (xs : List ClassNames) (l : Lists) : Type 0 where
+  pub order : IsSortedByKey (λ r. r.class) text_cmp rows
+  pub kept : AllByRecursion (λ x. is_some x.class ≡ true → SayNames host (class_text x.class) rows l) xs
+  pub apart : AreApart xs
 
 -- ---- routes
 

@@ -2,9 +2,12 @@
 
 ghost use Rattle.std.specs.Prelude.{◌≡◌, ◌∷◌, [], IfOk, IfSome, IsTrue, List, None, ℕ, filter, length, ◌<◌};
 ghost use Rattle.std.specs.List.{AllByRecursion};
+ghost use Rattle.std.specs.List.Sorted.{IsSortedByKey};
 ghost use Rattle.std.specs.Option.{option_copied};
-ghost use Rattle.dh_records.specs.Lists.{is_route_in, placed, route_row};
-ghost use Rattle.dh_renewal.specs.Standing.{AgreeIn, IsFormed, with_class, with_classes, with_name};
+ghost use Rattle.std.specs.Str.{bytes_eq};
+ghost use Rattle.dh_world.specs.World.{text_cmp};
+ghost use Rattle.dh_records.specs.Lists.{is_alias_at, is_route_in, placed, route_row, same_alias};
+ghost use Rattle.dh_renewal.specs.Standing.{AgreeIn, IsFormed, kept_in, with_class, with_classes, with_name};
 
 use dh_class_names::ClassNames;
 use dh_paths::{HostName, Slug, Text};
@@ -114,6 +117,67 @@ pub fn after_classes<'a>(
             after_classes(rest, host, others)
         }
         None => Some(rows),
+    }
+}
+
+// ---- the aliases of one host
+
+/// The rows of a class, which stand side by side in the order of classes.
+pub fn rows_of_class<'a>(rows: &'a [AliasRow], class: &str) -> &'a [AliasRow]
+    ensures { IsSortedByKey (λ r. r.class) text_cmp rows.now
+        → result.now ≡ filter (λ r. bytes_eq r.class class.now) rows.now }
+{
+    let start = rows.partition_point(|r| r.class.as_str() < class);
+    let rest = &rows[start..];
+    let count = rest.partition_point(|r| r.class.as_str() == class);
+    &rest[..count]
+}
+
+fn is_same_name(one: AliasName, two: AliasName) -> bool
+    ensures { result ≡ same_alias one two }
+{
+    match one {
+        AliasName::Latest => match two {
+            AliasName::Latest => true,
+            AliasName::Stable | AliasName::Default => false,
+        },
+        AliasName::Stable => match two {
+            AliasName::Stable => true,
+            AliasName::Latest | AliasName::Default => false,
+        },
+        AliasName::Default => match two {
+            AliasName::Default => true,
+            AliasName::Latest | AliasName::Stable => false,
+        },
+    }
+}
+
+fn is_at(row: &AliasRow, host: &HostName, class: &str, name: AliasName) -> bool
+    ensures { result ≡ is_alias_at host.now class.now name row.now }
+{
+    row.host.as_str() == host.as_str()
+        && row.class.as_str() == class
+        && is_same_name(row.name, name)
+}
+
+/// What rows say of a name of a class.
+pub fn slug_in<'a>(
+    rows: &'a [AliasRow],
+    host: &HostName,
+    class: &str,
+    name: AliasName,
+) -> Option<&'a Slug>
+    ensures { option_copied result ≡ kept_in rows.now host.now class.now name }
+{
+    match rows.split_first() {
+        Some((first, others)) => {
+            if is_at(first, host, class, name) {
+                Some(&first.slug)
+            } else {
+                slug_in(others, host, class, name)
+            }
+        }
+        None => None,
     }
 }
 
