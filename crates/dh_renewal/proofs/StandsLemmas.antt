@@ -95,7 +95,7 @@ or_same None = refl
 or_same (Some x) = refl
 
 module _ (host : Text) (p : Project) (c : Text) (n : AliasName) where
-  value : Option Text
+  abbrev value : Option Text
   value = named n (names_of p (class_in c))
 
   kept_here : (cs : List (Option Text)) (rows : List AliasRow) → AllByRecursion IsFormed (map (class_names p) cs)
@@ -200,11 +200,11 @@ module _ (l : Lists) (host : Text) where
   -- no route of a host that has no project
   none_in : (seg : Text) (rows : List RouteRow) → list_any (is_project host) l.projects ≡ false → AllByRecursion (λ r. list_any (is_project r.host) l.projects ≡ true) rows → filter (is_route_in host seg) rows ≡ []
   none_in seg [] none all = refl
-  none_in seg (r ∷ rows) none all = go (bytes_eq r.host host) refl (bytes_eq r.route.seg seg)
+  none_in seg (r ∷ rows) none all = go (bytes_eq r.host host) refl (bytes_eq r.route.seg seg) (none_in seg rows none all.1)
     where
-      go : (b : Bool) → bytes_eq r.host host ≡ b → (d : Bool) → cond (b && d) (r ∷ filter (is_route_in host seg) rows) (filter (is_route_in host seg) rows) ≡ []
-      go true e d = absurd (true≢false (sym (subst (λ (h : Text). list_any (is_project h) l.projects ≡ true) ((bytes_eq-Decides r.host host).0 e) all.0) ∙ none))
-      go false e d = none_in seg rows none all.1
+      go : (b : Bool) → bytes_eq r.host host ≡ b → (d : Bool) → filter (is_route_in host seg) rows ≡ [] → cond (b && d) (r ∷ filter (is_route_in host seg) rows) (filter (is_route_in host seg) rows) ≡ []
+      go true e d more = absurd (true≢false (sym (subst (λ (h : Text). list_any (is_project h) l.projects ≡ true) ((bytes_eq-Decides r.host host).0 e) all.0) ∙ none))
+      go false e d more = more
 
   routes_right : AllByRecursion (λ r. RoutesStand l r.host) l.projects → AllByRecursion (λ r. list_any (is_project r.host) l.projects ≡ true) l.routes
       → (seg : Text) → filter (is_route_in host seg) l.routes ≡ filter (is_route_in host seg) (routes_due host (get (world_of l) host))
@@ -215,11 +215,11 @@ module _ (l : Lists) (host : Text) where
         where
           passes : (rows : List ProjectRow) → find (is_project host) rows ≡ Some r → bytes_eq r.host host ≡ true
           passes [] e = absurd (cc)
-          passes (q ∷ rows) e = step (is_project host q) refl e
+          passes (q ∷ rows) e = step (is_project host q) refl e (λ f. passes rows f)
             where
-              step : (b : Bool) → is_project host q ≡ b → cond b (Some q) (find (is_project host) rows) ≡ Some r → bytes_eq r.host host ≡ true
-              step true t f = let same : q ≡ r = cc in ap (is_project host) (sym same) ∙ t
-              step false t f = passes rows f
+              step : (b : Bool) → is_project host q ≡ b → cond b (Some q) (find (is_project host) rows) ≡ Some r → (find (is_project host) rows ≡ Some r → bytes_eq r.host host ≡ true) → bytes_eq r.host host ≡ true
+              step true t f more = let same : q ≡ r = cc in ap (is_project host) (sym same) ∙ t
+              step false t f more = more f
 
       go : (o : Option ProjectRow) → find (is_project host) l.projects ≡ o → filter (is_route_in host seg) l.routes ≡ filter (is_route_in host seg) (routes_due host (get (world_of l) host))
       go None none =
@@ -238,9 +238,9 @@ stand_right l aliases stand known = λ host. record { aliases = aliases_right l 
 
 -- one that is there, at a place
 pub any_at : {X : Type 0} (p : X → Bool) (xs : List X) (i : ℕ) (x : X) → i < length xs → x ≡ get_or xs i x → p x ≡ true → list_any p xs ≡ true
-any_at p [] i x within is yes = absurd (omega arith)
-any_at p (y ∷ ys) zero x within is yes = ap (λ b. b || list_any p ys) (ap p (sym is) ∙ yes)
-any_at p (y ∷ ys) (suc i) x within is yes = more (p y) (any_at p ys i x (omega arith) is yes)
+any_at p [] i x within is here = absurd (omega arith)
+any_at p (y ∷ ys) zero x within is here = ap (λ b. b || list_any p ys) (ap p (sym is) ∙ here)
+any_at p (y ∷ ys) (suc i) x within is here = more (p y) (any_at p ys i x (omega arith) is here)
   where
     more : (b : Bool) → list_any p ys ≡ true → (b || list_any p ys) ≡ true
     more true e = refl
@@ -297,8 +297,8 @@ due_before l ps i r rest others all within is named formed front it =
 
 pub due_last
     : (l : Lists) (ps : List ProjectRow) (i : ℕ) (rest : List AliasRow) → length ps ≤ i → (b : Bool) → b ≡ eqb (length rest) 0 → b ≡ true → AreAliasesDue l (drop i ps) rest
-due_last l ps i [] past b is yes = subst (λ xs. AreAliasesDue l xs []) (sym (drop_all i ps past)) (tt, refl)
-due_last l ps i (r ∷ rest) past b is yes = absurd (true≢false (sym yes ∙ is ∙ ne_eqb _ _ (omega arith)))
+due_last l ps i [] past b is here = subst (λ xs. AreAliasesDue l xs []) (sym (drop_all i ps past)) (tt, refl)
+due_last l ps i (r ∷ rest) past b is here = absurd (true≢false (sym here ∙ is ∙ ne_eqb _ _ (omega arith)))
 
 -- what holds so far, and of one more
 pub one_more_taken : {X : Type 0} (P : X → Type 0) (xs : List X) (i : ℕ) (x : X) → i < length xs → x ≡ get_or xs i x → AllByRecursion P (take i xs) → P x → AllByRecursion P (take (i + 1) xs)
