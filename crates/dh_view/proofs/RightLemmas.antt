@@ -18,7 +18,7 @@ HaveNumbers rows = map (λ r. r.place) rows ≡ range_with_len 1 (length rows)
 
 -- in sound records the redirects have their places, and a project its first language
 pub right_from : (l : Lists) (host : Text) → AreSound l → AreRightAt l host → IsRightIn l host
-right_from l host sound rows = record { rows = rows; places = go (find (is_project host) l.projects) refl; first = first_of (find (is_project host) l.projects) refl }
+right_from l host sound rows = record { rows = rows; places = go (find (is_project host) l.projects) refl; first = first_of (find (is_project host) l.projects) refl; pages = sound.order.pages }
   where
     go : (o : Option ProjectRow) → find (is_project host) l.projects ≡ o → HaveNumbers (filter (is_redirect_of host) l.redirects)
     go None new = subst HaveNumbers (sym (filter_none (is_redirect_of host) l.redirects (none_of_new (λ r. r.host) l.redirects l host new sound.constraints.hosts.redirects))) refl
