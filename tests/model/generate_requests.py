@@ -65,7 +65,7 @@ class Asker(generate.Maker):
 
     def lookers(self):
         """Callers of whom it is listed what they see: the pass that each shows, or None, and the moment at which he looks, or None."""
-        return [(self.shown(), self.word("now") if self.with_ends else None) for _ in range(4)]
+        return [(self.shown(), self.word_now("") if self.with_ends else None) for _ in range(4)]
 
     # ---- requests
 
