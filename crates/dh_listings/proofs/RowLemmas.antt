@@ -30,13 +30,13 @@ in_map f (x ∷ xs) q it = go (parts x xs q it) (in_map f xs q)
     go (inr there) more = later (f x) (map f xs) (f q) (more there)
 
 in_filter : {X : Type 0} (test : X → Bool) (xs : List X) (q : X) → test q ≡ true → Contains xs q → Contains (filter test xs) q
-in_filter test [] q yes (k, low, is) = absurd (omega (arith, low))
-in_filter test (x ∷ xs) q yes it = go (test x) refl (parts x xs q it) (in_filter test xs q yes)
+in_filter test [] q passes (k, low, is) = absurd (omega (arith, low))
+in_filter test (x ∷ xs) q passes it = go (test x) refl (parts x xs q it) (in_filter test xs q passes)
   where
     go : (b : Bool) → test x ≡ b → (x ≡ q) ⊎ Contains xs q → (Contains xs q → Contains (filter test xs) q) → Contains (cond b (x ∷ filter test xs) (filter test xs)) q
     go true e (inl same) more = subst (λ y. Contains (x ∷ filter test xs) y) same (first x (filter test xs))
     go true e (inr there) more = later x (filter test xs) q (more there)
-    go false e (inl same) more = absurd (true≢false (sym yes ∙ sym (ap test same) ∙ e))
+    go false e (inl same) more = absurd (true≢false (sym passes ∙ sym (ap test same) ∙ e))
     go false e (inr there) more = more there
 
 in_flat_map : {X Y : Type 0} (f : X → List Y) (xs : List X) (x : X) (y : Y) → Contains xs x → Contains (f x) y → Contains (flat_map f xs) y
