@@ -1,10 +1,10 @@
 -- The pages of a version in a language, and the redirects, as the caller sees them.
-use Rattle.std.proofs.Common.{◌≡◌, inl, inr, Bool, true, false, ◌&&◌, cond, List, [], ◌∷◌, map, filter, Option, Some, None, refl, sym, ap, ◌∙◌, true≢false, Ordering, Equal}
+use Rattle.std.proofs.Common.{◌≡◌, inl, inr, T, IsTrue, Bool, true, false, ◌&&◌, cond, List, [], ◌∷◌, map, filter, Option, Some, None, refl, sym, ap, subst, ◌∙◌, true≢false, Ordering, Equal}
 use Rattle.std.specs.Prelude.{option_map}
 use Rattle.std.specs.Option.{option_map_or}
 use Rattle.std.specs.Str.{bytes_eq}
 use Rattle.std.specs.Cmp.{IsTotalOrder}
-use Rattle.std.specs.FinMap.{FinMap, IsAntisymmetric, entries, entries_sorted, from_sorted, retain_keys, get-entries, get-from_sorted, get-retain_keys, entries-from_sorted, same_map}
+use Rattle.std.specs.FinMap.{FinMap, IsAntisymmetric, is_sorted, entries, entries_sorted, from_sorted, retain_keys, get-entries, get-from_sorted, get-retain_keys, entries-from_sorted, same_map}
 use Rattle.std.specs.FinMap.Entries.{where_key, is_sorted-where_key, find-where_key}
 use Rattle.std.proofs.lemmas.Slice.Eq.{bytes_eq-Decides}
 use Rattle.dh_seen.specs.declared.found.Page.{Page}
@@ -15,16 +15,15 @@ use Rattle.dh_world.specs.World.{Text, PageKey, page_cmp, Project}
 use Rattle.dh_world.specs.Visibility.{is_visible}
 use Rattle.dh_world.specs.Seen.{seen_project, without_default, visible_pages, stored_page}
 use Rattle.dh_world.proofs.MapLemmas.{page_total, page_exact}
-use Rattle.dh_records.specs.Codings as coding
-use Rattle.dh_records.specs.Constraints.{InOrder}
 use Rattle.dh_records.specs.Lists.{Lists, project_of, is_page_in, is_redirect_of}
 use Rattle.dh_records.specs.declared.records.PageRow.{PageRow}
 use Rattle.dh_records.specs.declared.records.ProjectRow.{ProjectRow}
 use Rattle.dh_records.specs.declared.records.RedirectRow.{RedirectRow}
 use Rattle.dh_records.proofs.KeyLemmas.{page_place}
+use Rattle.dh_view.specs.Right.{pages_of}
 use Rattle.dh_view.specs.Stored.{page_of_row}
 use Rattle.dh_view.specs.View.{shown_under, slug_if_seen}
-use Rattle.dh_view.proofs.OrderedRows.{entries_of, rising, pages_rise}
+use Rattle.dh_view.proofs.OrderedRows.{entries_of}
 use Rattle.dh_view.proofs.Shown.{seen_in, unseen_in}
 
 -- ---- lists
@@ -63,6 +62,10 @@ none_within wide narrow h (x ∷ xs) = go (wide x) refl (none_within wide narrow
     go true w more = rw (h x w) more
     go false w more = more
 
+held : (b : Bool) → b ≡ true → T b
+held true e = tt
+held false e = absurd (true≢false (sym e))
+
 first_true : (a b : Bool) → (a && b) ≡ true → a ≡ true
 first_true true b e = refl
 first_true false b e = e
@@ -99,10 +102,9 @@ module _ (lists : Lists) (row : ProjectRow) (c : Caller) (slug lang : Text) wher
   abbrev lying : PageKey × Page → Bool
   lying e = lies (stored_page e)
 
-  entries_are : InOrder coding.pages.key lists.pages → entries told.pages ≡ map page_entry (of_host lists.pages)
+  entries_are : IsTrue (is_sorted page_cmp (pages_of lists row.host)) → entries told.pages ≡ map page_entry (of_host lists.pages)
   unfolding project_of
-  entries_are up =
-      entries_of page_total page_exact _ (rising page_cmp coding.pages.key page_place (λ x. x.page) (λ x. bytes_eq x.host row.host) (pages_rise row.host) lists.pages up)
+  entries_are up = entries_of page_total page_exact (pages_of lists row.host) (held _ up)
 
   shown_pages : (seen_project told c).pages ≡ map stored_page (entries (visible_pages told c))
   unfolding seen_project without_default
@@ -124,7 +126,7 @@ module _ (lists : Lists) (row : ProjectRow) (c : Caller) (slug lang : Text) wher
       go false more = more
 
   -- of a version that the caller sees they are those of the records
-  pages_under : InOrder coding.pages.key lists.pages → is_visible told c slug ≡ true
+  pages_under : IsTrue (is_sorted page_cmp (pages_of lists row.host)) → is_visible told c slug ≡ true
       → map page_of_row (filter (is_page_in row.host slug lang) lists.pages) ≡ filter lies (seen_project told c).pages
   pages_under up sight =
       let there : (e : PageKey × Page) → lying e ≡ true → in_sight e ≡ true = λ e is.
@@ -152,7 +154,7 @@ module _ (lists : Lists) (o : Option Text) (c : Caller) (name lang : Text) where
   abbrev of_project : Option Project → List StoredPage
   of_project q = option_map_or in_lang (option_map (λ p. seen_project p c) q) []
 
-  pub pages_seen : (host own : Text) → o ≡ Some host → Some own ≡ slug_if_seen lists o c name → InOrder coding.pages.key lists.pages
+  pub pages_seen : (host own : Text) → o ≡ Some host → Some own ≡ slug_if_seen lists o c name → IsTrue (is_sorted page_cmp (pages_of lists host))
       → map page_of_row (filter (is_page_in host own lang) lists.pages) ≡ option_map_or in_lang (shown_under lists o c) []
   pages_seen host own is e up =
       let found = seen_in lists o c name own e in
@@ -160,7 +162,7 @@ module _ (lists : Lists) (o : Option Text) (c : Caller) (name lang : Text) where
       let same : host ≡ row.host = some_same (sym is ∙ found.1.2) in
       ap (λ h. map page_of_row (filter (is_page_in h own lang) lists.pages)) same
       ∙ ap (λ s. map page_of_row (filter (is_page_in row.host s lang) lists.pages)) found.0
-      ∙ pages_under lists row c name lang up found.1.3 ∙ ap of_project (sym found.1.1)
+      ∙ pages_under lists row c name lang (subst (λ h. IsTrue (is_sorted page_cmp (pages_of lists h))) same up) found.1.3 ∙ ap of_project (sym found.1.1)
     where
       some_same : {x y : Text} → Some x ≡ Some y → x ≡ y
       some_same e = cc
