@@ -153,6 +153,9 @@ def words(part, store):
         (["list-pages", HOST, "main", "en"], None, 0),
         (["list-pages", HOST, "1.0.0", "en"], "listed 1\nindex.html\ttext/html\t7\n", 0),
         (["list-pages", HOST, "latest", "en"], "listed 0\n", 0),
+        (["list-seen", HOST], None, 0),
+        (["list-seen", HOST, "--pass", "reader-7"], None, 0),
+        (["list-seen", "other.test"], "refused 10 NoProject\n", 1),
     ):
         beside = run(part.program, *asked, "--store", store)
         over = run(part.program, *asked, "--store", alone)

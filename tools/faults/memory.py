@@ -41,6 +41,7 @@ LISTS = [
     ["list-projects"],
     *([f"list-{what}", HOST] for what in ("langs", "versions", "defaults", "rules", "redirects", "passes")),
     ["list-pages", HOST, "main", "en"],
+    ["list-seen", HOST, "--pass", "reader-7"],
 ]
 
 # A run on a host that has no project makes fewer allocations behind its opening.

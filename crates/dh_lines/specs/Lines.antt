@@ -33,7 +33,7 @@ use Rattle.dh_world.specs.declared.command.CommandChange.TheVariants.{AddPass, D
 use Rattle.dh_world.specs.declared.command.CommandChange.TheVariants.{Revoke, AddRedirect}
 use Rattle.dh_world.specs.declared.command.CommandChange.TheVariants.{DropRedirect, AddRule}
 use Rattle.dh_world.specs.declared.command.CommandChange.TheVariants.{DropRule}
-use Rattle.dh_listings.specs.declared.words.ListWord.TheVariants.{Projects, OfProject}
+use Rattle.dh_listings.specs.declared.words.ListWord.TheVariants.{Projects, OfProject, Seen}
 use Rattle.dh_listings.specs.declared.words.ProjectList.{ProjectList}
 use Rattle.dh_listings.specs.declared.words.ProjectList.TheVariants.{Langs, Versions, Defaults, Rules}
 use Rattle.dh_listings.specs.declared.words.ProjectList.TheVariants.{Redirects, Passes, Pages}
@@ -367,6 +367,13 @@ list_pages_in rows =
     with_word (codes "slug") rows (λ slug.
     with_word (codes "lang") rows (λ lang. Some (order.List (OfProject host (Pages slug lang))))))
 
+-- `list-seen HOST [--pass PASS] [--now SECONDS]`
+abbrev pub list_seen_in : List Row → Option Order
+list_seen_in rows =
+    with_word (codes "host") rows (λ host.
+    option_map (λ moment. order.List (Seen host (first_of (codes "pass") rows) moment))
+    (moment_in (codes "now") rows))
+
 -- the list, where the word lists one, and else the command of this name
 abbrev pub list_or_command : Option ProjectList → Text → List Row → Option Order
 list_or_command (Some list) name rows = list_in list rows
@@ -384,6 +391,7 @@ order_in name rows =
     else if bytes_eq name (codes "serve") then serve_in rows
     else if bytes_eq name (codes "list-projects") then Some (order.List Projects)
     else if bytes_eq name (codes "list-pages") then list_pages_in rows
+    else if bytes_eq name (codes "list-seen") then list_seen_in rows
     else list_or_command (list_named name) name rows
 
 -- the line of this order, over the store in this file

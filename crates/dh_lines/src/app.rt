@@ -151,7 +151,7 @@ fn bare_command<'a>(alloc: Global) -> Syntax<'a>
 }
 
 /// The forms of the lines of scripts, of the words that list, and of what the program does with its input.
-const FORMS: [Form<'static>; 32] = [
+const FORMS: [Form<'static>; 33] = [
     Form {
         name: "new-project",
         about: "Makes a project with one language and no version",
@@ -381,6 +381,22 @@ const FORMS: [Form<'static>; 32] = [
         example: "Example: docs_host list-pages docs.test 1.0 en --store docs.db",
         ids: &["host", "slug", "lang"],
         more: &[],
+    },
+    Form {
+        name: "list-seen",
+        about: "Lists all that a reader sees of a project, and nothing else",
+        example: "Example: docs_host list-seen docs.test --pass reader-7 --store docs.db",
+        ids: &["host"],
+        more: &[
+            More::Value {
+                id: "pass",
+                help: "The reader's pass",
+            },
+            More::Value {
+                id: "now",
+                help: "The moment at which he looks, in seconds since 1970, in place of the clock's",
+            },
+        ],
     },
     Form {
         name: "script",

@@ -17,7 +17,7 @@ ghost use Rattle.dh_world.specs.declared.command.CommandChange.TheVariants.{SetD
 ghost use Rattle.dh_world.specs.declared.command.CommandChange.TheVariants.{DropPass, Grant};
 ghost use Rattle.dh_world.specs.declared.command.CommandChange.TheVariants.{Revoke, DropRedirect};
 ghost use Rattle.dh_world.specs.declared.command.CommandChange.TheVariants.{DropRule};
-ghost use Rattle.dh_listings.specs.declared.words.ListWord.TheVariants.{Projects, OfProject};
+ghost use Rattle.dh_listings.specs.declared.words.ListWord.TheVariants.{Projects, OfProject, Seen};
 ghost use Rattle.dh_listings.specs.declared.words.ProjectList.TheVariants as lists;
 ghost use Rattle.dh_word_tables.specs.Words.{is_plain_word, ArePlain, has_command};
 ghost use Rattle.dh_lines.specs.App.{docs_app};
@@ -163,6 +163,27 @@ pub fn list_lines()
     ensures pages { (host slug lang : Text) → ArePlain (host ∷ slug ∷ lang ∷ [])
         → OrdersLine (codes "list-pages" ∷ host ∷ slug ∷ lang ∷ [])
         (order.List (OfProject host (lists.Pages slug lang))) }
+{}
+
+/// The lines that list what a caller sees: without a pass, and with a pass behind or before the host; with and without the moment.
+pub fn seen_lines()
+    ensures seen { (host : Text) → ArePlain (host ∷ [])
+        → OrdersLine (codes "list-seen" ∷ host ∷ []) (order.List (Seen host None None)) }
+    ensures pass { (host pass : Text) → ArePlain (host ∷ pass ∷ [])
+        → OrdersLine (codes "list-seen" ∷ host ∷ codes "--pass" ∷ pass ∷ [])
+        (order.List (Seen host (Some pass) None)) }
+    ensures pass_first { (pass host : Text) → ArePlain (pass ∷ host ∷ [])
+        → OrdersLine (codes "list-seen" ∷ codes "--pass" ∷ pass ∷ host ∷ [])
+        (order.List (Seen host (Some pass) None)) }
+    ensures moment { (host now : Text) (moment : ℕ) → ArePlain (host ∷ now ∷ [])
+        → moment_of now ≡ Some moment
+        → OrdersLine (codes "list-seen" ∷ host ∷ codes "--now" ∷ now ∷ [])
+        (order.List (Seen host None (Some moment))) }
+    ensures both { (host pass now : Text) (moment : ℕ) → ArePlain (host ∷ pass ∷ now ∷ [])
+        → moment_of now ≡ Some moment
+        → OrdersLine
+        (codes "list-seen" ∷ host ∷ codes "--pass" ∷ pass ∷ codes "--now" ∷ now ∷ [])
+        (order.List (Seen host (Some pass) (Some moment))) }
 {}
 
 /// What the program itself does with its input.

@@ -103,7 +103,7 @@ ghost use Rattle.dh_lines.specs.Lines.{drop_redirect_in, redirect_change_in, pat
 ghost use Rattle.dh_lines.specs.Lines.{rule_in, add_rule_in, drop_rule_in, rule_change_in};
 ghost use Rattle.dh_lines.specs.Lines.{command_in, get_in, init_in, count_in, port_in, serve_in};
 ghost use Rattle.dh_lines.specs.Lines.{list_in, list_named, list_or_command as spec_list_or_command};
-ghost use Rattle.dh_lines.specs.Lines.{list_pages_in};
+ghost use Rattle.dh_lines.specs.Lines.{list_pages_in, list_seen_in};
 ghost use Rattle.dh_lines.specs.Lines.{order_in, named_line, line_with, line_in, ReadsOrUsage, MatchesWords};
 
 fn value<'a>(matches: &ArgMatches<'a>, id: &str) -> Option<&'a str>
@@ -634,6 +634,19 @@ fn list_pages(alloc: Global, matches: &ArgMatches<'_>) -> Result<Order, LineFaul
     Ok(Order::List(ListWord::OfProject { host, list }))
 }
 
+fn list_seen(alloc: Global, matches: &ArgMatches<'_>) -> Result<Order, LineFault>
+    ensures { ReadsOrUsage (list_seen_in (rows_of (found_of matches.now))) result }
+{
+    let host = word(alloc, matches, "host")?;
+    let shown = option_value(alloc, matches, "pass")?;
+    let at = moment(matches, "now")?;
+    Ok(Order::List(ListWord::Seen {
+        host,
+        pass: shown,
+        moment: at,
+    }))
+}
+
 /// A line that lists what a project has, or a command.
 fn list_or_command(alloc: Global, name: &str, matches: &ArgMatches<'_>) -> Result<Order, LineFault>
     ensures { ReadsOrUsage (spec_list_or_command (list_named name.now) name.now
@@ -659,6 +672,7 @@ fn read_order(alloc: Global, name: &str, matches: &ArgMatches<'_>) -> Result<Ord
         "serve" => serve(matches),
         "list-projects" => Ok(Order::List(ListWord::Projects)),
         "list-pages" => list_pages(alloc, matches),
+        "list-seen" => list_seen(alloc, matches),
         _ => list_or_command(alloc, name, matches),
     }
 }

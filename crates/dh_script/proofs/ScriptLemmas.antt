@@ -48,10 +48,10 @@ act_told text_in refused_in moment before after c o answer outcome result step s
     subst (λ (x : Order). PerformsOrder moment before x after (text_in p) (refused_in p)) (sym is) (answer, step, subst (λ (x : Outcome). TellsOutcome x (text_in p) (refused_in p)) same tells))
 
 -- what is told of a list, which is the definition's
-pub list_told : {P E : Type 0} (text_in : P → Text) (refused_in : P → Bool) (w : World) (word : ListWord) (listed : Result (Option Text) Fault) (result : Result P E)
-    → IfOk listed (λ found. found ≡ listing_text w word) → IfOk result (λ p. TellsList listed (text_in p) (refused_in p))
-    → IfOk result (λ p. ListsAt w word (text_in p) (refused_in p))
-list_told text_in refused_in w word listed result value told = IfOk-weaker result _ _ (λ p is. (listed, value, is)) told
+pub list_told : {P E : Type 0} (text_in : P → Text) (refused_in : P → Bool) (moment : ℕ) (w : World) (word : ListWord) (listed : Result (Option Text) Fault) (result : Result P E)
+    → IfOk listed (λ found. found ≡ listing_text moment w word) → IfOk result (λ p. TellsList listed (text_in p) (refused_in p))
+    → IfOk result (λ p. ListsAt moment w word (text_in p) (refused_in p))
+list_told text_in refused_in moment w word listed result value told = IfOk-weaker result _ _ (λ p is. (listed, value, is)) told
 
 -- what is told of an outcome has its reason
 pub explained : (o : Outcome) (text : Text) (refused : Bool) (reason : Option Reason) → text ≡ text_of_outcome o → refused ≡ is_refusal o → reason ≡ reason_of o → ExplainsRefusal reason text refused

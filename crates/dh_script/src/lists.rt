@@ -40,18 +40,19 @@ fn told_list(alloc: Global, answer: &Found<Text>) -> Result<Printed, AllocError>
     }
 }
 
-/// Does a word that lists.
+/// Does a word that lists. `now` is the moment of a list of what a caller sees that gives none of its own.
 pub fn list<S: Alter>(
     alloc: Global,
     desk: &mut Desk<S>,
     word: &ListWord,
+    now: u64,
 ) -> Result<Printed, AllocError>
     ensures lists { WorldGoesBy S.Store desk.old desk.new
         (λ before after. (after ≡ before) × IfOk result
-        (λ p. ListsAt before word.now (string_bytes p.text) p.refused)) }
+        (λ p. ListsAt now before word.now (string_bytes p.text) p.refused)) }
     ensures explains { IfOk result (λ p. ExplainsRefusal p.reason (string_bytes p.text) p.refused) }
     ensures told { IfOk result (λ p. BlamesStore S.Store desk.old desk.new p.reason) }
 {
-    let answer = desk.list(alloc, word);
+    let answer = desk.list(alloc, word, now);
     told_list(alloc, &answer)
 }

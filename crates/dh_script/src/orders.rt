@@ -176,7 +176,7 @@ pub fn perform_single<S: Alter>(
     ensures told { IfOk result (λ p. BlamesStore S.Store desk.old desk.new p.reason) }
 {
     match order {
-        Order::List(word) => list(alloc, desk, word),
+        Order::List(word) => list(alloc, desk, word, now),
         Order::Act(_)
         | Order::Get { .. }
         | Order::Import { .. }
