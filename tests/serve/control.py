@@ -54,6 +54,7 @@ def control(part):
         deaf_client(part, server, store)
         silent_client(part, server, store)
     answers(part)
+    beginnings(part)
     kills(part)
     owners(part)
     left_behind(part)
@@ -395,9 +396,7 @@ def is_locked(path):
 
 def until_locked(path):
     """Waits until another run has the file."""
-    end = time.monotonic() + hosts.TIME_LIMIT
-    while not is_locked(path) and time.monotonic() < end:
-        time.sleep(0.05)
+    until(lambda: is_locked(path))
 
 
 def ask(part, place, asked, answer, lines=""):
@@ -407,6 +406,63 @@ def ask(part, place, asked, answer, lines=""):
     other.join(hosts.TIME_LIMIT)
     os.remove(place)
     return ended, other.message
+
+
+# beginnings: who comes while a server waits for its file is answered once the server has it
+
+
+def beginnings(part):
+    store, place = filled(part, "begin.docs"), part.path("begin.port")
+    words = ["serve", "--store", store, "--count", "2", "--port", str(free_port())]
+    with open(place, "w+b") as told:
+        with subprocess.Popen([part.program, "script", "--store", store], stdin=subprocess.PIPE, stdout=subprocess.PIPE) as holder:
+            until_locked(store)
+            is_fault(part, "a server that does not wait", run(part.program, *words, "--wait", "0"), "Store", BUSY)
+            part.check("it leaves no socket", not os.path.lexists(f"{store}.control"))
+            ended = run(part.program, *words, "--wait", "1")
+            is_fault(part, "a server that waits a second", ended, "Store", BUSY, front=waiting(store, 1))
+            server = subprocess.Popen([part.program, *words], stdin=subprocess.DEVNULL, stdout=subprocess.PIPE, stderr=told)
+            until(lambda: is_socket(store))
+            client = socket.create_connection(("127.0.0.1", int(words[-1])), timeout=hosts.TIME_LIMIT)
+            client.sendall(get_bytes("/", HOST))
+            command_beside = subprocess.Popen([part.program, "get", HOST, "/", "--store", store], stdout=subprocess.PIPE)
+            time.sleep(1)
+            part.check("both wait", command_beside.poll() is None and server.poll() is None)
+            holder.stdin.close()
+            holder.stdout.read()
+        part.same("a request that waited", read_reply(read_all(client))[0], 302)
+        part.same("a command that waited", command_beside.communicate(timeout=hosts.TIME_LIMIT)[0], b"302 /en/latest/ 0\n")
+        part.same("the server ends", server.wait(hosts.TIME_LIMIT), 0)
+        part.same("it prints when it answers", server.stdout.read(), f"listening 127.0.0.1:{words[-1]}\n".encode())
+        server.stdout.close()
+        told.seek(0)
+        lines = [f"docs_host: {waiting(store, 60)}", f"docs_host: serving {store}, projects: 1"]
+        part.same("it says that it waits", told.read().decode().splitlines(), lines)
+    part.check("it removes its socket", not os.path.lexists(f"{store}.control"))
+    with part.serve(store, 3) as server:
+        begun = time.monotonic()
+        is_fault(part, "a second server", run(part.program, *words), "Store", BUSY)
+        part.check("it does not wait", time.monotonic() - begun < 5)
+        part.check("the socket stands", is_socket(store))
+        part.same("a command beside the first", command(part.program, store, f"get {HOST} /"), "302 /en/latest/ 0")
+        part.same("a request", server.get("/", HOST)[0], 302)
+        part.same("the first ends, with the second one's connection counted", server.wait(), 0)
+
+
+def waiting(store, seconds):
+    return f"{store}: another program has it open; waiting for it, {seconds} seconds at most"
+
+
+def free_port():
+    with socket.socket() as other:
+        other.bind(("127.0.0.1", 0))
+        return other.getsockname()[1]
+
+
+def until(holds):
+    end = time.monotonic() + hosts.TIME_LIMIT
+    while not holds() and time.monotonic() < end:
+        time.sleep(0.05)
 
 
 # kills: of a script all that was told is done

@@ -110,7 +110,7 @@ of_line moment before after (order.Init file) (inr (text, (refused, did))) = inr
 of_line moment before after (order.Migrate file) (inr (text, (refused, did))) = inr (text, refused, did)
 of_line moment before after order.Script (inr (text, (refused, did))) = inr (text, refused, did)
 of_line moment before after order.Answer (inr (text, (refused, did))) = inr (text, refused, did)
-of_line moment before after (order.Serve count port log) (inr (text, (refused, did))) = inr (text, refused, did)
+of_line moment before after (order.Serve count port log wait) (inr (text, (refused, did))) = inr (text, refused, did)
 
 pub may_single : {T E : Type 0} (r : Result T E) (moment : ℕ) (before after : World) (o : Order) → OnErr r (MayDoOrder moment before o after) → OnErr r (MayDoSingle moment before o after)
 may_single (Ok x) moment before after o may = tt

@@ -155,7 +155,7 @@ faulty_order (order.Init file) = refl
 faulty_order (order.Migrate file) = refl
 faulty_order order.Script = refl
 faulty_order order.Answer = refl
-faulty_order (order.Serve count port log) = refl
+faulty_order (order.Serve count port log wait) = refl
 
 done_order : (o : Order) → IsTrue (may_end_order o Done)
 done_order (order.Act command) = refl
@@ -166,7 +166,7 @@ done_order (order.Init file) = refl
 done_order (order.Migrate file) = refl
 done_order order.Script = refl
 done_order order.Answer = refl
-done_order (order.Serve count port log) = refl
+done_order (order.Serve count port log wait) = refl
 
 module _ (held now : Option Text) (o : Order) where
   -- each run may end with a fault
@@ -200,7 +200,7 @@ module _ (held now : Option Text) (o : Order) where
       by (order.Migrate file) it = absurd (true≢false (sym it))
       by order.Script it = refl
       by order.Answer it = absurd (true≢false (sym it))
-      by (order.Serve count port log) it = absurd (true≢false (sym it))
+      by (order.Serve count port log wait) it = absurd (true≢false (sym it))
 
   pub opened_sent : (f : Failure) → MayEnd (is_of_opened o) f → MayEnd (is_of_sent o) f
   opened_sent (File fault) it = refl

@@ -70,7 +70,7 @@ module _ (before after : World) where
   performs moment (order.Migrate file) text refused it = ([], (it.0, refl))
   performs moment order.Script text refused it = ([], (it.0, refl))
   performs moment order.Answer text refused it = ([], (it.0, refl))
-  performs moment (order.Serve count port log) text refused it = ([], (it.0, refl))
+  performs moment (order.Serve count port log wait) text refused it = ([], (it.0, refl))
 
   single : (moment : ℕ) (o : Order) (text : Text) (refused : Bool) → PerformsSingle moment before o after text refused → AreDone before (calls_of_order moment o) after
   single moment (order.List word) text refused it = ([], (it.0, refl))
@@ -81,7 +81,7 @@ module _ (before after : World) where
   single moment (order.Migrate file) text refused it = ([], (it.0, refl))
   single moment order.Script text refused it = ([], (it.0, refl))
   single moment order.Answer text refused it = ([], (it.0, refl))
-  single moment (order.Serve count port log) text refused it = ([], (it.0, refl))
+  single moment (order.Serve count port log wait) text refused it = ([], (it.0, refl))
 
   may_single : (moment : ℕ) (o : Order) → MayDoSingle moment before o after → FrontIsDone before (calls_of_order moment o) after
   may_single moment o (inl same) = none_done before after (calls_of_order moment o) same

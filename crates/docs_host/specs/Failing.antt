@@ -64,7 +64,7 @@ is_of_command failure = is_of_output failure
 abbrev pub is_of_order : Order → Failure → Bool
 is_of_order order.Script failure = is_of_script failure
 is_of_order order.Answer failure = is_of_request failure
-is_of_order (order.Serve count port log) failure = is_of_server failure
+is_of_order (order.Serve count port log wait) failure = is_of_server failure
 is_of_order (order.Import host list) (List fault) = true
 is_of_order order failure = is_of_output failure
 

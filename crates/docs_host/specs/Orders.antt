@@ -108,7 +108,7 @@ ServesUpTo gives first last most before after =
 abbrev pub RunsOrder : (ℕ → World → World → Type 0) → ℕ → World → Order → World → Option Text → Option Text → Option Text → Result Status Failure → Type 0
 RunsOrder Serves moment before order.Script after left held now result = RunsScript moment left before after held now result
 RunsOrder Serves moment before order.Answer after left held now result = RunsRequest moment before after left held now result
-RunsOrder Serves moment before (order.Serve count port log) after left held now result = Serves count before after
+RunsOrder Serves moment before (order.Serve count port log wait) after left held now result = Serves count before after
 RunsOrder Serves moment before (order.Act command) after left held now result =
     IfOk result (RunsSingle moment before (order.Act command) after held now)
 RunsOrder Serves moment before (order.Get host target pass own) after left held now result =

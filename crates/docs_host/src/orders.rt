@@ -164,9 +164,7 @@ pub fn do_order<S: Alter, C: FnMut() -> u64, R: Source, W: Sink, E: Sink>(
             &mut streams.sink,
             now,
         ),
-        Order::Serve { count, port, log } => {
-            serve(rt, desk, served, clock, *count, *port, *log, streams)
-        }
+        Order::Serve { count, log, .. } => { serve(rt, desk, served, clock, *count, *log, streams) }
         Order::Act(_)
         | Order::Get { .. }
         | Order::Import { .. }
