@@ -10,8 +10,8 @@ returns-in_err-printed-clause-does g c =
 
 pub returns-in-Ok-clause-does : goal.returns-in-Ok-clause-does
 returns-in-Ok-clause-does g c =
-    WorldGoesBy-weaker c.in_ok-printed.ensures.performs
-    (λ u v did. (string_bytes c.in_ok-printed.printed.text, c.in_ok-printed.printed.refused, did, search rules, search rules))
+    WorldGoesBy-weaker c.in_ok-printed.ensures.why
+    (λ u v did. (string_bytes c.in_ok-printed.printed.text, c.in_ok-printed.printed.reason, did, search rules, search rules))
 
 pub returns-clause-does : goal.returns-clause-does
 returns-clause-does g c =
