@@ -6,14 +6,14 @@ ghost use Rattle.dh_lines.specs.Lines.{line_in};
 ghost use Rattle.docs_host.specs.Ends.{Ended, EndsScript, EndsRequest, EndsOver, EndsList, EndsBy};
 ghost use Rattle.docs_host.specs.Ends.{EndsAsked, EndsWords, EndsProgram};
 ghost use Rattle.docs_host.specs.Ends.{asks_help, asks_version, line_asked, line_run, may_end_order};
-ghost use Rattle.docs_host.specs.Failing.{IsDoneOr, is_of_init, is_of_file, is_of_command, is_of_memory, is_of_opened, is_of_run};
+ghost use Rattle.docs_host.specs.Failing.{IsDoneOr, is_of_init, is_of_file, is_of_command, is_of_memory, is_of_opened, is_of_run, is_of_sent};
 ghost use Rattle.docs_host.specs.Orders as spec;
 ghost use Rattle.docs_host.specs.Orders.{AreUnbroken};
 ghost use Rattle.docs_host.specs.Telling.{TellsEnd};
 ghost use Rattle.docs_host.specs.Telling as telling;
 
-use crate::by_server::run_by_server;
-use crate::failure::{Failure, Status, tell, tell_reason, tell_sentence, tell_usage};
+use crate::by_server::{run_by_server, run_import_by_server};
+use crate::failure::{Failure, Status, tell, tell_reason, tell_usage};
 use crate::lists::{ListFile, order_in, read_list_file, refuse_record};
 use crate::orders::{do_order, run_lines, say};
 use crate::sending::Sockets;
@@ -74,23 +74,13 @@ fn run_over_desk<S: Start, C: FnMut() -> u64, R: Source, W: Sink, E: Sink>(
     Ok(status)
 }
 
-/// Tells an import of a file that another program has open what it needs.
-fn tell_held<E: Sink>(fault: FileFault, errors: &mut E)
-    ensures { TellsSome E.broken E.held errors.old errors.new }
-{
-    match fault {
-        FileFault::Busy => tell_sentence(
-            errors,
-            "an import is done by no server: stop the one that has the file, and run it again",
-        ),
-        _ => {}
-    }
-}
-
-/// Does an import over the records of a file, which no other program may have open.
+/// Does an import over the records of a file: `order` is what the list orders. Where a server has the file, asks that server to do
+/// it.
 fn import_over_file<S: Start, C: FnMut() -> u64, R: Source, W: Sink, E: Sink>(
     rt: &HostRuntime,
     start: S,
+    host: &Text,
+    list: &[u8],
     order: &Order,
     file: &str,
     streams: &mut Streams<R, W, E>,
@@ -99,16 +89,24 @@ fn import_over_file<S: Start, C: FnMut() -> u64, R: Source, W: Sink, E: Sink>(
 ) -> Result<Status, Failure>
     requires callable { C.IsAlwaysCallable clock.old }
     requires ready { AreUnbroken (R.broken streams.old.source) (W.broken streams.old.sink) }
+    requires act { spec.is_act order.now ≡ true }
     ensures ends { Ended (λ status. IsTrue (may_end_order order.now status))
-        (is_of_opened order.now) result }
+        (is_of_sent order.now) result }
     ensures tells { TellsSome E.broken E.held streams.old.errors streams.new.errors }
 {
     match open_desk(rt, file, start) {
         Ok(opened) => run_over_desk(rt, opened, None, order, file, streams, clock, now),
-        Err(fault) => {
-            tell_held(fault, &mut streams.errors);
-            Err(Failure::File(fault))
-        }
+        Err(FileFault::Busy) => run_import_by_server(
+            rt.alloc(),
+            &mut Sockets { rt },
+            host.as_str(),
+            list,
+            order,
+            file,
+            &mut streams.sink,
+            &mut streams.errors,
+        ),
+        Err(fault) => Err(Failure::File(fault)),
     }
 }
 
@@ -275,7 +273,9 @@ fn import_list<S: Start, C: FnMut() -> u64, R: Source, W: Sink, E: Sink>(
     ensures tells { TellsSome E.broken E.held streams.old.errors streams.new.errors }
 {
     match order_in(rt.alloc(), host, list.bytes) {
-        Ok(order) => import_over_file(rt, start, &order, file, streams, clock, now),
+        Ok(order) => import_over_file(
+            rt, start, host, list.bytes, &order, file, streams, clock, now,
+        ),
         Err(ListFault::BadRecord(number, fault)) => {
             refuse_record(rt.alloc(), list.path, number, fault, streams)
         }

@@ -10,8 +10,8 @@ ghost use Rattle.docs_host.specs.Orders.{AnswersOne, ServesBoth, ServesUpTo};
 use crate::failure::{Failure, Status, put};
 use crate::orders::say;
 use crate::socket::{
-    ControlSocket, EarlySocket, Node, SocketFault, bind_early, keep_socket, node_in, remove_early,
-    remove_socket,
+    ControlSocket, EarlySocket, Node, SocketFault, bind_early, keep_socket, name_of, node_in,
+    remove_early, remove_socket,
 };
 use crate::streams::Streams;
 use dh_control::answer_message;
@@ -115,14 +115,23 @@ fn tell_again<E: Sink>(alloc: Global, file: &str, errors: &mut E)
     }
 }
 
-/// Answers what comes in at the control socket: messages.
+/// The name of a file for messages to its server. Where the system tells none, or memory is out, no message is for this server.
+fn name_or_none(rt: &HostRuntime, file: &str) -> String {
+    match name_of(rt, rt.alloc(), file) {
+        Ok(name) => name,
+        Err(_) => String::new(rt.alloc()),
+    }
+}
+
+/// Answers what comes in at the control socket: messages for the file of this name.
 #[derive(Drop)]
-struct Messages {
+struct Messages<'a> {
+    file: &'a str,
     /// How many messages came; the count stays at 2^64 - 1.
     count: u64,
 }
 
-impl Control for Messages {
+impl<'a> Control for Messages<'a> {
     ghost does = { AnswersOne };
 
     ghost handed = { λ messages. Some messages.count };
@@ -137,15 +146,16 @@ impl Control for Messages {
     ) {
         self.count = self.count.saturating_add(1);
         // The result is told to the client, if it is still there.
-        let _ = answer_message(alloc, desk, source, sink, now);
+        let _ = answer_message(alloc, desk, self.file, source, sink, now);
     }
 }
 
-/// Answers `count` connections over a desk, each at the moment that the clock gives. Where a fault of the store closes the desk,
-/// gives how many are left.
+/// Answers `count` connections over the desk of a file, each at the moment that the clock gives. Where a fault of the store closes
+/// the desk, gives how many are left.
 fn serve_desk<S: Alter, N: Listen, C: FnMut() -> u64, E: Sink>(
     rt: &HostRuntime,
     desk: &mut Desk<S>,
+    file: &str,
     listening: &mut N,
     clock: &mut C,
     count: u32,
@@ -164,11 +174,16 @@ fn serve_desk<S: Alter, N: Listen, C: FnMut() -> u64, E: Sink>(
     ensures tells { TellsSome E.broken E.held errors.old errors.new }
 {
     let log = Log::new(rt, log);
+    let name = name_or_none(rt, file);
+    let mut messages = Messages {
+        file: name.as_str(),
+        count: 0,
+    };
     let served = serve_on(
         rt.alloc(),
         desk,
         listening,
-        &mut Messages { count: 0 },
+        &mut messages,
         clock,
         count,
         &log,
@@ -232,6 +247,7 @@ fn serve_at<S: Alter, C: FnMut() -> u64, R: Source, W: Sink, E: Sink>(
     match serve_desk(
         rt,
         desk,
+        served.file,
         &mut listening,
         clock,
         count,
@@ -386,7 +402,7 @@ fn serve_again<N: Listen, C: FnMut() -> u64, E: Sink>(
     tell_again(rt.alloc(), file, errors);
     let (mut desk, projects) = open_within(rt, file, REOPENING)?;
     tell_served(rt.alloc(), file, projects, errors);
-    let left = serve_desk(rt, &mut desk, listening, clock, count, log, errors);
+    let left = serve_desk(rt, &mut desk, file, listening, clock, count, log, errors);
     remove_at_end(rt, file, own, left);
     let closed = close_desk(desk);
     if left.is_none() {

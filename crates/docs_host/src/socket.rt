@@ -98,6 +98,13 @@ fn node_of(found: &Metadata) -> Node {
     }
 }
 
+/// The name of a file for the messages that are sent to its server: its device and its number there, by whatever path it is given.
+pub fn name_of(rt: &HostRuntime, alloc: Global, file: &str) -> Result<String, SocketFault> {
+    let found = fs::metadata(rt, file)?;
+    let node = node_of(&found);
+    Ok(format!(in alloc; "{}:{}", node.device, node.number)?)
+}
+
 /// The control socket of a file, which this program made.
 #[derive(Drop)]
 pub struct ControlSocket {
