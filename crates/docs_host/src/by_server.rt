@@ -164,6 +164,10 @@ fn tell_silence<E: Sink>(silence: Silence, errors: &mut E)
             errors,
             "with .control behind it the path of this file has more than 107 bytes, too many for a control socket, so no server can be asked",
         ),
+        Silence::Stranger => tell_sentence(
+            errors,
+            "what stands beside this file, whose name ends in .control, is no socket of this user or of the file's owner, so it is not asked",
+        ),
         Silence::Nobody => {}
     }
 }

@@ -27,6 +27,8 @@ pub enum Silence {
     TooLong,
     /// Nobody listens at the file's control socket.
     Nobody,
+    /// What stands there is no socket, or one of another user.
+    Stranger,
 }
 
 /// What asks the servers that have files.

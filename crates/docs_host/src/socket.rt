@@ -3,8 +3,10 @@
 
 ghost use Rattle.std.specs.Prelude.{◌≡◌};
 ghost use Rattle.docs_host.specs.Failures.{socket_name};
+ghost use Rattle.docs_host.specs.Trust as trust;
 
 use crate::sending::Silence;
+use libc::geteuid;
 use std::alloc::{AllocError, Global};
 use std::fs::{Metadata, Permissions};
 use std::io::ErrorKind;
@@ -278,14 +280,47 @@ pub fn remove_early(rt: &HostRuntime, file: &str, early: &Result<EarlySocket, So
     }
 }
 
+/// Whether what stands beside a file may be asked in place of the file: a socket of this user, or of the file's owner.
+fn may_trust(is_socket: bool, user: u32, own: u32, owner: Option<u32>) -> bool
+    ensures { result ≡ trust.may_trust is_socket user own owner }
+{
+    match owner {
+        Some(owner) => is_socket && (user == own || user == owner),
+        None => is_socket && user == own,
+    }
+}
+
+/// Who owns a file, where the system tells.
+fn owner_of(rt: &HostRuntime, file: &str) -> Option<u32> {
+    match fs::metadata(rt, file) {
+        Ok(found) => Some(found.uid()),
+        Err(_) => None,
+    }
+}
+
+/// Looks at what stands at the path of a file's control socket, before anything is sent there: who makes a socket or a link in a
+/// folder that many may write to is not asked.
+fn trust_socket(rt: &HostRuntime, file: &str, path: &str) -> Result<(), Silence> {
+    let Ok(found) = fs::symlink_metadata(rt, path) else {
+        return Err(Silence::Nobody);
+    };
+    let is_socket = found.file_type().is_socket();
+    if may_trust(is_socket, found.uid(), geteuid(), owner_of(rt, file)) {
+        return Ok(());
+    }
+    Err(Silence::Stranger)
+}
+
 /// Connects to the server that has a file open.
 pub fn connect_socket(rt: &HostRuntime, file: &str) -> Result<UnixStream, Silence> {
-    match socket_path(rt.alloc(), file) {
-        Ok(Some(path)) => match UnixStream::connect(rt, path.as_str()) {
-            Ok(stream) => Ok(stream),
-            Err(_) => Err(Silence::Nobody),
-        },
-        Ok(None) => Err(Silence::TooLong),
+    let path = match socket_path(rt.alloc(), file) {
+        Ok(Some(path)) => path,
+        Ok(None) => return Err(Silence::TooLong),
+        Err(_) => return Err(Silence::Nobody),
+    };
+    trust_socket(rt, file, path.as_str())?;
+    match UnixStream::connect(rt, path.as_str()) {
+        Ok(stream) => Ok(stream),
         Err(_) => Err(Silence::Nobody),
     }
 }
