@@ -50,8 +50,8 @@ nul_at : (host list : Text) → All (λ byte. is_nul byte ≡ false) host → po
 nul_at [] list are = refl
 nul_at (byte ∷ host) list are =
     let first : is_nul byte ≡ false = All-head (λ b. is_nul b ≡ false) byte host are in
-    ap (λ b. cond (not b) (1 + position_or_len is_nul (host ++ 0 ∷ list)) 0) first
-    ∙ ap (λ n. 1 + n) (nul_at host list (All-tail (λ b. is_nul b ≡ false) byte host are))
+    let rest = nul_at host list (All-tail (λ b. is_nul b ≡ false) byte host are) in
+    grind (arith, first, rest)
 
 parts_found : (host list : Text) → All (λ byte. is_nul byte ≡ false) host → host_and_list (host ++ 0 ∷ list) ≡ Some (host, list)
 parts_found host list are =
@@ -61,8 +61,8 @@ parts_found host list are =
     let found : position is_nul sent ≡ Some (length host) = ap (λ b. cond b (Some (position_or_len is_nul sent)) None) within ∙ ap (λ n. Some n) at in
     ap (option_map (λ n. (take n sent, drop (n + 1) sent))) found
     ∙ ap₂ (λ h l. Some (h, l)) (take_at host (0 ∷ list) (length host) refl)
-      (ap (λ t. drop (length host + 1) t) (sym (append_assoc host (0 ∷ []) list))
-      ∙ drop_at (host ++ 0 ∷ []) list (length host + 1) (omega (arith, length-append host (0 ∷ []))))
+    (ap (λ t. drop (length host + 1) t) (sym (append_assoc host (0 ∷ []) list))
+    ∙ drop_at (host ++ 0 ∷ []) list (length host + 1) (omega (arith, length-append host (0 ∷ []))))
 
 -- ---- two names
 
@@ -84,7 +84,7 @@ apart (f ∷ fs) (o ∷ os) rest mine its differ = by (nat_eq f o) refl
   where
     by : (b : Bool) → nat_eq f o ≡ b → option_and_then (behind (10 ∷ [])) (behind (f ∷ fs) (o ∷ os ++ 10 ∷ rest)) ≡ None
     by true is =
-        let same : f ≡ o = nat_eq-sound f o is in
+        let same : f ≡ o = grind (arith, nat_tests, is) in
         let tails : fs ≢ os = λ same_tail. differ (ap₂ (λ x xs. x ∷ xs) same same_tail) in
         ap (λ b. option_and_then (behind (10 ∷ [])) (cond (b && pointwise nat_eq fs (take (length fs) (os ++ 10 ∷ rest))) (Some (drop (length fs) (os ++ 10 ∷ rest))) None)) is
         ∙ apart fs os rest (All-tail (λ b. (b == 10) ≡ false) f fs mine) (All-tail (λ b. (b == 10) ≡ false) o os its) tails
@@ -109,7 +109,7 @@ behind_own mark rest =
 -- what stands behind the version of a head
 named : (file rest : Text) → behind version_mark (head_of file ++ rest) ≡ Some (file ++ 10 ∷ rest)
 named file rest =
-    ap (λ t. behind version_mark (version_mark ++ t)) (append_assoc file (10 ∷ []) rest)
+    ap (behind version_mark) (append_assoc (version_mark ++ file) (10 ∷ []) rest ∙ append_assoc version_mark file (10 ∷ rest))
     ∙ behind_own version_mark (file ++ 10 ∷ rest)
 
 -- what was put behind a head
@@ -118,11 +118,6 @@ rest_found file rest =
     ap (λ o. option_and_then (behind (10 ∷ [])) (option_and_then (behind file) o)) (named file rest)
     ∙ ap (λ o. option_and_then (behind (10 ∷ [])) o) (behind_own file (10 ∷ rest))
     ∙ behind_own (10 ∷ []) rest
-
--- where a body ends that stands behind a head
-body_behind : (head mark sent : Text) → head ++ mark ++ sent ++ 255 ∷ [] ≡ (head ++ mark ++ sent) ++ 255 ∷ []
-body_behind head mark sent =
-    ap (λ t. head ++ t) (sym (append_assoc mark sent (255 ∷ []))) ∙ sym (append_assoc head (mark ++ sent) (255 ∷ []))
 
 module _ (moment : ℕ) (before after : World) (held now : Option Text) (result : Result End ScriptFault) where
   -- what a body does
@@ -135,8 +130,8 @@ module _ (moment : ℕ) (before after : World) (held now : Option Text) (result 
       → DoesRest moment (mark ++ sent) before after held now result
   rest_done file mark sent does =
       let body = head_of file ++ mark ++ sent in
-      let whole = subst (λ m. DoesMessage moment file m before after held now result) (body_behind (head_of file) mark sent) does in
-      subst (λ r. DoesFor moment body r before after held now result) (rest_found file (mark ++ sent)) (body_done file body whole)
+      let rest : rest_for file body ≡ Some (mark ++ sent) = ap (rest_for file) (append_assoc (head_of file) mark sent) ∙ rest_found file (mark ++ sent) in
+      subst (λ r. DoesFor moment body r before after held now result) rest (body_done file body does)
 
   sent_done : (sent : Text) (words : List Text) → IsUtf8 sent → slice_split is_nul sent ≡ words → DoesSent moment sent before after held now result
       → DoesWords moment before (line_in words) after held now result
@@ -178,7 +173,7 @@ module _ (moment : ℕ) (before after : World) (held now : Option Text) (result 
       let sent = host ++ 0 ∷ list in
       let rest = import_mark ++ sent in
       let whole : import_message file host list ≡ head_of file ++ import_mark ++ sent ++ 255 ∷ [] =
-          ap (λ t. head_of file ++ import_mark ++ t) (sym (append_assoc host (0 ∷ list) (255 ∷ []))) in
+      ap (λ t. t ++ 255 ∷ []) (append_assoc (head_of file ++ import_mark) host (0 ∷ list)) in
       let behind_head = rest_done file import_mark sent (subst (λ m. DoesMessage moment file m before after held now result) whole does) in
       let no_words : behind words_mark rest ≡ None = refl in
       let no_line : behind line_mark rest ≡ None = refl in
@@ -194,9 +189,8 @@ module _ (moment : ℕ) (before after : World) (held now : Option Text) (result 
       → DoesNone Elsewhere before after held now result
   other_left file other rest mine its differ does =
       let body = head_of other ++ rest in
-      let whole = subst (λ m. DoesMessage moment file m before after held now result) (sym (append_assoc (head_of other) rest (255 ∷ []))) does in
       let none : rest_for file body ≡ None =
-          ap (λ o. option_and_then (behind (10 ∷ [])) (option_and_then (behind file) o)) (named other rest) ∙ apart file other rest mine its differ in
-      let at = subst (λ r. DoesFor moment body r before after held now result) none (body_done file body whole) in
+      ap (λ o. option_and_then (behind (10 ∷ [])) (option_and_then (behind file) o)) (named other rest) ∙ apart file other rest mine its differ in
+      let at = subst (λ r. DoesFor moment body r before after held now result) none (body_done file body does) in
       let told : end_of_other body ≡ Elsewhere = ap (λ o. cond (is_some o) Elsewhere Unknown) (named other rest) in
       subst (λ end. DoesNone end before after held now result) told at

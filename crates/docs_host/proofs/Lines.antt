@@ -123,8 +123,8 @@ module _ (name file : Text) (texts : List Text) (line : Text) (a b c : Option (L
         let others = drop (n + 1) all in
         let at = subst (λ f. SendsLine name file line f b c y z (Err failure)) first last in
         let rest : SendsLines name file (next_first true (with_words texts)) (with_words (line ∷ others)) b c y z (Err failure) =
-            subst (λ ls. SendsLines name file (next_first true (with_words texts)) ls b c y z (Err failure)) (sym (filled line others is))
-            (line_last name file (next_first true (with_words texts)) line (with_words others) b c y z failure at) in
+        subst (λ ls. SendsLines name file (next_first true (with_words texts)) ls b c y z (Err failure)) (sym (filled line others is))
+        (line_last name file (next_first true (with_words texts)) line (with_words others) b c y z failure at) in
         let whole = sent_then name file true (with_words texts) (with_words (line ∷ others)) a b c x y z (Err failure) so_far rest in
         subst (λ ls. SendsLines name file true ls a c x z (Err failure)) (sym (on texts (line ∷ others)) ∙ ap with_words (parts texts line all n front below here)) whole
 
