@@ -1,12 +1,17 @@
 -- What a message does, by what was read and by what stands behind its head.
-use Rattle.std.proofs.Common.{◌≡◌, ◌∙◌, ℕ, true, ◌||◌, is_err, Option, Some, None, Result, Ok, Err, IfSome, inl, inr, refl, ap, subst, subst₂}
+use Rattle.std.proofs.Common.{◌≡◌, ◌∙◌, ℕ, true, ◌||◌, is_err, [], ◌∷◌, ◌++◌, Option, Some, None, Result, Ok, Err, IfOk, IfSome, inl, inr, refl, ap, subst, subst₂}
+use Rattle.std.specs.Io.KnownBytes.{Appends}
 use Rattle.dh_lines.specs.declared.lines.Line.{Line}
 use Rattle.dh_lines.specs.declared.lines.Order.{Order}
+use Rattle.dh_script.proofs.Explained.{line, singly}
+use Rattle.dh_script.specs.Explaining.{DoesLineFor, PerformsSingleFor}
 use Rattle.dh_script.specs.Reading.{reader_failed, writer_failed}
 use Rattle.dh_script.specs.Script.{MayDoLine, MayDoSingle}
 use Rattle.dh_script.specs.declared.fault.ScriptFault.{ScriptFault}
+use Rattle.dh_script.specs.declared.reasons.Reason.{Reason}
 use Rattle.dh_world.specs.World.{Text, World}
 use Rattle.dh_control.specs.Answers.{AnswersMessage, DoesBody, DoesBy, DoesFor, DoesImport, DoesMessage, DoesOne, DoesOneLine, DoesRest, DoesWords, HasLastLine, TakesMessage}
+use Rattle.dh_control.specs.Ends.{end_of}
 use Rattle.dh_control.specs.Messages.{behind, body_of, host_and_list, import_mark, line_mark, rest_for, words_mark}
 use Rattle.dh_control.specs.declared.end.End.{End}
 
@@ -40,10 +45,27 @@ pub words_ended
 words_ended E F moment before None after held now end did = did
 words_ended E F moment before (Some line) after held now end did = did
 
+-- what a single order printed was written, or was not
+pub one_told
+    : {E : Type 0} (moment : ℕ) (before : World) (order : Order) (after : World) (held now : Option Text) (text : Text) (reason : Option Reason) (result : Result End E)
+    → PerformsSingleFor moment before order after text reason → IfOk result (λ end. Appends held now (text ++ 10 ∷ []) × (end ≡ end_of reason))
+    → DoesOne moment before order after held now result
+one_told moment before order after held now text reason (Ok end) did told = (text, reason, did, told.0, told.1)
+one_told moment before order after held now text reason (Err fault) did told =
+    let its = singly before after text reason moment order did in
+    inr (text, its.0, its.1)
+
 -- the same of a line of a script
 pub line_failed : {E : Type 0} (moment : ℕ) (before : World) (line : Option Line) (after : World) (held now : Option Text) (result : Result End E) → is_err result ≡ true → MayDoLine moment before line after → DoesOneLine moment before line after held now result
 line_failed moment before line after held now (Ok end) is may = let no : ⊥ = cc in absurd no
 line_failed moment before line after held now (Err fault) is may = may
+
+pub line_told
+    : {E : Type 0} (moment : ℕ) (before : World) (l : Option Line) (after : World) (held now : Option Text) (text : Text) (reason : Option Reason) (result : Result End E)
+    → DoesLineFor moment before l after text reason → IfOk result (λ end. Appends held now (text ++ 10 ∷ []) × (end ≡ end_of reason))
+    → DoesOneLine moment before l after held now result
+line_told moment before l after held now text reason (Ok end) did told = (text, reason, did, told.0, told.1)
+line_told moment before l after held now text reason (Err fault) did told = inr (text, line before after text reason moment l did)
 
 pub line_handed
     : {E F : Type 0} (moment : ℕ) (before : World) (line : Option Line) (after : World) (held now : Option Text) (fault : E) (result : Result End F) → is_err result ≡ true

@@ -1,6 +1,6 @@
 //! One message: read, done and answered.
 
-ghost use Rattle.std.specs.Prelude.{◌≡◌, ◌+◌, ◌||◌, true, false, is_err, map, string_bytes, IfOk, Some, OnOk};
+ghost use Rattle.std.specs.Prelude.{◌≡◌, ◌+◌, ◌||◌, true, false, is_err, [], ◌∷◌, ◌++◌, map, string_bytes, IfOk, Some, OnOk};
 ghost use Rattle.std.specs.Io.KnownBytes.{Appends};
 ghost use Rattle.dh_desk.specs.Desk.{WorldGoesBy};
 ghost use Rattle.dh_lines.specs.Lines.{line_in};
@@ -12,7 +12,7 @@ ghost use Rattle.dh_control.specs.Answers as spec;
 ghost use Rattle.dh_control.specs.Answers.{AnswersMessage, DoesBody, DoesImport, DoesList, DoesMessage};
 ghost use Rattle.dh_control.specs.Answers.{DoesOne, DoesOneLine, DoesRest, DoesSent, DoesSentLine};
 ghost use Rattle.dh_control.specs.Answers.{DoesWords, HasLastLine, TakesMessage};
-ghost use Rattle.dh_control.specs.Ends.{end_line};
+ghost use Rattle.dh_control.specs.Ends.{end_line, end_of as spec_end_of};
 ghost use Rattle.dh_control.specs.Messages as messages;
 
 use crate::end::{End, end_name, end_number, end_of};
@@ -25,10 +25,24 @@ use dh_lines::{LineFault, Order, line_of};
 use dh_lists::{ListFault, read_list};
 use dh_paths::Text;
 use dh_ports::{MOST_READS, READ_SIZE, Sink, Source, put_both};
-use dh_script::{RunFault, ScriptFault, perform_line, perform_single, read_script};
+use dh_script::{Printed, RunFault, ScriptFault, perform_line, perform_single, read_script};
 use dh_world::{Command, CommandChange, Redirects};
 use sqlite::Alter;
 use std::alloc::{AllocError, Global};
+
+/// Writes what an order prints, and gives how it ends.
+fn tell_printed<W: Sink>(sink: &mut W, printed: &Printed) -> Result<End, RunFault>
+    requires { W.broken sink.old ≡ false }
+    ensures broken { W.broken sink.new ≡ stopped_by_writer result }
+    ensures told { IfOk result (λ end.
+        Appends (W.held sink.old) (W.held sink.new) (string_bytes printed.now.text ++ 10 ∷ [])
+        × (end ≡ spec_end_of printed.now.reason)) }
+{
+    match put_both(sink, printed.text.as_bytes(), b"\n") {
+        Ok(()) => Ok(end_of(printed.reason)),
+        Err(_) => Err(RunFault::Write),
+    }
+}
 
 /// Does an order, and writes what it prints.
 fn do_order<S: Alter, W: Sink>(
@@ -44,10 +58,7 @@ fn do_order<S: Alter, W: Sink>(
         DoesOne now before order.now after (W.held sink.old) (W.held sink.new) result) }
 {
     let printed = perform_single(alloc, desk, order, now)?;
-    match put_both(sink, printed.text.as_bytes(), b"\n") {
-        Ok(()) => Ok(end_of(printed.reason)),
-        Err(_) => Err(RunFault::Write),
-    }
+    tell_printed(sink, &printed)
 }
 
 /// Does what some words order, as words of the program.
@@ -106,10 +117,7 @@ fn do_line<S: Alter, W: Sink>(
         (W.held sink.old) (W.held sink.new) result) }
 {
     let printed = perform_line(alloc, desk, line, now)?;
-    match put_both(sink, printed.text.as_bytes(), b"\n") {
-        Ok(()) => Ok(end_of(printed.reason)),
-        Err(_) => Err(RunFault::Write),
-    }
+    tell_printed(sink, &printed)
 }
 
 /// Does what was sent as a line of a script.
