@@ -1,11 +1,11 @@
 -- Lines that are sent one after another.
-use Rattle.std.proofs.Common.{◌≡◌, ◌∙◌, ℕ, ◌+◌, ◌<◌, Bool, true, false, cond, List, [], ◌∷◌, ◌++◌, length, take, drop, get_or, append-nil, Option, Result, Ok, Err, refl, sym, ap, subst, subst₂, inl, inr}
-use Rattle.std.proofs.lemmas.List.{append_assoc, take-append-drop, take_more}
+use Rattle.std.proofs.Common.{◌≡◌, ◌∙◌, ℕ, ◌+◌, ◌<◌, Bool, true, false, cond, List, [], ◌∷◌, ◌++◌, map, length, take, drop, get_or, append-nil, Option, Result, Ok, Err, refl, sym, ap, subst, subst₂, inl, inr}
+use Rattle.std.proofs.lemmas.List.{append_assoc, map-append, take-append-drop, take_more}
 use Rattle.std.proofs.lemmas.List.Elements.{filter-append}
 use Rattle.dh_script.specs.Running.{is_filled, with_words, words_in}
 use Rattle.dh_world.specs.World.{Text}
 use Rattle.docs_host.specs.Exchanges.{Exchange}
-use Rattle.docs_host.specs.Sent.{EndsHere, SendsLine, SendsLines}
+use Rattle.docs_host.specs.Sent.{EndsHere, SendsLine, SendsLines, SendsNext}
 use Rattle.docs_host.specs.declared.failure.Failure.{Failure}
 use Rattle.docs_host.specs.declared.failure.Failure.TheVariants.{Memory}
 use Rattle.docs_host.specs.declared.failure.Status.{Status}
@@ -94,6 +94,15 @@ parts texts line all n front below here =
     ∙ ap (λ ts. ts ++ drop (n + 1) all) (sym (take_more all n line below))
     ∙ take-append-drop (n + 1) all
 
+not_failed : (next : Bool) (failure : Failure) → Err {A = Bool} failure ≡ Ok next → ⊥
+not_failed next failure is = cc
+
+same_failure : (failure other : Failure) → Err {A = Bool} failure ≡ Err other → failure ≡ other
+same_failure failure other is = cc
+
+same_next : (next other : Bool) → Ok {E = Failure} next ≡ Ok other → next ≡ other
+same_next next other is = cc
+
 module _ (name file : Text) (texts : List Text) (line : Text) (a b c : Option (List Exchange)) (x y z : Option Text) where
   -- a line that has words was sent
   pub filled_sent : (is_first : Bool) → is_first ≡ next_first true (with_words texts) → has_words line ≡ true
@@ -113,6 +122,19 @@ module _ (name file : Text) (texts : List Text) (line : Text) (a b c : Option (L
 
   pub blank_first : (is_first : Bool) → is_first ≡ next_first true (with_words texts) → has_words line ≡ false → is_first ≡ next_first true (with_words (texts ++ line ∷ []))
   blank_first is_first first is = first ∙ sym (ap (next_first true) (none_more texts line is))
+
+  -- a line was sent, or passed over
+  pub next_sent : (is_first next : Bool) → is_first ≡ next_first true (with_words texts)
+      → SentAll name file true (with_words texts) a b x y → SendsNext name file line is_first b c y z (Ok next)
+      → SentAll name file true (with_words (texts ++ line ∷ [])) a c x z × (next ≡ next_first true (with_words (texts ++ line ∷ [])))
+  next_sent is_first next first so_far (inl (is, Ok unit, sent, same)) =
+      (filled_sent is_first first is so_far sent, same_next next false same ∙ filled_first is)
+  next_sent is_first next first so_far (inl (is, Err last, sent, same)) = absurd (not_failed next last (sym same))
+  next_sent is_first next first so_far (inr (inl (is, kept, still, same))) = (
+    subst₂ (λ s h. SentAll name file true (with_words (texts ++ line ∷ [])) a s x h) (sym kept) (sym still) (blank_left is so_far),
+    same_next next is_first same ∙ blank_first is_first first is,
+  )
+  next_sent is_first next first so_far (inr (inr (kept, still, same))) = absurd (not_failed next Memory (sym same))
 
   module _ (all : List Text) (n : ℕ) (front : texts ≡ take n all) (below : n < length all) (here : line ≡ get_or all n line) where
     -- the run ended with this line
@@ -135,6 +157,27 @@ module _ (name file : Text) (texts : List Text) (line : Text) (a b c : Option (L
         let rest = memory_out name file (next_first true (with_words texts)) (with_words (line ∷ others)) b y in
         let whole = sent_then name file true (with_words texts) (with_words (line ∷ others)) a b b x y y (Err Memory) so_far rest in
         subst (λ ls. SendsLines name file true ls a b x y (Err Memory)) (sym (on texts (line ∷ others)) ∙ ap with_words (parts texts line all n front below here)) whole
+
+    -- the run ended with this line, or before it
+    pub next_ended : (is_first : Bool) (failure : Failure) → is_first ≡ next_first true (with_words texts)
+        → SentAll name file true (with_words texts) a b x y → SendsNext name file line is_first b c y z (Err failure)
+        → SendsLines name file true (with_words all) a c x z (Err failure)
+    next_ended is_first failure first so_far (inl (is, Ok unit, sent, same)) = absurd (not_failed false failure same)
+    next_ended is_first failure first so_far (inl (is, Err last, sent, same)) =
+        subst (λ (e : Failure). SendsLines name file true (with_words all) a c x z (Err e)) (sym (same_failure failure last same)) (filled_ended is_first last first is so_far sent)
+    next_ended is_first failure first so_far (inr (inl (is, kept, still, same))) = absurd (not_failed is_first failure same)
+    next_ended is_first failure first so_far (inr (inr (kept, still, same))) =
+        subst (λ (e : Failure). SendsLines name file true (with_words all) a c x z (Err e)) (sym (same_failure failure Memory same))
+        (subst₂ (λ s h. SendsLines name file true (with_words all) a s x h (Err Memory)) (sym kept) (sym still) (memory_ended so_far))
+
+-- one more of the lines that were seen was sent, or passed over
+pub more_sent : {T : Type 0} (name file : Text) (seen : T → Text) (some : List T) (line : T) (a b c : Option (List Exchange)) (x y z : Option Text) (is_first next : Bool)
+    → is_first ≡ next_first true (with_words (map seen some)) → SentAll name file true (with_words (map seen some)) a b x y
+    → SendsNext name file (seen line) is_first b c y z (Ok next)
+    → SentAll name file true (with_words (map seen (some ++ line ∷ []))) a c x z × (next ≡ next_first true (with_words (map seen (some ++ line ∷ []))))
+more_sent name file seen some line a b c x y z is_first next first so_far sent =
+    subst (λ (texts : List Text). SentAll name file true (with_words texts) a c x z × (next ≡ next_first true (with_words texts))) (sym (map-append seen some (line ∷ [])))
+    (next_sent name file (map seen some) (seen line) a b c x y z is_first next first so_far sent)
 
 -- all lines were sent
 pub all_sent : (name file : Text) (texts all : List Text) (a b : Option (List Exchange)) (x y : Option Text) → texts ≡ all

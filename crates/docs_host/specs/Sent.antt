@@ -7,7 +7,7 @@ use Rattle.dh_world.specs.World.{Text}
 use Rattle.dh_files.specs.declared.fault.FileFault.TheVariants.{Busy}
 use Rattle.dh_lines.specs.declared.lines.Order.{Order}
 use Rattle.dh_lines.specs.declared.lines.Order.TheVariants as order
-use Rattle.dh_script.specs.Running.{with_words}
+use Rattle.dh_script.specs.Running.{is_filled, with_words, words_in}
 use Rattle.dh_script.specs.declared.fault.RunFault.TheVariants as run
 use Rattle.dh_script.specs.declared.fault.ScriptFault.{ScriptFault}
 use Rattle.dh_script.specs.declared.fault.ScriptFault.TheVariants as script
@@ -135,6 +135,19 @@ abbrev pub SendsLine : Text → Text → Text → Bool → Option (List Exchange
 SendsLine name file line is_first sent more held now result =
     ((heard : Result (Option (Result End ScriptFault)) Unheard) × Hears sent more file (line_message name line) held now heard
     × (result ≡ line_end is_first heard))
+    ⊎ SendsNone sent more held now result
+
+-- behind a line that was sent, the next one is not the first
+abbrev pub next_by : Result (Unit {0}) Failure → Result Bool Failure
+next_by (Ok unit) = Ok false
+next_by (Err failure) = Err failure
+
+-- a line was sent, where it has words, and is passed over where it has none; whether the next one is the first
+abbrev pub SendsNext : Text → Text → Text → Bool → Option (List Exchange) → Option (List Exchange) → Option Text → Option Text → Result Bool Failure → Type 0
+SendsNext name file line is_first sent more held now result =
+    ((is_filled (words_in line) ≡ true) × (one : Result (Unit {0}) Failure)
+    × SendsLine name file line is_first sent more held now one × (result ≡ next_by one))
+    ⊎ ((is_filled (words_in line) ≡ false) × (more ≡ sent) × (now ≡ held) × (result ≡ Ok is_first))
     ⊎ SendsNone sent more held now result
 
 -- a run ended here: nothing more was sent or printed

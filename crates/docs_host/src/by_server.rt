@@ -1,14 +1,14 @@
 //! Runs over a file that a server has open: the server does what is ordered, and the run ends as the server's answers say.
 
-ghost use Rattle.std.specs.Prelude.{◌≡◌, false, true, map, string_bytes, option_map, IfOk, IfSome, IsTrue};
+ghost use Rattle.std.specs.Prelude.{◌≡◌, false, true, map, string_bytes, option_map, IfOk, IfErr, IfSome, IsTrue};
 ghost use Rattle.dh_server.specs.Telling.{TellsSome};
 ghost use Rattle.docs_host.specs.Ends.{Ended, may_end_order, may_end_single};
-ghost use Rattle.docs_host.specs.Failing.{IsDoneOr, is_of_lines, is_of_single, may_be_sent};
+ghost use Rattle.docs_host.specs.Failing.{IsDoneOr, is_of_lines, is_of_single, may_be_sent, may_fail};
 ghost use Rattle.docs_host.specs.Failures.{control_name};
 ghost use Rattle.docs_host.specs.Orders.{AreUnbroken};
 ghost use Rattle.docs_host.specs.Sent as spec;
 ghost use Rattle.docs_host.specs.Sent.{AsksServer, EndIsRead, EndsSent, Hears, PrintsAnswer};
-ghost use Rattle.docs_host.specs.Sent.{SendsImport, SendsLine, SendsLines, SendsOne};
+ghost use Rattle.docs_host.specs.Sent.{SendsImport, SendsLine, SendsLines, SendsNext, SendsOne};
 
 use crate::failure::{Failure, Status, tell_line, tell_sentence};
 use crate::refusing::tell_refusal;
@@ -229,6 +229,7 @@ fn line_end<E: Sink>(
     errors: &mut E,
 ) -> Result<(), Failure>
     ensures ends { result ≡ spec.line_end is_first heard }
+    ensures fails { IfErr result (λ failure. IsTrue (may_fail is_of_lines failure)) }
     ensures tells { TellsSome E.broken E.held errors.old errors.new }
 {
     let told = match heard {
@@ -268,11 +269,42 @@ fn send_line<A: Ask, W: Sink, E: Sink>(
     ensures sends { SendsLine name.now file.now line.now is_first
         (A.sent asker.old) (A.sent asker.new) (W.held sink.old) (W.held sink.new) result }
     ensures whole { IfOk result (λ _. W.broken sink.new ≡ false) }
+    ensures fails { IfErr result (λ failure. IsTrue (may_fail is_of_lines failure)) }
     ensures tells { TellsSome E.broken E.held errors.old errors.new }
 {
     let message = line_message(alloc, name, line)?;
     let heard = hear(alloc, asker, file, message.as_slice(), sink);
     line_end(alloc, number, is_first, heard, errors)
+}
+
+/// Has the server of a file do a line of a script, where it has words, and gives whether the next line that has some is the first
+/// to be sent.
+fn send_next<A: Ask, W: Sink, E: Sink>(
+    alloc: Global,
+    asker: &mut A,
+    file: &str,
+    name: &str,
+    line: &str,
+    number: usize,
+    is_first: bool,
+    sink: &mut W,
+    errors: &mut E,
+) -> Result<bool, Failure>
+    requires { W.broken sink.old ≡ false }
+    ensures sends { SendsNext name.now file.now line.now is_first
+        (A.sent asker.old) (A.sent asker.new) (W.held sink.old) (W.held sink.new) result }
+    ensures whole { IfOk result (λ _. W.broken sink.new ≡ false) }
+    ensures fails { IfErr result (λ failure. IsTrue (may_fail is_of_lines failure)) }
+    ensures tells { TellsSome E.broken E.held errors.old errors.new }
+{
+    let has = has_words(alloc, line)?;
+    if !has {
+        return Ok(is_first);
+    }
+    send_line(
+        alloc, asker, file, name, line, number, is_first, sink, errors,
+    )?;
+    Ok(false)
 }
 
 /// Has the server of a file do the lines of a script one after another, each that has words by a message of its own: so readers
@@ -297,12 +329,10 @@ fn send_lines<A: Ask, W: Sink, E: Sink>(
     let mut is_first = true;
     for line in script.lines() {
         number = number.saturating_add(1);
-        if has_words(alloc, line)? {
-            send_line(
-                alloc, asker, file, name, line, number, is_first, sink, errors,
-            )?;
-            is_first = false;
-        }
+        let next = send_next(
+            alloc, asker, file, name, line, number, is_first, sink, errors,
+        )?;
+        is_first = next;
     }
     Ok(Status::Done)
 }
