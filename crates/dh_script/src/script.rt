@@ -130,8 +130,8 @@ fn run_batch<'a, S: Alter, W: Sink>(
     Ok(())
 }
 
-/// Splits a line into its words, which stand between spaces and tabs. A comment has none.
-fn words_of(alloc: Global, line: &str) -> Result<Vec<String>, AllocError>
+/// Splits a line of a script into its words, which stand between spaces and tabs. A comment has none.
+pub fn words_of(alloc: Global, line: &str) -> Result<Vec<String>, AllocError>
     ensures { IfOk result (λ words. map string_bytes words.items ≡ words_in line.now) }
 {
     let mut words = Vec::new(alloc);
