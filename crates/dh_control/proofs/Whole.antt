@@ -1,19 +1,25 @@
 -- What a message does, by what was read and by what stands behind its head.
-use Rattle.std.proofs.Common.{◌≡◌, ◌∙◌, ℕ, true, ◌||◌, is_err, [], ◌∷◌, ◌++◌, Option, Some, None, Result, Ok, Err, IfOk, IfSome, inl, inr, refl, ap, subst, subst₂}
+use Rattle.std.proofs.Common.{◌≡◌, ◌∙◌, ℕ, true, ◌||◌, is_err, [], ◌∷◌, ◌++◌, Option, Some, None, Result, Ok, Err, IfOk, IfSome, inl, inr, refl, sym, ap, subst, subst₂}
 use Rattle.std.specs.Io.KnownBytes.{Appends}
+use Rattle.std.specs.Str.{IsUtf8}
+use Rattle.dh_lines.specs.Lines.{line_in}
 use Rattle.dh_lines.specs.declared.lines.Line.{Line}
 use Rattle.dh_lines.specs.declared.lines.Order.{Order}
+use Rattle.dh_lists.specs.declared.lists.ListFault.{ListFault}
+use Rattle.dh_lists.specs.declared.lists.ListFault.TheVariants.{BadRecord, Memory}
 use Rattle.dh_script.proofs.Explained.{line, singly}
 use Rattle.dh_script.specs.Explaining.{DoesLineFor, PerformsSingleFor}
 use Rattle.dh_script.specs.Reading.{reader_failed, writer_failed}
+use Rattle.dh_script.specs.Running.{words_in}
 use Rattle.dh_script.specs.Script.{MayDoLine, MayDoSingle}
 use Rattle.dh_script.specs.declared.fault.ScriptFault.{ScriptFault}
 use Rattle.dh_script.specs.declared.reasons.Reason.{Reason}
 use Rattle.dh_world.specs.World.{Text, World}
-use Rattle.dh_control.specs.Answers.{AnswersMessage, DoesBody, DoesBy, DoesFor, DoesImport, DoesMessage, DoesOne, DoesOneLine, DoesRest, DoesWords, HasLastLine, TakesMessage}
+use Rattle.dh_control.specs.Answers.{AnswersMessage, DoesBody, DoesBy, DoesFor, DoesImport, DoesList, DoesListed, DoesMessage, DoesNone, DoesOne, DoesOneLine, DoesRest, DoesSentLine, DoesWords, HasLastLine, TakesMessage, unlisted}
 use Rattle.dh_control.specs.Ends.{end_of}
 use Rattle.dh_control.specs.Messages.{behind, body_of, host_and_list, import_mark, line_mark, rest_for, words_mark}
 use Rattle.dh_control.specs.declared.end.End.{End}
+use Rattle.dh_control.specs.declared.end.End.TheVariants.{Unknown}
 
 -- an order that ended by a fault was done, or was not
 pub one_failed : {E : Type 0} (moment : ℕ) (before : World) (order : Order) (after : World) (held now : Option Text) (result : Result End E) → is_err result ≡ true → MayDoSingle moment before order after → DoesOne moment before order after held now result
@@ -80,6 +86,31 @@ pub one_handed
 one_handed moment before order after held now fault (Ok end) is did = let no : ⊥ = cc in absurd no
 one_handed moment before order after held now fault (Err handed) is did = did
 
+-- a list that was not read does nothing
+pub unlisted_does : (moment : ℕ) (world : World) (host : Text) (held : Option Text) (fault : ListFault) (result : Result End ScriptFault) → result ≡ unlisted fault
+    → DoesListed moment world host (Err fault) world held held result
+unlisted_does moment world host held (BadRecord number fault) result is =
+    subst (λ (r : Result End ScriptFault). DoesNone Unknown world world held held r) (sym is) (refl, refl, refl)
+unlisted_does moment world host held Memory result is = (refl, ap is_err is)
+
+-- what was sent is text
+module _ (moment : ℕ) (before after : World) (held now : Option Text) (result : Result End ScriptFault) where
+  pub line_sent : (line_text sent : Text) → line_text ≡ sent → IsUtf8 sent → DoesOneLine moment before (line_in (words_in line_text)) after held now result
+      → DoesSentLine moment sent before after held now result
+  line_sent line_text sent same is did =
+      inl (is, subst (λ (l : Text). DoesOneLine moment before (line_in (words_in l)) after held now result) same did)
+
+  pub import_sent : (sent host list named : Text) → Some (host, list) ≡ host_and_list sent → named ≡ host → IsUtf8 host → DoesList moment before named list after held now result
+      → DoesImport moment before (host_and_list sent) after held now result
+  import_sent sent host list named found same is did =
+      subst (λ (p : Option (Text × Text)). DoesImport moment before p after held now result) found
+      (inl (is, subst (λ (h : Text). DoesList moment before h list after held now result) same did))
+
+  pub import_unsent : (sent host list : Text) → Some (host, list) ≡ host_and_list sent → (IsUtf8 host → ⊥) → DoesNone Unknown before after held now result
+      → DoesImport moment before (host_and_list sent) after held now result
+  import_unsent sent host list found none did =
+      subst (λ (p : Option (Text × Text)). DoesImport moment before p after held now result) found (inr (none, did))
+
 -- what stands behind the head of a body was done, and the body of a message
 module _ (moment : ℕ) (before after : World) (held now : Option Text) (result : Result End ScriptFault) where
   pub rest_done : (rest : Text) (sent line sent_import : Option Text) → sent ≡ behind words_mark rest → line ≡ behind line_mark rest → sent_import ≡ behind import_mark rest
@@ -87,10 +118,6 @@ module _ (moment : ℕ) (before after : World) (held now : Option Text) (result 
   rest_done rest sent line sent_import words lines imports does =
       let first = subst₂ (λ s t. DoesBy moment s t sent_import before after held now result) words lines does in
       subst (λ i. DoesBy moment (behind words_mark rest) (behind line_mark rest) i before after held now result) imports first
-
-  pub import_found : (sent host list : Text) → Some (host, list) ≡ host_and_list sent
-      → DoesImport moment before (Some (host, list)) after held now result → DoesImport moment before (host_and_list sent) after held now result
-  import_found sent host list is does = subst (λ p. DoesImport moment before p after held now result) is does
 
   pub import_none : (sent : Text) → None ≡ host_and_list sent
       → DoesImport moment before None after held now result → DoesImport moment before (host_and_list sent) after held now result

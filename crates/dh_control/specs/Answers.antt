@@ -16,6 +16,7 @@ use Rattle.dh_script.specs.Reading.{IsCauseOver}
 use Rattle.dh_script.specs.Running.{words_in}
 use Rattle.dh_script.specs.Script.{MayDoLine, MayDoSingle}
 use Rattle.dh_script.specs.declared.fault.RunFault.TheVariants.{Write}
+use Rattle.dh_script.specs.declared.fault.RunFault.TheVariants as run
 use Rattle.dh_script.specs.declared.fault.ScriptFault.{ScriptFault}
 use Rattle.dh_script.specs.declared.fault.ScriptFault.TheVariants.{Run}
 use Rattle.dh_script.specs.declared.reasons.Reason.{Reason}
@@ -67,6 +68,11 @@ DoesSentLine moment sent before after held now result =
 -- the command that adds these redirects to those of a project
 abbrev pub importing : Text → List Redirect → Order
 importing host list = Act (asking host (ImportRedirects list))
+
+-- how an import ends whose list was not read
+abbrev pub unlisted : ListFault → Result End ScriptFault
+unlisted (BadRecord number fault) = Ok Unknown
+unlisted Memory = Err (Run run.Memory)
 
 -- the redirects of a list are added to those of a project; a list with a record that writes none does nothing
 abbrev pub DoesListed : ℕ → World → Text → Result (List Redirect) ListFault → World → Option Text → Option Text → Result End ScriptFault → Type 0

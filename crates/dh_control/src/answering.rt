@@ -168,6 +168,17 @@ fn do_listed<S: Alter, W: Sink>(
     do_order(alloc, desk, &order, sink, now)
 }
 
+/// How an import ends whose list was not read.
+fn unlisted(fault: ListFault) -> Result<End, ScriptFault>
+    ensures ends { result ≡ spec.unlisted fault }
+    ensures quiet { writer_failed result ≡ false }
+{
+    match fault {
+        ListFault::BadRecord(_, _) => Ok(End::Unknown),
+        ListFault::Memory => Err(ScriptFault::Run(RunFault::Memory)),
+    }
+}
+
 /// Does an import of a list into a project. A client reads its list before it sends it, so a list with a bad record is none of a
 /// client's.
 fn do_list<S: Alter, W: Sink>(
@@ -186,8 +197,7 @@ fn do_list<S: Alter, W: Sink>(
 {
     match read_list(alloc, list) {
         Ok(redirects) => Ok(do_listed(alloc, desk, host, redirects, sink, now)?),
-        Err(ListFault::BadRecord(_, _)) => Ok(End::Unknown),
-        Err(ListFault::Memory) => Err(ScriptFault::Run(RunFault::Memory)),
+        Err(fault) => unlisted(fault),
     }
 }
 
