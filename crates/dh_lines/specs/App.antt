@@ -139,9 +139,9 @@ migrate_app = form (codes "migrate") (codes "file" ∷ [])
 
 abbrev pub serve_app : App
 serve_app =
-    with_rule (with_rule (with_rule (with_rule (form (codes "serve") [])
+    with_rule (with_rule (with_rule (with_rule (with_rule (form (codes "serve") [])
     (required_option_rule (codes "store"))) (required_option_rule (codes "count")))
-    (option_rule (codes "port"))) (flag_rule (codes "log"))
+    (option_rule (codes "port"))) (option_rule (codes "wait"))) (flag_rule (codes "log"))
 
 -- the program without its subcommands
 abbrev pub bare_app : App

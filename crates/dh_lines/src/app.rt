@@ -135,6 +135,9 @@ fn serve_command<'a>(alloc: Global) -> Result<Syntax<'a>, AllocError>
     let syntax = syntax.with_required_option("count", count)?;
     let port = "The port, as 8080; any free one where this is left out, or 0";
     let syntax = syntax.with_option("port", port)?;
+    let wait =
+        "How many seconds it waits for a file that another program has open: 60 where this is left out";
+    let syntax = syntax.with_option("wait", wait)?;
     syntax.with_flag("log", "Prints a line for each request")
 }
 

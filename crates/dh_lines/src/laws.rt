@@ -24,7 +24,7 @@ ghost use Rattle.dh_lines.specs.App.{docs_app};
 ghost use Rattle.dh_lines.specs.Lines.{line_in, asking, OrdersLine, OrdersOnVersion, OrdersOnPass};
 ghost use Rattle.dh_lines.specs.Lines.{OrdersOnGrant, OrdersRedirect, OrdersForced, OrdersRule};
 ghost use Rattle.dh_lines.specs.Lines.{OrdersList};
-ghost use Rattle.dh_lines.specs.Lines.{place_of, moment_of, as_line, ServesAt, ServesAtPort};
+ghost use Rattle.dh_lines.specs.Lines.{place_of, moment_of, as_line, ServesAt, ServesAtPort, WaitsAsTold};
 ghost use Rattle.dh_lines.specs.declared.lines.Order.TheVariants.{Act, Get, Import, Init};
 ghost use Rattle.dh_lines.specs.declared.lines.Order.TheVariants.{Migrate, Script, Answer};
 ghost use Rattle.dh_lines.specs.declared.lines.Order.TheVariants as order;
@@ -204,13 +204,14 @@ pub fn init_lines()
         → line_in (codes "migrate" ∷ file ∷ codes "--store" ∷ other ∷ []) ≡ None }
 {}
 
-/// The words that serve a store: the port is 0 where it is left out. The store and the count have
-/// to be there.
+/// The words that serve a store: the port is 0 where it is left out, and the server waits for its file for 60 seconds. The store
+/// and the count have to be there.
 pub fn serve_lines()
     ensures quiet { ServesAt [] 0 false }
     ensures told { ServesAt (codes "--log" ∷ []) 0 true }
     ensures quiet_at { ServesAtPort [] false }
     ensures told_at { ServesAtPort (codes "--log" ∷ []) true }
+    ensures waiting { WaitsAsTold }
     ensures no_store { (count : Text) → is_plain_word count ≡ true
         → line_in (codes "serve" ∷ codes "--count" ∷ count ∷ []) ≡ None }
     ensures no_count { (file : Text) → is_plain_word file ≡ true

@@ -3,3 +3,4 @@ pub mod RunLemmas
 pub mod ScriptLemmas
 pub mod WordLemmas
 pub mod LineCallLemmas
+pub mod Explained

@@ -72,7 +72,7 @@ PerformsOrder moment before order.Script after text refused =
     (after ≡ before) × IsUsage text refused
 PerformsOrder moment before order.Answer after text refused =
     (after ≡ before) × IsUsage text refused
-PerformsOrder moment before (order.Serve count port log) after text refused =
+PerformsOrder moment before (order.Serve count port log wait) after text refused =
     (after ≡ before) × IsUsage text refused
 
 -- what an order does to the world at a moment and what it prints, whether it is refused or not
