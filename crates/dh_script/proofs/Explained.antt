@@ -38,11 +38,11 @@ module _ (before after : World) (text : Text) (reason : Option Reason) where
   told_list (Ok None) it = (true, (it.0, refl))
   told_list (Err fault) it = (true, (it.0, refl))
 
-  lists : (word : ListWord) → ListsFor before word text reason → (refused : Bool) × ListsAt before word text refused
-  lists word it = let its = told_list it.0 it.2 in (its.0, (it.0, it.1, its.1))
+  lists : (moment : ℕ) (word : ListWord) → ListsFor moment before word text reason → (refused : Bool) × ListsAt moment before word text refused
+  lists moment word it = let its = told_list it.0 it.2 in (its.0, (it.0, it.1, its.1))
 
   pub singly : (moment : ℕ) (o : Order) → PerformsSingleFor moment before o after text reason → (refused : Bool) × PerformsSingle moment before o after text refused
-  singly moment (order.List word) it = let its = lists word it.1 in (its.0, (it.0, its.1))
+  singly moment (order.List word) it = let its = lists moment word it.1 in (its.0, (it.0, its.1))
   singly moment (order.Act command) it = performs moment (order.Act command) it
   singly moment (order.Get host target pass own) it = performs moment (order.Get host target pass own) it
   singly moment (order.Import host list) it = performs moment (order.Import host list) it

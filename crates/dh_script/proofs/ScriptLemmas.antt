@@ -74,10 +74,10 @@ pub list_told : {P E : Type 0} (text_in : P → Text) (refused_in : P → Bool) 
 list_told text_in refused_in moment w word listed result value told = IfOk-weaker result _ _ (λ p is. (listed, value, is)) told
 
 -- the same with its reason
-pub list_for : {P E : Type 0} (text_in : P → Text) (reason_in : P → Option Reason) (w : World) (word : ListWord) (listed : Result (Option Text) Fault) (result : Result P E)
-    → IfOk listed (λ found. found ≡ listing_text w word) → IfOk result (λ p. ExplainsList listed (text_in p) (reason_in p))
-    → IfOk result (λ p. ListsFor w word (text_in p) (reason_in p))
-list_for text_in reason_in w word listed result value told = IfOk-weaker result _ _ (λ p is. (listed, value, is)) told
+pub list_for : {P E : Type 0} (text_in : P → Text) (reason_in : P → Option Reason) (moment : ℕ) (w : World) (word : ListWord) (listed : Result (Option Text) Fault) (result : Result P E)
+    → IfOk listed (λ found. found ≡ listing_text moment w word) → IfOk result (λ p. ExplainsList listed (text_in p) (reason_in p))
+    → IfOk result (λ p. ListsFor moment w word (text_in p) (reason_in p))
+list_for text_in reason_in moment w word listed result value told = IfOk-weaker result _ _ (λ p is. (listed, value, is)) told
 
 -- what is told of an outcome has its reason
 pub explained : (o : Outcome) (text : Text) (refused : Bool) (reason : Option Reason) → text ≡ text_of_outcome o → refused ≡ is_refusal o → reason ≡ reason_of o → ExplainsRefusal reason text refused

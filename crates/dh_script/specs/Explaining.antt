@@ -49,9 +49,9 @@ ExplainsList (Ok None) text reason = ExplainsOutcome (outcome.Refused NoProject)
 ExplainsList (Err fault) text reason = ExplainsOutcome (outcome.Failed fault) text reason
 
 -- a list, as `ListsAt` has it
-abbrev pub ListsFor : World → ListWord → Text → Option Reason → Type 0
-ListsFor w word text reason =
-    (listed : Result (Option Text) Fault) × IfOk listed (λ found. found ≡ listing_text w word)
+abbrev pub ListsFor : ℕ → World → ListWord → Text → Option Reason → Type 0
+ListsFor moment w word text reason =
+    (listed : Result (Option Text) Fault) × IfOk listed (λ found. found ≡ listing_text moment w word)
     × ExplainsList listed text reason
 
 -- an order, as `PerformsOrder` has it
@@ -67,7 +67,7 @@ PerformsFor moment before _ after text reason = (after ≡ before) × ExplainsUs
 -- a single order, as `PerformsSingle` has it
 abbrev pub PerformsSingleFor : ℕ → World → Order → World → Text → Option Reason → Type 0
 PerformsSingleFor moment before (order.List word) after text reason =
-    (after ≡ before) × ListsFor before word text reason
+    (after ≡ before) × ListsFor moment before word text reason
 PerformsSingleFor moment before order after text reason = PerformsFor moment before order after text reason
 
 abbrev pub DoesOverFor : ℕ → World → Option Text → Order → World → Text → Option Reason → Type 0

@@ -54,7 +54,7 @@ pub fn list<S: Alter>(
         (λ p. ListsAt now before word.now (string_bytes p.text) p.refused)) }
     ensures why { WorldGoesBy S.Store desk.old desk.new
         (λ before after. (after ≡ before) × IfOk result
-        (λ p. ListsFor before word.now (string_bytes p.text) p.reason)) }
+        (λ p. ListsFor now before word.now (string_bytes p.text) p.reason)) }
     ensures explains { IfOk result (λ p. ExplainsRefusal p.reason (string_bytes p.text) p.refused) }
     ensures told { IfOk result (λ p. BlamesStore S.Store desk.old desk.new p.reason) }
 {
