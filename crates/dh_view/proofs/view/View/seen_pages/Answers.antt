@@ -36,7 +36,7 @@ returns-clause-value g c d =
     ∙ pages_unseen lists view.host view.caller c.args.slug.now c.args.lang.now
     (sym c.in-None.is ∙ c.in_ok-own.ensures.value (honest g.S.Store _ d) ∙ ap (slug_if_seen lists view.host view.caller) c.as_str-text.ensures.text)
 
-pub invariant_of-self-in-Some-host : goal.invariant_of-self-in-Some-host
-invariant_of-self-in-Some-host g c =
+pub invariant_of-self : goal.invariant_of-self
+invariant_of-self g c =
     let it = recalls c.seen_slug.new.self c.in_ok-own.ensures.settled c.pages_in.ensures.asks in
     record { right = it.right; is_known = it.is_known; is_seen = it.is_seen; are_languages = it.are_languages; is_classed = it.is_classed }
