@@ -80,15 +80,17 @@ apart [] (o ∷ os) rest mine its differ =
 apart (f ∷ fs) [] rest mine its differ =
     let first : (f == 10) ≡ false = All-head (λ b. (b == 10) ≡ false) f fs mine in
     grind (first)
-apart (f ∷ fs) (o ∷ os) rest mine its differ = by (nat_eq f o) refl
+apart (f ∷ fs) (o ∷ os) rest mine its differ =
+    by (nat_eq f o) refl (λ tails. apart fs os rest (All-tail (λ b. (b == 10) ≡ false) f fs mine) (All-tail (λ b. (b == 10) ≡ false) o os its) tails)
   where
-    by : (b : Bool) → nat_eq f o ≡ b → option_and_then (behind (10 ∷ [])) (behind (f ∷ fs) (o ∷ os ++ 10 ∷ rest)) ≡ None
-    by true is =
+    by : (b : Bool) → nat_eq f o ≡ b → (fs ≢ os → option_and_then (behind (10 ∷ [])) (behind fs (os ++ 10 ∷ rest)) ≡ None)
+        → option_and_then (behind (10 ∷ [])) (behind (f ∷ fs) (o ∷ os ++ 10 ∷ rest)) ≡ None
+    by true is others =
         let same : f ≡ o = grind (arith, nat_tests, is) in
         let tails : fs ≢ os = λ same_tail. differ (ap₂ (λ x xs. x ∷ xs) same same_tail) in
         ap (λ b. option_and_then (behind (10 ∷ [])) (cond (b && pointwise nat_eq fs (take (length fs) (os ++ 10 ∷ rest))) (Some (drop (length fs) (os ++ 10 ∷ rest))) None)) is
-        ∙ apart fs os rest (All-tail (λ b. (b == 10) ≡ false) f fs mine) (All-tail (λ b. (b == 10) ≡ false) o os its) tails
-    by false is =
+        ∙ others tails
+    by false is others =
         ap (λ b. option_and_then (behind (10 ∷ [])) (cond (b && pointwise nat_eq fs (take (length fs) (os ++ 10 ∷ rest))) (Some (drop (length fs) (os ++ 10 ∷ rest))) None)) is
 
 -- ---- messages

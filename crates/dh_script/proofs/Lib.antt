@@ -4,3 +4,4 @@ pub mod ScriptLemmas
 pub mod WordLemmas
 pub mod LineCallLemmas
 pub mod Explained
+pub mod Filled

@@ -1,5 +1,4 @@
 -- Runs of lines, one after another.
-use Rattle.std.proofs.Common.{Bool, false, cond}
 use Rattle.std.proofs.Common.{◌≡◌, IfSome, Some, None, is_err, is_ok, true, length-append, ℕ, ◌+◌, ◌<◌, ◌≤◌, List, [], ◌∷◌, ◌++◌, map, length, take, drop, get_or, refl, sym, ap, subst, ◌∙◌, inl, inr, append_assoc, Option, Result, Ok, Err, OnOk, IfErr, OnErr, string_bytes, arith, filter}
 use Rattle.std.proofs.lemmas.List.{append-nil, take-append-drop, take_more, map-append, take_all, length-map}
 use Rattle.std.proofs.lemmas.List.Elements.{filter-append}
@@ -11,7 +10,7 @@ use Rattle.dh_lines.specs.Lines.{line_in}
 use Rattle.dh_ports.specs.Ports.{PutsFirst}
 use Rattle.dh_script.specs.Script.{DoesLine, MayDoLine}
 use Rattle.dh_script.specs.declared.fault.RunFault.{RunFault}
-use Rattle.dh_script.specs.Running.{RunsLines, RunsInto, RunsSome, StopsAt, Ran, RunsBut, RanBut, RunsScript, lines_in, words_seen, with_words, worded, words_in, is_filled}
+use Rattle.dh_script.specs.Running.{RunsLines, RunsInto, RunsSome, StopsAt, Ran, RunsBut, RanBut, RunsScript, lines_in, words_seen, worded, words_in, is_filled}
 
 -- two runs, one after the other, are a run
 pub runs_on : (moment : ℕ) (before : World) (xs : List (List Text)) (between : World) (text : Text) (ys : List (List Text)) (after : World) (rest : Text)
@@ -261,13 +260,3 @@ script_read moment left bytes shown text before after held now r whole same_text
   read = whole;
   ran = subst (λ (t : Text). Ran moment before (lines_in t) after held now r) (same_text ∙ same) all;
 }
-
--- the lines that have words, by their words
-pub with_words_seen : (texts : List Text) → map words_in (with_words texts) ≡ worded texts
-unfolding worded
-with_words_seen [] = refl
-with_words_seen (text ∷ texts) = by (is_filled (words_in text))
-  where
-    by : (b : Bool) → map words_in (cond b (text ∷ with_words texts) (with_words texts)) ≡ cond b (words_in text ∷ worded texts) (worded texts)
-    by true = ap (λ (rest : List (List Text)). words_in text ∷ rest) (with_words_seen texts)
-    by false = with_words_seen texts
