@@ -193,6 +193,20 @@ impl<'a> Control for Messages<'a> {
     }
 }
 
+/// Tells why a server ends that was not stopped, where the log is on, unless memory is out.
+fn tell_end<E: Sink>(alloc: Global, file: &str, log: bool, errors: &mut E)
+    ensures { TellsSome E.broken E.held errors.old errors.new }
+{
+    if !log {
+        return;
+    }
+    if let Ok(line) = format!(in alloc;
+        "docs_host: {file}: all connections that --count orders came; the server ends\n"
+    ) {
+        put(errors, line.as_str());
+    }
+}
+
 /// Answers `count` connections over the desk of a file, each at the moment that the clock gives. Where a fault of the store closes
 /// the desk, gives how many are left.
 fn serve_desk<S: Alter, N: Listen, C: FnMut() -> u64, E: Sink>(
@@ -216,7 +230,7 @@ fn serve_desk<S: Alter, N: Listen, C: FnMut() -> u64, E: Sink>(
     ensures callable { C.IsAlwaysCallable clock.new }
     ensures tells { TellsSome E.broken E.held errors.old errors.new }
 {
-    let log = Log::new(rt, log);
+    let lines = Log::new(rt, log);
     let name = name_or_none(rt, file);
     let mut messages = Messages {
         file: name.as_str(),
@@ -230,12 +244,13 @@ fn serve_desk<S: Alter, N: Listen, C: FnMut() -> u64, E: Sink>(
         &mut messages,
         clock,
         count,
-        &log,
+        &lines,
         errors,
     );
     if desk.is_closed() {
         return Some(count - served.asked);
     }
+    tell_end(rt.alloc(), file, log, errors);
     None
 }
 
