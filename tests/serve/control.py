@@ -61,6 +61,7 @@ def control(part):
     answers(part)
     beginnings(part)
     strangers(part)
+    logged(part)
     kills(part)
     owners(part)
     left_behind(part)
@@ -111,6 +112,52 @@ def scripts(part):
         part.check(f"{name_of(path)} through the socket", not faults, *faults)
         done += not faults
     print(f"    {done} scripts through the socket", flush=True)
+
+
+# the log: each order has a line
+
+
+def ordered(told):
+    """The lines of orders, each by its words but for bytes, microseconds and moment."""
+    lines = [line.split() for line in told.splitlines() if " ORDER " in line]
+    return [[line[0], line[2], line[5], line[7], line[8]] for line in lines if len(line) == 9]
+
+
+def logged(part):
+    """With --log each order has a line: how it ended, its word, its host, why it was refused, and its version; no key, no pass."""
+    store = filled(part, "logged.docs")
+    with part.serve(store, 100000, "--log") as server:
+        command(part.program, store, f"push {HOST} {KEY} k1 branch other")
+        command(part.program, store, f"add-pass {HOST} pass-of-a-reader")
+        command(part.program, store, f"list-pages {HOST} main en")
+        run(part.program, "activate", HOST, "nothing", "--store", store)
+        run(part.program, "push", HOST, "another-key", "k2", "tag", "1.0", "--store", store)
+        subprocess.run(
+            [part.program, "script", "--store", store], input=f"# a comment\nhide {HOST} main\nget {HOST} /\nnothing\n", text=True, capture_output=True
+        )
+        send(store, b"nothing")
+        ask = socket.create_connection(("127.0.0.1", server.port), hosts.TIME_LIMIT)
+        ask.sendall(b"\r\n" + get_bytes("/en/main/", HOST))
+        read_all(ask)
+        told = server.told_at_last()
+    wanted = [
+        ["Done", "push", HOST, "-", "other"],
+        ["Done", "add-pass", HOST, "-", "-"],
+        ["Done", "list-pages", HOST, "-", "main"],
+        ["Refused", "activate", HOST, "15", "nothing"],
+        ["Refused", "push", HOST, "12", "1.0"],
+        ["Done", "hide", HOST, "-", "main"],
+        ["Done", "get", HOST, "-", "-"],
+        ["Refused", "-", "-", "usage", "-"],
+        ["Unknown", "-", "-", "-", "-"],
+    ]
+    part.same("each order has a line", ordered(told), wanted)
+    part.check("no key and no pass is in the log", not any(it in told for it in (KEY, "another-key", "pass-of-a-reader")), told)
+    part.check("an empty line hides no request", "GET /en/main/ " in told and told.splitlines()[-1].split()[5] == HOST, told)
+    with part.serve(store, 1, "--log") as server:
+        server.get("/en/main/", HOST)
+        server.wait()
+        part.check("the log ends with a line", server.told().endswith("all connections that --count orders came; the server ends\n"), server.told())
 
 
 # words: single commands and reads

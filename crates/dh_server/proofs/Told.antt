@@ -3,8 +3,9 @@ use Rattle.std.proofs.Common.{ℕ, Bool, List, [], ◌++◌, Option, Result, inl
 use Rattle.std.proofs.KnownBytes.{Appends-trans}
 use Rattle.dh_http.specs.declared.fault.Done.{Done}
 use Rattle.dh_http.specs.declared.fault.EngineFault.{EngineFault}
-use Rattle.dh_server.specs.Lines.{log_line, told_as}
-use Rattle.dh_server.specs.Telling.{WritesUnlessBroken, TellsLineAt, TellsSome}
+use Rattle.dh_server.specs.Lines.{log_line, order_line, told_as}
+use Rattle.dh_server.specs.declared.line.Asked.{Asked}
+use Rattle.dh_server.specs.Telling.{WritesUnlessBroken, TellsLineAt, TellsOrder, TellsSome}
 
 module _ {S : Type 0} (broken : S → Bool) (held : S → Option (List ℕ)) where
   pub tells_both : (a b c : S) (xs ys : List ℕ) → WritesUnlessBroken broken held a b xs → WritesUnlessBroken broken held b c ys → WritesUnlessBroken broken held a c (xs ++ ys)
@@ -20,3 +21,7 @@ module _ {S : Type 0} (broken : S → Bool) (held : S → Option (List ℕ)) whe
   pub some_line : (a b : S) (outcome : Option (Result Done EngineFault)) (moment : ℕ) → TellsLineAt broken held a b outcome moment → TellsSome broken held a b
   some_line a b outcome moment (entry, bytes, is, inl none) = ([], none)
   some_line a b outcome moment (entry, bytes, is, inr (micros, line)) = (log_line (told_as outcome) entry bytes micros, line)
+
+  pub some_order : (a b : S) (asked : Asked) (moment bytes : ℕ) → TellsOrder broken held a b asked moment bytes → TellsSome broken held a b
+  some_order a b asked moment bytes (inl none) = ([], none)
+  some_order a b asked moment bytes (inr (micros, line)) = (order_line asked moment bytes micros, line)

@@ -3,7 +3,8 @@ use Rattle.std.specs.Prelude.{◌≡◌, ◌⊎◌, ℕ, Bool, false, List, [], 
 use Rattle.std.specs.Io.KnownBytes.{Appends}
 use Rattle.dh_http.specs.declared.fault.Done.{Done}
 use Rattle.dh_http.specs.declared.fault.EngineFault.{EngineFault}
-use Rattle.dh_server.specs.Lines.{log_line, told_as}
+use Rattle.dh_server.specs.Lines.{log_line, order_line, told_as}
+use Rattle.dh_server.specs.declared.line.Asked.{Asked}
 use Rattle.dh_server.specs.declared.line.Entry.{Entry}
 
 module _ {S : Type 0} (broken : S → Bool) (held : S → Option (List ℕ)) where
@@ -25,3 +26,8 @@ module _ {S : Type 0} (broken : S → Bool) (held : S → Option (List ℕ)) whe
   abbrev pub TellsLineAt : S → S → Option (Result Done EngineFault) → ℕ → Type 0
   TellsLineAt old new outcome moment =
       (entry : Entry) × (bytes : ℕ) × (entry.moment ≡ moment) × TellsLine old new outcome entry bytes
+
+  -- the line of a message that was answered at this moment was written, in some microseconds; or nothing was
+  abbrev pub TellsOrder : S → S → Asked → ℕ → ℕ → Type 0
+  TellsOrder old new asked moment bytes =
+      WritesUnlessBroken old new [] ⊎ ((micros : ℕ) × WritesUnlessBroken old new (order_line asked moment bytes micros))

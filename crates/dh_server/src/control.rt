@@ -6,6 +6,7 @@ ghost use Rattle.dh_http.specs.Desk.{WorldGoesBy};
 ghost use Rattle.dh_server.specs.Serving.{CountsExactly, DoesByCalls, Talk, talk_of};
 ghost use Rattle.dh_world.specs.World.{World};
 
+use crate::line::Asked;
 use dh_http::Desk;
 use dh_ports::{Sink, Source};
 use sqlite::Alter;
@@ -33,6 +34,9 @@ pub trait Control {
         ensures moves { WorldGoesBy S.Store desk.old desk.new (DoesByCalls (does now
             (talk_of (R.left source.old) (W.held sink.old) (W.held sink.new) (W.broken sink.new)))) }
         ensures counts { CountsExactly (handed self.old) (handed self.new) 1 };
+
+    /// What the log tells of the message that was answered last, whose first bytes these are.
+    fn asked(&self, alloc: Global, message: &[u8]) -> Asked;
 }
 
 /// The control of a server without a socket: nothing is done, and nothing is written.
@@ -53,4 +57,8 @@ impl Control for NoControl {
         _sink: &mut W,
         _now: u64,
     ) {}
+
+    fn asked(&self, alloc: Global, _message: &[u8]) -> Asked {
+        Asked::unknown(alloc)
+    }
 }

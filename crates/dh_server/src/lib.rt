@@ -21,7 +21,7 @@ pub use counted::Counted;
 pub use dh_http::{Done, EngineFault};
 pub use joined::Joined;
 pub use laws::life_law;
-pub use line::Entry;
+pub use line::{Asked, Entry};
 pub use listening::{Came, Listen, Listening};
 pub use log::Log;
 pub use serving::{Tally, answer_heard, answer_joined, answer_order, serve_on};

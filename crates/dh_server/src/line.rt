@@ -136,3 +136,55 @@ pub fn log_line(
     put(&mut out, "\n")?;
     Ok(out)
 }
+
+/// What a line of the log tells of a message of the control socket. It has no key and no pass.
+#[derive(Drop)]
+pub struct Asked {
+    /// How it ended.
+    pub told: &'static str,
+    /// The word of its order; empty where that is not known, and so are the host and the slug.
+    pub word: &'static str,
+    pub host: String,
+    /// The slug or the name of the version that the order is about, where it has one.
+    pub slug: String,
+    /// Why the order was refused, where it was.
+    pub reason: &'static str,
+}
+
+impl Asked {
+    /// Makes what is told of a message of which nothing is known.
+    pub fn unknown(alloc: Global) -> Asked {
+        Asked {
+            told: "Unknown",
+            word: "",
+            host: String::new(alloc),
+            slug: String::new(alloc),
+            reason: "",
+        }
+    }
+}
+
+/// Makes the line for a message of the control socket.
+pub fn order_line(
+    alloc: Global,
+    asked: &Asked,
+    moment: u64,
+    count: u64,
+    micros: u64,
+) -> Result<Vec<u8>, AllocError>
+    ensures { IfOk result (λ text. text.items
+        ≡ spec.order_line asked.now moment count micros) }
+{
+    let mut out = Vec::new(alloc);
+    put(&mut out, asked.told)?;
+    put(&mut out, " ORDER")?;
+    put_word(&mut out, asked.word.as_bytes())?;
+    put_number(alloc, &mut out, count)?;
+    put_number(alloc, &mut out, micros)?;
+    put_word(&mut out, asked.host.as_bytes())?;
+    put_number(alloc, &mut out, moment)?;
+    put_word(&mut out, asked.reason.as_bytes())?;
+    put_word(&mut out, asked.slug.as_bytes())?;
+    put(&mut out, "\n")?;
+    Ok(out)
+}

@@ -2,9 +2,9 @@
 
 ghost use Rattle.std.specs.Prelude.{◌≡◌, false, IfOk, string_bytes};
 ghost use Rattle.dh_server.specs.Lines.{told_as, log_line};
-ghost use Rattle.dh_server.specs.Telling.{TellsLine};
+ghost use Rattle.dh_server.specs.Telling.{TellsLine, TellsOrder};
 
-use crate::line::{Entry, log_line};
+use crate::line::{Asked, Entry, log_line, order_line};
 use crate::telling::put_or_lose;
 use dh_http::{Done, EngineFault};
 use dh_ports::Sink;
@@ -18,6 +18,9 @@ use std::time::{Clock, Instant};
 /// in seconds since 1970, and the reason is that of a 400. In a word a byte that is no visible ASCII is a `?`, and `-` stands for
 /// an empty one; of the request's line only the first 2,048 bytes are looked at. A line for which there is no memory, or which the
 /// sink does not take, is lost, and after that sink's fault each line.
+///
+/// The line of a message of the control socket is `END ORDER WORD BYTES MICROSECONDS HOST MOMENT REASON SLUG`: how it ended, the word
+/// of its order, and why that was refused, where it was. The slug is that of the version, or the name of a branch or tag.
 #[derive(Drop)]
 pub struct Log<T> {
     clock: T,
@@ -61,6 +64,13 @@ impl<T: Clock + Copy> Log<T> {
         ensures { result.is_on ≡ is_on }
     {
         Log { clock, is_on }
+    }
+
+    /// Whether connections are told.
+    pub fn is_on(&self) -> bool
+        ensures { result ≡ self.now.is_on }
+    {
+        self.is_on
     }
 
     /// The clock.
@@ -107,6 +117,28 @@ impl<T: Clock + Copy> Log<T> {
         let micros = self.micros_since(start);
         if let Ok(text) = line_text(alloc, outcome, entry, bytes, micros) {
             put_or_lose(sink, text.as_slice());
+        }
+    }
+
+    /// Writes the line for a message of the control socket.
+    pub fn tell_order<L: Sink>(
+        &self,
+        alloc: Global,
+        sink: &mut L,
+        asked: &Asked,
+        moment: u64,
+        bytes: u64,
+        start: Option<Instant>,
+    )
+        ensures line { TellsOrder L.broken L.held sink.old sink.new asked.now moment bytes }
+        ensures off { self.now.is_on ≡ false → sink.new ≡ sink.old }
+    {
+        if sink.failed() || !self.is_on {
+            return;
+        }
+        let micros = self.micros_since(start);
+        if let Ok(line) = order_line(alloc, asked, moment, bytes, micros) {
+            put_or_lose(sink, line.as_slice());
         }
     }
 }

@@ -24,7 +24,7 @@ use sqlite::Alter;
 use std::alloc::Global;
 use std::net::TcpStream;
 use std::os::unix::net::UnixStream;
-use std::time::Clock;
+use std::time::{Clock, Instant};
 
 /// How many seconds reading and writing may take.
 const MOST_SECONDS: u64 = 60;
@@ -155,22 +155,59 @@ pub fn answer_order<S: Alter, K: Control, R: Source, W: Sink>(
     !sink.failed()
 }
 
+/// Writes the line of a message to the log, where that is on: what the message asked for is looked for only then.
+fn tell_message<K: Control, T: Clock + Copy, L: Sink>(
+    alloc: Global,
+    control: &K,
+    message: &[u8],
+    moment: u64,
+    bytes: u64,
+    start: Option<Instant>,
+    log: &Log<T>,
+    errors: &mut L,
+)
+    ensures tells { TellsSome L.broken L.held errors.old errors.new }
+    ensures off { log.now.is_on ≡ false → errors.new ≡ errors.old }
+{
+    if !log.is_on() {
+        return;
+    }
+    let asked = control.asked(alloc, message);
+    log.tell_order(alloc, errors, &asked, moment, bytes, start);
+}
+
 /// Has what comes over a connection of the control socket done and answered, at a moment, and tells whether the whole answer went
-/// out. Doing it may take longer than it may take to come.
-fn answer_control<S: Alter, K: Control, T: Clock + Copy>(
+/// out. Doing it may take longer than it may take to come. The log has a line of it.
+fn answer_control<S: Alter, K: Control, T: Clock + Copy, L: Sink>(
     alloc: Global,
     desk: &mut Desk<S>,
     control: &mut K,
     stream: &UnixStream,
     now: u64,
-    clock: T,
+    log: &Log<T>,
+    errors: &mut L,
 ) -> bool
     ensures moves { WorldGoesBy S.Store desk.old desk.new (DoesSome K.does now result) }
     ensures counts { CountsExactly (K.handed control.old) (K.handed control.new) 1 }
+    ensures tells { TellsSome L.broken L.held errors.old errors.new }
+    ensures off { log.now.is_on ≡ false → errors.new ≡ errors.old }
 {
-    let mut source = Timed::new(clock, MOST_SECONDS, Port::new(Steady::new(stream)));
-    let mut sink = Port::new(Steady::new(stream));
-    answer_order(alloc, desk, control, &mut source, &mut sink, now)
+    let input = Timed::new(log.clock(), MOST_SECONDS, Port::new(Steady::new(stream)));
+    let mut source = Heard::new(alloc, input);
+    let mut sink = Counted::new(Port::new(Steady::new(stream)));
+    let start = log.start();
+    let whole = answer_order(alloc, desk, control, &mut source, &mut sink, now);
+    tell_message(
+        alloc,
+        control,
+        source.beginning().first_bytes(),
+        now,
+        sink.count(),
+        start,
+        log,
+        errors,
+    );
+    whole
 }
 
 /// Answers a connection that came, at a moment, and tells whether the whole answer went out.
@@ -192,7 +229,7 @@ fn answer_came<S: Alter, K: Control, T: Clock + Copy, L: Sink>(
 {
     match came {
         Came::Request(stream) => answer_stream(alloc, desk, &stream, now, log, errors),
-        Came::Message(stream) => answer_control(alloc, desk, control, &stream, now, log.clock()),
+        Came::Message(stream) => answer_control(alloc, desk, control, &stream, now, log, errors),
     }
 }
 

@@ -4,6 +4,7 @@
 mod by_server;
 mod clock;
 mod failure;
+mod journal;
 mod lists;
 mod orders;
 mod own_store;
@@ -18,6 +19,7 @@ mod usage;
 use clock::seconds;
 use dh_ports::Port;
 use failure::{Failure, Status, tell, tell_usage};
+use journal::{Leveled, is_journal};
 use own_store::name_store;
 use program::run_program;
 use sqlite_disk::Unknown;
@@ -61,7 +63,7 @@ fn main(rt: HostRuntime) -> ExitCode {
     let mut streams = Streams {
         source: Port::new(rt.stdin()),
         sink: Port::new(rt.stdout()),
-        errors: Port::new(rt.stderr()),
+        errors: Leveled::new(Port::new(rt.stderr()), is_journal(&rt)),
     };
     let mut clock = || seconds(&rt);
     let now = clock();

@@ -14,11 +14,12 @@ use crate::socket::{
     remove_early, remove_socket,
 };
 use crate::streams::Streams;
-use dh_control::answer_message;
+use dh_control::{End, answer_message, note_in};
 use dh_files::{FileDesk, FileFault, close_desk, open_desk};
 use dh_http::Desk;
 use dh_ports::{Sink, Source};
-use dh_server::{Control, Listen, Listening, Log, pause, serve_on};
+use dh_script::ScriptFault;
+use dh_server::{Asked, Control, Listen, Listening, Log, pause, serve_on};
 use sqlite::Alter;
 use sqlite_disk::Unknown;
 use std::alloc::Global;
@@ -123,12 +124,33 @@ fn name_or_none(rt: &HostRuntime, file: &str) -> String {
     }
 }
 
+/// How a message ended, as the log tells it.
+fn told_end(ended: Result<End, ScriptFault>) -> &'static str {
+    match ended {
+        Ok(End::Done) => "Done",
+        Ok(End::Refused(_)) => "Refused",
+        Ok(End::Unknown) => "Unknown",
+        Ok(End::Elsewhere) => "Elsewhere",
+        Err(fault) => fault.name(),
+    }
+}
+
+/// Why the order of a message was refused, as the log tells it; empty where it was not.
+fn told_reason(ended: Result<End, ScriptFault>) -> &'static str {
+    match ended {
+        Ok(End::Refused(reason)) => reason.code(),
+        _ => "",
+    }
+}
+
 /// Answers what comes in at the control socket: messages for the file of this name.
 #[derive(Drop)]
 struct Messages<'a> {
     file: &'a str,
     /// How many messages came; the count stays at 2^64 - 1.
     count: u64,
+    /// How the last one ended.
+    ended: Result<End, ScriptFault>,
 }
 
 impl<'a> Control for Messages<'a> {
@@ -145,8 +167,43 @@ impl<'a> Control for Messages<'a> {
         now: u64,
     ) {
         self.count = self.count.saturating_add(1);
-        // The result is told to the client, if it is still there.
-        let _ = answer_message(alloc, desk, self.file, source, sink, now);
+        // (the client is told, too, if it is still there)
+        self.ended = answer_message(alloc, desk, self.file, source, sink, now);
+    }
+
+    fn asked(&self, alloc: Global, message: &[u8]) -> Asked {
+        let told = told_end(self.ended);
+        let reason = told_reason(self.ended);
+        match note_in(alloc, self.file, message) {
+            Some(note) => Asked {
+                told,
+                word: note.word,
+                host: note.host,
+                slug: note.slug,
+                reason,
+            },
+            None => Asked {
+                told,
+                word: "",
+                host: String::new(alloc),
+                slug: String::new(alloc),
+                reason,
+            },
+        }
+    }
+}
+
+/// Tells why a server ends that was not stopped, where the log is on, unless memory is out.
+fn tell_end<E: Sink>(alloc: Global, file: &str, log: bool, errors: &mut E)
+    ensures { TellsSome E.broken E.held errors.old errors.new }
+{
+    if !log {
+        return;
+    }
+    if let Ok(line) = format!(in alloc;
+        "docs_host: {file}: all connections that --count orders came; the server ends\n"
+    ) {
+        put(errors, line.as_str());
     }
 }
 
@@ -173,11 +230,12 @@ fn serve_desk<S: Alter, N: Listen, C: FnMut() -> u64, E: Sink>(
     ensures callable { C.IsAlwaysCallable clock.new }
     ensures tells { TellsSome E.broken E.held errors.old errors.new }
 {
-    let log = Log::new(rt, log);
+    let lines = Log::new(rt, log);
     let name = name_or_none(rt, file);
     let mut messages = Messages {
         file: name.as_str(),
         count: 0,
+        ended: Ok(End::Unknown),
     };
     let served = serve_on(
         rt.alloc(),
@@ -186,12 +244,13 @@ fn serve_desk<S: Alter, N: Listen, C: FnMut() -> u64, E: Sink>(
         &mut messages,
         clock,
         count,
-        &log,
+        &lines,
         errors,
     );
     if desk.is_closed() {
         return Some(count - served.asked);
     }
+    tell_end(rt.alloc(), file, log, errors);
     None
 }
 

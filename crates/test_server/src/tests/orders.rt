@@ -4,7 +4,7 @@ use super::{all, listen};
 use dh_http::Desk;
 use dh_ports::{Port, Sink, Source, put_all};
 use dh_sample::sample_desk;
-use dh_server::{Control, Listening, Log, Tally, serve_on};
+use dh_server::{Asked, Control, Listening, Log, Tally, serve_on};
 use sqlite::Alter;
 use std::alloc::Global;
 use std::io::Write;
@@ -37,6 +37,10 @@ impl Control for Echo {
         if let Ok(count) = source.fill(&mut room) {
             let _ = put_all(sink, &room[..count]);
         }
+    }
+
+    fn asked(&self, alloc: Global, _message: &[u8]) -> Asked {
+        Asked::unknown(alloc)
     }
 }
 

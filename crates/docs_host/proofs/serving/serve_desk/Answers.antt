@@ -2,6 +2,7 @@ use Rattle.std.proofs.Common.{subst, sym, ◌∙◌, arith}
 use Rattle.dh_http.specs.Desk.{WorldGoesBy}
 use Rattle.dh_http.proofs.Moving.{WorldGoesBy-weaker}
 use Rattle.dh_server.specs.Serving.{AsksClock}
+use Rattle.dh_server.proofs.Told.{some_more}
 use Rattle.docs_host.specs.Orders.{ServesBoth}
 use Rattle.docs_host.proofs.serving.serve_desk.Goals as goal
 
@@ -24,3 +25,8 @@ pub returns-clause-clocked : goal.returns-clause-clocked
 returns-clause-clocked g c =
     subst (AsksClock (goal.C-step g) c.args.clock.now c.serve_on-served.new.clock)
     (let whole = c.serve_on-served.ensures.all (sym c.is_closed.ensures ∙ c.if-is_closed.false) in omega (arith, whole)) c.serve_on-served.ensures.clocked
+
+pub returns-clause-tells : goal.returns-clause-tells
+returns-clause-tells g c =
+    some_more g.E.Sink.broken g.E.Sink.held c.args.errors.now c.serve_on-served.new.errors c.tell_end.new.errors
+    c.serve_on-served.ensures.tells c.tell_end.ensures
