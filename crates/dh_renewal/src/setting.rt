@@ -78,7 +78,7 @@ fn set_alias_beside<S: Alter>(
     slug: Option<Slug>,
 ) -> Result<(), Refusal>
     requires kept { HasRecords S.Store tables.old
-        (λ l. kept_at l host.now class.now name ≡ option_copied kept.entry) }
+        (λ l. kept_at l host.now class.now name ≡ option_copied kept) }
     ensures makes { ChangesRecords S.Store tables.old tables.new result
         (renewed.set_alias host.now class.now name slug) }
 {
