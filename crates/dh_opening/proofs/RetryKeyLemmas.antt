@@ -42,10 +42,10 @@ module _ (start old mid new : JudgedKeys) (rows : List Row) (row : Row) (stays :
       (subst (λ p. AreFitKeys p.rows.items (rows ++ row ∷ []) xs) projects_are fit)
 
   pub took_more : TookKeys start old rows → HasJudged old rows → (b : Bool) → new.are_kept ≡ b → (IsTrue b → FindsNextKey old mid row) → (b ≡ false → IsNext old.last row → (x : RetryRow) → ¬ KeepsFitKey old.projects.rows.items row x) → new.last ≡ mid.last → TookKeys start new (rows ++ row ∷ [])
-  took_more took it b is yes no last = record {
+  took_more took it b is finds lacks last = record {
     same = projects_are ∙ took.same;
-    kept = λ kept. keys_more it (yes (sym is ∙ kept)) last;
-    none = λ none. no_keys it (no (sym is ∙ none));
+    kept = λ kept. keys_more it (finds (sym is ∙ kept)) last;
+    none = λ none. no_keys it (lacks (sym is ∙ none));
   }
 
 -- none yet

@@ -1,5 +1,5 @@
 -- Pages that are judged row by row, and kept without their bodies.
-use Rattle.std.proofs.Common.{◌≡◌, Bool, true, false, ◌&&◌, List, [], ◌∷◌, ◌++◌, map, Some, None, IsTrue, refl, sym, subst, subst₂, ap, ◌∙◌, true≢false}
+use Rattle.std.proofs.Common.{◌≡◌, ℕ, Bool, true, false, ◌&&◌, List, [], ◌∷◌, ◌++◌, map, Some, None, IsTrue, refl, sym, subst, subst₂, ap, ◌∙◌, true≢false}
 use Rattle.std.specs.List.{AllByRecursion}
 use Rattle.sqlite_value.specs.Order.{Row}
 use Rattle.sqlite_keyed.proofs.ListLemmas.{all_map, all_unmap, all_weaker, ascending-map}
