@@ -238,9 +238,9 @@ stand_right l aliases stand known = λ host. record { aliases = aliases_right l 
 
 -- one that is there, at a place
 pub any_at : {X : Type 0} (p : X → Bool) (xs : List X) (i : ℕ) (x : X) → i < length xs → x ≡ get_or xs i x → p x ≡ true → list_any p xs ≡ true
-any_at p [] i x within is yes = absurd (omega arith)
-any_at p (y ∷ ys) zero x within is yes = ap (λ b. b || list_any p ys) (ap p (sym is) ∙ yes)
-any_at p (y ∷ ys) (suc i) x within is yes = more (p y) (any_at p ys i x (omega arith) is yes)
+any_at p [] i x within is here = absurd (omega arith)
+any_at p (y ∷ ys) zero x within is here = ap (λ b. b || list_any p ys) (ap p (sym is) ∙ here)
+any_at p (y ∷ ys) (suc i) x within is here = more (p y) (any_at p ys i x (omega arith) is here)
   where
     more : (b : Bool) → list_any p ys ≡ true → (b || list_any p ys) ≡ true
     more true e = refl
@@ -297,8 +297,8 @@ due_before l ps i r rest others all within is named formed front it =
 
 pub due_last
     : (l : Lists) (ps : List ProjectRow) (i : ℕ) (rest : List AliasRow) → length ps ≤ i → (b : Bool) → b ≡ eqb (length rest) 0 → b ≡ true → AreAliasesDue l (drop i ps) rest
-due_last l ps i [] past b is yes = subst (λ xs. AreAliasesDue l xs []) (sym (drop_all i ps past)) (tt, refl)
-due_last l ps i (r ∷ rest) past b is yes = absurd (true≢false (sym yes ∙ is ∙ ne_eqb _ _ (omega arith)))
+due_last l ps i [] past b is here = subst (λ xs. AreAliasesDue l xs []) (sym (drop_all i ps past)) (tt, refl)
+due_last l ps i (r ∷ rest) past b is here = absurd (true≢false (sym here ∙ is ∙ ne_eqb _ _ (omega arith)))
 
 -- what holds so far, and of one more
 pub one_more_taken : {X : Type 0} (P : X → Type 0) (xs : List X) (i : ℕ) (x : X) → i < length xs → x ≡ get_or xs i x → AllByRecursion P (take i xs) → P x → AllByRecursion P (take (i + 1) xs)
