@@ -26,28 +26,28 @@ use Rattle.dh_derived.specs.Renewed.{set_alias}
 
 found_passes : {X : Type 0} (p : X → Bool) (xs : List X) (x : X) → find p xs ≡ Some x → p x ≡ true
 found_passes p [] x found = absurd (cc)
-found_passes p (y ∷ ys) x found = go (p y) refl found
+found_passes p (y ∷ ys) x found = go (p y) refl found (λ f. found_passes p ys x f)
   where
-    go : (b : Bool) → p y ≡ b → cond b (Some y) (find p ys) ≡ Some x → p x ≡ true
-    go true e f = let same : y ≡ x = cc in ap p (sym same) ∙ e
-    go false e f = found_passes p ys x f
+    go : (b : Bool) → p y ≡ b → cond b (Some y) (find p ys) ≡ Some x → (find p ys ≡ Some x → p x ≡ true) → p x ≡ true
+    go true e f more = let same : y ≡ x = cc in ap p (sym same) ∙ e
+    go false e f more = more f
 
 pub all_found : {X : Type 0} (P : X → Type 0) (p : X → Bool) (xs : List X) (x : X) → AllByRecursion P xs → find p xs ≡ Some x → P x
 all_found P p [] x all found = absurd (cc)
-all_found P p (y ∷ ys) x all found = go (p y) found
+all_found P p (y ∷ ys) x all found = go (p y) found (λ f. all_found P p ys x all.1 f)
   where
-    go : (b : Bool) → cond b (Some y) (find p ys) ≡ Some x → P x
-    go true f = let same : y ≡ x = cc in subst P same all.0
-    go false f = all_found P p ys x all.1 f
+    go : (b : Bool) → cond b (Some y) (find p ys) ≡ Some x → (find p ys ≡ Some x → P x) → P x
+    go true f more = let same : y ≡ x = cc in subst P same all.0
+    go false f more = more f
 
 -- where none is found none is left out
 none_left_out : {X : Type 0} (p : X → Bool) (xs : List X) → find p xs ≡ None → filter (λ y. not (p y)) xs ≡ xs
 none_left_out p [] none = refl
-none_left_out p (y ∷ ys) none = go (p y) none
+none_left_out p (y ∷ ys) none = go (p y) none (λ f. none_left_out p ys f)
   where
-    go : (b : Bool) → cond b (Some y) (find p ys) ≡ None → cond (not b) (y ∷ filter (λ z. not (p z)) ys) (filter (λ z. not (p z)) ys) ≡ y ∷ ys
-    go true f = absurd (cc)
-    go false f = ap (λ l. y ∷ l) (none_left_out p ys f)
+    go : (b : Bool) → cond b (Some y) (find p ys) ≡ None → (find p ys ≡ None → filter (λ z. not (p z)) ys ≡ ys) → cond (not b) (y ∷ filter (λ z. not (p z)) ys) (filter (λ z. not (p z)) ys) ≡ y ∷ ys
+    go true f more = absurd (cc)
+    go false f more = ap (λ l. y ∷ l) (more f)
 
 -- ---- a record that stands in a list is put in its own place
 
@@ -71,21 +71,21 @@ module _ {X : Type 0} (key : X → Row) where
 
   put_found : (p : X → Bool) (x : X) → ((y : X) → same_key key x y ≡ p y) → (xs : List X) → InOrder key xs → find p xs ≡ Some x → put key x xs ≡ xs
   put_found p x same [] up found = absurd (cc)
-  put_found p x same (y ∷ ys) up found = go (p y) refl found
+  put_found p x same (y ∷ ys) up found = go (p y) refl found (λ f. put_found p x same ys up.1 f)
     where
-      go : (b : Bool) → p y ≡ b → cond b (Some y) (find p ys) ≡ Some x → put key x (y ∷ ys) ≡ y ∷ ys
-      go true e f =
+      go : (b : Bool) → p y ≡ b → cond b (Some y) (find p ys) ≡ Some x → (find p ys ≡ Some x → put key x ys ≡ ys) → put key x (y ∷ ys) ≡ y ∷ ys
+      go true e f rest =
           let is : y ≡ x = cc in
           let behind = subst (λ z. AllByRecursion (Before z) ys) is up.0 in
           ap (λ b. insert_sorted (by_key key) x (cond (not b) (y ∷ others x ys) (others x ys))) (same y ∙ e)
           ∙ ap (insert_sorted (by_key key) x) (kept_all x ys behind)
           ∙ first_in x ys behind ∙ ap (λ z. z ∷ ys) (sym is)
-      go false e f =
+      go false e f rest =
           let less : by_key key y x ≡ Less = all_found (Before y) p ys x up.0 f in
           let more : by_key key x y ≡ Greater = (by_key_total key).antisymm x y ∙ ap ordering_reverse less in
           ap (λ b. insert_sorted (by_key key) x (cond (not b) (y ∷ others x ys) (others x ys))) (same y ∙ e)
           ∙ ap (λ o. cond (is_gt o) (y ∷ insert_sorted (by_key key) x (others x ys)) (x ∷ y ∷ others x ys)) more
-          ∙ ap (λ l. y ∷ l) (put_found p x same ys up.1 f)
+          ∙ ap (λ l. y ∷ l) (rest f)
 
 -- ---- aliases
 

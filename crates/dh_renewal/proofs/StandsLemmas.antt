@@ -200,11 +200,11 @@ module _ (l : Lists) (host : Text) where
   -- no route of a host that has no project
   none_in : (seg : Text) (rows : List RouteRow) → list_any (is_project host) l.projects ≡ false → AllByRecursion (λ r. list_any (is_project r.host) l.projects ≡ true) rows → filter (is_route_in host seg) rows ≡ []
   none_in seg [] none all = refl
-  none_in seg (r ∷ rows) none all = go (bytes_eq r.host host) refl (bytes_eq r.route.seg seg)
+  none_in seg (r ∷ rows) none all = go (bytes_eq r.host host) refl (bytes_eq r.route.seg seg) (none_in seg rows none all.1)
     where
-      go : (b : Bool) → bytes_eq r.host host ≡ b → (d : Bool) → cond (b && d) (r ∷ filter (is_route_in host seg) rows) (filter (is_route_in host seg) rows) ≡ []
-      go true e d = absurd (true≢false (sym (subst (λ (h : Text). list_any (is_project h) l.projects ≡ true) ((bytes_eq-Decides r.host host).0 e) all.0) ∙ none))
-      go false e d = none_in seg rows none all.1
+      go : (b : Bool) → bytes_eq r.host host ≡ b → (d : Bool) → filter (is_route_in host seg) rows ≡ [] → cond (b && d) (r ∷ filter (is_route_in host seg) rows) (filter (is_route_in host seg) rows) ≡ []
+      go true e d more = absurd (true≢false (sym (subst (λ (h : Text). list_any (is_project h) l.projects ≡ true) ((bytes_eq-Decides r.host host).0 e) all.0) ∙ none))
+      go false e d more = more
 
   routes_right : AllByRecursion (λ r. RoutesStand l r.host) l.projects → AllByRecursion (λ r. list_any (is_project r.host) l.projects ≡ true) l.routes
       → (seg : Text) → filter (is_route_in host seg) l.routes ≡ filter (is_route_in host seg) (routes_due host (get (world_of l) host))
@@ -215,11 +215,11 @@ module _ (l : Lists) (host : Text) where
         where
           passes : (rows : List ProjectRow) → find (is_project host) rows ≡ Some r → bytes_eq r.host host ≡ true
           passes [] e = absurd (cc)
-          passes (q ∷ rows) e = step (is_project host q) refl e
+          passes (q ∷ rows) e = step (is_project host q) refl e (λ f. passes rows f)
             where
-              step : (b : Bool) → is_project host q ≡ b → cond b (Some q) (find (is_project host) rows) ≡ Some r → bytes_eq r.host host ≡ true
-              step true t f = let same : q ≡ r = cc in ap (is_project host) (sym same) ∙ t
-              step false t f = passes rows f
+              step : (b : Bool) → is_project host q ≡ b → cond b (Some q) (find (is_project host) rows) ≡ Some r → (find (is_project host) rows ≡ Some r → bytes_eq r.host host ≡ true) → bytes_eq r.host host ≡ true
+              step true t f more = let same : q ≡ r = cc in ap (is_project host) (sym same) ∙ t
+              step false t f more = more f
 
       go : (o : Option ProjectRow) → find (is_project host) l.projects ≡ o → filter (is_route_in host seg) l.routes ≡ filter (is_route_in host seg) (routes_due host (get (world_of l) host))
       go None none =

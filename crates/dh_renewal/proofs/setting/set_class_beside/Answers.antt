@@ -21,8 +21,8 @@ returns-then-is_some g c = record {
       (c.class_text-text.ensures ∙ ap class_text c.as_ref.ensures.value) c.set_names_beside.ensures.makes;
 }
 
-pub returns-else-is_some : goal.returns-else-is_some
-returns-else-is_some g c = record {
+pub returns : goal.returns
+returns g c = record {
   makes =
       subst (λ (t : Text). ChangesRecords g.S.Store c.args.tables.now c.set_names.new.tables c.set_names.result (set_names c.args.host.now t c.args.names.names))
       (c.class_text-text.ensures ∙ ap class_text c.as_ref.ensures.value) c.set_names.ensures.makes;
