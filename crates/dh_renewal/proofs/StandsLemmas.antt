@@ -95,7 +95,7 @@ or_same None = refl
 or_same (Some x) = refl
 
 module _ (host : Text) (p : Project) (c : Text) (n : AliasName) where
-  value : Option Text
+  abbrev value : Option Text
   value = named n (names_of p (class_in c))
 
   kept_here : (cs : List (Option Text)) (rows : List AliasRow) → AllByRecursion IsFormed (map (class_names p) cs)
