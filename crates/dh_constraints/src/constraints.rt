@@ -45,22 +45,23 @@ fn have_projects<R: Hosted>(records: &Records, rows: &[R]) -> bool
 
 // ---- what each project has
 
-fn has_languages(records: &Records, project: &ProjectRow) -> bool
-    ensures { IsTrue result ↔ AreLanguages project.now.main
-        (filter (is_lang_of project.now.host) (lists_in records.now).langs) }
+fn has_languages(alloc: Global, records: &Records, project: &ProjectRow) -> Result<bool, AllocError>
+    ensures { IfOk result (λ b. IsTrue b ↔ AreLanguages project.now.main
+        (filter (is_lang_of project.now.host) (lists_in records.now).langs)) }
 {
-    are_languages(langs_of(records, &project.host), &project.main)
+    are_languages(alloc, langs_of(records, &project.host), &project.main)
 }
 
-fn projects_have_languages(records: &Records) -> bool
-    ensures { let lists = lists_in records.now in IsTrue result ↔ AllByRecursion
-        (λ r. AreLanguages r.main (filter (is_lang_of r.host) lists.langs)) lists.projects }
+fn projects_have_languages(alloc: Global, records: &Records) -> Result<bool, AllocError>
+    ensures { let lists = lists_in records.now in IfOk result (λ b. IsTrue b ↔ AllByRecursion
+        (λ r. AreLanguages r.main (filter (is_lang_of r.host) lists.langs)) lists.projects) }
 {
-    records
-        .projects
-        .as_slice()
-        .iter()
-        .all(|r| has_languages(records, r))
+    for row in records.projects.as_slice() {
+        if !has_languages(alloc, records, row)? {
+            return Ok(false);
+        }
+    }
+    Ok(true)
 }
 
 fn projects_have_few_passes(records: &Records) -> bool
@@ -74,15 +75,16 @@ fn projects_have_few_passes(records: &Records) -> bool
         .all(|r| passes_of(records, &r.host).len() <= MOST_PASSES)
 }
 
-fn projects_have_defaults(records: &Records) -> bool
-    ensures { let lists = lists_in records.now in IsTrue result ↔ AllByRecursion
-        (λ r. AreDefaults (filter (is_pick_of r.host) lists.picks)) lists.projects }
+fn projects_have_defaults(alloc: Global, records: &Records) -> Result<bool, AllocError>
+    ensures { let lists = lists_in records.now in IfOk result (λ b. IsTrue b ↔ AllByRecursion
+        (λ r. AreDefaults (filter (is_pick_of r.host) lists.picks)) lists.projects) }
 {
-    records
-        .projects
-        .as_slice()
-        .iter()
-        .all(|r| are_defaults(picks_of(records, &r.host)))
+    for row in records.projects.as_slice() {
+        if !are_defaults(alloc, picks_of(records, &row.host))? {
+            return Ok(false);
+        }
+    }
+    Ok(true)
 }
 
 fn projects_have_rules(records: &Records) -> bool
@@ -237,14 +239,16 @@ fn all_have_projects(records: &Records) -> bool
         && have_projects(records, records.redirects.as_slice())
 }
 
-fn projects_are_kept(records: &Records) -> bool
-    ensures { IsTrue result ↔ KeepProjects (lists_in records.now) }
+fn projects_are_kept(alloc: Global, records: &Records) -> Result<bool, AllocError>
+    ensures { IfOk result (λ b. IsTrue b ↔ KeepProjects (lists_in records.now)) }
 {
-    projects_have_languages(records)
-        && projects_have_few_passes(records)
-        && projects_have_defaults(records)
-        && projects_have_rules(records)
-        && projects_have_redirects(records)
+    Ok(
+        projects_have_few_passes(records)
+            && projects_have_rules(records)
+            && projects_have_redirects(records)
+            && projects_have_languages(alloc, records)?
+            && projects_have_defaults(alloc, records)?,
+    )
 }
 
 fn records_are_kept(records: &Records) -> bool
@@ -268,9 +272,10 @@ fn texts_are_kept(alloc: Global, records: &Records) -> Result<bool, AllocError>
 pub fn keep_constraints(alloc: Global, records: &Records) -> Result<bool, AllocError>
     ensures { IfOk result (λ b. IsTrue b ↔ KeepsConstraints (lists_in records.now)) }
 {
-    if all_have_projects(records) && projects_are_kept(records) && records_are_kept(records) {
-        texts_are_kept(alloc, records)
-    } else {
-        Ok(false)
-    }
+    Ok(
+        all_have_projects(records)
+            && records_are_kept(records)
+            && projects_are_kept(alloc, records)?
+            && texts_are_kept(alloc, records)?,
+    )
 }

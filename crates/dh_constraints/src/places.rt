@@ -1,6 +1,6 @@
 //! The records of one host that stand at places.
 
-ghost use Rattle.std.specs.Prelude.{◌≡◌, ◌↔◌, IsTrue, Some, map, length, slice_get};
+ghost use Rattle.std.specs.Prelude.{◌≡◌, ◌↔◌, IfOk, IsTrue, Some, map, length, slice_get};
 ghost use Rattle.std.specs.List.{IsDistinct, list_any, range_with_len};
 ghost use Rattle.std.specs.Str.{bytes_eq};
 ghost use Rattle.dh_records.specs.Constraints.{AreDefaults, AreLanguages, HavePlaces};
@@ -9,6 +9,7 @@ use crate::rows::{Named, Placed};
 use dh_paths::Lang;
 use dh_records::{DefaultRow, LangRow};
 use dh_world::MOST_LANGUAGES;
+use std::alloc::{AllocError, Global};
 
 /// Whether a record has this name.
 pub fn is_among<R: Named>(rows: &[R], name: &str) -> bool
@@ -17,18 +18,14 @@ pub fn is_among<R: Named>(rows: &[R], name: &str) -> bool
     rows.iter().any(|r| r.name() == name)
 }
 
-/// Whether no name stands twice.
-fn are_apart<R: Named>(rows: &[R]) -> bool
-    ensures { IsTrue result ↔ IsDistinct bytes_eq (map R.name_of rows.now) }
+/// Whether no name stands twice: once they are sorted none is the same as the one before it.
+fn are_apart<R: Named>(alloc: Global, rows: &[R]) -> Result<bool, AllocError>
+    ensures { IfOk result (λ b. IsTrue b ↔ IsDistinct bytes_eq (map R.name_of rows.now)) }
 {
-    let mut rest = rows;
-    while let Some((first, others)) = rest.split_first() {
-        if is_among(others, first.name()) {
-            return false;
-        }
-        rest = others;
-    }
-    true
+    let mut names: Vec<&str> = rows.iter().map(|r| r.name()).collect(alloc)?;
+    names.sort_unstable();
+    names.dedup();
+    Ok(names.len() == rows.len())
 }
 
 /// Whether the places are 1 to n without gaps.
@@ -58,14 +55,14 @@ fn is_first(langs: &[LangRow], main: &Lang) -> bool
     }
 }
 
-pub fn are_languages(langs: &[LangRow], main: &Lang) -> bool
-    ensures { IsTrue result ↔ AreLanguages main.now langs.now }
+pub fn are_languages(alloc: Global, langs: &[LangRow], main: &Lang) -> Result<bool, AllocError>
+    ensures { IfOk result (λ b. IsTrue b ↔ AreLanguages main.now langs.now) }
 {
-    have_places(langs, MOST_LANGUAGES) && is_first(langs, main) && are_apart(langs)
+    Ok(have_places(langs, MOST_LANGUAGES) && is_first(langs, main) && are_apart(alloc, langs)?)
 }
 
-pub fn are_defaults(picks: &[DefaultRow]) -> bool
-    ensures { IsTrue result ↔ AreDefaults picks.now }
+pub fn are_defaults(alloc: Global, picks: &[DefaultRow]) -> Result<bool, AllocError>
+    ensures { IfOk result (λ b. IsTrue b ↔ AreDefaults picks.now) }
 {
-    have_all_places(picks) && are_apart(picks)
+    Ok(have_all_places(picks) && are_apart(alloc, picks)?)
 }

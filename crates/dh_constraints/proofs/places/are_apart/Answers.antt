@@ -1,27 +1,18 @@
-use Rattle.std.proofs.Common.{refl, sym, ap, subst, ◌∙◌, true≢false}
-use Rattle.std.specs.List.{list_any}
-use Rattle.std.specs.Str.{bytes_eq}
-use Rattle.std.proofs.lemmas.List.{nil_from_length}
-use Rattle.dh_constraints.proofs.PlaceLemmas.{AreApart, apart_more, apart_less, not_apart, none_apart}
+use Rattle.std.proofs.Common.{◌≡◌, length, map, rules}
+use Rattle.std.proofs.lemmas.Iterator.{YieldsList-from_slice, YieldsList-from_map_by}
+use Rattle.std.proofs.lemmas.Iterator.Consumers.{map_from_collect}
+use Rattle.std.proofs.lemmas.List.Filters.{dedup_is}
+use Rattle.std.proofs.lemmas.Result.{IfOk-at_ok}
+use Rattle.dh_constraints.proofs.ApartLemmas.{counted, length_named, same_name, texts_of}
 use Rattle.dh_constraints.proofs.places.are_apart.Goals as goal
-
-pub returns-then-is_among : goal.returns-then-is_among
-returns-then-is_among g c =
-    let some = ap (λ n. list_any (λ y. bytes_eq (g.R.Named.name_of y) n) c.in-Some.others.now) (sym c.name.ensures) ∙ sym c.is_among.ensures ∙ c.if-is_among.true in (
-      λ t. absurd (true≢false (sym t)),
-      λ all.
-          absurd (not_apart g.R.Named.name_of c.in-Some.first.now c.in-Some.others.now some (subst (AreApart g.R.Named.name_of) c.in-Some.ensures.cases.0 (c.loop-first.invariant.1 all))),
-    )
-
-pub loop-first-preserved : goal.loop-first-preserved
-loop-first-preserved g c =
-    let none = ap (λ n. list_any (λ y. bytes_eq (g.R.Named.name_of y) n) c.in-Some.others.now) (sym c.name.ensures) ∙ sym c.is_among.ensures ∙ c.if-is_among.false in (
-      λ apart. c.loop-first.invariant.0 (subst (AreApart g.R.Named.name_of) (sym c.in-Some.ensures.cases.0) (apart_more g.R.Named.name_of c.in-Some.first.now c.in-Some.others.now none apart)),
-      λ all.
-          apart_less g.R.Named.name_of c.in-Some.first.now c.in-Some.others.now (subst (AreApart g.R.Named.name_of) c.in-Some.ensures.cases.0 (c.loop-first.invariant.1 all)),
-    )
 
 pub returns : goal.returns
 returns g c =
-    let empty = nil_from_length c.loop-first.rest.now c.in_default.ensures.cases in
-    (λ t. c.loop-first.invariant.0 (subst (AreApart g.R.Named.name_of) (sym empty) (none_apart g.R.Named.name_of)), λ all. refl)
+    let rows = c.args.rows.now in
+    let texts = map g.R.Named.name_of rows in
+    let all = c.in_ok-names.names.items in
+    let sorted = c.sort_unstable.new.self.items in
+    let left = c.dedup.new.self.items in
+    let are : texts_of all ≡ texts = IfOk-at_ok _ c.in_ok-names.was (map_from_collect _ c.collect.ensures.ran (YieldsList-from_map_by _ _ _ (YieldsList-from_slice rows cc) c.map.ensures.closure (λ x r q k. search rules))) in
+    counted texts all sorted left are c.sort_unstable.ensures.permutation c.sort_unstable.ensures.len c.sort_unstable.ensures.sorted (dedup_is same_name sorted left c.dedup.ensures.filtered)
+    c.len.result (length rows) c.len.ensures (length_named g.R.Named.name_of rows)
