@@ -1,11 +1,13 @@
 -- A line of the log.
-use Rattle.std.specs.Prelude.{ℕ, ◌+◌, ◌&&◌, ◌||◌, Bool, List, [], ◌++◌, length, take, drop, map, position, Option, Some, None, Result, Ok, Err, codes, nat_eq, nat_le, if◌then◌else◌}
+use Rattle.std.specs.Prelude.{ℕ, ◌+◌, ◌&&◌, Bool, List, [], ◌++◌, length, take, drop, map, position, Option, Some, None, Result, Ok, Err, codes, nat_eq, nat_le, if◌then◌else◌}
 use Rattle.std.specs.Fmt.{decimal}
+use Rattle.std.specs.Option.{option_map_or}
+use Rattle.dh_requests.specs.Causes.{name_of}
+use Rattle.dh_requests.specs.declared.cause.Cause.{Cause}
 use Rattle.dh_http.specs.declared.fault.Done.{Done}
 use Rattle.dh_http.specs.declared.fault.EngineFault.{EngineFault}
 use Rattle.dh_http.specs.declared.fault.EngineFault.TheVariants as fault
 use Rattle.dh_server.specs.declared.line.Entry.{Entry}
-use Rattle.dh_server.specs.declared.beginning.TheConstants.{MOST_LINE_TOLD}
 
 abbrev pub is_space : ℕ → Bool
 is_space byte = nat_eq byte 32
@@ -34,13 +36,6 @@ first_word line = up_to (position is_space line) line
 abbrev pub other_words : List ℕ → List ℕ
 other_words line = behind_space (position is_space line) line
 
-abbrev pub ends_line : ℕ → Bool
-ends_line byte = nat_eq byte 13 || nat_eq byte 10
-
--- what came up to the first CR or LF, but no more than 2,048 bytes
-abbrev pub first_line : List ℕ → List ℕ
-first_line bytes = take MOST_LINE_TOLD (up_to (position ends_line bytes) bytes)
-
 -- the outcome of a connection, the method and the target of its first line, how many bytes it took, in how many microseconds,
 -- the host that was asked for, when, and why the request was a bad one
 abbrev pub log_line : List ℕ → Entry → ℕ → ℕ → List ℕ
@@ -58,3 +53,8 @@ told_as (Some (Ok done)) = decimal done.status
 told_as (Some (Err fault.Read)) = codes "Read"
 told_as (Some (Err (fault.Write n))) = codes "Write"
 told_as (Some (Err fault.TooManyTurns)) = codes "TooManyTurns"
+
+-- why a request was answered by a 400: the cause of its refusal, or `Form` where a command was refused; empty for another status
+abbrev pub reason_of : Result Done EngineFault → Option Cause → List ℕ
+reason_of (Ok done) cause = if nat_eq done.status 400 then option_map_or name_of cause (codes "Form") else []
+reason_of (Err fault) cause = []

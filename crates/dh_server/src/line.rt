@@ -79,9 +79,9 @@ fn put_number(alloc: Global, out: &mut Vec<u8>, number: u64) -> Result<(), Alloc
 /// What a line of the log tells of a request, beside its outcome.
 #[derive(Clone, Copy)]
 pub struct Entry<'a> {
-    /// The first line of the request.
+    /// The first line of the request with anything on it.
     pub line: &'a [u8],
-    /// The host that the head of the request names.
+    /// The host that its `Host` line names.
     pub host: &'a [u8],
     /// When the request came, in seconds since 1970.
     pub moment: u64,

@@ -1,14 +1,15 @@
 //! Connections, one after another.
 
-ghost use Rattle.std.specs.Prelude.{◌≡◌, ◌≤◌, true, false, not, drop, is_ok, Some, if◌then◌else◌};
+ghost use Rattle.std.specs.Prelude.{◌≡◌, ◌⊎◌, ◌≤◌, ◌&&◌, true, false, not, drop, is_ok, IfOk, Some, if◌then◌else◌};
 ghost use Rattle.std.specs.Io.KnownBytes.{append_known};
 ghost use Rattle.dh_http.specs.Desk.{WorldGoesBy};
 ghost use Rattle.dh_http.specs.Answers as spec;
 ghost use Rattle.dh_server.specs.Serving.{AnswersConnection, AnswersSome, AsksClock, DoesByCalls, DoesSome, CountsExactly, HandsOn, messages_in, talk_of};
 ghost use Rattle.dh_server.specs.Turns.{ServesOne, ServesInTurn};
-ghost use Rattle.dh_server.specs.Telling.{TellsLineAt, TellsSome};
+ghost use Rattle.dh_requests.specs.Heard.{is_one};
+ghost use Rattle.dh_server.specs.Lines as lines;
+ghost use Rattle.dh_server.specs.Telling.{TellsHeard, TellsLineAt, TellsSome};
 
-use crate::beginning::{Beginning, Heard};
 use crate::control::Control;
 use crate::counted::Counted;
 use crate::joined::Joined;
@@ -20,6 +21,7 @@ use crate::stream::read_out;
 use crate::timed::Timed;
 use dh_http::{Desk, Done, EngineFault, answer};
 use dh_ports::{Port, Sink, Source};
+use dh_requests::{Cause, Heard};
 use sqlite::Alter;
 use std::alloc::Global;
 use std::net::TcpStream;
@@ -36,6 +38,7 @@ pub fn answer_joined<S: Alter, R: Source, W: Sink>(
     desk: &mut Desk<S>,
     source: &mut R,
     sink: &mut Joined<W>,
+    heard: &mut Heard,
     now: u64,
 ) -> Result<Done, EngineFault>
     requires reader { R.broken source.old ≡ false }
@@ -48,24 +51,34 @@ pub fn answer_joined<S: Alter, R: Source, W: Sink>(
         → (desk.new ≡ desk.old) × (sink.new ≡ sink.old) }
     ensures reader_fault { R.broken source.new ≡ spec.reader_failed result }
     ensures writer_fault { W.broken sink.new.inner ≡ spec.writer_failed result }
+    ensures hears { IfOk result (λ done. (done.status ≡ 503)
+        ⊎ spec.HearsSource (R.left source.old) (R.left source.new) heard.new) }
 {
-    let done = answer(alloc, desk, source, sink, now)?;
+    let done = answer(alloc, desk, source, sink, heard, now)?;
     match sink.hand_on() {
         Ok(()) => Ok(done),
         Err(count) => Err(EngineFault::Write(count)),
     }
 }
 
-/// Whether input may be left unread behind a reply.
-fn leaves_input(answered: Result<Done, EngineFault>, came: &Beginning) -> bool {
-    answered.is_ok() && !came.is_whole()
+/// Whether input may be left unread behind a reply: where not exactly one request came.
+fn leaves_input(answered: Result<Done, EngineFault>, heard: &Heard) -> bool
+    ensures { result ≡ (is_ok answered && not (is_one heard.now)) }
+{
+    answered.is_ok() && !heard.is_one()
 }
 
-/// Why what came was answered by a 400; empty where it was not.
-fn reason_of(answered: Result<Done, EngineFault>, came: &Beginning) -> &'static str {
+/// Why a request was answered by a 400; empty where it was not.
+fn reason_of(answered: Result<Done, EngineFault>, cause: Option<Cause>) -> &'static str
+    ensures { result.now ≡ lines.reason_of answered cause }
+{
     match answered {
-        Ok(Done { status: 400 }) => came.bad_part(),
-        _ => "",
+        Ok(Done { status: 400 }) => match cause {
+            Some(cause) => cause.name(),
+            None => "Form",
+        },
+        Ok(_) => "",
+        Err(_) => "",
     }
 }
 
@@ -73,32 +86,35 @@ fn reason_of(answered: Result<Done, EngineFault>, came: &Beginning) -> &'static 
 pub fn answer_heard<S: Alter, R: Source, W: Sink, T: Clock + Copy, L: Sink>(
     alloc: Global,
     desk: &mut Desk<S>,
-    source: &mut Heard<R>,
+    source: &mut R,
     sink: &mut Joined<Counted<W>>,
+    heard: &mut Heard,
     now: u64,
     log: &Log<T>,
     errors: &mut L,
 ) -> Result<Done, EngineFault>
-    requires reader { R.broken source.old.inner ≡ false }
+    requires reader { R.broken source.old ≡ false }
     requires writer { W.broken sink.old.inner.inner ≡ false }
     ensures answers { WorldGoesBy S.Store desk.old desk.new
-        (λ before after. AnswersConnection now (R.left source.old.inner)
+        (λ before after. AnswersConnection now (R.left source.old)
         (append_known (W.held sink.old.inner.inner) (drop sink.old.gone sink.old.kept.items))
         (W.held sink.new.inner.inner) before after result) }
     ensures some { WorldGoesBy S.Store desk.old desk.new (AnswersSome now (is_ok result)) }
-    ensures reader_fault { R.broken source.new.inner ≡ spec.reader_failed result }
+    ensures reader_fault { R.broken source.new ≡ spec.reader_failed result }
     ensures writer_fault { W.broken sink.new.inner.inner ≡ spec.writer_failed result }
+    ensures hears { IfOk result (λ done. (done.status ≡ 503)
+        ⊎ spec.HearsSource (R.left source.old) (R.left source.new) heard.new) }
     ensures tells { TellsLineAt L.broken L.held errors.old errors.new (Some result) now }
+    ensures line { TellsHeard L.broken L.held errors.old errors.new result heard.new now }
     ensures off { log.now.is_on ≡ false → errors.new ≡ errors.old }
 {
     let start = log.start();
-    let result = answer_joined(alloc, desk, source, sink, now);
-    let came = source.beginning();
+    let result = answer_joined(alloc, desk, source, sink, heard, now);
     let entry = Entry {
-        line: came.first_line(),
-        host: came.host(),
+        line: heard.line.as_slice(),
+        host: heard.host.as_slice(),
         moment: now,
-        reason: reason_of(result, came),
+        reason: reason_of(result, heard.cause),
     };
     log.tell(
         alloc,
@@ -124,12 +140,21 @@ fn answer_stream<S: Alter, T: Clock + Copy, L: Sink>(
     ensures tells { TellsSome L.broken L.held errors.old errors.new }
     ensures off { log.now.is_on ≡ false → errors.new ≡ errors.old }
 {
-    let input = Timed::new(log.clock(), MOST_SECONDS, Port::new(Steady::new(stream)));
+    let mut source = Timed::new(log.clock(), MOST_SECONDS, Port::new(Steady::new(stream)));
     let output = Timed::new(log.clock(), MOST_SECONDS, Port::new(Steady::new(stream)));
-    let mut source = Heard::new(alloc, input);
     let mut sink = Joined::new(alloc, Counted::new(output));
-    let result = answer_heard(alloc, desk, &mut source, &mut sink, now, log, errors);
-    if leaves_input(result, source.beginning()) {
+    let mut heard = Heard::new(alloc);
+    let result = answer_heard(
+        alloc,
+        desk,
+        &mut source,
+        &mut sink,
+        &mut heard,
+        now,
+        log,
+        errors,
+    );
+    if leaves_input(result, &heard) {
         read_out(log.clock(), stream);
     }
     result.is_ok()

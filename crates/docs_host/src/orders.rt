@@ -15,7 +15,7 @@ ghost use Rattle.docs_host.specs.Orders.{AreUnbroken, RunsSingle, RunsRequest, R
 use crate::failure::{Failure, Status, tell_reason, tell_report};
 use crate::serving::{Served, serve};
 use crate::streams::Streams;
-use dh_http::{Desk, answer};
+use dh_http::{Desk, Heard, answer};
 use dh_lines::Order;
 use dh_ports::{Sink, Source, put_both};
 use dh_script::{Report, ScriptFault, perform_single, run_script};
@@ -123,7 +123,8 @@ fn answer_request<S: Alter, R: Source, W: Sink>(
         (W.held sink.old) (W.held sink.new) result) }
     ensures ends { Ended (λ status. IsTrue (may_end_request status)) is_of_request result }
 {
-    answer(alloc, desk, source, sink, now)?;
+    let mut heard = Heard::new(alloc);
+    answer(alloc, desk, source, sink, &mut heard, now)?;
     Ok(Status::Done)
 }
 

@@ -1,6 +1,7 @@
 //! How replies are handed on.
 
 use super::{Counter, INSTALL};
+use dh_http::Heard;
 use dh_ports::Port;
 use dh_sample::sample_desk;
 use dh_server::{Done, EngineFault, Joined, answer_joined};
@@ -17,7 +18,8 @@ fn handed(alloc: Global, room: usize) -> Result<(Result<Done, EngineFault>, usiz
         stopped: false,
     };
     let mut sink = Joined::new(alloc, counter);
-    let done = answer_joined(alloc, &mut desk, &mut source, &mut sink, 0);
+    let mut heard = Heard::new(alloc);
+    let done = answer_joined(alloc, &mut desk, &mut source, &mut sink, &mut heard, 0);
     Ok((done, sink.inner().calls))
 }
 

@@ -61,7 +61,36 @@ fn a_line_is_told(rt: HostRuntime) -> Result<(), Fail> {
 fn a_strange_line_is_shown_as_text(rt: HostRuntime) -> Result<(), Fail> {
     assert_eq!(rt;
         told(&rt, "G\u{1b}T /\u{e9}\t HTTP/1.1\r\n\r\n")?.as_str(),
-        "400 G?T /??? 124 0 - 1000 NoHost\n"
+        "400 G?T /??? 124 0 - 1000 Form\n"
+    );
+    Ok(())
+}
+
+/// Empty lines may stand in front of a request.
+#[test]
+fn an_empty_line_hides_nothing(rt: HostRuntime) -> Result<(), Fail> {
+    let mut text = String::from_str(rt.alloc(), "\r\n\n")?;
+    text.push_str(INSTALL)?;
+    assert_eq!(rt;
+        told(&rt, text.as_str())?.as_str(),
+        "200 GET /en/latest/install.html 115 0 docs.test 1000 -\n"
+    );
+    Ok(())
+}
+
+#[test]
+fn a_400_has_its_reason(rt: HostRuntime) -> Result<(), Fail> {
+    assert_eq!(rt;
+        told(&rt, "GET / HTTP/1.1\r\n\r\n")?.as_str(),
+        "400 GET / 124 0 - 1000 NoHost\n"
+    );
+    assert_eq!(rt;
+        told(
+            &rt,
+            "POST /_/push HTTP/1.1\nHost: docs.test\nContent-Length: 9\n\n{}"
+        )?
+        .as_str(),
+        "400 POST /_/push 124 0 docs.test 1000 ShortBody\n"
     );
     Ok(())
 }

@@ -1,8 +1,9 @@
-use Rattle.std.proofs.Common.{◌≡◌, refl}
+use Rattle.std.proofs.Common.{◌≡◌, false, refl}
 use Rattle.dh_desk.specs.Desk.{world}
 use Rattle.dh_desk.proofs.Moving.{WorldGoesBy-refl, WorldGoesBy-weaker, goes_clean}
 use Rattle.dh_http.proofs.Headlines.{headline_of}
-use Rattle.dh_http.proofs.Writing.{request_answered, unread_answered, in_vain, anyway}
+use Rattle.dh_http.specs.Answers.{HearsSource}
+use Rattle.dh_http.proofs.Writing.{request_answered, unread_answered, in_vain, anyway, was_heard, was_unheard}
 use Rattle.dh_http.proofs.answering.answer.Goals as goal
 
 pub returns-in-Ok-clause-answers : goal.returns-in-Ok-clause-answers
@@ -37,3 +38,11 @@ returns-in-Err-Read-clause-refused g c = anyway (c.args.desk.now ≡ c.args.desk
 
 pub returns-in-Err-TooManyTurns-clause-refused : goal.returns-in-Err-TooManyTurns-clause-refused
 returns-in-Err-TooManyTurns-clause-refused g c = anyway (c.args.desk.now ≡ c.args.desk.now) (g.R.Source.left c.args.source.now) refl
+
+pub returns-in-Ok-clause-hears : goal.returns-in-Ok-clause-hears
+returns-in-Ok-clause-hears g c =
+    was_heard (HearsSource (g.R.Source.left c.args.source.now) (g.R.Source.left c.read_request.new.source) c.read_request.new.heard) c.answer_request.result
+    (c.in-Ok.request, c.in-Ok.ensures.asked, c.in-Ok.ensures.hears)
+
+pub returns-in-Err-Memory-clause-hears : goal.returns-in-Err-Memory-clause-hears
+returns-in-Err-Memory-clause-hears g c = was_unheard _ false _ _ c.answer_unavailable.result c.answer_unavailable.ensures.writes
