@@ -52,7 +52,8 @@ ROOMS = [
     Room("dh_tables", ["dh_tables"], "`Tables`: transactions, and a typed call for each thing that is asked or changed"),
     Room("dh_stored_names", ["dh_derived", "dh_class_names"], "stored aliases and routes: which are right, and which an edit leaves to renew"),
     Room("dh_renewal", ["dh_renewal"], "stored aliases and routes made right, after an edit or all at once"),
-    Room("dh_opening", ["dh_migrating", "dh_opening"], "`Tables` made in a database, opened in one that is ours, or brought up to date"),
+    Room("dh_migrating", ["dh_migrating"], "tables of an older schema, converted"),
+    Room("dh_opening", ["dh_opening"], "`Tables` made in a database, opened in one that is ours, or brought up to date"),
     Room("dh_view", ["dh_view", "dh_listing_reads"], "what a caller sees of the tables, as a `Lookup`, and what list words print"),
     Room("dh_edits", ["dh_facts", "dh_edits"], "what a command has to know, looked up in the tables, and its edits, made there"),
     Room("dh_transactions", ["dh_transactions"], "a command as one transaction"),
@@ -66,6 +67,10 @@ ROOMS = [
     Room("dh_sample", ["dh_sample"], "the sample project in memory, and one request over it"),
     Room("dh_files", ["dh_files"], "files of records: made, opened, migrated, closed, and what is wrong with one"),
     Room("dh_server", ["dh_server"], "connections, one after another, as calls of a desk; a server's life; the log"),
+    Room("dh_telling", ["dh_telling"], "how a run of the program ends, and how that is told"),
+    Room("dh_sockets", ["dh_sockets"], "the control socket of a file: made, removed, and asked by a message"),
+    Room("dh_client", ["dh_client"], "what is run beside a server: sent to it, and told by its answer"),
+    Room("dh_running", ["dh_running"], "orders done over a desk, and a server run over a file"),
     Room("docs_host", ["docs_host"], "the program: its words, over a file, memory or a running server; how it ends"),
     Room("test_crates", ["test_rules_and_redirects", "test_requests", "test_tables", "test_server"], "tests alone: what no input of the program can show, and the server over sockets"),
     Room("test_stops", ["test_stops"], "a test program: lines stopped at each call of the store, and lists of calls"),
@@ -78,11 +83,14 @@ MAP = [
     ("Commands", ["dh_commands", "dh_edits", "dh_stored_names", "dh_renewal", "dh_transactions"]),
     ("Reads", ["dh_reads", "dh_reply", "dh_view", "dh_reply_cache"]),
     ("Commands and reads over one store", ["dh_desk"]),
-    ("Records and tables", ["dh_rows", "dh_records", "dh_page_cache", "dh_tables", "dh_constraints", "dh_opening"]),
+    ("Records and tables", ["dh_rows", "dh_records", "dh_page_cache", "dh_tables", "dh_constraints", "dh_migrating", "dh_opening"]),
     ("Requests and bytes", ["dh_ports", "dh_requests", "dh_http"]),
-    ("The program", ["dh_lines", "dh_script", "dh_control", "dh_redirect_lists", "dh_sample", "dh_files", "dh_server", "docs_host"]),
+    ("The program", ["dh_lines", "dh_script", "dh_control", "dh_redirect_lists", "dh_sample", "dh_files", "dh_server", "dh_telling", "dh_sockets", "dh_client", "dh_running", "docs_host"]),
     ("Tests", ["test_crates", "test_stops"]),
 ]
+
+# Rooms that split.py makes, where it was run.
+MAY_LACK = ["dh_telling", "dh_sockets", "dh_client", "dh_running"]
 
 # What has another name in its room: (crate, folder, old) to new. In 'src' a module that stands in lib.rt, in 'specs' and 'proofs'
 # a file (without its ending), in 'edits' a wrong body of edits/ or must-fail/.
@@ -92,7 +100,6 @@ RENAMED = {
     ("dh_aliases", "src", "laws"): "name_laws",
     ("dh_histories", "src", "laws"): "history_laws",
     ("dh_class_names", "src", "laws"): "class_laws",
-    ("dh_opening", "src", "old_pass"): "kept_old_pass",
     ("dh_bodies", "src", "laws"): "body_laws",
     ("dh_bodies", "specs", "Fields"): "BodyFields",
     ("dh_bodies", "proofs", "Reading"): "BodyReading",
@@ -130,7 +137,6 @@ AFTER = [
     ("crates/dh_transactions/src/lib.rt", "or refuses (`decide`; pushes\n//! are decided in `dh_commands`).", "or refuses\n//! (`decide`)."),
     ("docs/ADD_A_COMMAND.md", "(`src/passes.rt`, `src/properties.rt`; of a push in `dh_commands`)", "(`src/passes.rt`, `src/properties.rt`, `src/pushes.rt`)"),
     ("docs/ADD_A_COMMAND.md", "`specs/Bodies.antt`, `specs/Fields.antt`), its path in `dh_requests` (`post_at`", "`specs/Bodies.antt`, `specs/BodyFields.antt`), its path there (`post_at`"),
-    ("docs/ADD_A_TABLE.md", "and a step of `migrate` there (`src/migrating.rt`, and `dh_opening`)", "and a step of `migrate` there (`src/migrating.rt`, `src/steps.rt`)"),
     ("docs/PROOFS.md", "(`test_crates` 5.2, `test_crates` 3.2, `test_crates` 1.1 each)", "(of `test_crates`, as four crates)"),
 ]
 
@@ -243,7 +249,7 @@ class Repository:
             if only and room.name not in only:
                 continue
             parts = [it for it in room.parts if it in self.crates]
-            for it in sorted(set(room.parts) - set(parts)):
+            for it in sorted(set(room.parts) - set(parts) - set(MAY_LACK)):
                 self.said.setdefault("gone", []).append(f"{room.name}: there is no crate {it}, so it is passed over")
             if not parts:
                 continue
@@ -499,14 +505,15 @@ def code_paths(repo, text, here):
 def uses(repo, text, here, file):
     """The `use` statements of a file, those of one path in one statement; a block in which nothing is moved stays."""
     found = list(USE.finditer(text))
-    blocks, pieces, at = [], [], 0
+    blocks, pieces, at, is_open = [], [], 0, False
     for it in found:
         # one with an attribute in front stays where it is
         alone = text[: it.start()].rstrip("\n").rsplit("\n", 1)[-1].lstrip().startswith("#[")
-        if not alone and blocks and blocks[-1][-1].end() == it.start() and blocks[-1][-1]["indent"] == it["indent"]:
+        if is_open and not alone and blocks[-1][-1].end() == it.start() and blocks[-1][-1]["indent"] == it["indent"]:
             blocks[-1].append(it)
         else:
             blocks.append([it])
+        is_open = not alone
     for block in blocks:
         pieces += [text[at : block[0].start()], use_block(repo, block, here, file)]
         at = block[-1].end()
