@@ -63,6 +63,10 @@ class Asker(generate.Maker):
         pages = words.pop()
         return words + [[*pages, self.word("slug", "upload"), self.word("lang")] for _ in range(3)]
 
+    def lookers(self):
+        """Callers of whom it is listed what they see: the pass that each shows, or None, and the moment at which he looks, or None."""
+        return [(self.shown(), self.word_now("") if self.with_ends else None) for _ in range(4)]
+
     # ---- requests
 
     def request(self):

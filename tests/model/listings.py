@@ -54,6 +54,29 @@ def page_row(path, media, body):
     return [path, media, b"%d" % len(body)]
 
 
+def seen_version_row(version):
+    return [b"version", version.kind, version.name, version.slug, b"hidden" if version.hidden else b"shown"]
+
+
+def lead_rows(name, to):
+    return [] if to is None else [[name, to]]
+
+
+def seen_page_rows(seen, slug, lang):
+    return [[b"page", slug, lang, *page_row(*it)] for it in pages_under(seen, slug, lang)]
+
+
+def seen_rows(seen):
+    """The rows of all that a caller sees of a project."""
+    rows = [[b"lang", lang] for lang in seen.languages] + [seen_version_row(version) for version in seen.versions]
+    rows += lead_rows(b"latest", seen.latest) + lead_rows(b"stable", seen.stable) + lead_rows(b"/", seen.default)
+    rows += [[b"redirect", *redirect_row(0, it)[1:]] for it in seen.redirects]
+    for version in seen.versions:
+        for lang in seen.languages:
+            rows += seen_page_rows(seen, version.slug, lang)
+    return rows
+
+
 # The rows of each list of a project, in their order.
 LISTS = {
     b"list-langs": lambda project: [[lang] for lang in project.languages],
@@ -72,11 +95,13 @@ def rows_listed(world, name, words):
     host, *words = words
     if host not in world:
         raise worlds.Refused(10)
+    if name == b"list-seen":
+        return seen_rows(worlds.seen(world, host, worlds.Caller(*words)))
     return LISTS[name](world[host], *words)
 
 
 def run_list(world, name, words):
-    """What a word that lists prints, and its exit status."""
+    """What a word that lists prints, and its exit status. The words of `list-seen` are the host, the pass or None, and the moment."""
     try:
         rows = [b"\t".join(row) for row in rows_listed(world, name, words)]
     except worlds.Refused as refused:

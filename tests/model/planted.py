@@ -121,6 +121,10 @@ def pages_of_all_languages(project, slug, lang):
     return [row for spoken in project.languages for row in PAGES_UNDER(project, slug, spoken)]
 
 
+def seen_pages_of_the_main_language(seen, slug, lang):
+    return SEEN_PAGE_ROWS(seen, slug, seen.languages[0])
+
+
 def private_when_new(host, project):
     return [*PROJECT_ROW(host, project)[:3], b"public"]
 
@@ -131,7 +135,7 @@ def moment_of_the_beginning(service):
 
 AFTER_RULES, FIRST_RESULT, ROBOTS = versions.after_rules, redirects.first_result, replies.robots
 VERSIONS_LISTED, REPLY_BYTES = replies.versions_listed, replies.reply_bytes
-PAGES_UNDER, PROJECT_ROW = listings.pages_under, listings.project_row
+PAGES_UNDER, PROJECT_ROW, SEEN_PAGE_ROWS = listings.pages_under, listings.project_row, listings.seen_page_rows
 
 # What is wrong, the module or table, the name in it, what stands there instead.
 PLANTED = [
@@ -160,6 +164,7 @@ PLANTED = [
     ("$rest is a text as any", redirects, "from_old", from_old_without_rest),
     ("the pages of all languages are listed", listings, "pages_under", pages_of_all_languages),
     ("each project is listed as public", listings, "project_row", private_when_new),
+    ("each page is seen in the main language", listings, "seen_page_rows", seen_pages_of_the_main_language),
     ("a server stays at the moment when it began", served, "moment_of", moment_of_the_beginning),
 ]
 

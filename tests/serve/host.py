@@ -67,6 +67,16 @@ def read_reply(data):
     return int(lines[0].split()[1]), body
 
 
+def message(store, kind, sent):
+    """A message to the server of this file, whose name there is its device and its number."""
+    about = os.stat(store)
+    return f"docs_host 2 {about.st_dev}:{about.st_ino}\n{kind}\n".encode() + sent + b"\xff"
+
+
+def words_message(store, *words):
+    return message(store, "words", "\0".join(words).encode())
+
+
 class Server:
     """`docs_host serve`, from when it listens, run by the words `under`; the lines of its standard error go to a file."""
 

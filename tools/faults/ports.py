@@ -227,14 +227,6 @@ def connections(part, base, folder):
 # ---- messages
 
 
-def words_message(*words):
-    return b"docs_host 1 words\n" + "\0".join(words).encode() + b"\xff"
-
-
-def script_message(lines):
-    return b"docs_host 1 script\n" + lines + b"\xff"
-
-
 def say(place, message, piece=4096, most=None):
     """What is answered to these bytes, which come in such pieces; a client that takes so many bytes of it takes no more."""
     with socket.socket(socket.AF_UNIX) as client:
@@ -266,7 +258,8 @@ def tags(server):
 def cut_messages(part, base, folder):
     """A message that ends, or whose client goes, behind each of its bytes, does nothing; one whose client goes while it is answered is done."""
     copy_store(base, folder)
-    whole, answer = words_message("push", HOST, KEY, "k1", "tag", "1.0.0"), b"made 1.0.0 active shown public\nend 0\n"
+    store = f"{folder}/{STORE}"
+    whole, answer = hosts.words_message(store, "push", HOST, KEY, "k1", "tag", "1.0.0"), b"made 1.0.0 active shown public\nend 0\n"
     with hosts.Server(part.program, f"{folder}/{STORE}", 1_000_000, f"{folder}/told") as server:
         place = f"{folder}/{STORE}.control"
         for count in range(len(whole)):
@@ -277,7 +270,7 @@ def cut_messages(part, base, folder):
         said = say(place, whole, 1)
         part.check("a message byte by byte", said == answer, said)
         for count in range(len(answer)):
-            said = say(place, words_message("push", HOST, KEY, f"r{count}", "tag", f"2.0.{count}"), most=count)
+            said = say(place, hosts.words_message(store, "push", HOST, KEY, f"r{count}", "tag", f"2.0.{count}"), most=count)
             wanted = b"made 2.0.%d active shown public\nend 0\n" % count
             part.check(f"a reader who goes behind {count} bytes", said == wanted[:count], said)
         wanted = {"1.0.0", *(f"2.0.{count}" for count in range(len(answer)))}
@@ -315,10 +308,12 @@ class Beside:
 
 
 def messages(part, base, folder):
-    """A script beside a server: at each byte of its message and of its answer a call of one of both fails; a byte a call."""
-    beside = Beside(part, base, folder, f"push {HOST} {KEY} k1 tag 1.0.0\npush {HOST} {KEY} k2 tag 2.0.0\n".encode())
+    """A script of one line beside a server: at each byte of its message and of its answer a call of one of both fails; a byte a call."""
+    beside = Beside(part, base, folder, f"push {HOST} {KEY} k1 tag 1.0.0\n".encode())
     whole, after = beside.script.whole
-    answer, size = whole.out + b"end 0\n", len(script_message(beside.script.data))
+    copy_store(base, folder)
+    size = len(hosts.message(f"{folder}/{STORE}", "line", beside.script.data.rstrip(b"\n")))
+    answer = whole.out + b"end 0\n"
     for name in ("SEND_MOST", "RECV_MOST"):
         for ours, theirs in (({name: "1"}, {}), ({}, {name: "1"})):
             seen = beside.run(ours, theirs)

@@ -1,4 +1,4 @@
--- The lists of the records, with no derived ones.
+-- The lists of the records, with no derived ones and no answers to retry keys.
 use Rattle.std.specs.Prelude.{[]}
 use Rattle.dh_records.specs.Lists.{Lists}
 use Rattle.dh_constraints.specs.declared.records.Records.{Records}
@@ -9,7 +9,7 @@ lists_in r = record {
   langs = r.langs.items;
   versions = r.versions.items;
   pages = r.pages.items;
-  used = r.used.items;
+  used = [];
   picks = r.picks.items;
   passes = r.passes.items;
   held = r.held.items;

@@ -5,7 +5,6 @@ ghost use Rattle.std.specs.List.{AllByRecursion};
 ghost use Rattle.dh_texts.specs.SlugOfName.{slug_from};
 ghost use Rattle.dh_redirects.specs.Redirects.{first_fault};
 ghost use Rattle.dh_rules.specs.Rules as rules;
-ghost use Rattle.dh_world.specs.Answers.{tells};
 ghost use Rattle.dh_world.specs.WrongTexts as wrong;
 ghost use Rattle.dh_world.specs.Seen as names;
 ghost use Rattle.dh_records.specs.Lists.{is_lang_of, is_pass_of, is_pick_of, is_rule_of, is_redirect_of};
@@ -14,7 +13,6 @@ ghost use Rattle.dh_records.specs.Constraints.{AreLanguages, AreDefaults, AreRul
 ghost use Rattle.dh_records.specs.Constraints.{HaveProjects, KeepProjects, KeepRecords, KeepTexts, KeepsConstraints};
 ghost use Rattle.dh_constraints.specs.Lists.{lists_in};
 
-use crate::answers::tells_answer;
 use crate::lookups::{
     has_active, has_language, has_pass, has_project, has_version, langs_of, passes_of, picks_of,
     redirects_of, rules_of,
@@ -213,18 +211,6 @@ fn slugs_are_of_names(alloc: Global, records: &Records) -> Result<bool, AllocErr
     Ok(true)
 }
 
-fn answers_are_told(alloc: Global, records: &Records) -> Result<bool, AllocError>
-    ensures { IfOk result (λ b. IsTrue b ↔ AllByRecursion
-        (λ u. IsTrue (tells u.op u.answer)) (lists_in records.now).used) }
-{
-    for row in records.used.as_slice() {
-        if !tells_answer(alloc, row.op, row.answer.as_str())? {
-            return Ok(false);
-        }
-    }
-    Ok(true)
-}
-
 fn rules_are_allowed(alloc: Global, records: &Records) -> Result<bool, AllocError>
     ensures { IfOk result (λ b. IsTrue b ↔ AllByRecursion
         (λ r. IsTrue (rules.is_allowed r.rule.pattern)) (lists_in records.now).rules) }
@@ -245,7 +231,6 @@ fn all_have_projects(records: &Records) -> bool
     have_projects(records, records.langs.as_slice())
         && have_projects(records, records.versions.as_slice())
         && have_projects(records, records.pages.as_slice())
-        && have_projects(records, records.used.as_slice())
         && have_projects(records, records.picks.as_slice())
         && have_projects(records, records.passes.as_slice())
         && have_projects(records, records.rules.as_slice())
@@ -276,14 +261,10 @@ fn records_are_kept(records: &Records) -> bool
 fn texts_are_kept(alloc: Global, records: &Records) -> Result<bool, AllocError>
     ensures { IfOk result (λ b. IsTrue b ↔ KeepTexts (lists_in records.now)) }
 {
-    Ok(
-        slugs_are_of_names(alloc, records)?
-            && answers_are_told(alloc, records)?
-            && rules_are_allowed(alloc, records)?,
-    )
+    Ok(slugs_are_of_names(alloc, records)? && rules_are_allowed(alloc, records)?)
 }
 
-/// Whether the records keep the constraints. Out of memory it does not answer.
+/// Whether the records keep the constraints; `is_fit_key` judges each answer to a retry key. Out of memory it does not answer.
 pub fn keep_constraints(alloc: Global, records: &Records) -> Result<bool, AllocError>
     ensures { IfOk result (λ b. IsTrue b ↔ KeepsConstraints (lists_in records.now)) }
 {

@@ -1,7 +1,9 @@
 //! Looking up the records of one host.
 
-ghost use Rattle.std.specs.Prelude.{◌≡◌, filter, find, option_map};
-ghost use Rattle.dh_records.specs.Lists.{is_lang_of, is_version, is_pick_of, is_pass_of, is_rule_of, is_redirect_of};
+ghost use Rattle.std.specs.Prelude.{◌≡◌, filter, find, is_some, option_map};
+ghost use Rattle.dh_records.specs.Codings as coding;
+ghost use Rattle.dh_records.specs.Constraints.{InOrder};
+ghost use Rattle.dh_records.specs.Lists.{is_project, is_lang_of, is_version, is_pick_of, is_pass_of, is_rule_of, is_redirect_of};
 ghost use Rattle.dh_records.specs.Constraints as kept;
 ghost use Rattle.dh_constraints.specs.Lists.{lists_in};
 
@@ -9,12 +11,20 @@ use crate::places::is_among;
 use crate::records::Records;
 use crate::runs::{named_in, run_of};
 use dh_paths::{HostName, Lang, Slug, Token};
-use dh_records::{DefaultRow, LangRow, PassRow, RedirectRow, RuleRow, VersionRow};
+use dh_records::{DefaultRow, LangRow, PassRow, ProjectRow, RedirectRow, RuleRow, VersionRow};
+
+/// Whether one of the projects is this host's.
+pub fn is_host_among(projects: &[ProjectRow], host: &HostName) -> bool
+    requires { InOrder coding.projects.key projects.now }
+    ensures { result ≡ is_some (find (is_project host.now) projects.now) }
+{
+    !run_of(projects, host).is_empty()
+}
 
 pub fn has_project(records: &Records, host: &HostName) -> bool
     ensures { result ≡ kept.has_project (lists_in records.now) host.now }
 {
-    !run_of(records.projects.as_slice(), host).is_empty()
+    is_host_among(records.projects.as_slice(), host)
 }
 
 pub fn langs_of<'a>(records: &'a Records, host: &HostName) -> &'a [LangRow]

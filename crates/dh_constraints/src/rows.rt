@@ -4,7 +4,7 @@ ghost use Rattle.std.specs.Prelude.{◌≡◌, ℕ, List};
 
 use dh_paths::HostName;
 use dh_records::{
-    DefaultRow, LangRow, PageRow, PassRow, ProjectRow, RedirectRow, RetryRow, RuleRow, VersionRow,
+    DefaultRow, LangRow, PageRow, PassRow, ProjectRow, RedirectRow, RuleRow, VersionRow,
 };
 
 /// A record that stands under a host.
@@ -40,14 +40,6 @@ impl Hosted for VersionRow {
 }
 
 impl Hosted for PageRow {
-    ghost host_of = { λ r. r.host };
-
-    fn host(&self) -> &HostName {
-        &self.host
-    }
-}
-
-impl Hosted for RetryRow {
     ghost host_of = { λ r. r.host };
 
     fn host(&self) -> &HostName {

@@ -11,7 +11,8 @@ use Rattle.dh_control.specs.Cutting.{own_line, onto_lines, whole_lines, AreLines
 use Rattle.dh_control.specs.Ends.{end_line, end_as_told}
 use Rattle.dh_control.specs.Messages.{behind}
 use Rattle.dh_control.specs.declared.end.End.{End}
-use Rattle.dh_control.specs.declared.end.End.TheVariants.{Done, Refused, Unknown}
+use Rattle.dh_control.specs.declared.end.End.TheVariants.{Done, Refused, Unknown, Elsewhere}
+use Rattle.dh_control.proofs.Codes.{code_open}
 
 tail_own : (b : ℕ) (bs : Text) (t : Bool) → own_line t b ≡ b ∷ bs → [] ≡ bs
 tail_own b bs true is = cc
@@ -77,8 +78,13 @@ EndIsTold ended =
 
 tells : (ended : Result End ScriptFault) → EndIsTold ended
 tells (Ok Done) = (refl, refl, refl)
-tells (Ok Refused) = (refl, refl, refl)
+tells (Ok (Refused reason)) = (
+  refl,
+  ap (λ (lines : Text). onto_lines 101 (onto_lines 110 (onto_lines 100 (onto_lines 32 (onto_lines 49 (onto_lines 32 lines)))))) (code_open reason),
+  refl,
+)
 tells (Ok Unknown) = (refl, refl, refl)
+tells (Ok Elsewhere) = (refl, refl, refl)
 tells (Err (Unread Read)) = (refl, refl, refl)
 tells (Err (Unread TooManyTurns)) = (refl, refl, refl)
 tells (Err (Unread Memory)) = (refl, refl, refl)

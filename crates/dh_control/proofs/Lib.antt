@@ -1,3 +1,4 @@
+pub mod Codes
 pub mod Cuts
 pub mod Sending
 pub mod Whole

@@ -1,50 +1,25 @@
--- What a message does, by what was read and by the script that is in it.
-use Rattle.std.proofs.Common.{◌≡◌, ◌∙◌, ℕ, true, ◌||◌, is_err, Option, Some, None, Result, Ok, Err, IfSome, inl, inr, refl, sym, ap, subst, subst₂}
+-- What a message does, by what was read and by what stands behind its head.
+use Rattle.std.proofs.Common.{◌≡◌, ◌∙◌, ℕ, true, ◌||◌, is_err, [], ◌∷◌, ◌++◌, Option, Some, None, Result, Ok, Err, IfOk, IfSome, inl, inr, refl, sym, ap, subst, subst₂}
+use Rattle.std.specs.Io.KnownBytes.{Appends}
+use Rattle.std.specs.Str.{IsUtf8}
+use Rattle.dh_lines.specs.Lines.{line_in}
 use Rattle.dh_lines.specs.declared.lines.Line.{Line}
 use Rattle.dh_lines.specs.declared.lines.Order.{Order}
-use Rattle.dh_script.specs.Reading.{IsScript, reader_failed, writer_failed}
-use Rattle.dh_script.specs.Running.{RunsScript, RunsSome, lines_in}
-use Rattle.dh_script.proofs.RunLemmas.{some_none}
-use Rattle.dh_script.specs.Script.{MayDoSingle, is_unread}
+use Rattle.dh_lists.specs.declared.lists.ListFault.{ListFault}
+use Rattle.dh_lists.specs.declared.lists.ListFault.TheVariants.{BadRecord, Memory}
+use Rattle.dh_script.proofs.Explained.{line, singly}
+use Rattle.dh_script.specs.Explaining.{DoesLineFor, PerformsSingleFor}
+use Rattle.dh_script.specs.Reading.{reader_failed, writer_failed}
+use Rattle.dh_script.specs.Running.{words_in}
+use Rattle.dh_script.specs.Script.{MayDoLine, MayDoSingle}
 use Rattle.dh_script.specs.declared.fault.ScriptFault.{ScriptFault}
+use Rattle.dh_script.specs.declared.reasons.Reason.{Reason}
 use Rattle.dh_world.specs.World.{Text, World}
-use Rattle.dh_control.specs.Answers.{AnswersMessage, DoesBody, DoesBy, DoesMessage, DoesOne, DoesScript, DoesWords, HasLastLine, TakesMessage}
-use Rattle.dh_control.specs.Messages.{behind, body_of, script_mark, words_mark}
+use Rattle.dh_control.specs.Answers.{AnswersMessage, DoesBody, DoesBy, DoesFor, DoesImport, DoesList, DoesListed, DoesMessage, DoesNone, DoesOne, DoesOneLine, DoesRest, DoesSentLine, DoesWords, HasLastLine, TakesMessage, unlisted}
+use Rattle.dh_control.specs.Ends.{end_of}
+use Rattle.dh_control.specs.Messages.{behind, body_of, host_and_list, import_mark, line_mark, rest_for, words_mark}
 use Rattle.dh_control.specs.declared.end.End.{End}
-use Rattle.dh_control.specs.declared.end.End.TheVariants.{Done}
-
-module _ {T : Type 0} (moment : ℕ) (script : Text) (before after : World) (held now : Option Text) where
-  -- a script that ran to its end
-  pub script_done : (value : T) → RunsScript {T = T} {E = ScriptFault} moment (Some script) before after held now (Ok value) → IsScript script → DoesScript moment script before after held now (Ok Done)
-  script_done value runs is = record {
-    ran = record { script = runs.script; read = runs.read; ran = runs.ran };
-    done = refl;
-    whole = is;
-    unread = λ no. cc;
-  }
-
-  -- one that did not
-  pub script_failed : (fault : ScriptFault) → RunsScript {T = T} {E = ScriptFault} moment (Some script) before after held now (Err fault)
-      → (is_unread {A = T} (Err fault) ≡ true → (after ≡ before) × (now ≡ held)) → DoesScript moment script before after held now (Err fault)
-  script_failed fault runs unread = record {
-    ran = record { script = runs.script; read = runs.read; ran = runs.ran };
-    done = tt;
-    whole = tt;
-    unread = unread;
-  }
-
--- one that was not read
-pub script_unread : (moment : ℕ) (script : Text) (world : World) (held now : Option Text) (fault : ScriptFault) → now ≡ held → DoesScript moment script world world held now (Err fault)
-script_unread moment script world held now fault same = record {
-  ran = record {
-    script = script;
-    read = refl;
-    ran = subst (RunsSome moment world (lines_in script) world held) (sym same) (some_none moment world (lines_in script) held);
-  };
-  done = tt;
-  whole = tt;
-  unread = λ _. (refl, same);
-}
+use Rattle.dh_control.specs.declared.end.End.TheVariants.{Unknown}
 
 -- an order that ended by a fault was done, or was not
 pub one_failed : {E : Type 0} (moment : ℕ) (before : World) (order : Order) (after : World) (held now : Option Text) (result : Result End E) → is_err result ≡ true → MayDoSingle moment before order after → DoesOne moment before order after held now result
@@ -76,27 +51,96 @@ pub words_ended
 words_ended E F moment before None after held now end did = did
 words_ended E F moment before (Some line) after held now end did = did
 
--- what stands behind the marks of a body was done, and the body of a message
-module _ (moment : ℕ) (before after : World) (held now : Option Text) (result : Result End ScriptFault) where
-  pub body_done : (body : Text) (sent script : Option Text) → sent ≡ behind words_mark body → script ≡ behind script_mark body
-      → DoesBy moment sent script before after held now result → DoesBody moment (Some body) before after held now result
-  body_done body sent script words lines does = subst₂ (λ s t. DoesBy moment s t before after held now result) words lines does
+-- what a single order printed was written, or was not
+pub one_told
+    : {E : Type 0} (moment : ℕ) (before : World) (order : Order) (after : World) (held now : Option Text) (text : Text) (reason : Option Reason) (result : Result End E)
+    → PerformsSingleFor moment before order after text reason → IfOk result (λ end. Appends held now (text ++ 10 ∷ []) × (end ≡ end_of reason))
+    → DoesOne moment before order after held now result
+one_told moment before order after held now text reason (Ok end) did told = (text, reason, did, told.0, told.1)
+one_told moment before order after held now text reason (Err fault) did told =
+    let its = singly before after text reason moment order did in
+    inr (text, its.0, its.1)
 
-  pub message_done : (message : Text) (body : Option Text) → body ≡ body_of message → DoesBody moment body before after held now result → DoesMessage moment message before after held now result
-  message_done message body is does = subst (λ b. DoesBody moment b before after held now result) is does
+-- the same of a line of a script
+pub line_failed : {E : Type 0} (moment : ℕ) (before : World) (line : Option Line) (after : World) (held now : Option Text) (result : Result End E) → is_err result ≡ true → MayDoLine moment before line after → DoesOneLine moment before line after held now result
+line_failed moment before line after held now (Ok end) is may = let no : ⊥ = cc in absurd no
+line_failed moment before line after held now (Err fault) is may = may
+
+pub line_told
+    : {E : Type 0} (moment : ℕ) (before : World) (l : Option Line) (after : World) (held now : Option Text) (text : Text) (reason : Option Reason) (result : Result End E)
+    → DoesLineFor moment before l after text reason → IfOk result (λ end. Appends held now (text ++ 10 ∷ []) × (end ≡ end_of reason))
+    → DoesOneLine moment before l after held now result
+line_told moment before l after held now text reason (Ok end) did told = (text, reason, did, told.0, told.1)
+line_told moment before l after held now text reason (Err fault) did told = inr (text, line before after text reason moment l did)
+
+pub line_handed
+    : {E F : Type 0} (moment : ℕ) (before : World) (line : Option Line) (after : World) (held now : Option Text) (fault : E) (result : Result End F) → is_err result ≡ true
+    → DoesOneLine {E = E} moment before line after held now (Err fault) → DoesOneLine moment before line after held now result
+line_handed moment before line after held now fault (Ok end) is did = let no : ⊥ = cc in absurd no
+line_handed moment before line after held now fault (Err handed) is did = did
+
+-- and of an order
+pub one_handed
+    : {E F : Type 0} (moment : ℕ) (before : World) (order : Order) (after : World) (held now : Option Text) (fault : E) (result : Result End F) → is_err result ≡ true
+    → DoesOne {E = E} moment before order after held now (Err fault) → DoesOne moment before order after held now result
+one_handed moment before order after held now fault (Ok end) is did = let no : ⊥ = cc in absurd no
+one_handed moment before order after held now fault (Err handed) is did = did
+
+-- a list that was not read does nothing
+pub unlisted_does : (moment : ℕ) (world : World) (host : Text) (held : Option Text) (fault : ListFault) (result : Result End ScriptFault) → result ≡ unlisted fault
+    → DoesListed moment world host (Err fault) world held held result
+unlisted_does moment world host held (BadRecord number fault) result is =
+    subst (λ (r : Result End ScriptFault). DoesNone Unknown world world held held r) (sym is) (refl, refl, refl)
+unlisted_does moment world host held Memory result is = (refl, ap is_err is)
+
+-- what was sent is text
+module _ (moment : ℕ) (before after : World) (held now : Option Text) (result : Result End ScriptFault) where
+  pub line_sent : (line_text sent : Text) → line_text ≡ sent → IsUtf8 sent → DoesOneLine moment before (line_in (words_in line_text)) after held now result
+      → DoesSentLine moment sent before after held now result
+  line_sent line_text sent same is did =
+      inl (is, subst (λ (l : Text). DoesOneLine moment before (line_in (words_in l)) after held now result) same did)
+
+  pub import_sent : (sent host list named : Text) → Some (host, list) ≡ host_and_list sent → named ≡ host → IsUtf8 host → DoesList moment before named list after held now result
+      → DoesImport moment before (host_and_list sent) after held now result
+  import_sent sent host list named found same is did =
+      subst (λ (p : Option (Text × Text)). DoesImport moment before p after held now result) found
+      (inl (is, subst (λ (h : Text). DoesList moment before h list after held now result) same did))
+
+  pub import_unsent : (sent host list : Text) → Some (host, list) ≡ host_and_list sent → (IsUtf8 host → ⊥) → DoesNone Unknown before after held now result
+      → DoesImport moment before (host_and_list sent) after held now result
+  import_unsent sent host list found none did =
+      subst (λ (p : Option (Text × Text)). DoesImport moment before p after held now result) found (inr (none, did))
+
+-- what stands behind the head of a body was done, and the body of a message
+module _ (moment : ℕ) (before after : World) (held now : Option Text) (result : Result End ScriptFault) where
+  pub rest_done : (rest : Text) (sent line sent_import : Option Text) → sent ≡ behind words_mark rest → line ≡ behind line_mark rest → sent_import ≡ behind import_mark rest
+      → DoesBy moment sent line sent_import before after held now result → DoesRest moment rest before after held now result
+  rest_done rest sent line sent_import words lines imports does =
+      let first = subst₂ (λ s t. DoesBy moment s t sent_import before after held now result) words lines does in
+      subst (λ i. DoesBy moment (behind words_mark rest) (behind line_mark rest) i before after held now result) imports first
+
+  pub import_none : (sent : Text) → None ≡ host_and_list sent
+      → DoesImport moment before None after held now result → DoesImport moment before (host_and_list sent) after held now result
+  import_none sent is does = subst (λ p. DoesImport moment before p after held now result) is does
+
+  pub body_done : (file body : Text) (rest : Option Text) → rest ≡ rest_for file body → DoesFor moment body rest before after held now result → DoesBody moment file (Some body) before after held now result
+  body_done file body rest is does = subst (λ r. DoesFor moment body r before after held now result) is does
+
+  pub message_done : (file message : Text) (body : Option Text) → body ≡ body_of message → DoesBody moment file body before after held now result → DoesMessage moment file message before after held now result
+  message_done file message body is does = subst (λ b. DoesBody moment file b before after held now result) is does
 
 -- the message that was read was done
-pub message_taken : (moment : ℕ) (left held now : Option Text) (before after : World) (message sent : Text) (ended : Result End ScriptFault)
+pub message_taken : (moment : ℕ) (file : Text) (left held now : Option Text) (before after : World) (message sent : Text) (ended : Result End ScriptFault)
     → IfSome left (λ input. message ≡ input) → sent ≡ message
-    → DoesMessage moment sent before after held now ended → TakesMessage moment left before after held now ended
-message_taken moment left held now before after message sent ended read same does =
-    inl (message, read, subst (λ m. DoesMessage moment m before after held now ended) same does)
+    → DoesMessage moment file sent before after held now ended → TakesMessage moment file left before after held now ended
+message_taken moment file left held now before after message sent ended read same does =
+    inl (message, read, subst (λ m. DoesMessage moment file m before after held now ended) same does)
 
 -- and its end was told
 module _ (held now : Option Text) (ended result : Result End ScriptFault) (tells : HasLastLine held now ended result) where
-  pub end_told : (moment : ℕ) (left first : Option Text) (before after : World)
-      → TakesMessage moment left before after first held ended → AnswersMessage moment left before after first now result
-  end_told moment left first before after takes = record { printed = held; ended = ended; takes = takes; tells = tells }
+  pub end_told : (moment : ℕ) (file : Text) (left first : Option Text) (before after : World)
+      → TakesMessage moment file left before after first held ended → AnswersMessage moment file left before after first now result
+  end_told moment file left first before after takes = record { printed = held; ended = ended; takes = takes; tells = tells }
 
   fault_told : HasLastLine held now ended result → reader_failed ended ≡ true → (reader_failed result || writer_failed result) ≡ true
   fault_told (inl told) is = ap (λ r. reader_failed r || writer_failed r) told.0 ∙ ap (λ b. b || writer_failed ended) is

@@ -13,10 +13,8 @@ use Rattle.dh_script.specs.declared.fault.ScriptFault.TheVariants.{Unread, TooLo
 use Rattle.dh_world.specs.World.{Text}
 use Rattle.dh_control.specs.Ends.{end_as_told, ReadsEnd}
 use Rattle.dh_control.specs.declared.end.End.{End}
-use Rattle.dh_control.specs.declared.end.End.TheVariants.{Done, Refused, Unknown}
-
-abbrev is_small : ℕ → Bool
-is_small byte = nat_lt byte 128
+use Rattle.dh_control.specs.declared.end.End.TheVariants.{Done, Refused, Unknown, Elsewhere}
+use Rattle.dh_control.proofs.Codes.{code_small, is_small}
 
 small : (byte : ℕ) → is_small byte ≡ true → byte < 128
 small byte is = grind (arith, nat_tests)
@@ -38,8 +36,9 @@ small_text text are = IsUtf8-from_ascii text (all_ascii text are)
 
 is_text : (ended : Result End ScriptFault) → IsUtf8 (end_as_told ended)
 is_text (Ok Done) = small_text (end_as_told (Ok Done)) refl
-is_text (Ok Refused) = small_text (end_as_told (Ok Refused)) refl
+is_text (Ok (Refused reason)) = small_text (end_as_told (Ok (Refused reason))) (code_small reason)
 is_text (Ok Unknown) = small_text (end_as_told (Ok Unknown)) refl
+is_text (Ok Elsewhere) = small_text (end_as_told (Ok Elsewhere)) refl
 is_text (Err (Unread Read)) = small_text (end_as_told (Err (Unread Read))) refl
 is_text (Err (Unread TooManyTurns)) = small_text (end_as_told (Err (Unread TooManyTurns))) refl
 is_text (Err (Unread Memory)) = small_text (end_as_told (Err (Unread Memory))) refl

@@ -1,25 +1,48 @@
 //! One message: read, done and answered.
 
-ghost use Rattle.std.specs.Prelude.{◌≡◌, ◌+◌, ◌||◌, true, false, is_err, map, string_bytes, Some, OnOk};
+ghost use Rattle.std.specs.Prelude.{◌≡◌, ◌+◌, ◌||◌, true, false, is_err, [], ◌∷◌, ◌++◌, map, string_bytes, IfOk, Some, OnOk};
 ghost use Rattle.std.specs.Io.KnownBytes.{Appends};
 ghost use Rattle.dh_desk.specs.Desk.{WorldGoesBy};
 ghost use Rattle.dh_lines.specs.Lines.{line_in};
 ghost use Rattle.dh_ports.specs.Ports.{CountsUpTo};
 ghost use Rattle.dh_ports.specs.Reading.{TookAtMost};
-ghost use Rattle.dh_script.specs.Reading.{IsScript, reader_failed, writer_failed};
-ghost use Rattle.dh_script.specs.Running.{RunsScript, stopped_by_writer};
-ghost use Rattle.dh_script.specs.Script.{is_unread};
-ghost use Rattle.dh_control.specs.Answers.{AnswersMessage, DoesBody, DoesMessage, DoesOne, DoesScript, DoesSent, DoesWords, HasLastLine, TakesMessage};
-ghost use Rattle.dh_control.specs.Ends.{end_line};
+ghost use Rattle.dh_script.specs.Reading.{reader_failed, writer_failed};
+ghost use Rattle.dh_script.specs.Running.{stopped_by_writer, words_in};
+ghost use Rattle.dh_control.specs.Answers as spec;
+ghost use Rattle.dh_control.specs.Answers.{AnswersMessage, DoesBody, DoesImport, DoesList, DoesMessage};
+ghost use Rattle.dh_control.specs.Answers.{DoesOne, DoesOneLine, DoesRest, DoesSent, DoesSentLine};
+ghost use Rattle.dh_control.specs.Answers.{DoesWords, HasLastLine, TakesMessage};
+ghost use Rattle.dh_control.specs.Ends.{end_line, end_of as spec_end_of};
+ghost use Rattle.dh_control.specs.Messages as messages;
 
 use crate::end::{End, end_name, end_number, end_of};
-use crate::message::{MOST_MESSAGE_BYTES, SCRIPT, WORDS, behind, body_of, words_of};
+use crate::message::{
+    IMPORT, LINE, MOST_MESSAGE_BYTES, VERSION, WORDS, behind, body_of, host_and_list, rest_for,
+    words_of,
+};
 use dh_desk::Desk;
 use dh_lines::{LineFault, Order, line_of};
-use dh_ports::{MOST_READS, Port, READ_SIZE, Sink, Source, put_both};
-use dh_script::{Report, RunFault, ScriptFault, perform_single, read_script, run_script};
+use dh_lists::{ListFault, read_list};
+use dh_paths::Text;
+use dh_ports::{MOST_READS, READ_SIZE, Sink, Source, put_both};
+use dh_script::{Printed, RunFault, ScriptFault, perform_line, perform_single, read_script};
+use dh_world::{Command, CommandChange, Redirects};
 use sqlite::Alter;
-use std::alloc::Global;
+use std::alloc::{AllocError, Global};
+
+/// Writes what an order prints, and gives how it ends.
+fn tell_printed<W: Sink>(sink: &mut W, printed: &Printed) -> Result<End, RunFault>
+    requires { W.broken sink.old ≡ false }
+    ensures broken { W.broken sink.new ≡ stopped_by_writer result }
+    ensures told { IfOk result (λ end.
+        Appends (W.held sink.old) (W.held sink.new) (string_bytes printed.now.text ++ 10 ∷ [])
+        × (end ≡ spec_end_of printed.now.reason)) }
+{
+    match put_both(sink, printed.text.as_bytes(), b"\n") {
+        Ok(()) => Ok(end_of(printed.reason)),
+        Err(_) => Err(RunFault::Write),
+    }
+}
 
 /// Does an order, and writes what it prints.
 fn do_order<S: Alter, W: Sink>(
@@ -35,10 +58,7 @@ fn do_order<S: Alter, W: Sink>(
         DoesOne now before order.now after (W.held sink.old) (W.held sink.new) result) }
 {
     let printed = perform_single(alloc, desk, order, now)?;
-    match put_both(sink, printed.text.as_bytes(), b"\n") {
-        Ok(()) => Ok(end_of(printed.refused)),
-        Err(_) => Err(RunFault::Write),
-    }
+    tell_printed(sink, &printed)
 }
 
 /// Does what some words order, as words of the program.
@@ -82,55 +102,168 @@ fn do_sent<S: Alter, W: Sink>(
     Ok(do_words(alloc, desk, words.as_slice(), sink, now)?)
 }
 
-/// Runs the lines of a script.
-fn run_bytes<S: Alter, W: Sink>(
+/// Does a line of a script, and writes what it prints.
+fn do_line<S: Alter, W: Sink>(
     alloc: Global,
     desk: &mut Desk<S>,
-    script: &[u8],
+    line: &str,
     sink: &mut W,
     now: u64,
-) -> Result<(), ScriptFault>
+) -> Result<End, RunFault>
     requires { W.broken sink.old ≡ false }
-    ensures broken { W.broken sink.new ≡ writer_failed result }
-    ensures ran { WorldGoesBy S.Store desk.old desk.new (λ before after.
-        RunsScript now (Some script.now) before after (W.held sink.old) (W.held sink.new) result) }
-    ensures whole { OnOk result (IsScript script.now) }
-    ensures unread { is_unread result ≡ true
-        → (desk.new ≡ desk.old) × (W.held sink.new ≡ W.held sink.old) }
+    ensures broken { W.broken sink.new ≡ stopped_by_writer result }
+    ensures does { WorldGoesBy S.Store desk.old desk.new (λ before after.
+        DoesOneLine now before (line_in (words_in line.now)) after
+        (W.held sink.old) (W.held sink.new) result) }
 {
-    run_script(
-        alloc,
-        desk,
-        &mut Port::new(script),
-        sink,
-        &mut Report::new(alloc),
-        now,
-    )
+    let printed = perform_line(alloc, desk, line, now)?;
+    tell_printed(sink, &printed)
 }
 
-/// Does what was sent as a script.
-fn do_script<S: Alter, W: Sink>(
+/// Does what was sent as a line of a script.
+fn do_sent_line<S: Alter, W: Sink>(
     alloc: Global,
     desk: &mut Desk<S>,
-    script: &[u8],
+    sent: &[u8],
     sink: &mut W,
     now: u64,
 ) -> Result<End, ScriptFault>
     requires { W.broken sink.old ≡ false }
     ensures broken { W.broken sink.new ≡ writer_failed result }
     ensures does { WorldGoesBy S.Store desk.old desk.new (λ before after.
-        DoesScript now script.now before after (W.held sink.old) (W.held sink.new) result) }
+        DoesSentLine now sent.now before after (W.held sink.old) (W.held sink.new) result) }
 {
-    match run_bytes(alloc, desk, script, sink, now) {
-        Ok(()) => Ok(End::Done),
-        Err(fault) => Err(fault),
+    match str::from_utf8(sent) {
+        Ok(line) => Ok(do_line(alloc, desk, line, sink, now)?),
+        Err(_) => Ok(End::Unknown),
     }
 }
 
-/// Does what a whole message asks for.
+/// Makes the order that adds these redirects to those of a project.
+fn importing(alloc: Global, host: &str, list: Redirects) -> Result<Order, AllocError>
+    ensures { IfOk result (λ order. order ≡ spec.importing host.now list) }
+{
+    Ok(Order::Act(Command {
+        host: Text::copy_of(alloc, host)?,
+        change: CommandChange::ImportRedirects { list },
+    }))
+}
+
+/// Adds the redirects of a list to those of a project, and writes what came of it.
+fn do_listed<S: Alter, W: Sink>(
+    alloc: Global,
+    desk: &mut Desk<S>,
+    host: &str,
+    list: Redirects,
+    sink: &mut W,
+    now: u64,
+) -> Result<End, RunFault>
+    requires { W.broken sink.old ≡ false }
+    ensures broken { W.broken sink.new ≡ stopped_by_writer result }
+    ensures does { WorldGoesBy S.Store desk.old desk.new (λ before after.
+        DoesOne now before (spec.importing host.now list) after
+        (W.held sink.old) (W.held sink.new) result) }
+{
+    let order = importing(alloc, host, list)?;
+    do_order(alloc, desk, &order, sink, now)
+}
+
+/// How an import ends whose list was not read.
+fn unlisted(fault: ListFault) -> Result<End, ScriptFault>
+    ensures ends { result ≡ spec.unlisted fault }
+    ensures quiet { writer_failed result ≡ false }
+{
+    match fault {
+        ListFault::BadRecord(_, _) => Ok(End::Unknown),
+        ListFault::Memory => Err(ScriptFault::Run(RunFault::Memory)),
+    }
+}
+
+/// Does an import of a list into a project. A client reads its list before it sends it, so a list with a bad record is none of a
+/// client's.
+fn do_list<S: Alter, W: Sink>(
+    alloc: Global,
+    desk: &mut Desk<S>,
+    host: &str,
+    list: &[u8],
+    sink: &mut W,
+    now: u64,
+) -> Result<End, ScriptFault>
+    requires { W.broken sink.old ≡ false }
+    ensures broken { W.broken sink.new ≡ writer_failed result }
+    ensures does { WorldGoesBy S.Store desk.old desk.new (λ before after.
+        DoesList now before host.now list.now after
+        (W.held sink.old) (W.held sink.new) result) }
+{
+    match read_list(alloc, list) {
+        Ok(redirects) => Ok(do_listed(alloc, desk, host, redirects, sink, now)?),
+        Err(fault) => unlisted(fault),
+    }
+}
+
+/// Does what was sent as an import.
+fn do_import<S: Alter, W: Sink>(
+    alloc: Global,
+    desk: &mut Desk<S>,
+    sent: &[u8],
+    sink: &mut W,
+    now: u64,
+) -> Result<End, ScriptFault>
+    requires { W.broken sink.old ≡ false }
+    ensures broken { W.broken sink.new ≡ writer_failed result }
+    ensures does { WorldGoesBy S.Store desk.old desk.new (λ before after.
+        DoesImport now before (messages.host_and_list sent.now) after
+        (W.held sink.old) (W.held sink.new) result) }
+{
+    let Some((host, list)) = host_and_list(sent) else {
+        return Ok(End::Unknown);
+    };
+    match str::from_utf8(host) {
+        Ok(host) => do_list(alloc, desk, host, list, sink, now),
+        Err(_) => Ok(End::Unknown),
+    }
+}
+
+/// Does what stands behind the head of a message.
+fn do_rest<S: Alter, W: Sink>(
+    alloc: Global,
+    desk: &mut Desk<S>,
+    rest: &[u8],
+    sink: &mut W,
+    now: u64,
+) -> Result<End, ScriptFault>
+    requires { W.broken sink.old ≡ false }
+    ensures broken { W.broken sink.new ≡ writer_failed result }
+    ensures does { WorldGoesBy S.Store desk.old desk.new (λ before after.
+        DoesRest now rest.now before after (W.held sink.old) (W.held sink.new) result) }
+{
+    if let Some(sent) = behind(WORDS, rest) {
+        return do_sent(alloc, desk, sent, sink, now);
+    }
+    if let Some(line) = behind(LINE, rest) {
+        return do_sent_line(alloc, desk, line, sink, now);
+    }
+    match behind(IMPORT, rest) {
+        Some(sent) => do_import(alloc, desk, sent, sink, now),
+        None => Ok(End::Unknown),
+    }
+}
+
+/// How a message ends that has not the head of this server's file.
+fn end_of_other(body: &[u8]) -> End
+    ensures { result ≡ spec.end_of_other body.now }
+{
+    match behind(VERSION, body) {
+        Some(_) => End::Elsewhere,
+        None => End::Unknown,
+    }
+}
+
+/// Does what a whole message asks for, where it is for this file.
 fn do_body<S: Alter, W: Sink>(
     alloc: Global,
     desk: &mut Desk<S>,
+    file: &str,
     body: &[u8],
     sink: &mut W,
     now: u64,
@@ -138,14 +271,12 @@ fn do_body<S: Alter, W: Sink>(
     requires { W.broken sink.old ≡ false }
     ensures broken { W.broken sink.new ≡ writer_failed result }
     ensures does { WorldGoesBy S.Store desk.old desk.new (λ before after.
-        DoesBody now (Some body.now) before after (W.held sink.old) (W.held sink.new) result) }
+        DoesBody now file.now (Some body.now) before after
+        (W.held sink.old) (W.held sink.new) result) }
 {
-    if let Some(sent) = behind(WORDS, body) {
-        return do_sent(alloc, desk, sent, sink, now);
-    }
-    match behind(SCRIPT, body) {
-        Some(script) => do_script(alloc, desk, script, sink, now),
-        None => Ok(End::Unknown),
+    match rest_for(file, body) {
+        Some(rest) => do_rest(alloc, desk, rest, sink, now),
+        None => Ok(end_of_other(body)),
     }
 }
 
@@ -153,6 +284,7 @@ fn do_body<S: Alter, W: Sink>(
 fn do_message<S: Alter, W: Sink>(
     alloc: Global,
     desk: &mut Desk<S>,
+    file: &str,
     message: &[u8],
     sink: &mut W,
     now: u64,
@@ -160,10 +292,11 @@ fn do_message<S: Alter, W: Sink>(
     requires { W.broken sink.old ≡ false }
     ensures broken { W.broken sink.new ≡ writer_failed result }
     ensures does { WorldGoesBy S.Store desk.old desk.new (λ before after.
-        DoesMessage now message.now before after (W.held sink.old) (W.held sink.new) result) }
+        DoesMessage now file.now message.now before after
+        (W.held sink.old) (W.held sink.new) result) }
 {
     match body_of(message) {
-        Some(body) => do_body(alloc, desk, body, sink, now),
+        Some(body) => do_body(alloc, desk, file, body, sink, now),
         None => Ok(End::Unknown),
     }
 }
@@ -197,6 +330,7 @@ fn tell_end<W: Sink>(sink: &mut W, ended: Result<End, ScriptFault>) -> Result<En
 fn take_message<S: Alter, R: Source, W: Sink>(
     alloc: Global,
     desk: &mut Desk<S>,
+    file: &str,
     source: &mut R,
     sink: &mut W,
     now: u64,
@@ -204,7 +338,7 @@ fn take_message<S: Alter, R: Source, W: Sink>(
     requires reader { R.broken source.old ≡ false }
     requires writer { W.broken sink.old ≡ false }
     ensures takes { WorldGoesBy S.Store desk.old desk.new (λ before after.
-        TakesMessage now (R.left source.old) before after
+        TakesMessage now file.now (R.left source.old) before after
         (W.held sink.old) (W.held sink.new) result) }
     ensures read_fault { R.broken source.new ≡ true → reader_failed result ≡ true }
     ensures broken { W.broken sink.new ≡ writer_failed result }
@@ -213,18 +347,19 @@ fn take_message<S: Alter, R: Source, W: Sink>(
     ensures reads { CountsUpTo (R.fills source.old) (R.fills source.new) MOST_READS }
 {
     match read_script(alloc, source, MOST_MESSAGE_BYTES) {
-        Ok(message) => do_message(alloc, desk, message.as_slice(), sink, now),
+        Ok(message) => do_message(alloc, desk, file, message.as_slice(), sink, now),
         Err(fault) => Err(fault),
     }
 }
 
-/// Reads one message, does what it asks for at a moment, in seconds since 1970, writes what is printed, and then how the message
-/// ended: `end 0`, or `end 1` where its one order was refused, `end 2` where it is no message of this version, and `end 3` with
-/// the name of a fault, also where the message was not read. Where an answer has no such line, what the message asked for was
-/// done, in whole or in part, or was not.
+/// Reads one message, does what it asks for at a moment, in seconds since 1970, where it is for the file of this name, writes what
+/// is printed, and then how the message ended: `end 0`, or `end 1` with the word of the reason where its order was refused,
+/// `end 2` where it is no message of this version, `end 4` where it is for another file, and `end 3` with the name of a fault,
+/// also where the message was not read. Where an answer has no such line, what the message asked for was done, or was not.
 pub fn answer_message<S: Alter, R: Source, W: Sink>(
     alloc: Global,
     desk: &mut Desk<S>,
+    file: &str,
     source: &mut R,
     sink: &mut W,
     now: u64,
@@ -232,7 +367,7 @@ pub fn answer_message<S: Alter, R: Source, W: Sink>(
     requires reader { R.broken source.old ≡ false }
     requires writer { W.broken sink.old ≡ false }
     ensures answers { WorldGoesBy S.Store desk.old desk.new (λ before after.
-        AnswersMessage now (R.left source.old) before after
+        AnswersMessage now file.now (R.left source.old) before after
         (W.held sink.old) (W.held sink.new) result) }
     ensures read_fault { R.broken source.new ≡ true
         → (reader_failed result || writer_failed result) ≡ true }
@@ -241,6 +376,6 @@ pub fn answer_message<S: Alter, R: Source, W: Sink>(
         (MOST_MESSAGE_BYTES + READ_SIZE) }
     ensures reads { CountsUpTo (R.fills source.old) (R.fills source.new) MOST_READS }
 {
-    let ended = take_message(alloc, desk, source, sink, now);
+    let ended = take_message(alloc, desk, file, source, sink, now);
     tell_end(sink, ended)
 }

@@ -10,7 +10,7 @@ use crate::message::behind;
 #[derive(Clone, Copy)]
 pub struct AnswerParts<'a> {
     pub printed: &'a [u8],
-    /// The end: `0`, `1`, `2`, or `3` and the name of a fault.
+    /// The end: a number, with the word of a reason behind `1`, and the name of a fault behind `3`.
     pub end: &'a [u8],
 }
 

@@ -1,6 +1,6 @@
 //! Laws of messages and their answers.
 
-ghost use Rattle.dh_control.specs.Answers.{ScriptsAreDone, WordsAreDone};
+ghost use Rattle.dh_control.specs.Answers.{ImportsAreDone, LinesAreDone, OthersAreLeft, WordsAreDone};
 ghost use Rattle.dh_control.specs.Cutting.{AnswersAreCut};
 
 /// Cutting an answer gives the lines that were printed and the end, whatever they are.
@@ -8,8 +8,11 @@ pub fn answers_are_cut()
     ensures { AnswersAreCut }
 {}
 
-/// What a client sends is what is done: its words are done as their line, and its script is run.
+/// What a client sends to the server of a file is what is done there: its words are done as their line, a line of a script is
+/// done, and the redirects of a list are added. A message for another file does nothing.
 pub fn messages_are_done()
     ensures words { WordsAreDone }
-    ensures script { ScriptsAreDone }
+    ensures lines { LinesAreDone }
+    ensures imports { ImportsAreDone }
+    ensures others { OthersAreLeft }
 {}

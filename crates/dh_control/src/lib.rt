@@ -10,7 +10,7 @@ mod laws;
 mod message;
 
 pub use answering::answer_message;
-pub use asking::{script_message, words_message};
+pub use asking::{import_message, line_message, words_message};
 pub use cutting::{AnswerParts, cut, whole_lines};
 pub use end::{End, read_end};
 pub use laws::{answers_are_cut, messages_are_done};

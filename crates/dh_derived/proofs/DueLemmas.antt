@@ -1,5 +1,5 @@
 -- What edits leave right: what a class's names ask for stays, or the class is covered.
-use Rattle.std.proofs.Common.{◌≡◌, ℕ, false, not, ◌&&◌, cond, Option, Some, None, is_some, refl, sym, ap, ap₂, ◌∙◌}
+use Rattle.std.proofs.Common.{◌≡◌, ℕ, true, false, not, ◌&&◌, cond, Option, Some, None, is_some, refl, sym, ap, ap₂, ◌∙◌, true≢false}
 use Rattle.std.specs.Str.{bytes_eq}
 use Rattle.std.specs.FinMap.{FinMap, get, insert, remove, retain_keys, contains_key, get-insert, get-remove, get-retain_keys}
 use Rattle.std.specs.FinSet.{FinSet}
@@ -15,7 +15,7 @@ use Rattle.dh_plans.specs.declared.edits.Edit.TheVariants.{AddLang, PutVersion, 
 use Rattle.dh_records.proofs.Keys.{turned}
 use Rattle.dh_records.specs.declared.records.AliasName.{AliasName}
 use Rattle.dh_derived.specs.Rightness.{has_class, named, due_in}
-use Rattle.dh_derived.specs.Renewals.{is_covered, CoversChange, by_edit, FitsEdit}
+use Rattle.dh_derived.specs.Renewals.{is_covered, is_within, CoversChange, StillCovers, by_edit, FitsEdit, FitsBehind}
 use Rattle.dh_derived.specs.declared.renewals.Renewal.{Renewal}
 use Rattle.dh_derived.specs.declared.renewals.Renewal.TheVariants.{Nothing, Routes, Class, Aliases}
 
@@ -114,3 +114,34 @@ edit_fits (RemovePass pass) p is may = class_covers p (remove p.passes pass) (re
 edit_fits (Grant pass slug) p is may = class_covers p p.passes (insert p.held (pass, slug) tt) pass (λ c _. refl) (granted p pass slug)
 edit_fits (Revoke pass slug) p is may = class_covers p p.passes (remove p.held (pass, slug)) pass (λ c _. refl) (revoked p pass slug)
 edit_fits (PutRetryAnswer a) p is may = unasked p (edited (PutRetryAnswer a) p) (λ _. refl) refl refl refl (λ _ _. refl) refl
+
+-- ---- edits behind which a renewal is to be made
+
+-- where nothing is to be made right any renewal covers it
+of_nothing : (r : Renewal) (p q : Project) → ((class : Option Text) → has_class q class ≡ has_class p class) → CoversChange Nothing p q → StillCovers r p q
+of_nothing r p q has it = record {
+  change = record { names = λ class name _. it.names class name refl; redirects = λ _. it.redirects refl };
+  same = λ class name. covered_as r p q class name (has class);
+}
+
+of_all : (e : Edit) (r : Renewal) → is_within Aliases r ≡ true → FitsEdit e Aliases → ((p : Project) (class : Option Text) → has_class (edited e p) class ≡ has_class p class) → FitsBehind e r
+of_all e Aliases told fits has p is may = record { change = fits p is may; same = λ class name. has p class }
+of_all e Nothing told fits has p is may = absurd (true≢false (sym told))
+of_all e Routes told fits has p is may = absurd (true≢false (sym told))
+of_all e (Class pass) told fits has p is may = absurd (true≢false (sym told))
+
+pub within_fits : (e : Edit) (r : Renewal) → is_within (by_edit e) r ≡ true → FitsBehind e r
+within_fits (AddLang lang place) r told = λ p is may. of_nothing r p (edited (AddLang lang place) p) (λ _. refl) (edit_fits (AddLang lang place) p is may)
+within_fits (PutVersion v) r told = of_all (PutVersion v) r told (edit_fits (PutVersion v)) (λ _ _. refl)
+within_fits (PutWithoutPages v) r told = of_all (PutWithoutPages v) r told (edit_fits (PutWithoutPages v)) (λ _ _. refl)
+within_fits (RemoveVersion slug defaults) r told = of_all (RemoveVersion slug defaults) r told (edit_fits (RemoveVersion slug defaults)) (λ _ _. refl)
+within_fits (PutPage slug lang x) r told = λ p is may. of_nothing r p (edited (PutPage slug lang x) p) (λ _. refl) (edit_fits (PutPage slug lang x) p is may)
+within_fits (RemovePages slug lang) r told = λ p is may. of_nothing r p (edited (RemovePages slug lang) p) (λ _. refl) (edit_fits (RemovePages slug lang) p is may)
+within_fits (SetDefaults names) r told = of_all (SetDefaults names) r told (edit_fits (SetDefaults names)) (λ _ _. refl)
+within_fits (SetRules rules) r told = λ p is may. of_nothing r p (edited (SetRules rules) p) (λ _. refl) (edit_fits (SetRules rules) p is may)
+within_fits (SetRedirects redirects) r told = absurd (true≢false (sym told))
+within_fits (AddPass pass until) r told = absurd (true≢false (sym told))
+within_fits (RemovePass pass) r told = absurd (true≢false (sym told))
+within_fits (Grant pass slug) r told = absurd (true≢false (sym told))
+within_fits (Revoke pass slug) r told = absurd (true≢false (sym told))
+within_fits (PutRetryAnswer a) r told = λ p is may. of_nothing r p (edited (PutRetryAnswer a) p) (λ _. refl) (edit_fits (PutRetryAnswer a) p is may)

@@ -40,6 +40,11 @@ pub record CoversChange (r : Renewal) (was is : Project) : Type 0 where
   pub names : (class : Option Text) (name : AliasName) → is_covered r is class name ≡ false → due_in is class name ≡ due_in was class name
   pub redirects : are_routes_covered r ≡ false → is.redirects ≡ was.redirects
 
+-- What a renewal does not cover is the same before the change and after it, and it covers the same.
+pub record StillCovers (r : Renewal) (was is : Project) : Type 0 where
+  pub change : CoversChange r was is
+  pub same : (class : Option Text) (name : AliasName) → is_covered r is class name ≡ is_covered r was class name
+
 -- ---- edits
 
 -- What the names of a project need of the constraints: each version stands under its own slug, a grant is on a version that is
@@ -65,6 +70,20 @@ by_edit _ = Nothing
 -- the renewal covers what the edit changes, in any project that may be edited so
 abbrev pub FitsEdit : Edit → Renewal → Type 0
 FitsEdit e r = (p : Project) → IsCoherent p → MayEdit e p → CoversChange r p (edited e p)
+
+-- the first renewal makes nothing right but what the second does, in any project
+abbrev pub is_within : Renewal → Renewal → Bool
+is_within Nothing r = true
+is_within Routes r = false
+is_within (Class pass) r = false
+is_within Aliases Aliases = true
+is_within Aliases Nothing = false
+is_within Aliases Routes = false
+is_within Aliases (Class pass) = false
+
+-- where the renewal is to be made yet, the edit leaves no other rows to be made right, in any project that may be edited so
+abbrev pub FitsBehind : Edit → Renewal → Type 0
+FitsBehind e r = (p : Project) → IsCoherent p → MayEdit e p → StillCovers r p (edited e p)
 
 -- the renewal covers what changes when a version is put in place of another
 abbrev pub FitsReplaced : Version → Version → Renewal → Type 0
@@ -106,6 +125,20 @@ RightButCovered =
     → AreRight l → get (world_of l) host ≡ Some was → world_of next ≡ insert (world_of l) host is
     → next.aliases ≡ l.aliases → next.routes ≡ l.routes → CoversChange r was is
     → AreRightBut r next host is
+
+-- where all rows are right but for those that a renewal covers, and it covers the change of one project, too, and no row does,
+-- all rows are right but for those
+abbrev pub RightButStill : Type 0
+RightButStill =
+    (r : Renewal) (l next : Lists) (host : Text) (was is : Project)
+    → AreRightBut r l host was → world_of next ≡ insert (world_of l) host is
+    → next.aliases ≡ l.aliases → next.routes ≡ l.routes → StillCovers r was is
+    → AreRightBut r next host is
+
+-- where no renewal is to be made all rows are right
+abbrev pub RightButNothing : Type 0
+RightButNothing =
+    (l : Lists) (host : Text) (p : Project) → AreRight l → get (world_of l) host ≡ Some p → AreRightBut Nothing l host p
 
 -- a renewal that covers a version's being put covers it where its pages go, too
 abbrev pub PutIsBare : Type 0

@@ -1,5 +1,5 @@
 //! Laws of renewals, for every project and all records.
-ghost use Rattle.dh_derived.specs.Renewals.{SoundProjects, RightButCovered, PutIsBare};
+ghost use Rattle.dh_derived.specs.Renewals.{SoundProjects, RightButCovered, RightButStill, RightButNothing, PutIsBare};
 ghost use Rattle.dh_derived.specs.Renewed.{RenewedBase, RenewedRight, RenewsHosts};
 
 /// The project of a host in sound records is coherent, as the laws of edits and puts ask.
@@ -11,6 +11,16 @@ pub fn sound_projects()
 /// after it.
 pub fn right_but_covered()
     ensures { RightButCovered }
+{}
+
+/// Where rows are to be made right yet, all others are right after an edit that leaves no others to be made right.
+pub fn right_but_still()
+    ensures { RightButStill }
+{}
+
+/// Right rows are right but for those that no renewal covers.
+pub fn right_but_nothing()
+    ensures { RightButNothing }
 {}
 
 /// The renewal after a version is put also fits where the version loses its pages.

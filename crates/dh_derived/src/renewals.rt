@@ -4,7 +4,7 @@ ghost use Rattle.std.specs.Prelude.{◌≡◌, false, IfOk, IsTrue, option_map};
 ghost use Rattle.dh_world.specs.Visibility.{may_see};
 ghost use Rattle.dh_aliases.specs.Names as names;
 ghost use Rattle.dh_derived.specs.Renewals as spec;
-ghost use Rattle.dh_derived.specs.Renewals.{FitsEdit, FitsAdded, FitsReplaced, is_low};
+ghost use Rattle.dh_derived.specs.Renewals.{FitsEdit, FitsAdded, FitsBehind, FitsReplaced, is_low};
 
 use dh_paths::{RefName, Token};
 use dh_plans::{Edit, is_alias};
@@ -50,6 +50,45 @@ pub fn renewal_of(alloc: Global, edit: &Edit<'_>) -> Result<Renewal, AllocError>
     ensures { IfOk result (FitsEdit edit.now) }
 {
     by_edit(alloc, edit)
+}
+
+fn is_of_all(renewal: &Renewal) -> bool
+    ensures { result ≡ spec.is_within Renewal.Aliases renewal.now }
+{
+    match renewal {
+        Renewal::Aliases => true,
+        Renewal::Nothing | Renewal::Routes | Renewal::Class(_) => false,
+    }
+}
+
+/// Whether what an edit calls for by itself is made by this renewal, too.
+fn is_within(edit: &Edit<'_>, renewal: &Renewal) -> bool
+    ensures { result ≡ spec.is_within (spec.by_edit edit.now) renewal.now }
+{
+    match edit {
+        Edit::AddLang { .. }
+        | Edit::PutPage { .. }
+        | Edit::RemovePages { .. }
+        | Edit::SetRules(_)
+        | Edit::PutRetryAnswer(_) => true,
+        Edit::PutVersion(_)
+        | Edit::PutWithoutPages(_)
+        | Edit::RemoveVersion { .. }
+        | Edit::SetDefaults(_) => is_of_all(renewal),
+        Edit::SetRedirects(_)
+        | Edit::AddPass { .. }
+        | Edit::RemovePass(_)
+        | Edit::Grant { .. }
+        | Edit::Revoke { .. } => false,
+    }
+}
+
+/// Whether an edit leaves no other rows to be made right than those of a renewal that is to be made yet. An edit of the passes
+/// may, also where all classes are to be made right: a pass that is removed is no class any more.
+pub fn stays_covered(edit: &Edit<'_>, renewal: &Renewal) -> bool
+    ensures { IsTrue result → FitsBehind edit.now renewal.now }
+{
+    is_within(edit, renewal)
 }
 
 fn is_never_active(was: &Version, version: &Version) -> bool

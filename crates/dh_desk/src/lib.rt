@@ -6,6 +6,7 @@ mod calls;
 mod classes;
 pub mod desk;
 mod laws;
+mod lists;
 mod reads;
 
 pub use calls::{commanded, pass_text, read_out};

@@ -97,6 +97,11 @@ list_app name = form name (codes "host" ∷ [])
 abbrev pub list_pages_app : App
 list_pages_app = form (codes "list-pages") (codes "host" ∷ codes "slug" ∷ codes "lang" ∷ [])
 
+-- `list-seen HOST [--pass PASS] [--now SECONDS]`
+abbrev pub list_seen_app : App
+list_seen_app = with_rule (with_rule (form (codes "list-seen") (codes "host" ∷ []))
+    (option_rule (codes "pass"))) (option_rule (codes "now"))
+
 abbrev pub list_apps : List App
 list_apps =
     form (codes "list-projects") []
@@ -107,6 +112,7 @@ list_apps =
     ∷ list_app (codes "list-redirects")
     ∷ list_app (codes "list-passes")
     ∷ list_pages_app
+    ∷ list_seen_app
     ∷ []
 
 abbrev pub script_app : App
@@ -133,9 +139,9 @@ migrate_app = form (codes "migrate") (codes "file" ∷ [])
 
 abbrev pub serve_app : App
 serve_app =
-    with_rule (with_rule (with_rule (with_rule (form (codes "serve") [])
+    with_rule (with_rule (with_rule (with_rule (with_rule (form (codes "serve") [])
     (required_option_rule (codes "store"))) (required_option_rule (codes "count")))
-    (option_rule (codes "port"))) (flag_rule (codes "log"))
+    (option_rule (codes "port"))) (option_rule (codes "wait"))) (flag_rule (codes "log"))
 
 -- the program without its subcommands
 abbrev pub bare_app : App

@@ -33,7 +33,7 @@ use Rattle.dh_world.specs.declared.command.CommandChange.TheVariants.{AddPass, D
 use Rattle.dh_world.specs.declared.command.CommandChange.TheVariants.{Revoke, AddRedirect}
 use Rattle.dh_world.specs.declared.command.CommandChange.TheVariants.{DropRedirect, AddRule}
 use Rattle.dh_world.specs.declared.command.CommandChange.TheVariants.{DropRule}
-use Rattle.dh_listings.specs.declared.words.ListWord.TheVariants.{Projects, OfProject}
+use Rattle.dh_listings.specs.declared.words.ListWord.TheVariants.{Projects, OfProject, Seen}
 use Rattle.dh_listings.specs.declared.words.ProjectList.{ProjectList}
 use Rattle.dh_listings.specs.declared.words.ProjectList.TheVariants.{Langs, Versions, Defaults, Rules}
 use Rattle.dh_listings.specs.declared.words.ProjectList.TheVariants.{Redirects, Passes, Pages}
@@ -109,6 +109,7 @@ reads id value =
     else if bytes_eq id (codes "action") then is_some (action_of value)
     else if bytes_eq id (codes "place") then is_some (place_of value)
     else if bytes_eq id (codes "count") then is_some (count_of value)
+    else if bytes_eq id (codes "wait") then is_some (count_of value)
     else if bytes_eq id (codes "status") then is_some (redirect_status_of value)
     else if bytes_eq id (codes "port") then is_some (port_of value)
     else if bytes_eq id (codes "until") then is_some (moment_of value)
@@ -296,11 +297,20 @@ count_in rows = with_word (codes "count") rows count_of
 abbrev pub port_in : List Row → Option ℕ
 port_in rows = option_map_or port_of (first_of (codes "port") rows) (Some 0)
 
--- `serve --store FILE --count N [--port P] [--log]`
+-- how many seconds a server waits for its file where none are given
+abbrev pub usual_wait : ℕ
+usual_wait = 60
+
+-- how many seconds a server waits for its file
+abbrev pub wait_in : List Row → Option ℕ
+wait_in rows = option_map_or count_of (first_of (codes "wait") rows) (Some usual_wait)
+
+-- `serve --store FILE --count N [--port P] [--wait SECONDS] [--log]`
 abbrev pub serve_in : List Row → Option Order
 serve_in rows =
     option_and_then (λ count.
-    option_map (λ port. Serve count port (is_flag_given (codes "log") rows)) (port_in rows))
+    option_and_then (λ port.
+    option_map (Serve count port (is_flag_given (codes "log") rows)) (wait_in rows)) (port_in rows))
     (count_in rows)
 
 -- the change of a line on rules, or on one version
@@ -367,6 +377,13 @@ list_pages_in rows =
     with_word (codes "slug") rows (λ slug.
     with_word (codes "lang") rows (λ lang. Some (order.List (OfProject host (Pages slug lang))))))
 
+-- `list-seen HOST [--pass PASS] [--now SECONDS]`
+abbrev pub list_seen_in : List Row → Option Order
+list_seen_in rows =
+    with_word (codes "host") rows (λ host.
+    option_map (λ moment. order.List (Seen host (first_of (codes "pass") rows) moment))
+    (moment_in (codes "now") rows))
+
 -- the list, where the word lists one, and else the command of this name
 abbrev pub list_or_command : Option ProjectList → Text → List Row → Option Order
 list_or_command (Some list) name rows = list_in list rows
@@ -384,6 +401,7 @@ order_in name rows =
     else if bytes_eq name (codes "serve") then serve_in rows
     else if bytes_eq name (codes "list-projects") then Some (order.List Projects)
     else if bytes_eq name (codes "list-pages") then list_pages_in rows
+    else if bytes_eq name (codes "list-seen") then list_seen_in rows
     else list_or_command (list_named name) name rows
 
 -- the line of this order, over the store in this file
@@ -483,14 +501,23 @@ OrdersList name list = (host : Text) → is_plain_word host ≡ true
     → OrdersLine (name ∷ host ∷ []) (order.List (OfProject host list))
 
 -- `serve --store FILE --count N` and these words serve N connections at this port over the store in
--- FILE, where FILE and N are plain, and N is digits of this number
-abbrev pub ServesAt : List Text → ℕ → Bool → Type 0
-ServesAt more port log = (file count_word : Text) (count : ℕ) → ArePlain (file ∷ count_word ∷ [])
+-- FILE, where FILE and N are plain, and N is digits of this number; the server waits so many seconds for FILE
+abbrev pub ServesWaiting : List Text → ℕ → Bool → ℕ → Type 0
+ServesWaiting more port log wait = (file count_word : Text) (count : ℕ) → ArePlain (file ∷ count_word ∷ [])
     → count_of count_word ≡ Some count
     → line_in (codes "serve" ∷ codes "--store" ∷ file ∷ codes "--count" ∷ count_word ∷ more)
-    ≡ Some (as_line (Some file) (Serve count port log))
+    ≡ Some (as_line (Some file) (Serve count port log wait))
+
+-- the same of a server that waits as long as one usually does
+abbrev pub ServesAt : List Text → ℕ → Bool → Type 0
+ServesAt more port log = ServesWaiting more port log usual_wait
 
 -- the line serves so, too, with `--port P` before these words, where P is plain and digits of the port
 abbrev pub ServesAtPort : List Text → Bool → Type 0
 ServesAtPort more log = (port_word : Text) (port : ℕ) → is_plain_word port_word ≡ true
     → port_of port_word ≡ Some port → ServesAt (codes "--port" ∷ port_word ∷ more) port log
+
+-- `--wait SECONDS` behind the line makes it wait so long, where SECONDS is plain and digits of this number
+abbrev pub WaitsAsTold : Type 0
+WaitsAsTold = (wait_word : Text) (wait : ℕ) → is_plain_word wait_word ≡ true
+    → count_of wait_word ≡ Some wait → ServesWaiting (codes "--wait" ∷ wait_word ∷ []) 0 false wait

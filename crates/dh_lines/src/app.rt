@@ -135,6 +135,9 @@ fn serve_command<'a>(alloc: Global) -> Result<Syntax<'a>, AllocError>
     let syntax = syntax.with_required_option("count", count)?;
     let port = "The port, as 8080; any free one where this is left out, or 0";
     let syntax = syntax.with_option("port", port)?;
+    let wait =
+        "How many seconds it waits for a file that another program has open: 60 where this is left out";
+    let syntax = syntax.with_option("wait", wait)?;
     syntax.with_flag("log", "Prints a line for each request")
 }
 
@@ -151,7 +154,7 @@ fn bare_command<'a>(alloc: Global) -> Syntax<'a>
 }
 
 /// The forms of the lines of scripts, of the words that list, and of what the program does with its input.
-const FORMS: [Form<'static>; 32] = [
+const FORMS: [Form<'static>; 33] = [
     Form {
         name: "new-project",
         about: "Makes a project with one language and no version",
@@ -381,6 +384,22 @@ const FORMS: [Form<'static>; 32] = [
         example: "Example: docs_host list-pages docs.test 1.0 en --store docs.db",
         ids: &["host", "slug", "lang"],
         more: &[],
+    },
+    Form {
+        name: "list-seen",
+        about: "Lists all that a reader sees of a project, and nothing else",
+        example: "Example: docs_host list-seen docs.test --pass reader-7 --store docs.db",
+        ids: &["host"],
+        more: &[
+            More::Value {
+                id: "pass",
+                help: "The reader's pass",
+            },
+            More::Value {
+                id: "now",
+                help: "The moment at which he looks, in seconds since 1970, in place of the clock's",
+            },
+        ],
     },
     Form {
         name: "script",

@@ -17,14 +17,14 @@ ghost use Rattle.dh_world.specs.declared.command.CommandChange.TheVariants.{SetD
 ghost use Rattle.dh_world.specs.declared.command.CommandChange.TheVariants.{DropPass, Grant};
 ghost use Rattle.dh_world.specs.declared.command.CommandChange.TheVariants.{Revoke, DropRedirect};
 ghost use Rattle.dh_world.specs.declared.command.CommandChange.TheVariants.{DropRule};
-ghost use Rattle.dh_listings.specs.declared.words.ListWord.TheVariants.{Projects, OfProject};
+ghost use Rattle.dh_listings.specs.declared.words.ListWord.TheVariants.{Projects, OfProject, Seen};
 ghost use Rattle.dh_listings.specs.declared.words.ProjectList.TheVariants as lists;
 ghost use Rattle.dh_word_tables.specs.Words.{is_plain_word, ArePlain, has_command};
 ghost use Rattle.dh_lines.specs.App.{docs_app};
 ghost use Rattle.dh_lines.specs.Lines.{line_in, asking, OrdersLine, OrdersOnVersion, OrdersOnPass};
 ghost use Rattle.dh_lines.specs.Lines.{OrdersOnGrant, OrdersRedirect, OrdersForced, OrdersRule};
 ghost use Rattle.dh_lines.specs.Lines.{OrdersList};
-ghost use Rattle.dh_lines.specs.Lines.{place_of, moment_of, as_line, ServesAt, ServesAtPort};
+ghost use Rattle.dh_lines.specs.Lines.{place_of, moment_of, as_line, ServesAt, ServesAtPort, WaitsAsTold};
 ghost use Rattle.dh_lines.specs.declared.lines.Order.TheVariants.{Act, Get, Import, Init};
 ghost use Rattle.dh_lines.specs.declared.lines.Order.TheVariants.{Migrate, Script, Answer};
 ghost use Rattle.dh_lines.specs.declared.lines.Order.TheVariants as order;
@@ -165,6 +165,27 @@ pub fn list_lines()
         (order.List (OfProject host (lists.Pages slug lang))) }
 {}
 
+/// The lines that list what a caller sees: without a pass, and with a pass behind or before the host; with and without the moment.
+pub fn seen_lines()
+    ensures seen { (host : Text) → ArePlain (host ∷ [])
+        → OrdersLine (codes "list-seen" ∷ host ∷ []) (order.List (Seen host None None)) }
+    ensures pass { (host pass : Text) → ArePlain (host ∷ pass ∷ [])
+        → OrdersLine (codes "list-seen" ∷ host ∷ codes "--pass" ∷ pass ∷ [])
+        (order.List (Seen host (Some pass) None)) }
+    ensures pass_first { (pass host : Text) → ArePlain (pass ∷ host ∷ [])
+        → OrdersLine (codes "list-seen" ∷ codes "--pass" ∷ pass ∷ host ∷ [])
+        (order.List (Seen host (Some pass) None)) }
+    ensures moment { (host now : Text) (moment : ℕ) → ArePlain (host ∷ now ∷ [])
+        → moment_of now ≡ Some moment
+        → OrdersLine (codes "list-seen" ∷ host ∷ codes "--now" ∷ now ∷ [])
+        (order.List (Seen host None (Some moment))) }
+    ensures both { (host pass now : Text) (moment : ℕ) → ArePlain (host ∷ pass ∷ now ∷ [])
+        → moment_of now ≡ Some moment
+        → OrdersLine
+        (codes "list-seen" ∷ host ∷ codes "--pass" ∷ pass ∷ codes "--now" ∷ now ∷ [])
+        (order.List (Seen host (Some pass) (Some moment))) }
+{}
+
 /// What the program itself does with its input.
 pub fn program_lines()
     ensures script { OrdersLine (codes "script" ∷ []) Script }
@@ -183,13 +204,14 @@ pub fn init_lines()
         → line_in (codes "migrate" ∷ file ∷ codes "--store" ∷ other ∷ []) ≡ None }
 {}
 
-/// The words that serve a store: the port is 0 where it is left out. The store and the count have
-/// to be there.
+/// The words that serve a store: the port is 0 where it is left out, and the server waits for its file for 60 seconds. The store
+/// and the count have to be there.
 pub fn serve_lines()
     ensures quiet { ServesAt [] 0 false }
     ensures told { ServesAt (codes "--log" ∷ []) 0 true }
     ensures quiet_at { ServesAtPort [] false }
     ensures told_at { ServesAtPort (codes "--log" ∷ []) true }
+    ensures waiting { WaitsAsTold }
     ensures no_store { (count : Text) → is_plain_word count ≡ true
         → line_in (codes "serve" ∷ codes "--count" ∷ count ∷ []) ≡ None }
     ensures no_count { (file : Text) → is_plain_word file ≡ true

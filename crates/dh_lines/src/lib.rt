@@ -8,6 +8,6 @@ mod lines;
 pub use app::docs_command;
 pub use laws::{
     get_lines, import_lines, init_lines, list_lines, pass_lines, program_lines, project_lines,
-    redirect_lines, rule_lines, serve_lines, stray_lines, upload_lines, version_lines,
+    redirect_lines, rule_lines, seen_lines, serve_lines, stray_lines, upload_lines, version_lines,
 };
 pub use lines::{Line, LineFault, Order, line_by, line_of, reads};

@@ -54,6 +54,8 @@ pub enum Order {
         port: u16,
         /// Whether the log tells each request.
         log: bool,
+        /// How many seconds it waits for a file that another program has open.
+        wait: u32,
     },
 }
 
@@ -101,9 +103,9 @@ ghost use Rattle.dh_lines.specs.Lines.{reads as spec_reads};
 ghost use Rattle.dh_lines.specs.Lines.{text_meant as meant_by, redirect_in, add_redirect_in};
 ghost use Rattle.dh_lines.specs.Lines.{drop_redirect_in, redirect_change_in, pattern_of, action_of};
 ghost use Rattle.dh_lines.specs.Lines.{rule_in, add_rule_in, drop_rule_in, rule_change_in};
-ghost use Rattle.dh_lines.specs.Lines.{command_in, get_in, init_in, count_in, port_in, serve_in};
+ghost use Rattle.dh_lines.specs.Lines.{command_in, get_in, init_in, count_in, port_in, serve_in, wait_in};
 ghost use Rattle.dh_lines.specs.Lines.{list_in, list_named, list_or_command as spec_list_or_command};
-ghost use Rattle.dh_lines.specs.Lines.{list_pages_in};
+ghost use Rattle.dh_lines.specs.Lines.{list_pages_in, list_seen_in};
 ghost use Rattle.dh_lines.specs.Lines.{order_in, named_line, line_with, line_in, ReadsOrUsage, MatchesWords};
 
 fn value<'a>(matches: &ArgMatches<'a>, id: &str) -> Option<&'a str>
@@ -214,7 +216,7 @@ pub fn reads(alloc: Global, id: &str, value: &str) -> Result<bool, AllocError>
         "redirect-kind" => RedirectKind::read(value).is_some(),
         "pattern" => is_pattern(alloc, value)?,
         "action" => read_action(value).is_some(),
-        "place" | "count" => read_u32(value).is_some(),
+        "place" | "count" | "wait" => read_u32(value).is_some(),
         "status" => read_status(value).is_some(),
         "port" => read_u16(value).is_some(),
         "until" | "now" => read_u64(value).is_some(),
@@ -520,6 +522,16 @@ fn port(matches: &ArgMatches<'_>) -> Option<u16>
     }
 }
 
+/// Reads how many seconds a server waits for its file: 60 where it is left out.
+fn wait(matches: &ArgMatches<'_>) -> Option<u32>
+    ensures { result ≡ wait_in (rows_of (found_of matches.now)) }
+{
+    match value(matches, "wait") {
+        Some(text) => read_u32(text),
+        None => Some(60),
+    }
+}
+
 fn serve(matches: &ArgMatches<'_>) -> Result<Order, LineFault>
     ensures { ReadsOrUsage (serve_in (rows_of (found_of matches.now))) result }
 {
@@ -529,8 +541,16 @@ fn serve(matches: &ArgMatches<'_>) -> Result<Order, LineFault>
     let Some(port) = port(matches) else {
         return Err(LineFault::Usage);
     };
+    let Some(wait) = wait(matches) else {
+        return Err(LineFault::Usage);
+    };
     let log = has_flag(matches, "log");
-    Ok(Order::Serve { count, port, log })
+    Ok(Order::Serve {
+        count,
+        port,
+        log,
+        wait,
+    })
 }
 
 /// A line on rules, or on one version.
@@ -634,6 +654,19 @@ fn list_pages(alloc: Global, matches: &ArgMatches<'_>) -> Result<Order, LineFaul
     Ok(Order::List(ListWord::OfProject { host, list }))
 }
 
+fn list_seen(alloc: Global, matches: &ArgMatches<'_>) -> Result<Order, LineFault>
+    ensures { ReadsOrUsage (list_seen_in (rows_of (found_of matches.now))) result }
+{
+    let host = word(alloc, matches, "host")?;
+    let shown = option_value(alloc, matches, "pass")?;
+    let at = moment(matches, "now")?;
+    Ok(Order::List(ListWord::Seen {
+        host,
+        pass: shown,
+        moment: at,
+    }))
+}
+
 /// A line that lists what a project has, or a command.
 fn list_or_command(alloc: Global, name: &str, matches: &ArgMatches<'_>) -> Result<Order, LineFault>
     ensures { ReadsOrUsage (spec_list_or_command (list_named name.now) name.now
@@ -659,6 +692,7 @@ fn read_order(alloc: Global, name: &str, matches: &ArgMatches<'_>) -> Result<Ord
         "serve" => serve(matches),
         "list-projects" => Ok(Order::List(ListWord::Projects)),
         "list-pages" => list_pages(alloc, matches),
+        "list-seen" => list_seen(alloc, matches),
         _ => list_or_command(alloc, name, matches),
     }
 }

@@ -1,2 +1,2 @@
-pub mod OrderedRows
 pub mod ListLemmas
+pub mod LookLemmas

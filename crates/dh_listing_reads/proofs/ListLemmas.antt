@@ -26,7 +26,7 @@ use Rattle.dh_listings.specs.declared.words.ProjectList.{ProjectList}
 use Rattle.dh_listings.specs.declared.words.ProjectList.TheVariants.{Langs, Versions, Defaults, Rules, Redirects, Passes, Pages}
 use Rattle.dh_listing_reads.specs.Listings.{ListsProject, ListsUnder}
 use Rattle.dh_listing_reads.specs.RecordRows as rows
-use Rattle.dh_listing_reads.proofs.OrderedRows.{entries_of, rising, hosts_rise, pages_rise, passes_rise, grants_rise}
+use Rattle.dh_view.proofs.OrderedRows.{entries_of, rising, hosts_rise, pages_rise, passes_rise, grants_rise}
 
 -- ---- lists
 

@@ -1,2 +1,3 @@
 pub mod RecordRows
 pub mod Listings
+pub mod Inventory

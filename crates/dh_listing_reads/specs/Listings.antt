@@ -1,11 +1,10 @@
--- What a list word finds in sound records.
+-- What is listed of sound records.
 use Rattle.std.specs.Prelude.{◌≡◌, Option, Some, option_and_then, option_map, true}
 use Rattle.std.specs.FinMap.{get}
 use Rattle.dh_world.specs.World.{Text}
 use Rattle.dh_records.specs.Constraints.{AreSound, has_project}
 use Rattle.dh_records.specs.Lists.{Lists, project_of, world_of}
-use Rattle.dh_listings.specs.ListingTexts.{listed_text, listing_text, rows_listed}
-use Rattle.dh_listings.specs.declared.words.ListWord.{ListWord}
+use Rattle.dh_listings.specs.ListingTexts.{listed_text, project_rows, rows_listed}
 use Rattle.dh_listings.specs.declared.words.ProjectList.{ProjectList}
 use Rattle.dh_view.specs.View.{row_of}
 
@@ -21,6 +20,6 @@ ListsUnder host list l text =
     AreSound l
     → text ≡ option_map (λ p. listed_text (rows_listed p list)) (option_and_then (get (world_of l)) host)
 
--- of sound records, what the word lists in the world that they spell
-abbrev pub ListsWorld : ListWord → Lists → Option Text → Type 0
-ListsWorld word l text = AreSound l → text ≡ listing_text (world_of l) word
+-- of sound records, the text of the list of all projects
+abbrev pub ListsProjects : Lists → Option Text → Type 0
+ListsProjects l text = AreSound l → text ≡ Some (listed_text (project_rows (world_of l)))

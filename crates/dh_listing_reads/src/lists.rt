@@ -3,15 +3,14 @@
 ghost use Rattle.std.specs.Prelude.{◌≡◌, Some, IfOk, filter, map};
 ghost use Rattle.dh_ports.specs.Faults.{OnStore};
 ghost use Rattle.dh_listings.specs.ListingTexts as spec;
-ghost use Rattle.dh_listings.specs.declared.words.ListWord.TheVariants as word;
 ghost use Rattle.dh_listings.specs.declared.words.ProjectList.TheVariants as part;
-ghost use Rattle.dh_listing_reads.specs.Listings.{ListsProject, ListsUnder, ListsWorld};
+ghost use Rattle.dh_listing_reads.specs.Listings.{ListsProject, ListsProjects, ListsUnder};
 ghost use Rattle.dh_view.specs.View.{LearnsInTurn};
 ghost use Rattle.dh_world.specs.Reads.{host_named};
 
 use crate::passes::passes_text;
 use crate::texts::{RowText, records_text};
-use dh_listings::{ListWord, ProjectList};
+use dh_listings::ProjectList;
 use dh_paths::{HostName, Text, TextFault};
 use dh_ports::{Fault, Found};
 use dh_tables::{DefaultRow, GrantRow, LangRow, Listed, PassRow, RedirectRow, RuleRow, Tables};
@@ -109,8 +108,9 @@ fn list_project<S: Alter>(
     }
 }
 
-fn list_projects<S: Alter>(tables: &mut Tables<S>, alloc: Global) -> Found<Text>
-    ensures { LearnsInTurn S.Store tables.old tables.new result (ListsWorld word.Projects) }
+/// The text of the list of all projects.
+pub fn list_projects<S: Alter>(tables: &mut Tables<S>, alloc: Global) -> Found<Text>
+    ensures { LearnsInTurn S.Store tables.old tables.new result ListsProjects }
 {
     let rows = tables.all_projects(alloc)?;
     Ok(Some(records_text(alloc, rows.as_slice())?))
@@ -147,7 +147,7 @@ fn list_under<S: Alter>(
 }
 
 /// The text of a list of the project of a host, where the text is the name of a host that has one.
-fn list_named<S: Alter>(
+pub fn list_named<S: Alter>(
     tables: &mut Tables<S>,
     alloc: Global,
     host: &Text,
@@ -160,15 +160,5 @@ fn list_named<S: Alter>(
     match found {
         Some(host) => list_under(tables, alloc, &host, list),
         None => Ok(None),
-    }
-}
-
-/// What a list word prints, without the end of its last line; none, where there is no project.
-pub fn listing_in<S: Alter>(tables: &mut Tables<S>, alloc: Global, word: &ListWord) -> Found<Text>
-    ensures { LearnsInTurn S.Store tables.old tables.new result (ListsWorld word.now) }
-{
-    match word {
-        ListWord::Projects => list_projects(tables, alloc),
-        ListWord::OfProject { host, list } => list_named(tables, alloc, host, list),
     }
 }

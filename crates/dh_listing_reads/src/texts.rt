@@ -5,8 +5,8 @@ ghost use Rattle.dh_listings.specs.ListingTexts as spec;
 ghost use Rattle.dh_listing_reads.specs.RecordRows as rows;
 
 use dh_listings::{
-    append_lang, append_name, append_page, append_project, append_redirect, append_rule,
-    append_version, listed_head,
+    append_lang, append_name, append_page, append_project, append_redirect, append_row,
+    append_rule, append_version, listed_head,
 };
 use dh_paths::Text;
 use dh_tables::{DefaultRow, LangRow, PageRow, ProjectRow, RedirectRow, RuleRow, VersionRow};
@@ -79,6 +79,14 @@ impl RowText for RedirectRow {
     }
 }
 
+impl RowText for Text {
+    ghost shown = { λ row. row };
+
+    fn put(&self, _alloc: Global, out: &mut String) -> Result<(), AllocError> {
+        append_row(out, self)
+    }
+}
+
 /// `listed`, how many records there are, and their rows.
 pub fn records_text<R: RowText>(alloc: Global, records: &[R]) -> Result<Text, AllocError>
     ensures { IfOk result (λ text. text ≡ spec.listed_text (map R.shown records.now)) }
@@ -88,4 +96,11 @@ pub fn records_text<R: RowText>(alloc: Global, records: &[R]) -> Result<Text, Al
         record.put(alloc, &mut out)?;
     }
     Ok(Text::wrap(out))
+}
+
+/// `listed`, how many rows there are, and the rows.
+pub fn rows_text(alloc: Global, rows: &[Text]) -> Result<Text, AllocError>
+    ensures { IfOk result (λ text. text ≡ spec.listed_text rows.now) }
+{
+    records_text(alloc, rows)
 }

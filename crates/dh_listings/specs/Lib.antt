@@ -1,1 +1,2 @@
 pub mod ListingTexts
+pub mod Whole

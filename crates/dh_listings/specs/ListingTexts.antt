@@ -1,7 +1,8 @@
 -- What list words print of a world.
-use Rattle.std.specs.Prelude.{ℕ, ◌+◌, Bool, true, false, List, [], ◌∷◌, ◌++◌, length, map, filter, flat_map, codes, Option, Some, None, option_map, option_and_then, unwrap_or, slice_get, if◌then◌else◌}
+use Rattle.std.specs.Prelude.{ℕ, ◌+◌, Bool, true, false, ◌&&◌, List, [], ◌∷◌, ◌++◌, length, map, filter, flat_map, codes, Option, Some, None, option_map, option_and_then, unwrap_or, slice_get, if◌then◌else◌}
 use Rattle.std.specs.Fmt.{decimal}
 use Rattle.std.specs.List.{list_all}
+use Rattle.std.specs.Option.{option_map_or}
 use Rattle.std.specs.Str.{bytes_eq}
 use Rattle.std.specs.FinMap.{entries, get}
 use Rattle.dh_texts.specs.Texts.{is_no_control}
@@ -16,10 +17,13 @@ use Rattle.dh_rules.specs.declared.rule.Rule.{Rule}
 use Rattle.dh_redirects.specs.declared.redirect.RedirectKind.{RedirectKind}
 use Rattle.dh_redirects.specs.declared.redirect.RedirectKind.TheVariants.{Page, Exact, CleanToHtml, HtmlToClean}
 use Rattle.dh_redirects.specs.declared.redirect.Redirect.{Redirect}
+use Rattle.dh_seen.specs.declared.seen_project.SeenProject.{SeenProject}
+use Rattle.dh_seen.specs.declared.seen_project.StoredPage.{StoredPage}
 use Rattle.dh_world.specs.World.{Text, Project, World, lies_under}
-use Rattle.dh_world.specs.Reads.{host_named}
+use Rattle.dh_world.specs.Reads.{host_named, caller_named}
+use Rattle.dh_world.specs.Seen as sight
 use Rattle.dh_listings.specs.declared.words.ListWord.{ListWord}
-use Rattle.dh_listings.specs.declared.words.ListWord.TheVariants.{Projects, OfProject}
+use Rattle.dh_listings.specs.declared.words.ListWord.TheVariants.{Projects, OfProject, Seen}
 use Rattle.dh_listings.specs.declared.words.ProjectList.{ProjectList}
 use Rattle.dh_listings.specs.declared.words.ProjectList.TheVariants as part
 
@@ -111,6 +115,33 @@ pass_start pass end = pass ++ 9 ∷ end_word end
 abbrev pub pass_words : Text → Option ℕ → List Text → Text
 pass_words pass end slugs = pass_start pass end ++ flat_map (λ slug. 9 ∷ slug) slugs
 
+-- ---- rows of what a caller sees: each begins with a word that says what it is
+
+-- `lang LANG`
+unfoldable pub seen_lang_words : Text → Text
+seen_lang_words lang = codes "lang" ++ 9 ∷ lang
+
+-- `version branch|tag REF SLUG hidden|shown`
+unfoldable pub seen_version_words : Version → Text
+seen_version_words v =
+    codes "version" ++ 9 ∷ kind_word v.kind ++ 9 ∷ v.name ++ 9 ∷ v.slug ++ 9 ∷ hidden_word v.hidden
+
+-- `NAME TO`: what `latest` or `stable` stands for, or what `/` leads to
+unfoldable pub lead_words : Text → Text → Text
+lead_words name to = name ++ 9 ∷ to
+
+-- `redirect KIND STATUS FROM TO`, and `--force` where the redirect has force
+unfoldable pub seen_redirect_words : Redirect → Text
+seen_redirect_words r =
+    codes "redirect" ++ 9 ∷ redirect_word r.kind ++ 9 ∷ decimal r.status ++ 9 ∷ text_word r.source
+    ++ 9 ∷ text_word r.target ++ force_end r.force
+
+-- `page SLUG LANG PATH TYPE SIZE`, where the size is how many bytes the body has
+unfoldable pub seen_page_words : StoredPage → Text
+seen_page_words s =
+    codes "page" ++ 9 ∷ s.slug ++ 9 ∷ s.lang ++ 9 ∷ s.path ++ 9 ∷ s.page.media
+    ++ 9 ∷ decimal (length s.page.body)
+
 -- ---- texts
 
 -- the rows, each behind an LF
@@ -154,9 +185,53 @@ rows_listed p (part.Pages slug lang) =
 abbrev pub project_rows : World → List Text
 project_rows w = map (λ e. project_words e.0 (main_language e.1) e.1.branch e.1.new_private) (entries w)
 
+-- ---- what a caller sees
+
+-- a row of what the name leads to, or none where it leads to nothing
+abbrev pub lead_rows : Text → Option Text → List Text
+lead_rows name None = []
+lead_rows name (Some to) = lead_words name to ∷ []
+
+-- the rows of all but the pages: the languages, the main one first, the visible versions by slug, what the three names lead to,
+-- the redirects in the order in which they are tried
+abbrev pub short_rows
+    : List Text → List Version → Option Text → Option Text → Option Text → List Redirect → List Text
+short_rows langs versions latest stable home redirects =
+    map seen_lang_words langs ++ map seen_version_words versions
+    ++ lead_rows (codes "latest") latest ++ lead_rows (codes "stable") stable
+    ++ lead_rows (codes "/") home ++ map seen_redirect_words redirects
+
+-- the pages of a version in a language, by path
+abbrev pub pages_in : Text → Text → SeenProject → List StoredPage
+pages_in slug lang p = filter (λ s. bytes_eq s.slug slug && bytes_eq s.lang lang) p.pages
+
+-- the rows of the pages of a version in some languages, where there is a project
+abbrev pub version_page_rows : Option SeenProject → List Text → Text → List Text
+version_page_rows seen langs slug =
+    flat_map (λ lang. map seen_page_words (option_map_or (pages_in slug lang) seen [])) langs
+
+-- the rows of the pages of some versions in some languages
+abbrev pub page_rows : Option SeenProject → List Text → List Version → List Text
+page_rows seen langs versions = flat_map (λ (v : Version). version_page_rows seen langs v.slug) versions
+
+-- All that is seen of a project. The pages stand last: by version, and of each in the order of the languages. A page stands
+-- under a version and a language of its project.
+abbrev pub seen_rows : SeenProject → List Text
+seen_rows p =
+    short_rows p.langs p.versions p.latest p.stable p.«default» p.redirects
+    ++ page_rows (Some p) p.langs p.versions
+
+abbrev pub seen_text : SeenProject → Text
+seen_text p = listed_text (seen_rows p)
+
+-- ---- what list words print
+
 -- What a list word prints of a world, without the end of its last line: nothing, where there is no project, as under a
--- text that is no host's name.
-abbrev pub listing_text : World → ListWord → Option Text
-listing_text w Projects = Some (listed_text (project_rows w))
-listing_text w (OfProject host list) =
+-- text that is no host's name. What a caller sees goes by the moment that the word gives, or else by this one.
+abbrev pub listing_text : ℕ → World → ListWord → Option Text
+listing_text now w Projects = Some (listed_text (project_rows w))
+listing_text now w (OfProject host list) =
     option_map (λ p. listed_text (rows_listed p list)) (option_and_then (get w) (host_named host))
+listing_text now w (Seen host pass moment) =
+    option_map seen_text
+    (sight.seen w (host_named host) (caller_named pass (unwrap_or moment now)))

@@ -1,11 +1,14 @@
-//! What list words print: the rows of each list, by definition, and functions that append one row.
+//! What list words print: the rows of each list, by definition, and functions that make or append one row.
 #![tactic(auto)]
 
+mod laws;
 mod rows;
 mod words;
 
+pub use laws::each_page_is_listed;
 pub use rows::{
     append_grant, append_lang, append_name, append_page, append_pass, append_project,
-    append_redirect, append_rule, append_version, listed_head,
+    append_redirect, append_row, append_rule, append_version, lead_row, listed_head, seen_lang_row,
+    seen_page_row, seen_redirect_row, seen_version_row,
 };
 pub use words::{ListWord, ProjectList};

@@ -6,6 +6,7 @@ ghost use Rattle.dh_listings.specs.ListingTexts as spec;
 use dh_paths::{HostName, Lang, PagePath, RefName, Slug, Text, Token, all_no_control, encode_path};
 use dh_redirects::{Redirect, RedirectKind};
 use dh_rules::{Action, Rule};
+use dh_seen::StoredPage;
 use dh_versions::{Kind, Version};
 use dh_world::PassEnd;
 use std::alloc::{AllocError, Global};
@@ -230,4 +231,63 @@ pub fn append_pass(
     let pass = pass.as_str();
     write!(out, "\n{pass}\t")?;
     put_end(out, until)
+}
+
+/// Appends a row that was made before.
+pub fn append_row(out: &mut String, row: &Text) -> Result<(), AllocError>
+    ensures { OnOk result (string_bytes out.new ≡ string_bytes out.old ++ 10 ∷ row.now) }
+{
+    let row = row.as_str();
+    write!(out, "\n{row}")
+}
+
+// ---- the rows of what a caller sees
+
+#[tactic(auto, unfolding(crate::specs::ListingTexts::seen_lang_words))]
+pub fn seen_lang_row(alloc: Global, lang: &Lang) -> Result<Text, AllocError>
+    ensures { IfOk result (λ row. row ≡ spec.seen_lang_words lang.now) }
+{
+    let lang = lang.as_str();
+    Ok(Text::wrap(format!(in alloc; "lang\t{lang}")?))
+}
+
+#[tactic(auto, unfolding(crate::specs::ListingTexts::seen_version_words))]
+pub fn seen_version_row(alloc: Global, version: &Version) -> Result<Text, AllocError>
+    ensures { IfOk result (λ row. row ≡ spec.seen_version_words version.now) }
+{
+    let kind = kind_word(version.kind);
+    let (name, slug) = (version.name.as_str(), version.slug.as_str());
+    let hidden = hidden_word(version.hidden);
+    Ok(Text::wrap(format!(in alloc; "version\t{kind}\t{name}\t{slug}\t{hidden}")?))
+}
+
+/// The row of a name and what it leads to.
+#[tactic(auto, unfolding(crate::specs::ListingTexts::lead_words))]
+pub fn lead_row(alloc: Global, name: &str, to: &Slug) -> Result<Text, AllocError>
+    ensures { IfOk result (λ row. row ≡ spec.lead_words name.now to.now) }
+{
+    let to = to.as_str();
+    Ok(Text::wrap(format!(in alloc; "{name}\t{to}")?))
+}
+
+#[tactic(auto, unfolding(crate::specs::ListingTexts::seen_redirect_words))]
+pub fn seen_redirect_row(alloc: Global, redirect: &Redirect) -> Result<Text, AllocError>
+    ensures { IfOk result (λ row. row ≡ spec.seen_redirect_words redirect.now) }
+{
+    let kind = redirect_word(redirect.kind);
+    let status = redirect.status;
+    let source = text_word(redirect.source.as_str());
+    let target = text_word(redirect.target.as_str());
+    let force = force_end(redirect.force);
+    Ok(Text::wrap(format!(in alloc; "redirect\t{kind}\t{status}\t{source}\t{target}{force}")?))
+}
+
+#[tactic(auto, unfolding(crate::specs::ListingTexts::seen_page_words))]
+pub fn seen_page_row(alloc: Global, page: &StoredPage) -> Result<Text, AllocError>
+    ensures { IfOk result (λ row. row ≡ spec.seen_page_words page.now) }
+{
+    let (slug, lang) = (page.slug.as_str(), page.lang.as_str());
+    let (path, media) = (page.path.as_str(), page.page.media.as_str());
+    let size = page.page.body.as_slice().len();
+    Ok(Text::wrap(format!(in alloc; "page\t{slug}\t{lang}\t{path}\t{media}\t{size}")?))
 }

@@ -3,7 +3,10 @@ pub mod KeptLemmas
 pub mod Looks
 pub mod GatherLemmas
 pub mod Telling
+pub mod JudgedLemmas
 pub mod ThinLemmas
+pub mod RetryKeyLemmas
+pub mod RowidsTaken
 pub mod Spelling
 pub mod OpenLemmas
 pub mod FillLemmas

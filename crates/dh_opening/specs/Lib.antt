@@ -2,6 +2,9 @@ pub mod Rows
 pub mod Readings
 pub mod Opening
 pub mod Gathering
+pub mod Judged
 pub mod ThinPages
+pub mod RetryKeys
+pub mod Rowids
 pub mod Migrating
 pub mod Filling

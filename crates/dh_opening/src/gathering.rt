@@ -15,13 +15,13 @@ use std::alloc::{AllocError, Global};
 
 /// What takes the rows of an answer in turn.
 pub trait Taker {
-    // What is known of the taker once it took these rows.
-    ghost took: { Self → List Values → Type 0 };
+    // What is known of the taker, by what it was at the start, once it took these rows.
+    ghost took: { Self → Self → List Values → Type 0 };
 
     /// Takes the next row. A taker that ran out of memory is of no more use.
     fn take(&mut self, alloc: Global, row: &Row) -> Result<(), AllocError>
-        ensures { OnOk result ((rows : List Values) → took self.old rows
-            → took self.new (rows ++ row.now ∷ [])) };
+        ensures { OnOk result ((start : Self) (rows : List Values) → took start self.old rows
+            → took start self.new (rows ++ row.now ∷ [])) };
 }
 
 /// Takes the next row; false where there is none.
@@ -31,7 +31,7 @@ fn take_next<S: Alter, G: Taker>(
     taker: &mut G,
 ) -> Result<bool, TablesFault>
     ensures same_reference { rows.new.conn.ghost_name ≡ rows.old.conn.ghost_name }
-    ensures takes { (sql : List ℕ) → TakesNext S.Store sql G.Taker.took
+    ensures takes { (sql : List ℕ) (start : G) → TakesNext S.Store sql (G.Taker.took start)
         rows.old.conn.now rows.new.conn.now taker.old taker.new result }
 {
     if let Err(error) = rows.advance() {
@@ -55,11 +55,12 @@ pub fn gather<S: Alter, G: Taker>(
     taker: &mut G,
 ) -> Result<(), TablesFault>
     requires whole { IsHonest S.Store conn.old → IsWhole (state S.Store conn.old) sql.now }
-    requires start { G.Taker.took taker.old [] }
+    requires start { G.Taker.took taker.old taker.old [] }
     ensures opens { JudgesTables S.Store conn.old conn.new result
-        (λ db _. (rows : List Values) × AnswersQuery db sql.now rows × G.Taker.took taker.new rows)
+        (λ db _. (rows : List Values) × AnswersQuery db sql.now rows
+        × G.Taker.took taker.old taker.new rows)
         (λ _. ⊥) }
-    ensures took { OnOk result ((rows : List Values) × G.Taker.took taker.new rows) }
+    ensures took { OnOk result ((rows : List Values) × G.Taker.took taker.old taker.new rows) }
 {
     let mut rows = match conn.query(sql, &[]) {
         Ok(rows) => rows,

@@ -15,7 +15,8 @@ ghost use Rattle.dh_migrating.specs.OldPasses.{old_lists_of};
 ghost use Rattle.dh_opening.specs.Opening.{IsNumbered, IsOurs, OnFailed, OnNotOurs, OnOldSchema, JudgesTables};
 ghost use Rattle.dh_opening.specs.Filling.{IsAtRest, IsFilled};
 ghost use Rattle.dh_records.specs.declared.records.PageRow.{PageRow};
-ghost use Rattle.dh_opening.specs.ThinPages.{with_bodies};
+ghost use Rattle.dh_records.specs.declared.records.RetryRow.{RetryRow};
+ghost use Rattle.dh_opening.specs.ThinPages.{made_whole};
 ghost use Rattle.dh_opening.specs.Migrating.{IsBehind, IsMigrated, IsOld, IsShown, LeavesMigrated, MigratesTables};
 
 use crate::fault::TablesFault;
@@ -37,7 +38,8 @@ fn old_records<S: Alter>(conn: &mut Connection<S>, alloc: Global) -> Result<Reco
     requires unlimited { conn.old.step_limit ≡ None }
     ensures opens { JudgesTables S.Store conn.old conn.new result
         (λ db records. IsDatabase db × (IsNumbered db 1
-        → IsOld db × ((pages : List PageRow) × (with_bodies pages (lists_in records) ≡ old_lists_of db))))
+        → IsOld db × ((pages : List PageRow) × (keys : List RetryRow)
+        × (made_whole pages keys (lists_in records) ≡ old_lists_of db))))
         (λ db. ¬ IsOld db) }
 {
     if !are_old(conn.schema()) {

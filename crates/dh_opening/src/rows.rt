@@ -1,12 +1,12 @@
 //! Rows of values: what they are, and whether their keys rise.
 
-ghost use Rattle.std.specs.Prelude.{◌≡◌, ◌↔◌, ◌≤◌, pos, length, drop, map, IsTrue};
+ghost use Rattle.std.specs.Prelude.{◌≡◌, ◌↔◌, ◌≤◌, pos, length, drop, map, IsTrue, option_copied};
 ghost use Rattle.std.specs.declared.cmp.Ordering.TheVariants.{Less};
 ghost use Rattle.sqlite_value.specs.declared.value.Value.TheVariants.{Int};
 ghost use Rattle.sqlite_value.specs.Value.{owned};
 ghost use Rattle.sqlite_value.specs.Order.{column, row_cmp};
 ghost use Rattle.sqlite_trees.specs.Tree.{IsAscending};
-ghost use Rattle.dh_opening.specs.Rows.{part};
+ghost use Rattle.dh_opening.specs.Rows.{IsNext, part};
 
 use sqlite::Row;
 use sqlite::types::ValueRef;
@@ -74,6 +74,16 @@ pub fn rise(rows: &[Row], places: &[usize]) -> bool
     };
     match others.first() {
         Some(second) => compare_at(first, second, places).is_lt() && rise(others, places),
+        None => true,
+    }
+}
+
+/// Whether a row stands behind the last one, by the first four columns.
+pub fn is_next(last: Option<&Row>, row: &Row) -> bool
+    ensures { IsTrue result ↔ IsNext (option_copied last.entry) row.now }
+{
+    match last {
+        Some(last) => compare_at(last, row, &[0, 1, 2, 3]).is_lt(),
         None => true,
     }
 }

@@ -1,6 +1,7 @@
 //! Whole tables read.
 
-ghost use Rattle.std.specs.Prelude.{◌≡◌, ℕ, List, [], ◌∷◌, None, IfOk, IfSome};
+ghost use Rattle.std.specs.Prelude.{◌≡◌, ◌↔◌, ℕ, List, [], ◌∷◌, None, IfOk, IfSome, IsTrue};
+ghost use Rattle.sqlite_value.specs.Order.{Row as Values};
 ghost use Rattle.sqlite.specs.Held.{state};
 ghost use Rattle.dh_rows.specs.Calls.{IsHonest};
 ghost use Rattle.dh_records.specs.Codings as coding;
@@ -8,18 +9,23 @@ ghost use Rattle.dh_records.specs.Constraints.{InOrder};
 ghost use Rattle.dh_records.specs.Lists.{Lists};
 ghost use Rattle.dh_constraints.specs.Lists.{lists_in};
 ghost use Rattle.std.specs.List.{AllByRecursion};
-ghost use Rattle.dh_schema.specs.Tables.{page_table};
+ghost use Rattle.dh_rows.specs.Whole.{AreRowids};
+ghost use Rattle.dh_constraints.specs.Keys.{IsFitKey};
+ghost use Rattle.dh_schema.specs.Tables.{page_table, used_table};
+ghost use Rattle.dh_opening.specs.RetryKeys.{HasKeys};
 ghost use Rattle.dh_opening.specs.ThinPages.{AreThinIn, HasPages, HasThin, IsFit};
 ghost use Rattle.dh_opening.specs.Opening.{AnswersQuery, AreLaid, AreSpelled, AreTold, IsNumbered, IsWhole, JudgesTables, StandFor, other_tables};
 
 use crate::fault::TablesFault;
 use crate::gathering::gather;
 use crate::kept::{Kept, records_in};
+use crate::keys::JudgedKeys;
 use crate::number::Number;
+use crate::rowids::Rowids;
 use crate::shapes::has_number;
 use crate::thin_pages::ThinPages;
-use dh_constraints::Records;
-use dh_records::{PageRow, PassRow};
+use dh_constraints::{Projects, Records};
+use dh_records::{PageRow, PassRow, RetryRow};
 use dh_rows::are_rowids;
 use sqlite::{Alter, Connection, Row};
 use std::alloc::{AllocError, Global};
@@ -96,6 +102,22 @@ pub fn read_two<S: Alter, A: Kept, B: Kept>(
     Ok((first, second))
 }
 
+/// Whether a query answers rowids in their order; none is kept.
+fn have_rowids<S: Alter>(
+    conn: &mut Connection<S>,
+    alloc: Global,
+    sql: &str,
+) -> Result<bool, TablesFault>
+    requires whole { IsHonest S.Store conn.old → IsWhole (state S.Store conn.old) sql.now }
+    ensures opens { JudgesTables S.Store conn.old conn.new result
+        (λ db rise. (ids : List Values) × AnswersQuery db sql.now ids
+        × (IsTrue rise ↔ AreRowids ids)) (λ _. ⊥) }
+{
+    let mut found = Rowids::new();
+    gather(conn, alloc, sql, &mut found)?;
+    Ok(found.rise())
+}
+
 /// Reads the pages of a whole table, judges each row, and keeps the pages without their bodies.
 fn read_pages<S: Alter>(
     conn: &mut Connection<S>,
@@ -106,14 +128,38 @@ fn read_pages<S: Alter>(
         (λ db v. HasThin db v.items) (λ db. (xs : List PageRow) → ¬ HasPages db xs) }
     ensures order { IfOk result (λ v. InOrder coding.pages.key v.items) }
 {
-    let ids = select(conn, PageRow::ids())?;
+    let rise = have_rowids(conn, alloc, PageRow::ids())?;
     let mut found = ThinPages::new(alloc);
     gather(conn, alloc, PageRow::rows(), &mut found)?;
-    if !are_rowids(ids.as_slice()) {
+    if !rise {
         return Err(TablesFault::NotOurs);
     }
     match found.into_pages() {
         Some(pages) => Ok(pages),
+        None => Err(TablesFault::NotOurs),
+    }
+}
+
+/// Judges each row of the table of retry keys beside the projects, which it gives back; no row is kept.
+fn judge_keys<S: Alter>(
+    conn: &mut Connection<S>,
+    alloc: Global,
+    projects: Projects,
+) -> Result<Projects, TablesFault>
+    requires laid { IsHonest S.Store conn.old → AreLaid (used_table ∷ []) (state S.Store conn.old) }
+    ensures opens { JudgesTables S.Store conn.old conn.new result
+        (λ db _. (keys : List RetryRow) × HasKeys projects.rows.items db keys)
+        (λ db. (keys : List RetryRow) → ¬ HasKeys projects.rows.items db keys) }
+    ensures same { IfOk result (λ p. p ≡ projects) }
+{
+    let rise = have_rowids(conn, alloc, RetryRow::ids())?;
+    let mut judged = JudgedKeys::beside(projects);
+    gather(conn, alloc, RetryRow::rows(), &mut judged)?;
+    if !rise {
+        return Err(TablesFault::NotOurs);
+    }
+    match judged.into_projects() {
+        Some(projects) => Ok(projects),
         None => Err(TablesFault::NotOurs),
     }
 }
@@ -134,7 +180,8 @@ pub fn number_of<S: Alter>(conn: &mut Connection<S>, alloc: Global) -> Result<u3
     }
 }
 
-/// Reads the records of all our tables but the passes, which were read before; the pages have no bodies.
+/// Reads the records of all our tables but the passes, which were read before; the pages have no bodies, and answers to retry keys
+/// are judged and not kept.
 pub fn all_records<S: Alter>(
     conn: &mut Connection<S>,
     alloc: Global,
@@ -144,21 +191,22 @@ pub fn all_records<S: Alter>(
     requires order { InOrder coding.passes.key passes.items }
     ensures opens { JudgesTables S.Store conn.old conn.new result
         (λ db records. AreThinIn db records)
-        (λ db. (l : Lists) → AllByRecursion IsFit l.pages → ¬ AreSpelled db l) }
+        (λ db. (l : Lists) → AllByRecursion IsFit l.pages
+        → AllByRecursion (IsFitKey l.projects) l.used → ¬ AreSpelled db l) }
     ensures passes { IfOk result (λ records. (lists_in records).passes ≡ passes.items) }
 {
     let (projects, langs) = read_two(conn, alloc)?;
     let versions = read_table(conn, alloc)?;
     let pages = read_pages(conn, alloc)?;
-    let (used, picks) = read_two(conn, alloc)?;
+    let judged = judge_keys(conn, alloc, Projects { rows: projects })?;
+    let picks = read_table(conn, alloc)?;
     let (rules, redirects) = read_two(conn, alloc)?;
     let held = read_table(conn, alloc)?;
     Ok(Records {
-        projects,
+        projects: judged.rows,
         langs,
         versions,
         pages,
-        used,
         picks,
         passes,
         held,

@@ -1,14 +1,15 @@
 //! Pages that are judged row by row, and kept without their bodies.
 
-ghost use Rattle.std.specs.Prelude.{◌≡◌, ◌↔◌, false, [], IfOk, IfSome, IsTrue, None, option_copied};
+ghost use Rattle.std.specs.Prelude.{◌≡◌, false, [], IfOk, IfSome, IsTrue, None};
 ghost use Rattle.dh_records.specs.Codings.{pages};
 ghost use Rattle.dh_records.specs.Typed.{IsPage};
 ghost use Rattle.dh_opening.specs.Opening.{IsKeptAs};
-ghost use Rattle.dh_opening.specs.ThinPages.{FindsNext, IsFit, IsNext, KeepsFit, TookPages, thin};
+ghost use Rattle.dh_opening.specs.Rows.{IsNext};
+ghost use Rattle.dh_opening.specs.ThinPages.{FindsNext, IsFit, KeepsFit, TookPages, thin};
 
 use crate::gathering::Taker;
 use crate::kept::record_in;
-use crate::rows::compare_at;
+use crate::rows::is_next;
 use dh_paths::Bytes;
 use dh_records::PageRow;
 use dh_seen::Page;
@@ -22,16 +23,6 @@ pub struct ThinPages {
     last: Option<Row>,
     found: Vec<PageRow>,
     are_kept: bool,
-}
-
-/// Whether a row stands behind the last one, by the columns of its key.
-fn is_next(last: Option<&Row>, row: &Row) -> bool
-    ensures { IsTrue result ↔ IsNext (option_copied last.entry) row.now }
-{
-    match last {
-        Some(last) => compare_at(last, row, &[0, 1, 2, 3]).is_lt(),
-        None => true,
-    }
 }
 
 /// Reads the page that a row keeps, without its body; none where the row keeps no page that may have its content.
@@ -102,7 +93,7 @@ impl ThinPages {
 }
 
 impl Taker for ThinPages {
-    ghost took = { TookPages };
+    ghost took = { λ _ pages rows. TookPages pages rows };
 
     fn take(&mut self, alloc: Global, row: &Row) -> Result<(), AllocError> {
         if self.are_kept {

@@ -1,22 +1,22 @@
 -- The stored rows of one project after the other.
-use Rattle.std.proofs.Common.{◌≡◌, ◌≢◌, ◌⊎◌, inl, inr, ℕ, suc, take, slice_get, ◌++◌, ap₂, Bool, true, false, List, [], ◌∷◌, filter, find, Option, Some, None, Ok, refl, sym, ap, subst, ◌∙◌, true≢false}
+use Rattle.std.proofs.Common.{◌≡◌, ◌≢◌, ◌⊎◌, inl, inr, Bool, true, false, List, [], ◌∷◌, filter, find, Option, Some, None, Result, Ok, Err, OnOk, refl, sym, ap, subst, ◌∙◌, true≢false}
 use Rattle.std.specs.List.{list_any}
 use Rattle.std.specs.Option.{option_map}
 use Rattle.std.specs.FinMap.{get}
 use Rattle.std.specs.Str.{bytes_eq}
-use Rattle.std.proofs.Math.Seq.{take-suc}
 use Rattle.std.proofs.lemmas.Bool.{cases_Bool}
-use Rattle.std.proofs.lemmas.Option.{get_or_from_slice_get, slice_get_within}
 use Rattle.std.proofs.lemmas.Slice.Eq.{bytes_eq-Decides}
 use Rattle.sqlite_trees.specs.declared.store.Store.{Ghosts}
 use Rattle.sqlite.specs.Effect.{Database}
 use Rattle.sqlite.specs.Held.{Held, state}
 use Rattle.sqlite.specs.State.{HasCleanDisk}
-use Rattle.dh_rows.specs.Calls.{AreOurs, MakesNoCommitInside, IsHonest, KeepsCommitted, KeepsFaults, CrashLeaves, LeavesNoMore, OnlyBegins, OnlyCommits, OnlyUndoes, ShowsHonestly, committed, seen_now}
+use Rattle.dh_rows.specs.Calls.{AreOurs, MakesNoCommit, MakesNoCommitInside, IsHonest, KeepsCommitted, KeepsFaults, CrashLeaves, LeavesNoMore, OnlyBegins, OnlyCommits, ShowsHonestly, committed, seen_now}
 use Rattle.dh_schema.specs.Calling.{IsSettled}
-use Rattle.dh_schema.specs.InTurn.{lasts_on}
+use Rattle.dh_schema.specs.InTurn.{goes_anywhere, lasts_on}
 use Rattle.dh_schema.specs.Tables.{HoldsTables, lists_of}
 use Rattle.dh_tables.specs.Going.{NowShowsRecords, last_records, records}
+use Rattle.dh_tables.proofs.Together.{goes_within_on}
+use Rattle.dh_world.specs.declared.refusal.Refusal.{Refusal}
 use Rattle.dh_world.specs.World.{Text, Project}
 use Rattle.dh_records.specs.Constraints.{AreSound}
 use Rattle.dh_records.specs.Lists.{Lists, base_of, world_of, project_of, is_alias_at, is_project, is_route_in}
@@ -101,16 +101,26 @@ midway_last start now it = record {
   ];
 }
 
--- lists with one base and the same stored rows are one
-pub same_lists : (a b : Lists) → base_of a ≡ base_of b → a.aliases ≡ b.aliases → a.routes ≡ b.routes → a ≡ b
-same_lists a b base aliases routes = λ i. record (base i) { aliases = aliases i; routes = routes i }
+-- where all is right nothing is to be made
+pub derived_so : (before after : Lists) → after ≡ before → AreRight before → IsDerived before after
+derived_so before after same right = record { base = ap base_of same; right = subst AreRight (sym same) right }
 
--- rows that are one up to a place, and at it, are one up to the next
-pub same_step : {X : Type 0} (xs ys : List X) (i : ℕ) (x : X) → take i xs ≡ take i ys → slice_get xs i ≡ Some x → slice_get ys i ≡ Some x → take (suc i) xs ≡ take (suc i) ys
-same_step xs ys i x same here there =
-    take-suc xs i x (slice_get_within xs i x here)
-    ∙ ap₂ (λ before at. before ++ (at ∷ [])) same (get_or_from_slice_get xs i x x here ∙ sym (get_or_from_slice_get ys i x x there))
-    ∙ sym (take-suc ys i x (slice_get_within ys i x there))
+-- what was looked at is made right
+module _ {S : Type 0} (g : Ghosts S) (a b c : Held S) (asks : MakesNoCommit g a b) (looks : NowShowsRecords g a b (records g a)) (goes : MakesNoCommitInside g b c) where
+  pub mended_goes : MakesNoCommitInside g a c
+  mended_goes = goes_within_on (goes_anywhere asks) looks.live looks.mode goes
+
+  pub mended_sees : {T : Type 0} (r : Result T Refusal) → OnOk r (NowShowsRecords g b c (records g c)) → OnOk r (NowShowsRecords g a c (records g c))
+  mended_sees (Ok x) last = record {
+    live = λ honest clean. last.live (looks.live honest (goes.lasts.clean clean)) clean;
+    now_is = λ _. refl;
+    mode = λ honest. last.mode honest ∙ looks.mode (goes.lasts.was honest);
+  }
+  mended_sees (Err e) last = tt
+
+  pub mended_made : {T : Type 0} (r : Result T Refusal) → (IsHonest g c → OnOk r (IsDerived (records g b) (records g c))) → IsHonest g c → OnOk r (IsDerived (records g a) (records g c))
+  mended_made (Ok x) made honest = subst (λ (l : Lists). IsDerived l (records g c)) (looks.now_is (goes.lasts.was honest)) (made honest)
+  mended_made (Err e) made honest = tt
 
 -- ---- the transaction
 
@@ -147,21 +157,6 @@ module _
   pub worked_ready : HasCleanDisk (state g worked) → HasRowsRight g old worked
   worked_ready clean =
       let honest = honest_then clean in record { was = (began clean).was_honest; honest = honest; derived = derived_as honest (records g worked) refl }
-
-  -- where nothing has changed it is undone, and another begins
-  pub undone_ready
-      : (same : IsHonest g worked → records g worked ≡ records g begun) (back again : Held S) {v w : Unit {0}}
-      → OnlyUndoes g lists_of worked back (Ok v) → OnlyBegins g lists_of back again (Ok w) → HasCleanDisk (state g again) → HasRowsRight g old again
-  undone_ready same back again undoes begins2 clean =
-      let d = begins2.begun.done clean in
-      let u = undoes.undone.done d.was_honest in
-      let honest = u.was_honest in
-      let b = began honest.0 in
-      let last : records g again ≡ last_records g old = d.now_is ∙ u.now_is ∙ ap lists_of (goes.kept b.mode honest) ∙ b.last_is in record {
-        was = b.was_honest;
-        honest = (clean, d.is_open);
-        derived = derived_as honest (records g again) (last ∙ sym (same honest ∙ b.now_is ∙ (settled b.was_honest).same));
-      }
 
 -- what is ready is committed
 pub derives_all

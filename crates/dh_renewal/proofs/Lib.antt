@@ -1,5 +1,8 @@
 pub mod SameBase
 pub mod Together
+pub mod StandingLemmas
+pub mod StandsLemmas
+pub mod SaidLemmas
 pub mod FindingLemmas
 pub mod ByKeyLemmas
 pub mod RenewingLemmas

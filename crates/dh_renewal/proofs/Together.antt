@@ -1,10 +1,10 @@
 -- Looks and then changes, within a transaction.
-use Rattle.std.proofs.Common.{◌≡◌, Result, Ok, Err, OnOk, IfErr, ap, ◌∙◌}
+use Rattle.std.proofs.Common.{◌≡◌, Result, Ok, Err, OnOk, IfErr, refl, ap, sym, ◌∙◌}
 use Rattle.sqlite_trees.specs.declared.store.Store.{Ghosts}
 use Rattle.sqlite.specs.Held.{Held}
 use Rattle.dh_rows.specs.Calls.{MakesNoCommit, IsHonest}
 use Rattle.dh_records.specs.Lists.{Lists}
-use Rattle.dh_schema.specs.InTurn.{goes_anywhere, goes_on}
+use Rattle.dh_schema.specs.InTurn.{goes_anywhere, goes_none, goes_on}
 use Rattle.dh_tables.specs.Going.{LooksAtRecords, ChangesRecords, NowShowsRecords, records}
 use Rattle.dh_tables.proofs.Together.{goes_within_on}
 use Rattle.dh_world.specs.CheckResults.{IsFault}
@@ -63,3 +63,21 @@ module _ {S : Type 0} (g : Ghosts S) where
       both : {T : Type 0} (r : Result T Refusal) → OnOk r (NowShowsRecords g a c (records g a))
       both (Ok x) = looks_on a b c sees then seen
       both (Err e) = tt
+
+  -- a look that was answered, where the change leaves all as it is
+  pub looked_same
+      : (a b : Held S) (change : Lists → Lists)
+      → MakesNoCommit g a b → NowShowsRecords g a b (records g a) → (IsHonest g b → change (records g a) ≡ records g a) → ChangesRecords g {T = Unit {0}} a b (Ok tt) change
+  looked_same a b change goes sees same = record {
+    goes = goes_anywhere goes;
+    sees = record { live = sees.live; now_is = λ honest. sees.now_is honest ∙ sym (same honest); mode = sees.mode };
+    err = tt;
+  }
+
+  -- no call at all, where the change leaves all as it is
+  pub unchanged : (a : Held S) (change : Lists → Lists) → (IsHonest g a → change (records g a) ≡ records g a) → ChangesRecords g {T = Unit {0}} a a (Ok tt) change
+  unchanged a change same = record {
+    goes = goes_anywhere (goes_none a);
+    sees = record { live = λ honest _. honest; now_is = λ honest. sym (same honest); mode = λ _. refl };
+    err = tt;
+  }

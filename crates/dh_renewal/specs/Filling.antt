@@ -1,20 +1,14 @@
 -- All stored rows made right.
-use Rattle.std.specs.Prelude.{◌≡◌, false, List, Result, OnOk, OnErr}
+use Rattle.std.specs.Prelude.{◌≡◌, false, Result, OnOk, OnErr}
 use Rattle.sqlite_trees.specs.declared.store.Store.{Ghosts}
 use Rattle.sqlite.specs.Held.{Held, state}
 use Rattle.sqlite.specs.State.{HasCleanDisk}
 use Rattle.dh_rows.specs.Calls.{IsHonest, KeepsFaults, CrashLeaves}
 use Rattle.dh_records.specs.Lists.{Lists, base_of}
-use Rattle.dh_records.specs.declared.records.AliasRow.{AliasRow}
-use Rattle.dh_records.specs.declared.records.RouteRow.{RouteRow}
 use Rattle.dh_schema.specs.Tables.{HoldsTables, lists_of}
 use Rattle.dh_tables.specs.Going.{last_records, records}
 use Rattle.dh_derived.specs.Rightness.{AreRight}
 use Rattle.dh_world.specs.declared.refusal.Refusal.{Refusal}
-
--- these are the stored rows
-abbrev pub AreDerivedRows : Lists → List AliasRow → List RouteRow → Type 0
-AreDerivedRows l aliases routes = (aliases ≡ l.aliases) × (routes ≡ l.routes)
 
 -- The records that others are derived from stay, and the derived ones are what they say.
 pub record IsDerived (before after : Lists) : Type 0 where

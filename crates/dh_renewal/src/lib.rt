@@ -2,6 +2,7 @@
 #![tactic(auto)]
 
 mod by_key;
+mod checking;
 mod filling;
 mod finding;
 mod looks;
@@ -10,6 +11,7 @@ mod renewing;
 mod routes;
 mod setting;
 mod stable;
+mod standing;
 
 pub use dh_derived::Renewal;
 pub use filling::derive;

@@ -8,7 +8,7 @@ ghost use Rattle.dh_derived.specs.Rightness.{kept_at};
 ghost use Rattle.dh_renewal.specs.Renewing.{FindsBranch};
 
 use dh_paths::{HostName, RefName, Slug, Token};
-use dh_records::AliasName;
+use dh_records::{AliasName, AliasRow};
 use dh_tables::{GrantRow, Listed, PassRow, Tables, VersionRow};
 use dh_versions::Version;
 use dh_world::Refusal;
@@ -62,6 +62,19 @@ pub fn kept_alias<S: Alter>(
         Some(row) => Ok(Some(row.slug)),
         None => Ok(None),
     }
+}
+
+/// What is stored of the names of a host, in the order of classes.
+pub fn aliases_at<S: Alter>(
+    tables: &mut Tables<S>,
+    alloc: Global,
+    host: &HostName,
+) -> Result<Vec<AliasRow>, Refusal>
+    ensures asks { LooksAtRecords S.Store tables.old tables.new result }
+    ensures value { AnswersBy S.Store tables.old tables.new result
+        (λ l rows. rows.items ≡ filter (lists.is_alias_of host.now) l.aliases) }
+{
+    Ok(tables.aliases(alloc, host)?)
 }
 
 pub fn pass_of<S: Alter>(

@@ -8,6 +8,7 @@ ghost use Rattle.dh_records.specs.Constraints.{AreSound};
 ghost use Rattle.dh_derived.specs.Rightness.{AreRight};
 ghost use Rattle.dh_derived.specs.Renewed as renewed;
 ghost use Rattle.dh_renewal.specs.Renewing.{HasBranch, LacksRenewal, RightOf, set_all};
+ghost use Rattle.dh_renewal.specs.Standing.{AreApart};
 
 use crate::looks::branch_of;
 use crate::names::{names_of_all, names_of_pass};
@@ -124,6 +125,7 @@ fn set_host<S: Alter>(
     all: Vec<ClassNames>,
 ) -> Result<(), Refusal>
     requires within { IsWithin S.Store tables.old }
+    requires apart { IsHonest S.Store tables.old → AreApart all.items }
     ensures makes { ChangesRecords S.Store tables.old tables.new result
         (λ l. renewed.renew_routes host.now
         (set_all host.now all.items (change.drop_aliases host.now l))) }

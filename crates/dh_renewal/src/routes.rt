@@ -36,7 +36,7 @@ fn routes_of(alloc: Global, redirects: &[Redirect]) -> Result<Vec<Route>, AllocE
 }
 
 /// The routes of the redirects of a project, in their order.
-fn routes_for<S: Alter>(
+pub fn routes_for<S: Alter>(
     tables: &mut Tables<S>,
     alloc: Global,
     host: &HostName,

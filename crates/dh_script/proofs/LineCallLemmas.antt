@@ -34,7 +34,7 @@ of_order moment before after (order.Init file) text (refused, (same, did)) = (sa
 of_order moment before after (order.Migrate file) text (refused, (same, did)) = (same, did.0)
 of_order moment before after order.Script text (refused, (same, did)) = (same, did.0)
 of_order moment before after order.Answer text (refused, (same, did)) = (same, did.0)
-of_order moment before after (order.Serve count port log) text (refused, (same, did)) = (same, did.0)
+of_order moment before after (order.Serve count port log wait) text (refused, (same, did)) = (same, did.0)
 
 of_line : (moment : ℕ) (before after : World) (line : Option Line) (text : Text) → DoesLine moment before line after text → IsLineDone before (call_of_line moment line) after text
 of_line moment before after None text did = did

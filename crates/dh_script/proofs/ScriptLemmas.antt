@@ -21,6 +21,7 @@ use Rattle.dh_world.specs.declared.outcome.Outcome.TheVariants as outcomes
 use Rattle.dh_script.specs.Outcomes.{text_of_outcome, is_refusal}
 use Rattle.dh_desk.specs.Desk.{StoreFaultHasCause, Standing}
 use Rattle.dh_script.specs.Reasons.{reason_of, reason_of_list, BlamesStore, ExplainsRefusal}
+use Rattle.dh_script.specs.Explaining.{ExplainsList, ExplainsOutcome, GetsFor, ListsFor, PerformsFor}
 use Rattle.dh_script.specs.declared.reasons.Reason.{Reason}
 use Rattle.dh_listings.specs.ListingTexts.{listing_text}
 use Rattle.dh_listings.specs.declared.words.ListWord.{ListWord}
@@ -38,6 +39,16 @@ got text_in refused_in w named host shown pass moment t reply outcome result val
     let by_pass = subst (λ (p : Option Text). IfOk reply (λ r. r ≡ reply_to (seen w (host_named host) (caller_named p moment)) t.path t.query)) same_pass by_host in
     IfOk-weaker result _ _ (λ p is. (reply, by_pass, subst (λ (o : Outcome). TellsOutcome o (text_in p) (refused_in p)) same is)) told
 
+-- the same with its reason
+pub got_for : {P E : Type 0} (text_in : P → Text) (reason_in : P → Option Reason) (w : World) (named host : Text) (shown pass : Option Text) (moment : ℕ) (t : Target) (reply : Result Reply Fault) (outcome : Outcome) (result : Result P E)
+    → IfOk reply (λ r. r ≡ reply_to (seen w (host_named named) (caller_named shown moment)) t.path t.query)
+    → named ≡ host → shown ≡ pass → outcome ≡ outcome_of_read reply → IfOk result (λ p. ExplainsOutcome outcome (text_in p) (reason_in p))
+    → IfOk result (λ p. GetsFor w host pass moment (Some t) (text_in p) (reason_in p))
+got_for text_in reason_in w named host shown pass moment t reply outcome result value same_host same_pass same told =
+    let by_host = subst (λ (h : Text). IfOk reply (λ r. r ≡ reply_to (seen w (host_named h) (caller_named shown moment)) t.path t.query)) same_host value in
+    let by_pass = subst (λ (p : Option Text). IfOk reply (λ r. r ≡ reply_to (seen w (host_named host) (caller_named p moment)) t.path t.query)) same_pass by_host in
+    IfOk-weaker result _ _ (λ p is. (reply, by_pass, subst (λ (o : Outcome). ExplainsOutcome o (text_in p) (reason_in p)) same is)) told
+
 -- what is told of a command's outcome, which is one step
 pub act_told : {P E : Type 0} (text_in : P → Text) (refused_in : P → Bool) (moment : ℕ) (before after : World) (c : Command) (o : Order) (answer : Result Answer Refusal) (outcome : Outcome) (result : Result P E)
     → IsStep before after c answer → outcome ≡ outcome_of answer → o ≡ order.Act c → IfOk result (λ p. TellsOutcome outcome (text_in p) (refused_in p))
@@ -47,11 +58,26 @@ act_told text_in refused_in moment before after c o answer outcome result step s
     (λ p tells.
     subst (λ (x : Order). PerformsOrder moment before x after (text_in p) (refused_in p)) (sym is) (answer, step, subst (λ (x : Outcome). TellsOutcome x (text_in p) (refused_in p)) same tells))
 
+-- the same with its reason
+pub act_for : {P E : Type 0} (text_in : P → Text) (reason_in : P → Option Reason) (moment : ℕ) (before after : World) (c : Command) (o : Order) (answer : Result Answer Refusal) (outcome : Outcome) (result : Result P E)
+    → IsStep before after c answer → outcome ≡ outcome_of answer → o ≡ order.Act c → IfOk result (λ p. ExplainsOutcome outcome (text_in p) (reason_in p))
+    → IfOk result (λ p. PerformsFor moment before o after (text_in p) (reason_in p))
+act_for text_in reason_in moment before after c o answer outcome result step same is =
+    IfOk-weaker result _ _
+    (λ p tells.
+    subst (λ (x : Order). PerformsFor moment before x after (text_in p) (reason_in p)) (sym is) (answer, step, subst (λ (x : Outcome). ExplainsOutcome x (text_in p) (reason_in p)) same tells))
+
 -- what is told of a list, which is the definition's
-pub list_told : {P E : Type 0} (text_in : P → Text) (refused_in : P → Bool) (w : World) (word : ListWord) (listed : Result (Option Text) Fault) (result : Result P E)
-    → IfOk listed (λ found. found ≡ listing_text w word) → IfOk result (λ p. TellsList listed (text_in p) (refused_in p))
-    → IfOk result (λ p. ListsAt w word (text_in p) (refused_in p))
-list_told text_in refused_in w word listed result value told = IfOk-weaker result _ _ (λ p is. (listed, value, is)) told
+pub list_told : {P E : Type 0} (text_in : P → Text) (refused_in : P → Bool) (moment : ℕ) (w : World) (word : ListWord) (listed : Result (Option Text) Fault) (result : Result P E)
+    → IfOk listed (λ found. found ≡ listing_text moment w word) → IfOk result (λ p. TellsList listed (text_in p) (refused_in p))
+    → IfOk result (λ p. ListsAt moment w word (text_in p) (refused_in p))
+list_told text_in refused_in moment w word listed result value told = IfOk-weaker result _ _ (λ p is. (listed, value, is)) told
+
+-- the same with its reason
+pub list_for : {P E : Type 0} (text_in : P → Text) (reason_in : P → Option Reason) (moment : ℕ) (w : World) (word : ListWord) (listed : Result (Option Text) Fault) (result : Result P E)
+    → IfOk listed (λ found. found ≡ listing_text moment w word) → IfOk result (λ p. ExplainsList listed (text_in p) (reason_in p))
+    → IfOk result (λ p. ListsFor moment w word (text_in p) (reason_in p))
+list_for text_in reason_in moment w word listed result value told = IfOk-weaker result _ _ (λ p is. (listed, value, is)) told
 
 -- what is told of an outcome has its reason
 pub explained : (o : Outcome) (text : Text) (refused : Bool) (reason : Option Reason) → text ≡ text_of_outcome o → refused ≡ is_refusal o → reason ≡ reason_of o → ExplainsRefusal reason text refused
@@ -110,7 +136,7 @@ of_line moment before after (order.Init file) (inr (text, (refused, did))) = inr
 of_line moment before after (order.Migrate file) (inr (text, (refused, did))) = inr (text, refused, did)
 of_line moment before after order.Script (inr (text, (refused, did))) = inr (text, refused, did)
 of_line moment before after order.Answer (inr (text, (refused, did))) = inr (text, refused, did)
-of_line moment before after (order.Serve count port log) (inr (text, (refused, did))) = inr (text, refused, did)
+of_line moment before after (order.Serve count port log wait) (inr (text, (refused, did))) = inr (text, refused, did)
 
 pub may_single : {T E : Type 0} (r : Result T E) (moment : ℕ) (before after : World) (o : Order) → OnErr r (MayDoOrder moment before o after) → OnErr r (MayDoSingle moment before o after)
 may_single (Ok x) moment before after o may = tt

@@ -4,4 +4,5 @@ pub mod Reasons
 pub mod Running
 pub mod Script
 pub mod LineCalls
+pub mod Explaining
 pub mod Faults

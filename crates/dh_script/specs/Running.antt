@@ -36,6 +36,14 @@ worded texts = filter is_filled (map words_in texts)
 abbrev pub lines_in : Text → List (List Text)
 lines_in script = worded (lines script)
 
+-- the lines that have words, as they stand
+abbrev pub with_words : List Text → List Text
+with_words texts = filter (λ line. is_filled (words_in line)) texts
+
+-- the lines of a script that have words, by their words, are all that run of it
+abbrev pub LinesHaveWords : Type 0
+LinesHaveWords = (script : Text) → map words_in (with_words (lines script)) ≡ lines_in script
+
 -- lines by the bytes of their words
 abbrev pub words_seen : {Y Z : Type 0} → List (Vec (String Y) Z) → List (List Text)
 words_seen lines = map (λ words. map string_bytes words.items) lines

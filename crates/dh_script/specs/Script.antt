@@ -72,7 +72,7 @@ PerformsOrder moment before order.Script after text refused =
     (after ≡ before) × IsUsage text refused
 PerformsOrder moment before order.Answer after text refused =
     (after ≡ before) × IsUsage text refused
-PerformsOrder moment before (order.Serve count port log) after text refused =
+PerformsOrder moment before (order.Serve count port log wait) after text refused =
     (after ≡ before) × IsUsage text refused
 
 -- what an order does to the world at a moment and what it prints, whether it is refused or not
@@ -97,17 +97,17 @@ TellsList (Ok (Some listed)) text refused = (text ≡ listed) × (refused ≡ fa
 TellsList (Ok None) text refused = TellsOutcome (outcome.Refused NoProject) text refused
 TellsList (Err fault) text refused = TellsOutcome (outcome.Failed fault) text refused
 
--- a word that lists prints what it lists of the world, unless the store or memory failed
-abbrev pub ListsAt : World → ListWord → Text → Bool → Type 0
-ListsAt w word text refused =
-    (listed : Result (Option Text) Fault) × IfOk listed (λ found. found ≡ listing_text w word)
+-- a word that lists prints what it lists of the world at a moment, or at its own, unless the store or memory failed
+abbrev pub ListsAt : ℕ → World → ListWord → Text → Bool → Type 0
+ListsAt moment w word text refused =
+    (listed : Result (Option Text) Fault) × IfOk listed (λ found. found ≡ listing_text moment w word)
     × TellsList listed text refused
 
 -- what a single order does to the world at a moment, what it prints, and whether it is refused: an order that lists changes
 -- nothing, and prints the list; any other is performed as in a line
 abbrev pub PerformsSingle : ℕ → World → Order → World → Text → Bool → Type 0
 PerformsSingle moment before (order.List word) after text refused =
-    (after ≡ before) × ListsAt before word text refused
+    (after ≡ before) × ListsAt moment before word text refused
 PerformsSingle moment before order after text refused = PerformsOrder moment before order after text refused
 
 -- a single order was done, whatever it prints, or nothing was

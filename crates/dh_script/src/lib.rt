@@ -12,10 +12,10 @@ mod report;
 mod script;
 
 pub use fault::{RunFault, ScriptFault};
-pub use laws::lines_are_calls;
+pub use laws::{lines_are_calls, lines_have_words};
 pub use orders::{Printed, is_bad_target, perform, perform_single};
 pub use outcomes::outcome_text;
 pub use reading::read_script;
-pub use reasons::Reason;
+pub use reasons::{Reason, read_reason};
 pub use report::{RefusedLine, Report};
-pub use script::{MOST_SCRIPT_BYTES, run_script};
+pub use script::{MOST_SCRIPT_BYTES, has_words, perform_line, run_script, words_of};

@@ -2,6 +2,7 @@
 
 ghost use Rattle.std.specs.Prelude.{◌≡◌, string_bytes, false, None, IfOk};
 ghost use Rattle.dh_desk.specs.Desk.{WorldGoesBy};
+ghost use Rattle.dh_script.specs.Explaining.{ExplainsList, ListsFor};
 ghost use Rattle.dh_script.specs.Reasons.{BlamesStore, ExplainsRefusal, reason_of_list};
 ghost use Rattle.dh_script.specs.Script.{ListsAt, TellsList};
 
@@ -30,6 +31,7 @@ fn listed(alloc: Global, text: &Text) -> Result<Printed, AllocError>
 /// What is printed for a list, or for its failure.
 fn told_list(alloc: Global, answer: &Found<Text>) -> Result<Printed, AllocError>
     ensures tells { IfOk result (λ p. TellsList answer.now (string_bytes p.text) p.refused) }
+    ensures why { IfOk result (λ p. ExplainsList answer.now (string_bytes p.text) p.reason) }
     ensures explains { IfOk result (λ p. ExplainsRefusal p.reason (string_bytes p.text) p.refused) }
     ensures reason { IfOk result (λ p. p.reason ≡ reason_of_list answer.now) }
 {
@@ -40,18 +42,22 @@ fn told_list(alloc: Global, answer: &Found<Text>) -> Result<Printed, AllocError>
     }
 }
 
-/// Does a word that lists.
+/// Does a word that lists. `now` is the moment of a list of what a caller sees that gives none of its own.
 pub fn list<S: Alter>(
     alloc: Global,
     desk: &mut Desk<S>,
     word: &ListWord,
+    now: u64,
 ) -> Result<Printed, AllocError>
     ensures lists { WorldGoesBy S.Store desk.old desk.new
         (λ before after. (after ≡ before) × IfOk result
-        (λ p. ListsAt before word.now (string_bytes p.text) p.refused)) }
+        (λ p. ListsAt now before word.now (string_bytes p.text) p.refused)) }
+    ensures why { WorldGoesBy S.Store desk.old desk.new
+        (λ before after. (after ≡ before) × IfOk result
+        (λ p. ListsFor now before word.now (string_bytes p.text) p.reason)) }
     ensures explains { IfOk result (λ p. ExplainsRefusal p.reason (string_bytes p.text) p.refused) }
     ensures told { IfOk result (λ p. BlamesStore S.Store desk.old desk.new p.reason) }
 {
-    let answer = desk.list(alloc, word);
+    let answer = desk.list(alloc, word, now);
     told_list(alloc, &answer)
 }

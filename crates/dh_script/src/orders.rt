@@ -4,6 +4,8 @@ ghost use Rattle.std.specs.Prelude.{◌≡◌, true, Some, string_bytes, IfOk, O
 ghost use Rattle.std.specs.Option.{is_none};
 ghost use Rattle.dh_paths.specs.Targets.{target_of};
 ghost use Rattle.dh_desk.specs.Desk.{WorldGoesBy};
+ghost use Rattle.dh_script.specs.Explaining.{ExplainsOutcome, ExplainsUsage, GetsFor};
+ghost use Rattle.dh_script.specs.Explaining.{PerformsFor, PerformsSingleFor};
 ghost use Rattle.dh_script.specs.Reasons.{BlamesStore, ExplainsRefusal, reason_of as spec_reason};
 ghost use Rattle.dh_script.specs.Script.{TellsOutcome, GetsAt};
 ghost use Rattle.dh_script.specs.Script.{IsUsage, PerformsOrder, MayDoOrder};
@@ -34,6 +36,7 @@ pub struct Printed {
 /// What is printed for an outcome.
 pub(crate) fn told(alloc: Global, outcome: &Outcome) -> Result<Printed, AllocError>
     ensures tells { IfOk result (λ p. TellsOutcome outcome.now (string_bytes p.text) p.refused) }
+    ensures why { IfOk result (λ p. ExplainsOutcome outcome.now (string_bytes p.text) p.reason) }
     ensures explains { IfOk result (λ p. ExplainsRefusal p.reason (string_bytes p.text) p.refused) }
     ensures reason { IfOk result (λ p. p.reason ≡ spec_reason outcome.now) }
 {
@@ -63,6 +66,7 @@ fn refusal(alloc: Global, text: &str, reason: Reason) -> Result<Printed, AllocEr
 /// What is printed for an order that is no command and no read.
 pub fn usage(alloc: Global) -> Result<Printed, AllocError>
     ensures tells { IfOk result (λ p. IsUsage (string_bytes p.text) p.refused) }
+    ensures why { IfOk result (λ p. ExplainsUsage (string_bytes p.text) p.reason) }
     ensures explains { IfOk result (λ p. ExplainsRefusal p.reason (string_bytes p.text) p.refused) }
     ensures reason { IfOk result (λ p. p.reason ≡ Some Reason.Usage) }
 {
@@ -80,6 +84,9 @@ fn do_read<S: Alter>(
     ensures gets { WorldGoesBy S.Store desk.old desk.new
         (λ before after. (after ≡ before) × IfOk result
         (λ p. GetsAt before host.now pass.now moment (Some target) (string_bytes p.text) p.refused)) }
+    ensures why { WorldGoesBy S.Store desk.old desk.new
+        (λ before after. (after ≡ before) × IfOk result
+        (λ p. GetsFor before host.now pass.now moment (Some target) (string_bytes p.text) p.reason)) }
     ensures explains { IfOk result (λ p. ExplainsRefusal p.reason (string_bytes p.text) p.refused) }
     ensures told { IfOk result (λ p. BlamesStore S.Store desk.old desk.new p.reason) }
 {
@@ -105,6 +112,10 @@ fn do_get<S: Alter>(
         (λ before after. (after ≡ before) × IfOk result
         (λ p. GetsAt before host.now pass.now moment (target_of target.now)
         (string_bytes p.text) p.refused)) }
+    ensures why { WorldGoesBy S.Store desk.old desk.new
+        (λ before after. (after ≡ before) × IfOk result
+        (λ p. GetsFor before host.now pass.now moment (target_of target.now)
+        (string_bytes p.text) p.reason)) }
     ensures explains { IfOk result (λ p. ExplainsRefusal p.reason (string_bytes p.text) p.refused) }
     ensures told { IfOk result (λ p. BlamesStore S.Store desk.old desk.new p.reason) }
 {
@@ -137,6 +148,8 @@ pub fn perform<S: Alter>(
 ) -> Result<Printed, AllocError>
     ensures performs { WorldGoesBy S.Store desk.old desk.new (λ before after. IfOk result
         (λ p. PerformsOrder now before order.now after (string_bytes p.text) p.refused)) }
+    ensures why { WorldGoesBy S.Store desk.old desk.new (λ before after. IfOk result
+        (λ p. PerformsFor now before order.now after (string_bytes p.text) p.reason)) }
     ensures may { WorldGoesBy S.Store desk.old desk.new
         (λ before after. OnErr result (MayDoOrder now before order.now after)) }
     ensures explains { IfOk result (λ p. ExplainsRefusal p.reason (string_bytes p.text) p.refused) }
@@ -170,13 +183,15 @@ pub fn perform_single<S: Alter>(
 ) -> Result<Printed, AllocError>
     ensures performs { WorldGoesBy S.Store desk.old desk.new (λ before after. IfOk result
         (λ p. PerformsSingle now before order.now after (string_bytes p.text) p.refused)) }
+    ensures why { WorldGoesBy S.Store desk.old desk.new (λ before after. IfOk result
+        (λ p. PerformsSingleFor now before order.now after (string_bytes p.text) p.reason)) }
     ensures may { WorldGoesBy S.Store desk.old desk.new
         (λ before after. OnErr result (MayDoSingle now before order.now after)) }
     ensures explains { IfOk result (λ p. ExplainsRefusal p.reason (string_bytes p.text) p.refused) }
     ensures told { IfOk result (λ p. BlamesStore S.Store desk.old desk.new p.reason) }
 {
     match order {
-        Order::List(word) => list(alloc, desk, word),
+        Order::List(word) => list(alloc, desk, word, now),
         Order::Act(_)
         | Order::Get { .. }
         | Order::Import { .. }

@@ -1,4 +1,8 @@
-//! Why what a line asks for was not done, and what people are told of it.
+//! Why what a line asks for was not done, as data, and what people are told of it.
+
+ghost use Rattle.std.specs.Prelude.{◌≡◌};
+ghost use Rattle.dh_script.specs.Reasons as spec;
+ghost use Rattle.dh_script.specs.Reasons.{ReadsReason, ReadsRefusal};
 
 use dh_ports::Fault;
 use dh_world::Refusal;
@@ -16,7 +20,119 @@ pub enum Reason {
     Usage,
 }
 
+/// Which of its six faults a redirect has, behind the number of its refusal.
+fn redirect_code(number: u8) -> &'static str
+    ensures { result.now ≡ spec.redirect_code number }
+{
+    match number {
+        1 => "7.1",
+        2 => "7.2",
+        3 => "7.3",
+        4 => "7.4",
+        5 => "7.5",
+        _ => "7.6",
+    }
+}
+
+/// The number of a refusal, as text.
+fn refusal_code(refusal: Refusal) -> &'static str
+    ensures { result.now ≡ spec.refusal_code refusal }
+{
+    match refusal {
+        Refusal::BadHost => "1",
+        Refusal::BadLang => "2",
+        Refusal::BadRef => "3",
+        Refusal::BadPath => "4",
+        Refusal::BadPage => "5",
+        Refusal::BadPattern => "6",
+        Refusal::BadRedirect(number) => redirect_code(number),
+        Refusal::BadToken => "8",
+        Refusal::BadKey => "9",
+        Refusal::NoProject => "10",
+        Refusal::ProjectTaken => "11",
+        Refusal::WrongKey => "12",
+        Refusal::LangTaken => "13",
+        Refusal::NoLang => "14",
+        Refusal::NoVersion => "15",
+        Refusal::SlugTaken => "16",
+        Refusal::Inactive => "17",
+        Refusal::BadPlace => "18",
+        Refusal::TooMany => "19",
+        Refusal::PassTaken => "20",
+        Refusal::NoPass => "21",
+        Refusal::PatternRefused(_) => "22",
+        Refusal::Store => "23",
+        Refusal::OutOfMemory => "24",
+        Refusal::BadUntil => "25",
+    }
+}
+
+/// The refusal that a word of digits tells, where it tells one.
+fn read_refusal(word: &str) -> Option<Refusal>
+    ensures { ReadsRefusal word.now result }
+{
+    match word {
+        "1" => Some(Refusal::BadHost),
+        "2" => Some(Refusal::BadLang),
+        "3" => Some(Refusal::BadRef),
+        "4" => Some(Refusal::BadPath),
+        "5" => Some(Refusal::BadPage),
+        "6" => Some(Refusal::BadPattern),
+        "7.1" => Some(Refusal::BadRedirect(1)),
+        "7.2" => Some(Refusal::BadRedirect(2)),
+        "7.3" => Some(Refusal::BadRedirect(3)),
+        "7.4" => Some(Refusal::BadRedirect(4)),
+        "7.5" => Some(Refusal::BadRedirect(5)),
+        "7.6" => Some(Refusal::BadRedirect(6)),
+        "8" => Some(Refusal::BadToken),
+        "9" => Some(Refusal::BadKey),
+        "10" => Some(Refusal::NoProject),
+        "11" => Some(Refusal::ProjectTaken),
+        "12" => Some(Refusal::WrongKey),
+        "13" => Some(Refusal::LangTaken),
+        "14" => Some(Refusal::NoLang),
+        "15" => Some(Refusal::NoVersion),
+        "16" => Some(Refusal::SlugTaken),
+        "17" => Some(Refusal::Inactive),
+        "18" => Some(Refusal::BadPlace),
+        "19" => Some(Refusal::TooMany),
+        "20" => Some(Refusal::PassTaken),
+        "21" => Some(Refusal::NoPass),
+        "22" => Some(Refusal::PatternRefused(0)),
+        "23" => Some(Refusal::Store),
+        "24" => Some(Refusal::OutOfMemory),
+        "25" => Some(Refusal::BadUntil),
+        _ => None,
+    }
+}
+
+/// Reads the reason that a word tells, where it tells one. The place of a rule is not in it.
+pub fn read_reason(word: &str) -> Option<Reason>
+    ensures { ReadsReason word.now result }
+{
+    match word {
+        "store" => Some(Reason::Failed(Fault::Store)),
+        "memory" => Some(Reason::Failed(Fault::Memory)),
+        "target" => Some(Reason::BadTarget),
+        "usage" => Some(Reason::Usage),
+        _ => Some(Reason::Refused(read_refusal(word)?)),
+    }
+}
+
 impl Reason {
+    /// The reason in one word, for programs: the number of a refusal, for a redirect with its fault, and else a name.
+    pub fn code(self) -> &'static str
+        ensures { result.now ≡ spec.reason_code self }
+    {
+        match self {
+            Reason::Refused(refusal) => refusal_code(refusal),
+            Reason::Failed(Fault::Store) => "store",
+            Reason::Failed(Fault::Memory) => "memory",
+            Reason::BadTarget => "target",
+            Reason::Usage => "usage",
+        }
+    }
+
     /// What is wrong, as a sentence without its end, and what to do where that is plain.
     pub fn sentence(self) -> &'static str {
         match self {

@@ -7,9 +7,10 @@ ghost use Rattle.dh_desk.specs.Desk.{WorldGoesBy};
 ghost use Rattle.dh_word_tables.specs.Apps.{StandsFor};
 ghost use Rattle.dh_lines.specs.App.{docs_app};
 ghost use Rattle.dh_lines.specs.Lines.{line_in};
+ghost use Rattle.dh_script.specs.Explaining.{DoesLineFor};
 ghost use Rattle.dh_script.specs.Reading.{IsCause, IsScript, TookAtMost, reader_failed, writer_failed};
 ghost use Rattle.dh_script.specs.Script.{DoesLine, MayDoLine, is_unread};
-ghost use Rattle.dh_script.specs.Running.{Ran, RanBut, RunsScript, lines_in, words_seen, stopped_by_writer, words_in, worded};
+ghost use Rattle.dh_script.specs.Running.{Ran, RanBut, RunsScript, is_filled, lines_in, words_seen, stopped_by_writer, words_in, worded};
 
 use crate::fault::{RunFault, ScriptFault};
 use crate::orders::{Printed, perform, usage};
@@ -36,6 +37,8 @@ fn own_line<S: Alter>(
 ) -> Result<Printed, AllocError>
     ensures does { WorldGoesBy S.Store desk.old desk.new (λ before after. IfOk result
         (λ p. DoesLine now before (Some line.now) after (string_bytes p.text))) }
+    ensures why { WorldGoesBy S.Store desk.old desk.new (λ before after. IfOk result
+        (λ p. DoesLineFor now before (Some line.now) after (string_bytes p.text) p.reason)) }
     ensures may { WorldGoesBy S.Store desk.old desk.new
         (λ before after. OnErr result (MayDoLine now before (Some line.now) after)) }
 {
@@ -58,6 +61,9 @@ fn line_printed<'a, S: Alter>(
     ensures does { WorldGoesBy S.Store desk.old desk.new (λ before after. IfOk result
         (λ p. DoesLine now before (line_in (map string_bytes words.now)) after
         (string_bytes p.text))) }
+    ensures why { WorldGoesBy S.Store desk.old desk.new (λ before after. IfOk result
+        (λ p. DoesLineFor now before (line_in (map string_bytes words.now)) after
+        (string_bytes p.text) p.reason)) }
     ensures may { WorldGoesBy S.Store desk.old desk.new
         (λ before after. OnErr result
         (MayDoLine now before (line_in (map string_bytes words.now)) after)) }
@@ -124,8 +130,8 @@ fn run_batch<'a, S: Alter, W: Sink>(
     Ok(())
 }
 
-/// Splits a line into its words, which stand between spaces and tabs. A comment has none.
-fn words_of(alloc: Global, line: &str) -> Result<Vec<String>, AllocError>
+/// Splits a line of a script into its words, which stand between spaces and tabs. A comment has none.
+pub fn words_of(alloc: Global, line: &str) -> Result<Vec<String>, AllocError>
     ensures { IfOk result (λ words. map string_bytes words.items ≡ words_in line.now) }
 {
     let mut words = Vec::new(alloc);
@@ -138,6 +144,36 @@ fn words_of(alloc: Global, line: &str) -> Result<Vec<String>, AllocError>
         }
     }
     Ok(words)
+}
+
+/// Whether a line of a script has words, and so does something and prints a line.
+pub fn has_words(alloc: Global, line: &str) -> Result<bool, AllocError>
+    ensures { IfOk result (λ has. has ≡ is_filled (words_in line.now)) }
+{
+    let words = words_of(alloc, line)?;
+    Ok(!words.is_empty())
+}
+
+/// Does one line of a script, as `run_script` does each of its lines, and gives what the line prints. A line without words prints
+/// `usage`.
+pub fn perform_line<S: Alter>(
+    alloc: Global,
+    desk: &mut Desk<S>,
+    line: &str,
+    now: u64,
+) -> Result<Printed, AllocError>
+    ensures does { WorldGoesBy S.Store desk.old desk.new (λ before after. IfOk result
+        (λ p. DoesLine now before (line_in (words_in line.now)) after (string_bytes p.text))) }
+    ensures why { WorldGoesBy S.Store desk.old desk.new (λ before after. IfOk result
+        (λ p. DoesLineFor now before (line_in (words_in line.now)) after
+        (string_bytes p.text) p.reason)) }
+    ensures may { WorldGoesBy S.Store desk.old desk.new
+        (λ before after. OnErr result
+        (MayDoLine now before (line_in (words_in line.now)) after)) }
+{
+    let words = words_of(alloc, line)?;
+    let mut program = docs_command(alloc)?;
+    line_printed(alloc, desk, &mut program, words.as_slice(), now)
 }
 
 /// Adds the words of a line to a batch, unless it has none. A report expects each line that is added.

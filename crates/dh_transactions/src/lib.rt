@@ -1,5 +1,5 @@
 //! Commands on the tables: each is one transaction, which looks up what the command asks for, makes
-//! the edits that are decided on and the stored rows right after each, and is committed where the
+//! the edits that are decided on and then the stored rows right, and is committed where the
 //! command is accepted.
 //!
 //! The way of a command, crate by crate, with `add-pass` as the example. `dh_lines` reads the words into a
@@ -8,7 +8,7 @@
 //! texts and makes a `CheckedChange` (`check`). `dh_plans` says what the command asks of the project (`questions_of`),
 //! `dh_facts` looks that up as `Facts` (`look`), and `dh_decisions` decides on a `Plan` of `Edit`s, or refuses (`decide`; pushes
 //! are decided in `dh_pushes`). `dh_edits` makes each edit (`make_edit`), which writes a row of `dh_records` by a typed call of
-//! `dh_tables` (`tables/passes.rt`). `dh_renewal` makes the stored rows right that the edit leaves wrong (`renew`). What the
+//! `dh_tables` (`tables/passes.rt`). `dh_renewal` makes the stored rows right that the edits leave wrong (`renew`). What the
 //! command means is one definition for each, in `specs/Changes.antt` of `dh_world`.
 #![tactic(auto)]
 

@@ -21,8 +21,7 @@ use dh_world::{Answer, Command, Refusal};
 use sqlite::Alter;
 use std::alloc::Global;
 
-/// Looks up what the command asks for, decides, and makes the edits that are decided on, and the stored rows right after
-/// each.
+/// Looks up what the command asks for, decides, and makes the edits that are decided on, and then the stored rows right.
 fn decide_and_edit<S: Alter>(
     tables: &mut Tables<S>,
     alloc: Global,

@@ -380,7 +380,7 @@ module _ (lists : Lists) (o : Option Text) (c : Caller) (name : Text) where
           go None found e = inl e
           go (Some row) found e = inr (row, e, is ∙ ap Some (sym ((bytes_eq-Decides row.host host).0 (found_passes (is_project host) lists.projects row found))))
 
-  seen_in : (own : Text) → Some own ≡ slug_if_seen lists o c name
+  pub seen_in : (own : Text) → Some own ≡ slug_if_seen lists o c name
       → (own ≡ name) × ((row : ProjectRow) × (project_in lists o ≡ Some (project_of lists row)) × (o ≡ Some row.host) × (is_visible (project_of lists row) c name ≡ true))
   seen_in own e =
       elim standing [
@@ -393,7 +393,7 @@ module _ (lists : Lists) (o : Option Text) (c : Caller) (name : Text) where
       go row is host true told e = let same : own ≡ name = cc in (same, (row, is, host, told))
       go row is host false told e = absurd (not_some lists o c own e)
 
-  unseen_in : None ≡ slug_if_seen lists o c name
+  pub unseen_in : None ≡ slug_if_seen lists o c name
       → (project_in lists o ≡ None) ⊎ ((row : ProjectRow) × (project_in lists o ≡ Some (project_of lists row)) × (is_visible (project_of lists row) c name ≡ false))
   unseen_in e =
       elim standing [

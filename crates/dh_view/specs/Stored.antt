@@ -1,7 +1,8 @@
--- What the stored rows of a host tell: what names stand for, and where its redirects lead.
+-- What the stored rows of a host tell: what names stand for, where its redirects lead, and its pages.
 use Rattle.std.specs.Prelude.{ℕ, Bool, true, not, ◌&&◌, ◌||◌, ◌==◌, nat_lt, if◌then◌else◌, List, [], ◌∷◌, filter, find, Option, Some, None, option_map, option_and_then}
 use Rattle.std.specs.Option.{option_or}
 use Rattle.dh_seen.specs.declared.seen_project.SeenProject.{SeenProject}
+use Rattle.dh_seen.specs.declared.seen_project.StoredPage.{StoredPage}
 use Rattle.dh_redirects.specs.declared.redirect.Asked.{Asked}
 use Rattle.dh_redirects.specs.declared.redirect.Location.{Location}
 use Rattle.dh_redirects.specs.FirstResult.{result_in}
@@ -10,6 +11,7 @@ use Rattle.dh_tables.specs.Listing.{is_redirect_at}
 use Rattle.dh_records.specs.Lists.{Lists, is_route_in}
 use Rattle.dh_records.specs.declared.records.AliasName.{AliasName}
 use Rattle.dh_records.specs.declared.records.AliasName.TheVariants.{Latest, Stable, Default}
+use Rattle.dh_records.specs.declared.records.PageRow.{PageRow}
 use Rattle.dh_records.specs.declared.records.RedirectRow.{RedirectRow}
 use Rattle.dh_records.specs.declared.records.RouteRow.{RouteRow}
 use Rattle.dh_world.specs.World.{Text}
@@ -19,6 +21,12 @@ abbrev pub stands_for : AliasName → SeenProject → Option Text
 stands_for Latest p = p.latest
 stands_for Stable p = p.stable
 stands_for Default p = p.«default»
+
+-- ---- pages
+
+-- the page of a record, as a project has it
+abbrev pub page_of_row : PageRow → StoredPage
+page_of_row x = record { lang = x.lang; slug = x.slug; path = x.path; page = x.page }
 
 -- ---- redirects
 

@@ -6,6 +6,7 @@ ghost use Rattle.dh_view.specs.Right.{IsRightAt};
 
 mod aliases;
 mod looking;
+mod pages;
 mod redirects;
 mod versions;
 

@@ -29,9 +29,9 @@ use Rattle.dh_script.specs.Running.{RunsScript}
 use Rattle.dh_lines.specs.Lines.{asking, line_in}
 use Rattle.docs_host.specs.Ends.{Ended, EndsError, EndsHelp, EndsScript, EndsChecked, EndsOver, EndsOrdered, EndsList, EndsAsked, EndsFirst, EndsVersion, EndsWords}
 use Rattle.docs_host.specs.Ends.{is_failure_status, status_after, may_end_order, may_end_single, asks_help, asks_version, line_asked, line_run}
-use Rattle.docs_host.specs.Failing.{may_fail, IsDoneOr, is_of_output, is_of_init, is_of_list, is_of_script, is_of_command, is_of_opened, is_of_order, is_of_sent, may_be_sent, is_of_checked, is_of_file, is_of_memory}
+use Rattle.docs_host.specs.Failing.{may_fail, IsDoneOr, is_of_output, is_of_init, is_of_list, is_of_script, is_of_single, is_of_command, is_of_opened, is_of_order, is_of_sent, may_be_sent, is_of_checked, is_of_file, is_of_memory}
 use Rattle.docs_host.specs.Failures.{failure_of}
-use Rattle.docs_host.specs.Orders.{OrdersImport, RunsRequest, AnswersOne, ServesUpTo, bad_record, has_bad_target, import_order}
+use Rattle.docs_host.specs.Orders.{OrdersImport, RunsRequest, AnswersOne, ServesUpTo, bad_record, has_bad_target, import_order, is_act}
 use Rattle.docs_host.specs.declared.by_server.ControlFault.{ControlFault}
 use Rattle.docs_host.specs.declared.failure.Failure.{Failure}
 use Rattle.docs_host.specs.declared.failure.Failure.TheVariants.{File, List as OfList, Store, Memory, Bind, Socket, Control, Write, Script, Request}
@@ -155,7 +155,7 @@ faulty_order (order.Init file) = refl
 faulty_order (order.Migrate file) = refl
 faulty_order order.Script = refl
 faulty_order order.Answer = refl
-faulty_order (order.Serve count port log) = refl
+faulty_order (order.Serve count port log wait) = refl
 
 done_order : (o : Order) → IsTrue (may_end_order o Done)
 done_order (order.Act command) = refl
@@ -166,7 +166,7 @@ done_order (order.Init file) = refl
 done_order (order.Migrate file) = refl
 done_order order.Script = refl
 done_order order.Answer = refl
-done_order (order.Serve count port log) = refl
+done_order (order.Serve count port log wait) = refl
 
 module _ (held now : Option Text) (o : Order) where
   -- each run may end with a fault
@@ -195,12 +195,12 @@ module _ (held now : Option Text) (o : Order) where
       by (order.Act command) it = refl
       by (order.Get host target pass own) it = refl
       by (order.List word) it = refl
-      by (order.Import host list) it = absurd (true≢false (sym it))
+      by (order.Import host list) it = refl
       by (order.Init file) it = absurd (true≢false (sym it))
       by (order.Migrate file) it = absurd (true≢false (sym it))
       by order.Script it = refl
       by order.Answer it = absurd (true≢false (sym it))
-      by (order.Serve count port log) it = absurd (true≢false (sym it))
+      by (order.Serve count port log wait) it = absurd (true≢false (sym it))
 
   pub opened_sent : (f : Failure) → MayEnd (is_of_opened o) f → MayEnd (is_of_sent o) f
   opened_sent (File fault) it = refl
@@ -213,6 +213,10 @@ module _ (held now : Option Text) (o : Order) where
   opened_sent Write it = it
   opened_sent (Script fault) it = it
   opened_sent (Request fault) it = it
+
+  pub as_sent : (r : Result Status Failure) → Ended (λ s. IsTrue (may_end_order o s)) (is_of_opened o) r → Ended (λ s. IsTrue (may_end_order o s)) (is_of_sent o) r
+  as_sent (Ok s) it = it
+  as_sent (Err f) it = (it.0, opened_sent f it.1)
 
   pub opened_ended : (r : Result Status Failure) → has_bad_target o ≡ false
       → Ended (λ s. IsTrue (may_end_order o s)) (is_of_opened o) r → Ended (EndsOver o held now) (is_of_file o) r
@@ -239,6 +243,43 @@ module _ (held now : Option Text) (o : Order) where
       → IsErrAnd r (λ failure. failure ≡ File f) → Ended (λ s. IsTrue (may_end_order o s)) (is_of_opened o) r
   file_failed f r is = handed_on (Ended (λ s. IsTrue (may_end_order o s)) (is_of_opened o)) (File f) r is (faulty_order o, refl)
 
+-- ---- by the server of a file
+
+module _ (c : Command) where
+  single_sent : (f : Failure) → MayEnd is_of_single f → MayEnd (is_of_sent (order.Act c)) f
+  single_sent (File fault) it = refl
+  single_sent (OfList fault) it = it
+  single_sent Store it = it
+  single_sent Memory it = refl
+  single_sent Bind it = it
+  single_sent (Socket fault) it = it
+  single_sent (Control fault) it = refl
+  single_sent Write it = refl
+  single_sent (Script fault) it = it
+  single_sent (Request fault) it = it
+
+  command_sent : (r : Result Status Failure) → Ended (λ s. IsTrue (may_end_single s)) is_of_single r
+      → Ended (λ s. IsTrue (may_end_order (order.Act c) s)) (is_of_sent (order.Act c)) r
+  command_sent (Ok s) it = it
+  command_sent (Err f) it = (it.0, single_sent f it.1)
+
+-- a command was sent
+pub act_sent : (o : Order) (r : Result Status Failure) → is_act o ≡ true → Ended (λ s. IsTrue (may_end_single s)) is_of_single r
+    → Ended (λ s. IsTrue (may_end_order o s)) (is_of_sent o) r
+act_sent (order.Act command) r is it = command_sent command r it
+act_sent (order.Get host target pass own) r is it = absurd (true≢false (sym is))
+act_sent (order.Import host list) r is it = absurd (true≢false (sym is))
+act_sent (order.List word) r is it = absurd (true≢false (sym is))
+act_sent (order.Init file) r is it = absurd (true≢false (sym is))
+act_sent (order.Migrate file) r is it = absurd (true≢false (sym is))
+act_sent order.Script r is it = absurd (true≢false (sym is))
+act_sent order.Answer r is it = absurd (true≢false (sym is))
+act_sent (order.Serve count port log wait) r is it = absurd (true≢false (sym is))
+
+-- what a list orders is a command
+pub list_orders_act : (host : Text) (bytes : List ℕ) (o : Order) → OrdersImport host bytes (Ok o) → is_act o ≡ true
+list_orders_act host bytes o orders = ap is_act orders.2
+
 -- ---- an import
 
 single_faulty : (s : Status) → s ≡ Faulty → IsTrue (may_end_single s)
@@ -252,19 +293,19 @@ output_fails Store it = it
 output_fails Memory it = refl
 output_fails Bind it = it
 output_fails (Socket fault) it = it
-output_fails (Control fault) it = it
+output_fails (Control fault) it = refl
 output_fails Write it = refl
 output_fails (Script fault) it = it
 output_fails (Request fault) it = it
 
-act_fails : (c : Command) (f : Failure) → MayEnd (is_of_opened (order.Act c)) f → MayEnd is_of_command f
+act_fails : (c : Command) (f : Failure) → MayEnd (is_of_sent (order.Act c)) f → MayEnd is_of_command f
 act_fails c (File fault) it = refl
 act_fails c (OfList fault) it = it
 act_fails c Store it = it
 act_fails c Memory it = refl
 act_fails c Bind it = it
 act_fails c (Socket fault) it = it
-act_fails c (Control fault) it = it
+act_fails c (Control fault) it = refl
 act_fails c Write it = refl
 act_fails c (Script fault) it = it
 act_fails c (Request fault) it = it
@@ -281,10 +322,10 @@ module _ (host : Text) (bytes : List ℕ) (held now : Option Text) where
       subst (λ (done : Order). EndsOver done held now s) (sym orders.2) at
 
   pub command_ended : (o : Order) (r : Result Status Failure) → OrdersImport host bytes (Ok o)
-      → Ended (λ s. IsTrue (may_end_order o s)) (is_of_opened o) r → EndsListed r
+      → Ended (λ s. IsTrue (may_end_order o s)) (is_of_sent o) r → EndsListed r
   command_ended o (Ok status) orders it = ((Ok o, orders, over_act o status orders it.0), it.1)
   command_ended o (Err f) orders it =
-      let may = subst (λ (done : Order). MayEnd (is_of_opened done) f) orders.2 it.1 in
+      let may = subst (λ (done : Order). MayEnd (is_of_sent done) f) orders.2 it.1 in
       ((Ok o, orders, over_act o (status_after f) orders it.0), act_fails (asking host (ImportRedirects orders.0)) f may)
 
   -- a record of it was refused
@@ -318,7 +359,7 @@ module _ (host list : Text) (held now : Option Text) where
   command_may Memory it = refl
   command_may Bind it = it
   command_may (Socket fault) it = it
-  command_may (Control fault) it = it
+  command_may (Control fault) it = refl
   command_may Write it = refl
   command_may (Script fault) it = it
   command_may (Request fault) it = it
@@ -335,7 +376,7 @@ module _ (host list : Text) (held now : Option Text) where
   list_may Memory it = (refl, refl)
   list_may Bind it = (refl, it)
   list_may (Socket fault) it = (refl, it)
-  list_may (Control fault) it = (refl, it)
+  list_may (Control fault) it = (refl, refl)
   list_may Write it = (refl, refl)
   list_may (Script fault) it = (refl, it)
   list_may (Request fault) it = absurd (cc)

@@ -1,4 +1,5 @@
 pub mod Asking
 pub mod Ending
+pub mod Lines
 pub mod Telling
 pub mod Messages

@@ -93,7 +93,7 @@ may_end_request status = may_end status
 
 abbrev pub may_end_order : Order → Status → Bool
 may_end_order order.Script status = may_end status
-may_end_order (order.Serve count port log) status = may_end status
+may_end_order (order.Serve count port log wait) status = may_end status
 may_end_order order.Answer status = may_end_request status
 may_end_order _ status = may_end_single status
 

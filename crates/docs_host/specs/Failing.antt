@@ -55,16 +55,27 @@ abbrev pub is_of_list : Failure → Bool
 is_of_list (List fault) = true
 is_of_list failure = false
 
--- a failure of a command over a file: the file's, or the output's
+-- a failure of a single order that is sent to the server of a file: the file's, the server's, or the output's
+abbrev pub is_of_single : Failure → Bool
+is_of_single (File fault) = true
+is_of_single (Control fault) = true
+is_of_single failure = is_of_output failure
+
+-- a failure of lines that are sent to the server of a file
+abbrev pub is_of_lines : Failure → Bool
+is_of_lines (File fault) = true
+is_of_lines (Control fault) = true
+is_of_lines failure = is_of_script failure
+
+-- a failure of a command over a file, by this run or by the server that has the file
 abbrev pub is_of_command : Failure → Bool
-is_of_command (File fault) = true
-is_of_command failure = is_of_output failure
+is_of_command failure = is_of_single failure
 
 -- a failure of an order over a desk
 abbrev pub is_of_order : Order → Failure → Bool
 is_of_order order.Script failure = is_of_script failure
 is_of_order order.Answer failure = is_of_request failure
-is_of_order (order.Serve count port log) failure = is_of_server failure
+is_of_order (order.Serve count port log wait) failure = is_of_server failure
 is_of_order (order.Import host list) (List fault) = true
 is_of_order order failure = is_of_output failure
 
@@ -77,6 +88,7 @@ is_of_opened order failure = is_of_order order failure
 abbrev pub may_be_sent : Order → Bool
 may_be_sent (order.Act command) = true
 may_be_sent (order.Get host target pass own) = true
+may_be_sent (order.Import host list) = true
 may_be_sent (order.List word) = true
 may_be_sent order.Script = true
 may_be_sent order = false

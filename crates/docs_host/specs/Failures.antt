@@ -43,6 +43,8 @@ socket_name socket.Memory = codes "Memory"
 abbrev pub control_name : ControlFault → Text
 control_name control.Untold = codes "Control"
 control_name control.OtherVersion = codes "Control"
+control_name control.OtherFile = codes "Control"
+control_name control.Gone = codes "Control"
 control_name (control.Met fault) = script.script_fault_name fault
 
 abbrev pub request_name : EngineFault → Text

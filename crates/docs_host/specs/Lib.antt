@@ -7,3 +7,4 @@ pub mod Orders
 pub mod OwnStore
 pub mod Sent
 pub mod Telling
+pub mod Trust

@@ -1,7 +1,8 @@
 -- What an order does over a desk.
-use Rattle.std.specs.Prelude.{◌≡◌, ◌⊎◌, ℕ, ◌≤◌, Bool, true, false, is_none, List, [], ◌∷◌, ◌++◌, codes, Option, Result, Ok, Err, IfOk, IfSome}
+use Rattle.std.specs.Prelude.{◌≡◌, ◌⊎◌, ℕ, ◌+◌, ◌≤◌, Bool, true, false, is_none, is_some, List, [], ◌∷◌, ◌++◌, codes, position, Option, Some, None, Result, Ok, Err, IfOk, IfSome}
 use Rattle.std.specs.Fmt.{decimal}
 use Rattle.std.specs.Io.KnownBytes.{Appends}
+use Rattle.std.specs.Option.{option_map}
 use Rattle.dh_histories.specs.declared.call.Call.{Call}
 use Rattle.dh_http.specs.Answers.{AnswersSource, WritesAnswer}
 use Rattle.dh_http.specs.declared.fault.Done.{Done as Answered}
@@ -19,10 +20,15 @@ use Rattle.dh_control.specs.declared.end.End.{End}
 use Rattle.dh_script.specs.declared.fault.ScriptFault.{ScriptFault}
 use Rattle.dh_server.specs.Serving.{Talk}
 use Rattle.dh_server.specs.Turns.{ServesInTurn}
+use Rattle.dh_script.specs.declared.reasons.Reason.{Reason}
+use Rattle.dh_script.specs.declared.reasons.Reason.TheVariants as reason
+use Rattle.dh_redirects.specs.Redirects.{first_fault}
 use Rattle.dh_redirects.specs.declared.redirect.Redirect.{Redirect}
 use Rattle.dh_world.specs.World.{Text, World}
+use Rattle.dh_world.specs.declared.command.CommandChange.{CommandChange}
 use Rattle.dh_world.specs.declared.command.CommandChange.TheVariants.{ImportRedirects}
-use Rattle.docs_host.specs.MessageCalls.{IsFront, calls_of_message}
+use Rattle.dh_world.specs.declared.refusal.Refusal.TheVariants.{BadRedirect}
+use Rattle.docs_host.specs.MessageCalls.{AreCallsOf, IsFront}
 use Rattle.docs_host.specs.declared.failure.Failure.{Failure}
 use Rattle.docs_host.specs.declared.failure.Failure.TheVariants.{Request}
 use Rattle.docs_host.specs.declared.failure.Status.{Status}
@@ -45,6 +51,11 @@ single_status false = Done
 abbrev pub import_order : Text → List Redirect → Order
 import_order host list = order.Act (asking host (ImportRedirects list))
 
+-- the order is a command
+abbrev pub is_act : Order → Bool
+is_act (order.Act command) = true
+is_act order = false
+
 -- what an import of a list of these bytes into a project orders: the command that adds the list's redirects; or what is wrong
 -- with the list
 abbrev pub OrdersImport : Text → List ℕ → Result Order ListFault → Type 0
@@ -52,6 +63,19 @@ OrdersImport host bytes (Ok order) =
     (redirects : List Redirect) × ReadsList bytes (Ok redirects)
     × (order ≡ import_order host redirects)
 OrdersImport host bytes (Err fault) = ReadsList bytes (Err fault)
+
+-- the first record of a list that writes a redirect with a fault, from 1
+abbrev pub first_bad : List Redirect → Option ℕ
+first_bad list = option_map (λ at. at + 1) (position (λ redirect. is_some (first_fault redirect)) list)
+
+abbrev pub record_by : CommandChange → Reason → Option ℕ
+record_by (ImportRedirects list) (reason.Refused (BadRedirect fault)) = first_bad list
+record_by change reason = None
+
+-- the record of an import that was refused, where a redirect was
+abbrev pub record_refused : Order → Reason → Option ℕ
+record_refused (order.Act command) reason = record_by command.change reason
+record_refused order reason = None
 
 -- what is printed of a list whose record of this number writes no redirect
 abbrev pub bad_record : ℕ → Text
@@ -74,21 +98,22 @@ RunsRequest moment before after left held now (Err (Request fault)) =
     WritesAnswer (AnswersSource moment left before after) held now (Err fault)
 RunsRequest moment before after left held now (Err failure) = ⊥
 
--- a message was done, whose first calls these are; or it was not read, and none was done
-abbrev pub TakesCalls : ℕ → Option Text → List Call → World → World → Option Text → Option Text → Result End ScriptFault → Type 0
-TakesCalls moment left calls before after held now result =
+-- a message was done by a server of this file, whose first calls these are; or it was not read, and none was done
+abbrev pub TakesCalls : ℕ → Text → Option Text → List Call → World → World → Option Text → Option Text → Result End ScriptFault → Type 0
+TakesCalls moment file left calls before after held now result =
     ((message : Text) × IfSome left (λ input. message ≡ input)
-    × DoesMessage moment message before after held now result
-    × IsFront calls (calls_of_message moment message))
+    × DoesMessage moment file message before after held now result
+    × ((all : List Call) × AreCallsOf moment file message all × IsFront calls all))
     ⊎ (IsMessageUnread left result × (calls ≡ []) × (after ≡ before) × (now ≡ held))
 
--- the message of a connection was taken, and the last line behind what it printed tells its end; where that line is lost, the
--- writing has failed
+-- the message of a connection was taken by the server of some file, and the last line behind what it printed tells its end; where
+-- that line is lost, the writing has failed
 pub record AnswersOne (moment : ℕ) (talk : Talk) (calls : List Call) (before after : World) : Type 0 where
+  pub file : Text
   pub printed : Option Text
   pub ended : Result End ScriptFault
   pub result : Result End ScriptFault
-  pub takes : TakesCalls moment talk.left calls before after talk.held printed ended
+  pub takes : TakesCalls moment file talk.left calls before after talk.held printed ended
   pub tells : HasLastLine printed talk.now ended result
   pub failed : talk.has_failed ≡ writer_failed result
 
@@ -108,7 +133,7 @@ ServesUpTo gives first last most before after =
 abbrev pub RunsOrder : (ℕ → World → World → Type 0) → ℕ → World → Order → World → Option Text → Option Text → Option Text → Result Status Failure → Type 0
 RunsOrder Serves moment before order.Script after left held now result = RunsScript moment left before after held now result
 RunsOrder Serves moment before order.Answer after left held now result = RunsRequest moment before after left held now result
-RunsOrder Serves moment before (order.Serve count port log) after left held now result = Serves count before after
+RunsOrder Serves moment before (order.Serve count port log wait) after left held now result = Serves count before after
 RunsOrder Serves moment before (order.Act command) after left held now result =
     IfOk result (RunsSingle moment before (order.Act command) after held now)
 RunsOrder Serves moment before (order.Get host target pass own) after left held now result =

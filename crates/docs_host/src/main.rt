@@ -3,12 +3,12 @@
 
 mod by_server;
 mod clock;
-mod explaining;
 mod failure;
 mod lists;
 mod orders;
 mod own_store;
 mod program;
+mod refusing;
 mod sending;
 mod serving;
 mod socket;

@@ -12,7 +12,8 @@ ghost use Rattle.docs_host.specs.Failing.{IsDoneOr, is_of_output, is_of_script, 
 ghost use Rattle.docs_host.specs.Failing.{is_of_order};
 ghost use Rattle.docs_host.specs.Orders.{AreUnbroken, RunsSingle, RunsRequest, RunsOrder, ServesUpTo, single_status};
 
-use crate::failure::{Failure, Status, tell_reason, tell_report};
+use crate::failure::{Failure, Status, tell_report};
+use crate::refusing::tell_refusal;
 use crate::serving::{Served, serve};
 use crate::streams::Streams;
 use dh_http::{Desk, answer};
@@ -64,7 +65,7 @@ fn do_single_order<S: Alter, W: Sink, E: Sink>(
 {
     let printed = perform_single(alloc, desk, order, now)?;
     say(sink, printed.text.as_str())?;
-    tell_reason(errors, printed.reason);
+    tell_refusal(alloc, order, printed.reason, errors);
     Ok(status_told(printed.refused))
 }
 
@@ -164,9 +165,7 @@ pub fn do_order<S: Alter, C: FnMut() -> u64, R: Source, W: Sink, E: Sink>(
             &mut streams.sink,
             now,
         ),
-        Order::Serve { count, port, log } => {
-            serve(rt, desk, served, clock, *count, *port, *log, streams)
-        }
+        Order::Serve { count, log, .. } => { serve(rt, desk, served, clock, *count, *log, streams) }
         Order::Act(_)
         | Order::Get { .. }
         | Order::Import { .. }

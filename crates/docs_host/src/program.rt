@@ -6,18 +6,18 @@ ghost use Rattle.dh_lines.specs.Lines.{line_in};
 ghost use Rattle.docs_host.specs.Ends.{Ended, EndsScript, EndsRequest, EndsOver, EndsList, EndsBy};
 ghost use Rattle.docs_host.specs.Ends.{EndsAsked, EndsWords, EndsProgram};
 ghost use Rattle.docs_host.specs.Ends.{asks_help, asks_version, line_asked, line_run, may_end_order};
-ghost use Rattle.docs_host.specs.Failing.{IsDoneOr, is_of_init, is_of_file, is_of_command, is_of_memory, is_of_opened, is_of_run};
+ghost use Rattle.docs_host.specs.Failing.{IsDoneOr, is_of_init, is_of_file, is_of_command, is_of_memory, is_of_opened, is_of_run, is_of_sent};
 ghost use Rattle.docs_host.specs.Orders as spec;
 ghost use Rattle.docs_host.specs.Orders.{AreUnbroken};
 ghost use Rattle.docs_host.specs.Telling.{TellsEnd};
 ghost use Rattle.docs_host.specs.Telling as telling;
 
-use crate::by_server::run_by_server;
-use crate::failure::{Failure, Status, tell, tell_reason, tell_sentence, tell_usage};
+use crate::by_server::{run_by_server, run_import_by_server};
+use crate::failure::{Failure, Status, tell, tell_reason, tell_usage};
 use crate::lists::{ListFile, order_in, read_list_file, refuse_record};
 use crate::orders::{do_order, run_lines, say};
 use crate::sending::Sockets;
-use crate::serving::{Served, serve_rest};
+use crate::serving::{Places, Served, bind_places, open_within, serve_rest, tell_waiting};
 use crate::streams::Streams;
 use crate::usage::{tell_help, tell_mistake, tell_version};
 use dh_files::{FileDesk, FileFault, close_desk, init_file, migrate_file, open_desk};
@@ -40,10 +40,11 @@ fn has_bad_target(alloc: Global, order: &Order) -> Result<bool, AllocError>
     }
 }
 
-/// Does what is ordered over the desk of a file, and closes the file.
+/// Does what is ordered over the desk of a file, and closes the file. Connections come from the places, where there are some.
 fn run_over_desk<S: Start, C: FnMut() -> u64, R: Source, W: Sink, E: Sink>(
     rt: &HostRuntime,
     opened: (FileDesk<S>, i64),
+    places: Option<Places>,
     order: &Order,
     file: &str,
     streams: &mut Streams<R, W, E>,
@@ -60,6 +61,7 @@ fn run_over_desk<S: Start, C: FnMut() -> u64, R: Source, W: Sink, E: Sink>(
     let mut served = Served {
         file,
         projects,
+        places,
         rest: None,
     };
     let ran = do_order(rt, &mut desk, &mut served, order, streams, clock, now);
@@ -72,24 +74,48 @@ fn run_over_desk<S: Start, C: FnMut() -> u64, R: Source, W: Sink, E: Sink>(
     Ok(status)
 }
 
-/// Tells an import of a file that another program has open what it needs.
-fn tell_held<E: Sink>(fault: FileFault, errors: &mut E)
-    ensures { TellsSome E.broken E.held errors.old errors.new }
-{
-    match fault {
-        FileFault::Busy => tell_sentence(
-            errors,
-            "an import is done by no server: stop the one that has the file, and run it again",
-        ),
-        _ => {}
-    }
-}
-
-/// Does an import over the records of a file, which no other program may have open.
+/// Does an import over the records of a file: `order` is what the list orders. Where a server has the file, asks that server to do
+/// it.
 fn import_over_file<S: Start, C: FnMut() -> u64, R: Source, W: Sink, E: Sink>(
     rt: &HostRuntime,
     start: S,
+    host: &Text,
+    list: &[u8],
     order: &Order,
+    file: &str,
+    streams: &mut Streams<R, W, E>,
+    clock: &mut C,
+    now: u64,
+) -> Result<Status, Failure>
+    requires callable { C.IsAlwaysCallable clock.old }
+    requires ready { AreUnbroken (R.broken streams.old.source) (W.broken streams.old.sink) }
+    requires act { spec.is_act order.now ≡ true }
+    ensures ends { Ended (λ status. IsTrue (may_end_order order.now status))
+        (is_of_sent order.now) result }
+    ensures tells { TellsSome E.broken E.held streams.old.errors streams.new.errors }
+{
+    match open_desk(rt, file, start) {
+        Ok(opened) => run_over_desk(rt, opened, None, order, file, streams, clock, now),
+        Err(FileFault::Busy) => run_import_by_server(
+            rt.alloc(),
+            &mut Sockets { rt },
+            host.as_str(),
+            list,
+            order,
+            file,
+            &mut streams.sink,
+            &mut streams.errors,
+        ),
+        Err(fault) => Err(Failure::File(fault)),
+    }
+}
+
+/// Serves a file that another program has open, once that has closed it. Where a server may have it, nothing is waited for.
+fn serve_later<C: FnMut() -> u64, R: Source, W: Sink, E: Sink>(
+    rt: &HostRuntime,
+    places: Places,
+    order: &Order,
+    wait: u32,
     file: &str,
     streams: &mut Streams<R, W, E>,
     clock: &mut C,
@@ -101,10 +127,44 @@ fn import_over_file<S: Start, C: FnMut() -> u64, R: Source, W: Sink, E: Sink>(
         (is_of_opened order.now) result }
     ensures tells { TellsSome E.broken E.held streams.old.errors streams.new.errors }
 {
-    match open_desk(rt, file, start) {
-        Ok(opened) => run_over_desk(rt, opened, order, file, streams, clock, now),
+    let seconds = if places.are_others() { 0 } else { wait };
+    tell_waiting(rt.alloc(), file, seconds, &mut streams.errors);
+    match open_within(rt, file, seconds) {
+        Ok(opened) => run_over_desk(rt, opened, Some(places), order, file, streams, clock, now),
         Err(fault) => {
-            tell_held(fault, &mut streams.errors);
+            places.give_up(rt, file);
+            Err(Failure::File(fault))
+        }
+    }
+}
+
+/// Serves a file: the port and the control socket are bound first, and answered once the file is open, so that clients and
+/// commands wait meanwhile. For a file that a command has open it waits so many seconds. Faults are told in this order: the file,
+/// the control socket, the port.
+fn serve_file<S: Start, C: FnMut() -> u64, R: Source, W: Sink, E: Sink>(
+    rt: &HostRuntime,
+    start: S,
+    order: &Order,
+    port: u16,
+    wait: u32,
+    file: &str,
+    streams: &mut Streams<R, W, E>,
+    clock: &mut C,
+    now: u64,
+) -> Result<Status, Failure>
+    requires callable { C.IsAlwaysCallable clock.old }
+    requires ready { AreUnbroken (R.broken streams.old.source) (W.broken streams.old.sink) }
+    requires good { spec.has_bad_target order.now ≡ false }
+    ensures ends { Ended (EndsOver order.now (W.held streams.old.sink) (W.held streams.new.sink))
+        (is_of_file order.now) result }
+    ensures tells { TellsSome E.broken E.held streams.old.errors streams.new.errors }
+{
+    let places = bind_places(rt, file, port);
+    match open_desk(rt, file, start) {
+        Ok(opened) => run_over_desk(rt, opened, Some(places), order, file, streams, clock, now),
+        Err(FileFault::Busy) => serve_later(rt, places, order, wait, file, streams, clock, now),
+        Err(fault) => {
+            places.give_up(rt, file);
             Err(Failure::File(fault))
         }
     }
@@ -133,7 +193,7 @@ fn run_over_file<S: Start, C: FnMut() -> u64, R: Source, W: Sink, E: Sink>(
         return Ok(Status::Refused);
     }
     match open_desk(rt, file, start) {
-        Ok(opened) => run_over_desk(rt, opened, order, file, streams, clock, now),
+        Ok(opened) => run_over_desk(rt, opened, None, order, file, streams, clock, now),
         Err(FileFault::Busy) => run_by_server(
             rt.alloc(),
             &mut Sockets { rt },
@@ -213,7 +273,9 @@ fn import_list<S: Start, C: FnMut() -> u64, R: Source, W: Sink, E: Sink>(
     ensures tells { TellsSome E.broken E.held streams.old.errors streams.new.errors }
 {
     match order_in(rt.alloc(), host, list.bytes) {
-        Ok(order) => import_over_file(rt, start, &order, file, streams, clock, now),
+        Ok(order) => import_over_file(
+            rt, start, host, list.bytes, &order, file, streams, clock, now,
+        ),
         Err(ListFault::BadRecord(number, fault)) => {
             refuse_record(rt.alloc(), list.path, number, fault, streams)
         }
@@ -283,6 +345,17 @@ fn run_line<S: Start, C: FnMut() -> u64, R: Source, W: Sink, E: Sink>(
         (Order::Import { host, list }, Some(file)) => {
             import(rt, start, host, list, file.as_str(), streams, clock, now)
         }
+        (Order::Serve { port, wait, .. }, Some(file)) => serve_file(
+            rt,
+            start,
+            &line.order,
+            *port,
+            *wait,
+            file.as_str(),
+            streams,
+            clock,
+            now,
+        ),
         (order, Some(file)) => run_over_file(
             rt,
             start,
@@ -444,7 +517,7 @@ fn tell_version_or_run<S: Start, C: FnMut() -> u64, R: Source, W: Sink, E: Sink>
 /// fault of a store, file, script, port or output, 4 a request without a whole reply.
 ///
 /// A command, a read, a list or a script over a file that a server has open is sent to that server, and the run ends as the
-/// server's answer tells. Faults are found in this order: the words, the target of a read, the list, the file, the control
+/// server's answer tells. Faults are told in this order: the words, the target of a read, the list, the file, the control
 /// socket, the port, the run; where the file is a server's, the script before the file. `now` is the moment of each read that
 /// gives none of its own, in seconds since 1970; a server asks the clock for each of its connections.
 pub fn run_program<S: Start, C: FnMut() -> u64, R: Source, W: Sink, E: Sink>(

@@ -1,9 +1,9 @@
 //! Sending a message to the server that has a file, and reading the answer.
 
-ghost use Rattle.std.specs.Prelude.{◌≡◌, ◌++◌, true, false, List, Option, None, IfSome};
+ghost use Rattle.std.specs.Prelude.{◌≡◌, ◌++◌, true, false, List, Option, None, IfSome, string_bytes, ⊤, ℕ};
 ghost use Rattle.docs_host.specs.Exchanges.{Exchange, OneMore, SendsMessage, exchange_of};
 
-use crate::socket::connect_socket;
+use crate::socket::{connect_socket, name_of};
 use dh_ports::{Port, Sink, Source, put_all};
 use dh_server::Steady;
 use std::alloc::Global;
@@ -27,12 +27,21 @@ pub enum Silence {
     TooLong,
     /// Nobody listens at the file's control socket.
     Nobody,
+    /// What stands there is no socket, or one of another user.
+    Stranger,
 }
 
 /// What asks the servers that have files.
 pub trait Ask {
     // The messages that were sent, to which files, and what came back, in order, where that is told.
     ghost sent: { Self → Option (List Exchange) };
+
+    // The text is the name by which a server knows the file.
+    ghost names: { List ℕ → List ℕ → Type 0 };
+
+    /// The name by which a server knows a file, whatever path leads to it. None where there is no such file, or memory is out.
+    fn name(&self, alloc: Global, file: &str) -> Option<String>
+        ensures { IfSome result (λ name. names file.now (string_bytes name)) };
 
     /// Sends a message to the server that has a file, and gives its answer.
     fn ask(&mut self, alloc: Global, file: &str, message: &[u8]) -> Result<Answer, Silence>
@@ -92,6 +101,12 @@ pub struct Sockets<'a> {
 
 impl<'a> Ask for Sockets<'a> {
     ghost sent = { λ _. None };
+
+    ghost names = { λ _ _. ⊤ };
+
+    fn name(&self, alloc: Global, file: &str) -> Option<String> {
+        name_of(self.rt, alloc, file).ok()
+    }
 
     fn ask(&mut self, alloc: Global, file: &str, message: &[u8]) -> Result<Answer, Silence> {
         let stream = connect_socket(self.rt, file)?;

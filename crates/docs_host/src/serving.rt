@@ -9,7 +9,10 @@ ghost use Rattle.docs_host.specs.Orders.{AnswersOne, ServesBoth, ServesUpTo};
 
 use crate::failure::{Failure, Status, put};
 use crate::orders::say;
-use crate::socket::{SocketFault, bind_socket, remove_socket};
+use crate::socket::{
+    ControlSocket, EarlySocket, Node, SocketFault, bind_early, keep_socket, name_of, node_in,
+    remove_early, remove_socket,
+};
 use crate::streams::Streams;
 use dh_control::answer_message;
 use dh_files::{FileDesk, FileFault, close_desk, open_desk};
@@ -21,13 +24,20 @@ use sqlite_disk::Unknown;
 use std::alloc::Global;
 use std::io;
 use std::net::{SocketAddr, TcpListener};
-use std::os::unix::net::UnixListener;
+
+/// Where connections come from, from before the file is open: clients and commands wait there until it is.
+#[derive(Drop)]
+pub struct Places {
+    /// The port, where it could be bound.
+    port: Option<TcpListener>,
+    socket: Result<EarlySocket, SocketFault>,
+}
 
 /// What was left to serve when the store failed, over the same port and socket.
 #[derive(Drop)]
 pub struct Rest {
     listener: TcpListener,
-    socket: Option<UnixListener>,
+    socket: Option<ControlSocket>,
     /// How many connections are still to be answered.
     count: u32,
     /// Whether the log tells each connection.
@@ -39,6 +49,8 @@ pub struct Rest {
 pub struct Served<'a> {
     pub file: &'a str,
     pub projects: i64,
+    /// Where connections come from; none of an order that serves none.
+    pub places: Option<Places>,
     /// What was left to serve when the store failed.
     pub rest: Option<Rest>,
 }
@@ -52,20 +64,44 @@ fn tell_served<E: Sink>(alloc: Global, file: &str, projects: i64, errors: &mut E
     }
 }
 
-/// Binds a port of this machine, any free one for 0, and tells which.
-fn bind<W: Sink>(rt: &HostRuntime, port: u16, sink: &mut W) -> Result<TcpListener, Failure>
+/// Binds a port of this machine, any free one for 0, and makes the control socket of a file, before the file is open. What could
+/// not be made is told later, behind the faults of the file.
+pub fn bind_places(rt: &HostRuntime, file: &str, port: u16) -> Places {
+    Places {
+        port: TcpListener::bind(rt, SocketAddr::from(([127, 0, 0, 1], port))).ok(),
+        socket: bind_early(rt, file),
+    }
+}
+
+impl Places {
+    /// Whether another server listens at the control socket of the file, or may.
+    pub fn are_others(&self) -> bool {
+        matches!(&self.socket, Ok(EarlySocket::Others))
+    }
+
+    /// Gives up the places of a file that was not opened.
+    pub fn give_up(&self, rt: &HostRuntime, file: &str) {
+        remove_early(rt, file, &self.socket);
+    }
+}
+
+/// Tells which port is answered from now on, where one was bound.
+fn tell_port<W: Sink>(
+    alloc: Global,
+    port: Option<TcpListener>,
+    sink: &mut W,
+) -> Result<TcpListener, Failure>
     requires { W.broken sink.old ≡ false }
     ensures { IfErr result (λ failure. IsTrue (may_fail is_of_server failure)) }
 {
-    let listener = match TcpListener::bind(rt, SocketAddr::from(([127, 0, 0, 1], port))) {
-        Ok(listener) => listener,
-        Err(_) => return Err(Failure::Bind),
+    let Some(listener) = port else {
+        return Err(Failure::Bind);
     };
     let address = match listener.local_addr() {
         Ok(address) => address,
         Err(_) => return Err(Failure::Bind),
     };
-    let text = format!(in rt.alloc(); "listening {address}")?;
+    let text = format!(in alloc; "listening {address}")?;
     say(sink, text.as_str())?;
     Ok(listener)
 }
@@ -79,14 +115,23 @@ fn tell_again<E: Sink>(alloc: Global, file: &str, errors: &mut E)
     }
 }
 
-/// Answers what comes in at the control socket: messages.
+/// The name of a file for messages to its server. Where the system tells none, or memory is out, no message is for this server.
+fn name_or_none(rt: &HostRuntime, file: &str) -> String {
+    match name_of(rt, rt.alloc(), file) {
+        Ok(name) => name,
+        Err(_) => String::new(rt.alloc()),
+    }
+}
+
+/// Answers what comes in at the control socket: messages for the file of this name.
 #[derive(Drop)]
-struct Messages {
+struct Messages<'a> {
+    file: &'a str,
     /// How many messages came; the count stays at 2^64 - 1.
     count: u64,
 }
 
-impl Control for Messages {
+impl<'a> Control for Messages<'a> {
     ghost does = { AnswersOne };
 
     ghost handed = { λ messages. Some messages.count };
@@ -101,15 +146,16 @@ impl Control for Messages {
     ) {
         self.count = self.count.saturating_add(1);
         // The result is told to the client, if it is still there.
-        let _ = answer_message(alloc, desk, source, sink, now);
+        let _ = answer_message(alloc, desk, self.file, source, sink, now);
     }
 }
 
-/// Answers `count` connections over a desk, each at the moment that the clock gives. Where a fault of the store closes the desk,
-/// gives how many are left.
+/// Answers `count` connections over the desk of a file, each at the moment that the clock gives. Where a fault of the store closes
+/// the desk, gives how many are left.
 fn serve_desk<S: Alter, N: Listen, C: FnMut() -> u64, E: Sink>(
     rt: &HostRuntime,
     desk: &mut Desk<S>,
+    file: &str,
     listening: &mut N,
     clock: &mut C,
     count: u32,
@@ -128,11 +174,16 @@ fn serve_desk<S: Alter, N: Listen, C: FnMut() -> u64, E: Sink>(
     ensures tells { TellsSome E.broken E.held errors.old errors.new }
 {
     let log = Log::new(rt, log);
+    let name = name_or_none(rt, file);
+    let mut messages = Messages {
+        file: name.as_str(),
+        count: 0,
+    };
     let served = serve_on(
         rt.alloc(),
         desk,
         listening,
-        &mut Messages { count: 0 },
+        &mut messages,
         clock,
         count,
         &log,
@@ -147,10 +198,10 @@ fn serve_desk<S: Alter, N: Listen, C: FnMut() -> u64, E: Sink>(
 /// Takes connections from a port, and from a control socket where there is one.
 fn listening_at<'a>(
     port: &'a TcpListener,
-    socket: Option<&'a UnixListener>,
+    socket: &'a Option<ControlSocket>,
 ) -> io::Result<Listening<'a>> {
     match socket {
-        Some(socket) => Listening::with_socket(port, socket),
+        Some(socket) => Listening::with_socket(port, &socket.listener),
         None => Ok(Listening::new(port)),
     }
 }
@@ -161,10 +212,10 @@ fn serve_at<S: Alter, C: FnMut() -> u64, R: Source, W: Sink, E: Sink>(
     rt: &HostRuntime,
     desk: &mut Desk<S>,
     served: &mut Served<'_>,
-    socket: Option<UnixListener>,
+    port: Option<TcpListener>,
+    socket: Option<ControlSocket>,
     clock: &mut C,
     count: u32,
-    port: u16,
     log: bool,
     streams: &mut Streams<R, W, E>,
 ) -> Result<Status, Failure>
@@ -183,19 +234,20 @@ fn serve_at<S: Alter, C: FnMut() -> u64, R: Source, W: Sink, E: Sink>(
     ensures file { served.new.file ≡ served.old.file }
     ensures tells { TellsSome E.broken E.held streams.old.errors streams.new.errors }
 {
-    let listener = bind(rt, port, &mut streams.sink)?;
+    let listener = tell_port(rt.alloc(), port, &mut streams.sink)?;
     tell_served(
         rt.alloc(),
         served.file,
         served.projects,
         &mut streams.errors,
     );
-    let Ok(mut listening) = listening_at(&listener, socket.as_ref()) else {
+    let Ok(mut listening) = listening_at(&listener, &socket) else {
         return Err(Failure::Bind);
     };
     match serve_desk(
         rt,
         desk,
+        served.file,
         &mut listening,
         clock,
         count,
@@ -226,32 +278,32 @@ fn tell_without_socket<E: Sink>(alloc: Global, file: &str, errors: &mut E)
     }
 }
 
-/// Makes the control socket of a file, or tells that the file has none.
+/// The control socket of a file that is open by now; or tells that the file has none.
 fn open_socket<E: Sink>(
     rt: &HostRuntime,
     file: &str,
+    made: Result<EarlySocket, SocketFault>,
     errors: &mut E,
-) -> Result<Option<UnixListener>, SocketFault>
+) -> Result<Option<ControlSocket>, SocketFault>
     ensures { TellsSome E.broken E.held errors.old errors.new }
 {
-    let socket = bind_socket(rt, file)?;
+    let socket = keep_socket(rt, file, made?)?;
     if socket.is_none() {
         tell_without_socket(rt.alloc(), file, errors);
     }
     Ok(socket)
 }
 
-/// Answers `count` connections, each at the moment that the clock gives: of a port, one request each, which the log tells to
-/// standard error; and of the control socket beside the file, where the file may have one, one message each. Where a fault of
-/// the store closes the desk, the connections that are left are for `serve_rest`, and the socket stays; else the socket is
-/// removed.
+/// Answers `count` connections of the places, each at the moment that the clock gives: of the port, one request each, which the
+/// log tells to standard error; and of the control socket beside the file, where the file may have one, one message each. Those
+/// that came while the file was opened are among them. Where a fault of the store closes the desk, the connections that are left
+/// are for `serve_rest`, and the socket stays; else the socket is removed.
 pub fn serve<S: Alter, C: FnMut() -> u64, R: Source, W: Sink, E: Sink>(
     rt: &HostRuntime,
     desk: &mut Desk<S>,
     served: &mut Served<'_>,
     clock: &mut C,
     count: u32,
-    port: u16,
     log: bool,
     streams: &mut Streams<R, W, E>,
 ) -> Result<Status, Failure>
@@ -268,27 +320,39 @@ pub fn serve<S: Alter, C: FnMut() -> u64, R: Source, W: Sink, E: Sink>(
         (ServesBoth C.step clock.old clock.new (count - rest.count)))) }
     ensures tells { TellsSome E.broken E.held streams.old.errors streams.new.errors }
 {
-    let socket = open_socket(rt, served.file, &mut streams.errors)?;
-    let ended = serve_at(rt, desk, served, socket, clock, count, port, log, streams);
+    let Some(places) = served.places.take() else {
+        return Err(Failure::Bind);
+    };
+    let Places { port, socket: made } = places;
+    let socket = open_socket(rt, served.file, made, &mut streams.errors)?;
+    let own = node_in(&socket);
+    let ended = serve_at(rt, desk, served, port, socket, clock, count, log, streams);
     if served.rest.is_none() {
-        remove_socket(rt, served.file);
+        remove_socket(rt, served.file, own);
     }
     ended
 }
 
 /// Removes the control socket of an open file where no connection is left.
-fn remove_at_end(rt: &HostRuntime, file: &str, left: Option<u32>) {
+fn remove_at_end(rt: &HostRuntime, file: &str, own: Option<Node>, left: Option<u32>) {
     if left.is_none() {
-        remove_socket(rt, file);
+        remove_socket(rt, file, own);
     }
 }
 
-/// How often a file is tried again that another program has open; with their pauses the tries take five seconds.
-const MOST_REOPENINGS: u32 = 100;
+/// How often a file that another program has open is tried in a second, with the pauses between.
+const TRIES_A_SECOND: u64 = 20;
 
-/// Opens a file whose store has failed. Where another program has it by then, as a command for a moment, it is tried again.
-fn open_again(rt: &HostRuntime, file: &str) -> Result<(FileDesk<Unknown>, i64), FileFault> {
-    for _ in 0..MOST_REOPENINGS {
+/// For how many seconds a file whose store has failed is tried again.
+const REOPENING: u32 = 5;
+
+/// Opens a file. Where another program has it, as a command for a moment, it is tried again for so many seconds.
+pub fn open_within(
+    rt: &HostRuntime,
+    file: &str,
+    seconds: u32,
+) -> Result<(FileDesk<Unknown>, i64), FileFault> {
+    for _ in 0..u64::from(seconds) * TRIES_A_SECOND {
         match open_desk(rt, file, Unknown) {
             Err(FileFault::Busy) => pause(),
             other => return other,
@@ -297,12 +361,27 @@ fn open_again(rt: &HostRuntime, file: &str) -> Result<(FileDesk<Unknown>, i64), 
     open_desk(rt, file, Unknown)
 }
 
+/// Tells that a server waits for a file that another program has open, where it does, unless memory is out.
+pub fn tell_waiting<E: Sink>(alloc: Global, file: &str, seconds: u32, errors: &mut E)
+    ensures { TellsSome E.broken E.held errors.old errors.new }
+{
+    if seconds == 0 {
+        return;
+    }
+    if let Ok(line) = format!(in alloc;
+        "docs_host: {file}: another program has it open; waiting for it, {seconds} seconds at most\n"
+    ) {
+        put(errors, line.as_str());
+    }
+}
+
 /// Opens a file again whose store has failed, and answers `count` connections over it. Where the store fails once more, gives
 /// how many are left, and the control socket stays; else the socket is removed. The socket also stays where the file does not
 /// open: another program may have the file by then, and the socket may be that program's.
 fn serve_again<N: Listen, C: FnMut() -> u64, E: Sink>(
     rt: &HostRuntime,
     file: &str,
+    own: Option<Node>,
     listening: &mut N,
     clock: &mut C,
     count: u32,
@@ -321,10 +400,10 @@ fn serve_again<N: Listen, C: FnMut() -> u64, E: Sink>(
     ensures tells { TellsSome E.broken E.held errors.old errors.new }
 {
     tell_again(rt.alloc(), file, errors);
-    let (mut desk, projects) = open_again(rt, file)?;
+    let (mut desk, projects) = open_within(rt, file, REOPENING)?;
     tell_served(rt.alloc(), file, projects, errors);
-    let left = serve_desk(rt, &mut desk, listening, clock, count, log, errors);
-    remove_at_end(rt, file, left);
+    let left = serve_desk(rt, &mut desk, file, listening, clock, count, log, errors);
+    remove_at_end(rt, file, own, left);
     let closed = close_desk(desk);
     if left.is_none() {
         closed?;
@@ -337,6 +416,7 @@ fn serve_again<N: Listen, C: FnMut() -> u64, E: Sink>(
 fn serve_left<N: Listen, C: FnMut() -> u64, E: Sink>(
     rt: &HostRuntime,
     file: &str,
+    own: Option<Node>,
     listening: &mut N,
     clock: &mut C,
     count: u32,
@@ -352,7 +432,7 @@ fn serve_left<N: Listen, C: FnMut() -> u64, E: Sink>(
 {
     let mut left = count;
     'openings: for _ in 0..count.saturating_add(1) {
-        let fewer = serve_again(rt, file, listening, clock, left, log, errors)?;
+        let fewer = serve_again(rt, file, own, listening, clock, left, log, errors)?;
         match fewer {
             Some(still) => left = still,
             None => return Ok(Status::Done),
@@ -376,12 +456,13 @@ pub fn serve_rest<C: FnMut() -> u64, E: Sink>(
     ensures tells { TellsSome E.broken E.held errors.old errors.new }
 {
     // (the port and the socket were made so before, and stay so)
-    let Ok(mut listening) = listening_at(&rest.listener, rest.socket.as_ref()) else {
+    let Ok(mut listening) = listening_at(&rest.listener, &rest.socket) else {
         return Err(Failure::File(FileFault::Failed));
     };
     serve_left(
         rt,
         file,
+        node_in(&rest.socket),
         &mut listening,
         clock,
         rest.count,

@@ -15,7 +15,7 @@ use dh_ports::{Sink, put_all};
 use std::alloc::{AllocError, Global};
 
 /// The words that may have only some values, and these values.
-const LIMITED: [(&str, &str); 11] = [
+const LIMITED: [(&str, &str); 12] = [
     ("privacy", "public or private"),
     ("kind", "branch or tag"),
     ("place", "a number from 1, below 4,294,967,296"),
@@ -28,6 +28,7 @@ const LIMITED: [(&str, &str); 11] = [
     ("action", "activate, hide, public, private or default"),
     ("count", "a number below 4,294,967,296"),
     ("port", "a number below 65,536"),
+    ("wait", "a number below 4,294,967,296"),
     (
         "until",
         "seconds since 1970, below 18,446,744,073,709,551,616",

@@ -1,4 +1,4 @@
-//! Lists of what the tables hold.
+//! Lists of what the tables hold, and of what a caller sees.
 ghost use Rattle.std.specs.Prelude.{◌≡◌, true, false, Err, IfOk, OnOk};
 ghost use Rattle.dh_ports.specs.declared.fault.Fault.TheVariants as fault;
 ghost use Rattle.dh_desk.specs.Desk.{HasCleanDisk, StoreFaultHasCause, IsHonest, IsKept, IsRefused, IsSure, KeepsFaults, WorldGoesBy, last_records, lists_of, state, world};
@@ -8,8 +8,8 @@ ghost use Rattle.dh_records.specs.Lists.{world_of};
 ghost use Rattle.dh_rows.specs.Calls.{LeavesCommitted};
 
 use super::Desk;
+use crate::lists::listing_of;
 use crate::reads::undo;
-use dh_listing_reads::listing_in;
 use dh_listings::ListWord;
 use dh_paths::Text;
 use dh_ports::{Fault, Found};
@@ -18,13 +18,19 @@ use sqlite::Alter;
 use std::alloc::Global;
 
 /// What a list word prints. A transaction that is open is undone first.
-fn list<S: Alter>(tables: &mut Tables<S>, sure: bool, alloc: Global, word: &ListWord) -> Found<Text>
+fn list<S: Alter>(
+    tables: &mut Tables<S>,
+    sure: bool,
+    alloc: Global,
+    word: &ListWord,
+    now: u64,
+) -> Found<Text>
     requires kept { IsKept S.Store tables.old }
     requires sure { IsSure S.Store sure tables.old }
     ensures live { HasCleanDisk (state S.Store tables.new)
         → OnOk result (IsHonest S.Store tables.new) }
     ensures value { IsHonest S.Store tables.new → IfOk result
-        (λ text. text ≡ listing_text (world_of (last_records S.Store tables.old)) word.now) }
+        (λ text. text ≡ listing_text now (world_of (last_records S.Store tables.old)) word.now) }
     ensures same { IsHonest S.Store tables.new
         → last_records S.Store tables.new ≡ last_records S.Store tables.old }
     ensures rests { IsHonest S.Store tables.new
@@ -34,7 +40,7 @@ fn list<S: Alter>(tables: &mut Tables<S>, sure: bool, alloc: Global, word: &List
     ensures lasts { KeepsFaults S.Store tables.old tables.new }
 {
     undo(tables, sure)?;
-    listing_in(tables, alloc, word)
+    listing_of(tables, alloc, word, now)
 }
 
 /// Whether the store has failed in a list.
@@ -45,15 +51,16 @@ fn is_unlisted_in(answer: &Found<Text>) -> bool
 }
 
 impl<S: Alter> Desk<S> {
-    /// Answers what a list word prints, without the end of its last line; none, where there is no project. After a fault of the
-    /// store the desk answers `Store` to each call.
-    pub fn list(&mut self, alloc: Global, word: &ListWord) -> Found<Text>
+    /// Answers what a list word prints, without the end of its last line; none, where there is no project. `now` is the moment of
+    /// a list of what a caller sees that gives none of its own, in seconds since 1970. After a fault of the store the desk answers
+    /// `Store` to each call.
+    pub fn list(&mut self, alloc: Global, word: &ListWord, now: u64) -> Found<Text>
         ensures live { HasCleanDisk (state S.Store self.new.tables)
             → OnOk result (IsHonest S.Store self.new.tables) }
         ensures value { HasCleanDisk (state S.Store self.new.tables)
-            → IfOk result (λ text. text ≡ listing_text (world S.Store self.old) word.now) }
+            → IfOk result (λ text. text ≡ listing_text now (world S.Store self.old) word.now) }
         ensures goes { WorldGoesBy S.Store self.old self.new (λ before after. (after ≡ before)
-            × IfOk result (λ text. text ≡ listing_text before word.now)) }
+            × IfOk result (λ text. text ≡ listing_text now before word.now)) }
         ensures same { IsHonest S.Store self.new.tables
             → world S.Store self.new ≡ world S.Store self.old }
         ensures rests { IsHonest S.Store self.new.tables
@@ -72,7 +79,7 @@ impl<S: Alter> Desk<S> {
         if self.closed {
             return Err(Fault::Store);
         }
-        let answer = list(&mut self.tables, self.sure, alloc, word);
+        let answer = list(&mut self.tables, self.sure, alloc, word, now);
         self.closed = is_unlisted_in(&answer);
         self.sure = answer.is_ok();
         answer

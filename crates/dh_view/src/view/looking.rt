@@ -1,10 +1,11 @@
 //! The looks of a view. Each fact that a view remembers is asked of the tables where it is not remembered yet.
 
-ghost use Rattle.std.specs.Prelude.{◌≡◌, ◌↔◌, IfOk, IfSome, IsTrue, OnOk, is_some, slice_get};
+ghost use Rattle.std.specs.Prelude.{◌≡◌, ◌↔◌, ◌&&◌, IfOk, IfSome, IsTrue, OnOk, filter, is_some, slice_get};
+ghost use Rattle.std.specs.Str.{bytes_eq};
 ghost use Rattle.std.proofs.Common.{◌∙◌, refl};
 ghost use Rattle.sqlite.specs.Held.{Held};
 ghost use Rattle.dh_rows.specs.Calls.{IsHonest};
-ghost use Rattle.dh_reply.specs.Lookup.{IsLook, AnswersMaybe};
+ghost use Rattle.dh_reply.specs.Lookup.{IsLook, AnswersAll, AnswersMaybe};
 ghost use Rattle.dh_seen.specs.SeenProject.{alias_of, alias_to};
 ghost use Rattle.dh_redirects.specs.FirstResult.{first_result};
 ghost use Rattle.dh_schema.specs.Calling.{HasRecords, IsSettled};
@@ -17,10 +18,10 @@ use super::aliases::{as_alias, as_text, class_text};
 use super::{HostView, View};
 use dh_paths::{HostName, Lang, Slug, Text};
 use dh_ports::{Fault, Found};
-use dh_records::{AliasName, LangRow};
-use dh_redirects::{Asked, Location};
+use dh_records::{AliasName, LangRow, RedirectRow};
+use dh_redirects::{Asked, Location, Redirect};
 use dh_reply::Lookup;
-use dh_seen::{Items, Named, Page};
+use dh_seen::{Items, Named, Page, StoredPage};
 use dh_versions::Version;
 use sqlite::Alter;
 use std::alloc::{AllocError, Global};
@@ -140,8 +141,8 @@ impl<'a, S: Alter> View<'a, S> {
 // ---- what names stand for
 
 impl<'a, S: Alter> View<'a, S> {
-    /// What a name stands for, to the caller's class.
-    fn kept(&mut self, alloc: Global, name: AliasName) -> Found<Slug>
+    /// What a name stands for, to the caller's class: the version of `latest` or of `stable`, or the name that `/` leads to.
+    pub fn kept(&mut self, alloc: Global, name: AliasName) -> Found<Slug>
         ensures asks { IsLook (meaning_of S.Store) self.old self.new result }
         ensures value { AnswersMaybe (meaning_of S.Store) self.old self.new result
             (stands_for name) }
@@ -266,6 +267,46 @@ impl<'a, S: Alter> View<'a, S> {
                 asked,
             ),
             None => Ok(None),
+        }
+    }
+}
+
+// ---- what no reply asks for, and a list of all that is seen does
+
+impl<'a, S: Alter> View<'a, S> {
+    /// The redirects, in the order in which they are tried.
+    pub fn seen_redirects(&mut self, alloc: Global) -> Result<Vec<Redirect>, Fault>
+        ensures asks { IsLook (meaning_of S.Store) self.old self.new result }
+        ensures value { AnswersAll (meaning_of S.Store) self.old self.new result (λ p. p.redirects) }
+    {
+        match self.opened(alloc)? {
+            Some(host) => self.tables.list::<RedirectRow>(alloc, &host),
+            None => Ok(Vec::new(alloc)),
+        }
+    }
+
+    /// The pages of a version in a language, by path; none of a version that the caller does not see.
+    pub fn seen_pages(
+        &mut self,
+        alloc: Global,
+        slug: &Slug,
+        lang: &Lang,
+    ) -> Result<Vec<StoredPage>, Fault>
+        ensures asks { IsLook (meaning_of S.Store) self.old self.new result }
+        ensures value { AnswersAll (meaning_of S.Store) self.old self.new result
+            (λ p. filter (λ s. bytes_eq s.slug slug.now && bytes_eq s.lang lang.now) p.pages) }
+    {
+        let text = slug.as_str();
+        match self.seen_slug(alloc, text)? {
+            Some(own) => match &self.host {
+                Some(host) => HostView::new(alloc, host, &self.caller.pass).pages_in(
+                    self.tables,
+                    &own,
+                    lang,
+                ),
+                None => Ok(Vec::new(alloc)),
+            },
+            None => Ok(Vec::new(alloc)),
         }
     }
 }

@@ -1,14 +1,12 @@
-use Rattle.std.proofs.Common.{eqb, not, List, [], filter, length, ap, ◌∙◌}
+use Rattle.std.proofs.Common.{List, find, is_some, ap, subst, sym, ◌∙◌}
 use Rattle.dh_records.specs.declared.records.ProjectRow.{ProjectRow}
+use Rattle.dh_records.specs.Codings as coding
+use Rattle.dh_records.specs.Constraints.{InOrder}
 use Rattle.dh_records.specs.Lists.{is_project}
-use Rattle.dh_constraints.proofs.ListLemmas.{found_if_some}
-use Rattle.dh_constraints.proofs.OrderLemmas.{by_host}
 use Rattle.dh_constraints.proofs.lookups.has_project.Goals as goal
 
-pub run_of-requires : goal.run_of-requires
-run_of-requires c = by_host (λ r. r.host) (λ r. []) _ _ c.as_slice.ensures.value c.args.records.now.in_order.projects
+pub is_host_among-requires : goal.is_host_among-requires
+is_host_among-requires c = subst (InOrder coding.projects.key) (sym c.as_slice.ensures.value) c.args.records.now.in_order.projects
 
 pub returns : goal.returns
-returns c =
-    ap not (c.is_empty.ensures ∙ ap (λ (l : List ProjectRow). eqb (length l) 0) (c.run_of.ensures ∙ ap (filter (is_project c.args.host.now)) c.as_slice.ensures.value))
-    ∙ found_if_some (is_project c.args.host.now) c.args.records.now.projects.items
+returns c = c.is_host_among.ensures ∙ ap (λ (l : List ProjectRow). is_some (find (is_project c.args.host.now) l)) c.as_slice.ensures.value

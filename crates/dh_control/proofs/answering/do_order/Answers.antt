@@ -1,6 +1,6 @@
-use Rattle.std.proofs.Common.{rules, inr, string_bytes}
+use Rattle.std.proofs.Common.{string_bytes}
 use Rattle.dh_desk.proofs.Moving.{WorldGoesBy-weaker}
-use Rattle.dh_control.proofs.Whole.{one_failed}
+use Rattle.dh_control.proofs.Whole.{one_failed, one_told}
 use Rattle.dh_control.proofs.answering.do_order.Goals as goal
 
 pub returns-in_err-printed-clause-does : goal.returns-in_err-printed-clause-does
@@ -8,12 +8,8 @@ returns-in_err-printed-clause-does g c =
     WorldGoesBy-weaker c.in_err-printed.ensures.may
     (λ u v may. one_failed c.args.now u c.args.order.now v (g.W.Sink.held c.args.sink.now) (g.W.Sink.held c.args.sink.now) c.from_residual.result c.from_residual.ensures.0 may)
 
-pub returns-in-Ok-clause-does : goal.returns-in-Ok-clause-does
-returns-in-Ok-clause-does g c =
-    WorldGoesBy-weaker c.in_ok-printed.ensures.performs
-    (λ u v did. (string_bytes c.in_ok-printed.printed.text, c.in_ok-printed.printed.refused, did, search rules, search rules))
-
 pub returns-clause-does : goal.returns-clause-does
 returns-clause-does g c =
-    WorldGoesBy-weaker c.in_ok-printed.ensures.performs
-    (λ u v did. inr (string_bytes c.in_ok-printed.printed.text, c.in_ok-printed.printed.refused, did))
+    WorldGoesBy-weaker c.in_ok-printed.ensures.why
+    (λ u v did. one_told c.args.now u c.args.order.now v (g.W.Sink.held c.args.sink.now) (g.W.Sink.held c.tell_printed.new.sink)
+    (string_bytes c.in_ok-printed.printed.text) c.in_ok-printed.printed.reason c.tell_printed.result did c.tell_printed.ensures.told)

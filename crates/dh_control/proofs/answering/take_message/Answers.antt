@@ -6,7 +6,7 @@ use Rattle.dh_control.proofs.answering.take_message.Goals as goal
 pub returns-in-Ok-clause-takes : goal.returns-in-Ok-clause-takes
 returns-in-Ok-clause-takes g c =
     WorldGoesBy-weaker c.do_message.ensures.does
-    (λ u v. message_taken c.args.now (g.R.Source.left c.args.source.now) (g.W.Sink.held c.args.sink.now) (g.W.Sink.held c.do_message.new.sink) u v
+    (λ u v. message_taken c.args.now c.args.file.now (g.R.Source.left c.args.source.now) (g.W.Sink.held c.args.sink.now) (g.W.Sink.held c.do_message.new.sink) u v
     c.in-Ok.message.items c.as_slice.result.now c.do_message.result
     c.in-Ok.ensures.whole c.as_slice.ensures.value)
 

@@ -11,10 +11,10 @@ use Rattle.dh_lines.proofs.FormLines.{words_line, naming}
 use Rattle.dh_lines.proofs.laws.serve_lines.Goals as goal
 
 -- the line of these options, by the numbers that they read as
-abbrev serving : Text → Bool → Option ℕ → Option ℕ → Option (Option Line)
-serving file log port count =
+abbrev serving : Text → Bool → Option ℕ → Option ℕ → Option ℕ → Option (Option Line)
+serving file log wait port count =
     Some (option_map (as_line (Some file))
-    (option_and_then (λ count. option_map (λ port. Serve count port log) port) count))
+    (option_and_then (λ count. option_and_then (λ port. option_map (Serve count port log) wait) port) count))
 
 -- `--count N`
 abbrev counting : Text → List Token
@@ -23,6 +23,10 @@ counting count = written (codes "--count") ∷ chosen count ∷ []
 -- `--port P`
 abbrev at_port : Text → List Token
 at_port port = written (codes "--port") ∷ chosen port ∷ []
+
+-- `--wait SECONDS`
+abbrev waits : Text → List Token
+waits seconds = written (codes "--wait") ∷ chosen seconds ∷ []
 
 -- `--log`
 abbrev logging : List Token
@@ -33,16 +37,19 @@ unfolding defaults_fault
 returns c = record {
   quiet = λ file word count plain is_count.
       words_line (codes "serve") (naming file ++ counting word) plain _
-      (ap (serving file false (Some 0)) is_count);
+      (ap (serving file false (Some 60) (Some 0)) is_count);
   told = λ file word count plain is_count.
       words_line (codes "serve") (naming file ++ counting word ++ logging) plain _
-      (ap (serving file true (Some 0)) is_count);
+      (ap (serving file true (Some 60) (Some 0)) is_count);
   quiet_at = λ port_word port port_plain is_port file word count plain is_count.
       words_line (codes "serve") (naming file ++ counting word ++ at_port port_word)
-      (plain.0, (plain.1.0, (port_plain, tt))) _ (ap₂ (serving file false) is_port is_count);
+      (plain.0, (plain.1.0, (port_plain, tt))) _ (ap₂ (serving file false (Some 60)) is_port is_count);
   told_at = λ port_word port port_plain is_port file word count plain is_count.
       words_line (codes "serve") (naming file ++ counting word ++ at_port port_word ++ logging)
-      (plain.0, (plain.1.0, (port_plain, tt))) _ (ap₂ (serving file true) is_port is_count);
+      (plain.0, (plain.1.0, (port_plain, tt))) _ (ap₂ (serving file true (Some 60)) is_port is_count);
+  waiting = λ wait_word wait wait_plain is_wait file word count plain is_count.
+      words_line (codes "serve") (naming file ++ counting word ++ waits wait_word)
+      (plain.0, (plain.1.0, (wait_plain, tt))) _ (ap₂ (λ seconds. serving file false seconds (Some 0)) is_wait is_count);
   no_store = λ count plain. words_line (codes "serve") (counting count) (plain, tt) None refl;
   no_count = λ file plain. words_line (codes "serve") (naming file) (plain, tt) None refl;
 }

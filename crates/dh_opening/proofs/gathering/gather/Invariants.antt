@@ -10,4 +10,4 @@ invariant-rows g l =
     × (given : List Row)
     × HasTaken g.S.Store l.sql l.rows.conn.now given
     × JudgesTables g.S.Store l.fn.conn l.rows.conn.now {T = Unit {0}} (Ok tt) (λ _ _. Unit {0}) (λ _. ⊥)
-    × g.G.Taker.took l.taker given
+    × g.G.Taker.took l.fn.taker l.taker given

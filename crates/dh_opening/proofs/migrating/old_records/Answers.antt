@@ -7,7 +7,7 @@ use Rattle.dh_rows.specs.Places.{records_of}
 use Rattle.dh_migrating.specs.OldPasses.{old_passes, old_lists_of, without_end}
 use Rattle.dh_opening.specs.Opening.{other_tables}
 use Rattle.dh_opening.specs.Migrating.{AreOldIn}
-use Rattle.dh_opening.specs.ThinPages.{with_bodies}
+use Rattle.dh_opening.specs.ThinPages.{made_whole}
 use Rattle.dh_opening.proofs.Looks.{handed, laid_on, opens_both, out_of_memory, refused_at_once, then_ok}
 use Rattle.dh_opening.proofs.MigrateLemmas.{found_old, order_kept}
 use Rattle.dh_opening.proofs.Spelling.{not_alone}
@@ -73,7 +73,7 @@ returns g c = record {
       (λ honest it. (
         (c.schema.ensures.live honest.1).0,
         λ number.
-            let old = found_old (state g.S.Store c.args.conn.now).now c.in_ok-rows.rows.items (with_bodies it.0.1.0 (lists_in c.in_ok-records.records)) it.0.0 it.0.1.1 (c.in_ok-records.ensures.passes ∙ c.in_ok-passes.ensures) refl (subst AreOldIn c.schema.ensures.value (c.are_old.ensures.0 (search rules))) it.1 number in
-            (old.0, (it.0.1.0, old.1)),
+            let old = found_old (state g.S.Store c.args.conn.now).now c.in_ok-rows.rows.items (made_whole it.0.1.0 it.0.1.1 (lists_in c.in_ok-records.records)) it.0.0 it.0.1.2 (c.in_ok-records.ensures.passes ∙ c.in_ok-passes.ensures) refl (subst AreOldIn c.schema.ensures.value (c.are_old.ensures.0 (search rules))) it.1 number in
+            (old.0, (it.0.1.0, it.0.1.1, old.1)),
       ));
 }

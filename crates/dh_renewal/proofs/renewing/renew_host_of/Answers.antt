@@ -1,11 +1,22 @@
+use Rattle.std.proofs.Common.{sym, subst}
 use Rattle.dh_records.specs.Lists.{Lists}
 use Rattle.dh_tables.specs.Going.{records}
 use Rattle.dh_derived.specs.Renewed.{renew_routes, host_renewed_at}
 use Rattle.dh_records.specs.Changes.{drop_aliases}
 use Rattle.dh_renewal.specs.Renewing.{set_all}
+use Rattle.dh_renewal.specs.Standing.{AreApart}
+use Rattle.dh_renewal.proofs.SaidLemmas.{classes_apart}
 use Rattle.dh_renewal.proofs.Together.{looked}
 use Rattle.dh_renewal.proofs.RenewingLemmas.{host_is_renewed}
 use Rattle.dh_renewal.proofs.renewing.renew_host_of.Goals as goal
+
+pub set_host-requires-clause-apart : goal.set_host-requires-clause-apart
+set_host-requires-clause-apart g c honest =
+    let l : Lists = records g.S.Store c.args.tables.now in
+    let before = c.names_of_all.ensures.asks.goes.lasts.was honest in
+    let has = c.requires.branch before in
+    let sound = c.requires.sound before in
+    subst AreApart (sym (c.in_ok-all.ensures.value honest sound has.project has.found has.branch_is)) (classes_apart c.args.host.now has.project l sound.order.passes)
 
 pub returns : goal.returns
 returns g c = record {

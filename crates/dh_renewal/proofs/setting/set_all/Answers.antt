@@ -1,24 +1,27 @@
-use Rattle.std.proofs.Common.{◌∙◌, refl, sym, ap}
+use Rattle.std.proofs.Common.{List, ◌∙◌, refl, sym, subst}
+use Rattle.dh_records.specs.Lists.{Lists}
+use Rattle.dh_records.specs.declared.records.AliasRow.{AliasRow}
 use Rattle.dh_tables.specs.Going.{records}
-use Rattle.dh_tables.proofs.Together.{goes_within_on}
 use Rattle.dh_renewal.specs.Renewing.{set_all}
-use Rattle.dh_renewal.proofs.RenewingLemmas.{set_last}
+use Rattle.dh_renewal.specs.Standing.{AreSaid}
+use Rattle.dh_renewal.proofs.SaidLemmas.{said_first}
+use Rattle.dh_renewal.proofs.Together.{looked}
 use Rattle.dh_renewal.proofs.setting.set_all.Goals as goal
 
-pub loop-names-preserved : goal.loop-names-preserved
-loop-names-preserved g c =
-    let it = c.loop-names.invariant in
-    let goes = c.set_class.ensures.makes.goes in
-    let after = c.in_ok-set_class.ensures.makes.sees in record {
-      goes = goes_within_on it.goes it.sees.live it.sees.mode goes;
-      sees = record {
-        live = λ honest clean. after.live (it.sees.live honest (goes.lasts.clean clean)) clean;
-        now_is = λ _. refl;
-        mode = λ honest. after.mode honest ∙ it.sees.mode (goes.lasts.was honest);
-      };
-      is = λ honest.
-          ap (set_all c.args.host.now c.pop.new.self.items) (after.now_is honest)
-          ∙ sym (set_last c.args.host.now c.pop.new.self.items c.in-Some.names (records g.S.Store c.loop-names.tables))
-          ∙ ap (λ xs. set_all c.args.host.now xs (records g.S.Store c.loop-names.tables)) (sym c.in-Some.ensures.items)
-          ∙ it.is (goes.lasts.was honest);
+pub set_beside-requires : goal.set_beside-requires
+set_beside-requires g c =
+    let looks = c.in_ok-stored.ensures.asks.looks in
+    let was = c.aliases_at.ensures.asks.goes.lasts.was in record {
+      within = λ honest. looks.mode honest ∙ c.requires.within (was honest);
+      said = λ honest.
+          let l : Lists = records g.S.Store c.args.tables.now in
+          subst (AreSaid c.args.host.now c.as_slice.result.now c.args.all.items) (sym (looks.now_is honest))
+          (subst (λ (rows : List AliasRow). AreSaid c.args.host.now rows c.args.all.items l) (sym (c.as_slice.ensures.value ∙ c.in_ok-stored.ensures.value honest))
+          (said_first c.args.host.now c.args.all.items l (c.show_alias_order.ensures (was honest)) (c.requires.apart (was honest))));
     }
+
+pub returns : goal.returns
+returns g c = record {
+  makes = looked g.S.Store c.args.tables.now c.aliases_at.new.tables c.set_beside.new.tables c.set_beside.result (set_all c.args.host.now c.args.all.items) (set_all c.args.host.now c.args.all.items)
+      c.aliases_at.ensures.asks.goes c.in_ok-stored.ensures.asks.looks c.set_beside.ensures.makes (λ _. refl);
+}

@@ -1,6 +1,6 @@
 use Rattle.std.proofs.Common.{string_bytes}
 use Rattle.dh_desk.proofs.Moving.{WorldGoesBy-weaker}
-use Rattle.dh_script.proofs.ScriptLemmas.{blamed_list, list_told}
+use Rattle.dh_script.proofs.ScriptLemmas.{blamed_list, list_for, list_told}
 use Rattle.dh_script.proofs.lists.list.Goals as goal
 
 pub returns : goal.returns
@@ -9,7 +9,13 @@ returns g c = record {
       WorldGoesBy-weaker c.list-answer.ensures.goes
       (λ u v listed. (
         listed.0,
-        list_told (λ p. string_bytes p.text) (λ p. p.refused) u c.args.word.now c.list-answer.result c.told_list.result listed.1 c.told_list.ensures.tells,
+        list_told (λ p. string_bytes p.text) (λ p. p.refused) c.args.now u c.args.word.now c.list-answer.result c.told_list.result listed.1 c.told_list.ensures.tells,
+      ));
+  why =
+      WorldGoesBy-weaker c.list-answer.ensures.goes
+      (λ u v listed. (
+        listed.0,
+        list_for (λ p. string_bytes p.text) (λ p. p.reason) c.args.now u c.args.word.now c.list-answer.result c.told_list.result listed.1 c.told_list.ensures.why,
       ));
   explains = c.told_list.ensures.explains;
   told = blamed_list g.S.Store c.args.desk.now c.list-answer.new.self (λ p. p.reason) c.told_list.result c.list-answer.result c.list-answer.ensures.told c.told_list.ensures.reason;

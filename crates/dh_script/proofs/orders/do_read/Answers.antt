@@ -1,6 +1,6 @@
 use Rattle.std.proofs.Common.{string_bytes}
 use Rattle.dh_desk.proofs.Moving.{WorldGoesBy-weaker}
-use Rattle.dh_script.proofs.ScriptLemmas.{blamed_read, got}
+use Rattle.dh_script.proofs.ScriptLemmas.{blamed_read, got, got_for}
 use Rattle.dh_script.proofs.orders.do_read.Goals as goal
 
 pub returns : goal.returns
@@ -11,6 +11,13 @@ returns g c = record {
         read.0,
         got (λ p. string_bytes p.text) (λ p. p.refused) u c.as_str.result.now c.args.host.now _ c.args.pass.now c.args.moment c.args.target c.read.result c.read_out-outcome.result c.told.result
             read.1 c.as_str.ensures c.pass_text.ensures c.read_out-outcome.ensures c.told.ensures.tells,
+      ));
+  why =
+      WorldGoesBy-weaker c.read.ensures.goes
+      (λ u v read. (
+        read.0,
+        got_for (λ p. string_bytes p.text) (λ p. p.reason) u c.as_str.result.now c.args.host.now _ c.args.pass.now c.args.moment c.args.target c.read.result c.read_out-outcome.result c.told.result
+            read.1 c.as_str.ensures c.pass_text.ensures c.read_out-outcome.ensures c.told.ensures.why,
       ));
   explains = c.told.ensures.explains;
   told = blamed_read g.S.Store c.args.desk.now c.read.new.self (λ p. p.reason) c.told.result c.read.result c.read_out-outcome.result c.read_out-outcome.ensures

@@ -1,58 +1,24 @@
-use Rattle.std.proofs.Common.{rules, List, sym, subst, ◌∙◌}
-use Rattle.std.specs.Vec.Iter.{into_iter_items}
-use Rattle.std.proofs.lemmas.List.{nil_from_length}
-use Rattle.dh_plans.specs.declared.edits.Edit.{Edit}
-use Rattle.dh_tables.specs.Going.{records}
-use Rattle.dh_tables.proofs.Together.{goes_within_on}
-use Rattle.dh_transactions.proofs.EditingLemmas.{IsMidway, midway_first, midway_last, midway_may, midway_next}
+use Rattle.dh_plans.specs.Edits.{all_edited}
+use Rattle.dh_transactions.proofs.EditingLemmas.{lacks_then, project_edited, sound_then}
 use Rattle.dh_transactions.proofs.editing.edit_project.Goals as goal
 
-pub loop-edit-init : goal.loop-edit-init
-loop-edit-init g c = record {
-  can = tt;
-  finite = tt;
-  goes = search rules;
-  sees = search rules;
-  midway = λ honest.
-      let start = records g.S.Store c.args.tables.now in
-      subst (λ (es : List Edit). IsMidway c.args.host.now c.args.edits.items es start start) (sym c.into_iter-edit-iterator.ensures.into_iter_gives.0)
-      (midway_first c.args.host.now c.args.edits.items start (c.requires.may honest));
-}
+pub renew-requires-clause-sound : goal.renew-requires-clause-sound
+renew-requires-clause-sound g c =
+    let goes = c.edit_all.ensures.edits.goes in
+    sound_then g.S.Store c.args.tables.now c.edit_all.new.tables c.args.host.now (all_edited c.args.edits.items) c.in_ok-renewal.renewal c.in_ok-renewal.ensures.edits
+    (λ honest. (c.requires.may (goes.lasts.was honest)).project) (λ honest. (c.requires.may (goes.lasts.was honest)).found)
 
-pub edit_once-requires-clause-may : goal.edit_once-requires-clause-may
-edit_once-requires-clause-may g c honest =
-    let start = records g.S.Store c.args.tables.now in
-    let now = records g.S.Store c.loop-edit.tables in
-    midway_may c.args.host.now c.args.edits.items start c.in-Some.edit (into_iter_items c.next.new.self) now
-    (subst (λ (es : List Edit). IsMidway c.args.host.now c.args.edits.items es start now) c.in-Some.ensures.steps.0 (c.loop-edit.invariant.midway honest))
-
-pub loop-edit-preserved : goal.loop-edit-preserved
-loop-edit-preserved g c = record {
-  can = tt;
-  finite = tt;
-  goes =
-      let it = c.loop-edit.invariant in
-      goes_within_on it.goes it.sees.live it.sees.mode c.edit_once.ensures.edits.goes;
-  sees = search rules;
-  midway = λ honest.
-      let start = records g.S.Store c.args.tables.now in
-      let now = records g.S.Store c.loop-edit.tables in
-      let was = c.loop-edit.invariant.midway (c.edit_once.ensures.edits.goes.lasts.was honest) in
-      midway_next c.args.host.now c.args.edits.items start c.in-Some.edit (into_iter_items c.next.new.self) now
-      (subst (λ (es : List Edit). IsMidway c.args.host.now c.args.edits.items es start now) c.in-Some.ensures.steps.0 was)
-      (records g.S.Store c.edit_once.new.tables) (c.in_ok-edit_once.ensures.edits.made honest);
-}
+pub renew-requires-clause-lacks : goal.renew-requires-clause-lacks
+renew-requires-clause-lacks g c =
+    let goes = c.edit_all.ensures.edits.goes in
+    lacks_then g.S.Store c.args.tables.now c.edit_all.new.tables c.args.host.now (all_edited c.args.edits.items) c.in_ok-renewal.renewal c.in_ok-renewal.ensures.edits
+    (λ honest. (c.requires.may (goes.lasts.was honest)).project) (λ honest. (c.requires.may (goes.lasts.was honest)).found)
 
 pub returns : goal.returns
-returns g c = record {
-  edits = record {
-    goes = c.loop-edit.invariant.goes;
-    sees = c.loop-edit.invariant.sees;
-    made = λ honest.
-        let start = records g.S.Store c.args.tables.now in
-        let now = records g.S.Store c.loop-edit.tables in
-        midway_last c.args.host.now c.args.edits.items start now
-        (subst (λ (es : List Edit). IsMidway c.args.host.now c.args.edits.items es start now) (nil_from_length (into_iter_items c.loop-edit.edit-iterator) (sym c.loop-edit.edit-iterator.rest.ok.0 ∙ c.in-None.ensures.steps.0)) (c.loop-edit.invariant.midway honest));
-    err = tt;
-  };
-}
+returns g c =
+    let goes = c.edit_all.ensures.edits.goes in record {
+      edits =
+          project_edited g.S.Store c.args.tables.now c.edit_all.new.tables c.args.host.now (all_edited c.args.edits.items) c.in_ok-renewal.renewal c.in_ok-renewal.ensures.edits
+          (λ honest. (c.requires.may (goes.lasts.was honest)).project) (λ honest. (c.requires.may (goes.lasts.was honest)).found)
+          c.renew.new.tables c.renew.result c.renew.ensures.makes c.renew.ensures.right;
+    }

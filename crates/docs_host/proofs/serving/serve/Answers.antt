@@ -3,6 +3,9 @@ use Rattle.dh_server.proofs.Told.{some_more}
 use Rattle.docs_host.proofs.Ending.{none_served}
 use Rattle.docs_host.proofs.serving.serve.Goals as goal
 
+pub returns-in_default-clause-serves : goal.returns-in_default-clause-serves
+returns-in_default-clause-serves g c = WorldGoesBy-refl (none_served (goal.C-step g) c.args.clock.now c.args.count)
+
 pub returns-in_err-socket-clause-serves : goal.returns-in_err-socket-clause-serves
 returns-in_err-socket-clause-serves g c = WorldGoesBy-refl (none_served (goal.C-step g) c.args.clock.now c.args.count)
 

@@ -16,15 +16,15 @@ invariant_of-self g c =
 
 pub returns-clause-value : goal.returns-clause-value
 returns-clause-value g c clean =
-    under_clean (λ text. text ≡ listing_text (world g.S.Store c.args.self.now) c.args.word.now) c.list-answer.result (c.list-answer.ensures.live clean)
-    (λ honest. subst (λ d. IfOk c.list-answer.result (λ text. text ≡ listing_text (world g.S.Store d) c.args.word.now)) c.self.view_is (c.list-answer.ensures.value honest))
+    under_clean (λ text. text ≡ listing_text c.args.now (world g.S.Store c.args.self.now) c.args.word.now) c.list-answer.result (c.list-answer.ensures.live clean)
+    (λ honest. subst (λ d. IfOk c.list-answer.result (λ text. text ≡ listing_text c.args.now (world g.S.Store d) c.args.word.now)) c.self.view_is (c.list-answer.ensures.value honest))
 
 pub returns-then-self-clause-goes : goal.returns-then-self-clause-goes
 returns-then-self-clause-goes g c = WorldGoesBy-refl (λ w. (refl, tt))
 
 pub returns-clause-goes : goal.returns-clause-goes
 returns-clause-goes g c =
-    let Fact : World → Option Text → Type 0 = λ w text. text ≡ listing_text w c.args.word.now in
+    let Fact : World → Option Text → Type 0 = λ w text. text ≡ listing_text c.args.now w c.args.word.now in
     let was = world_of (last_records g.S.Store c.self.inside.tables) in
     read_goes_from _ _ _ c.list-answer.result Fact c.self.view_is c.list-answer.ensures.lasts c.list-answer.ensures.live
     (λ clean. under_clean (Fact was) c.list-answer.result (c.list-answer.ensures.live clean) c.list-answer.ensures.value)

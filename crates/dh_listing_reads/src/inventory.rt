@@ -1,0 +1,58 @@
+//! What a list of all that a caller sees is made from.
+
+ghost use Rattle.dh_listings.specs.ListingTexts.{pages_in as spec_pages_in};
+ghost use Rattle.dh_reply.specs.Lookup.{IsLook, AnswersAll, AnswersMaybe};
+ghost use Rattle.dh_view.specs.Stored.{stands_for as spec_stands_for};
+
+use dh_paths::{Lang, Slug};
+use dh_ports::{Fault, Found};
+use dh_records::AliasName;
+use dh_redirects::Redirect;
+use dh_reply::Lookup;
+use dh_seen::StoredPage;
+use dh_view::View;
+use sqlite::Alter;
+use std::alloc::Global;
+
+/// A lookup that tells all that it shows.
+pub trait Inventory: Lookup {
+    /// What a name stands for: the version of `latest` or of `stable`, whatever has that very slug, or the name that `/` leads to.
+    fn stands_for(&mut self, alloc: Global, name: AliasName) -> Found<Slug>
+        ensures asks { IsLook Self.meaning self.old self.new result }
+        ensures value { AnswersMaybe Self.meaning self.old self.new result (spec_stands_for name) };
+
+    /// The redirects, in the order in which they are tried; none where there is no project.
+    fn redirects(&mut self, alloc: Global) -> Result<Vec<Redirect>, Fault>
+        ensures asks { IsLook Self.meaning self.old self.new result }
+        ensures value { AnswersAll Self.meaning self.old self.new result (λ p. p.redirects) };
+
+    /// The pages of a version in a language, by path; none where there is no project.
+    fn pages_in(
+        &mut self,
+        alloc: Global,
+        slug: &Slug,
+        lang: &Lang,
+    ) -> Result<Vec<StoredPage>, Fault>
+        ensures asks { IsLook Self.meaning self.old self.new result }
+        ensures value { AnswersAll Self.meaning self.old self.new result
+            (spec_pages_in slug.now lang.now) };
+}
+
+impl<'a, S: Alter> Inventory for View<'a, S> {
+    fn stands_for(&mut self, alloc: Global, name: AliasName) -> Found<Slug> {
+        self.kept(alloc, name)
+    }
+
+    fn redirects(&mut self, alloc: Global) -> Result<Vec<Redirect>, Fault> {
+        self.seen_redirects(alloc)
+    }
+
+    fn pages_in(
+        &mut self,
+        alloc: Global,
+        slug: &Slug,
+        lang: &Lang,
+    ) -> Result<Vec<StoredPage>, Fault> {
+        self.seen_pages(alloc, slug, lang)
+    }
+}

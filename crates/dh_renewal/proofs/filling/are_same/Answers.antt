@@ -1,1 +1,0 @@
-use Rattle.dh_renewal.proofs.filling.are_same.Goals as goal
