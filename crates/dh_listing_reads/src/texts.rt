@@ -9,7 +9,7 @@ use dh_listings::{
     append_rule, append_version, listed_head,
 };
 use dh_paths::Text;
-use dh_tables::{DefaultRow, LangRow, PageRow, ProjectRow, RedirectRow, RuleRow, VersionRow};
+use dh_tables::{DefaultRow, LangRow, PageSize, ProjectRow, RedirectRow, RuleRow, VersionRow};
 use std::alloc::{AllocError, Global};
 
 /// A record that is a row of a list.
@@ -54,12 +54,11 @@ impl RowText for VersionRow {
     }
 }
 
-impl RowText for PageRow {
-    ghost shown = { rows.of_page };
+impl RowText for PageSize {
+    ghost shown = { rows.of_size };
 
     fn put(&self, _alloc: Global, out: &mut String) -> Result<(), AllocError> {
-        let size = self.page.body.as_slice().len();
-        append_page(out, &self.path, &self.page.media, size)
+        append_page(out, &self.path, &self.media, self.size)
     }
 }
 

@@ -136,11 +136,14 @@ seen_redirect_words r =
     codes "redirect" ++ 9 ∷ redirect_word r.kind ++ 9 ∷ decimal r.status ++ 9 ∷ text_word r.source
     ++ 9 ∷ text_word r.target ++ force_end r.force
 
--- `page SLUG LANG PATH TYPE SIZE`, where the size is how many bytes the body has
-unfoldable pub seen_page_words : StoredPage → Text
-seen_page_words s =
-    codes "page" ++ 9 ∷ s.slug ++ 9 ∷ s.lang ++ 9 ∷ s.path ++ 9 ∷ s.page.media
-    ++ 9 ∷ decimal (length s.page.body)
+-- `page SLUG LANG PATH TYPE SIZE`
+unfoldable pub sized_page_words : Text → Text → Text → Text → ℕ → Text
+sized_page_words slug lang path media size =
+    codes "page" ++ 9 ∷ slug ++ 9 ∷ lang ++ 9 ∷ path ++ 9 ∷ media ++ 9 ∷ decimal size
+
+-- the same of a page, where the size is how many bytes the body has
+abbrev pub seen_page_words : StoredPage → Text
+seen_page_words s = sized_page_words s.slug s.lang s.path s.page.media (length s.page.body)
 
 -- ---- texts
 

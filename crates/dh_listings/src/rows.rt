@@ -6,7 +6,6 @@ ghost use Rattle.dh_listings.specs.ListingTexts as spec;
 use dh_paths::{HostName, Lang, PagePath, RefName, Slug, Text, Token, all_no_control, encode_path};
 use dh_redirects::{Redirect, RedirectKind};
 use dh_rules::{Action, Rule};
-use dh_seen::StoredPage;
 use dh_versions::{Kind, Version};
 use dh_world::PassEnd;
 use std::alloc::{AllocError, Global};
@@ -282,12 +281,20 @@ pub fn seen_redirect_row(alloc: Global, redirect: &Redirect) -> Result<Text, All
     Ok(Text::wrap(format!(in alloc; "redirect\t{kind}\t{status}\t{source}\t{target}{force}")?))
 }
 
-#[tactic(auto, unfolding(crate::specs::ListingTexts::seen_page_words))]
-pub fn seen_page_row(alloc: Global, page: &StoredPage) -> Result<Text, AllocError>
-    ensures { IfOk result (λ row. row ≡ spec.seen_page_words page.now) }
+/// The row of a page of a version in a language: its path, its media type and how many bytes its body has.
+#[tactic(auto, unfolding(crate::specs::ListingTexts::sized_page_words))]
+pub fn seen_page_row(
+    alloc: Global,
+    slug: &Slug,
+    lang: &Lang,
+    path: &PagePath,
+    media: &Text,
+    size: usize,
+) -> Result<Text, AllocError>
+    ensures { IfOk result
+        (λ row. row ≡ spec.sized_page_words slug.now lang.now path.now media.now size) }
 {
-    let (slug, lang) = (page.slug.as_str(), page.lang.as_str());
-    let (path, media) = (page.path.as_str(), page.page.media.as_str());
-    let size = page.page.body.as_slice().len();
+    let (slug, lang) = (slug.as_str(), lang.as_str());
+    let (path, media) = (path.as_str(), media.as_str());
     Ok(Text::wrap(format!(in alloc; "page\t{slug}\t{lang}\t{path}\t{media}\t{size}")?))
 }

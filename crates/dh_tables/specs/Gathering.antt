@@ -1,0 +1,43 @@
+-- What is known of a query whose rows are taken one at a time.
+use Rattle.std.specs.Prelude.{ℕ, Bool, true, false, List, [], ◌∷◌, ◌++◌, Result, Ok, Err}
+use Rattle.sqlite_value.specs.Order.{Row}
+use Rattle.sqlite_trees.specs.declared.store.Store.{Ghosts}
+use Rattle.sqlite.specs.Given.{HasGiven}
+use Rattle.sqlite.specs.Held.{Held, state}
+use Rattle.sqlite.specs.State.{HasCleanDisk}
+use Rattle.dh_ports.specs.declared.fault.Fault.{Fault}
+use Rattle.dh_rows.specs.Calls.{AreRows, IsHonest, IsPlainLook, IsUnfit, OnlyLooks, StoreFaultHasCause}
+use Rattle.dh_tables.specs.Sizes.{TookSizes}
+use Rattle.dh_tables.specs.declared.tables.page_sizes.Sizes.{Sizes}
+
+module _ {S : Type 0} (g : Ghosts S) (sql : List ℕ) (params : Row) where
+  -- Since then the query was begun and has given these rows, and nothing else was done.
+  pub record HasTaken (old now : Held S) (given : List Row) : Type 0 where
+    pub looks : OnlyLooks g old now {T = Unit {0}} {E = Fault} (Ok tt)
+    pub has : HasCleanDisk (state g now) → HasGiven g sql params now given
+
+  -- The rows are all that the query answers.
+  pub record HasTakenAll (old new : Held S) (given : List Row) : Type 0 where
+    pub looks : OnlyLooks g old new {T = Unit {0}} {E = Fault} (Ok tt)
+    pub are : HasCleanDisk (state g new) → IsHonest g old × AreRows (state g old) sql params given
+
+  -- The query was refused.
+  pub record Refuses (old new : Held S) (fault : Fault) : Type 0 where
+    pub looks : OnlyLooks g old new {T = Unit {0}} {E = Fault} (Err fault)
+    pub blamed : StoreFaultHasCause g old new {T = Unit {0}} (Err fault) (IsUnfit (state g old) sql params)
+
+  -- one row more is taken, or the rows so far are all
+  abbrev pub TakesOn : Held S → Held S → Sizes → List Row → Result Bool Fault → Type 0
+  TakesOn old new after given (Ok true) =
+      (row : Row) × HasTaken old new (given ++ row ∷ []) × TookSizes after (given ++ row ∷ [])
+  TakesOn old new after given (Ok false) = HasTakenAll old new given × TookSizes after given
+  TakesOn old new after given (Err fault) = Refuses old new fault
+
+  -- What taking the next row leaves, whatever was given since the query was begun.
+  abbrev pub TakesNext : Held S → Held S → Sizes → Sizes → Result Bool Fault → Type 0
+  TakesNext now new before after result =
+      (old : Held S) (given : List Row)
+      → (IsHonest g old → IsPlainLook (state g old) sql)
+      → HasTaken old now given
+      → TookSizes before given
+      → TakesOn old new after given result
