@@ -59,23 +59,23 @@ module _ (slug lang : Text) where
   abbrev sizes_in : SeenProject → List PageSize
   sizes_in p = map size_of_page (pages_in slug lang p)
 
+  abbrev there : List StoredPage → List StoredPage
+  there xs = filter (λ s. bytes_eq s.slug slug && bytes_eq s.lang lang) xs
+
+  rows_of_all : (xs : List StoredPage) → map (of_seen_size slug lang) (map size_of_page (there xs)) ≡ map seen_page_words (there xs)
+  rows_of_all [] = refl
+  rows_of_all (x ∷ xs) = go (bytes_eq x.slug slug) (bytes_eq x.lang lang) refl refl (rows_of_all xs)
+    where
+      go : (b d : Bool) → bytes_eq x.slug slug ≡ b → bytes_eq x.lang lang ≡ d → map (of_seen_size slug lang) (map size_of_page (there xs)) ≡ map seen_page_words (there xs)
+          → map (of_seen_size slug lang) (map size_of_page (cond (b && d) (x ∷ there xs) (there xs))) ≡ map seen_page_words (cond (b && d) (x ∷ there xs) (there xs))
+      go true true e f more =
+          ap₂ ◌∷◌
+          (ap₂ (λ s l. sized_page_words s l x.path x.page.media (length x.page.body)) (sym ((bytes_eq-Decides x.slug slug).0 e)) (sym ((bytes_eq-Decides x.lang lang).0 f)))
+          more
+      go true false e f more = more
+      go false d e f more = more
+
   -- they are those of the pages that stand there
   pub rows_of_sizes : (seen : Option SeenProject) → map (of_seen_size slug lang) (option_map_or sizes_in seen []) ≡ map seen_page_words (option_map_or (pages_in slug lang) seen [])
   rows_of_sizes None = refl
-  rows_of_sizes (Some p) = go p.pages
-    where
-      abbrev there : List StoredPage → List StoredPage
-      there xs = filter (λ s. bytes_eq s.slug slug && bytes_eq s.lang lang) xs
-
-      go : (xs : List StoredPage) → map (of_seen_size slug lang) (map size_of_page (there xs)) ≡ map seen_page_words (there xs)
-      go [] = refl
-      go (x ∷ xs) = by (bytes_eq x.slug slug) (bytes_eq x.lang lang) refl refl (go xs)
-        where
-          by : (b d : Bool) → bytes_eq x.slug slug ≡ b → bytes_eq x.lang lang ≡ d → map (of_seen_size slug lang) (map size_of_page (there xs)) ≡ map seen_page_words (there xs)
-              → map (of_seen_size slug lang) (map size_of_page (cond (b && d) (x ∷ there xs) (there xs))) ≡ map seen_page_words (cond (b && d) (x ∷ there xs) (there xs))
-          by true true e f more =
-              ap₂ ◌∷◌
-              (ap₂ (λ s l. sized_page_words s l x.path x.page.media (length x.page.body)) (sym ((bytes_eq-Decides x.slug slug).0 e)) (sym ((bytes_eq-Decides x.lang lang).0 f)))
-              more
-          by true false e f more = more
-          by false d e f more = more
+  rows_of_sizes (Some p) = rows_of_all p.pages

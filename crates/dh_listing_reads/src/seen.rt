@@ -85,14 +85,7 @@ fn put_page_rows(
         ≡ rows.old.items ++ map (of_seen_size slug.now lang.now) sizes.now) }
 {
     for page in sizes {
-        rows.push(seen_page_row(
-            alloc,
-            slug,
-            lang,
-            &page.path,
-            &page.media,
-            page.size,
-        )?)?;
+        rows.push(seen_page_row(alloc, slug, lang, &page.path, &page.media, page.size)?)?;
     }
     Ok(())
 }

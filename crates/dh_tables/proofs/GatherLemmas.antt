@@ -119,7 +119,7 @@ module _ {S : Type 0} (g : Ghosts S) where
       pub next_refused : (e : Error) (fault : Fault) → fault ≡ statement_fault e → (HasCleanDisk (state g c) → FailsToAdvance g b c e) → Refuses g sql params a c fault
       next_refused e fault is fails =
           let why : HasCleanDisk (state g c) → FailsToQuery sql params (state g b) (state g c) e = λ clean. fails clean sql params given (taken.has (back clean)) in
-          let refused = refused_looks g b c sql params {T = Unit {0}} {fault = fault} weaker look_on e why in
+          let refused : OnlyLooks g b c {T = Unit {0}} {E = Fault} (Err fault) = refused_looks g b c sql params weaker look_on e why in
           record {
             looks = looks_on (Err fault) taken.looks refused;
             blamed = λ clean. same_fault fault (first_to_blame clean refused) (query_blames g b c sql params back look_on clean e fault is (why clean));

@@ -24,7 +24,7 @@ module _ {S : Type 0} (g : Ghosts S) (sql : List ℕ) (params : Row) where
   -- The query was refused.
   pub record Refuses (old new : Held S) (fault : Fault) : Type 0 where
     pub looks : OnlyLooks g old new {T = Unit {0}} {E = Fault} (Err fault)
-    pub blamed : StoreFaultHasCause g old new {T = Unit {0}} (Err fault) (IsUnfit (state g old) sql params)
+    pub blamed : StoreFaultHasCause g {T = Unit {0}} old new (Err fault) (IsUnfit (state g old) sql params)
 
   -- one row more is taken, or the rows so far are all
   abbrev pub TakesOn : Held S → Held S → Sizes → List Row → Result Bool Fault → Type 0

@@ -20,6 +20,7 @@ use dh_paths::{PagePath, Text};
 use dh_ports::Fault;
 use dh_records::{PageRow, Record};
 use dh_rows::fault_of;
+use dh_seen::Page;
 use sqlite::types::ValueRef;
 use sqlite::{Alter, Connection, Row, Rows};
 use std::alloc::{AllocError, Global};
@@ -44,11 +45,18 @@ struct Sizes {
 fn size_of(row: PageRow) -> PageSize
     ensures { result ≡ size_of_row row }
 {
-    let size = row.page.body.as_slice().len();
+    let PageRow {
+        host: _host,
+        slug: _slug,
+        lang: _lang,
+        path,
+        page,
+    } = row;
+    let Page { media, body } = page;
     PageSize {
-        path: row.path,
-        media: row.page.media,
-        size,
+        path,
+        media,
+        size: body.as_slice().len(),
     }
 }
 

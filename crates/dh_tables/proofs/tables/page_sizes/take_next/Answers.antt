@@ -10,6 +10,6 @@ returns-in-Err-clause-takes g c sql params old given look taken took =
 pub returns-in-None-clause-takes : goal.returns-in-None-clause-takes
 returns-in-None-clause-takes g c sql params old given look taken took = (
   no_next g.S.Store sql params old c.args.rows.now.conn.now c.advance.new.self.conn.now given look taken c.advance.ensures.survives
-  (λ clean. subst (Advances g.S.Store c.args.rows.now.conn.now c.advance.new.self.conn.now) (sym c.in-None.ensures) (c.in_default.ensures.ok clean)),
+      (λ clean. subst (Advances g.S.Store c.args.rows.now.conn.now c.advance.new.self.conn.now) (sym c.in-None.ensures) (c.in_default.ensures.ok clean)),
   took,
 )
