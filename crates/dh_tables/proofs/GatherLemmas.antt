@@ -1,6 +1,5 @@
 -- What is left by the steps of a query whose rows are taken one at a time.
-use Rattle.std.proofs.Common.{◌≡◌, ◌⊎◌, inl, inr, ℕ, Bool, true, false, List, [], ◌∷◌, ◌++◌, map, Some, None, Result, Ok, Err, IsErrAnd, IfOk, OnOk, OnErr, IsTrue, refl, sym, subst, subst₂, ap, ap₂, ◌∙◌}
-use Rattle.std.specs.List.{AllByRecursion}
+use Rattle.std.proofs.Common.{◌≡◌, ◌⊎◌, inl, inr, ℕ, false, List, [], ◌∷◌, ◌++◌, Some, None, Result, Ok, Err, IsErrAnd, OnOk, OnErr, sym, subst, subst₂}
 use Rattle.sqlite_value.specs.Order.{Row}
 use Rattle.sqlite_trees.specs.Tree.{Trees}
 use Rattle.sqlite_trees.specs.declared.store.Store.{Ghosts}
@@ -15,13 +14,11 @@ use Rattle.sqlite.proofs.StateLemmas.{survives_weaker}
 use Rattle.dh_ports.specs.declared.fault.Fault.{Fault}
 use Rattle.dh_ports.specs.declared.fault.Fault.TheVariants.{Store, Memory}
 use Rattle.dh_ports.specs.Faults.{OnStore}
-use Rattle.dh_rows.specs.Calls.{AreRows, FindsSuch, IsBlamed, IsHonest, IsPlainLook, IsUnfit, OnlyLooks, StoreFaultHasCause, compiled_command}
+use Rattle.dh_rows.specs.Calls.{IsBlamed, IsHonest, IsPlainLook, IsUnfit, OnlyLooks, StoreFaultHasCause, compiled_command}
 use Rattle.dh_rows.specs.Faults.{statement_fault}
 use Rattle.dh_rows.proofs.Calls.{answered_looks, back_clean, lasts, leaves_no_more, query_blames, read, refused_looks, shown_was}
 use Rattle.dh_schema.specs.InTurn.{blamed_before, goes_on, refused_on, same_on}
-use Rattle.dh_tables.specs.Gathering.{HasTaken, HasTakenAll, Refuses, TakesNext, TakesOn}
-use Rattle.dh_tables.specs.Sizes.{TookSizes}
-use Rattle.dh_tables.specs.declared.tables.page_sizes.Sizes.{Sizes}
+use Rattle.dh_tables.specs.Gathering.{HasTaken, HasTakenAll, Refuses}
 
 -- ---- results
 
@@ -34,9 +31,9 @@ on_err (Ok x) f p = tt
 on_err (Err e) f p = f p
 
 -- what a fault says, whatever is answered beside it
-same_fault : {T U P Q : Type 0} (fault : Fault) → (P → Q) → OnStore {T = T} (Err fault) P → OnStore {T = U} (Err fault) Q
-same_fault Memory f h = tt
-same_fault Store f h = f h
+same_fault : (T U : Type 0) {P Q : Type 0} (fault : Fault) → (P → Q) → OnStore {T = T} (Err fault) P → OnStore {T = U} (Err fault) Q
+same_fault T U Memory f h = tt
+same_fault T U Store f h = f h
 
 pub refused_is : {T E P : Type 0} (r : Result T E) (e : E) → r ≡ Err e → OnErr r P → P
 refused_is (Ok x) e is it = absurd (cc)
@@ -122,7 +119,7 @@ module _ {S : Type 0} (g : Ghosts S) where
           let refused : OnlyLooks g b c {T = Unit {0}} {E = Fault} (Err fault) = refused_looks g b c sql params weaker look_on e why in
           record {
             looks = looks_on (Err fault) taken.looks refused;
-            blamed = λ clean. same_fault fault (first_to_blame clean refused) (query_blames g b c sql params back look_on clean e fault is (why clean));
+            blamed = λ clean. same_fault (Unit {0}) (Unit {0}) fault (first_to_blame clean refused) (query_blames g b c sql params back look_on clean e fault is (why clean));
           }
         where
           first_to_blame : HasCleanDisk (state g c) → OnlyLooks g b c {T = Unit {0}} {E = Fault} (Err fault) → IsBlamed g b c ⊎ IsUnfit (state g b) sql params → IsBlamed g a c ⊎ IsUnfit (state g a) sql params
@@ -164,4 +161,4 @@ module _ {S : Type 0} (g : Ghosts S) where
       pub blamed_handed_on : (r : Result T Fault) → IsErrAnd r (λ f. f ≡ fault) → StoreFaultHasCause g a c r (IsUnfit (state g a) sql params)
       blamed_handed_on (Ok x) same clean = absurd same
       blamed_handed_on (Err f) same clean =
-          subst (λ (e : Fault). OnStore {T = T} (Err e) (IsBlamed g a c ⊎ IsUnfit (state g a) sql params)) (sym same) (same_fault fault (λ it. it) (refused.blamed clean))
+          subst (λ (e : Fault). OnStore {T = T} (Err e) (IsBlamed g a c ⊎ IsUnfit (state g a) sql params)) (sym same) (same_fault (Unit {0}) T fault (λ it. it) (refused.blamed clean))

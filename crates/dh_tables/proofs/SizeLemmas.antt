@@ -1,5 +1,5 @@
 -- Pages that are taken row by row, as their sizes.
-use Rattle.std.proofs.Common.{◌≡◌, ◌⊎◌, inr, Bool, true, false, List, [], ◌∷◌, ◌++◌, map, IsTrue, Result, Ok, Err, Vec, IfOk, OnErr, refl, sym, subst, ap, ◌∙◌, true≢false}
+use Rattle.std.proofs.Common.{◌≡◌, ◌⊎◌, inr, true, false, List, [], ◌∷◌, ◌++◌, map, IsTrue, Result, Ok, Err, Vec, IfOk, OnErr, refl, sym, subst, ap, ◌∙◌, true≢false}
 use Rattle.std.specs.List.{AllByRecursion}
 use Rattle.sqlite_value.specs.Order.{Row}
 use Rattle.dh_ports.specs.declared.fault.Fault.{Fault}
@@ -17,12 +17,18 @@ use Rattle.dh_tables.proofs.LongerLists.{all_parts, map_more, unsnoc}
 pub took_none : (s : Sizes) → s.found.items ≡ [] → s.are_read ≡ true → TookSizes s []
 took_none s found read = record {
   kept = λ yes xs e. found ∙ nothing xs e;
-  none = λ no. absurd (true≢false (sym read ∙ no));
+  none = λ unread. absurd (true≢false (sym read ∙ unread));
 }
   where
     nothing : (xs : List PageRow) → [] ≡ map pages.encode xs → [] ≡ map size_of_row xs
     nothing [] e = refl
     nothing (x ∷ xs) e = absurd (cc)
+
+-- what a read tells that was refused
+pub store_told : {T P : Type 0} (r : Result T Fault) (fault : Fault) → r ≡ Err fault → fault ≡ Store → OnStore r P → P
+store_told (Ok x) fault is store told = absurd (cc)
+store_told (Err Memory) fault is store told = absurd (cc)
+store_told (Err Store) fault is store told = told
 
 module _ (old new : Sizes) (rows : List Row) (row : Row) (took : TookSizes old rows) where
   -- one more, of a row that was read or was not
@@ -33,18 +39,18 @@ module _ (old new : Sizes) (rows : List Row) (row : Row) (took : TookSizes old r
     kept = λ yes xs e.
         let cut = unsnoc pages.encode rows row xs e in
         some yes cut.1 cut.4 ∙ ap (λ l. l ++ size_of_row cut.1 ∷ []) (took.kept was cut.0 cut.3) ∙ map_more size_of_row cut.0 cut.1 ∙ ap (map size_of_row) (sym cut.2);
-    none = λ no xs e all.
+    none = λ unread xs e all.
         let cut = unsnoc pages.encode rows row xs e in
-        none no cut.1 cut.4 (all_parts IsPage cut.0 (cut.1 ∷ []) (subst (AllByRecursion IsPage) cut.2 all)).1.0;
+        none unread cut.1 cut.4 (all_parts IsPage cut.0 (cut.1 ∷ []) (subst (AllByRecursion IsPage) cut.2 all)).1.0;
   }
 
   -- one more behind a row that was not read
   pub took_no_more : old.are_read ≡ false → new ≡ old → TookSizes new (rows ++ row ∷ [])
-  took_no_more no same = record {
-    kept = λ yes. absurd (true≢false (sym yes ∙ ap (λ (s : Sizes). s.are_read) same ∙ no));
+  took_no_more unread same = record {
+    kept = λ yes. absurd (true≢false (sym yes ∙ ap (λ (s : Sizes). s.are_read) same ∙ unread));
     none = λ _ xs e all.
         let cut = unsnoc pages.encode rows row xs e in
-        took.none no cut.0 cut.3 (all_parts IsPage cut.0 (cut.1 ∷ []) (subst (AllByRecursion IsPage) cut.2 all)).0;
+        took.none unread cut.0 cut.3 (all_parts IsPage cut.0 (cut.1 ∷ []) (subst (AllByRecursion IsPage) cut.2 all)).0;
   }
 
 -- ---- what is given of the sizes that were taken
@@ -55,13 +61,13 @@ module _ (s : Sizes) (rows : List Row) (took : TookSizes s rows) (Asked : List P
   sizes_given was (Err e) it = tt
 
   -- a row that was not read
-  pub unread_told : {T P Q : Type 0} (r : Result T Fault) → OnErr r (s.are_read ≡ false) → OnStore r (P ⊎ (Q ⊎ ((xs : List PageRow) → Asked xs → ¬ AllByRecursion IsPage xs)))
-  unread_told (Ok x) no = tt
-  unread_told (Err Memory) no = tt
-  unread_told (Err Store) no = inr (inr (λ xs asked. took.none no xs (are xs asked)))
+  pub unread_told : (P Q : Type 0) {T : Type 0} (r : Result T Fault) → OnErr r (s.are_read ≡ false) → OnStore r (P ⊎ (Q ⊎ ((xs : List PageRow) → Asked xs → ¬ AllByRecursion IsPage xs)))
+  unread_told P Q (Ok x) unread = tt
+  unread_told P Q (Err Memory) unread = tt
+  unread_told P Q (Err Store) unread = inr (inr (λ xs asked. took.none unread xs (are xs asked)))
 
 -- what is answered is that of the records that are asked for
-pub sizes_value : {H V E : Type 0} (Asked : List PageRow → Type 0) (items : V → List PageSize) (r : Result V E) (ys : List PageRow) → IfOk r (λ v. H × ((xs : List PageRow) → Asked xs → items v ≡ map size_of_row xs))
+pub sizes_value : (H : Type 0) {V E : Type 0} (Asked : List PageRow → Type 0) (items : V → List PageSize) (r : Result V E) (ys : List PageRow) → IfOk r (λ v. H × ((xs : List PageRow) → Asked xs → items v ≡ map size_of_row xs))
     → Asked ys → IfOk r (λ v. items v ≡ map size_of_row ys)
-sizes_value Asked items (Ok v) ys h asked = h.1 ys asked
-sizes_value Asked items (Err x) ys h asked = tt
+sizes_value H Asked items (Ok v) ys h asked = h.1 ys asked
+sizes_value H Asked items (Err x) ys h asked = tt

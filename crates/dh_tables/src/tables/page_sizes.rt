@@ -4,7 +4,6 @@ ghost use Rattle.std.specs.Prelude.{◌≡◌, ◌∷◌, ◌++◌, [], ℕ, Boo
 ghost use Rattle.sqlite_value.specs.Order.{Row as Values};
 ghost use Rattle.sqlite.specs.Held.{state};
 ghost use Rattle.sqlite.specs.Values.{bound};
-ghost use Rattle.dh_ports.specs.Faults.{OnStore};
 ghost use Rattle.dh_rows.specs.Calls.{AreRows, FindsSuch, IsHonest, IsPlainLook, IsUnfit, OnlyLooks};
 ghost use Rattle.dh_records.specs.Codings.{pages};
 ghost use Rattle.dh_records.specs.Lists.{Lists};

@@ -16,5 +16,5 @@ invariant_of-self g c = looked g.S.Store c.self.inside.conn c.page_sizes.new.con
 pub returns : goal.returns
 returns g c part test it = record {
   asks = asks g.S.Store c.self.view_is c.self.invariant.0 c.requires.query (λ why. why) c.page_sizes.ensures.looks c.page_sizes.ensures.told;
-  value = λ now. sizes_value _ (λ v. v.items) c.page_sizes.result _ (c.page_sizes.ensures.value now.0) (reads g.S.Store c.self.view_is c.self.invariant.0 it c.page_sizes.ensures.looks now);
+  value = λ now. sizes_value _ (AreAsked pages.encode (state g.S.Store c.self.inside.conn) c.args.sql.now (bound c.args.params.now)) (λ v. v.items) c.page_sizes.result _ (c.page_sizes.ensures.value now.0) (reads g.S.Store c.self.view_is c.self.invariant.0 it c.page_sizes.ensures.looks now);
 }

@@ -1,4 +1,3 @@
-use Rattle.std.proofs.Common.{rules}
 use Rattle.sqlite.specs.Held.{state}
 use Rattle.sqlite.specs.Values.{bound}
 use Rattle.dh_records.specs.Codings.{pages}
@@ -24,4 +23,4 @@ returns-clause-looks g c = looks_either g.S.Store c.into_found.result c.in_ok-ga
 pub returns-clause-told : goal.returns-clause-told
 returns-clause-told g c clean =
     let it = c.in_ok-gather.ensures.rows clean in
-    unread_told c.gather.new.sizes it.1.0 it.1.2 (AreAsked pages.encode (state g.S.Store c.args.conn.now) c.args.sql.now (bound c.args.params.now)) (λ xs asked. asked it.1.0 it.1.1) c.into_found.result c.into_found.ensures.told
+    unread_told c.gather.new.sizes it.1.0 it.1.2 (AreAsked pages.encode (state g.S.Store c.args.conn.now) c.args.sql.now (bound c.args.params.now)) (λ xs asked. asked it.1.0 it.1.1) _ _ c.into_found.result c.into_found.ensures.told

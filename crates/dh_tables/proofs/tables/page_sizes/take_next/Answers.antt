@@ -1,6 +1,6 @@
-use Rattle.std.proofs.Common.{refl, sym, subst}
+use Rattle.std.proofs.Common.{sym, subst}
 use Rattle.sqlite.specs.Given.{Advances}
-use Rattle.dh_tables.proofs.GatherLemmas.{next_refused, next_stopped, no_next, one_next}
+use Rattle.dh_tables.proofs.GatherLemmas.{next_refused, no_next}
 use Rattle.dh_tables.proofs.tables.page_sizes.take_next.Goals as goal
 
 pub returns-in-Err-clause-takes : goal.returns-in-Err-clause-takes

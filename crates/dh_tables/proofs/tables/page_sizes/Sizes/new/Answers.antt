@@ -3,4 +3,4 @@ use Rattle.dh_tables.proofs.SizeLemmas.{took_none}
 use Rattle.dh_tables.proofs.tables.page_sizes.Sizes.new.Goals as goal
 
 pub returns : goal.returns
-returns c = took_none c.result c.new.ensures.items refl
+returns c = took_none _ c.new.ensures.items refl
