@@ -171,7 +171,7 @@ fn put_pages_in<L: Inventory>(
         (L.meaning.content lookup.old) [])) }
 {
     let sizes = lookup.page_sizes_in(alloc, slug, lang)?;
-    put_page_rows(alloc, rows, slug, lang, &sizes)?;
+    put_page_rows(alloc, rows, slug, lang, sizes.as_slice())?;
     Ok(())
 }
 
