@@ -37,8 +37,6 @@ use Rattle.dh_rows.proofs.Texts.{ArePlain}
 use Rattle.dh_records.specs.Codings.{passes}
 use Rattle.dh_records.specs.Constraints.{InOrder}
 use Rattle.dh_records.specs.declared.records.PassRow.{PassRow}
-use Rattle.dh_schema.specs.Making.{CanAdd, derived_tables}
-use Rattle.dh_schema.proofs.Made.{Spares, wait}
 use Rattle.dh_schema.specs.Tables.{meta, meta_table, pass_table}
 use Rattle.dh_schema.specs.ColumnLemmas.{pass_simple, pass_plain, pass_back}
 use Rattle.dh_migrating.specs.OldPasses.{old_pass_table}
@@ -63,7 +61,7 @@ drop_asks s old = drops_table old_pass_table drop_text drop_read refl no_counter
 pub dropped : (s : State) → IsConvertible s.now → (after : Database) → EditsTo s drop_text [] after → IsGone s.now after
 dropped s old after edits =
     let it = (drop_asks s old).dropped after edits in
-    record { free = it.free; unmentioned = it.unmentioned; counted = it.counted; placed = it.placed; others = it.others; addable = λ can. ((it.spared _ can.0.0.0 can.0.0.1, (it.spared _ can.0.1.0.0 can.0.1.0.1, tt)), it.counted) }
+    record { free = it.free; unmentioned = it.unmentioned; counted = it.counted; placed = it.placed; others = it.others }
 
 -- ---- CREATE
 
@@ -77,10 +75,6 @@ create_read = makes refl refl refl refl refl refl refl refl
 pub create_asks : (s : State) {before : Database} → IsGone before s.now → Creates s create_text pass_table
 create_asks s gone = creates pass_table create_text create_read refl refl (refl, tt) s gone.free gone.unmentioned gone.counted gone.placed
 
-no_spare : AllByRecursion (Spares pass_table) derived_tables
-unfolding everything
-no_spare = ((refl, λ tree. (refl, tt)), ((refl, λ tree. (refl, tt)), tt))
-
 none : {X : Type 0} (c : Coding X) → IsTableOf c []
 none c = record { coded = tt; apart = tt; keyed = tt }
 
@@ -91,7 +85,6 @@ created s gone after edits =
       keeps = record { stands = it.stands; rows = subst (IsTableOf passes) (sym it.empty) (none passes) };
       passes = ap (records_in_rows passes) it.empty;
       others = λ u was apart. it.others u was;
-      addable = λ can. (wait pass_table refl s.now after it gone.unmentioned derived_tables no_spare can.0, it.counted);
     }
 
 -- ---- INSERT
@@ -224,7 +217,6 @@ module _ (rows : List PassRow) (up : InOrder passes.key rows) (d : PassRow) (i :
     keeps = it.keeps;
     passes = it.records ∙ ap (added passes.key next) had.passes ∙ last_added next (take i rows) below ∙ sym (take_more rows i d low);
     others = λ u was apart. let o = had.others u was apart in (subst (λ s. StandsInSchema s u) (sym it.schema) o.0, it.others u o.0 apart ∙ o.1);
-    addable = λ can. subst CanAdd (sym it.schema) (had.addable can);
   }
 
 -- the same of the one that is taken from its place
@@ -281,7 +273,6 @@ all_converted rows before dropped made wrote bare after old gone new had minus p
       meta = plus.keeps;
       number = plus.records ∙ ap (added meta.key 2) (number_gone wrote bare m.1 minus);
       others = λ u was not_pass not_meta. let o = spares u was not_pass in let n = spared minus u o.0 not_meta in let l = spared plus u n.0 not_meta in (l.0, l.1 ∙ n.1 ∙ o.1);
-      addable = λ can. subst CanAdd (sym plus.schema) (subst CanAdd (sym minus.schema) (had.addable (new.addable (gone.addable can))));
     }
 
 module _ {S : Type 0} {g : Ghosts S} {o a b c : Held S} (rows : List PassRow) (old : IsHonest g o → IsConvertible (state g o).now)
