@@ -97,6 +97,7 @@ fn check_tables<S: Alter>(conn: &mut Connection<S>, alloc: Global) -> Result<boo
 }
 
 /// What a look at a database finds.
+#[derive(Clone, Copy)]
 pub enum Found {
     /// Tables of schema 1, of which only the number was read.
     Old,
@@ -188,8 +189,9 @@ fn open_tables<S: Alter>(conn: &mut Connection<S>, alloc: Global) -> Result<(), 
 /// Opens the tables that stand in a database, over a connection in no transaction. The tables must be as they are made, with
 /// nothing of others on them, and their rows must spell records which keep the constraints; the records stay. Reads each table
 /// whole, and nothing else where the number says schema 1. Where one of the tables of derived records is missing, or has a row
-/// of no record, it makes both anew with no record in them, in one transaction; else it changes nothing. A connection that is handed back may still be in the transaction. The limit on a
-/// statement's steps is cleared, also on a connection that is handed back.
+/// of no record, it makes both anew with no record in them, in one transaction; else it changes nothing. A connection that is
+/// handed back may still be in the transaction. The limit on a statement's steps is cleared, also on a connection that is handed
+/// back.
 pub fn open<S: Alter>(
     alloc: Global,
     conn: Connection<S>,
