@@ -116,22 +116,25 @@ may_derive db false lacks = inr lacks.1
 
 -- those of tables of ours that lack them can be made anew
 pub lacks_anew : (db : Database) → LacksDerived db → IsDerivedBy false db
-lacks_anew db lacks = (lacks.1, elim lacks.0.derived [
-  | inl has ↦ absurd (lacks.1 has)
-  | inr can ↦ can
-])
+lacks_anew db lacks = (
+  lacks.1,
+  elim lacks.0.derived [
+    | inl has ↦ absurd (lacks.1 has)
+    | inr can ↦ can
+  ],
+)
 
 -- ---- the tables of derived records by what is read of them
 
 module _ {X Z : Type 0} {c : Coding X} {P : X → Type 0} {name : List ℕ} {db : Database} where
   -- a table spells records where some are told
-  pub spells_told : (o : Option (Vec X Z)) → IsSpelledBy c P name db o → IsTrue (is_some o) ↔ ((xs : List X) × StandFor c P name db xs)
+  pub spells_told : (o : Option (Vec X Z)) → IsSpelledBy c P name db o → (IsTrue (is_some o) ↔ ((xs : List X) × StandFor c P name db xs))
   spells_told (Some v) it = ((λ _. (v.items, it)), λ _. refl)
   spells_told None it = ((λ some. absurd (true≢false (sym some))), λ has. absurd (it has.0 has.1))
 
 -- both spell records
-pub both_derived : (db : Database) → AllByRecursion (StandsAlone db.schema) derived_tables → (a b : Bool) → IsTrue a ↔ ((xs : List AliasRow) × StandFor aliases IsAlias (codes "alias") db xs) → IsTrue b ↔ ((xs : List RouteRow) × StandFor routes IsRoute (codes "route") db xs)
-    → IsTrue (a && b) ↔ HasDerived db
+pub both_derived : (db : Database) → AllByRecursion (StandsAlone db.schema) derived_tables → (a b : Bool) → (IsTrue a ↔ ((xs : List AliasRow) × StandFor aliases IsAlias (codes "alias") db xs)) → (IsTrue b ↔ ((xs : List RouteRow) × StandFor routes IsRoute (codes "route") db xs))
+    → (IsTrue (a && b) ↔ HasDerived db)
 both_derived db alone true true names ways = ((λ _. record { alone = alone; aliases = own_records (names.0 refl).1; routes = own_records (ways.0 refl).1 }), λ _. refl)
 both_derived db alone true false names ways = ((λ both. absurd (true≢false (sym both))), λ has. ways.1 ((lists_of db).routes, has.routes))
 both_derived db alone false b names ways = ((λ both. absurd (true≢false (sym both))), λ has. names.1 ((lists_of db).aliases, has.aliases))

@@ -18,11 +18,7 @@ use dh_schema::{can_add, make_derived};
 use sqlite::{Alter, Connection};
 
 /// Drops the table of a shape, which is what the statement does, where it stands alone; else does nothing.
-fn drop_alone<S: Alter>(
-    conn: &mut Connection<S>,
-    shape: &Shape<'_>,
-    sql: &str,
-) -> Result<(), Fault>
+fn drop_alone<S: Alter>(conn: &mut Connection<S>, shape: &Shape<'_>, sql: &str) -> Result<(), Fault>
     requires { DropsIt sql.now (table_of shape.now).name }
     ensures carries { CarriesTo S.Store conn.old conn.new result
         (SparesOthers (table_of shape.now).name (state S.Store conn.old).now) }
@@ -80,10 +76,7 @@ fn fill_at_once<S: Alter>(conn: &mut Connection<S>) -> Result<(), TablesFault>
 }
 
 /// Makes the tables of derived records anew, in a transaction of its own, unless they stand with records; else does nothing.
-pub(crate) fn complete<S: Alter>(
-    conn: &mut Connection<S>,
-    derived: bool,
-) -> Result<(), TablesFault>
+pub(crate) fn complete<S: Alter>(conn: &mut Connection<S>, derived: bool) -> Result<(), TablesFault>
     requires rests { HasCleanDisk (state S.Store conn.old) → IsAtRest S.Store conn.old }
     requires ours { IsHonest S.Store conn.old
         → IsOurs (state S.Store conn.old).now × IsDerivedBy derived (state S.Store conn.old).now }
@@ -92,9 +85,5 @@ pub(crate) fn complete<S: Alter>(
     ensures current { OnOldSchema result ⊥ }
     ensures none { IsTrue derived → (conn.new ≡ conn.old) × OnErr result ⊥ }
 {
-    if derived {
-        Ok(())
-    } else {
-        fill_at_once(conn)
-    }
+    if derived { Ok(()) } else { fill_at_once(conn) }
 }

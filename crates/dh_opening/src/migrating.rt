@@ -21,9 +21,7 @@ ghost use Rattle.dh_opening.specs.Migrating.{IsBehind, IsMigrated, IsOld, IsShow
 
 use crate::fault::TablesFault;
 use crate::filling::{complete, fill};
-use crate::opening::{
-    Found, check_database, check_derived, finish, kept_records, show_settled,
-};
+use crate::opening::{Found, check_database, check_derived, finish, kept_records, show_settled};
 use crate::shapes::are_old;
 use crate::tables::read_table;
 use dh_constraints::Records;

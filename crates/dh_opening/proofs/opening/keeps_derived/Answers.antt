@@ -19,7 +19,8 @@ has_derived-requires g c = record {
 
 pub returns-else-derived_stand : goal.returns-else-derived_stand
 returns-else-derived_stand g c = record {
-  opens = found_at_once false c.requires.live
-      ((λ has. absurd (true≢false (sym has))),
-      λ has. absurd (not_alone (λ (s : Schema). AllByRecursion (StandsAlone s) derived_tables) c.derived_stand.result c.schema.result.now (state g.S.Store c.args.conn.now).now.schema c.derived_stand.ensures.1 c.schema.ensures.value (search rules) has.alone));
+  opens = found_at_once false c.requires.live (
+    (λ has. absurd (true≢false (sym has))),
+    λ has. absurd (not_alone (λ (s : Schema). AllByRecursion (StandsAlone s) derived_tables) c.derived_stand.result c.schema.result.now (state g.S.Store c.args.conn.now).now.schema c.derived_stand.ensures.1 c.schema.ensures.value (search rules) has.alone),
+  );
 }
