@@ -12,16 +12,16 @@ use Rattle.dh_opening.proofs.filling.drop_alone.Goals as goal
 pub change-requires : goal.change-requires
 change-requires g c = record {
   edit = λ honest.
-      (drop_asks (state g.S.Store c.args.conn.now) (table_of c.args.shape.now) c.args.sql.now refl c.requires (c.schema.ensures.live honest.1).0
-      (subst (λ (s : Schema). CanDrop s (table_of c.args.shape.now)) c.schema.ensures.value (c.can_drop.ensures.0 c.if-can_drop.true)) (subst (λ (s : Schema). lacks_sequence s ≡ false) c.schema.ensures.value (c.keeps_counts.ensures.0 c.if-keeps_counts.true))).edit;
+      (drop_asks (state g.S.Store c.args.conn.now) (table_of c.args.shape.now) c.args.sql.now refl c.requires (c.schema-schema.ensures.live honest.1).0
+      (subst (λ (s : Schema). CanDrop s (table_of c.args.shape.now)) c.schema-schema.ensures.value (c.can_drop.ensures.0 c.if-can_drop.true)) (subst (λ (s : Schema). lacks_sequence s ≡ false) c.schema-schema.ensures.value (c.keeps_counts.ensures.0 c.if-keeps_counts.true))).edit;
 }
 
 pub returns-then-keeps_counts : goal.returns-then-keeps_counts
 returns-then-keeps_counts g c = record {
   carries = carried_one c.args.conn.now c.change.new.conn _ [] _ c.change.result
       (λ honest after edits.
-      ((drop_asks (state g.S.Store c.args.conn.now) (table_of c.args.shape.now) c.args.sql.now refl c.requires (c.schema.ensures.live honest.1).0
-      (subst (λ (s : Schema). CanDrop s (table_of c.args.shape.now)) c.schema.ensures.value (c.can_drop.ensures.0 c.if-can_drop.true)) (subst (λ (s : Schema). lacks_sequence s ≡ false) c.schema.ensures.value (c.keeps_counts.ensures.0 c.if-keeps_counts.true))).dropped after edits).others)
+      ((drop_asks (state g.S.Store c.args.conn.now) (table_of c.args.shape.now) c.args.sql.now refl c.requires (c.schema-schema.ensures.live honest.1).0
+      (subst (λ (s : Schema). CanDrop s (table_of c.args.shape.now)) c.schema-schema.ensures.value (c.can_drop.ensures.0 c.if-can_drop.true)) (subst (λ (s : Schema). lacks_sequence s ≡ false) c.schema-schema.ensures.value (c.keeps_counts.ensures.0 c.if-keeps_counts.true))).dropped after edits).others)
       c.change.ensures.edits;
 }
 
