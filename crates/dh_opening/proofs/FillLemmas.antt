@@ -86,7 +86,7 @@ module _ (db after : Database) (spares : SparesRecords db after) where
 
 filled_spares : (derived : Bool) (db after : Database) → IsFilled derived db after → SparesRecords db after
 filled_spares true db after still u was apart = subst (λ (d : Database). StandsInSchema d.schema u × (rows_of d u.name ≡ rows_of db u.name)) (sym still) (was, refl)
-filled_spares false db after anew = anew.others
+filled_spares false db after anew u was apart = anew.others u was apart
 
 -- ---- all tables
 
@@ -295,8 +295,8 @@ pub route_drops : DropsIt (codes "DROP TABLE route") (codes "route")
 unfolding everything
 route_drops = record { drops = drops refl refl refl refl; apart = refl }
 
-anew : {before dropped bare after : Database} → SparesOthers (codes "alias") before dropped → SparesOthers (codes "route") dropped bare → IsAdded added_tables [] bare after → AreMadeAnew before after
-anew first second added = record {
+anew : (before dropped bare after : Database) → SparesOthers (codes "alias") before dropped → SparesOthers (codes "route") dropped bare → IsAdded added_tables [] bare after → AreMadeAnew before after
+anew before dropped bare after first second added = record {
   made = added.ready.standing;
   others = λ u was apart. let o = first u was apart.0 in let n = second u o.0 apart.1.0 in let l = added.others u n.0 in (l.0, l.1 ∙ n.1 ∙ o.1);
 }
@@ -315,7 +315,7 @@ module _ {S : Type 0} {g : Ghosts S} where
 
   module _ {a b c : Held S} (first : CarriesTo g a b (Ok tt) (SparesOthers (codes "alias") (state g a).now)) (second : CarriesTo g b c (Ok tt) (SparesOthers (codes "route") (state g b).now)) where
     pub made_anew : {d : Held S} {r : Result (Unit {0}) Fault} → BuildsTables g c d r (IsAdded added_tables [] (state g c).now) → CarriesTo g a d r (AreMadeAnew (state g a).now)
-    made_anew it = carried_on first (carried_on second (carried_as (λ honest db added. anew (true_then first (was_honest second honest)) (true_then second honest) added) (carried_built it)))
+    made_anew it = carried_on first (carried_on second (carried_as (λ honest db added. anew (state g a).now (state g b).now (state g c).now db (true_then first (was_honest second honest)) (true_then second honest) added) (carried_built it)))
 
     -- tables that cannot be made
     pub not_made : (fault : Fault) → CarriesTo g a c (Err fault) (AreMadeAnew (state g a).now)
