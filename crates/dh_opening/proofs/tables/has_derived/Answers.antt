@@ -1,4 +1,4 @@
-use Rattle.std.proofs.Common.{◌&&◌, ◌↔◌, Bool, false, IsTrue, Ok, subst}
+use Rattle.std.proofs.Common.{◌∙◌, ◌&&◌, ◌↔◌, Bool, IsTrue, Ok, ap, subst, sym}
 use Rattle.sqlite.specs.Held.{state}
 use Rattle.dh_opening.specs.Opening.{HasDerived}
 use Rattle.dh_opening.proofs.Looks.{laid_on, opens_on, some_laid, then_ok}
@@ -21,8 +21,8 @@ returns-then-aliases g c = record {
 
 pub returns-else-aliases : goal.returns-else-aliases
 returns-else-aliases g c = record {
-  opens = then_ok c.in_ok-routes.routes (opens_on c.in_ok-aliases.aliases (Ok c.in_ok-routes.routes) c.in_ok-aliases.ensures.opens c.in_ok-routes.ensures.opens) false
+  opens = then_ok c.in_ok-routes.routes (opens_on c.in_ok-aliases.aliases (Ok c.in_ok-routes.routes) c.in_ok-aliases.ensures.opens c.in_ok-routes.ensures.opens) c.in_ok-aliases.aliases
       (λ honest it.
-      subst (λ (a : Bool). IsTrue (a && c.in_ok-routes.routes) ↔ HasDerived (state g.S.Store c.args.conn.now).now) c.if-aliases.false
+      subst (λ (a : Bool). IsTrue a ↔ HasDerived (state g.S.Store c.args.conn.now).now) (ap (λ (a : Bool). a && c.in_ok-routes.routes) c.if-aliases.false ∙ sym c.if-aliases.false)
       (both_derived (state g.S.Store c.args.conn.now).now (c.requires.laid honest).alone c.in_ok-aliases.aliases c.in_ok-routes.routes it.0 it.1));
 }
