@@ -26,8 +26,8 @@ abbrev pub other_words : List ℕ → List ℕ
 other_words line = behind_space (position is_space line) line
 
 -- the bytes as a text; none where they are not UTF-8
-abbrev pub text_of : List ℕ → List ℕ
-text_of bytes = if is_utf8 bytes then bytes else []
+abbrev pub text_in : List ℕ → List ℕ
+text_in bytes = if is_utf8 bytes then bytes else []
 
 -- the third word of a request line names the protocol (RFC 9112, section 3); what is no such line may be one that has a key
 abbrev pub is_request_line : List ℕ → Bool
@@ -37,7 +37,7 @@ abbrev pub path_of : List ℕ → List ℕ
 path_of target = up_to (position is_question_mark target) target
 
 abbrev pub method_in : List ℕ → List ℕ
-method_in line = if is_request_line line then text_of (first_word line) else []
+method_in line = if is_request_line line then text_in (first_word line) else []
 
 abbrev pub path_in : List ℕ → List ℕ
-path_in line = if is_request_line line then text_of (path_of (first_word (other_words line))) else []
+path_in line = if is_request_line line then text_in (path_of (first_word (other_words line))) else []

@@ -3,18 +3,18 @@ use Rattle.std.specs.Prelude.{ℕ, Bool, List, [], ◌++◌, length, codes, nat_
 use Rattle.std.specs.Fmt.{decimal}
 use Rattle.dh_paths.specs.Escapes.{escaped}
 use Rattle.dh_log.specs.declared.entry.Entry.{Entry}
-use Rattle.dh_log.specs.declared.entry.Cause.{Cause}
-use Rattle.dh_log.specs.declared.entry.Cause.TheVariants.{Word, Number}
 use Rattle.dh_log.specs.declared.entry.Level.{Level}
 use Rattle.dh_log.specs.declared.entry.Level.TheVariants.{Error, Warning, Info}
+use Rattle.dh_log.specs.declared.entry.Word.{Word}
+use Rattle.dh_log.specs.declared.entry.Word.TheVariants.{Text, Number}
 
 -- a text as a word of a line, escaped as a path is; `-` for an empty one
 abbrev pub shown : List ℕ → List ℕ
 shown text = if nat_eq (length text) 0 then codes "-" else escaped text
 
-abbrev pub shown_cause : Cause → List ℕ
-shown_cause (Word word) = shown word.now
-shown_cause (Number number) = decimal number
+abbrev pub shown_word : Word → List ℕ
+shown_word (Text text) = shown text.now
+shown_word (Number number) = decimal number
 
 -- the level as syslog counts it (RFC 5424, section 6.2.1), where lines have levels
 abbrev pub level_mark : Level → List ℕ
@@ -25,15 +25,15 @@ level_mark Info = codes "<6>"
 abbrev pub mark_of : Bool → Level → List ℕ
 mark_of has_levels level = if has_levels then level_mark level else []
 
--- what came of it, what it was, of what, how many bytes it was answered by, in how many microseconds, under which host, when, why,
--- and of which version
+-- what came of it, what it was, of what, how many bytes answered it, in how many microseconds, under which host, when, why, and of
+-- which version
 abbrev pub line_of : Bool → Entry → List ℕ
 line_of has_levels entry =
-    mark_of has_levels entry.level ++ shown entry.outcome.now
-    ++ codes " " ++ shown entry.kind.now ++ codes " " ++ shown entry.name.now
-    ++ codes " " ++ decimal entry.bytes ++ codes " " ++ decimal entry.micros
-    ++ codes " " ++ shown entry.host.now ++ codes " " ++ decimal entry.moment
-    ++ codes " " ++ shown_cause entry.cause ++ codes " " ++ shown entry.slug.now ++ codes "\n"
+    mark_of has_levels entry.level ++ shown_word entry.outcome
+    ++ codes " " ++ shown entry.about.kind.now ++ codes " " ++ shown entry.about.name.now
+    ++ codes " " ++ decimal entry.measured.bytes ++ codes " " ++ decimal entry.measured.micros
+    ++ codes " " ++ shown entry.about.host.now ++ codes " " ++ decimal entry.measured.moment
+    ++ codes " " ++ shown_word entry.cause ++ codes " " ++ shown entry.about.slug.now ++ codes "\n"
 
 -- the line that tells, at a moment, how many lines were lost
 abbrev pub lost_line : Bool → ℕ → ℕ → List ℕ

@@ -8,12 +8,15 @@ use Rattle.dh_log.specs.declared.entry.Entry.{Entry}
 use Rattle.dh_log.specs.declared.log.Log.{Log}
 use Rattle.dh_log.specs.declared.log.Missed.{Missed}
 
--- the line of an entry, behind the end of one that was written in part, and the line that tells how many were lost
+-- what stands in front of a line: the end of one that was written in part, and the line that tells how many were lost
+abbrev pub missed_text : Bool → Missed → ℕ → List ℕ
+missed_text has_levels missed moment =
+    (if missed.is_torn then codes "\n" else [])
+    ++ (if nat_eq missed.lost 0 then [] else lost_line has_levels moment missed.lost)
+
 abbrev pub told_text : Bool → Missed → Entry → List ℕ
 told_text has_levels missed entry =
-    (if missed.is_torn then codes "\n" else [])
-    ++ (if nat_eq missed.lost 0 then [] else lost_line has_levels entry.moment missed.lost)
-    ++ line_of has_levels entry
+    missed_text has_levels missed entry.measured.moment ++ line_of has_levels entry
 
 -- nothing was missed since the last line that was written whole
 abbrev pub none_missed : Missed

@@ -17,35 +17,47 @@ pub enum Level {
     Info,
 }
 
-/// Why it came so.
+/// A word of a line.
 #[derive(Clone, Copy)]
-pub enum Cause<'a> {
-    /// A word; empty where there is nothing to say.
-    Word(&'a str),
-    /// The number of a refusal, or a count.
+pub enum Word<'a> {
+    /// A text; empty where there is nothing to say.
+    Text(&'a str),
     Number(u64),
 }
 
-/// What a line tells. It has no place for a key, a pass or a body. Each text may be empty.
+/// What a line is about. Each text may be empty.
 #[derive(Clone, Copy)]
-pub struct Entry<'a> {
-    pub level: Level,
-    /// What came of it.
-    pub outcome: &'a str,
+pub struct About<'a> {
     /// The method of a request, or what else it was.
     pub kind: &'a str,
-    /// The path of a request, the word of an order, or of what else it was.
+    /// The path of a request, the word of an order, or the file of a server.
     pub name: &'a str,
+    pub host: &'a str,
+    /// The slug of a version, or the name of a branch or tag.
+    pub slug: &'a str,
+}
+
+/// What a server measured.
+#[derive(Clone, Copy)]
+pub struct Measured {
+    /// When it came, in seconds since 1970.
+    pub moment: u64,
     /// How many bytes answered it.
     pub bytes: u64,
     /// How long that took, in microseconds.
     pub micros: u64,
-    pub host: &'a str,
-    /// When it came, in seconds since 1970.
-    pub moment: u64,
-    pub cause: Cause<'a>,
-    /// The slug of the version that it is about, or the name of a branch or tag.
-    pub slug: &'a str,
+}
+
+/// What a line tells. It has no place for a key, a pass or a body.
+#[derive(Clone, Copy)]
+pub struct Entry<'a> {
+    pub level: Level,
+    /// What came of it.
+    pub outcome: Word<'a>,
+    pub about: About<'a>,
+    pub measured: Measured,
+    /// Why it came so, where there is something to say.
+    pub cause: Word<'a>,
 }
 
 /// What stands in front of a line of a level.
@@ -94,47 +106,50 @@ fn put_number(alloc: Global, out: &mut Vec<u8>, number: u64) -> Result<(), Alloc
     put(out, format!(in alloc; "{number}")?.as_str())
 }
 
-/// Puts a space and a cause.
-fn put_cause(alloc: Global, out: &mut Vec<u8>, cause: Cause<'_>) -> Result<(), AllocError>
-    ensures { OnOk result (out.new.items
-        ≡ out.old.items ++ codes " " ++ spec.shown_cause cause.entry) }
+/// Puts a word.
+fn put_told(alloc: Global, out: &mut Vec<u8>, word: Word<'_>) -> Result<(), AllocError>
+    ensures { OnOk result (out.new.items ≡ out.old.items ++ spec.shown_word word.entry) }
 {
-    match cause {
-        Cause::Word(word) => put_word(alloc, out, word),
-        Cause::Number(number) => put_number(alloc, out, number),
+    match word {
+        Word::Text(text) => put_shown(alloc, out, text),
+        Word::Number(number) => put(out, format!(in alloc; "{number}")?.as_str()),
     }
 }
 
-/// Puts what was done: what came of it, what it was, and of what.
+/// Puts what came of it, what it was, and of what.
 fn put_deed(
     alloc: Global,
     out: &mut Vec<u8>,
-    has_levels: bool,
-    entry: &Entry<'_>,
+    outcome: Word<'_>,
+    about: &About<'_>,
 ) -> Result<(), AllocError>
     ensures { OnOk result (out.new.items
-        ≡ out.old.items ++ spec.mark_of has_levels entry.now.level ++ spec.shown entry.now.outcome.now
-        ++ codes " " ++ spec.shown entry.now.kind.now
-        ++ codes " " ++ spec.shown entry.now.name.now) }
+        ≡ out.old.items ++ spec.shown_word outcome.entry
+        ++ codes " " ++ spec.shown about.now.kind.now
+        ++ codes " " ++ spec.shown about.now.name.now) }
 {
-    put(out, mark_of(has_levels, entry.level))?;
-    put_shown(alloc, out, entry.outcome)?;
-    put_word(alloc, out, entry.kind)?;
-    put_word(alloc, out, entry.name)
+    put_told(alloc, out, outcome)?;
+    put_word(alloc, out, about.kind)?;
+    put_word(alloc, out, about.name)
 }
 
-/// Puts how much it was, where, and when.
-fn put_circumstances(alloc: Global, out: &mut Vec<u8>, entry: &Entry<'_>) -> Result<(), AllocError>
+/// Puts how much it was, under which host, and when.
+fn put_measured(
+    alloc: Global,
+    out: &mut Vec<u8>,
+    host: &str,
+    measured: Measured,
+) -> Result<(), AllocError>
     ensures { OnOk result (out.new.items
-        ≡ out.old.items ++ codes " " ++ decimal entry.now.bytes
-        ++ codes " " ++ decimal entry.now.micros
-        ++ codes " " ++ spec.shown entry.now.host.now
-        ++ codes " " ++ decimal entry.now.moment) }
+        ≡ out.old.items ++ codes " " ++ decimal measured.bytes
+        ++ codes " " ++ decimal measured.micros
+        ++ codes " " ++ spec.shown host.now
+        ++ codes " " ++ decimal measured.moment) }
 {
-    put_number(alloc, out, entry.bytes)?;
-    put_number(alloc, out, entry.micros)?;
-    put_word(alloc, out, entry.host)?;
-    put_number(alloc, out, entry.moment)
+    put_number(alloc, out, measured.bytes)?;
+    put_number(alloc, out, measured.micros)?;
+    put_word(alloc, out, host)?;
+    put_number(alloc, out, measured.moment)
 }
 
 /// Appends the line of an entry, with its level in front where lines have levels.
@@ -147,10 +162,12 @@ pub fn put_line(
     ensures { OnOk result (out.new.items
         ≡ out.old.items ++ spec.line_of has_levels entry.now) }
 {
-    put_deed(alloc, out, has_levels, entry)?;
-    put_circumstances(alloc, out, entry)?;
-    put_cause(alloc, out, entry.cause)?;
-    put_word(alloc, out, entry.slug)?;
+    put(out, mark_of(has_levels, entry.level))?;
+    put_deed(alloc, out, entry.outcome, &entry.about)?;
+    put_measured(alloc, out, entry.about.host, entry.measured)?;
+    put(out, " ")?;
+    put_told(alloc, out, entry.cause)?;
+    put_word(alloc, out, entry.about.slug)?;
     put(out, "\n")
 }
 

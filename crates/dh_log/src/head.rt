@@ -28,8 +28,8 @@ fn other_words(line: &[u8]) -> &[u8]
 }
 
 /// The bytes as a text; the empty text where they are not UTF-8.
-fn text_of(bytes: &[u8]) -> &str
-    ensures { result.now ≡ spec.text_of bytes.now }
+pub fn text_in(bytes: &[u8]) -> &str
+    ensures { result.now ≡ spec.text_in bytes.now }
 {
     match str::from_utf8(bytes) {
         Ok(text) => text,
@@ -66,7 +66,7 @@ pub fn method_in(line: &[u8]) -> &str
     ensures { result.now ≡ spec.method_in line.now }
 {
     if is_request_line(line) {
-        text_of(first_word(line))
+        text_in(first_word(line))
     } else {
         ""
     }
@@ -77,7 +77,7 @@ pub fn path_in(line: &[u8]) -> &str
     ensures { result.now ≡ spec.path_in line.now }
 {
     if is_request_line(line) {
-        text_of(path_of(first_word(other_words(line))))
+        text_in(path_of(first_word(other_words(line))))
     } else {
         ""
     }

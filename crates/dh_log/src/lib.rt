@@ -2,14 +2,15 @@
 //! that were lost.
 #![tactic(auto)]
 
+mod entries;
 mod entry;
 mod head;
 mod leveled;
 mod log;
 mod subject;
 
-pub use entry::{Cause, Entry, Level};
-pub use head::{method_in, path_in};
+pub use entries::Answered;
+pub use entry::{About, Entry, Level, Measured, Word};
 pub use leveled::Leveled;
-pub use log::Log;
-pub use subject::{Note, Subject, order_subject};
+pub use log::{Log, Missed};
+pub use subject::{Note, Ordered, Subject, order_subject};

@@ -1,12 +1,11 @@
 //! The writer of lines.
 
-ghost use Rattle.std.specs.Prelude.{◌≡◌, ◌+◌, false, IfErr, IfOk, OnOk};
+ghost use Rattle.std.specs.Prelude.{◌≡◌, ◌++◌, IfErr, IfOk, OnOk};
 ghost use Rattle.std.specs.Io.KnownBytes.{Appends};
 ghost use Rattle.dh_ports.specs.Ports.{PutsFirst};
-ghost use Rattle.dh_log.specs.Logs.{Tells, WritesOrCounts, none_missed, one_more_missed, told_text};
+ghost use Rattle.dh_log.specs.Logs.{Tells, WritesOrCounts, missed_text, none_missed, one_more_missed, told_text};
 
 use crate::entry::{Entry, put_line, put_lost};
-use dh_ports::{Port, put_all};
 use std::alloc::{AllocError, Global};
 use std::io::Write;
 
@@ -37,8 +36,15 @@ fn write_whole<W: Write>(writer: &mut W, bytes: &[u8]) -> Result<(), usize>
     ensures err { IfErr result
         (PutsFirst (W.contents writer.old) (W.contents writer.new) bytes.now) }
 {
-    let mut port = Port::new(writer);
-    put_all(&mut port, bytes)
+    let mut at = 0;
+    while at < bytes.len() {
+        match writer.write(&bytes[at..]) {
+            Ok(0) => return Err(at),
+            Ok(count) => at += count,
+            Err(_) => return Err(at),
+        }
+    }
+    Ok(())
 }
 
 impl Missed {
@@ -87,7 +93,10 @@ impl<W: Write> Log<W> {
     }
 
     /// Puts what stands in front of a line: the end of one that was written in part, and how many were lost.
-    fn put_missed(&self, alloc: Global, out: &mut Vec<u8>, moment: u64) -> Result<(), AllocError> {
+    fn put_missed(&self, alloc: Global, out: &mut Vec<u8>, moment: u64) -> Result<(), AllocError>
+        ensures { OnOk result (out.new.items
+            ≡ out.old.items ++ missed_text self.now.has_levels self.now.missed moment) }
+    {
         if self.missed.is_torn {
             out.push(b'\n')?;
         }
@@ -103,21 +112,40 @@ impl<W: Write> Log<W> {
             ≡ told_text self.now.has_levels self.now.missed entry.now) }
     {
         let mut out = Vec::new(alloc);
-        self.put_missed(alloc, &mut out, entry.moment)?;
+        self.put_missed(alloc, &mut out, entry.measured.moment)?;
         put_line(alloc, &mut out, self.has_levels, entry)?;
         Ok(out)
     }
 
-    /// Writes the line of an entry behind what was missed, or counts it as lost.
-    fn write_entry(&mut self, alloc: Global, entry: &Entry<'_>) {
-        let written = match self.text_of(alloc, entry) {
+    /// Writes the line of an entry behind what was missed. At `Err(n)` exactly the first n bytes went out.
+    fn write_entry(&mut self, alloc: Global, entry: &Entry<'_>) -> Result<(), usize>
+        ensures ok { OnOk result (Appends (W.contents self.old.writer) (W.contents self.new.writer)
+            (told_text self.old.has_levels self.old.missed entry.now)) }
+        ensures err { IfErr result
+            (PutsFirst (W.contents self.old.writer) (W.contents self.new.writer)
+            (told_text self.old.has_levels self.old.missed entry.now)) }
+        ensures missed { self.new.missed ≡ self.old.missed }
+        ensures on { self.new.is_on ≡ self.old.is_on }
+        ensures levels { self.new.has_levels ≡ self.old.has_levels }
+    {
+        match self.text_of(alloc, entry) {
             Ok(text) => write_whole(&mut self.writer, text.as_slice()),
             Err(_) => Err(0),
-        };
-        self.missed = match written {
-            Ok(()) => Missed::none(),
-            Err(count) => self.missed.one_more(count),
-        };
+        }
+    }
+
+    /// Writes the line of an entry behind what was missed, or counts it as lost.
+    fn write_or_count(&mut self, alloc: Global, entry: &Entry<'_>)
+        ensures line { WritesOrCounts (W.contents self.old.writer) (W.contents self.new.writer)
+            self.old.missed self.new.missed
+            (told_text self.old.has_levels self.old.missed entry.now) }
+        ensures on { self.new.is_on ≡ self.old.is_on }
+        ensures levels { self.new.has_levels ≡ self.old.has_levels }
+    {
+        match self.write_entry(alloc, entry) {
+            Ok(()) => self.missed = Missed::none(),
+            Err(count) => self.missed = self.missed.one_more(count),
+        }
     }
 
     /// Tells an entry: its line is written behind what was missed, or counted as lost.
@@ -125,7 +153,7 @@ impl<W: Write> Log<W> {
         ensures { Tells W.contents self.old entry.now self.new }
     {
         if self.is_on {
-            self.write_entry(alloc, entry);
+            self.write_or_count(alloc, entry);
         }
     }
 }

@@ -5,6 +5,7 @@ ghost use Rattle.dh_world.specs.Refusals.{refusal_number};
 ghost use Rattle.dh_log.specs.Subjects as spec;
 ghost use Rattle.dh_log.specs.Subjects.{IsOrdered, IsPosted, IsSubject, NotesNothing, NotesPost};
 
+use crate::entry::Level;
 use dh_paths::Text;
 use dh_world::{Command, CommandChange, Refusal};
 use std::alloc::{AllocError, Global};
@@ -26,6 +27,18 @@ pub struct Note {
     pub subject: Option<Subject>,
     /// The number of its refusal, where it is a command that was refused.
     pub refusal: Option<u8>,
+}
+
+/// What is noted of a message of the control socket while it is answered.
+#[derive(Drop)]
+pub struct Ordered {
+    pub level: Level,
+    /// How it ended, in one word.
+    pub outcome: &'static str,
+    /// Why its order was refused, in one word; empty where it was not.
+    pub cause: &'static str,
+    /// What it asks for, where that is known, is wanted, and memory was there.
+    pub subject: Option<Subject>,
 }
 
 /// The word of a command.

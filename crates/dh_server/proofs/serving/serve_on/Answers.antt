@@ -1,9 +1,9 @@
 use Rattle.std.proofs.Common.{◌∙◌, ◌+◌, [], ap, refl, sym, subst, true≢false, arith, rules}
 use Rattle.dh_http.specs.Desk.{WorldGoesBy}
 use Rattle.dh_http.proofs.Moving.{WorldGoesBy-refl, WorldGoesBy-trans}
+use Rattle.dh_log.proofs.Many.{tells_both, tells_none, tells_off}
 use Rattle.dh_server.specs.Turns.{ServesInTurn}
 use Rattle.dh_server.proofs.Stepping.{clock_both, counts_next, counts_none, hands_more, hands_nothing, serves_next, serves_none}
-use Rattle.dh_server.proofs.Told.{some_more}
 use Rattle.dh_server.proofs.serving.serve_on.Goals as goal
 
 pub loop-asked-init : goal.loop-asked-init
@@ -16,8 +16,7 @@ loop-asked-init g c = record {
   hears = hands_nothing (g.N.Listen.messages c.args.listener.now) (g.K.Control.handed c.args.control.now);
   shut = search rules;
   serves = WorldGoesBy-refl (serves_none g.K.Control.does (goal.C-step g) c.args.clock.now);
-  tells = search rules;
-  off = search rules;
+  tells = tells_none g.L.Write.contents c.args.log.now;
 }
 
 pub loop-asked-preserved : goal.loop-asked-preserved
@@ -36,6 +35,8 @@ loop-asked-preserved g c = record {
       (ap (λ n. c.loop-asked.answered + n) (sym c.number_of-answered.ensures.number))
       (WorldGoesBy-trans c.loop-asked.invariant.serves c.serve_next-whole.ensures.turn
       (serves_next g.K.Control.does (goal.C-step g) c.args.clock.now c.loop-asked.clock c.serve_next-whole.new.clock c.loop-asked.asked c.loop-asked.answered c.serve_next-whole.result));
-  tells = some_more g.L.Sink.broken g.L.Sink.held c.args.errors.now c.loop-asked.errors c.serve_next-whole.new.errors c.loop-asked.invariant.tells c.serve_next-whole.ensures.tells;
-  off = λ is_off. c.serve_next-whole.ensures.off is_off ∙ c.loop-asked.invariant.off is_off;
+  tells = tells_both g.L.Write.contents c.args.log.now c.loop-asked.log c.serve_next-whole.new.log c.loop-asked.asked 1 c.loop-asked.invariant.tells c.serve_next-whole.ensures.tells;
 }
+
+pub returns-clause-off : goal.returns-clause-off
+returns-clause-off g c = tells_off g.L.Write.contents c.args.log.now c.loop-asked.log c.loop-asked.asked c.loop-asked.invariant.tells
