@@ -27,13 +27,16 @@ mark_of has_levels level = if has_levels then level_mark level else []
 
 -- what came of it, what it was, of what, how many bytes answered it, in how many microseconds, under which host, when, why, and of
 -- which version
-abbrev pub line_of : Bool → Entry → List ℕ
-line_of has_levels entry =
+abbrev pub line_words : Bool → Entry → List ℕ
+line_words has_levels entry =
     mark_of has_levels entry.level ++ shown_word entry.outcome
     ++ codes " " ++ shown entry.about.kind.now ++ codes " " ++ shown entry.about.name.now
     ++ codes " " ++ decimal entry.measured.bytes ++ codes " " ++ decimal entry.measured.micros
     ++ codes " " ++ shown entry.about.host.now ++ codes " " ++ decimal entry.measured.moment
-    ++ codes " " ++ shown_word entry.cause ++ codes " " ++ shown entry.about.slug.now ++ codes "\n"
+    ++ codes " " ++ shown_word entry.cause ++ codes " " ++ shown entry.about.slug.now
+
+abbrev pub line_of : Bool → Entry → List ℕ
+line_of has_levels entry = line_words has_levels entry ++ codes "\n"
 
 -- the line that tells, at a moment, how many lines were lost
 abbrev pub lost_line : Bool → ℕ → ℕ → List ℕ

@@ -152,6 +152,22 @@ fn put_measured(
     put_number(alloc, out, measured.moment)
 }
 
+/// Puts why it came so, and of which version.
+fn put_cause(
+    alloc: Global,
+    out: &mut Vec<u8>,
+    cause: Word<'_>,
+    slug: &str,
+) -> Result<(), AllocError>
+    ensures { OnOk result (out.new.items
+        ≡ out.old.items ++ codes " " ++ spec.shown_word cause.entry
+        ++ codes " " ++ spec.shown slug.now) }
+{
+    put(out, " ")?;
+    put_told(alloc, out, cause)?;
+    put_word(alloc, out, slug)
+}
+
 /// Appends the line of an entry, with its level in front where lines have levels.
 pub fn put_line(
     alloc: Global,
@@ -165,9 +181,7 @@ pub fn put_line(
     put(out, mark_of(has_levels, entry.level))?;
     put_deed(alloc, out, entry.outcome, &entry.about)?;
     put_measured(alloc, out, entry.about.host, entry.measured)?;
-    put(out, " ")?;
-    put_told(alloc, out, entry.cause)?;
-    put_word(alloc, out, entry.about.slug)?;
+    put_cause(alloc, out, entry.cause, entry.about.slug)?;
     put(out, "\n")
 }
 

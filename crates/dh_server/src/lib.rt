@@ -18,7 +18,7 @@ pub use beginning::{Beginning, Heard};
 pub use control::{Control, NoControl};
 pub use counted::Counted;
 pub use dh_http::{Done, EngineFault};
-pub use dh_log::{Entry, Level, Log, Ordered, Subject};
+pub use dh_log::{Entry, Level, Log, Note, Ordered, Subject};
 pub use joined::Joined;
 pub use laws::life_law;
 pub use listening::{Came, Listen, Listening};

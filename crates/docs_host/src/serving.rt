@@ -4,25 +4,33 @@ ghost use Rattle.std.specs.Prelude.{◌≡◌, ◌≤◌, ◌-◌, true, false, 
 ghost use Rattle.dh_http.specs.Desk.{WorldGoesBy};
 ghost use Rattle.dh_server.specs.Serving.{AsksClock, CountsExactly};
 ghost use Rattle.dh_server.specs.Telling.{TellsSome};
+ghost use Rattle.dh_log.specs.Logs.{TellsMany};
 ghost use Rattle.docs_host.specs.Failing.{IsDoneOr, is_of_init, is_of_server, may_fail};
+ghost use Rattle.docs_host.specs.Noting.{IsToldAs, NotesOne};
+ghost use Rattle.docs_host.specs.Noting as noting;
 ghost use Rattle.docs_host.specs.Orders.{AnswersOne, ServesBoth, ServesUpTo};
 
+use crate::clock::seconds;
 use crate::failure::{Failure, Status, put};
+use crate::journal::is_journal;
 use crate::orders::say;
 use crate::socket::{
     ControlSocket, EarlySocket, Node, SocketFault, bind_early, keep_socket, name_of, node_in,
     remove_early, remove_socket,
 };
 use crate::streams::Streams;
-use dh_control::answer_message;
+use dh_control::{End, answer_message};
 use dh_files::{FileDesk, FileFault, close_desk, open_desk};
-use dh_http::Desk;
+use dh_http::{Desk, Refusal};
 use dh_ports::{Sink, Source};
-use dh_server::{Control, Listen, Listening, Log, pause, serve_on};
+use dh_script::{Reason, ScriptFault};
+use dh_server::{
+    Control, Entry, Level, Listen, Listening, Log, Ordered, Steady, Subject, pause, serve_on,
+};
 use sqlite::Alter;
 use sqlite_disk::Unknown;
 use std::alloc::Global;
-use std::io;
+use std::io::{self, Stderr, Write};
 use std::net::{SocketAddr, TcpListener};
 
 /// Where connections come from, from before the file is open: clients and commands wait there until it is.
@@ -33,6 +41,9 @@ pub struct Places {
     socket: Result<EarlySocket, SocketFault>,
 }
 
+/// The log of a server, on standard error.
+type ServerLog = Log<Steady<Stderr>>;
+
 /// What was left to serve when the store failed, over the same port and socket.
 #[derive(Drop)]
 pub struct Rest {
@@ -40,8 +51,7 @@ pub struct Rest {
     socket: Option<ControlSocket>,
     /// How many connections are still to be answered.
     count: u32,
-    /// Whether the log tells each connection.
-    log: bool,
+    log: ServerLog,
 }
 
 /// The file that is served.
@@ -123,6 +133,71 @@ fn name_or_none(rt: &HostRuntime, file: &str) -> String {
     }
 }
 
+/// Whether an order was refused by a fault of the server.
+fn is_fault(reason: Reason) -> bool
+    ensures { result ≡ noting.is_fault reason }
+{
+    match reason {
+        Reason::Refused(Refusal::Store | Refusal::OutOfMemory) => true,
+        Reason::Failed(_) => true,
+        _ => false,
+    }
+}
+
+/// How grave it is how a message ended.
+fn level_of(ended: Result<End, ScriptFault>) -> Level
+    ensures { result ≡ noting.level_of ended }
+{
+    match ended {
+        Ok(End::Done) => Level::Info,
+        Ok(End::Refused(reason)) => {
+            if is_fault(reason) {
+                Level::Error
+            } else {
+                Level::Info
+            }
+        }
+        Ok(End::Unknown | End::Elsewhere) => Level::Warning,
+        Err(_) => Level::Warning,
+    }
+}
+
+/// How a message ended, in one word.
+fn outcome_of(ended: Result<End, ScriptFault>) -> &'static str
+    ensures { result.now ≡ noting.outcome_of ended }
+{
+    match ended {
+        Ok(End::Done) => "Done",
+        Ok(End::Refused(_)) => "Refused",
+        Ok(End::Unknown) => "Unknown",
+        Ok(End::Elsewhere) => "Elsewhere",
+        Err(fault) => fault.name(),
+    }
+}
+
+/// Why the order of a message was refused, in one word; empty where it was not.
+fn cause_of(ended: Result<End, ScriptFault>) -> &'static str
+    ensures { result.now ≡ noting.cause_of ended }
+{
+    match ended {
+        Ok(End::Refused(reason)) => reason.code(),
+        _ => "",
+    }
+}
+
+/// Notes how a message ended, and what it asked for.
+fn ordered_as(ended: Result<End, ScriptFault>, subject: Option<Subject>) -> Ordered
+    ensures told { IsToldAs ended result }
+    ensures subject { result.subject ≡ subject }
+{
+    Ordered {
+        level: level_of(ended),
+        outcome: outcome_of(ended),
+        cause: cause_of(ended),
+        subject,
+    }
+}
+
 /// Answers what comes in at the control socket: messages for the file of this name.
 #[derive(Drop)]
 struct Messages<'a> {
@@ -136,6 +211,8 @@ impl<'a> Control for Messages<'a> {
 
     ghost handed = { λ messages. Some messages.count };
 
+    ghost notes = { NotesOne };
+
     fn answer<S: Alter, R: Source, W: Sink>(
         &mut self,
         alloc: Global,
@@ -143,24 +220,50 @@ impl<'a> Control for Messages<'a> {
         source: &mut R,
         sink: &mut W,
         now: u64,
-    ) {
+        is_noted: bool,
+    ) -> Ordered {
         self.count = self.count.saturating_add(1);
-        // The result is told to the client, if it is still there.
-        let _ = answer_message(alloc, desk, self.file, source, sink, now);
+        let mut subject = None;
+        let ended = answer_message(
+            alloc,
+            desk,
+            self.file,
+            source,
+            sink,
+            now,
+            is_noted,
+            &mut subject,
+        );
+        ordered_as(ended, subject)
     }
 }
 
+/// Tells the log that a server of a file begins, or why it ends.
+fn tell_server<L: Write>(
+    rt: &HostRuntime,
+    level: Level,
+    outcome: &str,
+    file: &str,
+    cause: &str,
+    log: &mut Log<L>,
+)
+    ensures { TellsMany L.contents log.old log.new 1 }
+{
+    let entry = Entry::of_server(level, outcome, file, cause, seconds(rt));
+    log.tell(rt.alloc(), &entry);
+}
+
 /// Answers `count` connections over the desk of a file, each at the moment that the clock gives. Where a fault of the store closes
-/// the desk, gives how many are left.
-fn serve_desk<S: Alter, N: Listen, C: FnMut() -> u64, E: Sink>(
+/// the desk, gives how many are left. The log is told what is served, each connection, and why it ends: all connections came, or
+/// the store failed.
+fn serve_desk<S: Alter, N: Listen, C: FnMut() -> u64, L: Write>(
     rt: &HostRuntime,
     desk: &mut Desk<S>,
     file: &str,
     listening: &mut N,
     clock: &mut C,
     count: u32,
-    log: bool,
-    errors: &mut E,
+    log: &mut Log<L>,
 ) -> Option<u32>
     requires { C.IsAlwaysCallable clock.old }
     ensures asks { CountsExactly (N.asked listening.old) (N.asked listening.new)
@@ -171,14 +274,14 @@ fn serve_desk<S: Alter, N: Listen, C: FnMut() -> u64, E: Sink>(
     ensures serves { WorldGoesBy S.Store desk.old desk.new
         (ServesBoth C.step clock.old clock.new (count - unwrap_or result 0)) }
     ensures callable { C.IsAlwaysCallable clock.new }
-    ensures tells { TellsSome E.broken E.held errors.old errors.new }
+    ensures tells { TellsMany L.contents log.old log.new (1 + (count - unwrap_or result 0) + 1) }
 {
-    let log = Log::new(rt, log);
     let name = name_or_none(rt, file);
     let mut messages = Messages {
         file: name.as_str(),
         count: 0,
     };
+    tell_server(rt, Level::Info, "Begins", file, "", log);
     let served = serve_on(
         rt.alloc(),
         desk,
@@ -186,12 +289,14 @@ fn serve_desk<S: Alter, N: Listen, C: FnMut() -> u64, E: Sink>(
         &mut messages,
         clock,
         count,
-        &log,
-        errors,
+        rt,
+        log,
     );
     if desk.is_closed() {
+        tell_server(rt, Level::Error, "Ends", file, "Store", log);
         return Some(count - served.asked);
     }
+    tell_server(rt, Level::Info, "Ends", file, "Count", log);
     None
 }
 
@@ -244,6 +349,7 @@ fn serve_at<S: Alter, C: FnMut() -> u64, R: Source, W: Sink, E: Sink>(
     let Ok(mut listening) = listening_at(&listener, &socket) else {
         return Err(Failure::Bind);
     };
+    let mut log = Log::new(Steady::new(rt.stderr()), log, is_journal(rt));
     match serve_desk(
         rt,
         desk,
@@ -251,8 +357,7 @@ fn serve_at<S: Alter, C: FnMut() -> u64, R: Source, W: Sink, E: Sink>(
         &mut listening,
         clock,
         count,
-        log,
-        &mut streams.errors,
+        &mut log,
     ) {
         Some(left) => {
             served.rest = Some(Rest {
@@ -378,14 +483,14 @@ pub fn tell_waiting<E: Sink>(alloc: Global, file: &str, seconds: u32, errors: &m
 /// Opens a file again whose store has failed, and answers `count` connections over it. Where the store fails once more, gives
 /// how many are left, and the control socket stays; else the socket is removed. The socket also stays where the file does not
 /// open: another program may have the file by then, and the socket may be that program's.
-fn serve_again<N: Listen, C: FnMut() -> u64, E: Sink>(
+fn serve_again<N: Listen, C: FnMut() -> u64, L: Write, E: Sink>(
     rt: &HostRuntime,
     file: &str,
     own: Option<Node>,
     listening: &mut N,
     clock: &mut C,
     count: u32,
-    log: bool,
+    log: &mut Log<L>,
     errors: &mut E,
 ) -> Result<Option<u32>, Failure>
     requires { C.IsAlwaysCallable clock.old }
@@ -402,7 +507,7 @@ fn serve_again<N: Listen, C: FnMut() -> u64, E: Sink>(
     tell_again(rt.alloc(), file, errors);
     let (mut desk, projects) = open_within(rt, file, REOPENING)?;
     tell_served(rt.alloc(), file, projects, errors);
-    let left = serve_desk(rt, &mut desk, file, listening, clock, count, log, errors);
+    let left = serve_desk(rt, &mut desk, file, listening, clock, count, log);
     remove_at_end(rt, file, own, left);
     let closed = close_desk(desk);
     if left.is_none() {
@@ -413,14 +518,14 @@ fn serve_again<N: Listen, C: FnMut() -> u64, E: Sink>(
 
 /// Answers `count` connections over a file whose store has failed: the file is opened again, and once more each time its store
 /// fails. The run is done when all connections were asked for, over a file that was opened and has not failed since.
-fn serve_left<N: Listen, C: FnMut() -> u64, E: Sink>(
+fn serve_left<N: Listen, C: FnMut() -> u64, L: Write, E: Sink>(
     rt: &HostRuntime,
     file: &str,
     own: Option<Node>,
     listening: &mut N,
     clock: &mut C,
     count: u32,
-    log: bool,
+    log: &mut Log<L>,
     errors: &mut E,
 ) -> Result<Status, Failure>
     requires { C.IsAlwaysCallable clock.old }
@@ -455,18 +560,24 @@ pub fn serve_rest<C: FnMut() -> u64, E: Sink>(
     ensures ends { IsDoneOr is_of_init result }
     ensures tells { TellsSome E.broken E.held errors.old errors.new }
 {
+    let Rest {
+        listener,
+        socket,
+        count,
+        mut log,
+    } = rest;
     // (the port and the socket were made so before, and stay so)
-    let Ok(mut listening) = listening_at(&rest.listener, &rest.socket) else {
+    let Ok(mut listening) = listening_at(&listener, &socket) else {
         return Err(Failure::File(FileFault::Failed));
     };
     serve_left(
         rt,
         file,
-        node_in(&rest.socket),
+        node_in(&socket),
         &mut listening,
         clock,
-        rest.count,
-        rest.log,
+        count,
+        &mut log,
         errors,
     )
 }
