@@ -127,6 +127,11 @@ abbrev pub HasLastLine : Option Text → Option Text → Result End ScriptFault 
 HasLastLine held now ended result =
     ((result ≡ ended) × Appends held now (end_line ended)) ⊎ (result ≡ Err (Run Write))
 
+-- the last line of what a sink holds tells this end; or it says that this line is lost
+abbrev pub IsEndTold : Option Text → Result End ScriptFault → Type 0
+IsEndTold now result =
+    (printed : Option Text) × (ended : Result End ScriptFault) × HasLastLine printed now ended result
+
 -- the fault says why a source was not read as a message, by what the source had left
 abbrev pub IsMessageUnread : Option Text → Result End ScriptFault → Type 0
 IsMessageUnread left (Ok end) = ⊥

@@ -11,7 +11,7 @@ ghost use Rattle.dh_script.specs.Running.{stopped_by_writer, words_in};
 ghost use Rattle.dh_control.specs.Answers as spec;
 ghost use Rattle.dh_control.specs.Answers.{AnswersMessage, DoesBody, DoesImport, DoesList, DoesMessage};
 ghost use Rattle.dh_control.specs.Answers.{DoesOne, DoesOneLine, DoesRest, DoesSent, DoesSentLine};
-ghost use Rattle.dh_control.specs.Answers.{DoesWords, HasLastLine, TakesMessage};
+ghost use Rattle.dh_control.specs.Answers.{DoesWords, HasLastLine, IsEndTold, TakesMessage};
 ghost use Rattle.dh_control.specs.Ends.{end_line, end_of as spec_end_of};
 ghost use Rattle.dh_control.specs.Messages as messages;
 ghost use Rattle.dh_control.specs.Notes.{IsOfMessage, NotesMessage};
@@ -396,6 +396,7 @@ pub fn answer_message<S: Alter, R: Source, W: Sink>(
     ensures answers { WorldGoesBy S.Store desk.old desk.new (λ before after.
         AnswersMessage now file.now (R.left source.old) before after
         (W.held sink.old) (W.held sink.new) result) }
+    ensures ended { IsEndTold (W.held sink.new) result }
     ensures noted { NotesMessage file.now (R.left source.old) noted.new }
     ensures unnoted { is_noted ≡ false → noted.new ≡ None }
     ensures read_fault { R.broken source.new ≡ true

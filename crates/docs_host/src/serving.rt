@@ -1,6 +1,6 @@
 //! Serving a file.
 
-ghost use Rattle.std.specs.Prelude.{◌≡◌, ◌≤◌, ◌-◌, true, false, unwrap_or, IfErr, IfOk, OnOk, OnErr, IsTrue, MatchOption, Some};
+ghost use Rattle.std.specs.Prelude.{◌≡◌, ◌+◌, ◌≤◌, ◌-◌, true, false, unwrap_or, IfErr, IfOk, OnOk, OnErr, IsTrue, MatchOption, Some};
 ghost use Rattle.dh_http.specs.Desk.{WorldGoesBy};
 ghost use Rattle.dh_server.specs.Serving.{AsksClock, CountsExactly};
 ghost use Rattle.dh_server.specs.Telling.{TellsSome};
