@@ -1,6 +1,7 @@
 -- The text of a line: nine words, and nothing of a request or an order but what stands in its entry.
-use Rattle.std.specs.Prelude.{ℕ, Bool, List, [], ◌++◌, length, codes, nat_eq, if◌then◌else◌}
+use Rattle.std.specs.Prelude.{ℕ, ◌<◌, ◌≤◌, Bool, List, [], ◌++◌, length, codes, nat_eq, if◌then◌else◌}
 use Rattle.std.specs.Fmt.{decimal}
+use Rattle.std.specs.List.{All}
 use Rattle.dh_paths.specs.Escapes.{escaped}
 use Rattle.dh_log.specs.declared.entry.Entry.{Entry}
 use Rattle.dh_log.specs.declared.entry.Level.{Level}
@@ -42,3 +43,11 @@ line_of has_levels entry = line_words has_levels entry ++ codes "\n"
 abbrev pub lost_line : Bool → ℕ → ℕ → List ℕ
 lost_line has_levels moment lost =
     mark_of has_levels Warning ++ codes "Lost LOG - 0 0 -" ++ codes " " ++ decimal moment ++ codes " " ++ decimal lost ++ codes " -\n"
+
+-- visible ASCII
+abbrev pub IsVisible : ℕ → Type 0
+IsVisible byte = (33 ≤ byte) × (byte ≤ 126)
+
+-- the bytes of each text, as they are shown, are visible ASCII: no space, no end of a line, and nothing that a terminal reads
+abbrev pub TextsAreVisible : Type 0
+TextsAreVisible = (text : List ℕ) → All (λ byte. byte < 256) text → All IsVisible (shown text)

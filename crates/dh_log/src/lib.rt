@@ -5,12 +5,14 @@
 mod entries;
 mod entry;
 mod head;
+mod laws;
 mod leveled;
 mod log;
 mod subject;
 
 pub use entries::Answered;
 pub use entry::{About, Entry, Level, Measured, Word};
+pub use laws::texts_are_visible;
 pub use leveled::Leveled;
 pub use log::{Log, Missed};
 pub use subject::{Note, Ordered, Subject, order_subject};

@@ -21,8 +21,8 @@ pub trait Control {
     // How many connections were handed to it, where it counts. A count stays at 2^64 - 1.
     ghost handed: { Self → Option ℕ };
 
-    // What is noted of a connection, by what it had to read.
-    ghost notes: { Option (List ℕ) → Ordered → Type 0 };
+    // What is noted of a connection, by what passed over it.
+    ghost notes: { Talk → Ordered → Type 0 };
 
     /// Does what a connection asks for at a moment, in seconds since 1970, and answers it. What it does to the world are its calls.
     /// Tells how it ended; what it asked for only where `is_noted`.
@@ -40,7 +40,9 @@ pub trait Control {
         ensures moves { WorldGoesBy S.Store desk.old desk.new (DoesByCalls (does now
             (talk_of (R.left source.old) (W.held sink.old) (W.held sink.new) (W.broken sink.new)))) }
         ensures counts { CountsExactly (handed self.old) (handed self.new) 1 }
-        ensures noted { notes (R.left source.old) result };
+        ensures noted { notes
+            (talk_of (R.left source.old) (W.held sink.old) (W.held sink.new) (W.broken sink.new))
+            result };
 }
 
 /// The control of a server without a socket: nothing is done, and nothing is written.
@@ -53,7 +55,7 @@ impl Control for NoControl {
 
     ghost handed = { λ _. None };
 
-    ghost notes = { λ _ ordered. ordered.subject ≡ None };
+    ghost notes = { λ talk ordered. (talk.now ≡ talk.held) × (ordered.subject ≡ None) };
 
     fn answer<S: Alter, R: Source, W: Sink>(
         &mut self,

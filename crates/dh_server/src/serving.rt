@@ -147,7 +147,8 @@ pub fn answer_order<S: Alter, K: Control, R: Source, W: Sink, T: Clock + Copy, L
     ensures whole { result ≡ not (W.broken sink.new.inner) }
     ensures counts { CountsExactly (K.handed control.old) (K.handed control.new) 1 }
     ensures tells { (ordered : Ordered) × (entry : Entry)
-        × K.notes (R.left source.old) ordered
+        × K.notes (talk_of (R.left source.old) (W.held sink.old.inner) (W.held sink.new.inner)
+        (W.broken sink.new.inner)) ordered
         × IsEntryOfMessage now ordered entry
         × Tells L.contents log.old entry log.new }
 {
