@@ -10,7 +10,7 @@ use Rattle.dh_listings.specs.declared.words.ListWord.{ListWord}
 use Rattle.dh_listings.specs.declared.words.ListWord.TheVariants.{Projects, OfProject, Seen}
 use Rattle.dh_listings.specs.declared.words.ProjectList.{ProjectList}
 use Rattle.dh_listings.specs.declared.words.ProjectList.TheVariants as part
-use Rattle.dh_log.specs.Subjects.{IsOrdered, IsSubject}
+use Rattle.dh_log.specs.Subjects.{IsOrderSubject, IsSubject}
 use Rattle.dh_log.specs.declared.subject.Subject.{Subject}
 use Rattle.dh_script.specs.Running.{words_in}
 use Rattle.dh_world.specs.World.{Text}
@@ -30,17 +30,17 @@ list_slug (part.Pages slug lang) = slug
 list_slug _ = []
 
 -- the subject is of this list word
-abbrev pub IsListed : ListWord → Subject → Type 0
-IsListed Projects = IsSubject (codes "list-projects") [] []
-IsListed (OfProject host list) = IsSubject (list_word list) host (list_slug list)
-IsListed (Seen host pass moment) = IsSubject (codes "list-seen") host []
+abbrev pub IsOfList : ListWord → Subject → Type 0
+IsOfList Projects = IsSubject (codes "list-projects") [] []
+IsOfList (OfProject host list) = IsSubject (list_word list) host (list_slug list)
+IsOfList (Seen host pass moment) = IsSubject (codes "list-seen") host []
 
 -- the subject is of this order
 abbrev pub IsOfOrder : Order → Subject → Type 0
-IsOfOrder (order.Act command) = IsOrdered command
+IsOfOrder (order.Act command) = IsOrderSubject command
 IsOfOrder (order.Get host target pass moment) = IsSubject (codes "get") host []
 IsOfOrder (order.Import host list) = IsSubject (codes "import") host []
-IsOfOrder (order.List word) = IsListed word
+IsOfOrder (order.List word) = IsOfList word
 IsOfOrder (order.Init file) = IsSubject (codes "init") [] []
 IsOfOrder (order.Migrate file) = IsSubject (codes "migrate") [] []
 IsOfOrder order.Script = IsSubject (codes "script") [] []
@@ -73,10 +73,10 @@ IsFor None subject = ⊥
 IsFor (Some rest) subject = IsOfRest rest subject
 
 -- the subject is of a message for this file
-abbrev pub IsOfMessage : Text → Text → Subject → Type 0
-IsOfMessage file message = IsFor (option_and_then (rest_for file) (body_of message))
+abbrev pub IsSubjectIn : Text → Text → Subject → Type 0
+IsSubjectIn file message = IsFor (option_and_then (rest_for file) (body_of message))
 
 -- where there is a subject, it is of the message that a source holds, or of some message where it does not tell its bytes
 abbrev pub NotesMessage : Text → Option Text → Option Subject → Type 0
 NotesMessage file left noted =
-    IfSome noted (λ subject. (message : Text) × IfSome left (λ input. message ≡ input) × IsOfMessage file message subject)
+    IfSome noted (λ subject. (message : Text) × IfSome left (λ input. message ≡ input) × IsSubjectIn file message subject)

@@ -14,7 +14,7 @@ ghost use Rattle.dh_control.specs.Answers.{DoesOne, DoesOneLine, DoesRest, DoesS
 ghost use Rattle.dh_control.specs.Answers.{DoesWords, HasLastLine, IsEndTold, TakesMessage};
 ghost use Rattle.dh_control.specs.Ends.{end_line, end_of as spec_end_of};
 ghost use Rattle.dh_control.specs.Messages as messages;
-ghost use Rattle.dh_control.specs.Notes.{IsOfMessage, NotesMessage};
+ghost use Rattle.dh_control.specs.Notes.{IsSubjectIn, NotesMessage};
 
 use crate::end::{End, end_name, end_number, end_of};
 use crate::message::{
@@ -331,7 +331,7 @@ fn tell_end<W: Sink>(sink: &mut W, ended: Result<End, ScriptFault>) -> Result<En
 
 /// What a message asks for, where that is wanted.
 fn note_message(alloc: Global, file: &str, message: &[u8], is_noted: bool) -> Option<Subject>
-    ensures noted { IfSome result (IsOfMessage file.now message.now) }
+    ensures noted { IfSome result (IsSubjectIn file.now message.now) }
     ensures unnoted { is_noted ≡ false → result ≡ None }
 {
     if is_noted {

@@ -4,7 +4,7 @@ ghost use Rattle.std.specs.Prelude.{◌≡◌, map, string_bytes, IfOk, IfSome};
 ghost use Rattle.dh_lines.specs.Lines.{line_in};
 ghost use Rattle.dh_control.specs.Messages as messages;
 ghost use Rattle.dh_control.specs.Notes as spec;
-ghost use Rattle.dh_control.specs.Notes.{IsListed, IsOfImport, IsOfLine, IsOfMessage, IsOfOrder, IsOfRest};
+ghost use Rattle.dh_control.specs.Notes.{IsOfList, IsOfImport, IsOfLine, IsSubjectIn, IsOfOrder, IsOfRest};
 
 use crate::message::{IMPORT, LINE, WORDS, behind, body_of, host_and_list, rest_for, words_of};
 use dh_lines::{Order, line_of};
@@ -40,7 +40,7 @@ fn list_slug(list: &ProjectList) -> &str
 
 /// Makes the subject of a list word.
 fn subject_of_list(alloc: Global, word: &ListWord) -> Result<Subject, AllocError>
-    ensures { IfOk result (IsListed word.now) }
+    ensures { IfOk result (IsOfList word.now) }
 {
     match word {
         ListWord::Projects => Subject::new(alloc, "list-projects", "", ""),
@@ -103,7 +103,7 @@ fn subject_of_rest(alloc: Global, rest: &[u8]) -> Option<Subject>
 /// Makes the subject of a message for the file of this name. None where it is for another file, or asks for nothing that is known,
 /// or memory is out.
 pub fn subject_in(alloc: Global, file: &str, message: &[u8]) -> Option<Subject>
-    ensures { IfSome result (IsOfMessage file.now message.now) }
+    ensures { IfSome result (IsSubjectIn file.now message.now) }
 {
     subject_of_rest(alloc, rest_for(file, body_of(message)?)?)
 }

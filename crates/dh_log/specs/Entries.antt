@@ -21,7 +21,7 @@ pub record IsAbout (kind name host slug : List ℕ) (about : About) : Type 0 whe
   pub slug_is : about.slug.now ≡ slug
 
 -- it ended so, for this cause, as words of a line
-pub record Ended (level : Level) (outcome cause : List ℕ) (entry : Entry) : Type 0 where
+pub record EndedAs (level : Level) (outcome cause : List ℕ) (entry : Entry) : Type 0 where
   pub level_is : entry.level ≡ level
   pub outcome_is : shown_word entry.outcome ≡ outcome
   pub cause_is : shown_word entry.cause ≡ cause
@@ -38,7 +38,7 @@ cause_of None reason = shown reason
 
 pub record IsOfRequest (answered : Answered) (note : Note) (measured : Measured) (entry : Entry) : Type 0 where
   pub about : IsAboutRequest note.subject answered entry.about
-  pub ended : Ended answered.level (shown_word answered.outcome) (cause_of note.refusal answered.reason.now) entry
+  pub ended : EndedAs answered.level (shown_word answered.outcome) (cause_of note.refusal answered.reason.now) entry
   pub measures : entry.measured ≡ measured
 
 abbrev pub IsAboutMessage : Option Subject → About → Type 0
@@ -47,7 +47,7 @@ IsAboutMessage None = IsAbout (codes "ORDER") [] [] []
 
 pub record IsOfMessage (ordered : Ordered) (measured : Measured) (entry : Entry) : Type 0 where
   pub about : IsAboutMessage ordered.subject entry.about
-  pub ended : Ended ordered.level (shown ordered.outcome.now) (shown ordered.cause.now) entry
+  pub ended : EndedAs ordered.level (shown ordered.outcome.now) (shown ordered.cause.now) entry
   pub measures : entry.measured ≡ measured
 
 -- a moment, at which nothing was answered
@@ -57,11 +57,11 @@ at_moment moment = record { moment = moment; bytes = 0; micros = 0 }
 -- the system gave no connection
 pub record IsOfNone (moment : ℕ) (entry : Entry) : Type 0 where
   pub about : IsAbout [] [] [] [] entry.about
-  pub ended : Ended Error (shown (codes "Accept")) (shown []) entry
+  pub ended : EndedAs Error (shown (codes "Accept")) (shown []) entry
   pub measures : entry.measured ≡ at_moment moment
 
 -- a server of a file began or ended
 pub record IsOfServer (level : Level) (outcome file cause : List ℕ) (moment : ℕ) (entry : Entry) : Type 0 where
   pub about : IsAbout (codes "SERVE") file [] [] entry.about
-  pub ended : Ended level (shown outcome) (shown cause) entry
+  pub ended : EndedAs level (shown outcome) (shown cause) entry
   pub measures : entry.measured ≡ at_moment moment

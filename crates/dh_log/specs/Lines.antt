@@ -1,5 +1,5 @@
 -- The text of a line: nine words, and nothing of a request or an order but what stands in its entry.
-use Rattle.std.specs.Prelude.{ℕ, ◌<◌, ◌≤◌, Bool, List, [], ◌++◌, length, codes, nat_eq, if◌then◌else◌}
+use Rattle.std.specs.Prelude.{ℕ, ◌^◌, ◌<◌, ◌≤◌, Bool, List, [], ◌++◌, length, codes, nat_eq, if◌then◌else◌}
 use Rattle.std.specs.Fmt.{decimal}
 use Rattle.std.specs.List.{All}
 use Rattle.dh_paths.specs.Escapes.{escaped}
@@ -50,4 +50,4 @@ IsVisible byte = (33 ≤ byte) × (byte ≤ 126)
 
 -- the bytes of each text, as they are shown, are visible ASCII: no space, no end of a line, and nothing that a terminal reads
 abbrev pub TextsAreVisible : Type 0
-TextsAreVisible = (text : List ℕ) → All (λ byte. byte < 256) text → All IsVisible (shown text)
+TextsAreVisible = (text : List ℕ) → All (λ byte. byte < 2 ^ 8) text → All IsVisible (shown text)

@@ -35,7 +35,7 @@ WritesOrCounts held now before after text =
 
 module _ {W : Type 0} (contents : W → Option (List ℕ)) where
   -- a log that is on was told an entry: its line was written, or is counted; one that is off stays as it is
-  pub record Tells (old : Log W) (entry : Entry) (new : Log W) : Type 0 where
+  pub record TellsEntry (old : Log W) (entry : Entry) (new : Log W) : Type 0 where
     pub line : old.is_on ≡ true
         → WritesOrCounts (contents old.writer) (contents new.writer) old.missed new.missed (told_text old.has_levels old.missed entry)
     pub off : old.is_on ≡ false → new ≡ old
@@ -45,4 +45,4 @@ module _ {W : Type 0} (contents : W → Option (List ℕ)) where
   -- a log was told so many entries, one after another
   abbrev pub TellsMany : Log W → Log W → ℕ → Type 0
   TellsMany old new count =
-      (entries : List Entry) × FoldsTo Tells old entries new × (length entries ≡ count)
+      (entries : List Entry) × FoldsTo TellsEntry old entries new × (length entries ≡ count)

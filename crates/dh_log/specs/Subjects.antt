@@ -63,16 +63,16 @@ pub record IsSubject (name host slug : Text) (subject : Subject) : Type 0 where
   pub slug_is : subject.slug ≡ slug
 
 -- the subject of an order that is this command, and of a POST that is one
-abbrev pub IsOrdered : Command → Subject → Type 0
-IsOrdered command = IsSubject (word_of command.change) command.host (version_of command.change)
+abbrev pub IsOrderSubject : Command → Subject → Type 0
+IsOrderSubject command = IsSubject (word_of command.change) command.host (version_of command.change)
 
-abbrev pub IsPosted : Command → Subject → Type 0
-IsPosted command = IsSubject (path_of command.change) command.host (version_of command.change)
+abbrev pub IsPostSubject : Command → Subject → Type 0
+IsPostSubject command = IsSubject (path_of command.change) command.host (version_of command.change)
 
 -- the note of a POST that is this command, and was refused so, or done; without a subject where memory was out
 pub record NotesPost (command : Command) (refusal : Option Refusal) (note : Note) : Type 0 where
   pub refusal_is : note.refusal ≡ option_map refusal_number refusal
-  pub subject_is : IfSome note.subject (IsPosted command)
+  pub subject_is : IfSome note.subject (IsPostSubject command)
 
 -- the note tells nothing
 pub record NotesNothing (note : Note) : Type 0 where

@@ -3,7 +3,7 @@
 ghost use Rattle.std.specs.Prelude.{◌≡◌, ◌++◌, IfErr, IfOk, OnOk};
 ghost use Rattle.std.specs.Io.KnownBytes.{Appends};
 ghost use Rattle.dh_ports.specs.Ports.{PutsFirst};
-ghost use Rattle.dh_log.specs.Logs.{Tells, WritesOrCounts, missed_text, none_missed, one_more_missed, told_text};
+ghost use Rattle.dh_log.specs.Logs.{TellsEntry, WritesOrCounts, missed_text, none_missed, one_more_missed, told_text};
 
 use crate::entry::{Entry, put_line, put_lost};
 use std::alloc::{AllocError, Global};
@@ -148,9 +148,9 @@ impl<W: Write> Log<W> {
         }
     }
 
-    /// Tells an entry: its line is written behind what was missed, or counted as lost.
+    /// TellsEntry an entry: its line is written behind what was missed, or counted as lost.
     pub fn tell(&mut self, alloc: Global, entry: &Entry<'_>)
-        ensures { Tells W.contents self.old entry.now self.new }
+        ensures { TellsEntry W.contents self.old entry.now self.new }
     {
         if self.is_on {
             self.write_or_count(alloc, entry);

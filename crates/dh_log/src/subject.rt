@@ -3,7 +3,7 @@
 ghost use Rattle.std.specs.Prelude.{◌≡◌, IfOk, option_map};
 ghost use Rattle.dh_world.specs.Refusals.{refusal_number};
 ghost use Rattle.dh_log.specs.Subjects as spec;
-ghost use Rattle.dh_log.specs.Subjects.{IsOrdered, IsPosted, IsSubject, NotesNothing, NotesPost};
+ghost use Rattle.dh_log.specs.Subjects.{IsOrderSubject, IsPostSubject, IsSubject, NotesNothing, NotesPost};
 
 use crate::entry::Level;
 use dh_paths::Text;
@@ -121,7 +121,7 @@ impl Subject {
 
 /// Makes the subject of an order that is a command.
 pub fn order_subject(alloc: Global, command: &Command) -> Result<Subject, AllocError>
-    ensures { IfOk result (IsOrdered command.now) }
+    ensures { IfOk result (IsOrderSubject command.now) }
 {
     let change = &command.change;
     Subject::new(
@@ -134,7 +134,7 @@ pub fn order_subject(alloc: Global, command: &Command) -> Result<Subject, AllocE
 
 /// Makes the subject of a POST that is a command.
 fn post_subject(alloc: Global, command: &Command) -> Result<Subject, AllocError>
-    ensures { IfOk result (IsPosted command.now) }
+    ensures { IfOk result (IsPostSubject command.now) }
 {
     let change = &command.change;
     Subject::new(

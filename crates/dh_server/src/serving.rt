@@ -8,7 +8,7 @@ ghost use Rattle.dh_server.specs.Serving.{AnswersConnection, AnswersSome, AsksCl
 ghost use Rattle.dh_server.specs.Turns.{ServesOne, ServesInTurn};
 ghost use Rattle.dh_server.specs.Telling.{IsEntryOfMessage, IsEntryOfRequest};
 ghost use Rattle.dh_http.specs.Notes.{NotesSource};
-ghost use Rattle.dh_log.specs.Logs.{Tells, TellsMany};
+ghost use Rattle.dh_log.specs.Logs.{TellsEntry, TellsMany};
 ghost use Rattle.dh_log.specs.declared.entry.Entry.{Entry};
 ghost use Rattle.dh_log.specs.declared.subject.Note.{Note};
 ghost use Rattle.dh_log.specs.declared.subject.Ordered.{Ordered};
@@ -94,7 +94,7 @@ pub fn answer_heard<S: Alter, R: Source, W: Sink, T: Clock + Copy, L: Write>(
         × WorldGoesBy S.Store desk.old desk.new
         (λ before after. NotesSource (R.left source.old.inner) before after note)
         × IsEntryOfRequest result now note entry
-        × Tells L.contents log.old entry log.new }
+        × TellsEntry L.contents log.old entry log.new }
 {
     let start = start_of(&timer, log);
     let mut note = Note::nothing();
@@ -150,7 +150,7 @@ pub fn answer_order<S: Alter, K: Control, R: Source, W: Sink, T: Clock + Copy, L
         × K.notes (talk_of (R.left source.old) (W.held sink.old.inner) (W.held sink.new.inner)
         (W.broken sink.new.inner)) ordered
         × IsEntryOfMessage now ordered entry
-        × Tells L.contents log.old entry log.new }
+        × TellsEntry L.contents log.old entry log.new }
 {
     let start = start_of(&timer, log);
     let ordered = control.answer(alloc, desk, source, sink, now, log.is_on());
