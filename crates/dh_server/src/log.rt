@@ -88,14 +88,14 @@ pub fn request_entry<'a>(
 ) -> Entry<'a>
     ensures { IsEntryOfRequest answered measured.moment note.now result }
 {
-    let answered = Answered {
+    let ended = Answered {
         level: level_of(answered),
         outcome: outcome_of(answered),
         reason: reason_of(answered, came),
         line: came.first_line(),
         host: came.host(),
     };
-    Entry::of_request(&answered, note, measured)
+    Entry::of_request(&ended, note, measured)
 }
 
 /// Makes the entry of a message of the control socket.

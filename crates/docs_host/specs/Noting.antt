@@ -1,11 +1,15 @@
--- What the log is told of a message.
-use Rattle.std.specs.Prelude.{◌≡◌, Bool, true, false, if◌then◌else◌, [], Option, Result, Ok, Err, codes}
+-- What the log is told of a message, and of a server that begins and ends.
+use Rattle.std.specs.Prelude.{◌≡◌, ℕ, Bool, true, false, if◌then◌else◌, [], Option, Result, Ok, Err, codes}
 use Rattle.dh_control.specs.Answers.{HasLastLine}
 use Rattle.dh_control.specs.Notes.{NotesMessage}
 use Rattle.dh_control.specs.declared.end.End.{End}
 use Rattle.dh_control.specs.declared.end.End.TheVariants as end
+use Rattle.dh_log.specs.Entries.{IsOfServer}
+use Rattle.dh_log.specs.Logs.{TellsEntry, TellsMany}
+use Rattle.dh_log.specs.declared.entry.Entry.{Entry}
 use Rattle.dh_log.specs.declared.entry.Level.{Level}
 use Rattle.dh_log.specs.declared.entry.Level.TheVariants.{Error, Warning, Info}
+use Rattle.dh_log.specs.declared.log.Log.{Log}
 use Rattle.dh_log.specs.declared.subject.Ordered.{Ordered}
 use Rattle.dh_script.specs.Faults.{script_fault_name}
 use Rattle.dh_script.specs.Reasons.{reason_code}
@@ -59,3 +63,24 @@ pub record NotesOne (talk : Talk) (ordered : Ordered) : Type 0 where
   pub tells : HasLastLine printed talk.now ended result
   pub noted : NotesMessage file talk.left ordered.subject
   pub told : IsToldAs result ordered
+
+-- how grave the end of a server is, and why it ends: a fault of the store closed its desk, or all connections of its count came
+abbrev pub end_level : Bool → Level
+end_level is_closed = if is_closed then Error else Info
+
+abbrev pub end_cause : Bool → Text
+end_cause is_closed = if is_closed then codes "Store" else codes "Count"
+
+module _ {W : Type 0} (contents : W → Option Text) where
+  -- a log was told this of a server of a file
+  abbrev pub TellsServer : Level → Text → Text → Text → Log W → Log W → Type 0
+  TellsServer level outcome file cause old new =
+      (moment : ℕ) × (entry : Entry) × IsOfServer level outcome file cause moment entry × TellsEntry contents old entry new
+
+  -- a log was told what is served, so many connections, and why the server ends
+  abbrev pub TellsServed : Text → Bool → ℕ → Log W → Log W → Type 0
+  TellsServed file is_closed count old new =
+      (first : Log W) × (last : Log W)
+      × TellsServer Info (codes "Begins") file [] old first
+      × TellsMany contents first last count
+      × TellsServer (end_level is_closed) (codes "Ends") file (end_cause is_closed) last new

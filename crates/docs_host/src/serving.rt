@@ -1,12 +1,11 @@
 //! Serving a file.
 
-ghost use Rattle.std.specs.Prelude.{◌≡◌, ◌+◌, ◌≤◌, ◌-◌, true, false, unwrap_or, IfErr, IfOk, OnOk, OnErr, IsTrue, MatchOption, Some};
+ghost use Rattle.std.specs.Prelude.{◌≡◌, ◌≤◌, ◌-◌, true, false, unwrap_or, IfErr, IfOk, OnOk, OnErr, IsTrue, MatchOption, Some};
 ghost use Rattle.dh_http.specs.Desk.{WorldGoesBy};
 ghost use Rattle.dh_server.specs.Serving.{AsksClock, CountsExactly};
 ghost use Rattle.dh_server.specs.Telling.{TellsSome};
-ghost use Rattle.dh_log.specs.Logs.{TellsMany};
 ghost use Rattle.docs_host.specs.Failing.{IsDoneOr, is_of_init, is_of_server, may_fail};
-ghost use Rattle.docs_host.specs.Noting.{IsToldAs, NotesOne};
+ghost use Rattle.docs_host.specs.Noting.{IsToldAs, NotesOne, TellsServed, TellsServer};
 ghost use Rattle.docs_host.specs.Noting as noting;
 ghost use Rattle.docs_host.specs.Orders.{AnswersOne, ServesBoth, ServesUpTo};
 
@@ -247,7 +246,7 @@ fn tell_server<L: Write>(
     cause: &str,
     log: &mut Log<L>,
 )
-    ensures { TellsMany L.contents log.old log.new 1 }
+    ensures { TellsServer L.contents level outcome.now file.now cause.now log.old log.new }
 {
     let entry = Entry::of_server(level, outcome, file, cause, seconds(rt));
     log.tell(rt.alloc(), &entry);
@@ -274,7 +273,8 @@ fn serve_desk<S: Alter, N: Listen, C: FnMut() -> u64, L: Write>(
     ensures serves { WorldGoesBy S.Store desk.old desk.new
         (ServesBoth C.step clock.old clock.new (count - unwrap_or result 0)) }
     ensures callable { C.IsAlwaysCallable clock.new }
-    ensures tells { TellsMany L.contents log.old log.new (1 + (count - unwrap_or result 0) + 1) }
+    ensures tells { TellsServed L.contents file.now desk.new.closed
+        (count - unwrap_or result 0) log.old log.new }
 {
     let name = name_or_none(rt, file);
     let mut messages = Messages {
