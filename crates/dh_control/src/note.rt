@@ -1,10 +1,12 @@
 //! What of a message a log may tell.
 
 ghost use Rattle.std.specs.Prelude.{◌≡◌, map, string_bytes, IfOk, IfSome};
+ghost use Rattle.std.specs.List.{slice_split};
 ghost use Rattle.dh_lines.specs.Lines.{line_in};
+ghost use Rattle.dh_script.specs.Running.{words_in};
 ghost use Rattle.dh_control.specs.Messages as messages;
 ghost use Rattle.dh_control.specs.Notes as spec;
-ghost use Rattle.dh_control.specs.Notes.{IsOfList, IsOfImport, IsOfLine, IsSubjectIn, IsOfOrder, IsOfRest};
+ghost use Rattle.dh_control.specs.Notes.{IsFor, IsOfImport, IsOfLine, IsOfList, IsOfOrder, IsOfRest, IsSubjectIn};
 
 use crate::message::{IMPORT, LINE, WORDS, behind, body_of, host_and_list, rest_for, words_of};
 use dh_lines::{Order, line_of};
@@ -72,17 +74,49 @@ fn subject_of_order(alloc: Global, order: &Order) -> Result<Subject, AllocError>
 fn subject_of_words(alloc: Global, words: &[String]) -> Option<Subject>
     ensures { IfSome result (IsOfLine (line_in (map string_bytes words.now))) }
 {
-    let line = line_of(alloc, words).ok()?;
-    subject_of_order(alloc, &line.order).ok()
+    match line_of(alloc, words) {
+        Ok(line) => subject_of_order(alloc, &line.order).ok(),
+        Err(_) => None,
+    }
+}
+
+/// Makes the subject of what was sent as words.
+fn subject_of_sent(alloc: Global, sent: &[u8]) -> Option<Subject>
+    ensures { IfSome result (IsOfLine (line_in (slice_split messages.is_nul sent.now))) }
+{
+    let Ok(text) = str::from_utf8(sent) else {
+        return None;
+    };
+    match words_of(alloc, text) {
+        Ok(words) => subject_of_words(alloc, words.as_slice()),
+        Err(_) => None,
+    }
+}
+
+/// Makes the subject of what was sent as a line of a script.
+fn subject_of_line(alloc: Global, sent: &[u8]) -> Option<Subject>
+    ensures { IfSome result (IsOfLine (line_in (words_in sent.now))) }
+{
+    let Ok(text) = str::from_utf8(sent) else {
+        return None;
+    };
+    match words_of_line(alloc, text) {
+        Ok(words) => subject_of_words(alloc, words.as_slice()),
+        Err(_) => None,
+    }
 }
 
 /// Makes the subject of an import that was sent.
 fn subject_of_import(alloc: Global, sent: &[u8]) -> Option<Subject>
     ensures { IfSome result (IsOfImport (messages.host_and_list sent.now)) }
 {
-    let (host, _) = host_and_list(sent)?;
-    let host = str::from_utf8(host).ok()?;
-    Subject::new(alloc, "import", host, "").ok()
+    let Some((host, _)) = host_and_list(sent) else {
+        return None;
+    };
+    match str::from_utf8(host) {
+        Ok(host) => Subject::new(alloc, "import", host, "").ok(),
+        Err(_) => None,
+    }
 }
 
 /// Makes the subject of what stands behind the head of a message.
@@ -90,14 +124,25 @@ fn subject_of_rest(alloc: Global, rest: &[u8]) -> Option<Subject>
     ensures { IfSome result (IsOfRest rest.now) }
 {
     if let Some(sent) = behind(WORDS, rest) {
-        let words = words_of(alloc, str::from_utf8(sent).ok()?).ok()?;
-        return subject_of_words(alloc, words.as_slice());
+        return subject_of_sent(alloc, sent);
     }
-    if let Some(sent) = behind(LINE, rest) {
-        let words = words_of_line(alloc, str::from_utf8(sent).ok()?).ok()?;
-        return subject_of_words(alloc, words.as_slice());
+    if let Some(line) = behind(LINE, rest) {
+        return subject_of_line(alloc, line);
     }
-    subject_of_import(alloc, behind(IMPORT, rest)?)
+    match behind(IMPORT, rest) {
+        Some(sent) => subject_of_import(alloc, sent),
+        None => None,
+    }
+}
+
+/// Makes the subject of the body of a message, where that is for the file of this name.
+fn subject_of_body(alloc: Global, file: &str, body: &[u8]) -> Option<Subject>
+    ensures { IfSome result (IsFor (messages.rest_for file.now body.now)) }
+{
+    match rest_for(file, body) {
+        Some(rest) => subject_of_rest(alloc, rest),
+        None => None,
+    }
 }
 
 /// Makes the subject of a message for the file of this name. None where it is for another file, or asks for nothing that is known,
@@ -105,5 +150,8 @@ fn subject_of_rest(alloc: Global, rest: &[u8]) -> Option<Subject>
 pub fn subject_in(alloc: Global, file: &str, message: &[u8]) -> Option<Subject>
     ensures { IfSome result (IsSubjectIn file.now message.now) }
 {
-    subject_of_rest(alloc, rest_for(file, body_of(message)?)?)
+    match body_of(message) {
+        Some(body) => subject_of_body(alloc, file, body),
+        None => None,
+    }
 }
