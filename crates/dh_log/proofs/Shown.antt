@@ -31,9 +31,11 @@ glyph_visible d small = (glyph_low d small, glyph_high d small)
 
 escape_visible : (b : ℕ) → b < 2 ^ 8 → All IsVisible (escape_of b)
 escape_visible b small =
-    All-cons IsVisible 37 _ (lit≤ tt, lit≤ tt)
-    (All-cons IsVisible _ _ (glyph_visible (b / 16) (high_digit b small))
-    (All-cons IsVisible _ _ (glyph_visible (b % 16) (low_digit b)) (All-nil IsVisible)))
+    let low = digit_glyph true (b % 16) ∷ [] in
+    let high = digit_glyph true (b / 16) ∷ low in
+    All-cons IsVisible 37 high (lit≤ tt, lit≤ tt)
+    (All-cons IsVisible (digit_glyph true (b / 16)) low (glyph_visible (b / 16) (high_digit b small))
+    (All-cons IsVisible (digit_glyph true (b % 16)) [] (glyph_visible (b % 16) (low_digit b)) (All-nil IsVisible)))
 
 byte_visible : (b : ℕ) → b < 2 ^ 8 → All IsVisible (kept_or_escaped is_plain b)
 byte_visible b small =

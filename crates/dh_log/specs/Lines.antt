@@ -3,9 +3,11 @@ use Rattle.std.specs.Prelude.{ℕ, ◌^◌, ◌<◌, ◌≤◌, Bool, List, [], 
 use Rattle.std.specs.Fmt.{decimal}
 use Rattle.std.specs.List.{All}
 use Rattle.dh_paths.specs.Escapes.{escaped}
+use Rattle.dh_log.specs.declared.entry.About.{About}
 use Rattle.dh_log.specs.declared.entry.Entry.{Entry}
 use Rattle.dh_log.specs.declared.entry.Level.{Level}
 use Rattle.dh_log.specs.declared.entry.Level.TheVariants.{Error, Warning, Info}
+use Rattle.dh_log.specs.declared.entry.Measured.{Measured}
 use Rattle.dh_log.specs.declared.entry.Word.{Word}
 use Rattle.dh_log.specs.declared.entry.Word.TheVariants.{Text, Number}
 
@@ -26,15 +28,26 @@ level_mark Info = codes "<6>"
 abbrev pub mark_of : Bool → Level → List ℕ
 mark_of has_levels level = if has_levels then level_mark level else []
 
--- what came of it, what it was, of what, how many bytes answered it, in how many microseconds, under which host, when, why, and of
--- which version
+-- what came of it, what it was, and of what
+unfoldable pub deed_text : Word → About → List ℕ
+deed_text outcome about =
+    shown_word outcome ++ codes " " ++ shown about.kind.now ++ codes " " ++ shown about.name.now
+
+-- how many bytes answered it, in how many microseconds, under which host, and when
+unfoldable pub measured_text : List ℕ → Measured → List ℕ
+measured_text host measured =
+    codes " " ++ decimal measured.bytes ++ codes " " ++ decimal measured.micros
+    ++ codes " " ++ shown host ++ codes " " ++ decimal measured.moment
+
+-- why, and of which version
+unfoldable pub cause_text : Word → List ℕ → List ℕ
+cause_text cause slug = codes " " ++ shown_word cause ++ codes " " ++ shown slug
+
+-- the nine words of an entry, behind its level where lines have levels
 abbrev pub line_words : Bool → Entry → List ℕ
 line_words has_levels entry =
-    mark_of has_levels entry.level ++ shown_word entry.outcome
-    ++ codes " " ++ shown entry.about.kind.now ++ codes " " ++ shown entry.about.name.now
-    ++ codes " " ++ decimal entry.measured.bytes ++ codes " " ++ decimal entry.measured.micros
-    ++ codes " " ++ shown entry.about.host.now ++ codes " " ++ decimal entry.measured.moment
-    ++ codes " " ++ shown_word entry.cause ++ codes " " ++ shown entry.about.slug.now
+    mark_of has_levels entry.level ++ deed_text entry.outcome entry.about
+    ++ measured_text entry.about.host.now entry.measured ++ cause_text entry.cause entry.about.slug.now
 
 abbrev pub line_of : Bool → Entry → List ℕ
 line_of has_levels entry = line_words has_levels entry ++ codes "\n"

@@ -117,6 +117,7 @@ fn put_told(alloc: Global, out: &mut Vec<u8>, word: Word<'_>) -> Result<(), Allo
 }
 
 /// Puts what came of it, what it was, and of what.
+#[tactic(auto, unfolding(crate::specs::Lines::deed_text))]
 fn put_deed(
     alloc: Global,
     out: &mut Vec<u8>,
@@ -124,9 +125,7 @@ fn put_deed(
     about: &About<'_>,
 ) -> Result<(), AllocError>
     ensures { OnOk result (out.new.items
-        ≡ out.old.items ++ spec.shown_word outcome.entry
-        ++ codes " " ++ spec.shown about.now.kind.now
-        ++ codes " " ++ spec.shown about.now.name.now) }
+        ≡ out.old.items ++ spec.deed_text outcome.entry about.now) }
 {
     put_told(alloc, out, outcome)?;
     put_word(alloc, out, about.kind)?;
@@ -134,6 +133,7 @@ fn put_deed(
 }
 
 /// Puts how much it was, under which host, and when.
+#[tactic(auto, unfolding(crate::specs::Lines::measured_text))]
 fn put_measured(
     alloc: Global,
     out: &mut Vec<u8>,
@@ -141,10 +141,7 @@ fn put_measured(
     measured: Measured,
 ) -> Result<(), AllocError>
     ensures { OnOk result (out.new.items
-        ≡ out.old.items ++ codes " " ++ decimal measured.bytes
-        ++ codes " " ++ decimal measured.micros
-        ++ codes " " ++ spec.shown host.now
-        ++ codes " " ++ decimal measured.moment) }
+        ≡ out.old.items ++ spec.measured_text host.now measured) }
 {
     put_number(alloc, out, measured.bytes)?;
     put_number(alloc, out, measured.micros)?;
@@ -153,6 +150,7 @@ fn put_measured(
 }
 
 /// Puts why it came so, and of which version.
+#[tactic(auto, unfolding(crate::specs::Lines::cause_text))]
 fn put_cause(
     alloc: Global,
     out: &mut Vec<u8>,
@@ -160,8 +158,7 @@ fn put_cause(
     slug: &str,
 ) -> Result<(), AllocError>
     ensures { OnOk result (out.new.items
-        ≡ out.old.items ++ codes " " ++ spec.shown_word cause.entry
-        ++ codes " " ++ spec.shown slug.now) }
+        ≡ out.old.items ++ spec.cause_text cause.entry slug.now) }
 {
     put(out, " ")?;
     put_told(alloc, out, cause)?;
